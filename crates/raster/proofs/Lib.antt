@@ -1,0 +1,15 @@
+pub mod Rows
+pub mod Vectors
+pub mod RreLaws
+pub mod Screens
+pub mod Spellings
+pub mod Pixels
+pub mod Runs
+pub mod Values
+pub mod RreSpelled
+pub mod TileSpelled
+pub mod HextileSpelled
+pub mod Forms
+pub mod Bytes
+pub mod Places
+pub mod EmptyForms

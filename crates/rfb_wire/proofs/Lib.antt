@@ -1,0 +1,4 @@
+pub mod Requests
+pub mod Vectors
+pub mod Updates
+pub mod Spelling
