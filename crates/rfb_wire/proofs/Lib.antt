@@ -1,3 +1,4 @@
+pub mod Losing
 pub mod Requests
 pub mod Vectors
 pub mod Updates
