@@ -1,9 +1,9 @@
 -- The bytes of an answer are read as its rectangles, and these bring what the screen shows.
-use Rattle.std.proofs.Common.{◌≡◌, ℕ, ◌+◌, ◌-◌, ◌^◌, ◌<◌, ◌≤◌, Bool, true, false, cond, List, [], ◌∷◌, length, map, Option, Some, None, refl, ap, sym, ◌∙◌, arith, inl, inr, zero, suc}
+use Rattle.std.proofs.Common.{◌≡◌, ℕ, ◌+◌, ◌-◌, ◌^◌, ◌<◌, ◌≤◌, Bool, true, false, cond, List, [], ◌∷◌, length, map, Option, Some, None, refl, ap, sym, ◌∙◌, arith, inl, inr, zero, suc, eq-eqb}
 use Rattle.std.proofs.lemmas.Bool.{eqb-true}
 use Rattle.std.specs.Prelude.{◌&&◌, ◌==◌, not, slice_index, if◌then◌else◌}
 use Rattle.pixel_format.specs.PixelFormat.{PixelFormat, IsAccepted, tint}
-use Rattle.pixel_format.specs.Reading.{Spells}
+use Rattle.pixel_format.specs.Reading.{Spells, after, taken, whole_of}
 use Rattle.std.proofs.lemmas.List.{length-map}
 use Rattle.raster.specs.declared.encoding.Encoding.TheVariants.{Raw}
 use Rattle.rfb_wire.specs.Writing.{rectangle_bytes}
@@ -15,8 +15,8 @@ use Rattle.raster.specs.Encoding.{form, saves_bytes, encoding_number}
 use Rattle.raster.specs.Written.{AreValues}
 use Rattle.raster.specs.Update.{Paint, Put, Copy}
 use Rattle.rfb_wire.specs.ClientMessage.{Choice}
-use Rattle.rfb_wire.specs.ServerMessage.{FramebufferUpdate, rectangle, server_message}
-use Rattle.update_encoder.specs.Follower.{after_rectangle, after_rectangles}
+use Rattle.rfb_wire.specs.ServerMessage.{ServerMessage, FramebufferUpdate, rectangle, server_message}
+use Rattle.update_encoder.specs.Follower.{after_rectangle, after_rectangles, only_message}
 use Rattle.update_encoder.specs.Answer.{pixels_in, colours_in, same_numbers, repeats, repeats_one, copy_source, all_spelled, answer_bytes}
 use Rattle.raster.proofs.Places.{Has, has_holds, holds_has, values_at, tinted_at, length_values}
 use Rattle.raster.proofs.Spellings.{Each}
@@ -228,6 +228,11 @@ spelled_are_read format choice canvas copy before (r ∷ rs) w h ok lw lh k part
 length_spelled : (format : PixelFormat) (choice : Choice) (canvas : Canvas) (copy : Bool) (before : Option Rect) (rs : List Rect) → length (all_spelled format choice canvas copy before rs) ≡ length rs
 length_spelled format choice canvas copy before [] = refl
 length_spelled format choice canvas copy before (r ∷ rs) = ap suc (length_spelled format choice canvas copy (Some r) rs)
+
+-- What spells a message is exactly one.
+pub spells_only : (format : PixelFormat) (w h : ℕ) (bytes : List ℕ) (m : ServerMessage) → Spells (server_message format w h) bytes m → only_message format w h bytes ≡ Some m
+spells_only format w h bytes m k =
+    chosen (taken (server_message format w h) bytes == length bytes) (whole_of (after (server_message format w h) bytes)) None (eq-eqb _ _ k.whole) ∙ ap whole_of k.says
 
 -- An answer is exactly one FramebufferUpdate of these rectangles.
 pub answer_is_read : (format : PixelFormat) (choice : Choice) (canvas : Canvas) (sent : Bool) (rs : List Rect) (w h : ℕ) → IsAccepted format → w ≤ 4096 → h ≤ 4096 → Each (IsPart w h) rs → length rs < 2 ^ 16
