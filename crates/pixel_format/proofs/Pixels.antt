@@ -1,11 +1,12 @@
 -- A pixel value is read back from its bytes.
-use Rattle.std.proofs.Common.{◌≡◌, ℕ, ◌^◌, ◌*◌, Bool, true, false, cond, ◌||◌, length, refl, ◌<◌, arith}
+use Rattle.std.proofs.Common.{◌≡◌, ℕ, ◌^◌, ◌*◌, ◌%◌, Bool, true, false, cond, ◌||◌, [], ◌∷◌, length, refl, ◌<◌, arith}
 use Rattle.std.specs.Prelude.{◌==◌}
 use Rattle.std.specs.Int.{Width, w8, w16, w32, byte_len, to_be_bytes, to_le_bytes, from_be_bytes, from_le_bytes}
 use Rattle.std.proofs.lemmas.Nat.{from_be_bytes-to_be_bytes_2, from_be_bytes-to_be_bytes_4, from_le_bytes-to_le_bytes_2, from_le_bytes-to_le_bytes_4}
 use Rattle.std.proofs.lemmas.Bool.{and_parts}
 use Rattle.std.proofs.lemmas.Bool.Decides.{eqb_tells}
-use Rattle.pixel_format.specs.PixelFormat.{PixelFormat, pixel_width, pixel_len, pixel_bytes, pixel_of, IsAccepted}
+use Rattle.pixel_format.specs.PixelFormat.{PixelFormat, pixel_width, pixel_len, pixel_bytes, pixel_of, tint, IsAccepted}
+use Rattle.pixel_format.proofs.Tints.{tint_below}
 
 abbrev width_by : Bool → Bool → Width
 width_by eight sixteen = cond eight w8 (cond sixteen w16 w32)
@@ -43,3 +44,13 @@ pixel_back format v ok h =
 -- A pixel value has as many bytes as a pixel, whatever it is.
 pub pixel_size : (format : PixelFormat) (v : ℕ) → length (pixel_bytes format v) ≡ pixel_len format
 pixel_size format v = size format.big_endian (format.bits_per_pixel == 8) (format.bits_per_pixel == 16) v
+
+one_byte : (big : Bool) (bits v : ℕ) → bits ≡ 8 → v < 256 → v ∷ [] ≡ cond big (to_be_bytes (width_by (bits == 8) (bits == 16)) v) (to_le_bytes (width_by (bits == 8) (bits == 16)) v)
+one_byte true bits v e h = let small : v % 256 ≡ v = omega arith in rw (e, small) refl
+one_byte false bits v e h = let small : v % 256 ≡ v = omega arith in rw (e, small) refl
+
+-- In a format of 8 bits a colour's pixel value is its byte.
+pub tint_is_byte : (format : PixelFormat) → IsAccepted format → format.bits_per_pixel ≡ 8 → (colour : ℕ) → tint format colour ∷ [] ≡ pixel_bytes format (tint format colour)
+tint_is_byte format ok e colour =
+    let below : tint format colour < 2 ^ 8 = rw e at (tint_below format colour ok) in
+    one_byte format.big_endian format.bits_per_pixel (tint format colour) e below

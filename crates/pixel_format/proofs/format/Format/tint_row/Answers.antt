@@ -1,14 +1,12 @@
-use Rattle.std.proofs.Common.{◌*◌, ◌≤◌, length, arith, ◌∙◌, sym}
-use Rattle.pixel_format.specs.PixelFormat.{PixelFormat, tint, pixel_bytes, pixel_len}
-use Rattle.pixel_format.proofs.RowLemmas.{row_goes_on, row_has_room}
-use Rattle.pixel_format.proofs.Pixels.{pixel_size}
+use Rattle.std.proofs.Common.{◌≡◌, [], ◌∷◌}
+use Rattle.pixel_format.specs.PixelFormat.{PixelFormat, IsAccepted, tint, pixel_bytes}
+use Rattle.pixel_format.proofs.Pixels.{tint_is_byte}
+use Rattle.pixel_format.proofs.RowLemmas.{same_pieces}
 use Rattle.pixel_format.proofs.format.Format.tint_row.Goals as goal
 
-pub loop-i-preserved : goal.loop-i-preserved
-loop-i-preserved c =
+pub returns-in-8-default : goal.returns-in-8-default
+returns-in-8-default c =
     let f : PixelFormat = c.args.self.now in
-    let room = row_has_room (pixel_len f) c.loop-i.i (length c.args.colours.now) (length c.args.out.now) c.requires (omega arith) in
-    let le : c.loop-i.i * c.bytes-size.result ≤ length c.loop-i.out = rw c.bytes-size.ensures (omega (arith, room)) in
-    rw (c.put_pixel.ensures, c.tint.ensures.value)
-    (row_goes_on (λ colour. pixel_bytes f (tint f colour)) c.bytes-size.result c.args.colours.now c.loop-i.out _ _ c.loop-i.i (c.loop-i.i * c.bytes-size.result) (omega arith) le
-    (pixel_size f _ ∙ sym c.bytes-size.ensures) (omega arith) c.loop-i.invariant)
+    let ok : IsAccepted f = rw (← c.self.view_is) c.self.invariant in
+    let eight : f.bits_per_pixel ≡ 8 = rw (← c.self.view_is) c.in-8-default.is-0 in
+    rw c.tint_row_8.ensures (same_pieces (λ colour. tint f colour ∷ []) (λ colour. pixel_bytes f (tint f colour)) c.args.colours.now (tint_is_byte f ok eight))
