@@ -86,6 +86,15 @@ impl Channel {
         scaled << self.shift
     }
 
+    /// The same for a channel of 8 bits, which holds the component as it is.
+    pub(crate) fn place_byte(&self, component: u8) -> u32
+        requires fits { IsTrue (channel_fits 32 self.now) }
+        requires byte { self.now.max ≡ 255 }
+        ensures { result ≡ on_channel self.now component }
+    {
+        u32::from(component) << self.shift
+    }
+
     /// Whether the channel has this greatest value and this shift.
     pub(crate) fn is(&self, max: u16, shift: u8) -> bool
         ensures { IsTrue result ↔ (self.now ≡ record { max = max; shift = shift }) }

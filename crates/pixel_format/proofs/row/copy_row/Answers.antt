@@ -2,7 +2,7 @@ use Rattle.std.proofs.Common.{◌≡◌, ◌*◌, ◌+◌, ◌≤◌, length, ge
 use Rattle.pixel_format.specs.PixelFormat.{host_format, tint, pixel_bytes}
 use Rattle.pixel_format.proofs.Pixels.{pixel_size}
 use Rattle.pixel_format.proofs.RowLemmas.{piece_goes_on}
-use Rattle.pixel_format.proofs.Scaling.{tint_of_host}
+use Rattle.pixel_format.proofs.ScalingLemmas.{tint_of_host}
 use Rattle.pixel_format.proofs.row.copy_row.Goals as goal
 
 pub loop-i-preserved : goal.loop-i-preserved

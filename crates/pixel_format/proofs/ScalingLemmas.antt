@@ -22,3 +22,7 @@ factor_below component max c m =
 -- In the host's format a colour is its own pixel value, but for what lies above its 24 bits.
 pub tint_of_host : (colour : ℕ) → tint host_format colour ≡ colour % 16777216
 tint_of_host colour = omega arith
+
+-- A component of 8 bits stays as it is.
+pub scaled_to_byte : (component : ℕ) → component < 256 → (component * 255 + 127) / 255 ≡ component
+scaled_to_byte component lt = omega arith
