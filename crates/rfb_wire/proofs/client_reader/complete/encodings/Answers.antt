@@ -1,5 +1,5 @@
 use Rattle.std.proofs.Common.{arith}
-use Rattle.rfb_wire.proofs.Heads.{count_goes_on}
+use Rattle.rfb_wire.proofs.ViewerParts.{count_goes_on}
 use Rattle.rfb_wire.proofs.client_reader.complete.encodings.Goals as goal
 
 pub returns-in_default : goal.returns-in_default

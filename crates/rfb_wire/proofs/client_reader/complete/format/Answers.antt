@@ -1,6 +1,6 @@
 use Rattle.std.proofs.Common.{◌∙◌, ap, refl, false, true, ◌≡◌}
 use Rattle.std.specs.Prelude.{take}
-use Rattle.rfb_wire.proofs.Heads.{format_accepted, format_refused}
+use Rattle.rfb_wire.proofs.ViewerParts.{format_accepted, format_refused}
 use Rattle.rfb_wire.proofs.client_reader.complete.format.Goals as goal
 
 pub returns-in-Ok : goal.returns-in-Ok

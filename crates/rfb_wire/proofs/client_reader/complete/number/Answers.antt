@@ -1,5 +1,5 @@
 use Rattle.std.proofs.Common.{arith}
-use Rattle.rfb_wire.proofs.Heads.{number_goes_on}
+use Rattle.rfb_wire.proofs.ViewerParts.{number_goes_on}
 use Rattle.rfb_wire.proofs.client_reader.complete.number.Goals as goal
 
 pub returns-else-left-eq0 : goal.returns-else-left-eq0

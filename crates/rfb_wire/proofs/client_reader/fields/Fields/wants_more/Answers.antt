@@ -1,6 +1,6 @@
 use Rattle.std.proofs.Common.{sym, ◌∙◌, arith}
 use Rattle.std.proofs.lemmas.Bool.{lt-ltb}
-use Rattle.rfb_wire.proofs.Heads.{fields_want, len_below}
+use Rattle.rfb_wire.proofs.ViewerParts.{fields_want, len_below}
 use Rattle.rfb_wire.proofs.client_reader.fields.Fields.wants_more.Goals as goal
 
 pub returns-clause-value : goal.returns-clause-value

@@ -1,5 +1,5 @@
 use Rattle.std.proofs.Common.{◌∙◌, arith}
-use Rattle.rfb_wire.proofs.Heads.{one_more, len_below}
+use Rattle.rfb_wire.proofs.ViewerParts.{one_more, len_below}
 use Rattle.rfb_wire.proofs.client_reader.fields.Fields.with_byte.Goals as goal
 
 pub returns-then-filled-len : goal.returns-then-filled-len
