@@ -5,6 +5,8 @@ use Rattle.std.proofs.lemmas.Bool.Decides.{nat_tests}
 use Rattle.std.specs.List.{flat_map, range_with_len}
 use Rattle.std.proofs.lemmas.List.{append-nil, map-append}
 use Rattle.std.proofs.lemmas.Grind.{flat_map-append}
+use Rattle.std.proofs.lemmas.Slice.{take-put_mid}
+use borrow.Rule.Slice.PartMut.{put_mid}
 use Rattle.std.proofs.lemmas.List.Folds.{flat_map-map}
 use Rattle.std.proofs.lemmas.Nat.{div-mul-add, mod-mul-add}
 use Rattle.pixel_format.specs.PixelFormat.{PixelFormat, tint, pixel_bytes, row_bytes}
@@ -17,6 +19,7 @@ use Rattle.rfb_wire.specs.ClientMessage.{Choice}
 use Rattle.raster.specs.Encoding.{raw_bytes, saves_bytes}
 use Rattle.rfb_wire.specs.Writing.{update_head_bytes, rectangle_head_bytes, rectangle_bytes, update_bytes}
 use Rattle.update_encoder.specs.Answer.{answer_bytes, colours_in}
+use Rattle.viewer_session.specs.RawUpdate.{raw_update}
 
 abbrev pub raw_choice : Choice
 raw_choice = record { kind = Raw; copy = false }
@@ -25,8 +28,7 @@ not_below : (n : ℕ) → nat_lt n n ≡ false
 not_below n = grind (arith, nat_tests)
 
 -- An update head, one rectangle head, and the pixels.
-pub raw_answer : (format : PixelFormat) (screen : Canvas) (sent : Bool) (area : Rect)
-    → answer_bytes format raw_choice screen sent (area ∷ []) ≡ update_head_bytes 1 ++ (rectangle_head_bytes area 0 ++ row_bytes format (colours_in screen area))
+pub raw_answer : (format : PixelFormat) (screen : Canvas) (sent : Bool) (area : Rect) → answer_bytes format raw_choice screen sent (area ∷ []) ≡ raw_update format screen area
 raw_answer format screen sent area =
     let colours : List ℕ = colours_in screen area in
     let values : List ℕ = map (tint format) colours in
@@ -35,7 +37,8 @@ raw_answer format screen sent area =
     let one : Bool → List ℕ = λ b. update_bytes ((if b then as_raw else as_raw) ∷ []) in
     ap one saves
     ∙ (ap (λ bs. update_head_bytes 1 ++ bs) (append-nil as_raw)
-    ∙ ap (λ bs. update_head_bytes 1 ++ (rectangle_head_bytes area 0 ++ bs)) (flat_map-map (pixel_bytes format) (tint format) colours))
+    ∙ (ap (λ bs. update_head_bytes 1 ++ (rectangle_head_bytes area 0 ++ bs)) (flat_map-map (pixel_bytes format) (tint format) colours)
+    ∙ sym (append_assoc (update_head_bytes 1) (rectangle_head_bytes area 0) (row_bytes format colours))))
 
 map_same : (f g : ℕ → ℕ) (n a : ℕ) → ((k : ℕ) → a ≤ k → k < a + n → f k ≡ g k) → map f (range_with_len a n) ≡ map g (range_with_len a n)
 map_same f g zero a e = refl
@@ -76,9 +79,8 @@ map_shift f g (suc n) a b e =
     (λ i lt. let ai : a + 1 + i ≡ a + suc i = omega arith in let bi : b + suc i ≡ b + 1 + i = omega arith in ap f ai ∙ (e (suc i) (omega arith) ∙ ap g bi)) in
     cc
 
--- One row more.
-pub values_more : (w m : ℕ) (canvas : Canvas) → 0 < w → values_of w (m + 1) canvas ≡ values_of w m canvas ++ map (λ k. canvas k m) (range_with_len 0 w)
-values_more w m canvas lw =
+values_more_by : (w m : ℕ) (canvas : Canvas) → 0 < w → values_of w (m + 1) canvas ≡ values_of w m canvas ++ map (λ k. canvas k m) (range_with_len 0 w)
+values_more_by w m canvas lw =
     let f : ℕ → ℕ = λ k. canvas (k % w) (k / w) in
     let size : w * (m + 1) ≡ w * m + w = omega arith in
     ap (λ n. map f (range_with_len 0 n)) size
@@ -89,6 +91,15 @@ values_more w m canvas lw =
     (λ i lt.
     let at : 0 + w * m + i ≡ m * w + i = omega arith in
     ap f at ∙ (ap (λ k. canvas k ((m * w + i) / w)) (mod-mul-add m w i lt) ∙ (ap (canvas i) (div-mul-add m w i lt) ∙ ap (λ k. canvas k m) (sym (zero-add i))))))))
+
+-- One row more.
+pub values_more : (w m : ℕ) (canvas : Canvas) → values_of w (m + 1) canvas ≡ values_of w m canvas ++ map (λ k. canvas k m) (range_with_len 0 w)
+values_more zero m canvas =
+    let f : ℕ → ℕ = λ k. canvas (k % 0) (k / 0) in
+    let none : 0 * m ≡ 0 = omega arith in
+    let none_more : 0 * (m + 1) ≡ 0 = omega arith in
+    ap (λ n. map f (range_with_len 0 n)) none_more ∙ sym (ap (λ n. map f (range_with_len 0 n) ++ []) none)
+values_more (suc w) m canvas = values_more_by (suc w) m canvas (omega arith)
 
 -- No row.
 pub values_none : (w : ℕ) (canvas : Canvas) → values_of w 0 canvas ≡ []
@@ -103,3 +114,20 @@ part_is_row values w h area m len on lt =
     let count : length row ≡ area.w = part_len values w h area.x (area.y + m) area.w len (omega (arith, on.down)) on.across in
     sym (map_range_is f 0 row (λ k less. let z : 0 + k ≡ k = omega arith in ap f z ∙ sym (part_at values w area.x (area.y + m) area.w k (omega arith))))
     ∙ ap (λ n. map f (range_with_len 0 n)) count
+
+-- One row more is written.
+pub rows_more : (format : PixelFormat) (values : List ℕ) (w h : ℕ) (area : Rect) (m start size k : ℕ) (out new : List ℕ) → length values ≡ w * h → IsWithin area w h → m < area.h
+    → start ≤ length out → take start out ≡ row_bytes format (values_of area.w m (part_of area (value_at w values)))
+    → new ≡ row_bytes format (take ((area.y + m) * w + area.x + area.w - ((area.y + m) * w + area.x)) (drop ((area.y + m) * w + area.x) values)) → size ≡ start + length new
+    → take size (put_mid start k out new) ≡ row_bytes format (values_of area.w (m + 1) (part_of area (value_at w values)))
+rows_more format values w h area m start size k out new len on lt le sofar this count =
+    let canvas : Canvas = part_of area (value_at w values) in
+    let from : ℕ = (area.y + m) * w + area.x in
+    let wide : from + area.w - from ≡ area.w = omega arith in
+    let row : List ℕ = map (λ x. canvas x m) (range_with_len 0 area.w) in
+    let here : new ≡ row_bytes format row = this ∙ (ap (λ n. row_bytes format (take n (drop from values))) wide ∙ ap (row_bytes format) (part_is_row values w h area m len on lt)) in
+    take-put_mid start k out new size count le
+    ∙ (ap (λ t. t ++ new) sofar
+    ∙ (ap (λ t. row_bytes format (values_of area.w m canvas) ++ t) here
+    ∙ (sym (flat_map-append (λ colour. pixel_bytes format (tint format colour)) (values_of area.w m canvas) row)
+    ∙ ap (row_bytes format) (sym (values_more area.w m canvas)))))
