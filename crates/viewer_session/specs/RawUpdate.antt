@@ -9,3 +9,8 @@ use Rattle.update_encoder.specs.Answer.{colours_in}
 -- The head of an update of one rectangle, the rectangle's head, and its pixels in a format.
 abbrev pub raw_update : PixelFormat → Canvas → Rect → List ℕ
 raw_update format screen area = (update_head_bytes 1 ++ rectangle_head_bytes area 0) ++ row_bytes format (colours_in screen area)
+
+-- How much room there is for an update, and the bytes of it that aren't sent yet.
+pub record Waiting : Type 0 where
+  pub room : ℕ
+  pub unsent : List ℕ
