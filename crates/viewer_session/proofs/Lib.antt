@@ -1,2 +1,3 @@
 pub mod Stands
 pub mod Accepted
+pub mod Streams
