@@ -166,22 +166,27 @@ fn formats_are_written(rt: HostRuntime) -> Result<(), Fail> {
 
 #[test]
 fn each_condition_is_looked_at(rt: HostRuntime) {
-    // Bits a pixel: 8, 16 or 32.
-    assert!(rt; is_refused(changed(HOST, 0, 24)));
-    // True colour.
-    assert!(rt; is_refused(changed(HOST, 3, 0)));
-    // Greatest values are one less than a power of two, and not 0.
-    assert!(rt; is_refused(changed(HOST, 5, 0xFE)));
-    assert!(rt; is_refused(changed(HOST, 7, 0)));
-    // Channels lie inside the pixel; a shift may be as much as 255.
-    assert!(rt; is_refused(changed(HOST, 10, 25)));
-    assert!(rt; is_refused(changed(HOST, 10, 255)));
-    // Channels have no bit in common: red and green, red and blue, green and blue.
-    assert!(rt; is_refused(changed(HOST, 10, 15)));
-    assert!(rt; is_refused(changed(HOST, 10, 7)));
-    assert!(rt; is_refused(changed(HOST, 11, 7)));
-    // A viewer that asks for a colour map.
-    assert!(rt; is_refused([8, 8, 0, 0, 0, 0, 0, 0, 0, 0, 0, 0, 0, 0, 0, 0]));
+    let refused = [
+        // Bits a pixel: 8, 16 or 32.
+        changed(HOST, 0, 24),
+        // True colour.
+        changed(HOST, 3, 0),
+        // Greatest values are one less than a power of two, and not 0.
+        changed(HOST, 5, 0xFE),
+        changed(HOST, 7, 0),
+        // Channels lie inside the pixel; a shift may be as much as 255.
+        changed(HOST, 10, 25),
+        changed(HOST, 10, 255),
+        // Channels have no bit in common: red and green, red and blue, green and blue.
+        changed(HOST, 10, 15),
+        changed(HOST, 10, 7),
+        changed(HOST, 11, 7),
+        // A viewer that asks for a colour map.
+        [8, 8, 0, 0, 0, 0, 0, 0, 0, 0, 0, 0, 0, 0, 0, 0],
+    ];
+    for (i, bytes) in refused.iter().enumerate() {
+        assert!(rt; is_refused(*bytes), "{i} is accepted");
+    }
 }
 
 /// Whether the 16 bits of greatest values 31, 63, 31 are still accepted with one byte changed so.
@@ -215,26 +220,34 @@ fn each_byte_counts_as_the_rules_say(rt: HostRuntime) {
 
 #[test]
 fn faults_have_their_numbers(rt: HostRuntime) {
-    assert_eq!(rt; Fault::BadVersion.number(), 1);
-    assert_eq!(rt; Fault::HostRefused(ArrayVec::new()).number(), 2);
-    assert_eq!(rt; Fault::NoNone.number(), 3);
-    assert_eq!(rt; Fault::SecurityFailed.number(), 4);
-    assert_eq!(rt; Fault::BadScreen.number(), 5);
-    assert_eq!(rt; Fault::UnknownMessage(7).number(), 6);
-    assert_eq!(rt; Fault::RectOutside.number(), 7);
-    assert_eq!(rt; Fault::UnknownEncoding.number(), 8);
-    assert_eq!(rt; Fault::SubrectOutside.number(), 9);
-    assert_eq!(rt; Fault::NoBackground.number(), 10);
-    assert_eq!(rt; Fault::NoForeground.number(), 11);
-    assert_eq!(rt; Fault::BadFormat.number(), 12);
-    assert_eq!(rt; Fault::BadChoice.number(), 13);
-    assert_eq!(rt; Fault::CopyOutside.number(), 14);
-    assert_eq!(rt; Fault::Memory.number(), 20);
-    assert_eq!(rt; Fault::LinkFailed.number(), 21);
-    assert_eq!(rt; Fault::LinkEnded.number(), 22);
-    assert_eq!(rt; Fault::Gone.number(), 23);
-    assert_eq!(rt; Fault::NoPlace.number(), 24);
-    assert_eq!(rt; Fault::QueueFull.number(), 30);
-    assert_eq!(rt; Fault::NumbersOut.number(), 31);
+    let faults = [
+        Fault::BadVersion,
+        Fault::HostRefused(ArrayVec::new()),
+        Fault::NoNone,
+        Fault::SecurityFailed,
+        Fault::BadScreen,
+        Fault::UnknownMessage(7),
+        Fault::RectOutside,
+        Fault::UnknownEncoding,
+        Fault::SubrectOutside,
+        Fault::NoBackground,
+        Fault::NoForeground,
+        Fault::BadFormat,
+        Fault::BadChoice,
+        Fault::CopyOutside,
+        Fault::Memory,
+        Fault::LinkFailed,
+        Fault::LinkEnded,
+        Fault::Gone,
+        Fault::NoPlace,
+        Fault::QueueFull,
+        Fault::NumbersOut,
+    ];
+    let numbers = [
+        1, 2, 3, 4, 5, 6, 7, 8, 9, 10, 11, 12, 13, 14, 20, 21, 22, 23, 24, 30, 31,
+    ];
+    for (fault, number) in faults.iter().zip(numbers.iter()) {
+        assert_eq!(rt; fault.number(), *number);
+    }
     assert_eq!(rt; LIMIT, 4_611_686_018_427_387_904);
 }
