@@ -1,4 +1,4 @@
-use Rattle.std.proofs.Common.{◌≡◌, ◌*◌, ◌+◌, ◌≤◌, length, get_or, arith}
+use Rattle.std.proofs.Common.{◌*◌, get_or, arith}
 use Rattle.pixel_format.specs.PixelFormat.{PixelFormat, tint}
 use Rattle.pixel_format.proofs.RowLemmas.{row_goes_on}
 use Rattle.pixel_format.proofs.format.Format.tint_row_16.Goals as goal
