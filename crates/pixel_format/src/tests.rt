@@ -127,6 +127,19 @@ fn colours_in_other_formats_of_32_bits(rt: HostRuntime) -> Result<(), Fail> {
 }
 
 #[test]
+fn values_of_colours(rt: HostRuntime) -> Result<(), Fail> {
+    let colours = [RED, BLUE, GREY];
+    let mut values = [7; 3];
+    format_of(RGB565)?.tint_values(&colours, &mut values);
+    assert_eq!(rt; values, [0xF800, 0x001F, 0x8410]);
+    Format::HOST.tint_values(&colours, &mut values);
+    assert_eq!(rt; values, colours);
+    format_of(RGB30)?.tint_values(&colours, &mut values);
+    assert_eq!(rt; values, [0x3FF0_0000, 0x0000_03FF, 0x2028_0A02]);
+    Ok(())
+}
+
+#[test]
 fn pixels_are_put_and_got(rt: HostRuntime) -> Result<(), Fail> {
     let mut bytes = [0xEE; 5];
     assert_eq!(rt;
