@@ -3,7 +3,7 @@
 use std::marker::Model;
 
 /// How a component lies in a pixel value: its greatest value, and how far it is shifted to the left.
-#[derive(Clone, Copy)]
+#[derive(Clone, Copy, PartialEq, Eq, Debug)]
 pub(crate) struct Channel {
     pub(crate) max: u16,
     pub(crate) shift: u8,

@@ -1,6 +1,6 @@
 //! A colour's pixel value, and a row of colours as pixel bytes.
 
-ghost use Rattle.std.specs.Prelude.{◌≡◌, ◌*◌, ◌^◌, ◌<◌, length, IsTrue, [], ◌∷◌};
+ghost use Rattle.std.specs.Prelude.{◌≡◌, ◌*◌, ◌^◌, ◌<◌, length, map, IsTrue, [], ◌∷◌};
 ghost use Rattle.std.specs.List.{flat_map};
 ghost use Rattle.pixel_format.specs.PixelFormat.{HasByteChannels, IsNarrow, tint, pixel_len, row_bytes, host_format};
 
@@ -34,6 +34,20 @@ impl Format {
         }
     }
 
+    /// Writes the pixel values of colours, one for each.
+    pub fn tint_values(&self, colours: &[u32], values: &mut [u32])
+        requires { length values.old ≡ length colours.now }
+        ensures { values.new ≡ map (tint self.now) colours.now }
+    {
+        if self.has_byte_channels() {
+            self.tint_values_by::<Shifts>(colours, values);
+        } else if self.is_narrow() {
+            self.tint_values_by::<Multiplication>(colours, values);
+        } else {
+            self.tint_values_by::<Division>(colours, values);
+        }
+    }
+
     /// Whether pixel values are the colours themselves, in the host's order of bytes.
     fn is_host(&self) -> bool
         ensures { IsTrue result → self.now ≡ record host_format { depth = self.now.depth } }
@@ -57,6 +71,17 @@ impl Format {
         ensures { IsTrue result → IsNarrow self.now }
     {
         self.red.max <= 255 && self.green.max <= 255 && self.blue.max <= 255
+    }
+
+    fn tint_values_by<S: Scaling>(&self, colours: &[u32], values: &mut [u32])
+        requires serves { S.serves self.now }
+        requires room { length values.old ≡ length colours.now }
+        ensures { values.new ≡ map (tint self.now) colours.now }
+    {
+        let format = *self;
+        for (i, colour) in colours.iter().enumerate() {
+            values[i] = S::pixel(&format, *colour);
+        }
     }
 
     fn tint_row_by<S: Scaling>(&self, colours: &[u32], out: &mut [u8])

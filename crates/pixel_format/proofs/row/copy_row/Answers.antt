@@ -1,4 +1,4 @@
-use Rattle.std.proofs.Common.{◌≡◌, ◌*◌, ◌+◌, ◌≤◌, length, get_or, arith}
+use Rattle.std.proofs.Common.{◌*◌, get_or, arith}
 use Rattle.pixel_format.specs.PixelFormat.{host_format, tint, pixel_bytes}
 use Rattle.pixel_format.proofs.Pixels.{pixel_size}
 use Rattle.pixel_format.proofs.RowLemmas.{piece_goes_on}

@@ -1,6 +1,6 @@
-use Rattle.std.proofs.Common.{◌≡◌, ◌+◌, ◌*◌, ◌/◌, ◌^◌, ◌≤◌, ap, ◌∙◌, refl, arith}
+use Rattle.std.proofs.Common.{◌≡◌, ◌+◌, ◌*◌, ◌/◌, ◌^◌, ap, arith}
 use Rattle.pixel_format.specs.PixelFormat.{on_channel}
-use Rattle.pixel_format.proofs.ScalingLemmas.{scaled_exactly, factor_below}
+use Rattle.pixel_format.proofs.ScalingLemmas.{scaled_exactly}
 use Rattle.pixel_format.proofs.Tints.{placed_below}
 use Rattle.pixel_format.proofs.channel.Channel.place_narrow.Goals as goal
 

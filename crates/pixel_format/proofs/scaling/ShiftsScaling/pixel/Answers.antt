@@ -1,5 +1,5 @@
 use Rattle.std.proofs.Common.{◌≡◌, refl}
-use Rattle.pixel_format.specs.PixelFormat.{IsAccepted, on_channel, red_of, green_of, blue_of}
+use Rattle.pixel_format.specs.PixelFormat.{on_channel, red_of, green_of, blue_of}
 use Rattle.pixel_format.proofs.Tints.{channels_fit, two_fit, three_fit, three_below}
 use Rattle.pixel_format.proofs.scaling.ShiftsScaling.pixel.Goals as goal
 
