@@ -1,5 +1,5 @@
 -- The parts of a viewer's message whose length is fixed.
-use Rattle.std.proofs.Common.{◌≡◌, ℕ, suc, ◌+◌, ◌-◌, ◌<◌, ◌≤◌, true, false, not, List, [], ◌∷◌, length, take, drop, set, None, refl, sym, ap, ◌∙◌, arith}
+use Rattle.std.proofs.Common.{◌≡◌, ℕ, suc, ◌+◌, ◌-◌, ◌<◌, ◌≤◌, true, false, not, List, [], ◌∷◌, ◌++◌, min, length, take, drop, set, None, refl, sym, ap, ◌∙◌, arith}
 use Rattle.std.specs.Prelude.{◌==◌, ◌||◌, Bool, Some, Option, is_some, if◌then◌else◌, unwrap_or, nat_le, slice_index}
 use Rattle.std.specs.List.{list_any}
 use Rattle.std.specs.Int.{w16, w32, from_be_bytes}
@@ -7,9 +7,9 @@ use mathlib.Core.Path.{fun_ext}
 use Rattle.pixel_format.specs.PixelFormat.{PixelFormat, accepts, format_at}
 use Rattle.std.proofs.lemmas.List.{take_all, take_more_set, length-drop, length-take}
 use Rattle.pixel_format.specs.declared.fault.Fault.TheVariants.{BadFormat}
-use Rattle.pixel_format.specs.Reading.{Reading, Done, Faulty, ◌>>=◌, step, after, bytes, padding, times, u32, wants_more, unless}
+use Rattle.pixel_format.specs.Reading.{Reading, Done, Faulty, ◌>>=◌, after, taken, bytes, padding, times, u32, wants_more, unless}
 use Rattle.pixel_format.proofs.ReadingLaws.{bind_assoc, after-append}
-use Rattle.rfb_wire.proofs.Heads.{head_wants, head_full}
+use Rattle.rfb_wire.proofs.Heads.{head_wants, head_full, head_takes}
 use Rattle.raster.specs.declared.encoding.Encoding.{Encoding}
 use Rattle.raster.specs.declared.encoding.Encoding.TheVariants.{Raw, Rre, Hextile}
 use Rattle.rfb_wire.specs.declared.client_reader.found.Found.{Found}
@@ -17,7 +17,7 @@ use Rattle.rfb_wire.specs.declared.client_reader.part.Part.{Part}
 use Rattle.rfb_wire.specs.declared.client_reader.part.Part.TheVariants as part
 use Rattle.rfb_wire.specs.ClientMessage.{ClientMessage, SetPixelFormat, SetEncodings, Ask, Key, Pointer, CutText, LostText, fields_of, set_pixel_format, set_encodings, choice_of, kind_of}
 use Rattle.rfb_wire.specs.Parts.{len_of}
-use Rattle.rfb_wire.specs.ClientReader.{form_of, numbers, noted, choice_with, kind_at}
+use Rattle.rfb_wire.specs.ClientReader.{form_of, numbers, noted, choice_with, kind_at, Uses}
 
 -- ---- each part of a viewer's message is one
 
@@ -121,25 +121,20 @@ format_accepted xs fields format e is accepted same = ap (λ f. Done (SetPixelFo
 pub format_refused : (xs fields : List ℕ) → length xs ≡ 19 → fields ≡ take 16 (drop 3 xs) → (accepts fields ≡ true → ⊥) → Faulty BadFormat ≡ after set_pixel_format xs
 format_refused xs fields e is refused = sym (format_read false xs fields e is (not_so (accepts fields) refused))
 
--- ---- one more byte of a part
+-- ---- the bytes of a part
 
-pub one_more : (p : Part) (buffer : List ℕ) (filled b : ℕ) (before : Part × List ℕ) → (p, take filled buffer) ≡ before → filled < length buffer
-    → after (form_of p) (take (filled + 1) (set buffer filled b)) ≡ step (after (form_of before.0) before.1) b
-one_more p buffer filled b before is room =
-    ap (after (form_of p)) (take_more_set buffer filled b room)
-    ∙ (after-append (form_of p) (take filled buffer) (b ∷ [])
-    ∙ ap (λ (f : Part × List ℕ). step (after (form_of f.0) f.1) b) is)
-
-pub len_below : (p : Part) → len_of p ≤ 19
-len_below part.Kind = omega arith
-len_below part.Format = omega arith
-len_below part.Count = omega arith
-len_below (part.Number left found) = omega arith
-len_below part.Ask = omega arith
-len_below part.Key = omega arith
-len_below part.Pointer = omega arith
-len_below part.Length = omega arith
-
-pub fields_want : (p : Part) (buffer : List ℕ) (filled : ℕ) (held : Part × List ℕ) → (p, take filled buffer) ≡ held → filled < len_of p → filled ≤ length buffer → wants_more (after (form_of held.0) held.1) ≡ true
-fields_want p buffer filled held is lt room =
+pub fields_want : (p : Part) (buffer : List ℕ) (filled : ℕ) (held : Part × List ℕ) → (p, take filled buffer) ≡ held → filled < len_of p → wants_more (after (form_of held.0) held.1) ≡ true
+fields_want p buffer filled held is lt =
     ap (λ (f : Part × List ℕ). wants_more (after (form_of f.0) f.1)) (sym is) ∙ part_wants p (take filled buffer) (omega (arith, length-take filled buffer))
+
+-- As many bytes are used as are missing, or as there are.
+pub fields_use : (p : Part) (begun : List ℕ) (new : Reading ClientMessage) (piece next : List ℕ) (left n : ℕ) → length begun + left ≡ len_of p → 0 < left → 0 < length piece → n ≡ min (length piece) left → next ≡ take n piece
+    → new ≡ after (form_of p) (begun ++ next) → Uses (after (form_of p) begun) new piece n
+fields_use p begun new piece next left n all more some e f goes =
+    let same : length (take n piece) ≡ n = omega (arith, length-take n piece) in
+    record {
+      some = omega arith;
+      fits = omega arith;
+      goes_on = goes ∙ (ap (λ t. after (form_of p) (begun ++ t)) f ∙ after-append (form_of p) begun (take n piece));
+      all = ap (λ r. taken (after r begun) (take n piece)) (is_head p).same ∙ (head_takes (len_of p) (is_head p).next begun (take n piece) (omega arith) ∙ same);
+    }
