@@ -1,4 +1,3 @@
-use Rattle.std.proofs.Common.{arith}
 use Rattle.rfb_wire.proofs.ViewerParts.{fields_want}
 use Rattle.rfb_wire.proofs.client_reader.fields.Fields.left.Goals as goal
 
