@@ -1,7 +1,7 @@
 -- Forms that begin with so many bytes, all of which are judged at the last.
-use Rattle.std.proofs.Common.{◌≡◌, ℕ, zero, suc, ◌<◌, true, List, [], ◌∷◌, length, refl, ap, ◌∙◌, arith}
-use Rattle.pixel_format.specs.Reading.{Reading, Done, ◌>>=◌, step, after, bytes, wants_more}
-use Rattle.pixel_format.proofs.ReadingLaws.{bind_assoc}
+use Rattle.std.proofs.Common.{◌≡◌, ℕ, zero, suc, ◌+◌, ◌<◌, ◌≤◌, true, List, [], ◌∷◌, length, refl, ap, ◌∙◌, arith}
+use Rattle.pixel_format.specs.Reading.{Reading, Done, ◌>>=◌, step, after, taken, bytes, wants_more}
+use Rattle.pixel_format.proofs.ReadingLaws.{bind_assoc, taken-nil}
 
 -- Behind the first byte the rest is such a form again.
 head_step : {A : Type 0} (n : ℕ) (next : List ℕ → Reading A) (b : ℕ) → step (bytes (suc n) >>= next) b ≡ (bytes n >>= λ others. next (b ∷ others))
@@ -19,3 +19,11 @@ head_full zero next [] e = refl
 head_full zero next (b ∷ xs) e = absurd (omega arith)
 head_full (suc n) next [] e = absurd (omega arith)
 head_full (suc n) next (b ∷ xs) e = ap (λ r. after r xs) (head_step n next b) ∙ head_full n (λ others. next (b ∷ others)) xs (omega arith)
+
+-- Each byte of it is taken.
+pub head_takes : {A : Type 0} (n : ℕ) (next : List ℕ → Reading A) (begun xs : List ℕ) → length begun + length xs ≤ n → taken (after (bytes n >>= next) begun) xs ≡ length xs
+head_takes n next [] [] le = taken-nil (bytes n >>= next)
+head_takes zero next [] (b ∷ xs) le = absurd (omega arith)
+head_takes (suc n) next [] (b ∷ xs) le = ap suc (ap (λ r. taken r xs) (head_step n next b) ∙ head_takes n (λ others. next (b ∷ others)) [] xs (omega arith))
+head_takes zero next (b ∷ begun) xs le = absurd (omega arith)
+head_takes (suc n) next (b ∷ begun) xs le = ap (λ r. taken (after r begun) xs) (head_step n next b) ∙ head_takes n (λ others. next (b ∷ others)) begun xs (omega arith)

@@ -1,23 +1,20 @@
 -- The parts of a viewer's message whose length is fixed.
-use Rattle.std.proofs.Common.{◌≡◌, ℕ, suc, ◌+◌, ◌-◌, ◌<◌, ◌≤◌, true, false, not, List, [], ◌∷◌, length, take, drop, set, None, refl, sym, ap, ◌∙◌, arith}
-use Rattle.std.specs.Prelude.{◌==◌, ◌||◌, Bool, Some, Option, is_some, if◌then◌else◌, unwrap_or, nat_le, slice_index}
-use Rattle.std.specs.List.{list_any}
+use Rattle.std.proofs.Common.{◌≡◌, ℕ, suc, ◌+◌, ◌-◌, ◌<◌, true, false, not, List, [], ◌∷◌, ◌++◌, min, length, take, drop, None, refl, sym, ap, ◌∙◌, arith}
+use Rattle.std.specs.Prelude.{◌==◌, Bool, if◌then◌else◌, nat_le, slice_index}
 use Rattle.std.specs.Int.{w16, w32, from_be_bytes}
 use mathlib.Core.Path.{fun_ext}
 use Rattle.pixel_format.specs.PixelFormat.{PixelFormat, accepts, format_at}
-use Rattle.std.proofs.lemmas.List.{take_all, take_more_set, length-drop, length-take}
+use Rattle.std.proofs.lemmas.List.{take_all, length-drop, length-take}
 use Rattle.pixel_format.specs.declared.fault.Fault.TheVariants.{BadFormat}
-use Rattle.pixel_format.specs.Reading.{Reading, Done, Faulty, ◌>>=◌, step, after, bytes, padding, times, u32, wants_more, unless}
+use Rattle.pixel_format.specs.Reading.{Reading, Done, Faulty, ◌>>=◌, after, taken, bytes, padding, times, u32, wants_more, unless}
 use Rattle.pixel_format.proofs.ReadingLaws.{bind_assoc, after-append}
-use Rattle.rfb_wire.proofs.Heads.{head_wants, head_full}
-use Rattle.raster.specs.declared.encoding.Encoding.{Encoding}
-use Rattle.raster.specs.declared.encoding.Encoding.TheVariants.{Raw, Rre, Hextile}
+use Rattle.rfb_wire.proofs.Heads.{head_wants, head_full, head_takes}
 use Rattle.rfb_wire.specs.declared.client_reader.found.Found.{Found}
 use Rattle.rfb_wire.specs.declared.client_reader.part.Part.{Part}
 use Rattle.rfb_wire.specs.declared.client_reader.part.Part.TheVariants as part
-use Rattle.rfb_wire.specs.ClientMessage.{ClientMessage, SetPixelFormat, SetEncodings, Ask, Key, Pointer, CutText, LostText, fields_of, set_pixel_format, set_encodings, choice_of, kind_of}
+use Rattle.rfb_wire.specs.ClientMessage.{ClientMessage, SetPixelFormat, SetEncodings, Ask, Key, Pointer, CutText, LostText, fields_of, set_pixel_format, set_encodings, choice_of, Choice}
 use Rattle.rfb_wire.specs.Parts.{len_of}
-use Rattle.rfb_wire.specs.ClientReader.{form_of, numbers, noted, choice_with, kind_at}
+use Rattle.rfb_wire.specs.ClientReader.{form_of, numbers, choice_with, Uses}
 
 -- ---- each part of a viewer's message is one
 
@@ -60,31 +57,13 @@ part_full p xs e = ap (λ r. after r xs) (is_head p).same ∙ head_full (len_of 
 
 -- ---- a list of encodings
 
--- The first that tells counts.
-kind_first : (a b c : Bool) (k : Encoding) → unwrap_or (if a then Some Raw else (if b then Some Rre else (if c then Some Hextile else None))) k ≡ (if a then Raw else (if b then Rre else (if c then Hextile else k)))
-kind_first true b c k = refl
-kind_first false true c k = refl
-kind_first false false true k = refl
-kind_first false false false k = refl
-
-kind_noted : (known : Option Encoding) (e : ℕ) (es : List ℕ) → unwrap_or known (kind_of (e ∷ es)) ≡ unwrap_or (if is_some known then known else kind_at e) (kind_of es)
-kind_noted None e es = sym (kind_first (e == 0) (e == 2) (e == 5) (kind_of es))
-kind_noted (Some k) e es = refl
-
-or_assoc : (a b c : Bool) → (a || (b || c)) ≡ ((a || b) || c)
-or_assoc true b c = refl
-or_assoc false b c = refl
-
-pub choice_noted : (found : Found) (e : ℕ) (es : List ℕ) → choice_with found (e ∷ es) ≡ choice_with (noted found e) es
-choice_noted found e es = cc (kind_noted found.kind e es, or_assoc found.copy (e == 1) (list_any (λ e. e == 1) es))
-
--- One number more.
-pub numbers_noted : (left : ℕ) (found : Found) (xs : List ℕ) → length xs ≡ 4 → after (numbers (suc left) found) xs ≡ numbers left (noted found (from_be_bytes w32 xs))
-numbers_noted left found xs e =
+-- One number is read, and so many are left.
+numbers_noted : (left : ℕ) (found new : Found) (xs : List ℕ) → length xs ≡ 4 → ((others : List ℕ) → choice_with new others ≡ choice_with found (from_be_bytes w32 xs ∷ others)) → after (numbers (suc left) found) xs ≡ numbers left new
+numbers_noted left found new xs e notes =
     let number : ℕ = from_be_bytes w32 xs in
     part_full (part.Number left found) xs e
     ∙ (bind_assoc (times left u32) (λ es. Done (number ∷ es)) (λ es. Done (SetEncodings (choice_with found es)))
-    ∙ ap (λ (f : List ℕ → Reading ClientMessage). times left u32 >>= f) (fun_ext (λ es. ap (λ c. Done (SetEncodings c)) (choice_noted found number es))))
+    ∙ ap (λ (f : List ℕ → Reading ClientMessage). times left u32 >>= f) (fun_ext (λ es. ap (λ c. Done (SetEncodings c)) (sym (notes es)))))
 
 -- The first number of a list follows its count.
 pub count_goes_on : (count : ℕ) (fields : Part × List ℕ) (xs : List ℕ) → length xs ≡ 3 → 0 < count → count ≡ from_be_bytes w16 (slice_index xs 1 ∷ slice_index xs 2 ∷ [])
@@ -94,12 +73,20 @@ count_goes_on count fields xs e some same is =
     let grown : suc (count - 1) ≡ count = omega arith in
     ap (λ (f : Part × List ℕ). after (form_of f.0) f.1) is ∙ (ap (λ n. numbers n found) (grown ∙ same) ∙ sym (part_full part.Count xs e))
 
--- And the next number one that isn't the last.
-pub number_goes_on : (left : ℕ) (found : Found) (number : ℕ) (fields : Part × List ℕ) (xs : List ℕ) → length xs ≡ 4 → 0 < left → number ≡ from_be_bytes w32 xs
-    → fields ≡ (part.Number (left - 1) (noted found number), []) → after (form_of fields.0) fields.1 ≡ after (numbers (suc left) found) xs
-number_goes_on left found number fields xs e some same is =
+-- The last number.
+pub number_ends : (left : ℕ) (found new : Found) (choice : Choice) (number : ℕ) (xs : List ℕ) → length xs ≡ 4 → left ≡ 0 → number ≡ from_be_bytes w32 xs
+    → ((others : List ℕ) → choice_with new others ≡ choice_with found (number ∷ others)) → choice ≡ choice_with new [] → Done (SetEncodings choice) ≡ after (numbers (suc left) found) xs
+number_ends left found new choice number xs e last same notes is =
+    let here : (others : List ℕ) → choice_with new others ≡ choice_with found (from_be_bytes w32 xs ∷ others) = λ others. notes others ∙ ap (λ n. choice_with found (n ∷ others)) same in
+    ap (λ c. Done (SetEncodings c)) is ∙ sym (numbers_noted left found new xs e here ∙ ap (λ n. numbers n new) last)
+
+-- One that isn't the last.
+pub number_goes_on : (left : ℕ) (found new : Found) (number : ℕ) (fields : Part × List ℕ) (xs : List ℕ) → length xs ≡ 4 → 0 < left → number ≡ from_be_bytes w32 xs
+    → ((others : List ℕ) → choice_with new others ≡ choice_with found (number ∷ others)) → fields ≡ (part.Number (left - 1) new, []) → after (form_of fields.0) fields.1 ≡ after (numbers (suc left) found) xs
+number_goes_on left found new number fields xs e some same notes is =
+    let here : (others : List ℕ) → choice_with new others ≡ choice_with found (from_be_bytes w32 xs ∷ others) = λ others. notes others ∙ ap (λ n. choice_with found (n ∷ others)) same in
     let grown : suc (left - 1) ≡ left = omega arith in
-    ap (λ (f : Part × List ℕ). after (form_of f.0) f.1) is ∙ (ap (λ n. numbers n (noted found number)) grown ∙ (ap (λ n. numbers left (noted found n)) same ∙ sym (numbers_noted left found xs e)))
+    ap (λ (f : Part × List ℕ). after (form_of f.0) f.1) is ∙ (ap (λ n. numbers n new) grown ∙ sym (numbers_noted left found new xs e here))
 
 -- ---- a pixel format
 
@@ -121,25 +108,20 @@ format_accepted xs fields format e is accepted same = ap (λ f. Done (SetPixelFo
 pub format_refused : (xs fields : List ℕ) → length xs ≡ 19 → fields ≡ take 16 (drop 3 xs) → (accepts fields ≡ true → ⊥) → Faulty BadFormat ≡ after set_pixel_format xs
 format_refused xs fields e is refused = sym (format_read false xs fields e is (not_so (accepts fields) refused))
 
--- ---- one more byte of a part
+-- ---- the bytes of a part
 
-pub one_more : (p : Part) (buffer : List ℕ) (filled b : ℕ) (before : Part × List ℕ) → (p, take filled buffer) ≡ before → filled < length buffer
-    → after (form_of p) (take (filled + 1) (set buffer filled b)) ≡ step (after (form_of before.0) before.1) b
-one_more p buffer filled b before is room =
-    ap (after (form_of p)) (take_more_set buffer filled b room)
-    ∙ (after-append (form_of p) (take filled buffer) (b ∷ [])
-    ∙ ap (λ (f : Part × List ℕ). step (after (form_of f.0) f.1) b) is)
-
-pub len_below : (p : Part) → len_of p ≤ 19
-len_below part.Kind = omega arith
-len_below part.Format = omega arith
-len_below part.Count = omega arith
-len_below (part.Number left found) = omega arith
-len_below part.Ask = omega arith
-len_below part.Key = omega arith
-len_below part.Pointer = omega arith
-len_below part.Length = omega arith
-
-pub fields_want : (p : Part) (buffer : List ℕ) (filled : ℕ) (held : Part × List ℕ) → (p, take filled buffer) ≡ held → filled < len_of p → filled ≤ length buffer → wants_more (after (form_of held.0) held.1) ≡ true
-fields_want p buffer filled held is lt room =
+pub fields_want : (p : Part) (buffer : List ℕ) (filled : ℕ) (held : Part × List ℕ) → (p, take filled buffer) ≡ held → filled < len_of p → wants_more (after (form_of held.0) held.1) ≡ true
+fields_want p buffer filled held is lt =
     ap (λ (f : Part × List ℕ). wants_more (after (form_of f.0) f.1)) (sym is) ∙ part_wants p (take filled buffer) (omega (arith, length-take filled buffer))
+
+-- As many bytes are used as are missing, or as there are.
+pub fields_use : (p : Part) (begun : List ℕ) (new : Reading ClientMessage) (piece next : List ℕ) (left n : ℕ) → length begun + left ≡ len_of p → 0 < left → 0 < length piece → n ≡ min (length piece) left → next ≡ take n piece
+    → new ≡ after (form_of p) (begun ++ next) → Uses (after (form_of p) begun) new piece n
+fields_use p begun new piece next left n all more some e f goes =
+    let same : length (take n piece) ≡ n = omega (arith, length-take n piece) in
+    record {
+      some = omega arith;
+      fits = omega arith;
+      goes_on = goes ∙ (ap (λ t. after (form_of p) (begun ++ t)) f ∙ after-append (form_of p) begun (take n piece));
+      all = ap (λ r. taken (after r begun) (take n piece)) (is_head p).same ∙ (head_takes (len_of p) (is_head p).next begun (take n piece) (omega arith) ∙ same);
+    }

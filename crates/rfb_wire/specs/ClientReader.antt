@@ -1,14 +1,11 @@
 -- How reading a viewer's message goes on, by what its reader holds.
-use Rattle.std.specs.Prelude.{◌≡◌, ℕ, suc, Bool, true, false, ◌<◌, ◌≤◌, ◌==◌, ◌||◌, ◌⊎◌, is_some, if◌then◌else◌, unwrap_or, Option, Some, None, List, ◌++◌, length, take}
+use Rattle.std.specs.Prelude.{◌≡◌, ℕ, suc, Bool, true, false, ◌<◌, ◌≤◌, ◌==◌, ◌||◌, ◌⊎◌, unwrap_or, List, ◌++◌, length, take}
 use Rattle.std.specs.List.{list_any}
 use Rattle.pixel_format.specs.declared.fault.Fault.TheVariants.{BadFormat, UnknownMessage}
 use Rattle.pixel_format.specs.Reading.{Reading, Done, Faulty, ◌>>=◌, after, taken, bytes, padding, u32, times}
-use Rattle.raster.specs.declared.encoding.Encoding.{Encoding}
-use Rattle.raster.specs.declared.encoding.Encoding.TheVariants.{Raw, Rre, Hextile}
 use Rattle.rfb_wire.specs.ClientMessage as client
 use Rattle.rfb_wire.specs.ClientMessage.{ClientMessage, SetEncodings, CutText, LostText, client_message, set_pixel_format, set_encodings, key_event, pointer_event, text, kind_of}
 use Rattle.rfb_wire.specs.Message.{message_of, losing}
-use Rattle.rfb_wire.specs.declared.choice.Choice as declared_choice
 use Rattle.rfb_wire.specs.declared.client_reader.found.Found.{Found}
 use Rattle.rfb_wire.specs.declared.client_reader.part.Part.{Part}
 use Rattle.rfb_wire.specs.declared.client_reader.part.Part.TheVariants as part
@@ -19,20 +16,9 @@ use Rattle.rfb_wire.specs.declared.client_reader.state.Wrong.TheVariants as wron
 
 -- ---- a list of encodings, of which the numbers so far were told and not kept
 
--- What a number tells, where it is the first that does.
-abbrev pub kind_at : ℕ → Option Encoding
-kind_at e = if e == 0 then Some Raw else (if e == 2 then Some Rre else (if e == 5 then Some Hextile else None))
-
-abbrev pub noted : Found → ℕ → Found
-noted found e = record { kind = if is_some found.kind then found.kind else kind_at e; copy = found.copy || (e == 1) }
-
 -- The choice where these numbers are left.
 abbrev pub choice_with : Found → List ℕ → client.Choice
 choice_with found es = record { kind = unwrap_or found.kind (kind_of es); copy = found.copy || list_any (λ e. e == 1) es }
-
--- And where none is.
-abbrev pub found_choice : Found → declared_choice.Choice
-found_choice found = record { kind = unwrap_or found.kind Raw; copy = found.copy }
 
 -- So many numbers are left.
 abbrev pub numbers : ℕ → Found → Reading ClientMessage

@@ -73,15 +73,10 @@ pub fn read_rectangle_head(bytes: &[u8]) -> RectangleHead
     requires { 12 ≤ length bytes.now }
     ensures { Spells rectangle_head (take 12 bytes.now) result }
 {
-    let (b, _) = bytes.split_at(12);
+    let (area, rest) = bytes.split_at(8);
     RectangleHead {
-        area: Rect {
-            x: u64::from(u16::from_be_bytes([b[0], b[1]])),
-            y: u64::from(u16::from_be_bytes([b[2], b[3]])),
-            w: u64::from(u16::from_be_bytes([b[4], b[5]])),
-            h: u64::from(u16::from_be_bytes([b[6], b[7]])),
-        },
-        encoding: u32::from_be_bytes([b[8], b[9], b[10], b[11]]),
+        area: read_rect(area),
+        encoding: read_encoding(rest),
     }
 }
 

@@ -12,9 +12,9 @@ use crate::client_reader::kept::{Kept, LONGEST_TEXT};
 use crate::client_reader::part::Part;
 use crate::client_reader::past::Past;
 use crate::client_reader::state::{State, Wrong};
+use crate::head::read_rect;
 use crate::message::ClientMessage;
 use pixel_format::Format;
-use raster::Rect;
 use std::alloc::Global;
 
 /// How reading goes on behind a part that has these bytes.
@@ -95,14 +95,10 @@ fn request(b: &[u8]) -> State
     requires { length b.now ≡ 9 }
     ensures { ahead result ≡ after ask b.now }
 {
+    let (flag, rect) = b.split_at(1);
     State::Whole(ClientMessage::Ask {
-        incremental: b[0] != 0,
-        rect: Rect {
-            x: u64::from(u16::from_be_bytes([b[1], b[2]])),
-            y: u64::from(u16::from_be_bytes([b[3], b[4]])),
-            w: u64::from(u16::from_be_bytes([b[5], b[6]])),
-            h: u64::from(u16::from_be_bytes([b[7], b[8]])),
-        },
+        incremental: flag[0] != 0,
+        rect: read_rect(rect),
     })
 }
 

@@ -1,8 +1,9 @@
-//! Fields that come byte by byte.
+//! Fields of a fixed length, as they come.
 
-ghost use Rattle.std.specs.Prelude.{◌≡◌, true, ◌<◌, ℕ, List, [], take};
-ghost use Rattle.pixel_format.specs.Reading.{after, step, wants_more};
+ghost use Rattle.std.specs.Prelude.{◌≡◌, true, ◌+◌, ◌<◌, ◌≤◌, [], ◌++◌, length};
+ghost use Rattle.pixel_format.specs.Reading.{after, wants_more};
 ghost use Rattle.rfb_wire.specs.ClientReader.{ahead, form_of};
+ghost use Rattle.rfb_wire.specs.Parts.{len_of};
 
 use crate::client_reader::complete::complete;
 use crate::client_reader::part::Part;
@@ -43,32 +44,35 @@ impl Fields {
         }
     }
 
-    /// Whether a byte is missing, as it is.
-    pub fn wants_more(&self) -> bool
-        ensures value { result ≡ wants_more (after (form_of self.now.0) self.now.1) }
-        ensures partial { result ≡ true }
+    /// How many of its bytes are missing.
+    pub fn left(&self) -> usize
+        ensures value { length self.now.1 + result ≡ len_of self.now.0 }
+        ensures some { 0 < result }
+        ensures wants { wants_more (after (form_of self.now.0) self.now.1) ≡ true }
     {
-        self.filled < self.part.len()
+        self.part.len() - self.filled
     }
 
-    /// What becomes of it with one more byte.
-    pub fn with_byte(self, alloc: Global, byte: u8) -> State
-        ensures { ahead result ≡ step (after (form_of self.0) self.1) byte }
+    /// What becomes of it with its next bytes.
+    pub fn with_bytes(self, alloc: Global, next: &[u8]) -> State
+        requires { length self.1 + length next.now ≤ len_of self.0 }
+        ensures { ahead result ≡ after (form_of self.0) (self.1 ++ next.now) }
     {
         let Fields {
             part,
             mut bytes,
             filled,
         } = self;
-        bytes[filled] = byte;
-        if filled + 1 < part.len() {
+        let end = filled + next.len();
+        bytes[filled..end].copy_from_slice(next);
+        if end < part.len() {
             State::Fields(Fields {
                 part,
                 bytes,
-                filled: filled + 1,
+                filled: end,
             })
         } else {
-            complete(alloc, part, &bytes[..filled + 1])
+            complete(alloc, part, &bytes[..end])
         }
     }
 }

@@ -1,7 +1,8 @@
 //! What a list of encodings comes to, as its numbers come.
 
-ghost use Rattle.std.specs.Prelude.{◌≡◌, None, false};
-ghost use Rattle.rfb_wire.specs.ClientReader.{noted, found_choice};
+ghost use Rattle.std.specs.Prelude.{◌≡◌, ℕ, List, [], ◌∷◌};
+ghost use Rattle.rfb_wire.specs.ClientReader.{choice_with};
+ghost use Rattle.rfb_wire.specs.Message.{choice_in};
 
 use crate::choice::Choice;
 use raster::Encoding;
@@ -23,7 +24,7 @@ impl Found {
 
     /// One more number. Of the encodings of pixels the first counts.
     pub fn note(self, number: u32) -> Found
-        ensures { result ≡ noted self number }
+        ensures { (others : List ℕ) → choice_with result others ≡ choice_with self (number ∷ others) }
     {
         let kind = match number {
             0 => Some(Encoding::Raw),
@@ -32,14 +33,14 @@ impl Found {
             _ => None,
         };
         Found {
-            kind: if self.kind.is_some() { self.kind } else { kind },
+            kind: self.kind.or(kind),
             copy: self.copy || number == 1,
         }
     }
 
     /// The choice, where no more numbers come.
     pub fn choice(self) -> Choice
-        ensures { result ≡ found_choice self }
+        ensures { choice_in result ≡ choice_with self [] }
     {
         Choice {
             kind: self.kind.unwrap_or(Encoding::Raw),

@@ -51,7 +51,7 @@ impl State {
         ensures partial { result ≡ is_partial self.now }
     {
         match self {
-            State::Fields(fields) => fields.wants_more(),
+            State::Fields(fields) => fields.left() > 0,
             State::Keeping(kept) => kept.left() > 0,
             State::Passing(past) => past.left() > 0,
             State::Whole(_) | State::Failed(_) => false,
@@ -72,14 +72,18 @@ impl State {
         }
     }
 
-    /// Takes bytes from the front of a piece, and answers how many: one of fields, or all that a text wants.
+    /// Takes bytes from the front of a piece, and answers how many: all that its part or its text wants.
     pub fn advance(self, alloc: Global, piece: &[u8]) -> (State, usize)
         requires wanted { wants_more (ahead self) ≡ true }
         requires some { 0 < length piece.now }
         ensures { UsesOrLoses (ahead self) (ahead result.0) piece.now result.1 }
     {
         match self {
-            State::Fields(fields) => (fields.with_byte(alloc, piece[0]), 1),
+            State::Fields(fields) => {
+                let count = piece.len().min(fields.left());
+                let (next, _) = piece.split_at(count);
+                (fields.with_bytes(alloc, next), count)
+            }
             State::Keeping(kept) => {
                 let count = piece.len().min(kept.left());
                 let (next, _) = piece.split_at(count);
