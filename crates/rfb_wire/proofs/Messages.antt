@@ -9,7 +9,8 @@ use Rattle.pixel_format.specs.Reading.{Reading, Done, Want, ◌>>=◌, bytes, pa
 use Rattle.raster.proofs.Spellings.{Each, spells_done, spells_bind, spells_then, spells_bytes, spells_times}
 use Rattle.raster.proofs.Pixels.{spells_u16, spells_u32}
 use Rattle.rfb_wire.specs.ClientMessage.{ClientMessage, client_message, choice_of, flag, text, longest_text, SetEncodings}
-use Rattle.rfb_wire.specs.Writing.{flag_byte, set_encodings_bytes}
+use Rattle.pixel_format.specs.PixelFormat.{flag_byte}
+use Rattle.rfb_wire.specs.Writing.{set_encodings_bytes}
 
 -- One byte more in front.
 pub spells_want : {A : Type 0} (more : ℕ → Reading A) (b : ℕ) (bs : List ℕ) (x : A) → Spells (more b) bs x → Spells (Want more) (b ∷ bs) x
