@@ -22,7 +22,8 @@ use Rattle.raster.proofs.Places.{Has, has_holds, holds_has, values_at, tinted_at
 use Rattle.raster.proofs.Spellings.{Each}
 use Rattle.rfb_wire.specs.Written.{AreRead}
 use Rattle.rfb_wire.proofs.Updates.{rectangle_is_read, copy_is_read, update_is_read}
-use Rattle.tiles.proofs.RunLaws.{InSome, IsPart}
+use Rattle.tiles.specs.Brings.{IsPart}
+use Rattle.tiles.proofs.RunLaws.{InSome}
 
 -- The paint that a rectangle of an answer is read as.
 abbrev pub copied : Option Rect → Rect → Paint
