@@ -1,8 +1,9 @@
 -- A viewer as a session keeps it: its hello, the messages in its bytes, and what it is sent (RFC 6143, 7.1 to 7.6).
-use Rattle.std.specs.Prelude.{ℕ, ◌+◌, Bool, false, ◌==◌, if◌then◌else◌, is_some, List, [], ◌∷◌, ◌++◌, Option, Some, None}
+use Rattle.std.specs.Prelude.{ℕ, ◌+◌, Bool, false, ◌&&◌, ◌==◌, nat_le, if◌then◌else◌, is_some, is_none, List, [], ◌∷◌, ◌++◌, length, Option, Some, None}
 use Rattle.pixel_format.specs.declared.fault.Fault.{Fault}
 use Rattle.pixel_format.specs.Reading.{Reading, Done, Faulty, Want, step, fault_of, whole_of, wants_more}
 use Rattle.raster.specs.declared.encoding.Encoding.TheVariants.{Raw}
+use Rattle.raster.specs.Update.{Update}
 use Rattle.rfb_wire.specs.ClientMessage.{ClientMessage, SetEncodings, CutText, without_text}
 use Rattle.rfb_wire.specs.Handshake.{viewer_hello, said_to_viewer}
 use Rattle.roles.specs.declared.role.Role.{Role}
@@ -10,6 +11,7 @@ use Rattle.roles.specs.declared.role.Role.TheVariants.{Full, View}
 use Rattle.roles.specs.Allowed.{Input, input_of, passes, keys_after}
 use Rattle.viewer_session.specs.Extent.{Extent}
 use Rattle.viewer_session.specs.Record.{Entry, Took}
+use Rattle.viewer_session.specs.Turn.{sent_at, record_after_cut}
 
 -- A screen of w by h named so, with room for so many inputs in the queue to the host, and how much of the protocol is served.
 pub record Setup : Type 0 where
@@ -116,3 +118,14 @@ new_viewer s role greet =
       said_after = [];
       written = 0;
     }
+
+-- ---- a turn
+
+-- A viewer may look where all its bytes are written, its hello is done and it has no fault.
+abbrev pub may_look : Setup → Viewer → Bool
+may_look s p = nat_le (length (out_bytes s p)) p.written && (is_greeted p && is_none (viewer_fault p))
+
+-- What a cut of these updates makes of a viewer: more to be sent, and more in its record.
+abbrev pub after_cut : Setup → List Update → Viewer → Viewer
+after_cut s us p =
+    record p { looked = None; said_after = p.said_after ++ sent_at s.w s.h p.entries us; entries = record_after_cut s.w s.h p.entries us }

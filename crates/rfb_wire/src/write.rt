@@ -1,0 +1,137 @@
+//! Writing messages into a slice (RFC 6143, 7.5 and 7.6).
+//!
+//! Each writer spells one message, or the head of one, at the front of `out`, leaves what lies behind it, and answers
+//! how many bytes it wrote. Padding is written as 0, a flag as 0 or 1.
+
+ghost use Rattle.std.specs.Prelude.{◌≡◌, ◌≤◌, ◌<◌, ◌+◌, ◌*◌, ◌^◌, length};
+ghost use Rattle.rfb_wire.specs.Writing.{Writes, update_head_bytes, rectangle_head_bytes, set_encodings_bytes, request_bytes, key_bytes, pointer_bytes, client_text_bytes, bell_bytes, server_text_bytes, text_bytes, rect_bytes};
+
+use byteorder::{BigEndian, ByteOrder};
+use raster::Rect;
+
+fn put(bytes: &[u8], out: &mut [u8]) -> usize
+    requires { length bytes.now ≤ length out.old }
+    ensures { Writes bytes.now out.old out.new result }
+{
+    let (front, _) = out.split_at_mut(bytes.len());
+    front.copy_from_slice(bytes);
+    bytes.len()
+}
+
+// The four numbers of a rectangle that lies on some screen.
+fn rectangle_bytes(area: &Rect) -> [u8; 8]
+    requires across { area.now.x + area.now.w < 2 ^ 16 }
+    requires down { area.now.y + area.now.h < 2 ^ 16 }
+    ensures { result ≡ rect_bytes area.now }
+{
+    let [x1, x0] = (area.x as u16).to_be_bytes();
+    let [y1, y0] = (area.y as u16).to_be_bytes();
+    let [w1, w0] = (area.w as u16).to_be_bytes();
+    let [h1, h0] = (area.h as u16).to_be_bytes();
+    [x1, x0, y1, y0, w1, w0, h1, h0]
+}
+
+/// The head of a FramebufferUpdate of so many rectangles: 4 bytes (RFC 6143, 7.6.1).
+pub fn write_update_head(count: u16, out: &mut [u8]) -> usize
+    requires { 4 ≤ length out.old }
+    ensures { Writes (update_head_bytes count) out.old out.new result }
+{
+    let [high, low] = count.to_be_bytes();
+    put(&[0, 0, high, low], out)
+}
+
+/// The head of a rectangle, behind which its data come: where it lies, in pixels, and the number of its encoding, 12
+/// bytes in all (RFC 6143, 7.6.1).
+pub fn write_rectangle_head(area: &Rect, encoding: u32, out: &mut [u8]) -> usize
+    requires room { 12 ≤ length out.old }
+    requires across { area.now.x + area.now.w < 2 ^ 16 }
+    requires down { area.now.y + area.now.h < 2 ^ 16 }
+    ensures { Writes (rectangle_head_bytes area.now encoding) out.old out.new result }
+{
+    let [x1, x0, y1, y0, w1, w0, h1, h0] = rectangle_bytes(area);
+    let [e3, e2, e1, e0] = encoding.to_be_bytes();
+    put(&[x1, x0, y1, y0, w1, w0, h1, h0, e3, e2, e1, e0], out)
+}
+
+/// SetEncodings with these encodings, the one liked best first: 4 bytes and 4 for each (RFC 6143, 7.5.2).
+pub fn write_set_encodings(encodings: &[u32], out: &mut [u8]) -> usize
+    requires few { length encodings.now < 2 ^ 16 }
+    requires room { 4 + 4 * length encodings.now ≤ length out.old }
+    ensures { Writes (set_encodings_bytes encodings.now) out.old out.new result }
+{
+    let [high, low] = (encodings.len() as u16).to_be_bytes();
+    put(&[2, 0, high, low], out);
+    let end = 4 + 4 * encodings.len();
+    BigEndian::write_u32_into(encodings, &mut out[4..end]);
+    end
+}
+
+/// A FramebufferUpdateRequest: 10 bytes (RFC 6143, 7.5.3).
+pub fn write_request(incremental: bool, area: &Rect, out: &mut [u8]) -> usize
+    requires room { 10 ≤ length out.old }
+    requires across { area.now.x + area.now.w < 2 ^ 16 }
+    requires down { area.now.y + area.now.h < 2 ^ 16 }
+    ensures { Writes (request_bytes incremental area.now) out.old out.new result }
+{
+    let [x1, x0, y1, y0, w1, w0, h1, h0] = rectangle_bytes(area);
+    put(
+        &[3, u8::from(incremental), x1, x0, y1, y0, w1, w0, h1, h0],
+        out,
+    )
+}
+
+/// A KeyEvent: 8 bytes (RFC 6143, 7.5.4).
+pub fn write_key(down: bool, key: u32, out: &mut [u8]) -> usize
+    requires { 8 ≤ length out.old }
+    ensures { Writes (key_bytes down key) out.old out.new result }
+{
+    let [k3, k2, k1, k0] = key.to_be_bytes();
+    put(&[4, u8::from(down), 0, 0, k3, k2, k1, k0], out)
+}
+
+/// A PointerEvent with the buttons that are down as the bits of `mask`: 6 bytes (RFC 6143, 7.5.5).
+pub fn write_pointer(mask: u8, x: u16, y: u16, out: &mut [u8]) -> usize
+    requires { 6 ≤ length out.old }
+    ensures { Writes (pointer_bytes mask x y) out.old out.new result }
+{
+    let [x1, x0] = x.to_be_bytes();
+    let [y1, y0] = y.to_be_bytes();
+    put(&[5, mask, x1, x0, y1, y0], out)
+}
+
+// A text behind the type of its message.
+fn put_text(kind: u8, text: &[u8], out: &mut [u8]) -> usize
+    requires few { length text.now < 2 ^ 32 }
+    requires room { 8 + length text.now ≤ length out.old }
+    ensures { Writes (text_bytes kind text.now) out.old out.new result }
+{
+    let [n3, n2, n1, n0] = (text.len() as u32).to_be_bytes();
+    let head = put(&[kind, 0, 0, 0, n3, n2, n1, n0], out);
+    head + put(text, &mut out[8..])
+}
+
+/// A ClientCutText: 8 bytes and the Latin-1 text, unchanged (RFC 6143, 7.5.6).
+pub fn write_client_text(text: &[u8], out: &mut [u8]) -> usize
+    requires few { length text.now < 2 ^ 32 }
+    requires room { 8 + length text.now ≤ length out.old }
+    ensures { Writes (client_text_bytes text.now) out.old out.new result }
+{
+    put_text(6, text, out)
+}
+
+/// A Bell: one byte (RFC 6143, 7.6.3).
+pub fn write_bell(out: &mut [u8]) -> usize
+    requires { 1 ≤ length out.old }
+    ensures { Writes bell_bytes out.old out.new result }
+{
+    put(&[2], out)
+}
+
+/// A ServerCutText: 8 bytes and the Latin-1 text, unchanged (RFC 6143, 7.6.4).
+pub fn write_server_text(text: &[u8], out: &mut [u8]) -> usize
+    requires few { length text.now < 2 ^ 32 }
+    requires room { 8 + length text.now ≤ length out.old }
+    ensures { Writes (server_text_bytes text.now) out.old out.new result }
+{
+    put_text(3, text, out)
+}
