@@ -1,3 +1,5 @@
 pub mod Feeding
 pub mod OneTile
 pub mod RawAnswer
+pub mod SessionLaws
+pub mod FeedLaws
