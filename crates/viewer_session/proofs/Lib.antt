@@ -3,3 +3,6 @@ pub mod OneTile
 pub mod RawAnswer
 pub mod SessionLaws
 pub mod FeedLaws
+pub mod Stands
+pub mod Accepted
+pub mod Streams
