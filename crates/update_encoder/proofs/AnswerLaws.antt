@@ -1,7 +1,7 @@
 -- The bytes of an answer are read as its rectangles, and these bring what the screen shows.
 use Rattle.std.proofs.Common.{◌≡◌, ℕ, ◌+◌, ◌-◌, ◌^◌, ◌<◌, ◌≤◌, Bool, true, false, cond, List, [], ◌∷◌, length, map, Option, Some, None, refl, ap, sym, ◌∙◌, arith, inl, inr, zero, suc, eq-eqb}
 use Rattle.std.proofs.lemmas.Bool.{eqb-true}
-use Rattle.std.specs.Prelude.{◌&&◌, ◌==◌, not, slice_index, if◌then◌else◌}
+use Rattle.std.specs.Prelude.{◌&&◌, ◌==◌, slice_index, if◌then◌else◌}
 use Rattle.pixel_format.specs.PixelFormat.{PixelFormat, IsAccepted, tint}
 use Rattle.pixel_format.specs.Reading.{Spells, after, taken, whole_of}
 use Rattle.std.proofs.lemmas.List.{length-map}
