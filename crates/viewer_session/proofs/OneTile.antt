@@ -4,12 +4,8 @@ use Rattle.std.specs.Prelude.{min, max, not, ◌&&◌, ◌||◌, map}
 use Rattle.std.specs.List.{list_any, list_all, range_with_len, flat_map}
 use Rattle.raster.specs.declared.rect.Rect.{Rect}
 use Rattle.raster.specs.Screen.{IsWithin, meets, common, whole_screen, tiles_across, tile_count, tile_rect}
+use Rattle.viewer_session.specs.Session.{IsOneTile}
 use Rattle.tiles.specs.Touched.{runs, runs_of_row, run_from}
-
--- From 1 to 16 in both directions.
-pub record IsOneTile (w h : ℕ) : Type 0 where
-  pub wide : (1 ≤ w) × (w ≤ 16)
-  pub high : (1 ≤ h) × (h ≤ 16)
 
 one_across : (n : ℕ) → 1 ≤ n → n ≤ 16 → tiles_across n ≡ 1
 one_across n lo hi = omega arith
