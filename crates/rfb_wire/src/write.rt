@@ -3,8 +3,11 @@
 //! Each writer spells one message, or the head of one, at the front of `out`, leaves what lies behind it, and answers
 //! how many bytes it wrote. Padding is written as 0, a flag as 0 or 1.
 
-ghost use Rattle.std.specs.Prelude.{◌≡◌, ◌≤◌, ◌<◌, ◌+◌, ◌*◌, ◌^◌, length};
-ghost use Rattle.rfb_wire.specs.Writing.{Writes, update_head_bytes, rectangle_head_bytes, set_encodings_bytes, request_bytes, key_bytes, pointer_bytes, client_text_bytes, bell_bytes, server_text_bytes, text_bytes, rect_bytes};
+ghost use Rattle.std.specs.Prelude.{◌≡◌, ◌≤◌, ◌<◌, ◌+◌, ◌*◌, ◌^◌, ◌++◌, length};
+ghost use Rattle.std.specs.Int.{w32, to_be_bytes};
+ghost use Rattle.pixel_format.specs.PixelFormat.{host_format};
+ghost use Rattle.rfb_wire.specs.Handshake.{server_init};
+ghost use Rattle.rfb_wire.specs.Writing.{Writes, update_head_bytes, rectangle_head_bytes, set_encodings_bytes, request_bytes, key_bytes, pointer_bytes, client_text_bytes, bell_bytes, server_text_bytes, text_bytes, rect_bytes, format_bytes};
 
 use byteorder::{BigEndian, ByteOrder};
 use raster::Rect;
@@ -99,15 +102,24 @@ pub fn write_pointer(mask: u8, x: u16, y: u16, out: &mut [u8]) -> usize
     put(&[5, mask, x1, x0, y1, y0], out)
 }
 
+// A text or a name behind the number of its bytes.
+fn put_counted(text: &[u8], out: &mut [u8]) -> usize
+    requires few { length text.now < 2 ^ 32 }
+    requires room { 4 + length text.now ≤ length out.old }
+    ensures { Writes (to_be_bytes w32 (length text.now) ++ text.now) out.old out.new result }
+{
+    put(&(text.len() as u32).to_be_bytes(), out);
+    4 + put(text, &mut out[4..])
+}
+
 // A text behind the type of its message.
 fn put_text(kind: u8, text: &[u8], out: &mut [u8]) -> usize
     requires few { length text.now < 2 ^ 32 }
     requires room { 8 + length text.now ≤ length out.old }
     ensures { Writes (text_bytes kind text.now) out.old out.new result }
 {
-    let [n3, n2, n1, n0] = (text.len() as u32).to_be_bytes();
-    let head = put(&[kind, 0, 0, 0, n3, n2, n1, n0], out);
-    head + put(text, &mut out[8..])
+    put(&[kind, 0, 0, 0], out);
+    4 + put_counted(text, &mut out[4..])
 }
 
 /// A ClientCutText: 8 bytes and the Latin-1 text, unchanged (RFC 6143, 7.5.6).
@@ -134,4 +146,32 @@ pub fn write_server_text(text: &[u8], out: &mut [u8]) -> usize
     ensures { Writes (server_text_bytes text.now) out.old out.new result }
 {
     put_text(3, text, out)
+}
+
+// The pixel format that viewers are told and that the host is asked for.
+const HOST_FORMAT: [u8; 16] = [32, 24, 0, 1, 0, 255, 0, 255, 0, 255, 16, 8, 0, 0, 0, 0];
+
+// The format that viewers are told, and the name behind it.
+fn put_format_and_name(name: &[u8], out: &mut [u8]) -> usize
+    requires few { length name.now < 2 ^ 32 }
+    requires room { 20 + length name.now ≤ length out.old }
+    ensures { Writes (format_bytes host_format ++ to_be_bytes w32 (length name.now) ++ name.now) out.old out.new result }
+{
+    let (front, back) = out.split_at_mut(16);
+    front.copy_from_slice(&HOST_FORMAT);
+    16 + put_counted(name, back)
+}
+
+/// A ServerInit, with the size of the screen in pixels, the format of `Format::HOST`, and the name: 24 bytes and the
+/// name (RFC 6143, 7.3.2).
+pub fn write_server_init(w: u16, h: u16, name: &[u8], out: &mut [u8]) -> usize
+    requires few { length name.now < 2 ^ 32 }
+    requires room { 24 + length name.now ≤ length out.old }
+    ensures { Writes (server_init w h name.now) out.old out.new result }
+{
+    let [w1, w0] = w.to_be_bytes();
+    let [h1, h0] = h.to_be_bytes();
+    let (front, back) = out.split_at_mut(4);
+    front.copy_from_slice(&[w1, w0, h1, h0]);
+    4 + put_format_and_name(name, back)
 }

@@ -1,0 +1,21 @@
+-- How a viewer's handshake stands in mid-course.
+use Rattle.std.specs.Prelude.{ℕ, List, [], length, drop, is_none, if◌then◌else◌}
+use Rattle.pixel_format.specs.Reading.{Reading, after, fault_of}
+use Rattle.rfb_wire.specs.Handshake.{viewer_hello, said_to_viewer}
+
+-- The screen and the name that the viewer is told, the bytes that were taken of it, and how many were sent to it.
+pub record Greeting : Type 0 where
+  pub w : ℕ
+  pub h : ℕ
+  pub name : List ℕ
+  pub begun : List ℕ
+  pub sent : ℕ
+
+-- How the viewer's side goes on.
+abbrev pub ahead : Greeting → Reading (Unit {0})
+ahead greeting = after viewer_hello greeting.begun
+
+-- What is to be sent: all that must have been said by now, but for what was sent. After a fault nothing is said.
+abbrev pub to_send : Greeting → List ℕ
+to_send greeting =
+    if is_none (fault_of (ahead greeting)) then drop greeting.sent (said_to_viewer greeting.w greeting.h greeting.name (length greeting.begun)) else []
