@@ -1,5 +1,5 @@
 -- Writing one thing behind another.
-use Rattle.std.proofs.Common.{◌≡◌, ℕ, ◌+◌, List, ◌++◌, length, drop, sym, ap, ◌∙◌, append_assoc, length-append, drop-drop}
+use Rattle.std.proofs.Common.{ℕ, ◌+◌, List, ◌++◌, length, drop, sym, ap, ◌∙◌, append_assoc, length-append, drop-drop}
 use Rattle.rfb_wire.specs.Writing.{Writes}
 
 pub writes_behind : (a b old back : List ℕ) (k : ℕ) → Writes b (drop (length a) old) back k → Writes (a ++ b) old (a ++ back) (length a + k)

@@ -6,7 +6,7 @@
 ghost use Rattle.std.specs.Prelude.{◌≡◌, ◌≤◌, ◌<◌, ◌+◌, ◌*◌, ◌^◌, ◌++◌, length};
 ghost use Rattle.std.specs.Int.{w32, to_be_bytes};
 ghost use Rattle.pixel_format.specs.PixelFormat.{host_format};
-ghost use Rattle.rfb_wire.specs.Handshake.{server_init};
+ghost use Rattle.rfb_wire.specs.Handshake.{server_init, said_to_viewer};
 ghost use Rattle.rfb_wire.specs.Writing.{Writes, update_head_bytes, rectangle_head_bytes, set_encodings_bytes, request_bytes, key_bytes, pointer_bytes, client_text_bytes, bell_bytes, server_text_bytes, text_bytes, rect_bytes, format_bytes};
 
 use byteorder::{BigEndian, ByteOrder};
@@ -174,4 +174,22 @@ pub fn write_server_init(w: u16, h: u16, name: &[u8], out: &mut [u8]) -> usize
     let (front, back) = out.split_at_mut(4);
     front.copy_from_slice(&[w1, w0, h1, h0]);
     4 + put_format_and_name(name, back)
+}
+
+/// The only version that is spoken.
+pub(crate) const VERSION: [u8; 12] = *b"RFB 003.008\n";
+
+// The version, the one security type, which is None, and the result of choosing it.
+const BEFORE_INIT: [u8; 18] = *b"RFB 003.008\n\x01\x01\0\0\0\0";
+
+/// All that a server says in a handshake, one answer behind the other: the version, the security types, the
+/// SecurityResult and ServerInit, 42 bytes and the name.
+pub(crate) fn write_handshake(w: u16, h: u16, name: &[u8], out: &mut [u8]) -> usize
+    requires few { length name.now < 2 ^ 32 }
+    requires room { 42 + length name.now ≤ length out.old }
+    ensures { Writes (said_to_viewer w h name.now 14) out.old out.new result }
+{
+    let (front, back) = out.split_at_mut(18);
+    front.copy_from_slice(&BEFORE_INIT);
+    18 + write_server_init(w, h, name, back)
 }
