@@ -12,4 +12,3 @@ pub mod HextileSpelled
 pub mod Forms
 pub mod Bytes
 pub mod Places
-pub mod EmptyForms

@@ -11,7 +11,7 @@ use Rattle.pixel_format.proofs.ReadingLaws.{after-done, after-faulty, bind_assoc
 use Rattle.raster.proofs.Spellings.{spells_bind, spells_then, spells_bytes}
 use Rattle.raster.proofs.Pixels.{spells_u16, spells_u32}
 use Rattle.rfb_wire.specs.Handshake.{Joined, version, is_size, kept_name, host_init, host_version, security_types, security_result, host_hello, viewer_hello, server_init, said_to_viewer, said_to_host, is_past}
-use Rattle.rfb_wire.specs.Writing.{format_bytes}
+use Rattle.pixel_format.specs.PixelFormat.{format_bytes}
 use Rattle.rfb_wire.proofs.Messages.{spells_padding}
 
 kept_name_is_read : (w h : ℕ) (name : List ℕ) → length name ≤ 255 → Spells (kept_name w h (length name)) name (record { w = w; h = h; name = name })

@@ -5,11 +5,12 @@
 
 ghost use Rattle.std.specs.Prelude.{◌≡◌, ◌≤◌, ◌<◌, ◌+◌, ◌*◌, ◌^◌, ◌++◌, length};
 ghost use Rattle.std.specs.Int.{w32, to_be_bytes};
-ghost use Rattle.pixel_format.specs.PixelFormat.{host_format};
+ghost use Rattle.pixel_format.specs.PixelFormat.{host_format, format_bytes};
 ghost use Rattle.rfb_wire.specs.Handshake.{server_init, said_to_viewer};
-ghost use Rattle.rfb_wire.specs.Writing.{Writes, update_head_bytes, rectangle_head_bytes, set_encodings_bytes, request_bytes, key_bytes, pointer_bytes, client_text_bytes, bell_bytes, server_text_bytes, text_bytes, rect_bytes, format_bytes};
+ghost use Rattle.rfb_wire.specs.Writing.{Writes, update_head_bytes, rectangle_head_bytes, set_encodings_bytes, request_bytes, key_bytes, pointer_bytes, client_text_bytes, bell_bytes, server_text_bytes, text_bytes, rect_bytes, set_pixel_format_bytes};
 
 use byteorder::{BigEndian, ByteOrder};
+use pixel_format::Format;
 use raster::Rect;
 
 fn put(bytes: &[u8], out: &mut [u8]) -> usize
@@ -54,6 +55,18 @@ pub fn write_rectangle_head(area: &Rect, encoding: u32, out: &mut [u8]) -> usize
     let [x1, x0, y1, y0, w1, w0, h1, h0] = rectangle_bytes(area);
     let [e3, e2, e1, e0] = encoding.to_be_bytes();
     put(&[x1, x0, y1, y0, w1, w0, h1, h0, e3, e2, e1, e0], out)
+}
+
+/// SetPixelFormat with this format: 20 bytes (RFC 6143, 7.5.1).
+pub fn write_set_pixel_format(format: &Format, out: &mut [u8]) -> usize
+    requires { 20 ≤ length out.old }
+    ensures { Writes (set_pixel_format_bytes format.now) out.old out.new result }
+{
+    let mut bytes = [0; 16];
+    format.write(&mut bytes);
+    let (front, back) = out.split_at_mut(4);
+    front.copy_from_slice(&[0, 0, 0, 0]);
+    4 + put(&bytes, back)
 }
 
 /// SetEncodings with these encodings, the one liked best first: 4 bytes and 4 for each (RFC 6143, 7.5.2).
@@ -148,17 +161,16 @@ pub fn write_server_text(text: &[u8], out: &mut [u8]) -> usize
     put_text(3, text, out)
 }
 
-// The pixel format that viewers are told and that the host is asked for.
-const HOST_FORMAT: [u8; 16] = [32, 24, 0, 1, 0, 255, 0, 255, 0, 255, 16, 8, 0, 0, 0, 0];
-
 // The format that viewers are told, and the name behind it.
 fn put_format_and_name(name: &[u8], out: &mut [u8]) -> usize
     requires few { length name.now < 2 ^ 32 }
     requires room { 20 + length name.now ≤ length out.old }
     ensures { Writes (format_bytes host_format ++ to_be_bytes w32 (length name.now) ++ name.now) out.old out.new result }
 {
+    let mut format = [0; 16];
+    Format::HOST.write(&mut format);
     let (front, back) = out.split_at_mut(16);
-    front.copy_from_slice(&HOST_FORMAT);
+    front.copy_from_slice(&format);
     16 + put_counted(name, back)
 }
 

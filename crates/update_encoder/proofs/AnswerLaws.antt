@@ -1,30 +1,28 @@
 -- The bytes of an answer are read as its rectangles, and these bring what the screen shows.
-use Rattle.std.proofs.Common.{◌≡◌, ℕ, ◌+◌, ◌-◌, ◌^◌, ◌<◌, ◌≤◌, Bool, true, false, cond, List, [], ◌∷◌, length, map, Option, Some, None, refl, ap, sym, ◌∙◌, arith, inl, inr, zero, suc}
+use Rattle.std.proofs.Common.{◌≡◌, ℕ, ◌+◌, ◌-◌, ◌^◌, ◌<◌, ◌≤◌, Bool, true, false, cond, List, [], ◌∷◌, length, map, Option, Some, None, refl, ap, sym, ◌∙◌, arith, inl, inr, zero, suc, eq-eqb}
 use Rattle.std.proofs.lemmas.Bool.{eqb-true}
 use Rattle.std.specs.Prelude.{◌&&◌, ◌==◌, not, slice_index, if◌then◌else◌}
 use Rattle.pixel_format.specs.PixelFormat.{PixelFormat, IsAccepted, tint}
-use Rattle.pixel_format.specs.Reading.{Done, ◌>>=◌, after, Spells, u16, times, unless}
-use Rattle.pixel_format.specs.declared.fault.Fault.TheVariants.{CopyOutside}
-use Rattle.std.specs.Int.{w16, to_be_bytes}
-use Rattle.std.specs.List.{flat_map}
-use Rattle.std.proofs.lemmas.Nat.{from_be_bytes-to_be_bytes_2}
+use Rattle.pixel_format.specs.Reading.{Spells, after, taken, whole_of}
 use Rattle.std.proofs.lemmas.List.{length-map}
-use Rattle.raster.specs.declared.encoding.Encoding.TheVariants.{Raw, Rre, Hextile}
+use Rattle.raster.specs.declared.encoding.Encoding.TheVariants.{Raw}
 use Rattle.rfb_wire.specs.Writing.{rectangle_bytes}
 use Rattle.pixel_format.proofs.Tints.{tint_below}
-use Rattle.rfb_wire.proofs.Spelling.{spells_bind, spells_end, spells_u16, spells_rectangle, unless_passed}
 use Rattle.raster.specs.declared.rect.Rect.{Rect}
 use Rattle.raster.specs.declared.encoding.Encoding.{Encoding}
-use Rattle.raster.specs.Screen.{Map, Canvas, IsWithin, is_within, holds, value_at, part_of}
-use Rattle.raster.specs.Encoding.{pixels, form, saves_bytes}
+use Rattle.raster.specs.Screen.{Map, Canvas, holds, value_at, part_of}
+use Rattle.raster.specs.Encoding.{form, saves_bytes, encoding_number}
+use Rattle.raster.specs.Written.{AreValues}
 use Rattle.raster.specs.Update.{Paint, Put, Copy}
 use Rattle.rfb_wire.specs.ClientMessage.{Choice}
-use Rattle.rfb_wire.specs.ServerMessage.{FramebufferUpdate, rectangle, server_message}
-use Rattle.update_encoder.specs.Follower.{after_rectangle, after_rectangles}
-use Rattle.update_encoder.specs.Answer.{pixels_in, colours_in, same_numbers, repeats, repeats_one, copy_source, encoding_number, spelled, all_spelled, answer_bytes}
-use Rattle.raster.specs.Codecs.{CodecLaw}
-use Rattle.raster.proofs.Places.{Has, has_holds, holds_has, values_at, tinted_at, length_values, within_test}
-use Rattle.tiles.proofs.RunLaws.{InSome, AllOnScreen}
+use Rattle.rfb_wire.specs.ServerMessage.{ServerMessage, FramebufferUpdate, rectangle, server_message}
+use Rattle.update_encoder.specs.Follower.{after_rectangle, after_rectangles, only_message}
+use Rattle.update_encoder.specs.Answer.{pixels_in, colours_in, same_numbers, repeats, repeats_one, copy_source, all_spelled, answer_bytes}
+use Rattle.raster.proofs.Places.{Has, has_holds, holds_has, values_at, tinted_at, length_values}
+use Rattle.raster.proofs.Spellings.{Each}
+use Rattle.rfb_wire.specs.Written.{AreRead}
+use Rattle.rfb_wire.proofs.Updates.{rectangle_is_read, copy_is_read, update_is_read}
+use Rattle.tiles.proofs.RunLaws.{InSome, IsPart}
 
 -- The paint that a rectangle of an answer is read as.
 abbrev pub copied : Option Rect → Rect → Paint
@@ -174,88 +172,73 @@ paints_bring format canvas copy before (r ∷ rs) held k x y (inr i) =
 
 -- ---- how a rectangle is read
 
--- The rectangle before, where there is one, lies on the screen.
-abbrev IsOnScreen : ℕ → ℕ → Option Rect → Type 0
-IsOnScreen w h None = Unit {0}
-IsOnScreen w h (Some r) = IsWithin r w h
+-- The rectangle before, where there is one, is part of the screen.
+abbrev IsPartIf : ℕ → ℕ → Option Rect → Type 0
+IsPartIf w h None = Unit {0}
+IsPartIf w h (Some r) = IsPart w h r
 
 tinted_small : (format : PixelFormat) (colours : List ℕ) (k : ℕ) → IsAccepted format → slice_index (map (tint format) colours) k < 2 ^ format.bits_per_pixel
 tinted_small format [] k a = omega (arith, tint_below format 0 a)
 tinted_small format (c ∷ cs) zero a = tint_below format c a
 tinted_small format (c ∷ cs) (suc k) a = tinted_small format cs k a
 
-spells_values : CodecLaw → (e : Encoding) (format : PixelFormat) (canvas : Canvas) (r : Rect) (w h : ℕ) → IsAccepted format → w ≤ 4096 → h ≤ 4096 → IsWithin r w h
-    → Spells (pixels e format r.w r.h) (form e format r.w r.h (pixels_in format canvas r)) (pixels_in format canvas r)
-spells_values law e format canvas r w h a lw lh on =
-    law e format r.w r.h (pixels_in format canvas r) a (omega (arith, on.across)) (omega (arith, on.down))
-    (length-map (colours_in canvas r) (tint format) ∙ length_values r.w r.h (part_of r canvas))
-    (λ k. tinted_small format (colours_in canvas r) k a)
+-- The pixel values of a part of the screen.
+pub pixels_are_values : (format : PixelFormat) (canvas : Canvas) (r : Rect) (w h : ℕ) → IsAccepted format → w ≤ 4096 → h ≤ 4096 → IsPart w h r → AreValues format r.w r.h (pixels_in format canvas r)
+pixels_are_values format canvas r w h ok lw lh part =
+    let right : r.x + r.w ≤ w = part.inside.across in
+    let bottom : r.y + r.h ≤ h = part.inside.down in
+    record {
+      wide = (omega (arith, part.wide), omega arith);
+      high = (omega (arith, part.high), omega arith);
+      count = length-map (colours_in canvas r) (tint format) ∙ length_values r.w r.h (part_of r canvas);
+      each = λ k lt. tinted_small format (colours_in canvas r) k ok;
+    }
 
-spells_put : CodecLaw → (e : Encoding) (format : PixelFormat) (canvas : Canvas) (r : Rect) (w h : ℕ) → IsAccepted format → w ≤ 4096 → h ≤ 4096 → IsWithin r w h
-    → Spells (rectangle format w h) (rectangle_bytes r (encoding_number e) (form e format r.w r.h (pixels_in format canvas r))) (Put r (pixels_in format canvas r))
-spells_put law Raw format canvas r w h a lw lh on =
-    spells_rectangle format w h r 0 (form Raw format r.w r.h (pixels_in format canvas r)) (Put r (pixels_in format canvas r)) lw lh on (omega arith)
-    (spells_end (pixels Raw format r.w r.h) (λ values. Done (Put r values)) (form Raw format r.w r.h (pixels_in format canvas r)) (pixels_in format canvas r) (Put r (pixels_in format canvas r)) (spells_values law Raw format canvas r w h a lw lh on) refl)
-spells_put law Rre format canvas r w h a lw lh on =
-    spells_rectangle format w h r 2 (form Rre format r.w r.h (pixels_in format canvas r)) (Put r (pixels_in format canvas r)) lw lh on (omega arith)
-    (spells_end (pixels Rre format r.w r.h) (λ values. Done (Put r values)) (form Rre format r.w r.h (pixels_in format canvas r)) (pixels_in format canvas r) (Put r (pixels_in format canvas r)) (spells_values law Rre format canvas r w h a lw lh on) refl)
-spells_put law Hextile format canvas r w h a lw lh on =
-    spells_rectangle format w h r 5 (form Hextile format r.w r.h (pixels_in format canvas r)) (Put r (pixels_in format canvas r)) lw lh on (omega arith)
-    (spells_end (pixels Hextile format r.w r.h) (λ values. Done (Put r values)) (form Hextile format r.w r.h (pixels_in format canvas r)) (pixels_in format canvas r) (Put r (pixels_in format canvas r)) (spells_values law Hextile format canvas r w h a lw lh on) refl)
+put_is_read : (encoding : Encoding) (format : PixelFormat) (canvas : Canvas) (r : Rect) (w h : ℕ) → IsAccepted format → w ≤ 4096 → h ≤ 4096 → IsPart w h r
+    → Spells (rectangle format w h) (rectangle_bytes r (encoding_number encoding) (form encoding format r.w r.h (pixels_in format canvas r))) (Put r (pixels_in format canvas r))
+put_is_read encoding format canvas r w h ok lw lh part =
+    rectangle_is_read encoding format w h r (pixels_in format canvas r) ok (omega arith) (omega arith) part.inside (pixels_are_values format canvas r w h ok lw lh part)
 
-spells_copy : (format : PixelFormat) (canvas : Canvas) (above r : Rect) (w h : ℕ) → w ≤ 4096 → h ≤ 4096 → IsWithin above w h → IsWithin r w h → Repeats canvas above r
+repeat_is_read : (format : PixelFormat) (canvas : Canvas) (above r : Rect) (w h : ℕ) → w ≤ 4096 → h ≤ 4096 → IsPart w h above → IsPart w h r → Repeats canvas above r
     → Spells (rectangle format w h) (rectangle_bytes r 1 (copy_source (Some above))) (Copy r above.x above.y)
-spells_copy format canvas above r w h lw lh on_above on e =
-    let sx : above.x < 2 ^ 16 = omega (arith, on_above.across) in
-    let sy : above.y < 2 ^ 16 = omega (arith, on_above.down) in
-    let there : is_within (record { x = above.x; y = above.y; w = r.w; h = r.h }) w h ≡ true =
-    within_test (record { x = above.x; y = above.y; w = r.w; h = r.h }) w h (record { across = omega (arith, on_above.across, e.w); down = omega (arith, on_above.down, e.h) }) in
-    spells_rectangle format w h r 1 (copy_source (Some above)) (Copy r above.x above.y) lw lh on (omega arith)
-    (spells_bind u16 (λ x. u16 >>= λ y. unless (not (is_within (record { x = x; y = y; w = r.w; h = r.h }) w h)) CopyOutside (Done (Copy r x y))) (to_be_bytes w16 above.x) (to_be_bytes w16 above.y) above.x (Copy r above.x above.y) (spells_u16 above.x sx)
-    (spells_end u16 (λ y. unless (not (is_within (record { x = above.x; y = y; w = r.w; h = r.h }) w h)) CopyOutside (Done (Copy r above.x y))) (to_be_bytes w16 above.y) above.y (Copy r above.x above.y) (spells_u16 above.y sy)
-    (unless_passed (is_within (record { x = above.x; y = above.y; w = r.w; h = r.h }) w h) CopyOutside (Done (Copy r above.x above.y)) there)))
+repeat_is_read format canvas above r w h lw lh there part e =
+    copy_is_read format w h r above.x above.y (omega arith) (omega arith) part.inside (record { across = omega (arith, there.inside.across, e.w); down = omega (arith, there.inside.down, e.h) })
 
-spells_plain : CodecLaw → (e : Encoding) (b : Bool) (format : PixelFormat) (canvas : Canvas) (r : Rect) (w h : ℕ) → IsAccepted format → w ≤ 4096 → h ≤ 4096 → IsWithin r w h
-    → Spells (rectangle format w h) (cond b (rectangle_bytes r (encoding_number e) (form e format r.w r.h (pixels_in format canvas r))) (rectangle_bytes r 0 (form Raw format r.w r.h (pixels_in format canvas r)))) (Put r (pixels_in format canvas r))
-spells_plain law e true format canvas r w h a lw lh on = spells_put law e format canvas r w h a lw lh on
-spells_plain law e false format canvas r w h a lw lh on = spells_put law Raw format canvas r w h a lw lh on
+chosen_is_read : (encoding : Encoding) (saves : Bool) (format : PixelFormat) (canvas : Canvas) (r : Rect) (w h : ℕ) → IsAccepted format → w ≤ 4096 → h ≤ 4096 → IsPart w h r
+    → Spells (rectangle format w h) (cond saves (rectangle_bytes r (encoding_number encoding) (form encoding format r.w r.h (pixels_in format canvas r))) (rectangle_bytes r 0 (form Raw format r.w r.h (pixels_in format canvas r)))) (Put r (pixels_in format canvas r))
+chosen_is_read encoding true format canvas r w h ok lw lh part = put_is_read encoding format canvas r w h ok lw lh part
+chosen_is_read encoding false format canvas r w h ok lw lh part = put_is_read Raw format canvas r w h ok lw lh part
 
-spells_if : CodecLaw → (format : PixelFormat) (choice : Choice) (canvas : Canvas) (copy : Bool) (before : Option Rect) (r : Rect) (w h : ℕ) → IsAccepted format → w ≤ 4096 → h ≤ 4096 → IsOnScreen w h before → IsWithin r w h
+read_if : (format : PixelFormat) (choice : Choice) (canvas : Canvas) (copy : Bool) (before : Option Rect) (r : Rect) (w h : ℕ) → IsAccepted format → w ≤ 4096 → h ≤ 4096 → IsPartIf w h before → IsPart w h r
     → (b : Bool) → (copy && repeats_one canvas before r) ≡ b
     → Spells (rectangle format w h) (cond b (rectangle_bytes r 1 (copy_source before)) (cond (saves_bytes choice.kind format r.w r.h (pixels_in format canvas r)) (rectangle_bytes r (encoding_number choice.kind) (form choice.kind format r.w r.h (pixels_in format canvas r))) (rectangle_bytes r 0 (form Raw format r.w r.h (pixels_in format canvas r))))) (cond b (copied before r) (Put r (pixels_in format canvas r)))
-spells_if law format choice canvas copy before r w h a lw lh k on false e = spells_plain law choice.kind (saves_bytes choice.kind format r.w r.h (pixels_in format canvas r)) format canvas r w h a lw lh on
-spells_if law format choice canvas copy None r w h a lw lh k on true e = absurd (let wrong : false ≡ true = and_right copy false e in cc)
-spells_if law format choice canvas copy (Some above) r w h a lw lh k on true e =
-    spells_copy format canvas above r w h lw lh k on (repeats_is canvas above r (and_right copy (repeats canvas above r) e))
+read_if format choice canvas copy before r w h ok lw lh k part false e = chosen_is_read choice.kind (saves_bytes choice.kind format r.w r.h (pixels_in format canvas r)) format canvas r w h ok lw lh part
+read_if format choice canvas copy None r w h ok lw lh k part true e = absurd (let wrong : false ≡ true = and_right copy false e in cc)
+read_if format choice canvas copy (Some above) r w h ok lw lh k part true e = repeat_is_read format canvas above r w h lw lh k part (repeats_is canvas above r (and_right copy (repeats canvas above r) e))
 
-spells_one : CodecLaw → (format : PixelFormat) (choice : Choice) (canvas : Canvas) (copy : Bool) (before : Option Rect) (r : Rect) (w h : ℕ) → IsAccepted format → w ≤ 4096 → h ≤ 4096 → IsOnScreen w h before → IsWithin r w h
-    → Spells (rectangle format w h) (spelled format choice canvas copy before r) (brought format canvas copy before r)
-spells_one law format choice canvas copy before r w h a lw lh k on = spells_if law format choice canvas copy before r w h a lw lh k on (copy && repeats_one canvas before r) refl
-
-spells_all : CodecLaw → (format : PixelFormat) (choice : Choice) (canvas : Canvas) (copy : Bool) (before : Option Rect) (rs : List Rect) (w h : ℕ) → IsAccepted format → w ≤ 4096 → h ≤ 4096 → IsOnScreen w h before → AllOnScreen w h rs
-    → Spells (times (length (all_spelled format choice canvas copy before rs)) (rectangle format w h)) (flat_map (λ r. r) (all_spelled format choice canvas copy before rs)) (all_brought format canvas copy before rs)
-spells_all law format choice canvas copy before [] w h a lw lh k on = record { whole = refl; says = refl }
-spells_all law format choice canvas copy before (r ∷ rs) w h a lw lh k on =
-    let n : ℕ = length (all_spelled format choice canvas copy (Some r) rs) in
-    let first : Paint = brought format canvas copy before r in
-    let others : List Paint = all_brought format canvas copy (Some r) rs in
-    spells_bind (rectangle format w h) (λ p. times n (rectangle format w h) >>= λ ps. Done (p ∷ ps)) (spelled format choice canvas copy before r) (flat_map (λ q. q) (all_spelled format choice canvas copy (Some r) rs)) first (first ∷ others)
-    (spells_one law format choice canvas copy before r w h a lw lh k on.0)
-    (spells_end (times n (rectangle format w h)) (λ ps. Done (first ∷ ps)) (flat_map (λ q. q) (all_spelled format choice canvas copy (Some r) rs)) others (first ∷ others) (spells_all law format choice canvas copy (Some r) rs w h a lw lh on.0 on.1) refl)
+-- Each rectangle of an answer is read as what it brings.
+spelled_are_read : (format : PixelFormat) (choice : Choice) (canvas : Canvas) (copy : Bool) (before : Option Rect) (rs : List Rect) (w h : ℕ) → IsAccepted format → w ≤ 4096 → h ≤ 4096 → IsPartIf w h before → Each (IsPart w h) rs
+    → AreRead format w h (all_spelled format choice canvas copy before rs) (all_brought format canvas copy before rs)
+spelled_are_read format choice canvas copy before [] w h ok lw lh k parts = tt
+spelled_are_read format choice canvas copy before (r ∷ rs) w h ok lw lh k parts = (
+  read_if format choice canvas copy before r w h ok lw lh k parts.0 (copy && repeats_one canvas before r) refl,
+  spelled_are_read format choice canvas copy (Some r) rs w h ok lw lh parts.0 parts.1,
+)
 
 length_spelled : (format : PixelFormat) (choice : Choice) (canvas : Canvas) (copy : Bool) (before : Option Rect) (rs : List Rect) → length (all_spelled format choice canvas copy before rs) ≡ length rs
 length_spelled format choice canvas copy before [] = refl
 length_spelled format choice canvas copy before (r ∷ rs) = ap suc (length_spelled format choice canvas copy (Some r) rs)
 
--- An answer is one whole FramebufferUpdate of these rectangles.
-pub answer_is_read : CodecLaw → (format : PixelFormat) (choice : Choice) (canvas : Canvas) (sent : Bool) (rs : List Rect) (w h : ℕ) → IsAccepted format → w ≤ 4096 → h ≤ 4096
-    → AllOnScreen w h rs → length rs < 2 ^ 16
-    → after (server_message format w h) (answer_bytes format choice canvas sent rs) ≡ Done (FramebufferUpdate (all_brought format canvas (choice.copy && sent) None rs))
-answer_is_read law format choice canvas sent rs w h accepted lw lh on few =
+-- What spells a message is exactly one.
+pub spells_only : (format : PixelFormat) (w h : ℕ) (bytes : List ℕ) (m : ServerMessage) → Spells (server_message format w h) bytes m → only_message format w h bytes ≡ Some m
+spells_only format w h bytes m k =
+    chosen (taken (server_message format w h) bytes == length bytes) (whole_of (after (server_message format w h) bytes)) None (eq-eqb _ _ k.whole) ∙ ap whole_of k.says
+
+-- An answer is exactly one FramebufferUpdate of these rectangles.
+pub answer_is_read : (format : PixelFormat) (choice : Choice) (canvas : Canvas) (sent : Bool) (rs : List Rect) (w h : ℕ) → IsAccepted format → w ≤ 4096 → h ≤ 4096 → Each (IsPart w h) rs → length rs < 2 ^ 16
+    → Spells (server_message format w h) (answer_bytes format choice canvas sent rs) (FramebufferUpdate (all_brought format canvas (choice.copy && sent) None rs))
+answer_is_read format choice canvas sent rs w h ok lw lh parts few =
     let copy : Bool = choice.copy && sent in
-    let spelled_rs : List (List ℕ) = all_spelled format choice canvas copy None rs in
-    let paints : List Paint = all_brought format canvas copy None rs in
-    let count : length spelled_rs < 2 ^ 16 = omega (arith, few, length_spelled format choice canvas copy None rs) in
-    let body : Spells (times (length spelled_rs) (rectangle format w h) >>= λ ps. Done (FramebufferUpdate ps)) (flat_map (λ r. r) spelled_rs) (FramebufferUpdate paints) =
-    spells_end (times (length spelled_rs) (rectangle format w h)) (λ ps. Done (FramebufferUpdate ps)) (flat_map (λ r. r) spelled_rs) paints (FramebufferUpdate paints) (spells_all law format choice canvas copy None rs w h accepted lw lh tt on) refl in
-    ap (λ n. after (times n (rectangle format w h) >>= λ ps. Done (FramebufferUpdate ps)) (flat_map (λ r. r) spelled_rs)) (from_be_bytes-to_be_bytes_2 (length spelled_rs) count) ∙ body.says
+    update_is_read format w h (all_spelled format choice canvas copy None rs) (all_brought format canvas copy None rs)
+    (omega (arith, few, length_spelled format choice canvas copy None rs))
+    (spelled_are_read format choice canvas copy None rs w h ok lw lh tt parts)

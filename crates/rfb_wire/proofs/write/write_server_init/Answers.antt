@@ -1,7 +1,6 @@
 use Rattle.std.proofs.Common.{◌++◌, length}
 use Rattle.std.specs.Int.{w16, w32, to_be_bytes}
-use Rattle.pixel_format.specs.PixelFormat.{host_format}
-use Rattle.rfb_wire.specs.Writing.{format_bytes}
+use Rattle.pixel_format.specs.PixelFormat.{host_format, format_bytes}
 use Rattle.rfb_wire.proofs.Writers.{writes_behind}
 use Rattle.rfb_wire.proofs.write.write_server_init.Goals as goal
 

@@ -1,0 +1,23 @@
+-- What one whole message of the host changes on a screen.
+use Rattle.std.specs.Prelude.{ℕ, ◌≤◌, map, length, All}
+use Rattle.raster.specs.Painted.{paint_of, Fits}
+use Rattle.raster.specs.Update.{Update, Paints, Bell, Cut}
+use Rattle.painter.specs.declared.patch.Change.{Change}
+use Rattle.painter.specs.declared.patch.Change.TheVariants as code
+
+-- An update, and the width and height of the screen that it is for.
+pub record SizedUpdate : Type 0 where
+  pub width : ℕ
+  pub height : ℕ
+  pub update : Update
+
+abbrev pub update_of : Change → Update
+update_of (code.Paints paints) = Paints (map paint_of paints.items)
+update_of code.Bell = Bell
+update_of (code.Text text) = Cut text.items
+
+-- Its paints lie on a screen of w by h; its text has at most 65,536 bytes.
+abbrev pub IsFor : ℕ → ℕ → Change → Type 0
+IsFor w h (code.Paints paints) = All (λ p. Fits w h (paint_of p)) paints.items
+IsFor w h code.Bell = Unit {0}
+IsFor w h (code.Text text) = length text.items ≤ 65536

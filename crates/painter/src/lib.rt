@@ -1,0 +1,6 @@
+//! Updates of a screen, in colours.
+#![tactic(auto)]
+
+mod patch;
+
+pub use patch::Patch;

@@ -1,0 +1,97 @@
+//! What one whole message of the host changes on a screen.
+
+ghost use Rattle.std.specs.Prelude.{◌≡◌, ℕ, ◌<◌, ◌≤◌, ◌*◌, length, map, All, OnOk, IsTrue, ◌↔◌, IfSome, IfNone, Option, Some, None};
+ghost use Rattle.raster.specs.Painted.{Fits, paint_of};
+ghost use Rattle.raster.specs.Screen.{LooksLike, value_at};
+ghost use Rattle.raster.specs.Size.{IsScreenSize};
+ghost use Rattle.raster.specs.Update.{Paints, Bell, Cut, after_paints, paints_of};
+
+use raster::{Paint, paint_all};
+use std::alloc::{AllocError, Global};
+use std::marker::Model;
+
+/// The paints of a FramebufferUpdate, a Bell, or a text that was cut (RFC 6143, 7.6).
+#[derive(Drop)]
+enum Change {
+    Paints(Vec<Paint>),
+    Bell,
+    Text(Vec<u8>),
+}
+
+/// An update in colours, for a screen of one size: contracts see its width and height in pixels, and the update.
+#[derive(Drop)]
+pub struct Patch {
+    width: u64,
+    height: u64,
+    change: Change,
+}
+
+impl Model for Patch {
+    ghost use Rattle.painter.specs.Patch.{SizedUpdate, update_of, IsFor};
+    ghost use Rattle.raster.specs.Size.{IsScreenSize};
+
+    ghost Value = { SizedUpdate };
+
+    ghost view = { λ p. record { width = p.width; height = p.height; update = update_of p.change } };
+
+    ghost invariant = { λ p. IsScreenSize p.width p.height × IsFor p.width p.height p.change };
+}
+
+impl Patch {
+    /// Paints of a FramebufferUpdate, each of which lies on the screen.
+    pub fn paints(width: u64, height: u64, paints: Vec<Paint>) -> Self
+        requires size { IsScreenSize width height }
+        requires fits { All (λ p. Fits width height (paint_of p)) paints.items }
+        ensures { result ≡ record { width = width; height = height; update = Paints (map paint_of paints.items) } }
+    {
+        Patch {
+            width,
+            height,
+            change: Change::Paints(paints),
+        }
+    }
+
+    /// A Bell.
+    pub fn bell(width: u64, height: u64) -> Self
+        requires { IsScreenSize width height }
+        ensures { result ≡ record { width = width; height = height; update = Bell } }
+    {
+        Patch {
+            width,
+            height,
+            change: Change::Bell,
+        }
+    }
+
+    /// A text of the host's cut buffer, of at most 65,536 bytes.
+    pub fn text(width: u64, height: u64, text: Vec<u8>) -> Self
+        requires size { IsScreenSize width height }
+        requires short { length text.items ≤ 65536 }
+        ensures { result ≡ record { width = width; height = height; update = Cut text.items } }
+    {
+        Patch {
+            width,
+            height,
+            change: Change::Text(text),
+        }
+    }
+
+    /// The width and height of the screen that it is for.
+    pub fn size(&self) -> (u64, u64)
+        ensures { (result.0 ≡ self.now.width) × (result.1 ≡ self.now.height) }
+    {
+        (self.width, self.height)
+    }
+
+    /// The rectangles that it paints, in order: none of a Bell or a text.
+    pub fn painted(&self) -> &[Paint]
+        ensures paints { map paint_of result.now ≡ paints_of self.now.update }
+        ensures fits { All (λ p. Fits self.now.width self.now.height (paint_of p)) result.now }
+    {
+        match &self.change {
+            Change::Paints(paints) => paints.as_slice(),
+            Change::Bell => &[],
+            Change::Text(_) => &[],
+        }
+    }
+}

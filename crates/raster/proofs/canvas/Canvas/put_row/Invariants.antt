@@ -1,0 +1,11 @@
+use Rattle.std.proofs.Common.{◌≡◌, length}
+use Rattle.raster.specs.Screen.{LooksLike, value_at, lay}
+use Rattle.raster.proofs.canvas.Canvas.put_row.Given as goal
+
+abbrev pub invariant-loop-i : goal.invariant-loop-i
+invariant-loop-i g l =
+    record {
+      width : g.Self.Canvas.width l.self ≡ g.Self.Canvas.width l.fn.self;
+      height : g.Self.Canvas.height l.self ≡ g.Self.Canvas.height l.fn.self;
+      shows : LooksLike (g.Self.Canvas.width l.fn.self) (g.Self.Canvas.height l.fn.self) (g.Self.Canvas.shows l.self) (lay (record { x = l.x; y = l.y; w = l.i; h = 1 }) (value_at (length l.values) l.values) (g.Self.Canvas.shows l.fn.self));
+    }

@@ -1,0 +1,26 @@
+-- What a source for one thread holds.
+use Rattle.std.specs.Prelude.{◌≡◌, ℕ, ◌*◌, ◌^◌, ◌<◌, ◌≤◌, List, length, All, ◌⊎◌}
+use Rattle.pixel_format.specs.declared.fault.Fault.{Fault}
+use Rattle.pixel_format.specs.declared.fault.Fault.TheVariants.{Memory, NumbersOut}
+use Rattle.raster.specs.Size.{IsScreenSize}
+use Rattle.raster.specs.Update.{Update}
+use Rattle.painter.specs.Patch.{SizedUpdate}
+
+-- The size of its screen, the updates that were put, and the tally.
+pub record Plain : Type 0 where
+  pub width : ℕ
+  pub height : ℕ
+  pub updates : List Update
+  pub tally : ℕ
+
+-- What stands in its fields: patches of its size, a tally that is at most their number, and room for the colours of one screen.
+pub record IsPlain (w h : ℕ) (patches : List SizedUpdate) (tally room : ℕ) : Type 0 where
+  pub size : IsScreenSize w h
+  pub fits : All (λ patch. (patch.width ≡ w) × (patch.height ≡ h)) patches
+  pub tally_within : tally ≤ length patches
+  pub few : length patches ≤ 2 ^ 62
+  pub room_is : room ≡ w * h
+
+-- Why an update isn't taken as the next of so many: memory is refused, or there are no more numbers.
+abbrev pub IsPutRefusal : ℕ → Fault → Type 0
+IsPutRefusal count fault = ((count < 2 ^ 62) × (fault ≡ Memory)) ⊎ ((count ≡ 2 ^ 62) × (fault ≡ NumbersOut))

@@ -1,0 +1,131 @@
+//! What a viewer has asked for (RFC 6143, 7.5.3).
+
+ghost use Rattle.std.specs.Prelude.{◌≡◌, ℕ, ◌+◌, ◌<◌, ◌≤◌, [], ◌∷◌, List, Bool, false, Some, None};
+ghost use Rattle.raster.specs.declared.rect.Rect.{Rect};
+ghost use Rattle.raster.specs.Screen.{IsWithin, is_empty, cover};
+ghost use Rattle.raster.specs.Size.{IsScreenSize};
+ghost use Rattle.reflect_core.specs.Asked.{AskedStands, IsSameScreen, LiesOn};
+ghost use Rattle.tiles.specs.Touched.{Event, Requested, NewFormat, WasCut, Answered};
+
+use raster::Rect;
+use std::marker::Model;
+
+/// The least rectangle that holds all pending requests, whether something was asked for since the last cut, and the number of that cut.
+#[derive(Drop)]
+pub struct Asked {
+    width: u64,
+    height: u64,
+    area: Option<Rect>,
+    asked: bool,
+    last: Option<u64>,
+}
+
+impl Model for Asked {
+    ghost use Rattle.raster.specs.Size.{IsScreenSize};
+    ghost use Rattle.reflect_core.specs.Asked.{Wanted, LiesOn};
+
+    ghost Value = { Wanted };
+
+    ghost view = { λ a. record { width = a.width; height = a.height; area = a.area; asked = a.asked; last = a.last } };
+
+    ghost invariant = { λ a. IsScreenSize a.width a.height × LiesOn a.width a.height a.area };
+}
+
+/// The least rectangle that holds two that aren't empty.
+fn joined(r: &Rect, s: &Rect, w: u64, h: u64) -> Rect
+    requires size { IsScreenSize w h }
+    requires r { IsWithin r.now w h }
+    requires s { IsWithin s.now w h }
+    ensures value { result ≡ cover r.now s.now }
+    ensures within { IsWithin result w h }
+{
+    let x = r.x.min(s.x);
+    let y = r.y.min(s.y);
+    Rect {
+        x,
+        y,
+        w: (r.x + r.w).max(s.x + s.w) - x,
+        h: (r.y + r.h).max(s.y + s.h) - y,
+    }
+}
+
+impl Asked {
+    /// Nothing was asked for of a screen of `width` by `height` pixels.
+    pub fn new(width: u64, height: u64) -> Self
+        requires { IsScreenSize width height }
+        ensures size { (result.width ≡ width) × (result.height ≡ height) }
+        ensures stands { AskedStands result [] }
+    {
+        Asked {
+            width,
+            height,
+            area: None,
+            asked: false,
+            last: None,
+        }
+    }
+
+    /// A request was taken, incremental or not, as it was clipped to the screen. An empty one is forgotten.
+    pub fn request(&mut self, clipped: &Rect)
+        requires { is_empty clipped.now ≡ false → IsWithin clipped.now self.old.width self.old.height }
+        ensures size { IsSameScreen self.old self.new }
+        ensures stands { (incremental : Bool) (es : List Event) → AskedStands self.old es → AskedStands self.new (Requested incremental clipped.now ∷ es) }
+    {
+        if clipped.w == 0 || clipped.h == 0 {
+            return;
+        }
+        let area = match self.area {
+            None => *clipped,
+            Some(before) => joined(clipped, &before, self.width, self.height),
+        };
+        self.area = Some(area);
+        self.asked = true;
+    }
+
+    /// A pixel format was taken (RFC 6143, 7.5.1).
+    pub fn new_format(&mut self)
+        ensures size { IsSameScreen self.old self.new }
+        ensures stands { (es : List Event) → AskedStands self.old es → AskedStands self.new (NewFormat ∷ es) }
+    {
+        self.asked = true;
+    }
+
+    /// The source was cut, at this number.
+    pub fn was_cut(&mut self, number: u64)
+        ensures size { IsSameScreen self.old self.new }
+        ensures stands { (es : List Event) → AskedStands self.old es → AskedStands self.new (WasCut number ∷ es) }
+    {
+        self.asked = false;
+        self.last = Some(number);
+    }
+
+    /// An answer was begun: nothing is pending any longer.
+    pub fn answered(&mut self)
+        ensures size { IsSameScreen self.old self.new }
+        ensures stands { (area : Rect) (number : ℕ) (es : List Event) → AskedStands self.old es → AskedStands self.new (Answered area number ∷ es) }
+    {
+        self.area = None;
+    }
+
+    /// The pending area, which lies on the screen.
+    pub fn area(&self) -> Option<Rect>
+        ensures value { result ≡ self.now.area }
+        ensures within { LiesOn self.now.width self.now.height result }
+    {
+        self.area
+    }
+
+    /// Whether a request or a pixel format was taken since the last cut.
+    pub fn asked(&self) -> bool
+        ensures { result ≡ self.now.asked }
+    {
+        self.asked
+    }
+
+    /// The number of the last cut.
+    pub fn last_cut(&self) -> Option<u64>
+        ensures { result ≡ self.now.last }
+    {
+        self.last
+    }
+}

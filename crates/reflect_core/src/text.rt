@@ -1,0 +1,78 @@
+//! The last text of the host's cut buffer.
+
+ghost use Rattle.std.specs.Prelude.{◌≡◌, ℕ, ◌≤◌, length, IfOk, IfErr, Some, None};
+ghost use Rattle.pixel_format.specs.declared.fault.Fault.TheVariants.{Memory};
+ghost use Rattle.reflect_core.specs.Kept.{number_of, bytes_of};
+
+use pixel_format::Fault;
+use std::alloc::Global;
+use std::marker::Model;
+
+/// A text of at most 65,536 bytes with the number of the update that brought it, or none. The room for its bytes is kept.
+#[derive(Drop)]
+pub struct Text {
+    bytes: Vec<u8>,
+    number: Option<u64>,
+}
+
+impl Model for Text {
+    ghost use Rattle.std.specs.Prelude.{◌≤◌, Option, vec_capacity};
+    ghost use Rattle.raster.specs.Update.{NumberedText};
+    ghost use Rattle.reflect_core.specs.Kept.{numbered};
+
+    ghost Value = { Option NumberedText };
+
+    ghost view = { λ text. numbered text.bytes.items text.number };
+
+    ghost invariant = { λ text. 65536 ≤ vec_capacity text.bytes };
+}
+
+impl Text {
+    /// No text yet, and room for one. It fails where memory is refused (`Memory`).
+    pub fn new(alloc: Global) -> Result<Self, Fault>
+        ensures ok { IfOk result (λ text. text ≡ None) }
+        ensures err { IfErr result (λ fault. fault ≡ Memory) }
+    {
+        match Vec::with_capacity(alloc, 65536) {
+            Ok(bytes) => Ok(Text {
+                bytes,
+                number: None,
+            }),
+            Err(_) => Err(Fault::Memory),
+        }
+    }
+
+    /// The number of the update that brought it.
+    pub fn number(&self) -> Option<u64>
+        ensures { result ≡ number_of self.now }
+    {
+        self.number
+    }
+
+    /// Its bytes: none where there is no text.
+    pub fn bytes(&self) -> &[u8]
+        ensures { result.now ≡ bytes_of self.now }
+    {
+        match self.number {
+            None => &[],
+            Some(_) => self.bytes.as_slice(),
+        }
+    }
+
+    /// There is no text.
+    pub fn clear(&mut self)
+        ensures { self.new ≡ None }
+    {
+        self.number = None;
+    }
+
+    /// These bytes are the text now, brought by the update of this number.
+    pub fn set(&mut self, bytes: &[u8], number: u64)
+        requires { length bytes.now ≤ 65536 }
+        ensures { self.new ≡ Some (record { text = bytes.now; number = number }) }
+    {
+        self.bytes.clear();
+        let _ = self.bytes.extend_from_slice(bytes);
+        self.number = Some(number);
+    }
+}

@@ -1,0 +1,41 @@
+-- What the messages in the code stand for, and what a reader of a viewer's messages does.
+use Rattle.std.specs.Prelude.{◌≡◌, ℕ, ◌==◌, not, ◌⊎◌, List, Result}
+use Rattle.pixel_format.specs.declared.fault.Fault.{Fault}
+use Rattle.pixel_format.specs.declared.fault.Fault.TheVariants.{UnknownMessage}
+use Rattle.pixel_format.specs.Reading.{Reading, Done, Faulty, Want, ◌>>=◌, byte, unless, Feeds}
+use Rattle.rfb_wire.specs.declared.choice.Choice as declared_choice
+use Rattle.rfb_wire.specs.declared.message.ClientMessage as declared
+use Rattle.rfb_wire.specs.declared.message.ClientMessage.TheVariants as code
+use Rattle.rfb_wire.specs.ClientMessage.{ClientMessage, SetPixelFormat, SetEncodings, Ask, Key, Pointer, CutText, LostText, Choice, ask, without_text}
+
+-- The choice that one in the code stands for.
+abbrev pub choice_in : declared_choice.Choice → Choice
+choice_in c = record { kind = c.kind; copy = c.copy }
+
+-- The message that one in the code stands for.
+abbrev pub message_of : declared.ClientMessage → ClientMessage
+message_of (code.Format format) = SetPixelFormat format
+message_of (code.Encodings choice) = SetEncodings (choice_in choice)
+message_of (code.Ask incremental area) = Ask incremental area
+message_of (code.Key down key) = Key down key
+message_of (code.Pointer mask x y) = Pointer mask x y
+message_of (code.Cut text) = CutText text
+message_of (code.CutLost len) = LostText len
+
+-- The messages that are read of a viewer: FramebufferUpdateRequests, of type 3, alone.
+abbrev pub viewer_form : Reading ClientMessage
+viewer_form = byte >>= λ kind. unless (not (kind == 3)) (UnknownMessage kind) ask
+
+-- The same reading, where memory for the text of its message was refused.
+abbrev pub losing : Reading ClientMessage → Reading ClientMessage
+losing (Done message) = Done (without_text message)
+losing (Faulty fault) = Faulty fault
+losing (Want more) = Want (λ b. losing (more b))
+
+-- A reader of messages was fed a piece. Want of memory changes only a text that is kept to one that is lost.
+abbrev pub FeedsOrLoses : Reading ClientMessage → Reading ClientMessage → List ℕ → Result ℕ Fault → Type 0
+FeedsOrLoses old new piece answer = Feeds old new piece answer ⊎ Feeds (losing old) new piece answer
+
+-- Reading goes on as this, but that memory for the text of its message may have been refused.
+abbrev pub IsOrLoses : Reading ClientMessage → Reading ClientMessage → Type 0
+IsOrLoses now reading = (now ≡ reading) ⊎ (now ≡ losing reading)

@@ -1,0 +1,12 @@
+//! What a viewer chooses among encodings.
+
+use raster::Encoding;
+
+/// What a viewer's list of encodings comes to (RFC 6143, 7.5.2).
+#[derive(Clone, Copy, Debug, PartialEq, Eq)]
+pub struct Choice {
+    /// How it wants pixels: the first of Raw, RRE and Hextile in its list, and Raw where none of them is there.
+    pub kind: Encoding,
+    /// Whether CopyRect is in its list.
+    pub copy: bool,
+}

@@ -1,0 +1,23 @@
+-- What a viewer has of each tile.
+use Rattle.std.specs.Prelude.{◌≡◌, ℕ, ◌<◌, List, slice_get, unwrap_or, Option, Some, None}
+use Rattle.raster.specs.Screen.{tile_count, tile_rect}
+use Rattle.tiles.specs.Touched.{Event, last_sent}
+
+-- For each tile of a screen the number at which it was last sent, and none where it was never sent.
+pub record SentTiles : Type 0 where
+  pub width : ℕ
+  pub height : ℕ
+  pub sent : List (Option ℕ)
+
+-- The number of one tile; past the last tile there is none.
+abbrev pub sent_at : SentTiles → ℕ → Option ℕ
+sent_at have t = unwrap_or (slice_get have.sent t) None
+
+-- It says of each tile what these events say. The latest event stands first.
+pub record HaveStands (have : SentTiles) (es : List Event) : Type 0 where
+  pub each : (t : ℕ) → t < tile_count have.width have.height → slice_get have.sent t ≡ Some (last_sent (tile_rect have.width have.height t) es)
+
+-- Both are of one screen size.
+pub record IsSameSize (have other : SentTiles) : Type 0 where
+  pub width : other.width ≡ have.width
+  pub height : other.height ≡ have.height

@@ -1,0 +1,107 @@
+//! What a viewer has of each tile.
+
+ghost use Rattle.std.specs.Prelude.{◌≡◌, ℕ, ◌+◌, ◌<◌, ◌≤◌, ◌^◌, ◌↔◌, [], ◌∷◌, List, false, length, IfOk, IfErr, IsTrue, slice_get, if◌then◌else◌, Option, Some, None};
+ghost use Rattle.raster.specs.Screen.{IsWithin, tile_count, tile_rect, meets, lies_in};
+ghost use Rattle.raster.specs.Size.{IsScreenSize};
+ghost use Rattle.tiles.specs.Have.{HaveStands, IsSameSize, sent_at};
+ghost use Rattle.tiles.specs.Touched.{Event, Requested, NewFormat, Answered};
+ghost use Rattle.pixel_format.specs.declared.fault.Fault.TheVariants.{Memory};
+
+use crate::place::{is_inside, is_met, rect_at};
+use pixel_format::Fault;
+use raster::Rect;
+use std::alloc::Global;
+use std::marker::Model;
+
+/// For each tile of a screen the number of the update at which a viewer was last sent it, or none where it was never sent.
+#[derive(Drop)]
+pub struct Have {
+    width: u64,
+    height: u64,
+    sent: Vec<Option<u64>>,
+}
+
+impl Model for Have {
+    ghost use Rattle.std.specs.Prelude.{◌≡◌, length};
+    ghost use Rattle.raster.specs.Screen.{tile_count};
+    ghost use Rattle.raster.specs.Size.{IsScreenSize};
+    ghost use Rattle.tiles.specs.Have.{SentTiles};
+
+    ghost Value = { SentTiles };
+
+    ghost view = { λ have. record { width = have.width; height = have.height; sent = have.sent.items } };
+
+    ghost invariant = { λ have. IsScreenSize have.width have.height × (length have.sent.items ≡ tile_count have.width have.height) };
+}
+
+impl Have {
+    /// Of a screen of `width` by `height` pixels no tile was sent yet. It fails where memory is refused (`Memory`).
+    pub fn new(alloc: Global, width: u64, height: u64) -> Result<Self, Fault>
+        requires { IsScreenSize width height }
+        ensures ok { IfOk result (λ have. (have.width ≡ width) × (have.height ≡ height) × HaveStands have []) }
+        ensures err { IfErr result (λ fault. fault ≡ Memory) }
+    {
+        let across = (width + 15) / 16;
+        let down = (height + 15) / 16;
+        let mut sent = Vec::new(alloc);
+        match sent.resize((across * down) as usize, None) {
+            Ok(()) => Ok(Have {
+                width,
+                height,
+                sent,
+            }),
+            Err(_) => Err(Fault::Memory),
+        }
+    }
+
+    /// The width and height of the screen in pixels.
+    pub fn size(&self) -> (u64, u64)
+        ensures { (result.0 ≡ self.now.width) × (result.1 ≡ self.now.height) }
+    {
+        (self.width, self.height)
+    }
+
+    /// The number at which tile `t` was last sent.
+    pub fn sent(&self, t: u64) -> Option<u64>
+        requires { t < tile_count self.now.width self.now.height }
+        ensures { result ≡ sent_at self.now t }
+    {
+        self.sent[t as usize]
+    }
+
+    /// No tile counts as sent any longer: a pixel format was taken (RFC 6143, 7.5.1).
+    pub fn forget_all(&mut self)
+        ensures size { IsSameSize self.old self.new }
+        ensures stands { (es : List Event) → HaveStands self.old es → HaveStands self.new (NewFormat ∷ es) }
+    {
+        for t in 0..self.sent.len() {
+            self.sent[t] = None;
+        }
+    }
+
+    /// No tile that meets the area counts as sent any longer: it was asked for, and not incrementally (RFC 6143, 7.5.3).
+    pub fn forget(&mut self, area: &Rect)
+        requires { IsWithin area.now 65536 65536 }
+        ensures size { IsSameSize self.old self.new }
+        ensures stands { (es : List Event) → HaveStands self.old es → HaveStands self.new (Requested false area.now ∷ es) }
+    {
+        for t in 0..self.sent.len() {
+            if is_met(area, &rect_at(self.width, self.height, t as u64)) {
+                self.sent[t] = None;
+            }
+        }
+    }
+
+    /// Each tile that lies wholly inside the area was sent at this number: an answer was begun.
+    pub fn keep(&mut self, area: &Rect, number: u64)
+        requires { IsWithin area.now 65536 65536 }
+        ensures size { IsSameSize self.old self.new }
+        ensures stands { (es : List Event) → HaveStands self.old es → HaveStands self.new (Answered area.now number ∷ es) }
+    {
+        for t in 0..self.sent.len() {
+            if is_inside(&rect_at(self.width, self.height, t as u64), area) {
+                self.sent[t] = Some(number);
+            }
+        }
+    }
+}
