@@ -32,11 +32,6 @@ feeding_begins old piece = λ s p k. record { viewer = without_look p; stands = 
 some_is : (x y : ClientMessage) → Some x ≡ Some y → x ≡ y
 some_is x y e = cc
 
-whole_renewed : (r : Reading ClientMessage) → whole_of (renewed viewer_form r) ≡ None
-whole_renewed (Done m) = refl
-whole_renewed (Faulty f) = refl
-whole_renewed (Want more) = refl
-
 same_renewed : (r : Reading ClientMessage) → whole_of r ≡ None → renewed viewer_form r ≡ r
 same_renewed (Done m) e = absurd cc
 same_renewed (Faulty f) e = refl
