@@ -75,3 +75,27 @@ pub fn read_update(
         Some((paints, used)) => Ok(Some((Patch::paints(w, h, paints), 4 + used))),
     }
 }
+
+#[cfg(test)]
+mod tests {
+    use super::*;
+    use std::test::Fail;
+
+    // A rectangle of 2 by 1 in Raw, red and blue, and a byte behind it.
+    const MESSAGE: [u8; 25] = [
+        0, 0, 0, 1, 0, 0, 0, 0, 0, 2, 0, 1, 0, 0, 0, 0, 0, 0, 255, 0, 255, 0, 0, 0, 0,
+    ];
+
+    #[test]
+    fn reads_an_update(rt: HostRuntime) -> Result<(), Fail> {
+        let found = read_update(rt.alloc(), &MESSAGE, 2, 1)?;
+        let (patch, used) = found.ok_or("nothing whole")?;
+        assert_eq!(rt; used, 24);
+        let [Paint::Put(area, colours)] = patch.painted() else {
+            return Err(Fail::new("no rectangle"));
+        };
+        assert_eq!(rt; area.w, 2);
+        assert_eq!(rt; colours.as_slice(), [0xFF0000, 0x0000FF].as_slice());
+        Ok(())
+    }
+}
