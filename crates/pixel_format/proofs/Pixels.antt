@@ -1,4 +1,4 @@
--- A pixel value is read back from its bytes.
+-- A pixel value and its bytes: what they are in each size and order, and that the value is read back.
 use Rattle.std.proofs.Common.{◌≡◌, ℕ, ◌^◌, ◌*◌, ◌%◌, Bool, true, false, cond, ◌||◌, List, [], ◌∷◌, length, refl, ◌<◌, arith}
 use Rattle.std.specs.Prelude.{◌==◌}
 use Rattle.std.specs.Int.{Width, w8, w16, w32, byte_len, to_be_bytes, to_le_bytes, from_be_bytes, from_le_bytes}
@@ -52,7 +52,7 @@ one_byte true bits v e h = let small : v % 256 ≡ v = omega arith in rw (e, sma
 one_byte false bits v e h = let small : v % 256 ≡ v = omega arith in rw (e, small) refl
 
 -- In a format of 8 bits a colour's pixel value is its byte.
-pub tint_is_byte : (format : PixelFormat) → IsAccepted format → format.bits_per_pixel ≡ 8 → (colour : ℕ) → tint format colour ∷ [] ≡ pixel_bytes format (tint format colour)
+tint_is_byte : (format : PixelFormat) → IsAccepted format → format.bits_per_pixel ≡ 8 → (colour : ℕ) → tint format colour ∷ [] ≡ pixel_bytes format (tint format colour)
 tint_is_byte format ok e colour =
     let below : tint format colour < 2 ^ 8 = rw e at (tint_below format colour ok) in
     one_byte format.big_endian format.bits_per_pixel (tint format colour) e below

@@ -3,7 +3,6 @@ use Rattle.std.proofs.Common.{◌≡◌, ℕ, ◌+◌, ◌*◌, ◌<◌, ◌≤�
 use Rattle.std.proofs.lemmas.List.{take_more, length-take-le}
 use Rattle.std.proofs.Math.Seq.{take-append-add, take-append_seam}
 use Rattle.std.proofs.lemmas.Grind.{flat_map-append}
-use Rattle.std.proofs.Math.Nat.{mul-le-mul_left}
 use Rattle.std.specs.List.{flat_map}
 
 -- The front of a list in which a piece was put behind its first k items.
@@ -32,12 +31,6 @@ pub row_goes_on : (f : ℕ → List ℕ) (n : ℕ) (xs out rest after : List ℕ
     → take (n * (i + 1)) (take k out ++ ((f (get_or xs i 0) ++ rest) ++ after)) ≡ flat_map f (take (i + 1) xs)
 row_goes_on f n xs out rest after i k ek le e lt h =
     rw (append_assoc (f (get_or xs i 0)) rest after) (piece_goes_on f n xs out (rest ++ after) i k ek le e lt h)
-
--- The pieces before the i-th lie inside the row.
-pub row_has_room : (n i count size : ℕ) → size ≡ n * count → i < count → n * i + n ≤ size
-row_has_room n i count size e lt =
-    let a : n * (i + 1) ≤ n * count = mul-le-mul_left n (omega arith) in
-    omega (arith, a, e)
 
 -- Rows of the same pieces are the same.
 pub same_pieces : (f g : ℕ → List ℕ) (xs : List ℕ) → ((x : ℕ) → f x ≡ g x) → flat_map f xs ≡ flat_map g xs
