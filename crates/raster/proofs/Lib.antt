@@ -12,3 +12,4 @@ pub mod HextileSpelled
 pub mod Forms
 pub mod Bytes
 pub mod Places
+pub mod RowScan
