@@ -13,3 +13,4 @@ pub mod Forms
 pub mod Bytes
 pub mod Places
 pub mod RowScan
+pub mod FixedLength

@@ -5,7 +5,10 @@
 //! Nothing here takes memory or a handle.
 #![tactic(auto)]
 
+mod reading;
 mod run;
+mod stage;
 mod writing;
 
+pub use reading::Reader;
 pub use writing::encode;

@@ -7,6 +7,9 @@ ghost use Rattle.raster.specs.Encoding.{rre_subrect_bytes};
 
 use pixel_format::Format;
 
+/// How many bytes the number of subrectangles has.
+pub const COUNT_LEN: usize = 4;
+
 /// How many bytes of a subrectangle stand behind its pixel: x, y, width and height in two bytes each.
 pub const PLACE_LEN: usize = 8;
 

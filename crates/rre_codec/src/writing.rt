@@ -8,11 +8,8 @@ ghost use Rattle.raster.specs.Screen.{value_at};
 ghost use Rattle.raster.specs.Encoding.{runs, runs_of_row, rre_subrect_bytes};
 ghost use Rattle.raster.specs.Encoded.{IsEncoded};
 
-use crate::run::{PLACE_LEN, Run, put_run, run_len};
+use crate::run::{COUNT_LEN, PLACE_LEN, Run, put_run, run_len};
 use pixel_format::Format;
-
-/// How many bytes the number of subrectangles has.
-const COUNT_LEN: usize = 4;
 
 /// Writes the runs of row `y` other than the background from index `used` of `out` on, and answers where they end;
 /// `None` where that isn't inside `out`.
