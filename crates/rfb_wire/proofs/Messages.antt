@@ -1,16 +1,18 @@
 -- Every message that is written is read back.
-use Rattle.std.proofs.Common.{◌≡◌, ℕ, suc, ◌^◌, ◌<◌, ◌≤◌, Bool, true, false, List, [], ◌∷◌, ◌++◌, length, subst, refl, sym, ap, arith}
+use Rattle.std.proofs.Common.{◌≡◌, ℕ, suc, ◌^◌, ◌<◌, ◌≤◌, Bool, true, false, not, List, [], ◌∷◌, ◌++◌, length, subst, refl, sym, ap, ◌∙◌, arith}
 use Rattle.std.specs.Prelude.{nat_le, if◌then◌else◌}
 use Rattle.std.specs.List.{All, flat_map}
 use Rattle.std.specs.Int.{w16, w32, to_be_bytes}
 use Rattle.std.proofs.lemmas.Bool.{le-leb, lt-leb}
 use Rattle.std.proofs.lemmas.List.{append-nil}
-use Rattle.pixel_format.specs.Reading.{Reading, Done, Want, ◌>>=◌, bytes, padding, times, u16, u32, Spells}
+use Rattle.pixel_format.specs.Reading.{Reading, Done, Want, ◌>>=◌, bytes, padding, times, u16, u32, unless, Spells}
 use Rattle.raster.proofs.Spellings.{Each, spells_done, spells_bind, spells_then, spells_bytes, spells_times}
 use Rattle.raster.proofs.Pixels.{spells_u16, spells_u32}
-use Rattle.rfb_wire.specs.ClientMessage.{ClientMessage, client_message, choice_of, flag, text, longest_text, SetEncodings}
-use Rattle.pixel_format.specs.PixelFormat.{flag_byte}
-use Rattle.rfb_wire.specs.Writing.{set_encodings_bytes}
+use Rattle.rfb_wire.specs.ClientMessage.{ClientMessage, client_message, choice_of, flag, text, longest_text, SetPixelFormat, SetEncodings}
+use Rattle.pixel_format.specs.PixelFormat.{PixelFormat, IsAccepted, flag_byte, accepts, format_at, format_bytes}
+use Rattle.pixel_format.specs.declared.fault.Fault.TheVariants.{BadFormat}
+use Rattle.pixel_format.proofs.FormatsBack.{format_back, written_is_accepted}
+use Rattle.rfb_wire.specs.Writing.{set_encodings_bytes, set_pixel_format_bytes}
 
 -- One byte more in front.
 pub spells_want : {A : Type 0} (more : ℕ → Reading A) (b : ℕ) (bs : List ℕ) (x : A) → Spells (more b) bs x → Spells (Want more) (b ∷ bs) x
@@ -66,3 +68,12 @@ text_is_lost {A = A} kept lost t long few =
     let passes : text_behind kept lost (length t) ≡ padding (length t) (Done (lost (length t))) = ap (λ b. if b then (bytes (length t) >>= λ u. Done (kept u)) else padding (length t) (Done (lost (length t)))) fits in
     let said : Spells (padding (length t) (Done (lost (length t)))) t (lost (length t)) = rw append-nil at (spells_padding t [] (Done (lost (length t))) (lost (length t)) (spells_done (lost (length t)))) in
     spells_text kept lost t (lost (length t)) few (subst (λ (r : Reading A). Spells r t (lost (length t))) (sym passes) said)
+
+-- A format that is written is accepted, and is the one that was meant.
+pub set_pixel_format_is_read : (format : PixelFormat) → IsAccepted format → Spells client_message (set_pixel_format_bytes format) (SetPixelFormat format)
+set_pixel_format_is_read format ok =
+    let judged : List ℕ → Reading ClientMessage = λ field. unless (not (accepts field)) BadFormat (Done (SetPixelFormat (format_at field))) in
+    let passes : judged (format_bytes format) ≡ Done (SetPixelFormat format) =
+    ap (λ b. unless (not b) BadFormat (Done (SetPixelFormat (format_at (format_bytes format))))) (written_is_accepted format ok) ∙ ap (λ (f : PixelFormat). let m : ClientMessage = SetPixelFormat f in Done m) (format_back format ok) in
+    let said = spells_then (bytes 16) judged (format_bytes format) (format_bytes format) (SetPixelFormat format) (spells_bytes (format_bytes format)) passes in
+    record { whole = ap suc (ap suc (ap suc (ap suc said.whole))); says = said.says }

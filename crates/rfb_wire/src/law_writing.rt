@@ -2,16 +2,17 @@
 
 ghost use Rattle.std.specs.Prelude.{◌≡◌, ◌≤◌, ◌<◌, ◌+◌, ◌^◌, ℕ, Bool, List, [], ◌∷◌, length};
 ghost use Rattle.std.specs.List.{All};
-ghost use Rattle.pixel_format.specs.PixelFormat.{PixelFormat};
+ghost use Rattle.pixel_format.specs.PixelFormat.{PixelFormat, IsAccepted};
 ghost use Rattle.pixel_format.specs.Reading.{Done, after, Spells};
 ghost use Rattle.raster.specs.declared.rect.Rect.{Rect};
-ghost use Rattle.rfb_wire.specs.ClientMessage.{client_message, choice_of, SetEncodings, Ask, Key, Pointer, CutText, LostText};
+ghost use Rattle.rfb_wire.specs.ClientMessage.{client_message, choice_of, SetPixelFormat, SetEncodings, Ask, Key, Pointer, CutText, LostText};
 ghost use Rattle.rfb_wire.specs.ServerMessage as server;
 ghost use Rattle.rfb_wire.specs.Handshake.{Joined, server_init, host_init, host_hello, viewer_hello, said_to_viewer, said_to_host};
-ghost use Rattle.rfb_wire.specs.Writing.{set_encodings_bytes, request_bytes, key_bytes, pointer_bytes, client_text_bytes, bell_bytes, server_text_bytes};
+ghost use Rattle.rfb_wire.specs.Writing.{set_pixel_format_bytes, set_encodings_bytes, request_bytes, key_bytes, pointer_bytes, client_text_bytes, bell_bytes, server_text_bytes};
 
 /// Each message to the host is read as what it was written for. A text of more than 65,536 bytes is lost.
 pub fn client_messages_are_read()
+    ensures format { (format : PixelFormat) → IsAccepted format → Spells client_message (set_pixel_format_bytes format) (SetPixelFormat format) }
     ensures encodings { (encodings : List ℕ) → length encodings < 2 ^ 16 → All (λ e. e < 2 ^ 32) encodings → Spells client_message (set_encodings_bytes encodings) (SetEncodings (choice_of encodings)) }
     ensures request { (incremental : Bool) (area : Rect) → area.x + area.w < 2 ^ 16 → area.y + area.h < 2 ^ 16 → Spells client_message (request_bytes incremental area) (Ask incremental area) }
     ensures key { (down : Bool) (key : ℕ) → key < 2 ^ 32 → Spells client_message (key_bytes down key) (Key down key) }

@@ -3,10 +3,14 @@
 //! Each writer spells one message, or the head of one, at the front of `out`, leaves what lies behind it, and answers
 //! how many bytes it wrote. Padding is written as 0, a flag as 0 or 1.
 
-ghost use Rattle.std.specs.Prelude.{◌≡◌, ◌≤◌, ◌<◌, ◌+◌, ◌*◌, ◌^◌, length};
-ghost use Rattle.rfb_wire.specs.Writing.{Writes, update_head_bytes, rectangle_head_bytes, set_encodings_bytes, request_bytes, key_bytes, pointer_bytes, client_text_bytes, bell_bytes, server_text_bytes, text_bytes, rect_bytes};
+ghost use Rattle.std.specs.Prelude.{◌≡◌, ◌≤◌, ◌<◌, ◌+◌, ◌*◌, ◌^◌, ◌++◌, length};
+ghost use Rattle.std.specs.Int.{w32, to_be_bytes};
+ghost use Rattle.pixel_format.specs.PixelFormat.{host_format, format_bytes};
+ghost use Rattle.rfb_wire.specs.Handshake.{server_init, said_to_viewer};
+ghost use Rattle.rfb_wire.specs.Writing.{Writes, update_head_bytes, rectangle_head_bytes, set_encodings_bytes, request_bytes, key_bytes, pointer_bytes, client_text_bytes, bell_bytes, server_text_bytes, text_bytes, rect_bytes, set_pixel_format_bytes};
 
 use byteorder::{BigEndian, ByteOrder};
+use pixel_format::Format;
 use raster::Rect;
 
 fn put(bytes: &[u8], out: &mut [u8]) -> usize
@@ -51,6 +55,18 @@ pub fn write_rectangle_head(area: &Rect, encoding: u32, out: &mut [u8]) -> usize
     let [x1, x0, y1, y0, w1, w0, h1, h0] = rectangle_bytes(area);
     let [e3, e2, e1, e0] = encoding.to_be_bytes();
     put(&[x1, x0, y1, y0, w1, w0, h1, h0, e3, e2, e1, e0], out)
+}
+
+/// SetPixelFormat with this format: 20 bytes (RFC 6143, 7.5.1).
+pub fn write_set_pixel_format(format: &Format, out: &mut [u8]) -> usize
+    requires { 20 ≤ length out.old }
+    ensures { Writes (set_pixel_format_bytes format.now) out.old out.new result }
+{
+    let mut bytes = [0; 16];
+    format.write(&mut bytes);
+    let (front, back) = out.split_at_mut(4);
+    front.copy_from_slice(&[0, 0, 0, 0]);
+    4 + put(&bytes, back)
 }
 
 /// SetEncodings with these encodings, the one liked best first: 4 bytes and 4 for each (RFC 6143, 7.5.2).
@@ -99,15 +115,24 @@ pub fn write_pointer(mask: u8, x: u16, y: u16, out: &mut [u8]) -> usize
     put(&[5, mask, x1, x0, y1, y0], out)
 }
 
+// A text or a name behind the number of its bytes.
+fn put_counted(text: &[u8], out: &mut [u8]) -> usize
+    requires few { length text.now < 2 ^ 32 }
+    requires room { 4 + length text.now ≤ length out.old }
+    ensures { Writes (to_be_bytes w32 (length text.now) ++ text.now) out.old out.new result }
+{
+    put(&(text.len() as u32).to_be_bytes(), out);
+    4 + put(text, &mut out[4..])
+}
+
 // A text behind the type of its message.
 fn put_text(kind: u8, text: &[u8], out: &mut [u8]) -> usize
     requires few { length text.now < 2 ^ 32 }
     requires room { 8 + length text.now ≤ length out.old }
     ensures { Writes (text_bytes kind text.now) out.old out.new result }
 {
-    let [n3, n2, n1, n0] = (text.len() as u32).to_be_bytes();
-    let head = put(&[kind, 0, 0, 0, n3, n2, n1, n0], out);
-    head + put(text, &mut out[8..])
+    put(&[kind, 0, 0, 0], out);
+    4 + put_counted(text, &mut out[4..])
 }
 
 /// A ClientCutText: 8 bytes and the Latin-1 text, unchanged (RFC 6143, 7.5.6).
@@ -134,4 +159,49 @@ pub fn write_server_text(text: &[u8], out: &mut [u8]) -> usize
     ensures { Writes (server_text_bytes text.now) out.old out.new result }
 {
     put_text(3, text, out)
+}
+
+// The format that viewers are told, and the name behind it.
+fn put_format_and_name(name: &[u8], out: &mut [u8]) -> usize
+    requires few { length name.now < 2 ^ 32 }
+    requires room { 20 + length name.now ≤ length out.old }
+    ensures { Writes (format_bytes host_format ++ to_be_bytes w32 (length name.now) ++ name.now) out.old out.new result }
+{
+    let mut format = [0; 16];
+    Format::HOST.write(&mut format);
+    let (front, back) = out.split_at_mut(16);
+    front.copy_from_slice(&format);
+    16 + put_counted(name, back)
+}
+
+/// A ServerInit, with the size of the screen in pixels, the format of `Format::HOST`, and the name: 24 bytes and the
+/// name (RFC 6143, 7.3.2).
+pub fn write_server_init(w: u16, h: u16, name: &[u8], out: &mut [u8]) -> usize
+    requires few { length name.now < 2 ^ 32 }
+    requires room { 24 + length name.now ≤ length out.old }
+    ensures { Writes (server_init w h name.now) out.old out.new result }
+{
+    let [w1, w0] = w.to_be_bytes();
+    let [h1, h0] = h.to_be_bytes();
+    let (front, back) = out.split_at_mut(4);
+    front.copy_from_slice(&[w1, w0, h1, h0]);
+    4 + put_format_and_name(name, back)
+}
+
+/// The only version that is spoken.
+pub(crate) const VERSION: [u8; 12] = *b"RFB 003.008\n";
+
+// The version, the one security type, which is None, and the result of choosing it.
+const BEFORE_INIT: [u8; 18] = *b"RFB 003.008\n\x01\x01\0\0\0\0";
+
+/// All that a server says in a handshake, one answer behind the other: the version, the security types, the
+/// SecurityResult and ServerInit, 42 bytes and the name.
+pub(crate) fn write_handshake(w: u16, h: u16, name: &[u8], out: &mut [u8]) -> usize
+    requires few { length name.now < 2 ^ 32 }
+    requires room { 42 + length name.now ≤ length out.old }
+    ensures { Writes (said_to_viewer w h name.now 14) out.old out.new result }
+{
+    let (front, back) = out.split_at_mut(18);
+    front.copy_from_slice(&BEFORE_INIT);
+    18 + write_server_init(w, h, name, back)
 }

@@ -1,7 +1,10 @@
 use Rattle.std.proofs.Common.{ap, suc}
 use Rattle.rfb_wire.specs.ClientMessage.{CutText, LostText}
-use Rattle.rfb_wire.proofs.Messages.{set_encodings_is_read, text_is_kept, text_is_lost}
+use Rattle.rfb_wire.proofs.Messages.{set_pixel_format_is_read, set_encodings_is_read, text_is_kept, text_is_lost}
 use Rattle.rfb_wire.proofs.law_writing.client_messages_are_read.Goals as goal
+
+pub returns-clause-format : goal.returns-clause-format
+returns-clause-format c = set_pixel_format_is_read
 
 pub returns-clause-encodings : goal.returns-clause-encodings
 returns-clause-encodings c = set_encodings_is_read

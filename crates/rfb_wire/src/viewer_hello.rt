@@ -1,0 +1,151 @@
+//! A viewer's handshake, of which the reflector is the server (RFC 6143, 7.1 to 7.3).
+
+use crate::write::{VERSION, write_handshake};
+use pixel_format::Fault;
+use std::marker::Model;
+
+/// A viewer's handshake in mid-course: what has come of it, and what is to be said to it. It takes no memory.
+///
+/// The viewer is told of a screen and a name. Its version has to be 3.8 and its choice None; its shared-flag is not
+/// acted on. After a fault no byte is taken, each feed answers the same fault, and there is nothing to say.
+#[derive(Drop)]
+pub struct ViewerHello {
+    w: u16,
+    h: u16,
+    // What is said in a whole handshake, one answer behind the other: `length` bytes.
+    said: [u8; 297],
+    length: usize,
+    // What has come.
+    begun: [u8; 14],
+    taken: usize,
+    sent: usize,
+}
+
+impl Model for ViewerHello {
+    ghost use Rattle.std.specs.Prelude.{◌≤◌, take, drop};
+    ghost use Rattle.rfb_wire.specs.Greeting.{Greeting, IsPrepared, due};
+
+    ghost Value = { Greeting };
+
+    ghost view = { λ r. record {
+      w = r.w;
+      h = r.h;
+      name = drop 42 (take r.length r.said);
+      begun = take r.taken r.begun;
+      sent = r.sent;
+    } };
+
+    ghost invariant = { λ r. IsPrepared r.w r.h (take r.length r.said) × (r.length ≤ 297) × (r.taken ≤ 14) × (r.sent ≤ due r.length r.taken) };
+}
+
+impl ViewerHello {
+    ghost use Rattle.std.specs.Prelude.{◌≡◌, ◌≤◌, ◌+◌, [], ◌++◌, length, take, ◌∷◌, true, is_some, MatchResult};
+    ghost use Rattle.pixel_format.specs.Reading.{Feeds, step, taken, wants_more, fault_of, whole_of};
+    ghost use Rattle.rfb_wire.specs.Greeting.{ahead, to_send};
+
+    /// A handshake that is to tell of a screen of this size in pixels, 1 to 4096 each way, under this name of 1 to 255
+    /// bytes.
+    pub fn new(w: u64, h: u64, name: &[u8]) -> ViewerHello
+        requires across { 1 ≤ w }
+        requires most_across { w ≤ 4096 }
+        requires down { 1 ≤ h }
+        requires most_down { h ≤ 4096 }
+        requires named { 1 ≤ length name.now }
+        requires short { length name.now ≤ 255 }
+        ensures { result ≡ record { w = w; h = h; name = name.now; begun = []; sent = 0 } }
+    {
+        let mut said = [0; 297];
+        let length = write_handshake(w as u16, h as u16, name, &mut said);
+        ViewerHello {
+            w: w as u16,
+            h: h as u16,
+            said,
+            length,
+            begun: [0; 14],
+            taken: 0,
+            sent: 0,
+        }
+    }
+
+    fn fault(&self) -> Option<Fault>
+        ensures { result ≡ fault_of (ahead self.now) }
+    {
+        if self.taken >= 12 && !self.begun.starts_with(&VERSION) {
+            Some(Fault::BadVersion)
+        } else if self.taken >= 13 && self.begun[12] != 1 {
+            Some(Fault::BadChoice)
+        } else {
+            None
+        }
+    }
+
+    fn wants_more(&self) -> bool
+        ensures { result ≡ wants_more (ahead self.now) }
+    {
+        self.taken < 14 && self.fault().is_none()
+    }
+
+    fn so_far(&self, used: usize) -> Result<usize, Fault>
+        ensures { MatchResult result (λ n. (n ≡ used) × (fault_of (ahead self.now) ≡ None)) (λ fault. fault_of (ahead self.now) ≡ Some fault) }
+    {
+        match self.fault() {
+            Some(fault) => Err(fault),
+            None => Ok(used),
+        }
+    }
+
+    fn step(&mut self, byte: u8)
+        requires { wants_more (ahead self.old) ≡ true }
+        ensures { self.new ≡ record self.old { begun = self.old.begun ++ byte ∷ [] } }
+    {
+        self.begun[self.taken] = byte;
+        self.taken += 1;
+    }
+
+    /// Takes the viewer's bytes up to the end of its handshake, and answers how many they are.
+    ///
+    /// `BadVersion` and `BadChoice` are answered as soon as the byte that shows them has come.
+    pub fn feed(&mut self, piece: &[u8]) -> Result<usize, Fault>
+        ensures reads { Feeds (ahead self.old) (ahead self.new) piece.now result }
+        ensures after { self.new ≡ record self.old { begun = self.old.begun ++ take (taken (ahead self.old) piece.now) piece.now } }
+    {
+        for (used, byte) in piece.iter().enumerate() {
+            if !self.wants_more() {
+                return self.so_far(used);
+            }
+            self.step(*byte);
+        }
+        self.so_far(piece.len())
+    }
+
+    /// What is to be sent to the viewer next. There is nothing after a fault.
+    pub fn out(&self) -> &[u8]
+        ensures { result.now ≡ to_send self.now }
+    {
+        if self.fault().is_some() {
+            return &[];
+        }
+        let due = match self.taken {
+            0..=11 => 12,
+            12 => 14,
+            13 => 18,
+            _ => self.length,
+        };
+        &self.said[self.sent..due]
+    }
+
+    /// So many bytes of `out` have been sent.
+    pub fn sent(&mut self, count: usize)
+        requires { count ≤ length (to_send self.old) }
+        ensures { self.new ≡ record self.old { sent = self.old.sent + count } }
+    {
+        self.sent += count;
+    }
+
+    /// Whether the viewer's side of the handshake is whole. What there is to send may still be unsent.
+    pub fn done(&self) -> bool
+        ensures { result ≡ is_some (whole_of (ahead self.now)) }
+    {
+        self.taken == 14 && self.fault().is_none()
+    }
+}

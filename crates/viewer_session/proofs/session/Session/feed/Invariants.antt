@@ -1,0 +1,9 @@
+use Rattle.std.proofs.Common.{length}
+use Rattle.viewer_session.proofs.FeedLaws.{IsFeeding}
+use Rattle.viewer_session.proofs.session.Session.feed.Given as goal
+
+abbrev pub invariant-messages : goal.invariant-messages
+invariant-messages l = IsFeeding l.fn.self l.self l.piece l.left
+
+abbrev pub decreases-messages : goal.decreases-messages
+decreases-messages l = length l.left
