@@ -1,12 +1,14 @@
 //! Rasters: screens that are held in memory.
 
-ghost use Rattle.std.specs.Prelude.{◌≡◌, ℕ, ◌+◌, ◌*◌, ◌<◌, ◌≤◌, ◌^◌, length, slice_index, IfOk, IfErr};
+ghost use Rattle.std.specs.Prelude.{◌≡◌, ℕ, ◌+◌, ◌*◌, ◌<◌, ◌≤◌, ◌^◌, length, slice_index, map, All, IfOk, IfErr};
 ghost use Rattle.pixel_format.specs.declared.fault.Fault.TheVariants.{Memory};
 ghost use Rattle.raster.specs.Screen.{LooksLike, IsWithin, opening, fill, lay, copy, value_at};
+ghost use Rattle.raster.specs.Update.{after_paints};
+ghost use Rattle.raster.specs.Painted.{Fits, paint_of};
 ghost use Rattle.raster.specs.Picture.{Picture, shown, IsPicture, IsRedrawn};
 
 use crate::canvas::Canvas;
-use crate::painting;
+use crate::painting::{self, Paint};
 use crate::rect::Rect;
 use pixel_format::Fault;
 use std::alloc::Global;
@@ -133,6 +135,19 @@ impl Raster {
             self.height as usize,
             area,
             colours,
+        );
+    }
+
+    /// Paints all of these, in order.
+    pub fn paint_all(&mut self, paints: &[Paint])
+        requires { All (λ p. Fits self.old.width self.old.height (paint_of p)) paints.now }
+        ensures { IsRedrawn self.old (after_paints (shown self.old) (map paint_of paints.now)) self.new }
+    {
+        painting::apply_paints(
+            self.colours.as_mut_slice(),
+            self.width as usize,
+            self.height as usize,
+            paints,
         );
     }
 }
