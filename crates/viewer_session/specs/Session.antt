@@ -80,6 +80,12 @@ pub record Stands (s : Setup) (st : State) (p : Viewer) : Type 0 where
 
 -- ---- what the calls do
 
+-- The size of the screen and the role stay.
+pub record IsSameSession (before now : State) : Type 0 where
+  pub width : now.width ≡ before.width
+  pub height : now.height ≡ before.height
+  pub role : now.role ≡ before.role
+
 -- The answer of a feed: all of the piece was used, or there is a fault, in this piece or before.
 abbrev pub FedAnswer : State → List ℕ → Result ℕ Fault → Type 0
 FedAnswer st piece (Ok used) = (used ≡ length piece) × (fault_in st ≡ None)

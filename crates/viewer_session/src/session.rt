@@ -11,7 +11,7 @@ ghost use Rattle.reflect_core.specs.Sequential.{Begins};
 ghost use Rattle.reflect_core.specs.Source.{IsCutRefusal};
 ghost use Rattle.viewer_session.specs.FirstPath.{first_path};
 ghost use Rattle.viewer_session.specs.Record.{Took};
-ghost use Rattle.viewer_session.specs.Session.{State, Stands, IsOneTile, FedAnswer, ReadsOne, fault_in, is_ready, without_look, after_writing, after_taking, wants_cut, CutsAt, Turns};
+ghost use Rattle.viewer_session.specs.Session.{State, Stands, IsOneTile, IsSameSession, FedAnswer, ReadsOne, fault_in, is_ready, without_look, after_writing, after_taking, wants_cut, CutsAt, Turns};
 ghost use Rattle.viewer_session.specs.Turn.{has_reason};
 ghost use Rattle.viewer_session.specs.Viewer.{Setup, Viewer, new_viewer, after_bytes, after_cut, may_look, served};
 
@@ -125,6 +125,7 @@ impl Session {
 
     // A request for a rectangle is taken, clipped to the screen. An empty one is forgotten.
     fn ask(&mut self, incremental: bool, rect: &Rect)
+        ensures same { IsSameSession self.old self.new }
         ensures reader { self.new.reader ≡ self.old.reader }
         ensures stands { (s : Setup) (p : Viewer) → Stands s self.old p → Stands s self.new (after_taking s (Ask incremental rect.now) p) }
     {
@@ -137,6 +138,7 @@ impl Session {
 
     // A pixel format is taken: the viewer has nothing of the screen any longer.
     fn set_format(&mut self, format: Format)
+        ensures same { IsSameSession self.old self.new }
         ensures reader { self.new.reader ≡ self.old.reader }
         ensures stands { (s : Setup) (p : Viewer) → Stands s self.old p → Stands s self.new (after_taking s (SetPixelFormat format) p) }
     {
@@ -147,6 +149,7 @@ impl Session {
 
     // A message is taken. Every answer is Raw whatever encodings are listed, and no input is relayed.
     fn take_message(&mut self, message: ClientMessage)
+        ensures same { IsSameSession self.old self.new }
         ensures reader { self.new.reader ≡ self.old.reader }
         ensures stands { (s : Setup) (p : Viewer) → Stands s self.old p → Stands s self.new (after_taking s (message_of message) p) }
     {
@@ -178,6 +181,7 @@ impl Session {
     ///
     /// `UnknownMessage` at a type that isn't known, `BadFormat` at a pixel format that isn't accepted.
     pub fn feed(&mut self, piece: &[u8]) -> Result<usize, Fault>
+        ensures same { IsSameSession self.old self.new }
         ensures stands { (s : Setup) (p : Viewer) → Stands s self.old p → Stands s self.new (after_bytes s (without_look p) piece.now) }
         ensures answer { FedAnswer self.new piece.now result }
     {
@@ -211,6 +215,7 @@ impl Session {
     pub fn turn_at<S: ScreenSource>(&mut self, source: &mut S, looked: u64) -> Result<bool, Fault>
         requires ready { is_ready self.old ≡ true }
         requires screen { (S.width source.old ≡ self.old.width) × (S.height source.old ≡ self.old.height) }
+        ensures same { IsSameSession self.old self.new }
         ensures moves { S.moves source.old source.new }
         ensures size { (S.width source.new ≡ S.width source.old) × (S.height source.new ≡ S.height source.old) }
         ensures grows { Begins (S.known source.old) (S.known source.new) }
@@ -239,6 +244,7 @@ impl Session {
     /// One turn. It does nothing and answers false while bytes are unsent, and after a fault. Otherwise it looks once and goes on as `turn_at`.
     pub fn turn<S: ScreenSource>(&mut self, source: &mut S) -> Result<bool, Fault>
         requires { (S.width source.old ≡ self.old.width) × (S.height source.old ≡ self.old.height) }
+        ensures same { IsSameSession self.old self.new }
         ensures moves { S.moves source.old source.new }
         ensures size { (S.width source.new ≡ S.width source.old) × (S.height source.new ≡ S.height source.old) }
         ensures grows { Begins (S.known source.old) (S.known source.new) }
