@@ -11,7 +11,7 @@ use Rattle.rfb_wire.specs.Message.{viewer_form, IsOrLoses, FeedsOrLoses}
 use Rattle.rfb_wire.proofs.Losing.{goes_on_fed, goes_on_faults, goes_on_taken}
 use Rattle.viewer_session.specs.Record.{Took}
 use Rattle.viewer_session.specs.Viewer.{Setup, Viewer, served, after_bytes, with_message}
-use Rattle.viewer_session.specs.Session.{State, Stands, ReadsOne, FedAnswer, at_rest, after_taking, without_look, fault_in}
+use Rattle.viewer_session.specs.Session.{State, Stands, IsSameSession, ReadsOne, FedAnswer, at_rest, after_taking, without_look, fault_in}
 use Rattle.viewer_session.proofs.Feeding.{takes_whole, takes_message, goes_on, stays}
 use Rattle.viewer_session.proofs.SessionLaws.{stands_look, stands_without_text}
 
@@ -31,11 +31,6 @@ feeding_begins old piece = λ s p k. record { viewer = without_look p; stands = 
 
 some_is : (x y : ClientMessage) → Some x ≡ Some y → x ≡ y
 some_is x y e = cc
-
-whole_renewed : (r : Reading ClientMessage) → whole_of (renewed viewer_form r) ≡ None
-whole_renewed (Done m) = refl
-whole_renewed (Faulty f) = refl
-whole_renewed (Want more) = refl
 
 same_renewed : (r : Reading ClientMessage) → whole_of r ≡ None → renewed viewer_form r ≡ r
 same_renewed (Done m) e = absurd cc
@@ -169,3 +164,14 @@ feeding_faults old now new piece left fault h e fed s p k =
 pub fault_met : (old new : ClientReader) (piece : List ℕ) (fault : Fault) → FeedsOrLoses (ahead old) (ahead new) piece (Err fault) → fault_of (ahead new) ≡ Some fault
 fault_met old new piece fault (inl h) = ap fault_of h.1
 fault_met old new piece fault (inr h) = ap fault_of h.1
+
+-- The screen's size and the role stay.
+pub same_session : (st : State) → IsSameSession st st
+same_session st = record { width = refl; height = refl; role = refl }
+
+pub same_read : (old now mid : State) → IsSameSession old now → mid ≡ record now { reader = mid.reader } → IsSameSession old mid
+same_read old now mid k e =
+    record { width = ap (λ (t : State). t.width) e ∙ k.width; height = ap (λ (t : State). t.height) e ∙ k.height; role = ap (λ (t : State). t.role) e ∙ k.role }
+
+pub same_on : (old now new : State) → IsSameSession old now → IsSameSession now new → IsSameSession old new
+same_on old now new k l = record { width = l.width ∙ k.width; height = l.height ∙ k.height; role = l.role ∙ k.role }

@@ -2,7 +2,7 @@
 use Rattle.std.proofs.Common.{◌≡◌, ℕ, ◌<◌, ◌≤◌, Ok, Bool, true, false, List, [], ◌∷◌, length, drop, Option, Some, None, refl, sym, ap, ◌∙◌, arith, inl, inr, ◌⊎◌}
 use Rattle.std.specs.Prelude.{option_map}
 use Rattle.pixel_format.specs.declared.fault.Fault.{Fault}
-use Rattle.pixel_format.specs.Reading.{Reading, Done, Faulty, Want, step, after, taken, fault_of, whole_of, wants_more, Feeds}
+use Rattle.pixel_format.specs.Reading.{Reading, Done, Faulty, Want, step, after, taken, fault_of, whole_of, wants_more, renewed, Feeds, GivesWhole}
 use Rattle.pixel_format.proofs.ReadingLaws.{after-done, after-faulty, taken-le, taken-some}
 use Rattle.rfb_wire.specs.ClientMessage.{ClientMessage, SetPixelFormat, SetEncodings, Ask, Key, Pointer, CutText, LostText, without_text}
 use Rattle.rfb_wire.specs.Message.{viewer_form, losing, FeedsOrLoses}
@@ -89,3 +89,24 @@ fed_some (Want more) new piece used w h =
 pub uses_some : (r new : Reading ClientMessage) (piece : List ℕ) (used : ℕ) → whole_of r ≡ None → FeedsOrLoses r new piece (Ok used) → (used ≤ length piece) × (0 < length piece → 0 < used)
 uses_some r new piece used w (inl h) = fed_some r new piece used w h
 uses_some r new piece used w (inr h) = fed_some (losing r) new piece used (losing-whole r ∙ ap (option_map without_text) w) h
+
+-- After a message was taken, or there was none, none waits, and there is no fault where there was none.
+whole_renewed : (r : Reading ClientMessage) → whole_of (renewed viewer_form r) ≡ None
+whole_renewed (Done m) = refl
+whole_renewed (Faulty f) = refl
+whole_renewed (Want more) = refl
+
+pub none_waits : (r new : Reading ClientMessage) (given : Option ClientMessage) → GivesWhole viewer_form r new given → whole_of new ≡ None
+none_waits r new given g = ap whole_of g.begins_anew ∙ whole_renewed r
+
+fault_renewed : (r : Reading ClientMessage) → fault_of r ≡ None → fault_of (renewed viewer_form r) ≡ None
+fault_renewed (Done m) e = refl
+fault_renewed (Faulty f) e = e
+fault_renewed (Want more) e = refl
+
+fault_free : (old r : Reading ClientMessage) (piece : List ℕ) (used : ℕ) → FeedsOrLoses old r piece (Ok used) → fault_of r ≡ None
+fault_free old r piece used (inl h) = h.2
+fault_free old r piece used (inr h) = h.2
+
+pub no_fault : (old r new : Reading ClientMessage) (piece : List ℕ) (used : ℕ) (given : Option ClientMessage) → FeedsOrLoses old r piece (Ok used) → GivesWhole viewer_form r new given → fault_of new ≡ None
+no_fault old r new piece used given h g = ap fault_of g.begins_anew ∙ fault_renewed r (fault_free old r piece used h)

@@ -6,3 +6,4 @@ pub mod FeedLaws
 pub mod Stands
 pub mod Accepted
 pub mod Streams
+pub mod TurnLaws

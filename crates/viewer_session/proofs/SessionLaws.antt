@@ -1,7 +1,8 @@
 -- What a session's state stands for, call by call.
 use Rattle.std.proofs.Common.{◌≡◌, ℕ, ◌+◌, ◌-◌, ◌*◌, ◌<◌, ◌≤◌, Bool, true, false, cond, List, [], ◌∷◌, ◌++◌, length, drop, Option, Some, None, Ok, Err, refl, sym, ap, subst, ◌∙◌, arith, inl, inr, ◌⊎◌}
 use Rattle.std.proofs.lemmas.Bool.Decides.{nat_tests}
-use Rattle.std.specs.Prelude.{◌&&◌, not, is_some, is_none, option_map}
+use Rattle.std.specs.Prelude.{◌&&◌, ◌||◌, nat_lt, unwrap_or, is_some}
+use Rattle.std.proofs.lemmas.List.{length-drop}
 use Rattle.pixel_format.specs.PixelFormat.{PixelFormat}
 use Rattle.pixel_format.specs.Reading.{Reading, Done, Faulty, Want, after, taken, whole_of, fault_of, wants_more, renewed, GivesWhole}
 use Rattle.raster.specs.declared.rect.Rect.{Rect}
@@ -10,15 +11,17 @@ use Rattle.raster.specs.Screen.{common, whole_screen, meets, is_empty, tile_rect
 use Rattle.rfb_wire.specs.ClientMessage.{ClientMessage, SetPixelFormat, SetEncodings, Ask, Key, Pointer, CutText, LostText, Choice, without_text}
 use Rattle.rfb_wire.specs.declared.client_reader.ClientReader.{ClientReader}
 use Rattle.rfb_wire.specs.ClientReader.{ahead}
-use Rattle.rfb_wire.specs.Message.{viewer_form, IsOrLoses}
+use Rattle.rfb_wire.specs.Message.{IsOrLoses}
+use Rattle.rfb_wire.proofs.Losing.{losing-fault}
 use Rattle.tiles.specs.Have.{SentTiles, HaveStands}
 use Rattle.tiles.specs.Touched.{Event, Requested, NewFormat, last_sent}
-use Rattle.reflect_core.specs.Asked.{Wanted, AskedStands}
+use Rattle.reflect_core.specs.Asked.{Wanted, AskedStands, pending, has_asked}
 use Rattle.viewer_session.specs.Extent.{Extent}
 use Rattle.viewer_session.specs.FirstPath.{first_path}
 use Rattle.viewer_session.specs.Record.{Entry, Took, events, format_of, choice_of}
-use Rattle.viewer_session.specs.Viewer.{Setup, Viewer, served}
-use Rattle.viewer_session.specs.Session.{State, Stands, Keeps, at_rest, after_taking}
+use Rattle.viewer_session.specs.Viewer.{Setup, Viewer, served, viewer_fault, out_bytes}
+use Rattle.viewer_session.specs.Turn.{has_reason}
+use Rattle.viewer_session.specs.Session.{State, Stands, Keeps, at_rest, after_taking, after_look, fault_in, wants_cut}
 
 -- ---- messages
 
@@ -145,3 +148,46 @@ stands_look s st p o k =
       written = k.written;
       unsent = k.unsent;
     }
+
+-- A look is only noted.
+pub stands_saw : (s : Setup) (st : State) (p : Viewer) (n : ℕ) → Stands s st p → Stands s st (after_look n p)
+stands_saw s st p n k =
+    record {
+      width = k.width;
+      height = k.height;
+      extent = k.extent;
+      role = k.role;
+      rests = ap (after_look n) k.rests;
+      reading = k.reading;
+      taken = k.taken;
+      keeps = record { asked = k.keeps.asked; have = k.keeps.have; format = k.keeps.format; choice = k.keeps.choice };
+      written = k.written;
+      unsent = k.unsent;
+    }
+
+-- ---- what the state tells of the viewer
+
+fault_told : (now reading : Reading ClientMessage) → IsOrLoses now reading → fault_of now ≡ fault_of reading
+fault_told now reading (inl e) = ap fault_of e
+fault_told now reading (inr e) = ap fault_of e ∙ losing-fault reading
+
+pub fault_stands : (s : Setup) (st : State) (p : Viewer) → Stands s st p → fault_in st ≡ viewer_fault p
+fault_stands s st p k = fault_told (ahead st.reader) p.reading k.reading ∙ sym (ap viewer_fault k.rests)
+
+-- All that the viewer is sent, and what of it isn't written yet.
+pub says_after : (s : Setup) (st : State) (p : Viewer) → Stands s st p → out_bytes s p ≡ p.said_after
+says_after s st p k = ap (out_bytes s) k.rests
+
+pub unsent_left : (s : Setup) (st : State) (p : Viewer) → Stands s st p → (p.written ≤ length (out_bytes s p)) × (length st.unsent ≡ length (out_bytes s p) - p.written)
+unsent_left s st p k =
+    let all : length (out_bytes s p) ≡ length p.said_after = ap length (says_after s st p k) in
+    (omega (arith, k.written, all), ap length k.unsent ∙ (length-drop p.written p.said_after ∙ ap (λ n. n - p.written) (sym all)))
+
+-- Reason to cut is reason by the record.
+pub reason_stands : (s : Setup) (st : State) (p : Viewer) (looked : ℕ) → Stands s st p → wants_cut st.asked looked ≡ has_reason s.w s.h p.entries looked
+reason_stands s st p looked k =
+    let es : List Event = events s.w s.h p.entries in
+    let reason : Option Rect → Bool → Option ℕ → Bool = λ area asked last. nat_lt (unwrap_or last 0) looked || (is_some area && asked) in
+    ap (λ a. reason a st.asked.asked st.asked.last) k.keeps.asked.area
+    ∙ (ap (λ b. reason (pending es) b st.asked.last) k.keeps.asked.asked
+    ∙ ap (reason (pending es) (has_asked es)) k.keeps.asked.last)

@@ -1,5 +1,5 @@
 -- What a session keeps, and which viewers it stands for.
-use Rattle.std.specs.Prelude.{◌≡◌, ℕ, ◌+◌, ◌*◌, ◌≤◌, Bool, false, ◌&&◌, ◌||◌, ◌==◌, nat_lt, is_some, is_none, unwrap_or, List, [], ◌∷◌, length, drop, Option, Some, None, Result, Ok, Err}
+use Rattle.std.specs.Prelude.{◌≡◌, ℕ, ◌+◌, ◌*◌, ◌≤◌, Bool, true, false, max, ◌&&◌, ◌||◌, ◌==◌, nat_lt, is_some, is_none, unwrap_or, List, [], ◌∷◌, length, drop, take, All, Option, Some, None, Result, Ok, Err}
 use Rattle.pixel_format.specs.declared.fault.Fault.{Fault}
 use Rattle.pixel_format.specs.PixelFormat.{PixelFormat}
 use Rattle.pixel_format.specs.Reading.{Reading, Done, whole_of, fault_of, GivesWhole}
@@ -17,7 +17,7 @@ use Rattle.reflect_core.specs.declared.cut.Cut.{Cut}
 use Rattle.viewer_session.specs.FirstPath.{first_path}
 use Rattle.viewer_session.specs.RawUpdate.{Waiting}
 use Rattle.viewer_session.specs.Record.{Entry, Took, Saw, events, format_of, choice_of}
-use Rattle.viewer_session.specs.Viewer.{Setup, Viewer, served}
+use Rattle.viewer_session.specs.Viewer.{Setup, Viewer, served, after_cut}
 
 -- The size of the screen, the viewer's role, what has come of its next message, the pixel format that holds, what it has asked for, what it has of each
 -- tile, and the bytes for it that aren't sent yet.
@@ -80,6 +80,12 @@ pub record Stands (s : Setup) (st : State) (p : Viewer) : Type 0 where
 
 -- ---- what the calls do
 
+-- The size of the screen and the role stay.
+pub record IsSameSession (before now : State) : Type 0 where
+  pub width : now.width ≡ before.width
+  pub height : now.height ≡ before.height
+  pub role : now.role ≡ before.role
+
 -- The answer of a feed: all of the piece was used, or there is a fault, in this piece or before.
 abbrev pub FedAnswer : State → List ℕ → Result ℕ Fault → Type 0
 FedAnswer st piece (Ok used) = (used ≡ length piece) × (fault_in st ≡ None)
@@ -115,3 +121,18 @@ abbrev pub OnlyPaints : Update → Type 0
 OnlyPaints (updates.Paints paints) = Unit {0}
 OnlyPaints updates.Bell = ⊥
 OnlyPaints (updates.Cut text) = ⊥
+
+-- It was cut: at a number that is at least this, of the updates that the source knows. Where these only paint, the new state stands for the viewers that
+-- the cut makes of those of the old.
+pub record CutsAt (old new : State) (us : List Update) (least : ℕ) : Type 0 where
+  pub number : ℕ
+  pub known : number ≤ length us
+  pub fresh : least ≤ number
+  pub stands : All OnlyPaints us → (s : Setup) (p : Viewer) → Stands s old p → Stands s new (after_cut s (take number us) p)
+
+-- It was looked at, with a reply that is known, and then cut where there is reason, at a number that is at least the reply.
+pub record Turns (old new : State) (us : List Update) (least : ℕ) : Type 0 where
+  pub looked : ℕ
+  pub seen : looked ≤ length us
+  pub idle : wants_cut old.asked looked ≡ false → new ≡ old
+  pub cuts : wants_cut old.asked looked ≡ true → CutsAt old new us (max least looked)

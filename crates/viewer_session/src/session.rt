@@ -11,7 +11,7 @@ ghost use Rattle.reflect_core.specs.Sequential.{Begins};
 ghost use Rattle.reflect_core.specs.Source.{IsCutRefusal};
 ghost use Rattle.viewer_session.specs.FirstPath.{first_path};
 ghost use Rattle.viewer_session.specs.Record.{Took};
-ghost use Rattle.viewer_session.specs.Session.{State, Stands, IsOneTile, FedAnswer, ReadsOne, fault_in, is_ready, without_look, after_writing, after_taking, OnlyPaints};
+ghost use Rattle.viewer_session.specs.Session.{State, Stands, IsOneTile, IsSameSession, FedAnswer, ReadsOne, fault_in, is_ready, without_look, after_writing, after_taking, wants_cut, CutsAt, Turns};
 ghost use Rattle.viewer_session.specs.Turn.{has_reason};
 ghost use Rattle.viewer_session.specs.Viewer.{Setup, Viewer, new_viewer, after_bytes, after_cut, may_look, served};
 
@@ -24,6 +24,14 @@ use roles::Role;
 use std::alloc::Global;
 use std::marker::Model;
 use tiles::Have;
+
+// A rectangle with no position.
+const NOWHERE: Rect = Rect {
+    x: 0,
+    y: 0,
+    w: 0,
+    h: 0,
+};
 
 /// A viewer's messages are read, and answered from a source of screens (RFC 6143, 7.5 and 7.6), over a screen of at most 16 by 16 pixels: one tile.
 /// All answers are Raw, and input is read and dropped.
@@ -117,6 +125,7 @@ impl Session {
 
     // A request for a rectangle is taken, clipped to the screen. An empty one is forgotten.
     fn ask(&mut self, incremental: bool, rect: &Rect)
+        ensures same { IsSameSession self.old self.new }
         ensures reader { self.new.reader ≡ self.old.reader }
         ensures stands { (s : Setup) (p : Viewer) → Stands s self.old p → Stands s self.new (after_taking s (Ask incremental rect.now) p) }
     {
@@ -129,6 +138,7 @@ impl Session {
 
     // A pixel format is taken: the viewer has nothing of the screen any longer.
     fn set_format(&mut self, format: Format)
+        ensures same { IsSameSession self.old self.new }
         ensures reader { self.new.reader ≡ self.old.reader }
         ensures stands { (s : Setup) (p : Viewer) → Stands s self.old p → Stands s self.new (after_taking s (SetPixelFormat format) p) }
     {
@@ -139,6 +149,7 @@ impl Session {
 
     // A message is taken. Every answer is Raw whatever encodings are listed, and no input is relayed.
     fn take_message(&mut self, message: ClientMessage)
+        ensures same { IsSameSession self.old self.new }
         ensures reader { self.new.reader ≡ self.old.reader }
         ensures stands { (s : Setup) (p : Viewer) → Stands s self.old p → Stands s self.new (after_taking s (message_of message) p) }
     {
@@ -170,6 +181,7 @@ impl Session {
     ///
     /// `UnknownMessage` at a type that isn't known, `BadFormat` at a pixel format that isn't accepted.
     pub fn feed(&mut self, piece: &[u8]) -> Result<usize, Fault>
+        ensures same { IsSameSession self.old self.new }
         ensures stands { (s : Setup) (p : Viewer) → Stands s self.old p → Stands s self.new (after_bytes s (without_look p) piece.now) }
         ensures answer { FedAnswer self.new piece.now result }
     {
@@ -186,5 +198,65 @@ impl Session {
             }
             left = rest;
         }
+    }
+
+    // Whether there is reason to cut after a look that replied this number.
+    fn has_reason(&self, looked: u64) -> bool
+        ensures { result ≡ wants_cut self.now.asked looked }
+    {
+        self.asked.last_cut().unwrap_or(0) < looked
+            || (self.asked.area().is_some() && self.asked.asked())
+    }
+
+    /// The second half of a turn, after a look that replied `looked`: where there is reason the source is cut, and an update of the pending area is begun if a
+    /// tile of it is due. It answers whether one was begun.
+    ///
+    /// It fails where the cut is refused (`Memory`, `Gone`); then the session is as it was.
+    pub fn turn_at<S: ScreenSource>(&mut self, source: &mut S, looked: u64) -> Result<bool, Fault>
+        requires ready { is_ready self.old ≡ true }
+        requires screen { (S.width source.old ≡ self.old.width) × (S.height source.old ≡ self.old.height) }
+        ensures same { IsSameSession self.old self.new }
+        ensures moves { S.moves source.old source.new }
+        ensures size { (S.width source.new ≡ S.width source.old) × (S.height source.new ≡ S.height source.old) }
+        ensures grows { Begins (S.known source.old) (S.known source.new) }
+        ensures idle { wants_cut self.old.asked looked ≡ false → (result ≡ Ok false) × (self.new ≡ self.old) × (source.new ≡ source.old) }
+        ensures cuts { wants_cut self.old.asked looked ≡ true → IfOk result (λ _. CutsAt self.old self.new (S.known source.new) (S.answered source.old)) }
+        ensures begun { IfOk result (λ begun. begun ≡ not (length self.new.unsent == 0)) }
+        ensures err { IfErr result (λ fault. IsCutRefusal fault × (self.new ≡ self.old) × (S.known source.new ≡ S.known source.old) × (S.answered source.new ≡ S.answered source.old)) }
+    {
+        if !self.has_reason(looked) {
+            return Ok(false);
+        }
+        let area = self.asked.area();
+        let number = source.cut(&area.unwrap_or(NOWHERE), &self.have, &mut self.cut)?;
+        self.asked.was_cut(number);
+        match area {
+            Some(area) if self.cut.due[0] => {
+                self.out.put_update(&self.cut, &area, &self.format);
+                self.asked.answered();
+                self.have.keep(&area, number);
+                Ok(true)
+            }
+            _ => Ok(false),
+        }
+    }
+
+    /// One turn. It does nothing and answers false while bytes are unsent, and after a fault. Otherwise it looks once and goes on as `turn_at`.
+    pub fn turn<S: ScreenSource>(&mut self, source: &mut S) -> Result<bool, Fault>
+        requires { (S.width source.old ≡ self.old.width) × (S.height source.old ≡ self.old.height) }
+        ensures same { IsSameSession self.old self.new }
+        ensures moves { S.moves source.old source.new }
+        ensures size { (S.width source.new ≡ S.width source.old) × (S.height source.new ≡ S.height source.old) }
+        ensures grows { Begins (S.known source.old) (S.known source.new) }
+        ensures waits { is_ready self.old ≡ false → (result ≡ Ok false) × (self.new ≡ self.old) × (source.new ≡ source.old) }
+        ensures turns { is_ready self.old ≡ true → IfOk result (λ _. Turns self.old self.new (S.known source.new) (S.answered source.old)) }
+        ensures begun { is_ready self.old ≡ true → IfOk result (λ begun. begun ≡ not (length self.new.unsent == 0)) }
+        ensures err { IfErr result (λ fault. IsCutRefusal fault × (self.new ≡ self.old)) }
+    {
+        if !self.is_ready() {
+            return Ok(false);
+        }
+        let looked = source.look();
+        self.turn_at(source, looked)
     }
 }
