@@ -1,5 +1,5 @@
 -- What the reader of whole updates understands: FramebufferUpdates of Raw rectangles (RFC 6143, 7.6.1, 7.7.1).
-use Rattle.std.specs.Prelude.{◌≡◌, ℕ, ◌*◌, true, not, ◌==◌, if◌then◌else◌, List, map, All, Option, Some, None, Result, Ok, Err, ◌⊎◌}
+use Rattle.std.specs.Prelude.{◌≡◌, ℕ, true, not, ◌==◌, if◌then◌else◌, List, map, All, Option, Some, None, Result, Ok, Err, ◌⊎◌}
 use Rattle.pixel_format.specs.PixelFormat.{host_format}
 use Rattle.pixel_format.specs.Reading.{Reading, Done, Faulty, ◌>>=◌, byte, padding, u16, u32, times, unless, after, taken, wants_more}
 use Rattle.pixel_format.specs.declared.fault.Fault.{Fault}

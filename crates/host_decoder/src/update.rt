@@ -1,7 +1,8 @@
 //! Updates of Raw rectangles (RFC 6143, 7.6.1).
 
-ghost use Rattle.std.specs.Prelude.{◌≡◌, ℕ, ◌+◌, ◌*◌, ◌<◌, ◌≤◌, length};
+ghost use Rattle.std.specs.Prelude.{◌≡◌, ℕ, ◌+◌, ◌*◌, ◌<◌, ◌≤◌, [], ◌∷◌, ◌++◌, length, OnOk, IfErr};
 ghost use Rattle.pixel_format.specs.Reading.{times};
+ghost use Rattle.pixel_format.specs.declared.fault.Fault.TheVariants.{Memory};
 ghost use Rattle.raster.specs.Size.{IsScreenSize};
 ghost use Rattle.host_decoder.specs.FirstPath.{Finds, MeansPaints, MeansPatch, raw_rectangle, host_form};
 
@@ -10,6 +11,17 @@ use painter::Patch;
 use pixel_format::Fault;
 use raster::Paint;
 use std::alloc::Global;
+
+/// Adds a paint behind the others.
+fn keep(paints: &mut Vec<Paint>, paint: Paint) -> Result<(), Fault>
+    ensures ok { OnOk result (paints.new.items ≡ paints.old.items ++ paint ∷ []) }
+    ensures err { IfErr result (λ fault. fault ≡ Memory) }
+{
+    match paints.push(paint) {
+        Ok(()) => Ok(()),
+        Err(_) => Err(Fault::Memory),
+    }
+}
 
 /// Reads so many rectangles at the front of the bytes.
 fn read_rectangles(
@@ -28,9 +40,7 @@ fn read_rectangles(
         match read_rectangle(alloc, &bytes[used..], w, h)? {
             None => return Ok(None),
             Some((paint, len)) => {
-                if paints.push(paint).is_err() {
-                    return Err(Fault::Memory);
-                }
+                keep(&mut paints, paint)?;
                 used += len;
             }
         }
@@ -63,5 +73,29 @@ pub fn read_update(
     match read_rectangles(alloc, &bytes[4..], w, h, count)? {
         None => Ok(None),
         Some((paints, used)) => Ok(Some((Patch::paints(w, h, paints), 4 + used))),
+    }
+}
+
+#[cfg(test)]
+mod tests {
+    use super::*;
+    use std::test::Fail;
+
+    // A rectangle of 2 by 1 in Raw, red and blue, and a byte behind it.
+    const MESSAGE: [u8; 25] = [
+        0, 0, 0, 1, 0, 0, 0, 0, 0, 2, 0, 1, 0, 0, 0, 0, 0, 0, 255, 0, 255, 0, 0, 0, 0,
+    ];
+
+    #[test]
+    fn reads_an_update(rt: HostRuntime) -> Result<(), Fail> {
+        let found = read_update(rt.alloc(), &MESSAGE, 2, 1)?;
+        let (patch, used) = found.ok_or("nothing whole")?;
+        assert_eq!(rt; used, 24);
+        let [Paint::Put(area, colours)] = patch.painted() else {
+            return Err(Fail::new("no rectangle"));
+        };
+        assert_eq!(rt; area.w, 2);
+        assert_eq!(rt; colours.as_slice(), [0xFF0000, 0x0000FF].as_slice());
+        Ok(())
     }
 }
