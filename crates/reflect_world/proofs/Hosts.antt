@@ -1,8 +1,7 @@
 -- What was read of a host's bytes, and what is left of them.
-use Rattle.std.proofs.Common.{◌≡◌, ℕ, suc, Bool, true, List, [], ◌∷◌, ◌++◌, length, drop, Option, Some, None, refl, ap, sym, ◌∙◌, append_assoc}
+use Rattle.std.proofs.Common.{◌≡◌, ℕ, true, List, [], ◌∷◌, ◌++◌, length, drop, Some, None, refl, ap, sym, ◌∙◌, append_assoc}
 use Rattle.std.specs.Prelude.{slice_get}
 use Rattle.std.specs.List.{filter_map}
-use Rattle.std.proofs.lemmas.List.{append-nil}
 use Rattle.std.proofs.lemmas.List.Elements.{filter_map-append}
 use Rattle.pixel_format.specs.Reading.{Reading, Done, after, taken, whole_of, wants_more, messages, messages_from, rest, rest_from}
 use Rattle.pixel_format.proofs.ReadingLaws.{messages-append, messages-open, messages-whole, rest-append, rest-whole}

@@ -1,6 +1,6 @@
 -- Places of viewers.
-use Rattle.std.proofs.Common.{◌≡◌, ◌≢◌, ℕ, ◌+◌, ◌-◌, ◌<◌, ◌≤◌, Bool, true, false, cond, List, [], ◌∷◌, ◌++◌, length, take, drop, Option, Some, None, refl, ap, sym, ◌∙◌, subst, arith, append-nil, length-append, inl, inr}
-use Rattle.std.specs.Prelude.{slice_set, is_some, is_none, unwrap_or, min, nat_le, ◌==◌, ◌&&◌, if◌then◌else◌}
+use Rattle.std.proofs.Common.{◌≡◌, ℕ, zero, suc, ◌+◌, ◌-◌, ◌<◌, Bool, true, false, cond, List, [], ◌∷◌, ◌++◌, length, take, Option, Some, None, refl, ap, sym, ◌∙◌, subst, arith}
+use Rattle.std.specs.Prelude.{slice_set, is_some, min, ◌==◌, if◌then◌else◌}
 use Rattle.std.proofs.Math.Seq.{take-add}
 use Rattle.std.proofs.lemmas.Bool.{eqb-true, eqb-false}
 use Rattle.std.proofs.lemmas.List.{get_or-set_same, get_or-set_other, length-drop, take-append-le}
@@ -8,11 +8,10 @@ use Rattle.pixel_format.specs.Reading.{Reading, Done, Faulty, Want, step, wants_
 use Rattle.raster.specs.Update.{Update}
 use Rattle.rfb_wire.specs.ClientMessage.{ClientMessage}
 use Rattle.roles.specs.Allowed.{Input, passes}
-use Rattle.viewer_session.specs.Record.{Entry, Saw, events, format_of, choice_of}
-use Rattle.viewer_session.specs.Viewer.{Setup, Viewer, out_bytes, may_look, after_cut, after_byte, after_bytes, after_hello, after_reading, marked, new_viewer, relayed, viewer_fault, with_input}
+use Rattle.viewer_session.specs.Viewer.{Setup, Viewer, out_bytes, may_look, after_cut, after_byte, after_bytes, after_hello, after_reading, marked, relayed, viewer_fault, with_input}
 use Rattle.viewer_session.specs.Turn.{sent_at}
-use Rattle.viewer_session.specs.Session.{State, Stands, Keeps, at_rest, is_ready, after_look, without_look, after_writing}
-use Rattle.reflect_world.specs.World.{Held, Standing, PlaceStands, PlaceIs, place_at}
+use Rattle.viewer_session.specs.Session.{State, Stands, at_rest, is_ready, after_look, without_look, after_writing}
+use Rattle.reflect_world.specs.World.{Held, PlaceStands, PlaceIs, place_at}
 
 -- ---- a look, and what forgets it
 
@@ -25,7 +24,7 @@ stands_without_look s st p k =
       role = k.role;
       rests = ap without_look k.rests;
       reading = k.reading;
-      goes_on = k.goes_on;
+      taken = k.taken;
       keeps = k.keeps;
       written = k.written;
       unsent = k.unsent;
@@ -40,7 +39,7 @@ stands_after_look s st number p k =
       role = k.role;
       rests = ap (after_look number) k.rests;
       reading = k.reading;
-      goes_on = k.goes_on;
+      taken = k.taken;
       keeps = record { asked = k.keeps.asked; have = k.keeps.have; format = k.keeps.format; choice = k.keeps.choice };
       written = k.written;
       unsent = k.unsent;
@@ -186,3 +185,11 @@ place_cut s place session p us k stands =
       ready = λ no. absurd cc;
       written = k.written ∙ sym (take-append-le p.written p.said_after (sent_at s.w s.h p.entries us) k.session.written);
     }
+
+-- ---- free places
+
+pub one_free : (places : List (Option Held)) (v : ℕ) → ((u : ℕ) → place_at places u ≡ None) → place_at (places ++ None ∷ []) v ≡ None
+one_free [] zero k = refl
+one_free [] (suc v) k = refl
+one_free (o ∷ places) zero k = k 0
+one_free (o ∷ places) (suc v) k = one_free places v (λ u. k (suc u))

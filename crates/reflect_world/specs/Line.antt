@@ -1,5 +1,5 @@
 -- The lines of a script.
-use Rattle.std.specs.Prelude.{ℕ, ◌≤◌, length}
+use Rattle.std.specs.Prelude.{◌≤◌, length}
 use Rattle.reflect_world.specs.declared.line.Line.{Line}
 use Rattle.reflect_world.specs.declared.line.Line.TheVariants.{Screen, Host, Raise, Open, Viewer, Turn}
 

@@ -1,24 +1,25 @@
 -- A reflector as the code keeps it, and the world of the definitions that it stands for.
-use Rattle.std.specs.Prelude.{◌≡◌, ℕ, ◌≤◌, Bool, true, List, [], ◌++◌, length, map, All, is_some, slice_index_or, take, Option, Some, None}
+use Rattle.std.specs.Prelude.{◌≡◌, ℕ, ◌^◌, ◌⊎◌, Bool, true, false, if◌then◌else◌, List, [], ◌∷◌, ◌++◌, length, drop, All, is_some, slice_get, slice_index_or, take, Option, Some, None}
 use Rattle.pixel_format.specs.declared.fault.Fault.{Fault}
-use Rattle.pixel_format.specs.PixelFormat.{host_format}
+use Rattle.pixel_format.specs.declared.fault.Fault.TheVariants.{Memory, NumbersOut}
 use Rattle.pixel_format.specs.Reading.{Reading, rest}
 use Rattle.raster.specs.Update.{Update}
-use Rattle.rfb_wire.specs.ServerMessage.{ServerMessage, server_message}
+use Rattle.rfb_wire.specs.ServerMessage.{ServerMessage}
+use Rattle.host_decoder.specs.FirstPath.{host_form}
 use Rattle.host_decoder.specs.Updates.{updates_by}
 use Rattle.reflect_core.specs.Plain.{Plain}
+use Rattle.reflect_core.specs.Sequential.{IsHistory}
 use Rattle.viewer_session.specs.FirstPath.{first_path}
-use Rattle.viewer_session.specs.Session.{State, Stands, is_ready, OnlyPaints}
-use Rattle.viewer_session.specs.Viewer.{Setup, Viewer}
-use Rattle.reflect_world.specs.Schedule.{Step, World, HostBytes, Put, Raise, Join, Bytes, Look, Cut, Written, play}
+use Rattle.viewer_session.specs.Session.{IsOneTile, State, Stands, is_ready, OnlyPaints, after_writing, without_look}
+use Rattle.viewer_session.specs.Turn.{has_reason}
+use Rattle.viewer_session.specs.Viewer.{Setup, Viewer, after_bytes, after_cut, may_look}
+use Rattle.reflect_world.specs.Schedule.{Step, World, HostBytes, Put, Raise, Join, Bytes, Look, Cut, Written, happens, play}
+use Rattle.reflect_world.specs.Headline.{HoldsAfterEachAnswer}
+use Rattle.reflect_world.specs.Said.{ArePutInOrder, HoldsAfterEachWritten, IsRead, IsSaid}
 use Rattle.reflect_world.specs.declared.step.Step as declared_step
 use Rattle.reflect_world.specs.declared.step.Step.TheVariants as code
 use Rattle.reflect_world.specs.declared.step.Entry as declared_entry
 use Rattle.reflect_world.specs.declared.step.Entry.TheVariants as kept
-
--- What is read of a host over a screen of w by h.
-abbrev pub host_form : ℕ → ℕ → Reading ServerMessage
-host_form w h = server_message host_format w h
 
 -- ---- steps
 
@@ -53,11 +54,6 @@ setup_of k = record { w = k.width; h = k.height; name = k.name; room = k.room; e
 -- The world that its schedule gives.
 abbrev pub world_of : Kept → World
 world_of k = play (setup_of k) k.steps
-
--- A screen of one tile.
-pub record IsOneTile (w h : ℕ) : Type 0 where
-  pub wide : (1 ≤ w) × (w ≤ 16)
-  pub high : (1 ≤ h) × (h ≤ 16)
 
 -- ---- what stands in the fields
 
@@ -109,3 +105,93 @@ pub record Reached (s : Setup) (standing : Standing) (w : World) : Type 0 where
   pub fault : standing.host_fault ≡ w.host_fault
   pub room : length standing.places ≡ 65
   pub places : (v : ℕ) → PlaceIs s (place_at standing.places v) (w.viewers v)
+
+-- ---- what the calls of a place do
+
+-- A place whose session went on, and which has no look.
+abbrev pub with_session : Held → State → Held
+with_session place session = record { session = session; looked = None; written = place.written }
+
+-- Bytes of the viewer came.
+pub record IsFed (old new : Held) (bytes : List ℕ) : Type 0 where
+  pub others : new ≡ with_session old new.session
+  pub stands : (s : Setup) (p : Viewer) → Stands s old.session p → Stands s new.session (after_bytes s (without_look p) bytes)
+
+-- It looked at the tally, if it may.
+pub record HasLooked (old new : Held) (tally : ℕ) : Type 0 where
+  pub others : new ≡ record old { looked = if is_ready old.session then Some tally else None }
+  pub stands : (s : Setup) (p : Viewer) → Stands s old.session p → is_ready old.session ≡ may_look s p
+
+-- So many of its unsent bytes were written.
+pub record IsWritten (old new : Held) (count : ℕ) : Type 0 where
+  pub others : new ≡ record { session = new.session; looked = None; written = old.written ++ take count old.session.unsent }
+  pub stands : (s : Setup) (p : Viewer) → Stands s old.session p → Stands s new.session (after_writing count p)
+
+-- It went on after a look that replied this number, over a source of these updates.
+pub record HasTurned (old new : Held) (looked : ℕ) (us : List Update) : Type 0 where
+  pub others : new ≡ with_session old new.session
+  pub stays : (s : Setup) (p : Viewer) → Stands s old.session p → has_reason s.w s.h p.entries looked ≡ false → Stands s new.session (without_look p)
+  pub cuts : (s : Setup) (p : Viewer) → Stands s old.session p → has_reason s.w s.h p.entries looked ≡ true → Stands s new.session (after_cut s us p)
+
+-- Where there was no look it does nothing.
+abbrev pub GoesOn : Option ℕ → Held → Held → List Update → Type 0
+GoesOn None old new us = new ≡ old
+GoesOn (Some looked) old new us = HasTurned old new looked us
+
+-- An update of so many bytes was put.
+pub record IsPut (old new : Standing) (u : Update) (used : ℕ) : Type 0 where
+  pub others : new ≡ record old { screen = new.screen; unread = drop used old.unread }
+  pub size : (new.screen.width ≡ old.screen.width) × (new.screen.height ≡ old.screen.height)
+  pub updates : new.screen.updates ≡ old.screen.updates ++ u ∷ []
+  pub tally : new.screen.tally ≡ old.screen.tally
+
+-- ---- what a step does
+
+-- What stood for a world stands for what happens to it by a step.
+abbrev pub TakesStep : Step → Standing → Standing → Type 0
+TakesStep e old new = (s : Setup) (w : World) → Reached s old w → Reached s new (happens s w e)
+
+-- It stands for some world.
+abbrev pub IsReachable : Standing → Type 0
+IsReachable standing = (s : Setup) × (w : World) × Reached s standing w
+
+-- Why a step isn't taken: memory is refused, or at a Put there are no more numbers.
+abbrev pub IsRefusal : Step → Standing → Fault → Type 0
+IsRefusal e standing fault = (fault ≡ Memory) ⊎ ((fault ≡ NumbersOut) × (e ≡ Put) × (length standing.screen.updates ≡ 2 ^ 62))
+
+-- ---- what a world's calls do
+
+-- The fields stand for what the schedule has come to.
+pub record IsKept (k : Kept) (standing : Standing) : Type 0 where
+  pub reached : Reached (setup_of k) standing (world_of k)
+
+-- A step was refused, and isn't in the schedule: for want of memory, which is noted; or at a Put for which there is no more number.
+abbrev pub StopsAt : Kept → Kept → Step → Fault → Type 0
+StopsAt old new e fault =
+    ((fault ≡ Memory) × (new ≡ record old { is_refused = true }))
+    ⊎ ((fault ≡ NumbersOut) × (e ≡ Put) × (length (world_of old).shared.updates ≡ 2 ^ 62) × (new ≡ old))
+
+-- The world with these steps behind its own.
+abbrev pub with_steps : Kept → List Step → Kept
+with_steps k es = record k { steps = k.steps ++ es }
+
+-- All of the steps were played.
+abbrev pub HasPlayed : Kept → Kept → List Step → Type 0
+HasPlayed old new es = (old.is_refused ≡ false) × (new ≡ with_steps old es)
+
+-- None was played, since a step was refused for want of memory before; or so many were played, and the next was refused.
+abbrev pub HasStopped : Kept → Kept → List Step → ℕ → Fault → Type 0
+HasStopped old new es played fault =
+    ((old.is_refused ≡ true) × (new ≡ old) × (played ≡ 0) × (fault ≡ Memory))
+    ⊎ ((old.is_refused ≡ false) × ((e : Step) × (slice_get es played ≡ Some e) × StopsAt (with_steps old (take played es)) new e fault))
+
+-- What holds of a world, whatever its schedule: after each answer a viewer that follows its answers holds the area asked for; the puts,
+-- raises, looks and cuts are one legal history; the updates are those of the host's bytes, in order; each viewer is sent its Bells, texts
+-- and answers and nothing else, and reads exactly these; and once an answer is written whole it holds the area.
+pub record IsFaithful (k : Kept) : Type 0 where
+  pub holds : HoldsAfterEachAnswer (setup_of k) (world_of k)
+  pub history : IsHistory (world_of k).steps (world_of k).shared
+  pub in_order : ArePutInOrder (setup_of k) (world_of k)
+  pub said : IsSaid (setup_of k) (world_of k)
+  pub read : IsRead (setup_of k) (world_of k)
+  pub written : HoldsAfterEachWritten (setup_of k) (world_of k)

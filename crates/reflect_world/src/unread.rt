@@ -1,8 +1,10 @@
 //! Bytes that came and wait to be read.
 
-ghost use Rattle.std.specs.Prelude.{◌≡◌, ◌≤◌, [], ◌++◌, length, drop, OnOk, OnErr};
+ghost use Rattle.std.specs.Prelude.{◌≡◌, ◌≤◌, [], ◌++◌, length, drop, OnOk, IfErr};
+ghost use Rattle.pixel_format.specs.declared.fault.Fault.TheVariants.{Memory};
 
-use std::alloc::{AllocError, Global};
+use pixel_format::Fault;
+use std::alloc::Global;
 use std::marker::Model;
 
 /// A stream of bytes that is read from its front. Contracts see those that weren't read yet.
@@ -33,12 +35,15 @@ impl Unread {
         }
     }
 
-    /// Adds bytes at the end. Where memory is refused nothing has changed.
-    pub fn add(&mut self, bytes: &[u8]) -> Result<(), AllocError>
+    /// Adds bytes at the end. Where memory is refused (`Memory`) nothing has changed.
+    pub fn add(&mut self, bytes: &[u8]) -> Result<(), Fault>
         ensures ok { OnOk result (self.new ≡ self.old ++ bytes.now) }
-        ensures err { OnErr result (self.new ≡ self.old) }
+        ensures err { IfErr result (λ fault. (fault ≡ Memory) × (self.new ≡ self.old)) }
     {
-        self.bytes.extend_from_slice(bytes)
+        match self.bytes.extend_from_slice(bytes) {
+            Ok(()) => Ok(()),
+            Err(_) => Err(Fault::Memory),
+        }
     }
 
     /// The bytes.

@@ -1,0 +1,66 @@
+-- A world and its schedule.
+use Rattle.std.proofs.Common.{◌≡◌, ℕ, ◌+◌, ◌<◌, ◌≤◌, List, [], ◌∷◌, ◌++◌, length, take, Some, ap, sym, ◌∙◌, subst, arith, append_assoc, inl, inr}
+use Rattle.std.specs.Prelude.{map, slice_get, slice_index_or}
+use Rattle.std.proofs.lemmas.List.{get_or-map, length-map, map-append, take_more}
+use Rattle.std.proofs.lemmas.Option.{slice_get-get_or}
+use Rattle.pixel_format.specs.declared.fault.Fault.{Fault}
+use Rattle.viewer_session.specs.Session.{IsOneTile}
+use Rattle.reflect_world.specs.Schedule.{Step}
+use Rattle.reflect_world.specs.World.{IsFaithful, IsKept, IsReachable, Kept, Reached, Standing, StopsAt, TakesStep, entry_of, setup_of, step_of, with_steps, world_of}
+use Rattle.reflect_world.specs.declared.step.Entry.{Entry}
+use Rattle.reflect_world.specs.declared.step.Step as declared
+use Rattle.reflect_world.proofs.FirstForms.{host_short, viewer_accepted}
+use Rattle.reflect_world.proofs.Holds.{in_every_schedule}
+use Rattle.reflect_world.proofs.Reaching.{play-more}
+use Rattle.reflect_world.proofs.Told.{told_in_every_schedule}
+
+pub kept_more : (k : Kept) (old new : Standing) (e : Step) → IsKept k old → TakesStep e old new → IsKept (with_steps k (e ∷ [])) new
+kept_more k old new e kept takes =
+    record { reached = subst (λ w. Reached (setup_of k) new w) (sym (play-more (setup_of k) k.steps e)) (takes (setup_of k) (world_of k) kept.reached) }
+
+-- An entry was pushed, and its step was taken.
+pub kept_pushed : (k : Kept) (entries more : List Entry) (entry : Entry) (old new : Standing) → IsKept (record k { steps = map entry_of entries }) old → more ≡ entries ++ entry ∷ []
+    → TakesStep (entry_of entry) old new → IsKept (record k { steps = map entry_of more }) new
+kept_pushed k entries more entry old new kept pushed takes =
+    let steps : map entry_of more ≡ map entry_of entries ++ entry_of entry ∷ [] = ap (map entry_of) pushed ∙ map-append entry_of entries (entry ∷ []) in
+    subst (λ (es : List Step). IsKept (record k { steps = es }) new) (sym steps) (kept_more (record k { steps = map entry_of entries }) old new (entry_of entry) kept takes)
+
+pub kept_is_reachable : (k : Kept) (standing : Standing) → IsKept k standing → IsReachable standing
+kept_is_reachable k standing kept = (setup_of k, world_of k, kept.reached)
+
+-- ---- the headline
+
+pub is_faithful : (k : Kept) → IsOneTile k.width k.height → IsFaithful k
+is_faithful k tile =
+    let wide : k.width ≤ 4096 = omega (arith, tile.wide.1) in
+    let high : k.height ≤ 4096 = omega (arith, tile.high.1) in
+    let held = in_every_schedule (setup_of k) wide high viewer_accepted k.steps in
+    let told = told_in_every_schedule (setup_of k) wide high viewer_accepted (host_short k.width k.height) k.steps in
+    record { holds = held.0; history = held.1; in_order = told.0; said = told.1; read = told.2; written = told.3 }
+
+same_tile : (old new : Kept) → new.width ≡ old.width → new.height ≡ old.height → IsOneTile old.width old.height → IsOneTile new.width new.height
+same_tile old new w h tile = rw (w, h) tile
+
+-- A world with more steps, or with a step refused, is of the same size.
+pub tile_at : (old new : Kept) (e : Step) (fault : Fault) → IsOneTile old.width old.height → StopsAt old new e fault → IsOneTile new.width new.height
+tile_at old new e fault tile (inl p) = same_tile old new (ap (λ (k : Kept). k.width) p.1) (ap (λ (k : Kept). k.height) p.1) tile
+tile_at old new e fault tile (inr p) = same_tile old new (ap (λ (k : Kept). k.width) p.3) (ap (λ (k : Kept). k.height) p.3) tile
+
+pub tile_with : (old now : Kept) (es : List Step) → now ≡ with_steps old es → IsOneTile old.width old.height → IsOneTile now.width now.height
+tile_with old now es is tile = same_tile old now (ap (λ (k : Kept). k.width) is) (ap (λ (k : Kept). k.height) is) tile
+
+-- ---- steps played one after another
+
+pub played_more : (old now next : Kept) (es : List Step) (k : ℕ) (e : Step) → now ≡ with_steps old (take k es) → k < length es → slice_index_or es k e ≡ e → next ≡ with_steps now (e ∷ [])
+    → next ≡ with_steps old (take (k + 1) es)
+played_more old now next es k e so_far room at one =
+    one ∙ ap (λ (w : Kept). with_steps w (e ∷ [])) so_far ∙ ap (λ (more : List Step). record old { steps = more }) (append_assoc old.steps (take k es) (e ∷ []))
+    ∙ ap (λ (more : List Step). with_steps old more) (ap (λ (x : Step). take k es ++ x ∷ []) (sym at) ∙ sym (take_more es k e room))
+
+-- The step at a place, and its definitional step there.
+pub step_at : (steps : List declared.Step) (k : ℕ) (step : declared.Step) → k < length steps → step ≡ slice_index_or steps k step
+    → (k < length (map step_of steps)) × (slice_index_or (map step_of steps) k (step_of step) ≡ step_of step) × (slice_get (map step_of steps) k ≡ Some (step_of step))
+step_at steps k step room at =
+    let within : k < length (map step_of steps) = omega (arith, length-map steps step_of) in
+    let there : slice_index_or (map step_of steps) k (step_of step) ≡ step_of step = get_or-map step_of steps k step (step_of step) room ∙ ap step_of (sym at) in
+    (within, there, slice_get-get_or (map step_of steps) k (step_of step) within ∙ ap Some there)

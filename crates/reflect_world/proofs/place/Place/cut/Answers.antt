@@ -1,0 +1,18 @@
+use Rattle.std.proofs.Common.{None, Option, ℕ, List, length, subst, sym}
+use Rattle.raster.specs.Update.{Update}
+use Rattle.reflect_core.specs.Plain.{Plain}
+use Rattle.viewer_session.specs.Session.{CutsAt}
+use Rattle.reflect_world.specs.World.{GoesOn, Held}
+use Rattle.reflect_world.proofs.Turning.{has_turned}
+use Rattle.reflect_world.proofs.place.Place.cut.Goals as goal
+
+pub returns-in-Ok-clause-ok : goal.returns-in-Ok-clause-ok
+returns-in-Ok-clause-ok c =
+    let old : Held = record { session = c.self.inside.session; looked = c.self.inside.looked; written = c.self.inside.written.items } in
+    let new : Held = record { session = c.turn_at.new.self; looked = None; written = c.self.inside.written.items } in
+    let us : List Update = c.args.screen.now.updates in
+    subst (λ (before : Held). GoesOn before.looked before new us) c.self.view_is
+    (subst (λ (looked : Option ℕ). GoesOn looked old new us) (sym c.in-Some.is)
+    (has_turned old c.turn_at.new.self us c.in-Some.looked c.requires.paints
+    (λ e. (c.turn_at.ensures.idle e).1)
+    (λ e. subst (λ (screen : Plain). CutsAt c.self.inside.session c.turn_at.new.self screen.updates (length us)) c.turn_at.ensures.moves (c.in-Ok.ensures.cuts e))))

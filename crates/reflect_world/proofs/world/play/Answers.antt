@@ -1,0 +1,29 @@
+use Rattle.std.proofs.Common.{inr, subst, take}
+use Rattle.std.specs.Prelude.{map}
+use Rattle.viewer_session.specs.Session.{IsOneTile}
+use Rattle.reflect_world.specs.World.{Kept, StopsAt, step_of}
+use Rattle.reflect_world.proofs.Keeping.{is_faithful, played_more, step_at, tile_at, tile_with}
+use Rattle.reflect_world.proofs.world.play.Goals as goal
+
+pub returns-then-world-clause-faithful : goal.returns-then-world-clause-faithful
+returns-then-world-clause-faithful c = is_faithful c.args.world.now (subst (λ (k : Kept). IsOneTile k.width k.height) c.world.view_is c.world.invariant.reached.tile)
+
+pub loop-played-preserved : goal.loop-played-preserved
+loop-played-preserved c =
+    let at = step_at c.args.steps.now c.loop-played.played c.index-steps-played.result c.loop-played-test.true c.index-steps-played.is in
+    (played_more c.args.world.now c.loop-played.world c.step.new.self (map step_of c.args.steps.now) c.loop-played.played (step_of c.index-steps-played.result) c.loop-played.invariant.0 at.0 at.1 c.in-Ok.ensures.ok, c.loop-played.invariant.1)
+
+pub returns-in-Err-clause-err : goal.returns-in-Err-clause-err
+returns-in-Err-clause-err c =
+    let at = step_at c.args.steps.now c.loop-played.played c.index-steps-played.result c.loop-played-test.true c.index-steps-played.is in
+    inr (c.loop-played.invariant.1, (step_of c.index-steps-played.result, at.2, subst (λ (k : Kept). StopsAt k c.step.new.self (step_of c.index-steps-played.result) c.in-Err.fault) c.loop-played.invariant.0 c.in-Err.ensures.err))
+
+pub returns-in-Err-clause-faithful : goal.returns-in-Err-clause-faithful
+returns-in-Err-clause-faithful c =
+    let tile = tile_with c.args.world.now c.loop-played.world (take c.loop-played.played (map step_of c.args.steps.now)) c.loop-played.invariant.0 (subst (λ (k : Kept). IsOneTile k.width k.height) c.world.view_is c.world.invariant.reached.tile) in
+    is_faithful c.step.new.self (tile_at c.loop-played.world c.step.new.self (step_of c.index-steps-played.result) c.in-Err.fault tile c.in-Err.ensures.err)
+
+pub returns-clause-faithful : goal.returns-clause-faithful
+returns-clause-faithful c =
+    is_faithful c.loop-played.world
+    (tile_with c.args.world.now c.loop-played.world (take c.loop-played.played (map step_of c.args.steps.now)) c.loop-played.invariant.0 (subst (λ (k : Kept). IsOneTile k.width k.height) c.world.view_is c.world.invariant.reached.tile))

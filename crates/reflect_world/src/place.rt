@@ -1,0 +1,116 @@
+//! A viewer of a world.
+
+ghost use Rattle.std.specs.Prelude.{◌≡◌, ℕ, ◌≤◌, [], ◌++◌, All, true, false, is_some, min, length, take, None, Some, IfOk, IfErr, OnOk};
+ghost use Rattle.pixel_format.specs.declared.fault.Fault.TheVariants.{Memory};
+ghost use Rattle.viewer_session.specs.FirstPath.{first_path};
+ghost use Rattle.viewer_session.specs.Session.{IsOneTile, OnlyPaints, Stands, fault_in, is_ready};
+ghost use Rattle.viewer_session.specs.Viewer.{Setup, new_viewer};
+ghost use Rattle.reflect_world.specs.World.{GoesOn, HasLooked, IsFed, IsWritten};
+
+use pixel_format::Fault;
+use reflect_core::PlainScreen;
+use roles::Role;
+use std::alloc::Global;
+use std::marker::Model;
+use viewer_session::Session;
+
+/// A viewer's session, the reply of its last step where that was a look, and all bytes that were written to it.
+#[derive(Drop)]
+pub struct Place {
+    session: Session,
+    looked: Option<u64>,
+    written: Vec<u8>,
+}
+
+impl Model for Place {
+    ghost use Rattle.reflect_world.specs.World.{Held};
+
+    ghost Value = { Held };
+
+    ghost view = { λ p. record { session = p.session; looked = p.looked; written = p.written.items } };
+}
+
+impl Place {
+    /// A viewer that has sent nothing. It fails where memory is refused (`Memory`).
+    pub fn new(alloc: Global, width: u64, height: u64, role: Role) -> Result<Self, Fault>
+        requires { IsOneTile width height }
+        ensures fresh { IfOk result (λ place. (place.looked ≡ None) × (place.written ≡ [])) }
+        ensures stands { IfOk result (λ place. (s : Setup) → s.w ≡ width → s.h ≡ height → s.extent ≡ first_path s.extent.from_host → Stands s place.session (new_viewer s role false)) }
+        ensures err { IfErr result (λ fault. fault ≡ Memory) }
+    {
+        Ok(Place {
+            session: Session::ready(alloc, width, height, role)?,
+            looked: None,
+            written: Vec::new(alloc),
+        })
+    }
+
+    /// The bytes that were written to it.
+    pub fn written(&self) -> &[u8]
+        ensures { result.now ≡ self.now.written }
+    {
+        self.written.as_slice()
+    }
+
+    /// The fault of its bytes, if there is one.
+    pub fn fault(&self) -> Option<Fault>
+        ensures { result ≡ fault_in self.now.session }
+    {
+        self.session.fault()
+    }
+
+    /// Its bytes come.
+    pub fn feed(&mut self, bytes: &[u8])
+        ensures { IsFed self.old self.new bytes.now }
+    {
+        self.looked = None;
+        let _ = self.session.feed(bytes);
+    }
+
+    /// It looks at the tally, if it may.
+    pub fn look(&mut self, tally: u64)
+        ensures { HasLooked self.old self.new tally }
+    {
+        self.looked = if self.session.is_ready() {
+            Some(tally)
+        } else {
+            None
+        };
+    }
+
+    /// It goes on after its look. Where memory is refused (`Memory`) nothing has changed.
+    pub fn cut(&mut self, screen: &mut PlainScreen) -> Result<(), Fault>
+        requires ready { is_some self.old.looked ≡ true → is_ready self.old.session ≡ true }
+        requires size { (self.old.session.width ≡ screen.old.width) × (self.old.session.height ≡ screen.old.height) }
+        requires paints { All OnlyPaints screen.old.updates }
+        ensures ok { OnOk result (GoesOn self.old.looked self.old self.new screen.old.updates) }
+        ensures err { IfErr result (λ fault. (fault ≡ Memory) × (self.new ≡ self.old)) }
+        ensures screen { screen.new ≡ screen.old }
+    {
+        let Some(looked) = self.looked else {
+            return Ok(());
+        };
+        match self.session.turn_at(screen, looked) {
+            Ok(_) => {
+                self.looked = None;
+                Ok(())
+            }
+            Err(_) => Err(Fault::Memory),
+        }
+    }
+
+    /// So many of its unsent bytes are written, at most those there are. Where memory is refused (`Memory`) nothing has changed.
+    pub fn write(&mut self, count: u64) -> Result<(), Fault>
+        ensures ok { OnOk result (IsWritten self.old self.new (min count (length self.old.session.unsent))) }
+        ensures err { IfErr result (λ fault. (fault ≡ Memory) × (self.new ≡ self.old)) }
+    {
+        let unsent = self.session.out();
+        let count = count.min(unsent.len() as u64) as usize;
+        if self.written.extend_from_slice(&unsent[..count]).is_err() {
+            return Err(Fault::Memory);
+        }
+        self.session.sent(count);
+        self.looked = None;
+        Ok(())
+    }
+}

@@ -1,0 +1,262 @@
+//! Scripts, played over a world.
+
+ghost use Rattle.std.specs.Prelude.{◌≡◌, ◌≤◌, ◌⊎◌};
+
+use crate::hexadecimal::shown;
+use crate::line::Line;
+use crate::step::Step;
+use crate::world::{World, play};
+use pixel_format::Fault;
+use roles::Role;
+use std::alloc::{AllocError, Global};
+use std::io;
+use std::io::{BufRead, BufReader, BufWriter, ErrorKind, Read, Write};
+
+/// A script is read up to so many lines.
+const LINES: u64 = 1 << 40;
+
+/// The widest and highest screen that is served, in pixels.
+const LARGEST: u64 = 16;
+
+/// Room for inputs on their way to the host.
+const ROOM: u64 = 1 << 62;
+
+/// More bytes than are ever unsent.
+const ALL: u64 = u64::MAX;
+
+/// Why a script isn't played to its end.
+enum Stop {
+    /// A line of another form, or on a viewer that isn't open or is open already.
+    Line,
+    /// The reader or the writer failed, there is no end, or the numbers of updates have run out.
+    Failed,
+    /// Memory was refused.
+    Memory,
+}
+
+impl From<AllocError> for Stop {
+    fn from(_refused: AllocError) -> Stop {
+        Stop::Memory
+    }
+}
+
+impl From<Fault> for Stop {
+    fn from(fault: Fault) -> Stop {
+        match fault {
+            Fault::Memory => Stop::Memory,
+            _ => Stop::Failed,
+        }
+    }
+}
+
+impl From<io::Error> for Stop {
+    fn from(error: io::Error) -> Stop {
+        if error.kind() == ErrorKind::OutOfMemory && error.raw_os_error().is_none() {
+            Stop::Memory
+        } else {
+            Stop::Failed
+        }
+    }
+}
+
+/// Plays a script, and answers the exit status: 0; 2 at a bad line; 3 after a fault of the host, or where the reader or the writer
+/// fails or the script has no end; 4 where memory is refused.
+pub fn replay<R: Read + Drop, W: Write + Drop>(alloc: Global, reader: R, writer: W) -> u8
+    ensures { (result ≡ 0) ⊎ ((2 ≤ result) × (result ≤ 4)) }
+{
+    let Ok(mut input) = BufReader::new(alloc, reader) else {
+        return 4;
+    };
+    let Ok(mut output) = BufWriter::new(alloc, writer) else {
+        return 4;
+    };
+    let status = match play_script(alloc, &mut input, &mut output) {
+        Ok(host_failed) => { if host_failed { 3 } else { 0 } }
+        Err(Stop::Line) => 2,
+        Err(Stop::Failed) => 3,
+        Err(Stop::Memory) => 4,
+    };
+    match output.flush() {
+        Ok(()) => status,
+        Err(_) => 3,
+    }
+}
+
+/// Plays it line by line, and answers whether the host's bytes were at fault.
+fn play_script<B: BufRead, W: Write>(
+    alloc: Global,
+    input: &mut B,
+    output: &mut W,
+) -> Result<bool, Stop> {
+    let mut line = Vec::new(alloc);
+    if !next_line(input, &mut line)? {
+        return Ok(false);
+    }
+    let Some(mut world) = opened(alloc, line.as_slice())? else {
+        return Err(bad_line(alloc, output, 1)?);
+    };
+    for number in 2..LINES {
+        if !next_line(input, &mut line)? {
+            return Ok(world.host_fault().is_some());
+        }
+        if !play_line(alloc, &mut world, output, line.as_slice())? {
+            return Err(bad_line(alloc, output, number)?);
+        }
+    }
+    Err(Stop::Failed)
+}
+
+/// Reads the next line, without its line feed, and answers whether there is one.
+fn next_line<B: BufRead>(input: &mut B, line: &mut Vec<u8>) -> Result<bool, Stop> {
+    line.clear();
+    if input.read_until(b'\n', line)? == 0 {
+        return Ok(false);
+    }
+    if line.last() == Some(&b'\n') {
+        let _ = line.pop();
+    }
+    Ok(true)
+}
+
+fn bad_line<W: Write>(alloc: Global, output: &mut W, number: u64) -> Result<Stop, Stop> {
+    print(output, format!(in alloc; "line {number}\n")?)?;
+    Ok(Stop::Line)
+}
+
+/// Writes a line that is complete.
+fn print<W: Write>(output: &mut W, line: String) -> Result<(), Stop> {
+    output.write_all(line.as_bytes())?;
+    Ok(())
+}
+
+/// The world that the first line opens, where it is one that opens one.
+fn opened(alloc: Global, line: &[u8]) -> Result<Option<World>, Stop> {
+    let Ok(text) = str::from_utf8(line) else {
+        return Ok(None);
+    };
+    match Line::read(alloc, text)? {
+        Some(Line::Screen(width, height, name)) if width <= LARGEST && height <= LARGEST => Ok(Some(
+            World::new(alloc, width, height, name.as_bytes(), ROOM)?,
+        )),
+        _ => Ok(None),
+    }
+}
+
+/// Plays a further line, and answers whether it is one that may stand there.
+fn play_line<W: Write>(
+    alloc: Global,
+    world: &mut World,
+    output: &mut W,
+    line: &[u8],
+) -> Result<bool, Stop> {
+    let Ok(text) = str::from_utf8(line) else {
+        return Ok(false);
+    };
+    let Some(line) = Line::read(alloc, text)? else {
+        return Ok(false);
+    };
+    match line {
+        Line::Screen(_, _, _) => Ok(false),
+        Line::Host(bytes) => host(alloc, world, output, bytes),
+        Line::Raise => {
+            play_one(world, Step::Raise)?;
+            Ok(true)
+        }
+        Line::Open(viewer) => open(world, viewer),
+        Line::Viewer(viewer, bytes) => viewer_bytes(alloc, world, output, viewer, bytes),
+        Line::Turn(viewer) => turn(alloc, world, output, viewer),
+    }
+}
+
+fn play_one(world: &mut World, step: Step) -> Result<(), Stop> {
+    match play(world, &[step]) {
+        Ok(()) => Ok(()),
+        Err((_, fault)) => Err(Stop::from(fault)),
+    }
+}
+
+/// Bytes of the host: each whole message of an update is put. A fault, also an earlier one, is printed.
+fn host<W: Write>(
+    alloc: Global,
+    world: &mut World,
+    output: &mut W,
+    bytes: Vec<u8>,
+) -> Result<bool, Stop> {
+    play_one(world, Step::HostBytes(bytes))?;
+    for _ in 0..ROOM {
+        let before = world.updates();
+        play_one(world, Step::Put)?;
+        if world.updates() == before {
+            break;
+        }
+    }
+    if let Some(fault) = world.host_fault() {
+        let number = fault.number();
+        print(output, format!(in alloc; "fault {number}\n")?)?;
+    }
+    Ok(true)
+}
+
+/// Whether a viewer is there and not at fault.
+fn is_open(world: &World, viewer: u64) -> bool {
+    world.is_joined(viewer) && world.fault(viewer).is_none()
+}
+
+fn open(world: &mut World, viewer: u64) -> Result<bool, Stop>
+    requires { (1 ≤ viewer) × (viewer ≤ 64) }
+{
+    if is_open(world, viewer) {
+        return Ok(false);
+    }
+    world.join(viewer, Role::Full, false)?;
+    Ok(true)
+}
+
+/// Bytes of a viewer. A fault is printed, and the viewer is no longer open.
+fn viewer_bytes<W: Write>(
+    alloc: Global,
+    world: &mut World,
+    output: &mut W,
+    viewer: u64,
+    bytes: Vec<u8>,
+) -> Result<bool, Stop> {
+    if !is_open(world, viewer) {
+        return Ok(false);
+    }
+    play_one(world, Step::Bytes(viewer, bytes))?;
+    if let Some(fault) = world.fault(viewer) {
+        let number = fault.number();
+        print(output, format!(in alloc; "{viewer}: fault {number}\n")?)?;
+    }
+    Ok(true)
+}
+
+/// A turn of a viewer, with all of its bytes written before it and after it. They are printed.
+fn turn<W: Write>(
+    alloc: Global,
+    world: &mut World,
+    output: &mut W,
+    viewer: u64,
+) -> Result<bool, Stop> {
+    if !is_open(world, viewer) {
+        return Ok(false);
+    }
+    let before = world.written(viewer).len();
+    let steps = [
+        Step::Written(viewer, ALL),
+        Step::Look(viewer),
+        Step::Cut(viewer),
+        Step::Written(viewer, ALL),
+    ];
+    if let Err((_, fault)) = play(world, &steps) {
+        return Err(Stop::from(fault));
+    }
+    match world.written(viewer).get(before..) {
+        Some(written) if !written.is_empty() => {
+            let bytes = shown(alloc, written)?;
+            print(output, format!(in alloc; "{viewer}: {bytes}\n")?)?;
+        }
+        _ => print(output, format!(in alloc; "{viewer}: -\n")?)?,
+    }
+    Ok(true)
+}

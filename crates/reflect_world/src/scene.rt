@@ -1,0 +1,243 @@
+//! What the schedule of a world has come to.
+
+ghost use Rattle.std.specs.Prelude.{◌≡◌, ℕ, ◌<◌, ◌≤◌, false, [], None, length, IfOk, IfErr, OnOk};
+ghost use Rattle.std.specs.Option.{option_copied};
+ghost use Rattle.pixel_format.specs.declared.fault.Fault.TheVariants.{Memory};
+ghost use Rattle.host_decoder.specs.FirstPath.{host_form};
+ghost use Rattle.viewer_session.specs.FirstPath.{first_path};
+ghost use Rattle.viewer_session.specs.Session.{IsOneTile};
+ghost use Rattle.viewer_session.specs.Viewer.{Setup};
+ghost use Rattle.reflect_world.specs.Schedule.{Put, Raise, Join, HostBytes, Bytes, Look, Cut, Written, beginning};
+ghost use Rattle.reflect_core.specs.Plain.{IsPutRefusal};
+ghost use Rattle.reflect_world.specs.World.{IsPut, IsReachable, IsRefusal, Reached, TakesStep, place_at, step_of};
+
+use crate::fault::same_fault;
+use crate::place::Place;
+use crate::step::Step;
+use crate::unread::Unread;
+use painter::Patch;
+use pixel_format::Fault;
+use reflect_core::{PlainScreen, Puts, ScreenSource};
+use roles::Role;
+use std::alloc::{AllocError, Global};
+use std::marker::Model;
+
+/// Places are numbered below this. That of number 0 stays free.
+pub const PLACES: u64 = 65;
+
+/// The screen, the host's bytes that weren't read yet, the fault that they showed, and the viewers by number.
+#[derive(Drop)]
+pub struct Scene {
+    alloc: Global,
+    screen: PlainScreen,
+    host: Unread,
+    host_fault: Option<Fault>,
+    places: Vec<Option<Place>>,
+}
+
+impl Model for Scene {
+    ghost use Rattle.reflect_world.specs.World.{Standing};
+
+    ghost Value = { Standing };
+
+    ghost view = { λ s. record { screen = s.screen; unread = s.host; host_fault = s.host_fault; places = s.places.items } };
+}
+
+impl Scene {
+    /// Before any step. It fails where memory is refused (`Memory`).
+    pub fn new(alloc: Global, width: u64, height: u64) -> Result<Self, Fault>
+        requires { IsOneTile width height }
+        ensures ok { IfOk result (λ scene. (s : Setup) → s.w ≡ width → s.h ≡ height → s.extent ≡ first_path host_form → Reached s scene beginning) }
+        ensures err { IfErr result (λ fault. fault ≡ Memory) }
+    {
+        let Ok(places) = free_places(alloc) else {
+            return Err(Fault::Memory);
+        };
+        Ok(Scene {
+            alloc,
+            screen: PlainScreen::new(alloc, width, height)?,
+            host: Unread::new(alloc),
+            host_fault: None,
+            places,
+        })
+    }
+
+    /// The fault that the host's bytes showed, if there is one.
+    pub fn host_fault(&self) -> Option<Fault>
+        ensures { result ≡ self.now.host_fault }
+    {
+        self.host_fault.as_ref().map(same_fault)
+    }
+
+    /// How many updates were put.
+    pub fn updates(&self) -> u64
+        ensures { result ≡ length self.now.screen.updates }
+    {
+        self.screen.updates()
+    }
+
+    /// The viewer of this number, if it is there.
+    pub fn place(&self, viewer: u64) -> Option<&Place>
+        ensures { option_copied result ≡ place_at self.now.places viewer }
+    {
+        match self.places.get(viewer as usize) {
+            Some(place) => place.as_ref(),
+            None => None,
+        }
+    }
+
+    /// A viewer begins anew. Where memory is refused (`Memory`) nothing has changed.
+    pub fn join(&mut self, viewer: u64, role: Role) -> Result<(), Fault>
+        requires there { viewer < 65 }
+        requires reached { IsReachable self.old }
+        ensures ok { OnOk result (TakesStep (Join viewer role false) self.old self.new) }
+        ensures err { IfErr result (λ fault. (fault ≡ Memory) × (self.new ≡ self.old)) }
+    {
+        let (width, height) = self.screen.size();
+        let place = Place::new(self.alloc, width, height, role)?;
+        self.places[viewer as usize] = Some(place);
+        Ok(())
+    }
+
+    /// Takes a step. Where memory is refused (`Memory`), or there are no more numbers of updates (`NumbersOut`), nothing has changed.
+    pub fn take(&mut self, step: &Step) -> Result<(), Fault>
+        requires { IsReachable self.old }
+        ensures ok { OnOk result (TakesStep (step_of step.now) self.old self.new) }
+        ensures err { IfErr result (λ fault. IsRefusal (step_of step.now) self.old fault × (self.new ≡ self.old)) }
+    {
+        match step {
+            Step::HostBytes(bytes) => self.host_bytes(bytes.as_slice()),
+            Step::Put => self.put_next(),
+            Step::Raise => {
+                self.raise();
+                Ok(())
+            }
+            Step::Bytes(viewer, bytes) => {
+                self.feed(*viewer, bytes.as_slice());
+                Ok(())
+            }
+            Step::Look(viewer) => {
+                self.look(*viewer);
+                Ok(())
+            }
+            Step::Cut(viewer) => self.cut(*viewer),
+            Step::Written(viewer, count) => self.write(*viewer, *count),
+        }
+    }
+
+    fn host_bytes(&mut self, bytes: &[u8]) -> Result<(), Fault>
+        ensures ok { OnOk result (TakesStep (HostBytes bytes.now) self.old self.new) }
+        ensures err { IfErr result (λ fault. (fault ≡ Memory) × (self.new ≡ self.old)) }
+    {
+        self.host.add(bytes)
+    }
+
+    fn put_next(&mut self) -> Result<(), Fault>
+        requires { IsReachable self.old }
+        ensures ok { OnOk result (TakesStep Put self.old self.new) }
+        ensures err { IfErr result (λ fault. IsRefusal Put self.old fault × (self.new ≡ self.old)) }
+    {
+        let (width, height) = self.screen.size();
+        let found = host_decoder::read_update(self.alloc, self.host.bytes(), width, height);
+        match found {
+            Ok(Some((patch, used))) => self.put(patch, used),
+            Ok(None) => {
+                self.host_fault = None;
+                Ok(())
+            }
+            Err(fault) => match fault {
+                Fault::Memory => Err(Fault::Memory),
+                fault => {
+                    self.host_fault = Some(fault);
+                    Ok(())
+                }
+            },
+        }
+    }
+
+    fn put(&mut self, patch: Patch, used: usize) -> Result<(), Fault>
+        requires size { (patch.width ≡ self.old.screen.width) × (patch.height ≡ self.old.screen.height) }
+        requires there { used ≤ length self.old.unread }
+        ensures ok { OnOk result (IsPut self.old self.new patch.update used) }
+        ensures err { IfErr result (λ fault. IsPutRefusal (length self.old.screen.updates) fault × (self.new ≡ self.old)) }
+    {
+        match self.screen.put(patch) {
+            Ok(_) => {
+                self.host.take(used);
+                Ok(())
+            }
+            Err(refused) => Err(refused.0),
+        }
+    }
+
+    fn raise(&mut self)
+        ensures { TakesStep Raise self.old self.new }
+    {
+        self.screen.raise();
+    }
+
+    fn feed(&mut self, viewer: u64, bytes: &[u8])
+        requires { IsReachable self.old }
+        ensures { TakesStep (Bytes viewer bytes.now []) self.old self.new }
+    {
+        if viewer < PLACES {
+            let slot = &mut self.places[viewer as usize];
+            if let Some(place) = slot {
+                place.feed(bytes);
+            }
+        }
+    }
+
+    fn look(&mut self, viewer: u64)
+        requires { IsReachable self.old }
+        ensures { TakesStep (Look viewer) self.old self.new }
+    {
+        if viewer < PLACES {
+            let tally = self.screen.look();
+            let slot = &mut self.places[viewer as usize];
+            if let Some(place) = slot {
+                place.look(tally);
+            }
+        }
+    }
+
+    fn cut(&mut self, viewer: u64) -> Result<(), Fault>
+        requires { IsReachable self.old }
+        ensures ok { OnOk result (TakesStep (Cut viewer) self.old self.new) }
+        ensures err { IfErr result (λ fault. (fault ≡ Memory) × (self.new ≡ self.old)) }
+    {
+        if viewer < PLACES {
+            let slot = &mut self.places[viewer as usize];
+            if let Some(place) = slot {
+                return place.cut(&mut self.screen);
+            }
+        }
+        Ok(())
+    }
+
+    fn write(&mut self, viewer: u64, count: u64) -> Result<(), Fault>
+        requires { IsReachable self.old }
+        ensures ok { OnOk result (TakesStep (Written viewer count) self.old self.new) }
+        ensures err { IfErr result (λ fault. (fault ≡ Memory) × (self.new ≡ self.old)) }
+    {
+        if viewer < PLACES {
+            let slot = &mut self.places[viewer as usize];
+            if let Some(place) = slot {
+                return place.write(count);
+            }
+        }
+        Ok(())
+    }
+}
+
+/// All places, free.
+fn free_places(alloc: Global) -> Result<Vec<Option<Place>>, AllocError>
+    ensures count { IfOk result (λ places. length places.items ≡ 65) }
+    ensures free { IfOk result (λ places. (v : ℕ) → place_at places.items v ≡ None) }
+{
+    let mut places = Vec::with_capacity(alloc, PLACES as usize)?;
+    while places.len() < PLACES as usize {
+        places.push(None)?;
+    }
+    Ok(places)
+}

@@ -1,0 +1,192 @@
+//! A reflector on one thread, step by step.
+
+ghost use Rattle.std.specs.Prelude.{◌≡◌, ℕ, ◌<◌, ◌≤◌, ◌^◌, ◌↔◌, [], ◌∷◌, ◌++◌, false, length, map, take, IfOk, IfErr, OnOk, OnErr, IsTrue, IsSome};
+ghost use Rattle.pixel_format.specs.declared.fault.Fault.TheVariants.{Memory};
+ghost use Rattle.viewer_session.specs.Session.{IsOneTile};
+ghost use Rattle.reflect_world.specs.Schedule.{Join, fault_at, written_of};
+ghost use Rattle.reflect_world.specs.World.{HasPlayed, HasStopped, IsFaithful, StopsAt, setup_of, step_of, with_steps, world_of};
+
+use crate::scene::Scene;
+use crate::step::{Entry, Step};
+use pixel_format::Fault;
+use roles::Role;
+use std::alloc::Global;
+use std::marker::Model;
+
+/// A reflector of a screen: its host, its screen and its viewers, over one schedule of steps, which it stores.
+#[derive(Drop)]
+pub struct World {
+    alloc: Global,
+    width: u64,
+    height: u64,
+    name: Vec<u8>,
+    room: u64,
+    schedule: Vec<Entry>,
+    is_refused: bool,
+    scene: Scene,
+}
+
+impl Model for World {
+    ghost use Rattle.std.specs.Prelude.{map};
+    ghost use Rattle.reflect_world.specs.World.{Kept, entry_of, IsKept};
+
+    ghost Value = { Kept };
+
+    ghost view = { λ w. record {
+      width = w.width;
+      height = w.height;
+      name = w.name.items;
+      room = w.room;
+      steps = map entry_of w.schedule.items;
+      is_refused = w.is_refused;
+    } };
+
+    ghost invariant = { λ w. IsKept (record {
+      width = w.width;
+      height = w.height;
+      name = w.name.items;
+      room = w.room;
+      steps = map entry_of w.schedule.items;
+      is_refused = w.is_refused;
+    }) w.scene };
+}
+
+impl World {
+    /// A world of a black screen of `width` by `height` pixels, with a name of 1 to 255 bytes and room for so many inputs on their
+    /// way to the host. It fails where memory is refused (`Memory`).
+    pub fn new(
+        alloc: Global,
+        width: u64,
+        height: u64,
+        name: &[u8],
+        room: u64,
+    ) -> Result<World, Fault>
+        requires size { IsOneTile width height }
+        requires name { (1 ≤ length name.now) × (length name.now ≤ 255) }
+        requires room { room ≤ 2 ^ 62 }
+        ensures ok { IfOk result (λ world. world ≡ record { width = width; height = height; name = name.now; room = room; steps = []; is_refused = false }) }
+        ensures err { IfErr result (λ fault. fault ≡ Memory) }
+    {
+        let Ok(name) = Vec::from_slice(alloc, name) else {
+            return Err(Fault::Memory);
+        };
+        Ok(World {
+            alloc,
+            width,
+            height,
+            name,
+            room,
+            schedule: Vec::new(alloc),
+            is_refused: false,
+            scene: Scene::new(alloc, width, height)?,
+        })
+    }
+
+    /// A viewer of this number, from 1 to 64, joins, and begins anew: its hello is done. Where memory is refused (`Memory`) nothing has
+    /// changed.
+    pub fn join(&mut self, viewer: u64, role: Role, greet: bool) -> Result<(), Fault>
+        requires viewer { (1 ≤ viewer) × (viewer ≤ 64) }
+        requires hello { greet ≡ false }
+        ensures ok { OnOk result (self.new ≡ with_steps self.old (Join viewer role greet ∷ [])) }
+        ensures err { IfErr result (λ fault. (fault ≡ Memory) × (self.new ≡ self.old)) }
+    {
+        let Ok(()) = self.schedule.push(Entry::Joined(viewer, role, greet)) else {
+            return Err(Fault::Memory);
+        };
+        match self.scene.join(viewer, role) {
+            Ok(()) => Ok(()),
+            Err(fault) => {
+                let _ = self.schedule.pop();
+                Err(fault)
+            }
+        }
+    }
+
+    /// The bytes that were written to a viewer, from its `join` on.
+    pub fn written(&self, viewer: u64) -> &[u8]
+        ensures { result.now ≡ written_of (setup_of self.now) ((world_of self.now).viewers viewer) }
+    {
+        match self.scene.place(viewer) {
+            Some(place) => place.written(),
+            None => &[],
+        }
+    }
+
+    /// Whether a viewer of this number has joined.
+    pub fn is_joined(&self, viewer: u64) -> bool
+        ensures { IsTrue result ↔ IsSome ((world_of self.now).viewers viewer) }
+    {
+        self.scene.place(viewer).is_some()
+    }
+
+    /// The fault of a viewer's bytes, if there is one.
+    pub fn fault(&self, viewer: u64) -> Option<Fault>
+        ensures { result ≡ fault_at ((world_of self.now).viewers viewer) }
+    {
+        match self.scene.place(viewer) {
+            Some(place) => place.fault(),
+            None => None,
+        }
+    }
+
+    /// The fault of the host's bytes, from the first `Put` on that finds no update left before it.
+    pub fn host_fault(&self) -> Option<Fault>
+        ensures { result ≡ (world_of self.now).host_fault }
+    {
+        self.scene.host_fault()
+    }
+
+    /// How many updates were put.
+    pub fn updates(&self) -> u64
+        ensures { result ≡ length (world_of self.now).shared.updates }
+    {
+        self.scene.updates()
+    }
+
+    /// Takes one step, for whose entry there is room first.
+    fn step(&mut self, step: &Step) -> Result<(), Fault>
+        requires { self.old.is_refused ≡ false }
+        ensures ok { OnOk result (self.new ≡ with_steps self.old (step_of step.now ∷ [])) }
+        ensures err { IfErr result (StopsAt self.old self.new (step_of step.now)) }
+    {
+        let Ok(entry) = step.copy(self.alloc) else {
+            self.is_refused = true;
+            return Err(Fault::Memory);
+        };
+        let Ok(()) = self.schedule.push(Entry::Played(entry)) else {
+            self.is_refused = true;
+            return Err(Fault::Memory);
+        };
+        match self.scene.take(step) {
+            Ok(()) => Ok(()),
+            Err(fault) => {
+                let _ = self.schedule.pop();
+                self.is_refused = matches!(&fault, Fault::Memory);
+                Err(fault)
+            }
+        }
+    }
+}
+
+/// Plays steps. With a fault the number says how many were played, and the world is as after them: `Memory`, which every later
+/// call names again, playing nothing; or `NumbersOut` at a `Put` for which there is no more number.
+///
+/// Whatever was played, the world is faithful to its schedule: after each answer a viewer that follows its answers holds the area asked
+/// for, of the screen after some whole number of updates; the puts, raises, looks and cuts are one legal history; the updates are
+/// those of the host's bytes; and what is written to each viewer is a beginning of the stream of its answers, which reads as them.
+pub fn play(world: &mut World, steps: &[Step]) -> Result<(), (usize, Fault)>
+    ensures ok { OnOk result (HasPlayed world.old world.new (map step_of steps.now)) }
+    ensures err { IfErr result (λ stop. HasStopped world.old world.new (map step_of steps.now) stop.0 stop.1) }
+    ensures faithful { IsFaithful world.new }
+{
+    if world.is_refused {
+        return Err((0, Fault::Memory));
+    }
+    for (played, step) in steps.iter().enumerate() {
+        match world.step(step) {
+            Ok(()) => {}
+            Err(fault) => return Err((played, fault)),
+        }
+    }
+    Ok(())
+}
