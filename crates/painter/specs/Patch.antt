@@ -1,5 +1,5 @@
 -- What one whole message of the host changes on a screen.
-use Rattle.std.specs.Prelude.{ℕ, ◌≤◌, map, length, All}
+use Rattle.std.specs.Prelude.{ℕ, ◌≤◌, Bool, true, false, List, map, length, All, Option, Some, None}
 use Rattle.raster.specs.Painted.{paint_of, Fits}
 use Rattle.raster.specs.Update.{Update, Paints, Bell, Cut}
 use Rattle.painter.specs.declared.patch.Change.{Change}
@@ -21,3 +21,15 @@ abbrev pub IsFor : ℕ → ℕ → Change → Type 0
 IsFor w h (code.Paints paints) = All (λ p. Fits w h (paint_of p)) paints.items
 IsFor w h code.Bell = Unit {0}
 IsFor w h (code.Text text) = length text.items ≤ 65536
+
+-- ---- what kind of update it is
+
+abbrev pub is_bell : Update → Bool
+is_bell (Paints paints) = false
+is_bell Bell = true
+is_bell (Cut text) = false
+
+abbrev pub text_of : Update → Option (List ℕ)
+text_of (Paints paints) = None
+text_of Bell = None
+text_of (Cut text) = Some text

@@ -1,14 +1,19 @@
 //! What one whole message of the host changes on a screen.
 
 ghost use Rattle.std.specs.Prelude.{◌≡◌, ℕ, ◌<◌, ◌≤◌, ◌*◌, length, map, All, OnOk, IsTrue, ◌↔◌, IfSome, IfNone, Option, Some, None};
+ghost use Rattle.painter.specs.Patch.{is_bell, text_of};
 ghost use Rattle.raster.specs.Painted.{Fits, paint_of};
-ghost use Rattle.raster.specs.Screen.{LooksLike, value_at};
+ghost use Rattle.raster.specs.Screen.{Canvas, IsWithin, LooksLike, meets, value_at};
 ghost use Rattle.raster.specs.Size.{IsScreenSize};
-ghost use Rattle.raster.specs.Update.{Paints, Bell, Cut, after_paints, paints_of};
+ghost use Rattle.raster.specs.Update.{Paints, Bell, Cut, after_paints, painted, paints_of};
+ghost use Rattle.std.specs.List.{list_any};
+ghost use Rattle.std.specs.Option.{option_copied};
+ghost use Rattle.tiles.specs.Touched.{touches};
 
-use raster::{Paint, paint_all};
+use raster::{Paint, Rect, paint_all};
 use std::alloc::{AllocError, Global};
 use std::marker::Model;
+use tiles::is_met;
 
 /// The paints of a FramebufferUpdate, a Bell, or a text that was cut (RFC 6143, 7.6).
 #[derive(Drop)]
@@ -35,6 +40,31 @@ impl Model for Patch {
     ghost view = { λ p. record { width = p.width; height = p.height; update = update_of p.change } };
 
     ghost invariant = { λ p. IsScreenSize p.width p.height × IsFor p.width p.height p.change };
+}
+
+/// The rectangle that a paint changes.
+fn target(paint: &Paint) -> Rect
+    ensures { result ≡ painted (paint_of paint.now) }
+{
+    match paint {
+        Paint::Put(area, _) => *area,
+        Paint::Copy(area, _, _) => *area,
+    }
+}
+
+/// Whether one of the paints meets a rectangle.
+fn any_meets(paints: &[Paint], width: u64, height: u64, r: &Rect) -> bool
+    requires size { IsScreenSize width height }
+    requires fits { All (λ p. Fits width height (paint_of p)) paints.now }
+    requires within { IsWithin r.now 65536 65536 }
+    ensures { result ≡ list_any (λ p. meets (painted (paint_of p)) r.now) paints.now }
+{
+    for paint in paints {
+        if is_met(&target(paint), r) {
+            return true;
+        }
+    }
+    false
 }
 
 impl Patch {
@@ -93,5 +123,47 @@ impl Patch {
             Change::Bell => &[],
             Change::Text(_) => &[],
         }
+    }
+
+    /// Whether one of its paints meets a rectangle.
+    pub fn touches(&self, r: &Rect) -> bool
+        requires { IsWithin r.now 65536 65536 }
+        ensures { result ≡ touches r.now self.now.update }
+    {
+        let _ = &self.width;
+        any_meets(self.painted(), self.width, self.height, r)
+    }
+
+    /// Whether it is a Bell.
+    pub fn is_bell(&self) -> bool
+        ensures { result ≡ is_bell self.now.update }
+    {
+        matches!(&self.change, Change::Bell)
+    }
+
+    /// Its text, where it is one: at most 65,536 bytes.
+    pub fn text_bytes(&self) -> Option<&[u8]>
+        ensures text { option_copied result ≡ text_of self.now.update }
+        ensures short { IfSome result (λ text. length text.now ≤ 65536) }
+    {
+        match &self.change {
+            Change::Paints(_) => None,
+            Change::Bell => None,
+            Change::Text(text) => Some(text.as_slice()),
+        }
+    }
+
+    /// Paints it on the colours of its screen, row after row. Where memory runs out nothing is said of what stands there.
+    pub fn paint(&self, alloc: Global, colours: &mut [u32]) -> Result<(), AllocError>
+        requires { length colours.old ≡ self.now.width * self.now.height }
+        ensures { OnOk result ((before : Canvas) → LooksLike self.now.width self.now.height (value_at self.now.width colours.old) before → LooksLike self.now.width self.now.height (value_at self.now.width colours.new) (after_paints before (paints_of self.now.update))) }
+    {
+        paint_all(
+            alloc,
+            colours,
+            self.width as usize,
+            self.height as usize,
+            self.painted(),
+        )
     }
 }

@@ -3,7 +3,7 @@ use Rattle.std.proofs.Common.{◌≡◌, ℕ, ◌+◌, ◌*◌, ◌/◌, ◌%◌
 use Rattle.std.specs.Prelude.{◌==◌, find, unwrap_or}
 use Rattle.std.proofs.Math.Pow.{pow_mono}
 use Rattle.pixel_format.specs.PixelFormat.{PixelFormat, Channel, sizes, channel_size, is_accepted, IsAccepted, accepts, format_at, format_bytes}
-use Rattle.pixel_format.proofs.Tints.{Fits, parts_of, size_is}
+use Rattle.pixel_format.proofs.Tints.{LiesIn, parts_of, size_is}
 
 abbrev AtMost16 : List ℕ → Type 0
 AtMost16 [] = Unit {0}
@@ -24,7 +24,7 @@ sizes_most = search arith depth 40
 pub size_most : (c : Channel) → channel_size c ≤ 16
 size_most c = found_most (λ n. c.max + 1 == 2 ^ n) sizes sizes_most
 
-pub max_fits : (bits : ℕ) (c : Channel) → Fits bits c → c.max < 65536
+pub max_fits : (bits : ℕ) (c : Channel) → LiesIn bits c → c.max < 65536
 max_fits bits c f =
     let e : c.max + 1 ≡ 2 ^ channel_size c = size_is c f.some in
     let m : 2 ^ channel_size c ≤ 2 ^ 16 = pow_mono (size_most c) in

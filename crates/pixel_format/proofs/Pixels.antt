@@ -1,11 +1,14 @@
--- A pixel value is read back from its bytes.
-use Rattle.std.proofs.Common.{◌≡◌, ℕ, ◌^◌, ◌*◌, Bool, true, false, cond, ◌||◌, length, refl, ◌<◌, arith}
+-- A pixel value and its bytes: what they are in each size and order, and that the value is read back.
+use Rattle.std.proofs.Common.{◌≡◌, ℕ, ◌^◌, ◌*◌, ◌%◌, Bool, true, false, cond, ◌||◌, List, [], ◌∷◌, length, refl, ◌<◌, arith}
 use Rattle.std.specs.Prelude.{◌==◌}
 use Rattle.std.specs.Int.{Width, w8, w16, w32, byte_len, to_be_bytes, to_le_bytes, from_be_bytes, from_le_bytes}
 use Rattle.std.proofs.lemmas.Nat.{from_be_bytes-to_be_bytes_2, from_be_bytes-to_be_bytes_4, from_le_bytes-to_le_bytes_2, from_le_bytes-to_le_bytes_4}
-use Rattle.std.proofs.lemmas.Bool.{and_parts}
+use Rattle.std.specs.List.{flat_map}
+use Rattle.std.proofs.lemmas.Bool.{and_parts, ne_eqb}
 use Rattle.std.proofs.lemmas.Bool.Decides.{eqb_tells}
-use Rattle.pixel_format.specs.PixelFormat.{PixelFormat, pixel_width, pixel_len, pixel_bytes, pixel_of, IsAccepted}
+use Rattle.pixel_format.specs.PixelFormat.{PixelFormat, pixel_width, pixel_len, pixel_bytes, pixel_of, tint, row_bytes, IsAccepted}
+use Rattle.pixel_format.proofs.RowLemmas.{same_pieces}
+use Rattle.pixel_format.proofs.Tints.{tint_below}
 
 abbrev width_by : Bool → Bool → Width
 width_by eight sixteen = cond eight w8 (cond sixteen w16 w32)
@@ -43,3 +46,47 @@ pixel_back format v ok h =
 -- A pixel value has as many bytes as a pixel, whatever it is.
 pub pixel_size : (format : PixelFormat) (v : ℕ) → length (pixel_bytes format v) ≡ pixel_len format
 pixel_size format v = size format.big_endian (format.bits_per_pixel == 8) (format.bits_per_pixel == 16) v
+
+one_byte : (big : Bool) (bits v : ℕ) → bits ≡ 8 → v < 256 → v ∷ [] ≡ cond big (to_be_bytes (width_by (bits == 8) (bits == 16)) v) (to_le_bytes (width_by (bits == 8) (bits == 16)) v)
+one_byte true bits v e h = let small : v % 256 ≡ v = omega arith in rw (e, small) refl
+one_byte false bits v e h = let small : v % 256 ≡ v = omega arith in rw (e, small) refl
+
+-- In a format of 8 bits a colour's pixel value is its byte.
+tint_is_byte : (format : PixelFormat) → IsAccepted format → format.bits_per_pixel ≡ 8 → (colour : ℕ) → tint format colour ∷ [] ≡ pixel_bytes format (tint format colour)
+tint_is_byte format ok e colour =
+    let below : tint format colour < 2 ^ 8 = rw e at (tint_below format colour ok) in
+    one_byte format.big_endian format.bits_per_pixel (tint format colour) e below
+
+two_big : (format : PixelFormat) (v : ℕ) → format.bits_per_pixel ≡ 16 → format.big_endian ≡ true → to_be_bytes w16 v ≡ pixel_bytes format v
+two_big format v e b = rw (e, b) refl
+
+two_little : (format : PixelFormat) (v : ℕ) → format.bits_per_pixel ≡ 16 → format.big_endian ≡ false → to_le_bytes w16 v ≡ pixel_bytes format v
+two_little format v e b = rw (e, b) refl
+
+four_big : (format : PixelFormat) (v : ℕ) → (format.bits_per_pixel ≡ 8 → ⊥) → (format.bits_per_pixel ≡ 16 → ⊥) → format.big_endian ≡ true → to_be_bytes w32 v ≡ pixel_bytes format v
+four_big format v n8 n16 b =
+    let e8 : (format.bits_per_pixel == 8) ≡ false = ne_eqb format.bits_per_pixel 8 n8 in
+    let e16 : (format.bits_per_pixel == 16) ≡ false = ne_eqb format.bits_per_pixel 16 n16 in
+    rw (e8, e16, b) refl
+
+four_little : (format : PixelFormat) (v : ℕ) → (format.bits_per_pixel ≡ 8 → ⊥) → (format.bits_per_pixel ≡ 16 → ⊥) → format.big_endian ≡ false → to_le_bytes w32 v ≡ pixel_bytes format v
+four_little format v n8 n16 b =
+    let e8 : (format.bits_per_pixel == 8) ≡ false = ne_eqb format.bits_per_pixel 8 n8 in
+    let e16 : (format.bits_per_pixel == 16) ≡ false = ne_eqb format.bits_per_pixel 16 n16 in
+    rw (e8, e16, b) refl
+
+-- A row of pixels of one, two or four bytes each is the row of the format that has such pixels.
+pub row_8 : (format : PixelFormat) (colours : List ℕ) → IsAccepted format → format.bits_per_pixel ≡ 8 → flat_map (λ colour. tint format colour ∷ []) colours ≡ row_bytes format colours
+row_8 format colours ok e = same_pieces (λ colour. tint format colour ∷ []) (λ colour. pixel_bytes format (tint format colour)) colours (tint_is_byte format ok e)
+
+pub row_16_big : (format : PixelFormat) (colours : List ℕ) → format.bits_per_pixel ≡ 16 → format.big_endian ≡ true → flat_map (λ colour. to_be_bytes w16 (tint format colour)) colours ≡ row_bytes format colours
+row_16_big format colours e b = same_pieces (λ colour. to_be_bytes w16 (tint format colour)) (λ colour. pixel_bytes format (tint format colour)) colours (λ colour. two_big format (tint format colour) e b)
+
+pub row_16_little : (format : PixelFormat) (colours : List ℕ) → format.bits_per_pixel ≡ 16 → format.big_endian ≡ false → flat_map (λ colour. to_le_bytes w16 (tint format colour)) colours ≡ row_bytes format colours
+row_16_little format colours e b = same_pieces (λ colour. to_le_bytes w16 (tint format colour)) (λ colour. pixel_bytes format (tint format colour)) colours (λ colour. two_little format (tint format colour) e b)
+
+pub row_32_big : (format : PixelFormat) (colours : List ℕ) → (format.bits_per_pixel ≡ 8 → ⊥) → (format.bits_per_pixel ≡ 16 → ⊥) → format.big_endian ≡ true → flat_map (λ colour. to_be_bytes w32 (tint format colour)) colours ≡ row_bytes format colours
+row_32_big format colours n8 n16 b = same_pieces (λ colour. to_be_bytes w32 (tint format colour)) (λ colour. pixel_bytes format (tint format colour)) colours (λ colour. four_big format (tint format colour) n8 n16 b)
+
+pub row_32_little : (format : PixelFormat) (colours : List ℕ) → (format.bits_per_pixel ≡ 8 → ⊥) → (format.bits_per_pixel ≡ 16 → ⊥) → format.big_endian ≡ false → flat_map (λ colour. to_le_bytes w32 (tint format colour)) colours ≡ row_bytes format colours
+row_32_little format colours n8 n16 b = same_pieces (λ colour. to_le_bytes w32 (tint format colour)) (λ colour. pixel_bytes format (tint format colour)) colours (λ colour. four_little format (tint format colour) n8 n16 b)

@@ -3,7 +3,7 @@
 use std::marker::Model;
 
 /// How a component lies in a pixel value: its greatest value, and how far it is shifted to the left.
-#[derive(Clone, Copy)]
+#[derive(Clone, Copy, PartialEq, Eq, Debug)]
 pub(crate) struct Channel {
     pub(crate) max: u16,
     pub(crate) shift: u8,
@@ -20,7 +20,7 @@ impl Model for Channel {
 }
 
 impl Channel {
-    ghost use Rattle.std.specs.Prelude.{◌≡◌, ◌≤◌, IsTrue};
+    ghost use Rattle.std.specs.Prelude.{◌≡◌, ◌≤◌, ◌↔◌, IsTrue};
     ghost use Rattle.pixel_format.specs.PixelFormat.{channel_size, channel_fits, are_apart, on_channel};
 
     /// How many bits the channel has, 1 to 16; 0 where its greatest value isn't one less than a power of two.
@@ -73,5 +73,32 @@ impl Channel {
     {
         let scaled = (u32::from(component) * u32::from(self.max) + 127) / 255;
         scaled << self.shift
+    }
+
+    /// The same for a channel of at most 8 bits, by a multiplication in place of the division.
+    pub(crate) fn place_narrow(&self, component: u8) -> u32
+        requires fits { IsTrue (channel_fits 32 self.now) }
+        requires narrow { self.now.max ≤ 255 }
+        ensures { result ≡ on_channel self.now component }
+    {
+        // For x up to 255 * 255, (x + 127) / 255 is (257 * x + 128 * 257) / 65536, whole numbers all.
+        let scaled = (u32::from(component) * (257 * u32::from(self.max)) + 128 * 257) >> 16;
+        scaled << self.shift
+    }
+
+    /// The same for a channel of 8 bits, which holds the component as it is.
+    pub(crate) fn place_byte(&self, component: u8) -> u32
+        requires fits { IsTrue (channel_fits 32 self.now) }
+        requires byte { self.now.max ≡ 255 }
+        ensures { result ≡ on_channel self.now component }
+    {
+        u32::from(component) << self.shift
+    }
+
+    /// Whether the channel has this greatest value and this shift.
+    pub(crate) fn is(&self, max: u16, shift: u8) -> bool
+        ensures { IsTrue result ↔ (self.now ≡ record { max = max; shift = shift }) }
+    {
+        self.max == max && self.shift == shift
     }
 }

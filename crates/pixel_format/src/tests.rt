@@ -1,10 +1,266 @@
-//! Worked values, from RFC 6143 and by hand.
+//! Worked values of RFC 6143, section 7.4, and of this project's rules beside it, typed by hand.
 
 use super::*;
+use arrayvec::ArrayVec;
+use std::process::Abort;
+use std::test::Fail;
+
+const RED: u32 = 0x00FF_0000;
+
+const BLUE: u32 = 0x0000_00FF;
+
+const GREY: u32 = 0x0080_8080;
+
+const HOST: [u8; 16] = [
+    0x20, 0x18, 0x00, 0x01, 0x00, 0xFF, 0x00, 0xFF, 0x00, 0xFF, 0x10, 0x08, 0x00, 0, 0, 0,
+];
+
+/// 16 bits, most significant byte first, greatest values 31, 63, 31.
+const RGB565: [u8; 16] = [
+    0x10, 0x10, 0x01, 0x01, 0x00, 0x1F, 0x00, 0x3F, 0x00, 0x1F, 0x0B, 0x05, 0x00, 0, 0, 0,
+];
+
+/// 8 bits, greatest values 7, 7, 3, red lowest.
+const BGR233: [u8; 16] = [
+    0x08, 0x08, 0x00, 0x01, 0x00, 0x07, 0x00, 0x07, 0x00, 0x03, 0x00, 0x03, 0x06, 0, 0, 0,
+];
+
+/// 32 bits, 10 a channel.
+const RGB30: [u8; 16] = [
+    0x20, 0x1E, 0x00, 0x01, 0x03, 0xFF, 0x03, 0xFF, 0x03, 0xFF, 0x14, 0x0A, 0x00, 0, 0, 0,
+];
+
+fn format_of(bytes: [u8; 16]) -> Result<Format, Fail> {
+    Ok(Format::read(&bytes)?)
+}
+
+fn changed(mut bytes: [u8; 16], position: usize, value: u8) -> [u8; 16] {
+    if position < 16 {
+        bytes[position] = value;
+    }
+    bytes
+}
+
+/// Tints a row, once it has the room that it takes.
+fn tint_row(rt: &impl Abort, format: &Format, colours: &[u32], out: &mut [u8]) {
+    assert!(rt; colours.len() < 100);
+    assert_eq!(rt; out.len(), format.bytes() * colours.len());
+    format.tint_row(colours, out);
+}
+
+/// Puts a pixel, once there is room, and gets it again.
+fn put_and_get(rt: &impl Abort, format: &Format, value: u32, out: &mut [u8]) -> u32 {
+    assert!(rt; format.bytes() <= out.len());
+    format.put_pixel(value, out);
+    format.get_pixel(out)
+}
+
+fn is_refused(bytes: [u8; 16]) -> bool {
+    matches!(Format::read(&bytes), Err(Fault::BadFormat))
+}
 
 #[test]
-fn colours_in_the_host_format(rt: HostRuntime) {
-    assert_eq!(rt; Format::HOST.tint(0x00FF_0000), 0x00FF_0000);
-    assert_eq!(rt; Format::HOST.tint(0x0000_00FF), 255);
-    assert_eq!(rt; Format::HOST.tint(0x0080_8080), 0x0080_8080);
+fn colours_in_the_host_format(rt: HostRuntime) -> Result<(), Fail> {
+    let format = format_of(HOST)?;
+    assert_eq!(rt; format.bytes(), 4);
+    assert_eq!(rt; format.tint(RED), RED);
+    let mut row = [0xEE; 12];
+    tint_row(&rt, &format, &[RED, BLUE, 0xAA80_8080], &mut row);
+    assert_eq!(rt;
+        row,
+        [
+            0x00, 0x00, 0xFF, 0x00, 0xFF, 0x00, 0x00, 0x00, 0x80, 0x80, 0x80, 0x00
+        ]
+    );
+    Ok(())
+}
+
+#[test]
+fn colours_in_16_bits(rt: HostRuntime) -> Result<(), Fail> {
+    let format = format_of(RGB565)?;
+    assert_eq!(rt; format.bytes(), 2);
+    assert_eq!(rt; format.tint(GREY), 0x8410);
+    let mut row = [0xEE; 6];
+    tint_row(&rt, &format, &[RED, BLUE, GREY], &mut row);
+    assert_eq!(rt; row, [0xF8, 0x00, 0x00, 0x1F, 0x84, 0x10]);
+    tint_row(
+        &rt,
+        &format_of(changed(RGB565, 2, 0))?,
+        &[RED, BLUE, GREY],
+        &mut row,
+    );
+    assert_eq!(rt; row, [0x00, 0xF8, 0x1F, 0x00, 0x10, 0x84]);
+    Ok(())
+}
+
+#[test]
+fn colours_in_8_bits(rt: HostRuntime) -> Result<(), Fail> {
+    let format = format_of(BGR233)?;
+    assert_eq!(rt; format.bytes(), 1);
+    let mut row = [0xEE; 3];
+    tint_row(&rt, &format, &[RED, BLUE, GREY], &mut row);
+    assert_eq!(rt; row, [0x07, 0xC0, 0xA4]);
+    Ok(())
+}
+
+#[test]
+fn colours_in_other_formats_of_32_bits(rt: HostRuntime) -> Result<(), Fail> {
+    let mut row = [0xEE; 8];
+    tint_row(
+        &rt,
+        &format_of(changed(HOST, 2, 1))?,
+        &[RED, 0x0001_0203],
+        &mut row,
+    );
+    assert_eq!(rt; row, [0x00, 0xFF, 0x00, 0x00, 0x00, 0x01, 0x02, 0x03]);
+    tint_row(
+        &rt,
+        &format_of(changed(changed(HOST, 10, 0), 12, 16))?,
+        &[RED, 0x0001_0203],
+        &mut row,
+    );
+    assert_eq!(rt; row, [0xFF, 0x00, 0x00, 0x00, 0x01, 0x02, 0x03, 0x00]);
+    // 128 of 255 is 514 of 1023.
+    tint_row(&rt, &format_of(RGB30)?, &[GREY, RED], &mut row);
+    assert_eq!(rt; row, [0x02, 0x0A, 0x28, 0x20, 0x00, 0x00, 0xF0, 0x3F]);
+    Ok(())
+}
+
+#[test]
+fn values_of_colours(rt: HostRuntime) -> Result<(), Fail> {
+    let colours = [RED, BLUE, GREY];
+    let mut values = [7; 3];
+    format_of(RGB565)?.tint_values(&colours, &mut values);
+    assert_eq!(rt; values, [0xF800, 0x001F, 0x8410]);
+    Format::HOST.tint_values(&colours, &mut values);
+    assert_eq!(rt; values, colours);
+    format_of(RGB30)?.tint_values(&colours, &mut values);
+    assert_eq!(rt; values, [0x3FF0_0000, 0x0000_03FF, 0x2028_0A02]);
+    Ok(())
+}
+
+#[test]
+fn pixels_are_put_and_got(rt: HostRuntime) -> Result<(), Fail> {
+    let mut bytes = [0xEE; 5];
+    assert_eq!(rt;
+        put_and_get(&rt, &Format::HOST, 0x0403_0201, &mut bytes),
+        0x0403_0201
+    );
+    assert_eq!(rt; bytes, [1, 2, 3, 4, 0xEE]);
+    let big = format_of(changed(HOST, 2, 1))?;
+    assert_eq!(rt;
+        put_and_get(&rt, &big, 0x0403_0201, &mut bytes),
+        0x0403_0201
+    );
+    assert_eq!(rt; bytes, [4, 3, 2, 1, 0xEE]);
+    assert_eq!(rt;
+        put_and_get(&rt, &format_of(RGB565)?, 0x8410, &mut bytes),
+        0x8410
+    );
+    assert_eq!(rt; bytes, [0x84, 0x10, 2, 1, 0xEE]);
+    assert_eq!(rt;
+        put_and_get(&rt, &format_of(BGR233)?, 0xA4, &mut bytes),
+        0xA4
+    );
+    assert_eq!(rt; bytes, [0xA4, 0x10, 2, 1, 0xEE]);
+    Ok(())
+}
+
+#[test]
+fn formats_are_written(rt: HostRuntime) -> Result<(), Fail> {
+    let mut bytes = [0xEE; 16];
+    Format::HOST.write(&mut bytes);
+    assert_eq!(rt; bytes, HOST);
+    // Flags are written as 0 or 1 and padding as 0, whatever was read.
+    format_of(changed(changed(changed(RGB565, 2, 0xFF), 3, 0xFF), 14, 9))?.write(&mut bytes);
+    assert_eq!(rt; bytes, RGB565);
+    Ok(())
+}
+
+#[test]
+fn each_condition_is_looked_at(rt: HostRuntime) {
+    let refused = [
+        // Bits a pixel: 8, 16 or 32.
+        changed(HOST, 0, 24),
+        // True colour.
+        changed(HOST, 3, 0),
+        // Greatest values are one less than a power of two, and not 0.
+        changed(HOST, 5, 0xFE),
+        changed(HOST, 7, 0),
+        // Channels lie inside the pixel; a shift may be as much as 255.
+        changed(HOST, 10, 25),
+        changed(HOST, 10, 255),
+        // Channels have no bit in common: red and green, red and blue, green and blue.
+        changed(HOST, 10, 15),
+        changed(HOST, 10, 7),
+        changed(HOST, 11, 7),
+        // A viewer that asks for a colour map.
+        [8, 8, 0, 0, 0, 0, 0, 0, 0, 0, 0, 0, 0, 0, 0, 0],
+    ];
+    for (i, bytes) in refused.iter().enumerate() {
+        assert!(rt; is_refused(*bytes), "{i} is accepted");
+    }
+}
+
+/// Whether the 16 bits of greatest values 31, 63, 31 are still accepted with one byte changed so.
+fn stays_accepted(position: usize, value: u8) -> bool {
+    match position {
+        0 => value == 16 || value == 32,
+        3 => value != 0,
+        4 | 6 | 8 => value == 0,
+        5 | 9 => matches!(value, 1 | 3 | 7 | 15 | 31),
+        7 => matches!(value, 1 | 3 | 7 | 15 | 31 | 63),
+        10 => value == 11,
+        11 => value == 5,
+        12 => value == 0,
+        _ => true,
+    }
+}
+
+#[test]
+fn each_byte_counts_as_the_rules_say(rt: HostRuntime) {
+    for position in 0..16 {
+        for value in 0..=255 {
+            let refused = is_refused(changed(RGB565, position, value));
+            assert_eq!(rt;
+                refused,
+                !stays_accepted(position, value),
+                "byte {position}: {value}"
+            );
+        }
+    }
+}
+
+#[test]
+fn faults_have_their_numbers(rt: HostRuntime) {
+    let faults = [
+        Fault::BadVersion,
+        Fault::HostRefused(ArrayVec::new()),
+        Fault::NoNone,
+        Fault::SecurityFailed,
+        Fault::BadScreen,
+        Fault::UnknownMessage(7),
+        Fault::RectOutside,
+        Fault::UnknownEncoding,
+        Fault::SubrectOutside,
+        Fault::NoBackground,
+        Fault::NoForeground,
+        Fault::BadFormat,
+        Fault::BadChoice,
+        Fault::CopyOutside,
+        Fault::Memory,
+        Fault::LinkFailed,
+        Fault::LinkEnded,
+        Fault::Gone,
+        Fault::NoPlace,
+        Fault::QueueFull,
+        Fault::NumbersOut,
+    ];
+    let numbers = [
+        1, 2, 3, 4, 5, 6, 7, 8, 9, 10, 11, 12, 13, 14, 20, 21, 22, 23, 24, 30, 31,
+    ];
+    for (fault, number) in faults.iter().zip(numbers.iter()) {
+        assert_eq!(rt; fault.number(), *number);
+    }
+    assert_eq!(rt; LIMIT, 4_611_686_018_427_387_904);
 }

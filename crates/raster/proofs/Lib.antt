@@ -12,3 +12,5 @@ pub mod HextileSpelled
 pub mod Forms
 pub mod Bytes
 pub mod Places
+pub mod RowScan
+pub mod FixedLength

@@ -1,5 +1,5 @@
 -- What a source for one thread holds.
-use Rattle.std.specs.Prelude.{◌≡◌, ℕ, ◌*◌, ◌^◌, ◌<◌, ◌≤◌, List, length, All, ◌⊎◌}
+use Rattle.std.specs.Prelude.{◌≡◌, ℕ, ◌*◌, ◌^◌, ◌<◌, ◌≤◌, List, length, map, All, ◌⊎◌}
 use Rattle.pixel_format.specs.declared.fault.Fault.{Fault}
 use Rattle.pixel_format.specs.declared.fault.Fault.TheVariants.{Memory, NumbersOut}
 use Rattle.raster.specs.Size.{IsScreenSize}
@@ -13,10 +13,18 @@ pub record Plain : Type 0 where
   pub updates : List Update
   pub tally : ℕ
 
+-- The updates of patches, in order.
+abbrev pub updates_of : List SizedUpdate → List Update
+updates_of patches = map (λ patch. patch.update) patches
+
+-- Patches for a screen of w by h.
+abbrev pub AreOfSize : ℕ → ℕ → List SizedUpdate → Type 0
+AreOfSize w h patches = All (λ patch. (patch.width ≡ w) × (patch.height ≡ h)) patches
+
 -- What stands in its fields: patches of its size, a tally that is at most their number, and room for the colours of one screen.
 pub record IsPlain (w h : ℕ) (patches : List SizedUpdate) (tally room : ℕ) : Type 0 where
   pub size : IsScreenSize w h
-  pub fits : All (λ patch. (patch.width ≡ w) × (patch.height ≡ h)) patches
+  pub fits : AreOfSize w h patches
   pub tally_within : tally ≤ length patches
   pub few : length patches ≤ 2 ^ 62
   pub room_is : room ≡ w * h

@@ -1,9 +1,10 @@
 -- A reading of which the text is lost goes on as the reading does.
-use Rattle.std.proofs.Common.{◌≡◌, ℕ, suc, List, [], ◌∷◌, Option, None, ◌⊎◌, inl, inr, Ok, Err, refl, sym, ap, subst, ◌∙◌}
+use Rattle.std.proofs.Common.{true, false, length, Some, ◌≡◌, ℕ, suc, List, [], ◌∷◌, Option, None, ◌⊎◌, inl, inr, Ok, Err, refl, sym, ap, subst, ◌∙◌}
 use Rattle.std.specs.Prelude.{option_map}
 use mathlib.Core.Path.{fun_ext}
 use Rattle.pixel_format.specs.declared.fault.Fault.{Fault}
 use Rattle.pixel_format.specs.Reading.{Reading, Done, Faulty, Want, step, after, taken, renewed, whole_of, fault_of, wants_more, Feeds, GivesWhole}
+use Rattle.pixel_format.proofs.ReadingLaws.{after-done, after-faulty, taken-nil}
 use Rattle.rfb_wire.specs.ClientMessage.{ClientMessage, SetPixelFormat, SetEncodings, Ask, Key, Pointer, CutText, LostText, without_text}
 use Rattle.rfb_wire.specs.Message.{losing, FeedsOrLoses, IsOrLoses}
 
@@ -97,3 +98,77 @@ goes_on_taken form r now new answer (inl e) g = (inl (g.given ∙ ap whole_of e)
 goes_on_taken form r now new answer (inr e) g =
     let P : Reading ClientMessage → Type 0 = λ s. IsOrLoses s (renewed form r) in
     (inr (g.given ∙ (ap whole_of e ∙ losing-whole r)), subst P (sym (g.begins_anew ∙ ap (renewed form) e)) (renewed-lost form r))
+
+-- ---- the same, of a piece that was fed and what was taken then
+
+-- A message was whole: it is the one that is read, or the same without its text.
+pub record IsRead (form r new : Reading ClientMessage) (piece : List ℕ) (used : ℕ) (given : ClientMessage) : Type 0 where
+  pub message : ClientMessage
+  pub whole : after r piece ≡ Done message
+  pub same : (given ≡ message) ⊎ (given ≡ without_text message)
+  pub count : used ≡ taken r piece
+  pub anew : new ≡ form
+
+some_of : (s : Reading ClientMessage) (given : ClientMessage) → Some given ≡ whole_of s → s ≡ Done given
+some_of (Done m) given e = let same : m ≡ given = cc in ap Done same
+some_of (Faulty fault) given e = absurd cc
+some_of (Want more) given e = absurd cc
+
+lost_of : (s : Reading ClientMessage) (given : ClientMessage) → Some given ≡ option_map without_text (whole_of s) → (m : ClientMessage) × (s ≡ Done m) × (given ≡ without_text m)
+lost_of (Done m) given e = let same : given ≡ without_text m = cc in (m, refl, same)
+lost_of (Faulty fault) given e = absurd cc
+lost_of (Want more) given e = absurd cc
+
+read_whole : (form r mid new : Reading ClientMessage) (piece : List ℕ) (used : ℕ) (given : ClientMessage) → IsOrLoses mid (after r piece) → used ≡ taken r piece → GivesWhole form mid new (Some given) → IsRead form r new piece used given
+read_whole form r mid new piece used given (inl e) count g =
+    let whole = some_of (after r piece) given (g.given ∙ ap whole_of e) in
+    record { message = given; whole = whole; same = inl refl; count = count; anew = g.begins_anew ∙ ap (renewed form) (e ∙ whole) }
+read_whole form r mid new piece used given (inr e) count g =
+    let lost = lost_of (after r piece) given (g.given ∙ (ap whole_of e ∙ losing-whole (after r piece))) in
+    record { message = lost.0; whole = lost.1; same = inr lost.2; count = count; anew = g.begins_anew ∙ ap (renewed form) (e ∙ ap losing lost.1) }
+
+pub message_read : (form r now mid new : Reading ClientMessage) (piece : List ℕ) (used : ℕ) (given : ClientMessage) → IsOrLoses now r → FeedsOrLoses now mid piece (Ok used) → GivesWhole form mid new (Some given)
+    → IsRead form r new piece used given
+message_read form r now mid new piece used given e h g =
+    let fed = goes_on_fed r now mid piece used e h in
+    read_whole form r mid new piece used given fed.0 fed.1 g
+
+-- None was: all bytes were used, and reading goes on after them.
+pub record IsOpen (r new : Reading ClientMessage) (piece : List ℕ) (used : ℕ) : Type 0 where
+  pub goes_on : IsOrLoses new (after r piece)
+  pub wants : wants_more (after r piece) ≡ true
+  pub count : used ≡ taken r piece
+  pub all : used ≡ length piece
+
+wants_from : (s : Reading ClientMessage) → whole_of s ≡ None → fault_of s ≡ None → wants_more s ≡ true
+wants_from (Done m) w f = absurd cc
+wants_from (Faulty fault) w f = absurd cc
+wants_from (Want more) w f = refl
+
+renewed_from : (form s : Reading ClientMessage) → whole_of s ≡ None → renewed form s ≡ s
+renewed_from form (Done m) e = absurd cc
+renewed_from form (Faulty fault) e = refl
+renewed_from form (Want more) e = refl
+
+taken_all : (s : Reading ClientMessage) (bs : List ℕ) → wants_more (after s bs) ≡ true → taken s bs ≡ length bs
+taken_all s [] w = taken-nil s
+taken_all (Done m) (b ∷ bs) w = let e : false ≡ true = sym (ap wants_more (after-done m bs)) ∙ w in absurd cc
+taken_all (Faulty fault) (b ∷ bs) w = let e : false ≡ true = sym (ap wants_more (after-faulty {A = ClientMessage} fault bs)) ∙ w in absurd cc
+taken_all (Want more) (b ∷ bs) w = ap suc (taken_all (more b) bs w)
+
+none_of : (s : Reading ClientMessage) → None ≡ option_map without_text (whole_of s) → whole_of s ≡ None
+none_of (Done m) e = absurd cc
+none_of (Faulty fault) e = refl
+none_of (Want more) e = refl
+
+open_whole : (form r mid new : Reading ClientMessage) (piece : List ℕ) → IsOrLoses mid (after r piece) → GivesWhole form mid new None → (whole_of (after r piece) ≡ None) × (new ≡ mid)
+open_whole form r mid new piece (inl e) g = (sym (g.given ∙ ap whole_of e), g.begins_anew ∙ renewed_from form mid (sym g.given))
+open_whole form r mid new piece (inr e) g = (none_of (after r piece) (g.given ∙ (ap whole_of e ∙ losing-whole (after r piece))), g.begins_anew ∙ renewed_from form mid (sym g.given))
+
+pub message_open : (form r now mid new : Reading ClientMessage) (piece : List ℕ) (used : ℕ) → IsOrLoses now r → FeedsOrLoses now mid piece (Ok used) → GivesWhole form mid new None → IsOpen r new piece used
+message_open form r now mid new piece used e h g =
+    let fed = goes_on_fed r now mid piece used e h in
+    let whole = open_whole form r mid new piece fed.0 g in
+    let wants : wants_more (after r piece) ≡ true = wants_from (after r piece) whole.0 fed.2 in
+    let P : Reading ClientMessage → Type 0 = λ s. IsOrLoses s (after r piece) in
+    record { goes_on = subst P (sym whole.1) fed.0; wants = wants; count = fed.1; all = fed.1 ∙ taken_all r piece wants }

@@ -1,9 +1,81 @@
--- How a reader of a viewer's messages goes on.
-use Rattle.std.specs.Prelude.{ℕ, List}
-use Rattle.pixel_format.specs.Reading.{Reading, after}
-use Rattle.rfb_wire.specs.ClientMessage.{ClientMessage}
-use Rattle.rfb_wire.specs.Message.{viewer_form}
+-- How reading a viewer's message goes on, by what its reader holds.
+use Rattle.std.specs.Prelude.{◌≡◌, ℕ, suc, Bool, true, false, ◌<◌, ◌≤◌, ◌==◌, ◌||◌, ◌⊎◌, unwrap_or, List, ◌++◌, length, take}
+use Rattle.std.specs.List.{list_any}
+use Rattle.pixel_format.specs.declared.fault.Fault.TheVariants.{BadFormat, UnknownMessage}
+use Rattle.pixel_format.specs.Reading.{Reading, Done, Faulty, ◌>>=◌, after, taken, bytes, padding, u32, times}
+use Rattle.rfb_wire.specs.ClientMessage as client
+use Rattle.rfb_wire.specs.ClientMessage.{ClientMessage, SetEncodings, CutText, LostText, client_message, set_pixel_format, set_encodings, key_event, pointer_event, text, kind_of}
+use Rattle.rfb_wire.specs.Message.{message_of, losing}
+use Rattle.rfb_wire.specs.declared.client_reader.found.Found.{Found}
+use Rattle.rfb_wire.specs.declared.client_reader.part.Part.{Part}
+use Rattle.rfb_wire.specs.declared.client_reader.part.Part.TheVariants as part
+use Rattle.rfb_wire.specs.declared.client_reader.state.State.{State}
+use Rattle.rfb_wire.specs.declared.client_reader.state.State.TheVariants.{Fields, Keeping, Passing, Whole, Failed}
+use Rattle.rfb_wire.specs.declared.client_reader.state.Wrong as declared_wrong
+use Rattle.rfb_wire.specs.declared.client_reader.state.Wrong.TheVariants as wrong
 
--- How a reader goes on that has so much of a message.
-abbrev pub ahead : List ℕ → Reading ClientMessage
-ahead begun = after viewer_form begun
+-- ---- a list of encodings, of which the numbers so far were told and not kept
+
+-- The choice where these numbers are left.
+abbrev pub choice_with : Found → List ℕ → client.Choice
+choice_with found es = record { kind = unwrap_or found.kind (kind_of es); copy = found.copy || list_any (λ e. e == 1) es }
+
+-- So many numbers are left.
+abbrev pub numbers : ℕ → Found → Reading ClientMessage
+numbers n found = times n u32 >>= λ es. Done (SetEncodings (choice_with found es))
+
+-- ---- the rest of a text
+
+-- Of one that is kept, where these bytes have come and so many are left.
+abbrev pub keeping : List ℕ → ℕ → Reading ClientMessage
+keeping kept left = bytes left >>= λ others. Done (CutText (kept ++ others))
+
+-- And of one that isn't.
+abbrev pub passing : ℕ → ℕ → Reading ClientMessage
+passing left len = padding left (Done (LostText len))
+
+-- ---- any part of a message
+
+-- What is read from the beginning of a part on.
+abbrev pub form_of : Part → Reading ClientMessage
+form_of part.Kind = client_message
+form_of part.Format = set_pixel_format
+form_of part.Count = set_encodings
+form_of (part.Number left found) = numbers (suc left) found
+form_of part.Ask = client.ask
+form_of part.Key = key_event
+form_of part.Pointer = pointer_event
+form_of part.Length = text CutText LostText
+
+abbrev pub at_fault : declared_wrong.Wrong → Reading ClientMessage
+at_fault (wrong.Kind kind) = Faulty (UnknownMessage kind)
+at_fault wrong.Format = Faulty BadFormat
+
+-- How a reader goes on that holds this.
+abbrev pub ahead : State → Reading ClientMessage
+ahead (Fields fields) = after (form_of fields.0) fields.1
+ahead (Keeping kept) = keeping kept.0 kept.1
+ahead (Passing past) = passing past.0 past.1
+ahead (Whole message) = Done (message_of message)
+ahead (Failed what) = at_fault what
+
+-- More is to come of a message.
+abbrev pub is_partial : State → Bool
+is_partial (Fields fields) = true
+is_partial (Keeping kept) = true
+is_partial (Passing past) = true
+is_partial (Whole message) = false
+is_partial (Failed what) = false
+
+-- ---- what a reader does
+
+-- The first n bytes of a piece were used, at least one.
+pub record Uses (old new : Reading ClientMessage) (piece : List ℕ) (n : ℕ) : Type 0 where
+  pub some : 0 < n
+  pub fits : n ≤ length piece
+  pub goes_on : new ≡ after old (take n piece)
+  pub all : taken old (take n piece) ≡ n
+
+-- Memory for a text may have been refused.
+abbrev pub UsesOrLoses : Reading ClientMessage → Reading ClientMessage → List ℕ → ℕ → Type 0
+UsesOrLoses old new piece n = Uses old new piece n ⊎ Uses (losing old) new piece n

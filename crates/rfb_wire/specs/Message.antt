@@ -1,12 +1,11 @@
 -- What the messages in the code stand for, and what a reader of a viewer's messages does.
-use Rattle.std.specs.Prelude.{◌≡◌, ℕ, ◌==◌, not, ◌⊎◌, List, Result}
+use Rattle.std.specs.Prelude.{◌≡◌, ℕ, ◌⊎◌, List, Result}
 use Rattle.pixel_format.specs.declared.fault.Fault.{Fault}
-use Rattle.pixel_format.specs.declared.fault.Fault.TheVariants.{UnknownMessage}
-use Rattle.pixel_format.specs.Reading.{Reading, Done, Faulty, Want, ◌>>=◌, byte, unless, Feeds}
+use Rattle.pixel_format.specs.Reading.{Reading, Done, Faulty, Want, Feeds}
 use Rattle.rfb_wire.specs.declared.choice.Choice as declared_choice
 use Rattle.rfb_wire.specs.declared.message.ClientMessage as declared
 use Rattle.rfb_wire.specs.declared.message.ClientMessage.TheVariants as code
-use Rattle.rfb_wire.specs.ClientMessage.{ClientMessage, SetPixelFormat, SetEncodings, Ask, Key, Pointer, CutText, LostText, Choice, ask, without_text}
+use Rattle.rfb_wire.specs.ClientMessage.{ClientMessage, SetPixelFormat, SetEncodings, Ask, Key, Pointer, CutText, LostText, Choice, client_message, without_text}
 
 -- The choice that one in the code stands for.
 abbrev pub choice_in : declared_choice.Choice → Choice
@@ -22,9 +21,9 @@ message_of (code.Pointer mask x y) = Pointer mask x y
 message_of (code.Cut text) = CutText text
 message_of (code.CutLost len) = LostText len
 
--- The messages that are read of a viewer: FramebufferUpdateRequests, of type 3, alone.
+-- The messages that are read of a viewer.
 abbrev pub viewer_form : Reading ClientMessage
-viewer_form = byte >>= λ kind. unless (not (kind == 3)) (UnknownMessage kind) ask
+viewer_form = client_message
 
 -- The same reading, where memory for the text of its message was refused.
 abbrev pub losing : Reading ClientMessage → Reading ClientMessage

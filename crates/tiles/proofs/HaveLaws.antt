@@ -1,11 +1,11 @@
 -- What a viewer has, by what its session did.
-use Rattle.std.proofs.Common.{◌≡◌, ℕ, ◌<◌, ◌≤◌, Bool, true, false, List, [], ◌∷◌, length, get_or, Option, Some, None, refl, sym, ◌∙◌, ap, subst, arith}
+use Rattle.std.proofs.Common.{◌≡◌, ℕ, ◌<◌, ◌≤◌, Bool, true, List, ◌∷◌, length, Option, Some, None, sym, ◌∙◌, ap, subst, arith}
 use Rattle.std.specs.Prelude.{slice_get, unwrap_or, if◌then◌else◌}
 use Rattle.std.proofs.lemmas.Option.{slice_get-get_or, get_or_from_slice_get}
-use Rattle.raster.specs.Screen.{tile_count, tile_rect, meets, lies_in}
+use Rattle.raster.specs.Screen.{tile_count, tile_rect}
 use Rattle.raster.specs.declared.rect.Rect.{Rect}
 use Rattle.tiles.specs.Have.{SentTiles, HaveStands, sent_at}
-use Rattle.tiles.specs.Touched.{Event, Requested, NewFormat, WasCut, Answered, last_sent}
+use Rattle.tiles.specs.Touched.{Event, Requested, WasCut, last_sent}
 use Rattle.tiles.proofs.Marks.{IsMarked}
 
 -- An incremental request and a cut change nothing of it.

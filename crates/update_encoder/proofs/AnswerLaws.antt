@@ -1,7 +1,7 @@
 -- The bytes of an answer are read as its rectangles, and these bring what the screen shows.
 use Rattle.std.proofs.Common.{◌≡◌, ℕ, ◌+◌, ◌-◌, ◌^◌, ◌<◌, ◌≤◌, Bool, true, false, cond, List, [], ◌∷◌, length, map, Option, Some, None, refl, ap, sym, ◌∙◌, arith, inl, inr, zero, suc, eq-eqb}
 use Rattle.std.proofs.lemmas.Bool.{eqb-true}
-use Rattle.std.specs.Prelude.{◌&&◌, ◌==◌, not, slice_index, if◌then◌else◌}
+use Rattle.std.specs.Prelude.{◌&&◌, ◌==◌, slice_index, if◌then◌else◌}
 use Rattle.pixel_format.specs.PixelFormat.{PixelFormat, IsAccepted, tint}
 use Rattle.pixel_format.specs.Reading.{Spells, after, taken, whole_of}
 use Rattle.std.proofs.lemmas.List.{length-map}
@@ -22,7 +22,8 @@ use Rattle.raster.proofs.Places.{Has, has_holds, holds_has, values_at, tinted_at
 use Rattle.raster.proofs.Spellings.{Each}
 use Rattle.rfb_wire.specs.Written.{AreRead}
 use Rattle.rfb_wire.proofs.Updates.{rectangle_is_read, copy_is_read, update_is_read}
-use Rattle.tiles.proofs.RunLaws.{InSome, IsPart}
+use Rattle.tiles.specs.Brings.{IsPart}
+use Rattle.tiles.proofs.RunLaws.{InSome}
 
 -- The paint that a rectangle of an answer is read as.
 abbrev pub copied : Option Rect → Rect → Paint

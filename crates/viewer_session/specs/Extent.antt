@@ -1,7 +1,7 @@
 -- How much of the protocol is served.
 use Rattle.std.specs.Prelude.{ℕ, Bool, true}
 use Rattle.pixel_format.specs.PixelFormat.{host_format, IsAccepted}
-use Rattle.pixel_format.specs.Reading.{Reading, Done, Faulty, Want}
+use Rattle.pixel_format.specs.Reading.{Reading, Gives}
 use Rattle.rfb_wire.specs.ClientMessage.{ClientMessage, SetPixelFormat, SetEncodings, Ask, Key, Pointer, CutText, LostText, client_message}
 use Rattle.rfb_wire.specs.ServerMessage.{ServerMessage, server_message}
 
@@ -29,6 +29,4 @@ HasAccepted (LostText len) = Unit {0}
 
 -- Whatever bytes come, what is read has accepted pixel formats alone.
 abbrev pub GivesAccepted : Reading ClientMessage → Type 0
-GivesAccepted (Done message) = HasAccepted message
-GivesAccepted (Faulty fault) = Unit {0}
-GivesAccepted (Want more) = (b : ℕ) → GivesAccepted (more b)
+GivesAccepted form = Gives HasAccepted form

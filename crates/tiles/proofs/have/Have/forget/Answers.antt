@@ -1,7 +1,7 @@
-use Rattle.std.proofs.Common.{◌≡◌, ◌∷◌, false, None, Some, length, arith, subst, sym, ap, refl, ◌∙◌}
-use Rattle.raster.specs.Screen.{tile_count, tile_rect, meets, lies_in}
+use Rattle.std.proofs.Common.{◌≡◌, ◌∷◌, false, None, length, arith, subst, sym, ap, refl, ◌∙◌}
+use Rattle.raster.specs.Screen.{tile_count, tile_rect, meets}
 use Rattle.tiles.specs.Have.{SentTiles}
-use Rattle.tiles.specs.Touched.{Requested, Answered}
+use Rattle.tiles.specs.Touched.{Requested}
 use Rattle.tiles.proofs.Marks.{one_passes, one_stays}
 use Rattle.tiles.proofs.HaveLaws.{stands_marked}
 use Rattle.tiles.proofs.have.Have.forget.Goals as goal

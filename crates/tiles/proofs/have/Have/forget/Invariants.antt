@@ -1,5 +1,5 @@
-use Rattle.std.proofs.Common.{◌≡◌, true, Some, None}
-use Rattle.raster.specs.Screen.{tile_rect, meets, lies_in}
+use Rattle.std.proofs.Common.{◌≡◌, None}
+use Rattle.raster.specs.Screen.{tile_rect, meets}
 use Rattle.tiles.proofs.Marks.{IsMarked}
 use Rattle.tiles.proofs.have.Have.forget.Given as goal
 

@@ -1,7 +1,7 @@
-use Rattle.std.proofs.Common.{◌≡◌, ◌∷◌, false, None, Some, length, arith, subst, sym, ap, refl, ◌∙◌}
-use Rattle.raster.specs.Screen.{tile_count, tile_rect, meets, lies_in}
+use Rattle.std.proofs.Common.{◌≡◌, ◌∷◌, Some, length, arith, subst, sym, ap, refl, ◌∙◌}
+use Rattle.raster.specs.Screen.{tile_count, tile_rect, lies_in}
 use Rattle.tiles.specs.Have.{SentTiles}
-use Rattle.tiles.specs.Touched.{Requested, Answered}
+use Rattle.tiles.specs.Touched.{Answered}
 use Rattle.tiles.proofs.Marks.{one_passes, one_stays}
 use Rattle.tiles.proofs.HaveLaws.{stands_marked}
 use Rattle.tiles.proofs.have.Have.keep.Goals as goal

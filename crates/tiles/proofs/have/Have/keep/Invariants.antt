@@ -1,5 +1,5 @@
-use Rattle.std.proofs.Common.{◌≡◌, true, Some, None}
-use Rattle.raster.specs.Screen.{tile_rect, meets, lies_in}
+use Rattle.std.proofs.Common.{◌≡◌, Some}
+use Rattle.raster.specs.Screen.{tile_rect, lies_in}
 use Rattle.tiles.proofs.Marks.{IsMarked}
 use Rattle.tiles.proofs.have.Have.keep.Given as goal
 

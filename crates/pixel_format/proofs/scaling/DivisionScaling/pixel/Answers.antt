@@ -1,0 +1,39 @@
+use Rattle.std.proofs.Common.{◌≡◌, refl}
+use Rattle.pixel_format.specs.PixelFormat.{on_channel, red_of, green_of, blue_of}
+use Rattle.pixel_format.proofs.Tints.{channels_fit, two_fit, three_fit, three_below}
+use Rattle.pixel_format.proofs.scaling.DivisionScaling.pixel.Goals as goal
+
+pub place-requires : goal.place-requires
+place-requires c =
+    let fit = channels_fit c.args.format.now (rw (← c.format.view_is) c.format.invariant) in
+    rw (← c.format.view_is) at fit.0
+
+pub place-requires-2 : goal.place-requires-2
+place-requires-2 c =
+    let fit = channels_fit c.args.format.now (rw (← c.format.view_is) c.format.invariant) in
+    rw (← c.format.view_is) at fit.1
+
+pub place-requires-3 : goal.place-requires-3
+place-requires-3 c =
+    let fit = channels_fit c.args.format.now (rw (← c.format.view_is) c.format.invariant) in
+    rw (← c.format.view_is) at fit.2
+
+pub overflow_add-result : goal.overflow_add-result
+overflow_add-result c =
+    let red : c.place.result ≡ on_channel c.args.format.now.red (red_of c.args.colour) = rw (c.place.ensures, c.to_le_bytes.ensures, ← c.format.view_is) refl in
+    let green : c.place-2.result ≡ on_channel c.args.format.now.green (green_of c.args.colour) = rw (c.place-2.ensures, c.to_le_bytes.ensures, ← c.format.view_is) refl in
+    two_fit c.args.format.now c.args.colour c.place.result c.place-2.result (rw (← c.format.view_is) c.format.invariant) red green
+
+pub overflow_add-result-2 : goal.overflow_add-result-2
+overflow_add-result-2 c =
+    let red : c.place.result ≡ on_channel c.args.format.now.red (red_of c.args.colour) = rw (c.place.ensures, c.to_le_bytes.ensures, ← c.format.view_is) refl in
+    let green : c.place-2.result ≡ on_channel c.args.format.now.green (green_of c.args.colour) = rw (c.place-2.ensures, c.to_le_bytes.ensures, ← c.format.view_is) refl in
+    let blue : c.place-3.result ≡ on_channel c.args.format.now.blue (blue_of c.args.colour) = rw (c.place-3.ensures, c.to_le_bytes.ensures, ← c.format.view_is) refl in
+    three_fit c.args.format.now c.args.colour c.place.result c.place-2.result c.place-3.result (rw (← c.format.view_is) c.format.invariant) red green blue
+
+pub returns-clause-bound : goal.returns-clause-bound
+returns-clause-bound c =
+    let red : c.place.result ≡ on_channel c.args.format.now.red (red_of c.args.colour) = rw (c.place.ensures, c.to_le_bytes.ensures, ← c.format.view_is) refl in
+    let green : c.place-2.result ≡ on_channel c.args.format.now.green (green_of c.args.colour) = rw (c.place-2.ensures, c.to_le_bytes.ensures, ← c.format.view_is) refl in
+    let blue : c.place-3.result ≡ on_channel c.args.format.now.blue (blue_of c.args.colour) = rw (c.place-3.ensures, c.to_le_bytes.ensures, ← c.format.view_is) refl in
+    three_below c.args.format.now c.args.colour c.place.result c.place-2.result c.place-3.result (rw (← c.format.view_is) c.format.invariant) red green blue

@@ -1,0 +1,28 @@
+use Rattle.std.proofs.Common.{arith, inr, sym, ◌+◌, ◌*◌, ◌<◌, ◌∙◌}
+use Rattle.raster.specs.Screen.{value_at}
+use Rattle.raster.proofs.Rows.{row_fits, lay_more, copy_untouched, part_row, part_at}
+use Rattle.raster.proofs.painting.copy_from_top.Goals as goal
+
+pub move_within-requires-clause-source : goal.move_within-requires-clause-source
+move_within-requires-clause-source c =
+    let row : c.args.y + c.loop-row.row < c.args.h = omega (arith, c.requires.source.down) in
+    omega (arith, c.loop-row.invariant.size, row_fits c.args.w c.args.h (c.args.y + c.loop-row.row) c.args.x c.args.area.w row c.requires.source.across)
+
+pub move_within-requires-clause-target : goal.move_within-requires-clause-target
+move_within-requires-clause-target c =
+    let row : c.args.area.y + c.loop-row.row < c.args.h = omega (arith, c.requires.within.down) in
+    omega (arith, c.loop-row.invariant.size, row_fits c.args.w c.args.h (c.args.area.y + c.loop-row.row) c.args.area.x c.args.area.w row c.requires.within.across)
+
+pub loop-row-preserved : goal.loop-row-preserved
+loop-row-preserved c =
+    record {
+      size = omega arith;
+      shows = lay_more c.args.w c.args.h c.args.area.x c.args.area.y c.args.area.w c.loop-row.row (λ a b. value_at c.args.w c.args.values.now (c.args.x + a) (c.args.y + b)) (value_at c.args.w c.args.values.now) c.loop-row.values c.move_within.new.values
+          (part_row c.args.values.now ((c.args.y + c.loop-row.row) * c.args.w + c.args.x) c.args.area.w) c.requires.within.across (omega (arith, c.requires.within.down)) c.loop-row.invariant.shows
+          (λ k lt. c.move_within.ensures.inside k lt
+          ∙ (copy_untouched c.args.w c.args.h c.args.area.x c.args.area.y c.args.area.w c.loop-row.row c.args.x c.args.y c.args.x (c.args.y + c.loop-row.row) k c.loop-row.values c.args.values.now c.loop-row.invariant.shows (omega (arith, c.requires.source.across)) (omega (arith, c.requires.source.down)) (inr (omega arith))
+          ∙ sym (part_at c.args.values.now c.args.w c.args.x (c.args.y + c.loop-row.row) c.args.area.w k lt)))
+          (λ k lt. part_at c.args.values.now c.args.w c.args.x (c.args.y + c.loop-row.row) c.args.area.w k lt)
+          c.move_within.ensures.below
+          c.move_within.ensures.past;
+    }

@@ -1,0 +1,2 @@
+pub mod ShowLaws
+pub mod CutLaws

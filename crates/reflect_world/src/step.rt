@@ -1,0 +1,54 @@
+//! Steps of a schedule.
+
+ghost use Rattle.std.specs.Prelude.{◌≡◌, IfOk};
+ghost use Rattle.reflect_world.specs.World.{step_of};
+
+use roles::Role;
+use std::alloc::{AllocError, Global};
+
+/// What may happen next in a reflector. Viewers are named by numbers from 1 to 64; a step of a viewer that isn't there changes nothing.
+#[derive(Debug, Drop)]
+pub enum Step {
+    /// Bytes of the host come. They are kept; `Put` reads on.
+    HostBytes(Vec<u8>),
+    /// The next update in the host's bytes is put, if there is one.
+    Put,
+    /// The tally becomes the number of updates.
+    Raise,
+    /// Bytes of a viewer come, and are read.
+    Bytes(u64, Vec<u8>),
+    /// A viewer's session looks at the tally, where all its bytes are written and it has no fault: the first half of a turn.
+    Look(u64),
+    /// It cuts and answers, where there is reason for it: the second half. It is taken only directly after its `Look`, as far as
+    /// that viewer's steps go.
+    Cut(u64),
+    /// So many more of a viewer's unsent bytes are written, at most those there are.
+    Written(u64, u64),
+}
+
+/// What a world keeps: a viewer joined, or a step was played.
+#[derive(Debug, Drop)]
+pub enum Entry {
+    Joined(u64, Role, bool),
+    Played(Step),
+}
+
+impl Step {
+    /// The same step, with bytes of its own.
+    pub fn copy(&self, alloc: Global) -> Result<Step, AllocError>
+        ensures { IfOk result (λ same. step_of same ≡ step_of self.now) }
+    {
+        Ok(match self {
+            Step::HostBytes(bytes) => Step::HostBytes(Vec::from_slice(alloc, bytes.as_slice())?),
+            Step::Put => Step::Put,
+            Step::Raise => Step::Raise,
+            Step::Bytes(viewer, bytes) => Step::Bytes(
+                *viewer,
+                Vec::from_slice(alloc, bytes.as_slice())?,
+            ),
+            Step::Look(viewer) => Step::Look(*viewer),
+            Step::Cut(viewer) => Step::Cut(*viewer),
+            Step::Written(viewer, count) => Step::Written(*viewer, *count),
+        })
+    }
+}

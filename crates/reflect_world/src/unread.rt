@@ -1,0 +1,62 @@
+//! Bytes that came and wait to be read.
+
+ghost use Rattle.std.specs.Prelude.{◌≡◌, ◌≤◌, [], ◌++◌, length, drop, OnOk, OnErr};
+
+use std::alloc::{AllocError, Global};
+use std::marker::Model;
+
+/// A stream of bytes that is read from its front. Contracts see those that weren't read yet.
+#[derive(Drop)]
+pub struct Unread {
+    bytes: Vec<u8>,
+    read: usize,
+}
+
+impl Model for Unread {
+    ghost use Rattle.std.specs.Prelude.{ℕ, ◌≤◌, List, length, drop};
+
+    ghost Value = { List ℕ };
+
+    ghost view = { λ u. drop u.read u.bytes.items };
+
+    ghost invariant = { λ u. u.read ≤ length u.bytes.items };
+}
+
+impl Unread {
+    /// No bytes.
+    pub fn new(alloc: Global) -> Self
+        ensures { result ≡ [] }
+    {
+        Unread {
+            bytes: Vec::new(alloc),
+            read: 0,
+        }
+    }
+
+    /// Adds bytes at the end. Where memory is refused nothing has changed.
+    pub fn add(&mut self, bytes: &[u8]) -> Result<(), AllocError>
+        ensures ok { OnOk result (self.new ≡ self.old ++ bytes.now) }
+        ensures err { OnErr result (self.new ≡ self.old) }
+    {
+        self.bytes.extend_from_slice(bytes)
+    }
+
+    /// The bytes.
+    pub fn bytes(&self) -> &[u8]
+        ensures { result.now ≡ self.now }
+    {
+        &self.bytes.as_slice()[self.read..]
+    }
+
+    /// So many of them were read.
+    pub fn take(&mut self, count: usize)
+        requires { count ≤ length self.old }
+        ensures { self.new ≡ drop count self.old }
+    {
+        self.read += count;
+        if self.read == self.bytes.len() {
+            self.bytes.clear();
+            self.read = 0;
+        }
+    }
+}

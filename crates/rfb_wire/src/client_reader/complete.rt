@@ -1,0 +1,136 @@
+//! What follows once all bytes of a part have come.
+
+ghost use Rattle.std.specs.Prelude.{◌≡◌, length, suc};
+ghost use Rattle.pixel_format.specs.Reading.{after};
+ghost use Rattle.rfb_wire.specs.ClientMessage.{CutText, LostText, ask, fields_of, key_event, pointer_event, set_encodings, set_pixel_format, text};
+ghost use Rattle.rfb_wire.specs.ClientReader.{ahead, form_of, numbers};
+ghost use Rattle.rfb_wire.specs.Parts.{len_of};
+
+use crate::client_reader::fields::Fields;
+use crate::client_reader::found::Found;
+use crate::client_reader::kept::{Kept, LONGEST_TEXT};
+use crate::client_reader::part::Part;
+use crate::client_reader::past::Past;
+use crate::client_reader::state::{State, Wrong};
+use crate::head::read_rect;
+use crate::message::ClientMessage;
+use pixel_format::Format;
+use std::alloc::Global;
+
+/// How reading goes on behind a part that has these bytes.
+pub fn complete(alloc: Global, part: Part, b: &[u8]) -> State
+    requires { length b.now ≡ len_of part }
+    ensures { ahead result ≡ after (form_of part) b.now }
+{
+    match part {
+        Part::Kind => behind_kind(b[0]),
+        Part::Format => format(b),
+        Part::Count => encodings(b),
+        Part::Number { left, found } => number(left, found, b),
+        Part::Ask => request(b),
+        Part::Key => key(b),
+        Part::Pointer => pointer(b),
+        Part::Length => cut(alloc, b),
+    }
+}
+
+fn behind_kind(kind: u8) -> State
+    ensures { ahead result ≡ fields_of kind }
+{
+    let part = match kind {
+        0 => Part::Format,
+        2 => Part::Count,
+        3 => Part::Ask,
+        4 => Part::Key,
+        5 => Part::Pointer,
+        6 => Part::Length,
+        _ => return State::Failed(Wrong::Kind(kind)),
+    };
+    State::Fields(Fields::of(part))
+}
+
+fn format(b: &[u8]) -> State
+    requires { length b.now ≡ 19 }
+    ensures { ahead result ≡ after set_pixel_format b.now }
+{
+    let (_, fields) = b.split_at(3);
+    match fields.first_chunk::<16>() {
+        Some(fields) => match Format::read(fields) {
+            Ok(format) => State::Whole(ClientMessage::Format(format)),
+            Err(_) => State::Failed(Wrong::Format),
+        },
+        None => unreachable!(),
+    }
+}
+
+fn encodings(b: &[u8]) -> State
+    requires { length b.now ≡ 3 }
+    ensures { ahead result ≡ after set_encodings b.now }
+{
+    match u16::from_be_bytes([b[1], b[2]]) {
+        0 => State::Whole(ClientMessage::Encodings(Found::NOTHING.choice())),
+        count => State::Fields(Fields::of(Part::Number {
+            left: count - 1,
+            found: Found::NOTHING,
+        })),
+    }
+}
+
+fn number(left: u16, found: Found, b: &[u8]) -> State
+    requires { length b.now ≡ 4 }
+    ensures { ahead result ≡ after (numbers (suc left) found) b.now }
+{
+    let found = found.note(u32::from_be_bytes([b[0], b[1], b[2], b[3]]));
+    if left == 0 {
+        State::Whole(ClientMessage::Encodings(found.choice()))
+    } else {
+        State::Fields(Fields::of(Part::Number {
+            left: left - 1,
+            found,
+        }))
+    }
+}
+
+fn request(b: &[u8]) -> State
+    requires { length b.now ≡ 9 }
+    ensures { ahead result ≡ after ask b.now }
+{
+    let (flag, rect) = b.split_at(1);
+    State::Whole(ClientMessage::Ask {
+        incremental: flag[0] != 0,
+        rect: read_rect(rect),
+    })
+}
+
+fn key(b: &[u8]) -> State
+    requires { length b.now ≡ 7 }
+    ensures { ahead result ≡ after key_event b.now }
+{
+    State::Whole(ClientMessage::Key {
+        down: b[0] != 0,
+        key: u32::from_be_bytes([b[3], b[4], b[5], b[6]]),
+    })
+}
+
+fn pointer(b: &[u8]) -> State
+    requires { length b.now ≡ 5 }
+    ensures { ahead result ≡ after pointer_event b.now }
+{
+    State::Whole(ClientMessage::Pointer {
+        mask: b[0],
+        x: u16::from_be_bytes([b[1], b[2]]),
+        y: u16::from_be_bytes([b[3], b[4]]),
+    })
+}
+
+fn cut(alloc: Global, b: &[u8]) -> State
+    requires { length b.now ≡ 7 }
+    ensures { ahead result ≡ after (text CutText LostText) b.now }
+{
+    let len = u32::from_be_bytes([b[3], b[4], b[5], b[6]]);
+    if len > LONGEST_TEXT {
+        Past::begin(len, len)
+    } else {
+        Kept::begin(alloc, len as usize)
+    }
+}

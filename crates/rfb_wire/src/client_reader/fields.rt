@@ -1,0 +1,78 @@
+//! Fields of a fixed length, as they come.
+
+ghost use Rattle.std.specs.Prelude.{◌≡◌, true, ◌+◌, ◌<◌, ◌≤◌, [], ◌++◌, length};
+ghost use Rattle.pixel_format.specs.Reading.{after, wants_more};
+ghost use Rattle.rfb_wire.specs.ClientReader.{ahead, form_of};
+ghost use Rattle.rfb_wire.specs.Parts.{len_of};
+
+use crate::client_reader::complete::complete;
+use crate::client_reader::part::Part;
+use crate::client_reader::state::State;
+use std::alloc::Global;
+use std::marker::Model;
+
+/// A part of a message, and those of its bytes that have come. At least one is missing.
+#[derive(Drop)]
+pub struct Fields {
+    part: Part,
+    bytes: [u8; 19],
+    filled: usize,
+}
+
+impl Model for Fields {
+    ghost use Rattle.std.specs.Prelude.{ℕ, ◌<◌, List, take};
+    ghost use Rattle.rfb_wire.specs.declared.client_reader.part.Part.{Part};
+
+    ghost Value = { Part × List ℕ };
+
+    ghost use Rattle.rfb_wire.specs.Parts.{len_of};
+
+    ghost view = { λ f. (f.part, take f.filled f.bytes) };
+
+    ghost invariant = { λ f. f.filled < len_of f.part };
+}
+
+impl Fields {
+    /// No byte of this part.
+    pub fn of(part: Part) -> Fields
+        ensures { result ≡ (part, []) }
+    {
+        Fields {
+            part,
+            bytes: [0; 19],
+            filled: 0,
+        }
+    }
+
+    /// How many of its bytes are missing.
+    pub fn left(&self) -> usize
+        ensures value { length self.now.1 + result ≡ len_of self.now.0 }
+        ensures some { 0 < result }
+        ensures wants { wants_more (after (form_of self.now.0) self.now.1) ≡ true }
+    {
+        self.part.len() - self.filled
+    }
+
+    /// What becomes of it with its next bytes.
+    pub fn with_bytes(self, alloc: Global, next: &[u8]) -> State
+        requires { length self.1 + length next.now ≤ len_of self.0 }
+        ensures { ahead result ≡ after (form_of self.0) (self.1 ++ next.now) }
+    {
+        let Fields {
+            part,
+            mut bytes,
+            filled,
+        } = self;
+        let end = filled + next.len();
+        bytes[filled..end].copy_from_slice(next);
+        if end < part.len() {
+            State::Fields(Fields {
+                part,
+                bytes,
+                filled: end,
+            })
+        } else {
+            complete(alloc, part, &bytes[..end])
+        }
+    }
+}

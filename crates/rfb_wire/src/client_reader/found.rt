@@ -1,0 +1,50 @@
+//! What a list of encodings comes to, as its numbers come.
+
+ghost use Rattle.std.specs.Prelude.{◌≡◌, ℕ, List, [], ◌∷◌};
+ghost use Rattle.rfb_wire.specs.ClientReader.{choice_with};
+ghost use Rattle.rfb_wire.specs.Message.{choice_in};
+
+use crate::choice::Choice;
+use raster::Encoding;
+
+/// What the numbers so far say (RFC 6143, 7.5.2 and 7.7): the first encoding of pixels that the reflector writes, and
+/// whether CopyRect is among them. The list itself is not kept.
+#[derive(Clone, Copy)]
+pub struct Found {
+    kind: Option<Encoding>,
+    copy: bool,
+}
+
+impl Found {
+    /// Of no numbers.
+    pub const NOTHING: Found = Found {
+        kind: None,
+        copy: false,
+    };
+
+    /// One more number. Of the encodings of pixels the first counts.
+    pub fn note(self, number: u32) -> Found
+        ensures { (others : List ℕ) → choice_with result others ≡ choice_with self (number ∷ others) }
+    {
+        let kind = match number {
+            0 => Some(Encoding::Raw),
+            2 => Some(Encoding::Rre),
+            5 => Some(Encoding::Hextile),
+            _ => None,
+        };
+        Found {
+            kind: self.kind.or(kind),
+            copy: self.copy || number == 1,
+        }
+    }
+
+    /// The choice, where no more numbers come.
+    pub fn choice(self) -> Choice
+        ensures { choice_in result ≡ choice_with self [] }
+    {
+        Choice {
+            kind: self.kind.unwrap_or(Encoding::Raw),
+            copy: self.copy,
+        }
+    }
+}

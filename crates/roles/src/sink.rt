@@ -1,0 +1,20 @@
+//! Where input goes.
+
+ghost use Rattle.std.specs.Prelude.{◌≡◌, List, [], ◌∷◌, ◌++◌, OnOk, IfErr};
+ghost use Rattle.roles.specs.Allowed as definitions;
+ghost use Rattle.roles.specs.Held.{input_in};
+
+use crate::input::Input;
+use pixel_format::Fault;
+
+/// What takes the input of one viewer on its way to the host.
+pub trait InputSink {
+    /// What it took, in order.
+    ghost sent: { Self → List definitions.Input };
+
+    /// Takes an input. Where it is refused nothing has changed, and the input comes back: `QueueFull` where there is no room
+    /// now, another fault where there will be none.
+    fn send(&mut self, input: Input) -> Result<(), (Fault, Input)>
+        ensures ok { OnOk result (sent self.new ≡ sent self.old ++ input_in input ∷ []) }
+        ensures err { IfErr result (λ refused. (sent self.new ≡ sent self.old) × (refused.1 ≡ input)) };
+}

@@ -1,0 +1,70 @@
+-- How a reader goes on with bytes that it wants.
+use Rattle.std.proofs.Common.{◌≡◌, ℕ, zero, suc, ◌+◌, ◌-◌, ◌<◌, ◌≤◌, true, false, List, [], ◌++◌, length, Some, None, is_some, refl, sym, ap, ◌∙◌, arith}
+use Rattle.std.specs.Prelude.{◌==◌}
+use Rattle.std.proofs.lemmas.Bool.{lt-ltb, ne_eqb}
+use Rattle.pixel_format.specs.PixelFormat.{PixelFormat}
+use Rattle.pixel_format.specs.Reading.{Reading, Done, Faulty, Want, after, taken, wants_more, whole_of, fault_of}
+use Rattle.pixel_format.specs.declared.fault.Fault.TheVariants.{SubrectOutside}
+use Rattle.pixel_format.proofs.ReadingLaws.{after-append, after-done, after-faulty}
+use Rattle.raster.specs.Encoding.{Drawing}
+use Rattle.raster.proofs.FixedLength.{Needs, needs_takes, needs_after, needs_wants}
+use Rattle.rre_codec.specs.declared.stage.Stage.{Stage}
+use Rattle.rre_codec.specs.declared.stage.Stage.TheVariants.{Head, Subrects, Outside}
+use Rattle.rre_codec.specs.Ahead.{next_form, needed, is_open}
+use Rattle.rre_codec.proofs.Steps.{stage_needs}
+
+-- What is still needed, once some have come.
+left_needs : (format : PixelFormat) (w h : ℕ) (stage : Stage) (sofar : Drawing) (begun : List ℕ) → is_open stage ≡ true → length begun ≤ needed format stage
+    → Needs (needed format stage - length begun) (after (next_form format w h stage sofar) begun)
+left_needs format w h stage sofar begun e le =
+    needs_after (needed format stage) (needed format stage - length begun) (next_form format w h stage sofar) begun (stage_needs format w h stage sofar e) (omega arith)
+
+pub open_wants : (format : PixelFormat) (w h : ℕ) (stage : Stage) (sofar : Drawing) (begun : List ℕ) → is_open stage ≡ true → length begun < needed format stage
+    → wants_more (after (next_form format w h stage sofar) begun) ≡ true
+open_wants format w h stage sofar begun e lt = needs_wants (needed format stage - length begun) (after (next_form format w h stage sofar) begun) (left_needs format w h stage sofar begun e (omega arith)) (omega arith)
+
+wants_no_fault : {A : Type 0} (r : Reading A) → wants_more r ≡ true → fault_of r ≡ None
+wants_no_fault (Done x) e = refl
+wants_no_fault (Faulty f) e = absurd cc
+wants_no_fault (Want more) e = refl
+
+wants_not_whole : {A : Type 0} (r : Reading A) → wants_more r ≡ true → is_some (whole_of r) ≡ false
+wants_not_whole (Done x) e = absurd cc
+wants_not_whole (Faulty f) e = refl
+wants_not_whole (Want more) e = refl
+
+-- Where no subrectangle left the rectangle there is no fault.
+pub no_fault : (format : PixelFormat) (w h : ℕ) (stage : Stage) (sofar : Drawing) (begun : List ℕ) → (stage ≡ Outside → ⊥) → length begun < needed format stage → fault_of (after (next_form format w h stage sofar) begun) ≡ None
+no_fault format w h Head sofar begun ok lt = wants_no_fault (after (next_form format w h Head sofar) begun) (open_wants format w h Head sofar begun refl lt)
+no_fault format w h (Subrects zero) sofar begun ok lt = ap fault_of (after-done (record { background = sofar.background; subrects = sofar.subrects ++ [] }) begun)
+no_fault format w h (Subrects (suc n)) sofar begun ok lt = wants_no_fault (after (next_form format w h (Subrects (suc n)) sofar) begun) (open_wants format w h (Subrects (suc n)) sofar begun (lt-ltb 0 (suc n) (omega arith)) lt)
+no_fault format w h Outside sofar begun ok lt = absurd (ok refl)
+
+pub at_fault : (begun : List ℕ) → fault_of (after {A = Drawing} (Faulty SubrectOutside) begun) ≡ Some SubrectOutside
+at_fault begun = ap (λ (r : Reading Drawing). fault_of r) (after-faulty {A = Drawing} SubrectOutside begun)
+
+-- Where none is left, or one has left the rectangle, no byte is wanted.
+pub closed_wants : (format : PixelFormat) (w h : ℕ) (stage : Stage) (sofar : Drawing) (begun : List ℕ) → is_open stage ≡ false → wants_more (after (next_form format w h stage sofar) begun) ≡ false
+closed_wants format w h Head sofar begun e = absurd cc
+closed_wants format w h (Subrects zero) sofar begun e = ap (λ (r : Reading Drawing). wants_more r) (after-done (record { background = sofar.background; subrects = sofar.subrects ++ [] }) begun)
+closed_wants format w h (Subrects (suc n)) sofar begun e = let t : true ≡ false = sym (lt-ltb 0 (suc n) (omega arith)) ∙ e in absurd cc
+closed_wants format w h Outside sofar begun e = ap (λ (r : Reading Drawing). wants_more r) (after-faulty {A = Drawing} SubrectOutside begun)
+
+-- It is whole where no subrectangle is left.
+pub whole_at : (format : PixelFormat) (w h n : ℕ) (sofar : Drawing) (begun : List ℕ) → length begun < needed format (Subrects n) → (n == 0) ≡ is_some (whole_of (after (next_form format w h (Subrects n) sofar) begun))
+whole_at format w h zero sofar begun lt = sym (ap (λ (r : Reading Drawing). is_some (whole_of r)) (after-done (record { background = sofar.background; subrects = sofar.subrects ++ [] }) begun))
+whole_at format w h (suc n) sofar begun lt = ne_eqb (suc n) 0 (λ e. absurd (omega arith)) ∙ sym (wants_not_whole (after (next_form format w h (Subrects (suc n)) sofar) begun) (open_wants format w h (Subrects (suc n)) sofar begun (lt-ltb 0 (suc n) (omega arith)) lt))
+
+pub not_whole : (format : PixelFormat) (w h : ℕ) (stage : Stage) (sofar : Drawing) (begun : List ℕ) → ((n : ℕ) → stage ≡ Subrects n → ⊥) → length begun < needed format stage → is_some (whole_of (after (next_form format w h stage sofar) begun)) ≡ false
+not_whole format w h Head sofar begun ok lt = wants_not_whole (after (next_form format w h Head sofar) begun) (open_wants format w h Head sofar begun refl lt)
+not_whole format w h (Subrects n) sofar begun ok lt = absurd (ok n refl)
+not_whole format w h Outside sofar begun ok lt = ap (λ (r : Reading Drawing). is_some (whole_of r)) (after-faulty {A = Drawing} SubrectOutside begun)
+
+-- Bytes that are needed behind those that have come.
+pub goes_on : (format : PixelFormat) (w h : ℕ) (stage : Stage) (sofar : Drawing) (begun more joined : List ℕ) → joined ≡ begun ++ more → after (next_form format w h stage sofar) joined ≡ after (after (next_form format w h stage sofar) begun) more
+goes_on format w h stage sofar begun more joined e = ap (after (next_form format w h stage sofar)) e ∙ after-append (next_form format w h stage sofar) begun more
+
+pub all_taken : (format : PixelFormat) (w h : ℕ) (stage : Stage) (sofar : Drawing) (begun more : List ℕ) → is_open stage ≡ true → length begun + length more ≤ needed format stage
+    → taken (after (next_form format w h stage sofar) begun) more ≡ length more
+all_taken format w h stage sofar begun more e le =
+    needs_takes (needed format stage - length begun) (after (next_form format w h stage sofar) begun) more (left_needs format w h stage sofar begun e (omega arith)) (omega arith)

@@ -1,0 +1,6 @@
+pub mod Puts
+pub mod RunsPut
+pub mod Lengths
+pub mod Steps
+pub mod Going
+pub mod Fed

@@ -1,0 +1,55 @@
+use Rattle.std.proofs.Common.{◌≡◌, ℕ, ◌+◌, ◌-◌, ◌≤◌, ◌∙◌, ◌++◌, List, take, length, ap, sym, arith}
+use Rattle.std.proofs.lemmas.List.{length-take}
+use Rattle.std.proofs.lemmas.Slice.{take-put_mid}
+use Rattle.rre_codec.specs.Ahead.{needed}
+use Rattle.rre_codec.proofs.Going.{goes_on, all_taken}
+use Rattle.rre_codec.proofs.reading.Reader.step.Goals as goal
+
+pub returns-then-self-needed-clause-drawn : goal.returns-then-self-needed-clause-drawn
+returns-then-self-needed-clause-drawn g c sofar stands =
+    let format = c.self.inside.format in
+    let w : ℕ = c.self.inside.width in
+    let h : ℕ = c.self.inside.height in
+    let stage = c.self.inside.stage in
+    let filled : ℕ = c.self.inside.filled in
+    let count : ℕ = c.min-count.result in
+    let begun : List ℕ = take filled c.self.inside.buffer in
+    let more : List ℕ = take count c.args.bytes.now in
+    let wanted = rw (← c.self.view_is) at c.requires.open in
+    let before = rw (← c.self.view_is) at stands in
+    let led = c.draw-next.ensures.drawn sofar before in
+    let some : length more ≡ count = omega (arith, length-take count c.args.bytes.now, c.min-count.ensures) in
+    let room : length begun + length more ≤ needed format stage = omega (arith, length-take filled c.self.inside.buffer, some, c.min-count.ensures, c.needed-needed.ensures.value, c.self.invariant) in
+    let put : length c.copy_from_slice.new.self ≡ count = ap length c.copy_from_slice.ensures.after ∙ some in
+    let joined = take-put_mid filled (filled + count - filled) c.self.inside.buffer c.copy_from_slice.new.self c.needed-needed.result (omega (arith, put, c.if-self-needed.true)) (omega (arith, c.self.told, c.self.invariant, c.needed-needed.ensures.most, c.needed-needed.ensures.value)) ∙ ap (λ t. begun ++ t) c.copy_from_slice.ensures.after in
+    rw (← c.self.view_is)
+    (record {
+      drawing = led.drawing;
+      reads = sym led.reads ∙ goes_on format w h stage sofar begun more _ joined;
+      takes = all_taken format w h stage sofar begun more wanted room;
+      stands = led.shows;
+    })
+
+pub returns-else-self-needed-clause-drawn : goal.returns-else-self-needed-clause-drawn
+returns-else-self-needed-clause-drawn g c sofar stands =
+    let format = c.self.inside.format in
+    let w : ℕ = c.self.inside.width in
+    let h : ℕ = c.self.inside.height in
+    let stage = c.self.inside.stage in
+    let filled : ℕ = c.self.inside.filled in
+    let count : ℕ = c.min-count.result in
+    let begun : List ℕ = take filled c.self.inside.buffer in
+    let more : List ℕ = take count c.args.bytes.now in
+    let wanted = rw (← c.self.view_is) at c.requires.open in
+    let before = rw (← c.self.view_is) at stands in
+    let some : length more ≡ count = omega (arith, length-take count c.args.bytes.now, c.min-count.ensures) in
+    let room : length begun + length more ≤ needed format stage = omega (arith, length-take filled c.self.inside.buffer, some, c.min-count.ensures, c.needed-needed.ensures.value, c.self.invariant) in
+    let put : length c.copy_from_slice.new.self ≡ count = ap length c.copy_from_slice.ensures.after ∙ some in
+    let joined = take-put_mid filled (filled + count - filled) c.self.inside.buffer c.copy_from_slice.new.self (filled + count) (omega (arith, put)) (omega (arith, c.self.told, c.self.invariant, c.needed-needed.ensures.most, c.needed-needed.ensures.value)) ∙ ap (λ t. begun ++ t) c.copy_from_slice.ensures.after in
+    rw (← c.self.view_is)
+    (record {
+      drawing = sofar;
+      reads = goes_on format w h stage sofar begun more _ joined;
+      takes = all_taken format w h stage sofar begun more wanted room;
+      stands = before;
+    })

@@ -1,0 +1,94 @@
+-- How reading RRE goes on (RFC 6143, 7.7.3).
+use Rattle.std.specs.Prelude.{◌≡◌, ℕ, ◌+◌, List, [], ◌∷◌, ◌++◌, slice_index, length, Result, Bool, true, false, nat_lt}
+use Rattle.std.specs.Int.{w16, from_be_bytes}
+use Rattle.pixel_format.specs.PixelFormat.{PixelFormat, pixel_len}
+use Rattle.pixel_format.specs.Reading.{Reading, Done, Faulty, ◌>>=◌, after, taken, times, Feeds}
+use Rattle.pixel_format.specs.declared.fault.Fault.{Fault}
+use Rattle.pixel_format.specs.declared.fault.Fault.TheVariants.{SubrectOutside}
+use Rattle.raster.specs.declared.rect.Rect.{Rect}
+use Rattle.raster.specs.Screen.{Canvas, LooksLike}
+use Rattle.raster.specs.Encoding.{Drawing, drawn, rre, rre_subrect}
+use Rattle.rre_codec.specs.declared.stage.Stage.{Stage}
+use Rattle.rre_codec.specs.declared.stage.Stage.TheVariants.{Head, Subrects, Outside}
+
+-- How far a reader of a rectangle has come: what the next bytes are, and those of them that have come.
+pub record Progress : Type 0 where
+  pub format : PixelFormat
+  pub width : ℕ
+  pub height : ℕ
+  pub stage : Stage
+  pub begun : List ℕ
+
+-- So many subrectangles are still to come, over what was drawn so far.
+abbrev pub to_come : PixelFormat → ℕ → ℕ → Drawing → ℕ → Reading Drawing
+to_come format w h sofar count =
+    times count (rre_subrect format w h) >>= λ more. Done (record { background = sofar.background; subrects = sofar.subrects ++ more })
+
+-- What the next bytes are read as, over what was drawn so far.
+abbrev pub next_form : PixelFormat → ℕ → ℕ → Stage → Drawing → Reading Drawing
+next_form format w h Head sofar = rre format w h
+next_form format w h (Subrects count) sofar = to_come format w h sofar count
+next_form format w h Outside sofar = Faulty SubrectOutside
+
+-- How reading goes on.
+abbrev pub ahead : Progress → Drawing → Reading Drawing
+ahead p sofar = after (next_form p.format p.width p.height p.stage sofar) p.begun
+
+-- From the background on a canvas shows what was drawn so far. After a fault nothing is said of it.
+abbrev pub IsDrawn : ℕ → ℕ → Stage → Canvas → Drawing → Type 0
+IsDrawn w h Head canvas sofar = Unit {0}
+IsDrawn w h (Subrects count) canvas sofar = LooksLike w h canvas (drawn sofar)
+IsDrawn w h Outside canvas sofar = Unit {0}
+
+abbrev pub Stands : Progress → Canvas → Drawing → Type 0
+Stands p canvas sofar = IsDrawn p.width p.height p.stage canvas sofar
+
+-- Readers of rectangles of one size and format.
+pub record IsSameSize (old new : Progress) : Type 0 where
+  pub format : new.format ≡ old.format
+  pub width : new.width ≡ old.width
+  pub height : new.height ≡ old.height
+
+-- A reader took bytes, each of which was wanted, and drew what they say.
+pub record Steps (old new : Progress) (now : Canvas) (bytes : List ℕ) (sofar : Drawing) : Type 0 where
+  pub drawing : Drawing
+  pub reads : ahead new drawing ≡ after (ahead old sofar) bytes
+  pub takes : taken (ahead old sofar) bytes ≡ length bytes
+  pub stands : Stands new now drawing
+
+-- A reader was fed a piece, and drew what it took of it.
+pub record Draws (old new : Progress) (now : Canvas) (piece : List ℕ) (answer : Result ℕ Fault) (sofar : Drawing) : Type 0 where
+  pub drawing : Drawing
+  pub feeds : Feeds (ahead old sofar) (ahead new drawing) piece answer
+  pub stands : Stands new now drawing
+
+-- The bytes of a stage lead to the next one, and what they say was drawn.
+pub record Led (format : PixelFormat) (w h : ℕ) (stage next : Stage) (bytes : List ℕ) (now : Canvas) (sofar : Drawing) : Type 0 where
+  pub drawing : Drawing
+  pub reads : after (next_form format w h stage sofar) bytes ≡ next_form format w h next drawing
+  pub shows : IsDrawn w h next now drawing
+
+abbrev pub Leads : PixelFormat → ℕ → ℕ → Stage → Stage → List ℕ → Canvas → Canvas → Drawing → Type 0
+Leads format w h stage next bytes before now sofar = IsDrawn w h stage before sofar → Led format w h stage next bytes now sofar
+
+-- The rectangle in eight bytes.
+abbrev pub rect_in : List ℕ → Rect
+rect_in bytes =
+    record {
+      x = from_be_bytes w16 (slice_index bytes 0 ∷ slice_index bytes 1 ∷ []);
+      y = from_be_bytes w16 (slice_index bytes 2 ∷ slice_index bytes 3 ∷ []);
+      w = from_be_bytes w16 (slice_index bytes 4 ∷ slice_index bytes 5 ∷ []);
+      h = from_be_bytes w16 (slice_index bytes 6 ∷ slice_index bytes 7 ∷ []);
+    }
+
+-- How many bytes are looked at together.
+abbrev pub needed : PixelFormat → Stage → ℕ
+needed format Head = 4 + pixel_len format
+needed format (Subrects count) = pixel_len format + 8
+needed format Outside = pixel_len format + 8
+
+-- Whether another byte is wanted.
+abbrev pub is_open : Stage → Bool
+is_open Head = true
+is_open (Subrects count) = nat_lt 0 count
+is_open Outside = false

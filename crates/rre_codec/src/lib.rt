@@ -1,0 +1,14 @@
+//! RRE (RFC 6143, section 7.7.3), both ways, over pixel values of any accepted format.
+//!
+//! A rectangle is a background and subrectangles of one value each, painted over it in order. What is written is one
+//! spelling of our own: the first pixel's value as background, and the runs of each row. What is read is any.
+//! Nothing here takes memory or a handle.
+#![tactic(auto)]
+
+mod reading;
+mod run;
+mod stage;
+mod writing;
+
+pub use reading::Reader;
+pub use writing::encode;

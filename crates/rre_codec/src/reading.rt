@@ -1,0 +1,265 @@
+//! Reading RRE, in whatever pieces it comes.
+
+ghost use Rattle.std.specs.Prelude.{◌≡◌, ℕ, ◌+◌, ◌<◌, ◌≤◌, true, length, take, is_some, Some, None, MatchResult};
+ghost use Rattle.pixel_format.specs.PixelFormat.{pixel_len};
+ghost use Rattle.pixel_format.specs.Reading.{whole_of, fault_of};
+ghost use Rattle.raster.specs.Encoding.{Drawing, rre};
+ghost use Rattle.raster.specs.Screen.{Map};
+ghost use Rattle.rre_codec.specs.Ahead.{Leads, rect_in, needed, is_open, ahead, Stands, Steps, Draws, IsSameSize};
+
+use crate::run::{COUNT_LEN, PLACE_LEN};
+use crate::stage::{MOST_NEEDED, Stage, is_open, needed};
+use pixel_format::{Fault, Format};
+use raster::{Canvas, Rect};
+use std::marker::Model;
+
+/// The rectangle in eight bytes: x, y, width and height.
+fn area_of(place: &[u8]) -> Rect
+    requires { length place.now ≡ PLACE_LEN }
+    ensures { result ≡ rect_in place.now }
+{
+    Rect {
+        x: u64::from(u16::from_be_bytes([place[0], place[1]])),
+        y: u64::from(u16::from_be_bytes([place[2], place[3]])),
+        w: u64::from(u16::from_be_bytes([place[4], place[5]])),
+        h: u64::from(u16::from_be_bytes([place[6], place[7]])),
+    }
+}
+
+/// Draws the background in the bytes of a head, and answers that its subrectangles are next.
+fn draw_head<C: Canvas>(format: &Format, w: u64, h: u64, bytes: &[u8], canvas: &mut C) -> Stage
+    requires count { length bytes.now ≡ COUNT_LEN + pixel_len format.now }
+    requires width { C.width canvas.old ≡ w }
+    requires height { C.height canvas.old ≡ h }
+    ensures width { C.width canvas.new ≡ w }
+    ensures height { C.height canvas.new ≡ h }
+    ensures drawn { (sofar : Drawing) → Leads format.now w h Stage.Head result bytes.now (C.shows canvas.old) (C.shows canvas.new) sofar }
+{
+    let (count, background) = bytes.split_at(COUNT_LEN);
+    let count = u32::from_be_bytes([count[0], count[1], count[2], count[3]]);
+    canvas.fill(Rect { x: 0, y: 0, w, h }, format.get_pixel(background));
+    Stage::Subrects(count)
+}
+
+/// Draws the subrectangle in these bytes, if it lies inside, and answers what is next. It is one of `left`.
+fn draw_subrect<C: Canvas>(
+    format: &Format,
+    w: u64,
+    h: u64,
+    left: u32,
+    bytes: &[u8],
+    canvas: &mut C,
+) -> Stage
+    requires some { 0 < left }
+    requires count { length bytes.now ≡ pixel_len format.now + PLACE_LEN }
+    requires width { C.width canvas.old ≡ w }
+    requires height { C.height canvas.old ≡ h }
+    ensures width { C.width canvas.new ≡ w }
+    ensures height { C.height canvas.new ≡ h }
+    ensures drawn { (sofar : Drawing) → Leads format.now w h (Stage.Subrects left) result bytes.now (C.shows canvas.old) (C.shows canvas.new) sofar }
+{
+    let (value, place) = bytes.split_at(format.bytes());
+    let area = area_of(place);
+    if !area.within(w, h) {
+        return Stage::Outside;
+    }
+    canvas.fill(area, format.get_pixel(value));
+    Stage::Subrects(left - 1)
+}
+
+/// Draws what the bytes that are looked at together say, and answers what the next ones are.
+fn draw<C: Canvas>(
+    format: &Format,
+    w: u64,
+    h: u64,
+    stage: Stage,
+    bytes: &[u8],
+    canvas: &mut C,
+) -> Stage
+    requires open { is_open stage ≡ true }
+    requires count { length bytes.now ≡ needed format.now stage }
+    requires width { C.width canvas.old ≡ w }
+    requires height { C.height canvas.old ≡ h }
+    ensures width { C.width canvas.new ≡ w }
+    ensures height { C.height canvas.new ≡ h }
+    ensures drawn { (sofar : Drawing) → Leads format.now w h stage result bytes.now (C.shows canvas.old) (C.shows canvas.new) sofar }
+{
+    match stage {
+        Stage::Head => draw_head(format, w, h, bytes, canvas),
+        Stage::Subrects(left) => draw_subrect(format, w, h, left, bytes, canvas),
+        Stage::Outside => Stage::Outside,
+    }
+}
+
+/// A reader of one rectangle in RRE (RFC 6143, section 7.7.3), which paints as it reads. It holds no more than the
+/// bytes of one subrectangle.
+#[derive(Drop)]
+pub struct Reader {
+    format: Format,
+    width: u64,
+    height: u64,
+    stage: Stage,
+    buffer: [u8; MOST_NEEDED],
+    filled: usize,
+}
+
+impl Model for Reader {
+    ghost use Rattle.std.specs.Prelude.{take, ◌<◌};
+    ghost use Rattle.rre_codec.specs.Ahead.{Progress, needed};
+
+    ghost Value = { Progress };
+
+    ghost view = { λ r. record { format = r.format; width = r.width; height = r.height; stage = r.stage; begun = take r.filled r.buffer } };
+
+    ghost invariant = { λ r. r.filled < needed r.format r.stage };
+}
+
+impl Reader {
+    /// A reader to which no byte has come, of a rectangle of `w` by `h` in a format.
+    pub fn new(w: u64, h: u64, format: Format) -> Reader
+        ensures width { result.width ≡ w }
+        ensures height { result.height ≡ h }
+        ensures begins { (sofar : Drawing) → ahead result sofar ≡ rre format w h }
+        ensures stands { (canvas : Map ℕ) (sofar : Drawing) → Stands result canvas sofar }
+    {
+        Reader {
+            format,
+            width: w,
+            height: h,
+            stage: Stage::Head,
+            buffer: [0; MOST_NEEDED],
+            filled: 0,
+        }
+    }
+
+    /// Whether the rectangle is read to its end.
+    pub fn whole(&self) -> bool
+        ensures { (sofar : Drawing) → result ≡ is_some (whole_of (ahead self.now sofar)) }
+    {
+        match self.stage {
+            Stage::Subrects(left) => left == 0,
+            _ => false,
+        }
+    }
+
+    /// Whether another byte is wanted.
+    fn wants_more(&self) -> bool
+        ensures { result ≡ is_open self.now.stage }
+    {
+        is_open(self.stage)
+    }
+
+    /// Takes the front of some bytes, as far as they are looked at together, and answers how many.
+    fn step<C: Canvas>(&mut self, canvas: &mut C, bytes: &[u8]) -> usize
+        requires open { is_open self.old.stage ≡ true }
+        requires some { 0 < length bytes.now }
+        requires width { C.width canvas.old ≡ self.old.width }
+        requires height { C.height canvas.old ≡ self.old.height }
+        ensures some { 0 < result }
+        ensures within { result ≤ length bytes.now }
+        ensures size { IsSameSize self.old self.new }
+        ensures width { C.width canvas.new ≡ self.old.width }
+        ensures height { C.height canvas.new ≡ self.old.height }
+        ensures drawn { (sofar : Drawing) → Stands self.old (C.shows canvas.old) sofar → Steps self.old self.new (C.shows canvas.new) (take result bytes.now) sofar }
+    {
+        let needed = needed(&self.format, self.stage);
+        let count = bytes.len().min(needed - self.filled);
+        self.buffer[self.filled..self.filled + count].copy_from_slice(&bytes[..count]);
+        self.filled += count;
+        if self.filled == needed {
+            self.filled = 0;
+            let next = draw(
+                &self.format,
+                self.width,
+                self.height,
+                self.stage,
+                &self.buffer[..needed],
+                canvas,
+            );
+            self.stage = next;
+        }
+        count
+    }
+
+    /// How many bytes were used, or the fault at which it stands.
+    fn answer(&self, used: usize) -> Result<usize, Fault>
+        ensures { (sofar : Drawing) → MatchResult result (λ n. (n ≡ used) × (fault_of (ahead self.now sofar) ≡ None)) (λ fault. fault_of (ahead self.now sofar) ≡ Some fault) }
+    {
+        match self.stage {
+            Stage::Outside => Err(Fault::SubrectOutside),
+            _ => Ok(used),
+        }
+    }
+
+    /// Takes the next piece, up to the end of the rectangle, and draws it on a canvas of the rectangle's size.
+    /// Answers how many bytes it used.
+    ///
+    /// `SubrectOutside` at the last byte of a subrectangle that leaves the rectangle. The fault is final.
+    pub fn feed<C: Canvas>(&mut self, canvas: &mut C, piece: &[u8]) -> Result<usize, Fault>
+        requires width { C.width canvas.old ≡ self.old.width }
+        requires height { C.height canvas.old ≡ self.old.height }
+        ensures size { IsSameSize self.old self.new }
+        ensures width { C.width canvas.new ≡ self.old.width }
+        ensures height { C.height canvas.new ≡ self.old.height }
+        ensures drawn { (sofar : Drawing) → Stands self.old (C.shows canvas.old) sofar → Draws self.old self.new (C.shows canvas.new) piece.now result sofar }
+    {
+        let mut left = piece;
+        while !left.is_empty() && self.wants_more() {
+            let used = self.step(canvas, left);
+            let (_, rest) = left.split_at(used);
+            left = rest;
+        }
+        self.answer(piece.len() - left.len())
+    }
+}
+
+#[cfg(test)]
+mod tests {
+    use super::*;
+    use raster::Raster;
+    use std::test::Fail;
+
+    const DATA: [u8; 20] = [
+        0, 0, 0, 1, 0, 0, 0xFF, 0, 0xFF, 0, 0, 0, 0, 1, 0, 0, 0, 2, 0, 1,
+    ];
+
+    #[test]
+    fn red_blue_blue(rt: HostRuntime) -> Result<(), Fail> {
+        let mut raster = Raster::new(rt.alloc(), 3, 1)?;
+        let mut reader = Reader::new(3, 1, Format::HOST);
+        let used = reader.feed(&mut raster, &DATA)?;
+        assert_eq!(rt; used, 20);
+        assert!(rt; reader.whole());
+        assert_eq!(rt; raster.row(0), [0xFF0000, 0x0000FF, 0x0000FF].as_slice());
+        Ok(())
+    }
+
+    #[test]
+    fn byte_by_byte(rt: HostRuntime) -> Result<(), Fail> {
+        let mut raster = Raster::new(rt.alloc(), 3, 1)?;
+        let mut reader = Reader::new(3, 1, Format::HOST);
+        for byte in &DATA {
+            assert!(rt; !reader.whole());
+            let used = reader.feed(&mut raster, &[*byte])?;
+            assert_eq!(rt; used, 1);
+        }
+        assert!(rt; reader.whole());
+        assert_eq!(rt; raster.row(0), [0xFF0000, 0x0000FF, 0x0000FF].as_slice());
+        Ok(())
+    }
+
+    // The width of the subrectangle is one too many, which its last byte shows.
+    #[test]
+    fn subrectangle_outside(rt: HostRuntime) -> Result<(), Fail> {
+        let mut raster = Raster::new(rt.alloc(), 3, 1)?;
+        let mut reader = Reader::new(3, 1, Format::HOST);
+        let mut data = DATA;
+        data[17] = 3;
+        let used = reader.feed(&mut raster, &data[..19])?;
+        assert_eq!(rt; used, 19);
+        let refused = reader.feed(&mut raster, &data[19..]);
+        assert!(rt; matches!(refused, Err(Fault::SubrectOutside)));
+        assert!(rt; !reader.whole());
+        Ok(())
+    }
+}

@@ -1,0 +1,121 @@
+//! Writing RRE.
+
+ghost use Rattle.std.specs.Prelude.{◌≡◌, ℕ, ◌+◌, ◌*◌, ◌<◌, ◌≤◌, ◌^◌, ◌++◌, length, take, MatchOption};
+ghost use Rattle.std.specs.List.{flat_map};
+ghost use Rattle.pixel_format.specs.PixelFormat.{pixel_len, pixel_bytes};
+ghost use Rattle.raster.specs.declared.encoding.Encoding.TheVariants.{Rre};
+ghost use Rattle.raster.specs.Screen.{value_at};
+ghost use Rattle.raster.specs.Encoding.{runs, runs_of_row, rre_subrect_bytes};
+ghost use Rattle.raster.specs.Encoded.{IsEncoded};
+
+use crate::run::{COUNT_LEN, PLACE_LEN, Run, put_run, run_len};
+use pixel_format::Format;
+
+/// Writes the runs of row `y` other than the background from index `used` of `out` on, and answers where they end;
+/// `None` where that isn't inside `out`.
+fn put_row(
+    format: &Format,
+    values: &[u32],
+    w: usize,
+    y: usize,
+    background: u32,
+    out: &mut [u8],
+    used: usize,
+) -> Option<usize>
+    requires wide { w < 2 ^ 16 }
+    requires high { y < 2 ^ 16 }
+    requires count { y * w + w ≤ length values.now }
+    requires room { used < length out.old }
+    ensures { let subrects = runs_of_row (value_at w values.now) background w y in let end = used + (pixel_len format.now + PLACE_LEN) * length subrects in MatchOption result (length out.old ≤ end) (λ n. (n ≡ end) × (n < length out.old) × (take n out.new ≡ take used out.old ++ flat_map (rre_subrect_bytes format.now) subrects)) }
+{
+    let row = &values[y * w..y * w + w];
+    let size = format.bytes() + PLACE_LEN;
+    let mut end = used;
+    let mut x = 0;
+    while x < w {
+        let value = row[x];
+        let len = run_len(&row[x..], value);
+        if value != background {
+            if out.len() - end <= size {
+                return None;
+            }
+            put_run(format, &Run { value, x, y, len }, out, end);
+            end += size;
+        }
+        x += len;
+    }
+    Some(end)
+}
+
+/// Writes the background and all runs behind the place of their number, and answers where they end; `None` where
+/// that isn't inside `out`.
+fn put_runs(format: &Format, values: &[u32], w: usize, h: usize, out: &mut [u8]) -> Option<usize>
+    requires wide { w < 2 ^ 16 }
+    requires high { h < 2 ^ 16 }
+    requires count { length values.now ≡ w * h }
+    requires some { 0 < length values.now }
+    requires room { COUNT_LEN + pixel_len format.now < length out.old }
+    ensures { let canvas = value_at w values.now in let subrects = runs canvas w h in let end = COUNT_LEN + pixel_len format.now + (pixel_len format.now + PLACE_LEN) * length subrects in MatchOption result (length out.old ≤ end) (λ n. (n ≡ end) × (n < length out.old) × (take n out.new ≡ take COUNT_LEN out.old ++ pixel_bytes format.now (canvas 0 0) ++ flat_map (rre_subrect_bytes format.now) subrects)) }
+{
+    let background = values[0];
+    format.put_pixel(background, &mut out[COUNT_LEN..]);
+    let mut used = COUNT_LEN + format.bytes();
+    for y in 0..h {
+        used = put_row(format, values, w, y, background, out, used)?;
+    }
+    Some(used)
+}
+
+/// Writes the pixel values of a rectangle in RRE (RFC 6143, section 7.7.3), and answers how many bytes that are.
+///
+/// `None` where Raw has no more bytes, as soon as it shows; what `out` holds then is not said. The values are `w` by
+/// `h`, row after row, and `out` has room for the bytes of Raw.
+pub fn encode(values: &[u32], w: u64, h: u64, format: &Format, out: &mut [u8]) -> Option<usize>
+    requires wide { w < 2 ^ 16 }
+    requires high { h < 2 ^ 16 }
+    requires count { length values.now ≡ w * h }
+    requires room { length values.now * pixel_len format.now ≤ length out.old }
+    ensures { IsEncoded Rre format.now w h values.now out.new result }
+{
+    let pixel = format.bytes();
+    let raw = values.len() * pixel;
+    let head = COUNT_LEN + pixel;
+    if raw <= head {
+        return None;
+    }
+    let end = put_runs(format, values, w as usize, h as usize, &mut out[..raw])?;
+    // The subrectangles have one length, so their number follows from where they end.
+    let count = ((end - head) / (pixel + PLACE_LEN)) as u32;
+    out[..COUNT_LEN].copy_from_slice(&count.to_be_bytes());
+    Some(end)
+}
+
+#[cfg(test)]
+mod tests {
+    use super::*;
+
+    const RED: u32 = 0xFF0000;
+
+    const BLUE: u32 = 0x0000FF;
+
+    #[test]
+    fn red_and_seven_blue(rt: HostRuntime) {
+        let values = [RED, BLUE, BLUE, BLUE, BLUE, BLUE, BLUE, BLUE];
+        let mut out = [0u8; 32];
+        assert_eq!(rt; encode(&values, 8, 1, &Format::HOST, &mut out), Some(20));
+        let wanted = [
+            0, 0, 0, 1, 0, 0, 0xFF, 0, 0xFF, 0, 0, 0, 0, 1, 0, 0, 0, 7, 0, 1,
+        ];
+        assert_eq!(rt; &out[..20], wanted.as_slice());
+    }
+
+    #[test]
+    fn no_fewer_bytes_than_raw(rt: HostRuntime) {
+        let mut out = [0u8; 12];
+        assert_eq!(rt;
+            encode(&[RED, BLUE, BLUE], 3, 1, &Format::HOST, &mut out),
+            None
+        );
+        assert_eq!(rt; encode(&[], 0, 3, &Format::HOST, &mut out), None);
+    }
+}

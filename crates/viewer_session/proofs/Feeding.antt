@@ -1,0 +1,112 @@
+-- What a viewer's bytes make of it, message by message.
+use Rattle.std.proofs.Common.{◌≡◌, ℕ, ◌<◌, ◌≤◌, Ok, Bool, true, false, List, [], ◌∷◌, length, drop, Option, Some, None, refl, sym, ap, ◌∙◌, arith, inl, inr, ◌⊎◌}
+use Rattle.std.specs.Prelude.{option_map}
+use Rattle.pixel_format.specs.declared.fault.Fault.{Fault}
+use Rattle.pixel_format.specs.Reading.{Reading, Done, Faulty, Want, step, after, taken, fault_of, whole_of, wants_more, renewed, Feeds, GivesWhole}
+use Rattle.pixel_format.proofs.ReadingLaws.{after-done, after-faulty, taken-le, taken-some}
+use Rattle.rfb_wire.specs.ClientMessage.{ClientMessage, SetPixelFormat, SetEncodings, Ask, Key, Pointer, CutText, LostText, without_text}
+use Rattle.rfb_wire.specs.Message.{viewer_form, losing, FeedsOrLoses}
+use Rattle.rfb_wire.proofs.Losing.{losing-whole}
+use Rattle.viewer_session.specs.Extent.{Extent}
+use Rattle.viewer_session.specs.FirstPath.{first_path}
+use Rattle.viewer_session.specs.Record.{Took}
+use Rattle.viewer_session.specs.Viewer.{Setup, Viewer, served, marked, with_message, after_reading, after_byte, after_bytes, viewer_fault}
+use Rattle.viewer_session.specs.Session.{at_rest}
+
+abbrev with_reading : Viewer → Reading ClientMessage → Viewer
+with_reading p r = record p { reading = r }
+
+done_is : (x y : ClientMessage) → Done x ≡ Done y → x ≡ y
+done_is x y e = cc
+
+is_not : (f : Fault) (m : ClientMessage) → Faulty f ≡ Done m → ⊥
+is_not f m e = cc
+
+marked_none : (m : ClientMessage) → marked [] m ≡ (m, [])
+marked_none (SetPixelFormat format) = refl
+marked_none (SetEncodings choice) = refl
+marked_none (Ask incremental area) = refl
+marked_none (Key down key) = refl
+marked_none (Pointer mask x y) = refl
+marked_none (CutText text) = refl
+marked_none (LostText len) = refl
+
+-- The bytes up to the end of a message: it is taken, and the bytes behind it are left.
+whole_from : (s : Setup) (p : Viewer) (r : Reading ClientMessage) (bs : List ℕ) (m : ClientMessage) → after r bs ≡ Done m
+    → after_bytes s (after_reading s (at_rest p) r) bs ≡ after_bytes s (with_message s (at_rest p) (m, [])) (drop (taken r bs) bs)
+whole_from s p (Done x) bs m e =
+    let same : x ≡ m = done_is x m (sym (after-done x bs) ∙ e) in
+    ap (λ t. after_bytes s (with_message s (at_rest p) t) bs) (marked_none x ∙ ap (λ y. (y, [])) same)
+whole_from s p (Faulty f) bs m e = absurd (is_not f m (sym (after-faulty f bs) ∙ e))
+whole_from s p (Want more) [] m e = absurd cc
+whole_from s p (Want more) (b ∷ bs) m e = whole_from s p (more b) bs m e
+
+pub takes_whole : (s : Setup) (p : Viewer) (r : Reading ClientMessage) (bs : List ℕ) (m : ClientMessage) → wants_more r ≡ true → after r bs ≡ Done m
+    → after_bytes s (at_rest (with_reading p r)) bs ≡ after_bytes s (with_message s (at_rest p) (m, [])) (drop (taken r bs) bs)
+takes_whole s p (Done x) bs m w e = absurd cc
+takes_whole s p (Faulty f) bs m w e = absurd cc
+takes_whole s p (Want more) [] m w e = absurd cc
+takes_whole s p (Want more) (b ∷ bs) m w e = whole_from s p (more b) bs m e
+
+some_is_not : (m : ClientMessage) → Some m ≡ None → ⊥
+some_is_not m e = cc
+
+goes_on_from : (s : Setup) (p : Viewer) (r : Reading ClientMessage) (bs : List ℕ) → whole_of (after r bs) ≡ None
+    → after_bytes s (after_reading s (at_rest p) r) bs ≡ after_bytes s (at_rest (with_reading p (after r bs))) (drop (taken r bs) bs)
+goes_on_from s p (Done x) bs e = absurd (some_is_not x (sym (ap whole_of (after-done x bs)) ∙ e))
+goes_on_from s p (Faulty f) bs e = ap (λ r. after_bytes s (at_rest (with_reading p r)) bs) (sym (after-faulty f bs))
+goes_on_from s p (Want more) [] e = refl
+goes_on_from s p (Want more) (b ∷ bs) e = goes_on_from s p (more b) bs e
+
+-- Bytes that end no message leave the reading of one gone on by them. A fault takes none.
+pub goes_on : (s : Setup) (p : Viewer) (r : Reading ClientMessage) (bs : List ℕ) → whole_of (after r bs) ≡ None
+    → after_bytes s (at_rest (with_reading p r)) bs ≡ after_bytes s (at_rest (with_reading p (after r bs))) (drop (taken r bs) bs)
+goes_on s p (Done x) bs e = absurd (some_is_not x (sym (ap whole_of (after-done x bs)) ∙ e))
+goes_on s p (Faulty f) bs e = ap (λ r. after_bytes s (at_rest (with_reading p r)) bs) (sym (after-faulty f bs))
+goes_on s p (Want more) [] e = refl
+goes_on s p (Want more) (b ∷ bs) e = goes_on_from s p (more b) bs e
+
+-- Behind a fault nothing changes.
+pub stays : (s : Setup) (p : Viewer) (f : Fault) (bs : List ℕ) → after_bytes s (at_rest (with_reading p (Faulty f))) bs ≡ at_rest (with_reading p (Faulty f))
+stays s p f [] = refl
+stays s p f (b ∷ bs) = stays s p f bs
+
+-- A message is taken into the record, and nothing else of the viewer changes.
+pub takes_message : (s : Setup) (p : Viewer) (m : ClientMessage) → s.extent ≡ first_path s.extent.from_host
+    → with_message s (at_rest p) (m, []) ≡ at_rest (record p { entries = Took (served s m) ∷ p.entries; reading = viewer_form })
+takes_message s p m e =
+    let with_extent : Extent → Viewer = λ x. with_message (record s { extent = x }) (at_rest p) (m, []) in
+    let taken_by : Extent → Viewer = λ x. at_rest (record p { entries = Took (served (record s { extent = x }) m) ∷ p.entries; reading = viewer_form }) in
+    ap with_extent e ∙ sym (ap taken_by e)
+
+-- A reader in which no whole message waits uses some byte of a piece, where it meets no fault.
+fed_some : (r new : Reading ClientMessage) (piece : List ℕ) (used : ℕ) → whole_of r ≡ None → Feeds r new piece (Ok used) → (used ≤ length piece) × (0 < length piece → 0 < used)
+fed_some (Done x) new piece used w h = absurd (some_is_not x w)
+fed_some (Faulty f) new piece used w h = absurd (let at : fault_of new ≡ Some f = ap fault_of (h.0 ∙ after-faulty f piece) in let none : fault_of new ≡ None = h.2 in cc)
+fed_some (Want more) new piece used w h =
+    (omega (arith, h.1, taken-le (Want more) piece), λ some. omega (arith, h.1, taken-some (Want more) piece refl some))
+
+pub uses_some : (r new : Reading ClientMessage) (piece : List ℕ) (used : ℕ) → whole_of r ≡ None → FeedsOrLoses r new piece (Ok used) → (used ≤ length piece) × (0 < length piece → 0 < used)
+uses_some r new piece used w (inl h) = fed_some r new piece used w h
+uses_some r new piece used w (inr h) = fed_some (losing r) new piece used (losing-whole r ∙ ap (option_map without_text) w) h
+
+-- After a message was taken, or there was none, none waits, and there is no fault where there was none.
+whole_renewed : (r : Reading ClientMessage) → whole_of (renewed viewer_form r) ≡ None
+whole_renewed (Done m) = refl
+whole_renewed (Faulty f) = refl
+whole_renewed (Want more) = refl
+
+pub none_waits : (r new : Reading ClientMessage) (given : Option ClientMessage) → GivesWhole viewer_form r new given → whole_of new ≡ None
+none_waits r new given g = ap whole_of g.begins_anew ∙ whole_renewed r
+
+fault_renewed : (r : Reading ClientMessage) → fault_of r ≡ None → fault_of (renewed viewer_form r) ≡ None
+fault_renewed (Done m) e = refl
+fault_renewed (Faulty f) e = e
+fault_renewed (Want more) e = refl
+
+fault_free : (old r : Reading ClientMessage) (piece : List ℕ) (used : ℕ) → FeedsOrLoses old r piece (Ok used) → fault_of r ≡ None
+fault_free old r piece used (inl h) = h.2
+fault_free old r piece used (inr h) = h.2
+
+pub no_fault : (old r new : Reading ClientMessage) (piece : List ℕ) (used : ℕ) (given : Option ClientMessage) → FeedsOrLoses old r piece (Ok used) → GivesWhole viewer_form r new given → fault_of new ≡ None
+no_fault old r new piece used given h g = ap fault_of g.begins_anew ∙ fault_renewed r (fault_free old r piece used h)

@@ -1,0 +1,193 @@
+-- What a session's state stands for, call by call.
+use Rattle.std.proofs.Common.{◌≡◌, ℕ, ◌+◌, ◌-◌, ◌*◌, ◌<◌, ◌≤◌, Bool, true, false, cond, List, [], ◌∷◌, ◌++◌, length, drop, Option, Some, None, Ok, Err, refl, sym, ap, subst, ◌∙◌, arith, inl, inr, ◌⊎◌}
+use Rattle.std.proofs.lemmas.Bool.Decides.{nat_tests}
+use Rattle.std.specs.Prelude.{◌&&◌, ◌||◌, nat_lt, unwrap_or, is_some}
+use Rattle.std.proofs.lemmas.List.{length-drop}
+use Rattle.pixel_format.specs.PixelFormat.{PixelFormat}
+use Rattle.pixel_format.specs.Reading.{Reading, Done, Faulty, Want, after, taken, whole_of, fault_of, wants_more, renewed, GivesWhole}
+use Rattle.raster.specs.declared.rect.Rect.{Rect}
+use Rattle.raster.specs.declared.encoding.Encoding.TheVariants.{Raw}
+use Rattle.raster.specs.Screen.{common, whole_screen, meets, is_empty, tile_rect, tile_count}
+use Rattle.rfb_wire.specs.ClientMessage.{ClientMessage, SetPixelFormat, SetEncodings, Ask, Key, Pointer, CutText, LostText, Choice, without_text}
+use Rattle.rfb_wire.specs.declared.client_reader.ClientReader.{ClientReader}
+use Rattle.rfb_wire.specs.ClientReader.{ahead}
+use Rattle.rfb_wire.specs.Message.{IsOrLoses}
+use Rattle.rfb_wire.proofs.Losing.{losing-fault}
+use Rattle.tiles.specs.Have.{SentTiles, HaveStands}
+use Rattle.tiles.specs.Touched.{Event, Requested, NewFormat, last_sent}
+use Rattle.reflect_core.specs.Asked.{Wanted, AskedStands, pending, has_asked}
+use Rattle.viewer_session.specs.Extent.{Extent}
+use Rattle.viewer_session.specs.FirstPath.{first_path}
+use Rattle.viewer_session.specs.Record.{Entry, Took, events, format_of, choice_of}
+use Rattle.viewer_session.specs.Viewer.{Setup, Viewer, served, viewer_fault, out_bytes}
+use Rattle.viewer_session.specs.Turn.{has_reason}
+use Rattle.viewer_session.specs.Session.{State, Stands, Keeps, at_rest, after_taking, after_look, fault_in, wants_cut}
+
+-- ---- messages
+
+resting : (s : Setup) (m : ClientMessage) (p : Viewer) → p ≡ at_rest p → after_taking s m p ≡ at_rest (after_taking s m p)
+resting s m p e = ap (after_taking s m) e
+
+-- A message was taken, and the record is kept.
+pub stands_taking : (s : Setup) (m : ClientMessage) (st new : State) (p : Viewer) → Stands s st p
+    → new.width ≡ st.width → new.height ≡ st.height → new.role ≡ st.role → new.reader ≡ st.reader → new.unsent ≡ st.unsent
+    → Keeps s.w s.h new (Took (served s m) ∷ p.entries) → Stands s new (after_taking s m p)
+stands_taking s m st new p k ew eh er er2 eu keeps =
+    record {
+      width = ew ∙ k.width;
+      height = eh ∙ k.height;
+      extent = k.extent;
+      role = k.role ∙ sym er;
+      rests = resting s m p k.rests;
+      reading = subst (λ (r : ClientReader). IsOrLoses (ahead r) p.reading) (sym er2) k.reading;
+      taken = k.taken;
+      keeps = keeps;
+      written = k.written;
+      unsent = eu ∙ k.unsent;
+    }
+
+-- A request, as it was clipped to the screen.
+pub stands_asked : (s : Setup) (st now : State) (p : Viewer) (incremental : Bool) (area clipped : Rect) (asked : Wanted) (have : SentTiles) → st ≡ now → Stands s now p
+    → clipped ≡ common area (whole_screen st.width st.height)
+    → ((es : List Event) → AskedStands st.asked es → AskedStands asked (Requested incremental clipped ∷ es))
+    → ((es : List Event) → HaveStands st.have es → HaveStands have (Requested incremental clipped ∷ es))
+    → Stands s (record st { asked = asked; have = have }) (after_taking s (Ask incremental area) p)
+stands_asked s st now p incremental area clipped asked have is stands e a h =
+    let k : Stands s st p = subst (λ (t : State). Stands s t p) (sym is) stands in
+    let same : clipped ≡ common area (whole_screen s.w s.h) = e ∙ (ap (λ n. common area (whole_screen n st.height)) k.width ∙ ap (λ n. common area (whole_screen s.w n)) k.height) in
+    let es : List Event = events s.w s.h p.entries in
+    stands_taking s (Ask incremental area) st (record st { asked = asked; have = have }) p k refl refl refl refl refl
+    (record {
+      asked = subst (λ (r : Rect). AskedStands asked (Requested incremental r ∷ es)) same (a es k.keeps.asked);
+      have = subst (λ (r : Rect). HaveStands have (Requested incremental r ∷ es)) same (h es k.keeps.have);
+      format = k.keeps.format;
+      choice = k.keeps.choice;
+    })
+
+none_by : (a b c d e f g k : ℕ) → is_empty (record { x = a; y = b; w = c; h = d }) ≡ true → meets (record { x = a; y = b; w = c; h = d }) (record { x = e; y = f; w = g; h = k }) ≡ false
+none_by a b c d e f g k z = grind (arith, nat_tests)
+
+-- An empty request forgets no tile.
+meets_none : (area r : Rect) → is_empty area ≡ true → meets area r ≡ false
+meets_none area r e = none_by area.x area.y area.w area.h r.x r.y r.w r.h e
+
+forgets_none : (incremental : Bool) (area r : Rect) (es : List Event) → is_empty area ≡ true → last_sent r (Requested incremental area ∷ es) ≡ last_sent r es
+forgets_none true area r es e = refl
+forgets_none false area r es e = ap (λ b. cond b None (last_sent r es)) (meets_none area r e)
+
+pub stands_empty : (incremental : Bool) (area : Rect) (have : SentTiles) (es : List Event) → is_empty area ≡ true → HaveStands have es → HaveStands have (Requested incremental area ∷ es)
+stands_empty incremental area have es e k =
+    record { each = λ t lt. k.each t lt ∙ ap Some (sym (forgets_none incremental area (tile_rect have.width have.height t) es e)) }
+
+-- A message that changes nothing: encodings, since each answer is Raw, and input.
+served_encodings : (s : Setup) (choice : Choice) → s.extent ≡ first_path s.extent.from_host → served s (SetEncodings choice) ≡ SetEncodings (record { kind = Raw; copy = false })
+served_encodings s choice e = ap (λ x. served (record s { extent = x }) (SetEncodings choice)) e
+
+pub stands_encodings : (s : Setup) (st : State) (p : Viewer) (choice : Choice) → Stands s st p → Stands s st (after_taking s (SetEncodings choice) p)
+stands_encodings s st p choice k =
+    let raw : Choice = record { kind = Raw; copy = false } in
+    let kept : Keeps s.w s.h st (Took (SetEncodings raw) ∷ p.entries) = record { asked = k.keeps.asked; have = k.keeps.have; format = k.keeps.format; choice = refl } in
+    stands_taking s (SetEncodings choice) st st p k refl refl refl refl refl
+    (subst (λ (m : ClientMessage). Keeps s.w s.h st (Took m ∷ p.entries)) (sym (served_encodings s choice k.extent)) kept)
+
+pub stands_key : (s : Setup) (st : State) (p : Viewer) (down : Bool) (key : ℕ) → Stands s st p → Stands s st (after_taking s (Key down key) p)
+stands_key s st p down key k =
+    stands_taking s (Key down key) st st p k refl refl refl refl refl (record { asked = k.keeps.asked; have = k.keeps.have; format = k.keeps.format; choice = k.keeps.choice })
+
+pub stands_pointer : (s : Setup) (st : State) (p : Viewer) (mask x y : ℕ) → Stands s st p → Stands s st (after_taking s (Pointer mask x y) p)
+stands_pointer s st p mask x y k =
+    stands_taking s (Pointer mask x y) st st p k refl refl refl refl refl (record { asked = k.keeps.asked; have = k.keeps.have; format = k.keeps.format; choice = k.keeps.choice })
+
+pub stands_text : (s : Setup) (st : State) (p : Viewer) (text : List ℕ) → Stands s st p → Stands s st (after_taking s (CutText text) p)
+stands_text s st p text k =
+    stands_taking s (CutText text) st st p k refl refl refl refl refl (record { asked = k.keeps.asked; have = k.keeps.have; format = k.keeps.format; choice = k.keeps.choice })
+
+pub stands_lost : (s : Setup) (st : State) (p : Viewer) (len : ℕ) → Stands s st p → Stands s st (after_taking s (LostText len) p)
+stands_lost s st p len k =
+    stands_taking s (LostText len) st st p k refl refl refl refl refl (record { asked = k.keeps.asked; have = k.keeps.have; format = k.keeps.format; choice = k.keeps.choice })
+
+-- It makes no difference whether a text was lost.
+text_again : (s : Setup) (st : State) (p : Viewer) (text : List ℕ) (len : ℕ) → Stands s st (after_taking s (LostText len) p) → Stands s st (after_taking s (CutText text) p)
+text_again s st p text len k =
+    record {
+      width = k.width;
+      height = k.height;
+      extent = k.extent;
+      role = k.role;
+      rests = ap (λ (q : Viewer). record q { entries = Took (CutText text) ∷ p.entries }) k.rests;
+      reading = k.reading;
+      taken = k.taken;
+      keeps = record { asked = k.keeps.asked; have = k.keeps.have; format = k.keeps.format; choice = k.keeps.choice };
+      written = k.written;
+      unsent = k.unsent;
+    }
+
+pub stands_without_text : (s : Setup) (st : State) (p : Viewer) (m : ClientMessage) → Stands s st (after_taking s (without_text m) p) → Stands s st (after_taking s m p)
+stands_without_text s st p (SetPixelFormat format) k = k
+stands_without_text s st p (SetEncodings choice) k = k
+stands_without_text s st p (Ask incremental area) k = k
+stands_without_text s st p (Key down key) k = k
+stands_without_text s st p (Pointer mask x y) k = k
+stands_without_text s st p (CutText text) k = text_again s st p text (length text) k
+stands_without_text s st p (LostText len) k = k
+
+-- ---- looks
+
+-- What the last step was makes no difference.
+pub stands_look : (s : Setup) (st : State) (p : Viewer) (o : Option ℕ) → Stands s st p → Stands s st (record p { looked = o })
+stands_look s st p o k =
+    record {
+      width = k.width;
+      height = k.height;
+      extent = k.extent;
+      role = k.role;
+      rests = ap (λ (q : Viewer). record q { looked = o }) k.rests;
+      reading = k.reading;
+      taken = k.taken;
+      keeps = record { asked = k.keeps.asked; have = k.keeps.have; format = k.keeps.format; choice = k.keeps.choice };
+      written = k.written;
+      unsent = k.unsent;
+    }
+
+-- A look is only noted.
+pub stands_saw : (s : Setup) (st : State) (p : Viewer) (n : ℕ) → Stands s st p → Stands s st (after_look n p)
+stands_saw s st p n k =
+    record {
+      width = k.width;
+      height = k.height;
+      extent = k.extent;
+      role = k.role;
+      rests = ap (after_look n) k.rests;
+      reading = k.reading;
+      taken = k.taken;
+      keeps = record { asked = k.keeps.asked; have = k.keeps.have; format = k.keeps.format; choice = k.keeps.choice };
+      written = k.written;
+      unsent = k.unsent;
+    }
+
+-- ---- what the state tells of the viewer
+
+fault_told : (now reading : Reading ClientMessage) → IsOrLoses now reading → fault_of now ≡ fault_of reading
+fault_told now reading (inl e) = ap fault_of e
+fault_told now reading (inr e) = ap fault_of e ∙ losing-fault reading
+
+pub fault_stands : (s : Setup) (st : State) (p : Viewer) → Stands s st p → fault_in st ≡ viewer_fault p
+fault_stands s st p k = fault_told (ahead st.reader) p.reading k.reading ∙ sym (ap viewer_fault k.rests)
+
+-- All that the viewer is sent, and what of it isn't written yet.
+pub says_after : (s : Setup) (st : State) (p : Viewer) → Stands s st p → out_bytes s p ≡ p.said_after
+says_after s st p k = ap (out_bytes s) k.rests
+
+pub unsent_left : (s : Setup) (st : State) (p : Viewer) → Stands s st p → (p.written ≤ length (out_bytes s p)) × (length st.unsent ≡ length (out_bytes s p) - p.written)
+unsent_left s st p k =
+    let all : length (out_bytes s p) ≡ length p.said_after = ap length (says_after s st p k) in
+    (omega (arith, k.written, all), ap length k.unsent ∙ (length-drop p.written p.said_after ∙ ap (λ n. n - p.written) (sym all)))
+
+-- Reason to cut is reason by the record.
+pub reason_stands : (s : Setup) (st : State) (p : Viewer) (looked : ℕ) → Stands s st p → wants_cut st.asked looked ≡ has_reason s.w s.h p.entries looked
+reason_stands s st p looked k =
+    let es : List Event = events s.w s.h p.entries in
+    let reason : Option Rect → Bool → Option ℕ → Bool = λ area asked last. nat_lt (unwrap_or last 0) looked || (is_some area && asked) in
+    ap (λ a. reason a st.asked.asked st.asked.last) k.keeps.asked.area
+    ∙ (ap (λ b. reason (pending es) b st.asked.last) k.keeps.asked.asked
+    ∙ ap (reason (pending es) (has_asked es)) k.keeps.asked.last)

@@ -1,0 +1,10 @@
+use Rattle.std.proofs.Common.{length}
+use Rattle.viewer_session.specs.Session.{IsSameSession}
+use Rattle.viewer_session.proofs.FeedLaws.{IsFeeding}
+use Rattle.viewer_session.proofs.session.Session.feed.Given as goal
+
+abbrev pub invariant-messages : goal.invariant-messages
+invariant-messages l = record { fed : IsFeeding l.fn.self l.self l.piece l.left; same : IsSameSession l.fn.self l.self }
+
+abbrev pub decreases-messages : goal.decreases-messages
+decreases-messages l = length l.left

@@ -1,0 +1,138 @@
+-- What a session keeps, and which viewers it stands for.
+use Rattle.std.specs.Prelude.{◌≡◌, ℕ, ◌+◌, ◌*◌, ◌≤◌, Bool, true, false, max, ◌&&◌, ◌||◌, ◌==◌, nat_lt, is_some, is_none, unwrap_or, List, [], ◌∷◌, length, drop, take, All, Option, Some, None, Result, Ok, Err}
+use Rattle.pixel_format.specs.declared.fault.Fault.{Fault}
+use Rattle.pixel_format.specs.PixelFormat.{PixelFormat}
+use Rattle.pixel_format.specs.Reading.{Reading, Done, whole_of, fault_of, GivesWhole}
+use Rattle.raster.specs.declared.encoding.Encoding.TheVariants.{Raw}
+use Rattle.raster.specs.Update as updates
+use Rattle.raster.specs.Update.{Update}
+use Rattle.rfb_wire.specs.declared.client_reader.ClientReader.{ClientReader}
+use Rattle.rfb_wire.specs.ClientReader.{ahead}
+use Rattle.rfb_wire.specs.ClientMessage.{ClientMessage}
+use Rattle.rfb_wire.specs.Message.{IsOrLoses, FeedsOrLoses, viewer_form}
+use Rattle.roles.specs.declared.role.Role.{Role}
+use Rattle.tiles.specs.Have.{SentTiles, HaveStands}
+use Rattle.reflect_core.specs.Asked.{Wanted, AskedStands}
+use Rattle.reflect_core.specs.declared.cut.Cut.{Cut}
+use Rattle.viewer_session.specs.FirstPath.{first_path}
+use Rattle.viewer_session.specs.RawUpdate.{Waiting}
+use Rattle.viewer_session.specs.Record.{Entry, Took, Saw, events, format_of, choice_of}
+use Rattle.viewer_session.specs.Viewer.{Setup, Viewer, served, after_cut}
+
+-- The size of the screen, the viewer's role, what has come of its next message, the pixel format that holds, what it has asked for, what it has of each
+-- tile, and the bytes for it that aren't sent yet.
+pub record State : Type 0 where
+  pub width : ℕ
+  pub height : ℕ
+  pub role : Role
+  pub reader : ClientReader
+  pub format : PixelFormat
+  pub asked : Wanted
+  pub have : SentTiles
+  pub unsent : List ℕ
+
+-- A screen that is one tile.
+pub record IsOneTile (w h : ℕ) : Type 0 where
+  pub wide : (1 ≤ w) × (w ≤ 16)
+  pub high : (1 ≤ h) × (h ≤ 16)
+
+-- All parts of a session are of the screen's size, and no whole message waits in its reader.
+pub record IsSound (w h : ℕ) (reader : ClientReader) (asked : Wanted) (have : SentTiles) (cut : Cut) (out : Waiting) : Type 0 where
+  pub one : IsOneTile w h
+  pub taken : whole_of (ahead reader) ≡ None
+  pub asked_size : (asked.width ≡ w) × (asked.height ≡ h)
+  pub have_size : (have.width ≡ w) × (have.height ≡ h)
+  pub cut_size : (cut.width ≡ w) × (cut.height ≡ h)
+  pub room : out.room ≡ 16 + 4 * (w * h)
+
+-- The fault of the viewer's bytes, if there is one.
+abbrev pub fault_in : State → Option Fault
+fault_in st = fault_of (ahead st.reader)
+
+-- It may look: all bytes were sent, and there is no fault.
+abbrev pub is_ready : State → Bool
+is_ready st = (length st.unsent == 0) && is_none (fault_in st)
+
+-- A viewer with no hello to read, of which no byte waits.
+abbrev pub at_rest : Viewer → Viewer
+at_rest p = record p { greet = false; hello = Done tt; unread = []; lost = []; waiting = None }
+
+-- What the state says of a record: the latest entry stands first.
+pub record Keeps (w h : ℕ) (st : State) (entries : List Entry) : Type 0 where
+  pub asked : AskedStands st.asked (events w h entries)
+  pub have : HaveStands st.have (events w h entries)
+  pub format : st.format ≡ format_of entries
+  pub choice : choice_of entries ≡ record { kind = Raw; copy = false }
+
+-- The state stands for a viewer of a build of the first path.
+pub record Stands (s : Setup) (st : State) (p : Viewer) : Type 0 where
+  pub width : st.width ≡ s.w
+  pub height : st.height ≡ s.h
+  pub extent : s.extent ≡ first_path s.extent.from_host
+  pub role : p.role ≡ st.role
+  pub rests : p ≡ at_rest p
+  -- a reader that was refused memory reads a text as one that is lost; no whole message waits
+  pub reading : IsOrLoses (ahead st.reader) p.reading
+  pub taken : whole_of p.reading ≡ None
+  pub keeps : Keeps s.w s.h st p.entries
+  pub written : p.written ≤ length p.said_after
+  pub unsent : st.unsent ≡ drop p.written p.said_after
+
+-- ---- what the calls do
+
+-- The size of the screen and the role stay.
+pub record IsSameSession (before now : State) : Type 0 where
+  pub width : now.width ≡ before.width
+  pub height : now.height ≡ before.height
+  pub role : now.role ≡ before.role
+
+-- The answer of a feed: all of the piece was used, or there is a fault, in this piece or before.
+abbrev pub FedAnswer : State → List ℕ → Result ℕ Fault → Type 0
+FedAnswer st piece (Ok used) = (used ≡ length piece) × (fault_in st ≡ None)
+FedAnswer st piece (Err fault) = fault_in st ≡ Some fault
+
+-- A whole message was taken from the reader, or there was none: how it goes on by the bytes, and then with that message taken.
+pub record ReadsOne (old new : State) (piece : List ℕ) (used : ℕ) (message : Option ClientMessage) : Type 0 where
+  pub begun : Reading ClientMessage
+  pub feeds : FeedsOrLoses (ahead old.reader) begun piece (Ok used)
+  pub gives : GivesWhole viewer_form begun (ahead new.reader) message
+
+-- A message was taken.
+abbrev pub after_taking : Setup → ClientMessage → Viewer → Viewer
+after_taking s message p = record p { entries = Took (served s message) ∷ p.entries }
+
+-- A look was taken, with this reply.
+abbrev pub after_look : ℕ → Viewer → Viewer
+after_look number p = record p { looked = Some number; entries = Saw number ∷ p.entries }
+
+abbrev pub without_look : Viewer → Viewer
+without_look p = record p { looked = None }
+
+-- So many bytes more were written.
+abbrev pub after_writing : ℕ → Viewer → Viewer
+after_writing n p = record p { written = p.written + n }
+
+-- There is reason to cut after a look that replied this number.
+abbrev pub wants_cut : Wanted → ℕ → Bool
+wants_cut wanted looked = nat_lt (unwrap_or wanted.last 0) looked || (is_some wanted.area && wanted.asked)
+
+-- An update that paints: no Bell and no text.
+abbrev pub OnlyPaints : Update → Type 0
+OnlyPaints (updates.Paints paints) = Unit {0}
+OnlyPaints updates.Bell = ⊥
+OnlyPaints (updates.Cut text) = ⊥
+
+-- It was cut: at a number that is at least this, of the updates that the source knows. Where these only paint, the new state stands for the viewers that
+-- the cut makes of those of the old.
+pub record CutsAt (old new : State) (us : List Update) (least : ℕ) : Type 0 where
+  pub number : ℕ
+  pub known : number ≤ length us
+  pub fresh : least ≤ number
+  pub stands : All OnlyPaints us → (s : Setup) (p : Viewer) → Stands s old p → Stands s new (after_cut s (take number us) p)
+
+-- It was looked at, with a reply that is known, and then cut where there is reason, at a number that is at least the reply.
+pub record Turns (old new : State) (us : List Update) (least : ℕ) : Type 0 where
+  pub looked : ℕ
+  pub seen : looked ≤ length us
+  pub idle : wants_cut old.asked looked ≡ false → new ≡ old
+  pub cuts : wants_cut old.asked looked ≡ true → CutsAt old new us (max least looked)

@@ -1,0 +1,262 @@
+//! One viewer's session.
+
+ghost use Rattle.std.specs.Prelude.{◌≡◌, ℕ, ◌+◌, ◌*◌, ◌<◌, ◌≤◌, not, ◌==◌, true, false, [], ◌∷◌, List, All, drop, length, take, IfOk, IfErr, Ok, Err, None, option_map};
+ghost use Rattle.pixel_format.specs.declared.fault.Fault.TheVariants.{Memory};
+ghost use Rattle.raster.specs.Screen.{IsWithin, common, whole_screen};
+ghost use Rattle.raster.specs.Update.{Update};
+ghost use Rattle.rfb_wire.specs.ClientReader.{ahead};
+ghost use Rattle.rfb_wire.specs.ClientMessage.{Ask, SetPixelFormat};
+ghost use Rattle.rfb_wire.specs.Message.{message_of, FeedsOrLoses};
+ghost use Rattle.reflect_core.specs.Sequential.{Begins};
+ghost use Rattle.reflect_core.specs.Source.{IsCutRefusal};
+ghost use Rattle.viewer_session.specs.FirstPath.{first_path};
+ghost use Rattle.viewer_session.specs.Record.{Took};
+ghost use Rattle.viewer_session.specs.Session.{State, Stands, IsOneTile, IsSameSession, FedAnswer, ReadsOne, fault_in, is_ready, without_look, after_writing, after_taking, wants_cut, CutsAt, Turns};
+ghost use Rattle.viewer_session.specs.Turn.{has_reason};
+ghost use Rattle.viewer_session.specs.Viewer.{Setup, Viewer, new_viewer, after_bytes, after_cut, may_look, served};
+
+use crate::outbox::Outbox;
+use pixel_format::{Fault, Format};
+use raster::Rect;
+use reflect_core::{Asked, Cut, ScreenSource};
+use rfb_wire::{ClientMessage, ClientReader};
+use roles::Role;
+use std::alloc::Global;
+use std::marker::Model;
+use tiles::Have;
+
+// A rectangle with no position.
+const NOWHERE: Rect = Rect {
+    x: 0,
+    y: 0,
+    w: 0,
+    h: 0,
+};
+
+/// A viewer's messages are read, and answered from a source of screens (RFC 6143, 7.5 and 7.6), over a screen of at most 16 by 16 pixels: one tile.
+/// All answers are Raw, and input is read and dropped.
+#[derive(Drop)]
+pub struct Session {
+    width: u64,
+    height: u64,
+    role: Role,
+    reader: ClientReader,
+    format: Format,
+    asked: Asked,
+    have: Have,
+    cut: Cut,
+    out: Outbox,
+}
+
+impl Model for Session {
+    ghost use Rattle.viewer_session.specs.Session.{State, IsSound};
+
+    ghost Value = { State };
+
+    ghost view = { λ s. record {
+      width = s.width;
+      height = s.height;
+      role = s.role;
+      reader = s.reader;
+      format = s.format;
+      asked = s.asked;
+      have = s.have;
+      unsent = s.out.unsent;
+    } };
+
+    ghost invariant = { λ s. IsSound s.width s.height s.reader s.asked s.have s.cut s.out };
+}
+
+impl Session {
+    /// A session of a viewer whose handshake is done, over a screen of `w` by `h` pixels. All the room that answers need is taken here.
+    /// It fails where memory is refused (`Memory`).
+    pub fn ready(alloc: Global, w: u64, h: u64, role: Role) -> Result<Self, Fault>
+        requires { IsOneTile w h }
+        ensures size { IfOk result (λ session. (session.width ≡ w) × (session.height ≡ h)) }
+        ensures stands { IfOk result (λ session. (s : Setup) → s.w ≡ w → s.h ≡ h → s.extent ≡ first_path s.extent.from_host → Stands s session (new_viewer s role false)) }
+        ensures err { IfErr result (λ fault. fault ≡ Memory) }
+    {
+        let have = Have::new(alloc, w, h)?;
+        let cut = Cut::new(alloc, w, h)?;
+        let out = Outbox::new(alloc, (16 + 4 * w * h) as usize)?;
+        Ok(Session {
+            width: w,
+            height: h,
+            role,
+            reader: ClientReader::new(alloc),
+            format: Format::HOST,
+            asked: Asked::new(w, h),
+            have,
+            cut,
+            out,
+        })
+    }
+
+    /// The bytes that aren't sent yet.
+    pub fn out(&self) -> &[u8]
+        ensures { result.now ≡ self.now.unsent }
+    {
+        self.out.unsent()
+    }
+
+    /// So many of these bytes, from the first on, were sent.
+    pub fn sent(&mut self, n: usize)
+        requires { n ≤ length self.old.unsent }
+        ensures unsent { self.new ≡ record self.old { unsent = drop n self.old.unsent } }
+        ensures stands { (s : Setup) (p : Viewer) → Stands s self.old p → Stands s self.new (after_writing n p) }
+    {
+        self.out.sent(n);
+    }
+
+    /// The fault of the viewer's bytes, if there is one. A fault is final.
+    pub fn fault(&self) -> Option<Fault>
+        ensures { result ≡ fault_in self.now }
+    {
+        self.reader.fault()
+    }
+
+    /// Whether the viewer may be served: all bytes were sent, and there is no fault.
+    pub fn is_ready(&self) -> bool
+        ensures value { result ≡ is_ready self.now }
+        ensures stands { (s : Setup) (p : Viewer) → Stands s self.now p → result ≡ may_look s p }
+    {
+        self.out.unsent().is_empty() && self.reader.fault().is_none()
+    }
+
+    // A request for a rectangle is taken, clipped to the screen. An empty one is forgotten.
+    fn ask(&mut self, incremental: bool, rect: &Rect)
+        ensures same { IsSameSession self.old self.new }
+        ensures reader { self.new.reader ≡ self.old.reader }
+        ensures stands { (s : Setup) (p : Viewer) → Stands s self.old p → Stands s self.new (after_taking s (Ask incremental rect.now) p) }
+    {
+        let clipped = rect.clip(self.width, self.height);
+        self.asked.request(&clipped);
+        if !incremental && !clipped.is_empty() {
+            self.have.forget(&clipped);
+        }
+    }
+
+    // A pixel format is taken: the viewer has nothing of the screen any longer.
+    fn set_format(&mut self, format: Format)
+        ensures same { IsSameSession self.old self.new }
+        ensures reader { self.new.reader ≡ self.old.reader }
+        ensures stands { (s : Setup) (p : Viewer) → Stands s self.old p → Stands s self.new (after_taking s (SetPixelFormat format) p) }
+    {
+        self.format = format;
+        self.asked.new_format();
+        self.have.forget_all();
+    }
+
+    // A message is taken. Every answer is Raw whatever encodings are listed, and no input is relayed.
+    fn take_message(&mut self, message: ClientMessage)
+        ensures same { IsSameSession self.old self.new }
+        ensures reader { self.new.reader ≡ self.old.reader }
+        ensures stands { (s : Setup) (p : Viewer) → Stands s self.old p → Stands s self.new (after_taking s (message_of message) p) }
+    {
+        match message {
+            ClientMessage::Format(format) => self.set_format(format),
+            ClientMessage::Ask { incremental, rect } => self.ask(incremental, &rect),
+            ClientMessage::Encodings(_)
+            | ClientMessage::Key { .. }
+            | ClientMessage::Pointer { .. }
+            | ClientMessage::Cut(_)
+            | ClientMessage::CutLost(_) => {}
+        }
+    }
+
+    // Reads on, up to the end of a whole message, and takes that message from the reader.
+    fn read_one(&mut self, piece: &[u8]) -> Result<(usize, Option<ClientMessage>), Fault>
+        ensures others { self.new ≡ record self.old { reader = self.new.reader } }
+        ensures ok { IfOk result (λ read. ReadsOne self.old self.new piece.now read.0 (option_map message_of read.1) × (fault_in self.new ≡ None)) }
+        ensures progress { IfOk result (λ read. (read.0 ≤ length piece.now) × (0 < length piece.now → 0 < read.0)) }
+        ensures err { IfErr result (λ fault. FeedsOrLoses (ahead self.old.reader) (ahead self.new.reader) piece.now (Err fault)) }
+    {
+        let used = self.reader.feed(piece)?;
+        let message = self.reader.take();
+        Ok((used, message))
+    }
+
+    /// Takes a piece of the viewer's bytes, all of it. It fails at the byte that shows a fault, and from then on it uses no byte and fails with the
+    /// same fault.
+    ///
+    /// `UnknownMessage` at a type that isn't known, `BadFormat` at a pixel format that isn't accepted.
+    pub fn feed(&mut self, piece: &[u8]) -> Result<usize, Fault>
+        ensures same { IsSameSession self.old self.new }
+        ensures stands { (s : Setup) (p : Viewer) → Stands s self.old p → Stands s self.new (after_bytes s (without_look p) piece.now) }
+        ensures answer { FedAnswer self.new piece.now result }
+    {
+        let mut left = piece;
+        'messages: loop {
+            let (used, message) = self.read_one(left)?;
+            match message {
+                Some(message) => self.take_message(message),
+                None => {}
+            }
+            let (_, rest) = left.split_at(used);
+            if rest.is_empty() {
+                return Ok(piece.len());
+            }
+            left = rest;
+        }
+    }
+
+    // Whether there is reason to cut after a look that replied this number.
+    fn has_reason(&self, looked: u64) -> bool
+        ensures { result ≡ wants_cut self.now.asked looked }
+    {
+        self.asked.last_cut().unwrap_or(0) < looked
+            || (self.asked.area().is_some() && self.asked.asked())
+    }
+
+    /// The second half of a turn, after a look that replied `looked`: where there is reason the source is cut, and an update of the pending area is begun if a
+    /// tile of it is due. It answers whether one was begun.
+    ///
+    /// It fails where the cut is refused (`Memory`, `Gone`); then the session is as it was.
+    pub fn turn_at<S: ScreenSource>(&mut self, source: &mut S, looked: u64) -> Result<bool, Fault>
+        requires ready { is_ready self.old ≡ true }
+        requires screen { (S.width source.old ≡ self.old.width) × (S.height source.old ≡ self.old.height) }
+        ensures same { IsSameSession self.old self.new }
+        ensures moves { S.moves source.old source.new }
+        ensures size { (S.width source.new ≡ S.width source.old) × (S.height source.new ≡ S.height source.old) }
+        ensures grows { Begins (S.known source.old) (S.known source.new) }
+        ensures idle { wants_cut self.old.asked looked ≡ false → (result ≡ Ok false) × (self.new ≡ self.old) × (source.new ≡ source.old) }
+        ensures cuts { wants_cut self.old.asked looked ≡ true → IfOk result (λ _. CutsAt self.old self.new (S.known source.new) (S.answered source.old)) }
+        ensures begun { IfOk result (λ begun. begun ≡ not (length self.new.unsent == 0)) }
+        ensures err { IfErr result (λ fault. IsCutRefusal fault × (self.new ≡ self.old) × (S.known source.new ≡ S.known source.old) × (S.answered source.new ≡ S.answered source.old)) }
+    {
+        if !self.has_reason(looked) {
+            return Ok(false);
+        }
+        let area = self.asked.area();
+        let number = source.cut(&area.unwrap_or(NOWHERE), &self.have, &mut self.cut)?;
+        self.asked.was_cut(number);
+        match area {
+            Some(area) if self.cut.due[0] => {
+                self.out.put_update(&self.cut, &area, &self.format);
+                self.asked.answered();
+                self.have.keep(&area, number);
+                Ok(true)
+            }
+            _ => Ok(false),
+        }
+    }
+
+    /// One turn. It does nothing and answers false while bytes are unsent, and after a fault. Otherwise it looks once and goes on as `turn_at`.
+    pub fn turn<S: ScreenSource>(&mut self, source: &mut S) -> Result<bool, Fault>
+        requires { (S.width source.old ≡ self.old.width) × (S.height source.old ≡ self.old.height) }
+        ensures same { IsSameSession self.old self.new }
+        ensures moves { S.moves source.old source.new }
+        ensures size { (S.width source.new ≡ S.width source.old) × (S.height source.new ≡ S.height source.old) }
+        ensures grows { Begins (S.known source.old) (S.known source.new) }
+        ensures waits { is_ready self.old ≡ false → (result ≡ Ok false) × (self.new ≡ self.old) × (source.new ≡ source.old) }
+        ensures turns { is_ready self.old ≡ true → IfOk result (λ _. Turns self.old self.new (S.known source.new) (S.answered source.old)) }
+        ensures begun { is_ready self.old ≡ true → IfOk result (λ begun. begun ≡ not (length self.new.unsent == 0)) }
+        ensures err { IfErr result (λ fault. IsCutRefusal fault × (self.new ≡ self.old)) }
+    {
+        if !self.is_ready() {
+            return Ok(false);
+        }
+        let looked = source.look();
+        self.turn_at(source, looked)
+    }
+}
