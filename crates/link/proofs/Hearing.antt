@@ -51,8 +51,8 @@ hearing_says taken_old taken_now given_old given_now hello h =
       count = h.count;
       fine = h.fine;
       gave = ap (λ t. t ++ to_send hello) h.gave
-      ∙ (append_assoc given_old (take hello.sent all_said) (to_send hello)
-      ∙ ap (λ t. given_old ++ t) (ap (λ t. take hello.sent all_said ++ t) (to_send_is hello) ∙ take_further hello.sent (length (to_send hello)) all_said));
+          ∙ (append_assoc given_old (take hello.sent all_said) (to_send hello)
+          ∙ ap (λ t. given_old ++ t) (ap (λ t. take hello.sent all_said ++ t) (to_send_is hello) ∙ take_further hello.sent (length (to_send hello)) all_said));
       most = let e = ap length (to_send_is hello) in let t = length-take (length (to_send hello)) (drop hello.sent all_said) in omega (arith, e, t, length-drop hello.sent all_said, h.most);
     }
 

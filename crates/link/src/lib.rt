@@ -3,6 +3,8 @@
 
 mod join;
 mod link;
+mod memory_link;
 
 pub use join::join_host;
 pub use link::{Gave, Link, Took};
+pub use memory_link::MemoryLink;
