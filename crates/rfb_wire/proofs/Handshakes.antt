@@ -68,8 +68,9 @@ part_is_past {B = B} (Faulty fault) next stream y e = absurd (at_fault_is_not fa
 part_is_past (Want more) next [] y e = absurd (wanting_is_not (λ b. more b >>= next) y e)
 part_is_past (Want more) next (b ∷ stream) y e = part_is_past (more b) next stream y e
 
-pub host_is_told : (stream : List ℕ) (joined : Joined) → after host_hello stream ≡ Done joined → Spells viewer_hello (said_to_host stream) tt
-host_is_told stream joined e =
+-- Where a host's handshake is whole, all has been said.
+pub all_is_said : (stream : List ℕ) (joined : Joined) → after host_hello stream ≡ Done joined → said_to_host stream ≡ version ++ 1 ∷ 1 ∷ []
+all_is_said stream joined e =
     let first : is_past host_version stream ≡ true = part_is_past host_version (λ _. security_types >>= λ _. security_result >>= λ _. host_init) stream joined e in
     let two : Reading (Unit {0}) = host_version >>= λ _. security_types in
     let three : Reading (Unit {0}) = host_version >>= λ _. security_types >>= λ _. security_result in
@@ -79,5 +80,7 @@ host_is_told stream joined e =
     let by_three : (three >>= λ _. host_init) ≡ host_hello = bind_assoc host_version (λ _. security_types >>= λ _. security_result) (λ _. host_init) ∙ ap (λ r. host_version >>= λ _. r) inner in
     let third : is_past three stream ≡ true = part_is_past three (λ _. host_init) stream joined (ap (λ r. after r stream) by_three ∙ e) in
     let said : Bool → Bool → Bool → List ℕ = λ a b c. (if a then version else []) ++ (if b then 1 ∷ [] else []) ++ (if c then 1 ∷ [] else []) in
-    let all : said_to_host stream ≡ version ++ 1 ∷ 1 ∷ [] = ap (λ a. said a (is_past two stream) (is_past three stream)) first ∙ (ap (λ b. said true b (is_past three stream)) second ∙ ap (λ c. said true true c) third) in
-    subst (λ (bs : List ℕ). Spells viewer_hello bs tt) (sym all) (record { whole = refl; says = refl })
+    ap (λ a. said a (is_past two stream) (is_past three stream)) first ∙ (ap (λ b. said true b (is_past three stream)) second ∙ ap (λ c. said true true c) third)
+
+pub host_is_told : (stream : List ℕ) (joined : Joined) → after host_hello stream ≡ Done joined → Spells viewer_hello (said_to_host stream) tt
+host_is_told stream joined e = subst (λ (bs : List ℕ). Spells viewer_hello bs tt) (sym (all_is_said stream joined e)) (record { whole = refl; says = refl })

@@ -1,7 +1,8 @@
 -- What is to be said to a host by now.
-use Rattle.std.proofs.Common.{◌≡◌, ℕ, ◌+◌, ◌-◌, ◌<◌, true, List, [], ◌∷◌, ◌++◌, length, take, drop, Option, Some, None, refl, sym, ap, ◌∙◌, arith}
+use Rattle.std.proofs.Common.{◌≡◌, ℕ, ◌+◌, ◌-◌, ◌<◌, true, List, [], ◌∷◌, ◌++◌, length, take, drop, Option, Some, None, inl, inr, refl, sym, ap, ◌∙◌, arith}
 use Rattle.std.specs.Prelude.{is_some, is_none, if◌then◌else◌}
-use Rattle.std.proofs.lemmas.List.{drop-take}
+use Rattle.std.proofs.lemmas.List.{drop-take, take_min, length-take, drop_all}
+use Rattle.std.proofs.lemmas.Bool.{cases_lt}
 use Rattle.pixel_format.specs.declared.fault.Fault.{Fault}
 use Rattle.pixel_format.specs.Reading.{Reading, ◌>>=◌, after, bytes, u32, whole_of, fault_of}
 use Rattle.rfb_wire.specs.Handshake.{version, refused, host_version, security_types, security_result, said_to_host}
@@ -90,3 +91,20 @@ said_is talk stream s h =
     sym (said_at talk.stage talk.rest talk.wanted talk.field.items s.fits s.room)
     ∙ sym (past (whole_of (after host_version stream)) (whole_of (after (host_version >>= λ _. security_types) stream)) (whole_of (after (host_version >>= λ _. security_types >>= λ _. security_result) stream))
     (whole_of (version_of talk)) (whole_of (version_of talk >>= λ _. types_of talk)) (whole_of (version_of talk >>= λ _. types_of talk >>= λ _. result_of talk)) a b c)
+
+-- What is to be sent is a part of all that is said, from what was sent on.
+front_behind : (n k : ℕ) (xs : List ℕ) → drop k (take n xs) ≡ take (length (drop k (take n xs))) (drop k xs)
+front_behind n k xs =
+    elim (cases_lt k n) [
+      | inl lt ↦ let split : k + (n - k) ≡ n = omega arith in
+        let cut : drop k (take n xs) ≡ take (n - k) (drop k xs) = sym (ap (λ i. drop k (take i xs)) split) ∙ drop-take k (n - k) xs in
+        cut ∙ (sym (take_min (n - k) (drop k xs)) ∙ ap (λ i. take i (drop k xs)) (sym (ap length cut ∙ length-take (n - k) (drop k xs))))
+      | inr le ↦ let none : drop k (take n xs) ≡ [] = drop_all k (take n xs) (omega (arith, length-take n xs)) in none ∙ sym (ap (λ t. take (length t) (drop k xs)) none)
+    ]
+
+to_send_by : (o : Option Fault) (said sent : List ℕ) (k : ℕ) → said ≡ take (length said) sent → (if is_none o then drop k said else []) ≡ take (length (if is_none o then drop k said else [])) (drop k sent)
+to_send_by None said sent k e = ap (drop k) e ∙ (front_behind (length said) k sent ∙ ap (λ t. take (length (drop k t)) (drop k sent)) (sym e))
+to_send_by (Some f) said sent k e = refl
+
+pub to_send_is : (talk : HostTalk) → to_send talk ≡ take (length (to_send talk)) (drop talk.sent all_said)
+to_send_is talk = to_send_by (fault_of (ahead talk)) (said talk.stage) all_said talk.sent (sym (said_front talk.stage))

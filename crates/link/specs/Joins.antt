@@ -1,0 +1,44 @@
+-- Joining a host over a link.
+use Rattle.std.specs.Prelude.{◌≡◌, ◌≤◌, ◌⊎◌, ℕ, Bool, true, false, List, [], ◌∷◌, ◌++◌}
+use Rattle.pixel_format.specs.PixelFormat.{host_format}
+use Rattle.pixel_format.specs.Reading.{Faulty, after, Spells}
+use Rattle.pixel_format.specs.declared.fault.Fault.{Fault}
+use Rattle.pixel_format.specs.declared.fault.Fault.TheVariants.{LinkFailed, LinkEnded}
+use Rattle.rfb_wire.specs.Handshake.{Joined, version, host_hello}
+use Rattle.rfb_wire.specs.Writing.{set_pixel_format_bytes, set_encodings_bytes, request_bytes}
+use Rattle.link.specs.Links.{HasRisen}
+
+-- What a host is told before its first update: the pixel format, the encodings CopyRect, Hextile, RRE and Raw, and a
+-- request of the whole screen.
+abbrev pub first_messages : Joined → List ℕ
+first_messages joined =
+    set_pixel_format_bytes host_format ++ set_encodings_bytes (1 ∷ 5 ∷ 2 ∷ 0 ∷ []) ++ request_bytes false (record { x = 0; y = 0; w = joined.w; h = joined.h })
+
+-- One whole handshake of the host was taken, and the client's side was given.
+pub record Hears (taken_old taken_new given_old given_new : List ℕ) (joined : Joined) : Type 0 where
+  pub heard : List ℕ
+  pub taken : taken_new ≡ taken_old ++ heard
+  pub spells : Spells host_hello heard joined
+  pub given : given_new ≡ given_old ++ version ++ 1 ∷ 1 ∷ []
+  pub across : 1 ≤ joined.w
+  pub most_across : joined.w ≤ 4096
+  pub down : 1 ≤ joined.h
+  pub most_down : joined.h ≤ 4096
+
+-- One whole handshake of the host was taken, and the client's side and the first messages were given.
+pub record Joins (taken_old taken_new given_old given_new : List ℕ) (joined : Joined) : Type 0 where
+  pub heard : List ℕ
+  pub taken : taken_new ≡ taken_old ++ heard
+  pub spells : Spells host_hello heard joined
+  pub given : given_new ≡ given_old ++ version ++ (1 ∷ 1 ∷ []) ++ first_messages joined
+
+-- The link failed in the meantime, or it has ended.
+abbrev pub LinkFails : Fault → (failed_old failed_new : ℕ) → (ended : Bool) → Type 0
+LinkFails LinkFailed failed_old failed_new ended = HasRisen failed_old failed_new
+LinkFails LinkEnded failed_old failed_new ended = ended ≡ true
+LinkFails _ failed_old failed_new ended = ⊥
+
+-- That, or the handshake that was taken is at fault.
+abbrev pub FailsAs : Fault → (failed_old failed_new : ℕ) → (ended : Bool) → (taken_old taken_new : List ℕ) → Type 0
+FailsAs fault failed_old failed_new ended taken_old taken_new =
+    LinkFails fault failed_old failed_new ended ⊎ ((heard : List ℕ) × (taken_new ≡ taken_old ++ heard) × (after host_hello heard ≡ Faulty fault))

@@ -1,0 +1,104 @@
+//! Joining a host.
+
+ghost use Rattle.std.specs.Prelude.{◌≡◌, ◌+◌, ◌≤◌, ◌++◌, [], ◌∷◌, ℕ, List, length, IfOk, IfErr, OnOk};
+ghost use Rattle.link.specs.Joins.{Hears, Joins, LinkFails, FailsAs};
+
+use crate::link::{Gave, Link, Took};
+use pixel_format::{Fault, Format};
+use raster::Rect;
+use rfb_wire::{HostHello, Joined, write_request, write_set_encodings, write_set_pixel_format};
+use std::sync::Wait;
+
+// Gives all of these bytes.
+fn give_all<L: Link, R: Wait>(rt: &R, link: &mut L, bytes: &[u8]) -> Result<(), Fault>
+    ensures given { OnOk result (L.given link.new ≡ L.given link.old ++ bytes.now) }
+    ensures taken { L.taken link.new ≡ L.taken link.old }
+    ensures failed { OnOk result (L.failed link.new ≡ L.failed link.old) }
+    ensures err { IfErr result (λ fault. LinkFails fault (L.failed link.old) (L.failed link.new) (L.ended link.new)) }
+{
+    let mut left = bytes;
+    for _ in rt.forever() {
+        if left.is_empty() {
+            return Ok(());
+        }
+        match link.give(left) {
+            Gave::Bytes(count) => {
+                let (_, rest) = left.split_at(count);
+                left = rest;
+            }
+            Gave::Nothing => {}
+            Gave::End => return Err(Fault::LinkEnded),
+            Gave::Failed => return Err(Fault::LinkFailed),
+        }
+    }
+    unreachable!()
+}
+
+// Takes the next byte. A handshake is short, and what comes behind it is left to others.
+fn take_byte<L: Link, R: Wait>(rt: &R, link: &mut L) -> Result<u8, Fault>
+    ensures taken { IfOk result (λ byte. L.taken link.new ≡ L.taken link.old ++ byte ∷ []) }
+    ensures given { L.given link.new ≡ L.given link.old }
+    ensures failed { OnOk result (L.failed link.new ≡ L.failed link.old) }
+    ensures err { IfErr result (λ fault. LinkFails fault (L.failed link.old) (L.failed link.new) (L.ended link.new)) }
+{
+    let mut byte = [0];
+    for _ in rt.forever() {
+        match link.take(&mut byte) {
+            Took::Bytes(_) => return Ok(byte[0]),
+            Took::Nothing => {}
+            Took::End => return Err(Fault::LinkEnded),
+            Took::Failed => return Err(Fault::LinkFailed),
+        }
+    }
+    unreachable!()
+}
+
+// Hears the host's handshake, up to its end and no byte further, and gives the client's side.
+fn hear<L: Link, R: Wait>(rt: &R, link: &mut L) -> Result<Joined, Fault>
+    ensures joined { IfOk result (λ joined. Hears (L.taken link.old) (L.taken link.new) (L.given link.old) (L.given link.new) joined) }
+    ensures failed { OnOk result (L.failed link.new ≡ L.failed link.old) }
+    ensures err { IfErr result (λ fault. FailsAs fault (L.failed link.old) (L.failed link.new) (L.ended link.new) (L.taken link.old) (L.taken link.new)) }
+{
+    let mut hello = HostHello::new();
+    for _ in rt.forever() {
+        give_all(rt, link, hello.out())?;
+        let count = hello.out().len();
+        hello.sent(count);
+        match hello.done() {
+            Some(joined) => return Ok(joined),
+            None => {}
+        }
+        let byte = take_byte(rt, link)?;
+        hello.feed(&[byte])?;
+    }
+    unreachable!()
+}
+
+/// Joins the host at the other end: takes its handshake and no byte further, gives the client's side of it, and then
+/// asks for the format of `Format::HOST`, for the encodings CopyRect, Hextile, RRE and Raw, and for the whole screen.
+///
+/// `LinkFailed` where the link failed in the meantime, `LinkEnded` where it ended before the last byte was given. Other
+/// faults are of the host's handshake.
+pub fn join_host<L: Link, R: Wait>(rt: &R, link: &mut L) -> Result<Joined, Fault>
+    ensures joined { IfOk result (λ joined. Joins (L.taken link.old) (L.taken link.new) (L.given link.old) (L.given link.new) joined) }
+    ensures failed { OnOk result (L.failed link.new ≡ L.failed link.old) }
+    ensures err { IfErr result (λ fault. FailsAs fault (L.failed link.old) (L.failed link.new) (L.ended link.new) (L.taken link.old) (L.taken link.new)) }
+{
+    let joined = hear(rt, link)?;
+    let mut format = [0; 20];
+    write_set_pixel_format(&Format::HOST, &mut format);
+    give_all(rt, link, &format)?;
+    let mut encodings = [0; 20];
+    write_set_encodings(&[1, 5, 2, 0], &mut encodings);
+    give_all(rt, link, &encodings)?;
+    let screen = Rect {
+        x: 0,
+        y: 0,
+        w: joined.w,
+        h: joined.h,
+    };
+    let mut request = [0; 10];
+    write_request(false, &screen, &mut request);
+    give_all(rt, link, &request)?;
+    Ok(joined)
+}
