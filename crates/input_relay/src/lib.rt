@@ -3,5 +3,7 @@
 
 mod queue;
 mod sink;
+#[cfg(test)]
+mod tests;
 
 pub use queue::{Sender, Settled, Taker, relay, settle};
