@@ -1,0 +1,149 @@
+//! The queue between the viewers' places and the host, what each of its ends knows, and the rule that they keep.
+
+ghost use Rattle.std.specs.Prelude.{◌≡◌, [], length};
+ghost use Rattle.std.specs.Arc.{arc_value};
+ghost use Rattle.crossbeam_queue.specs.Passes.{view, IsPassOf};
+ghost use Rattle.input_relay.specs.Relay.{sender, taker};
+
+use crossbeam_queue::protocol::{Join, Lesson, Outcome, Protocol, Split};
+use crossbeam_queue::{Pass, RuledArrayQueue};
+use roles::Input;
+use std::alloc::Global;
+use std::collections::LinkedList;
+use std::sync::{Arc, Wait};
+
+/// An input with the place that sent it.
+#[derive(Drop)]
+pub struct Message {
+    pub from: u64,
+    pub input: Input,
+}
+
+/// What a place has sent. No value of it is made: clauses speak of it.
+pub struct Strand {
+    pub from: u64,
+    pub sent: LinkedList<Input>,
+}
+
+/// What the holder of a pass knows. A sender knows its place and what it has sent. The taker knows how many senders were
+/// made, what it got, and what the senders had sent that came back. No value of it is made.
+pub struct View {
+    pub sends: bool,
+    pub gets: bool,
+    pub from: u64,
+    pub put: LinkedList<Input>,
+    pub got: LinkedList<Message>,
+    pub known: LinkedList<Strand>,
+}
+
+mod ends;
+
+pub use ends::{relay, settle};
+
+/// What arrives of each place is what it sent, in its order.
+pub struct InOrder;
+
+impl Protocol<Message, View> for InOrder {
+    ghost use Rattle.std.specs.Prelude.{[]};
+    ghost use Rattle.input_relay.specs.Relay.{Delivers, taker};
+
+    ghost holds = { Delivers };
+
+    ghost first = { taker 0 [] [] };
+}
+
+/// How a sender is made of the taker's pass: the next place, which has sent nothing.
+struct Seats;
+
+impl Split<View> for Seats {
+    ghost use Rattle.std.specs.Prelude.{[], ◌+◌};
+    ghost use Rattle.input_relay.specs.Relay.{sender, taker};
+
+    ghost left = { λ v. taker (v.from + 1) v.got v.known };
+
+    ghost right = { λ v. sender v.from [] };
+}
+
+/// How a sender comes back: the taker knows what it has sent.
+struct Back;
+
+impl Join<View> for Back {
+    ghost use Rattle.std.specs.Prelude.{[], ◌∷◌, ◌++◌};
+    ghost use Rattle.input_relay.specs.Relay.{taker, strand, spent};
+
+    ghost both = { λ v w. taker v.from v.got (v.known ++ strand w.from w.put ∷ []) };
+
+    ghost spent = { spent };
+}
+
+/// What a push does: the sender has sent one more.
+struct Sent;
+
+impl Outcome<Message, View> for Sent {
+    ghost use Rattle.std.specs.Prelude.{◌≡◌, [], ◌∷◌, ◌++◌};
+    ghost use Rattle.input_relay.specs.Relay.{sender};
+
+    ghost then = { λ v x w. w ≡ sender v.from (v.put ++ x.input ∷ []) };
+}
+
+impl Lesson<Message, View> for Sent {
+    ghost fact = { λ v items. Unit {0} };
+}
+
+/// What a pop does: the taker has got one more.
+struct Taken;
+
+impl Outcome<Message, View> for Taken {
+    ghost use Rattle.std.specs.Prelude.{◌≡◌, [], ◌∷◌, ◌++◌};
+    ghost use Rattle.input_relay.specs.Relay.{taker};
+
+    ghost then = { λ v x w. w ≡ taker v.from (v.got ++ x ∷ []) v.known };
+}
+
+impl Lesson<Message, View> for Taken {
+    ghost use Rattle.std.specs.Prelude.{◌++◌};
+    ghost use Rattle.input_relay.specs.Relay.{Accounted};
+
+    ghost fact = { λ v items. Accounted v.known (v.got ++ items) };
+}
+
+type Line = RuledArrayQueue<Message, View, InOrder>;
+
+/// So many inputs can wait.
+const ROOM: usize = 256;
+
+/// A place sends at most so many inputs. The queue's own numbers last for 64 places.
+const MOST: u64 = 1 << 55;
+
+/// The end of the relay that a viewer's place has.
+#[derive(Drop)]
+pub struct Sender<R: Wait + Drop> {
+    line: Arc<Line, Global>,
+    pass: Pass<Message, View>,
+    place: u64,
+    count: u64,
+    rt: R,
+    ghost seated: { IsPassOf (arc_value line) pass },
+    ghost role: { view pass ≡ sender place (view pass).put },
+    ghost counted: { count ≡ length (view pass).put },
+}
+
+/// The end of the relay that the host's writer has.
+#[derive(Drop)]
+pub struct Taker<R: Wait + Drop> {
+    line: Arc<Line, Global>,
+    pass: Pass<Message, View>,
+    rt: R,
+    ghost seated: { IsPassOf (arc_value line) pass },
+    ghost role: { view pass ≡ taker (view pass).from (view pass).got [] },
+}
+
+/// A relay whose ends all came back, with the inputs that nobody has taken.
+#[derive(Drop)]
+pub struct Settled<R: Wait + Drop> {
+    line: Arc<Line, Global>,
+    pass: Pass<Message, View>,
+    rt: R,
+    ghost seated: { IsPassOf (arc_value line) pass },
+    ghost role: { view pass ≡ taker (view pass).from (view pass).got (view pass).known },
+}
