@@ -1,17 +1,16 @@
 -- A piece of a viewer's bytes is taken, message by message.
-use Rattle.std.proofs.Common.{◌≡◌, ℕ, ◌<◌, ◌≤◌, true, List, [], ◌∷◌, length, drop, Option, Some, None, Ok, Err, refl, sym, ap, subst, ◌∙◌, arith, inl, inr, ◌⊎◌}
+use Rattle.std.proofs.Common.{◌≡◌, ℕ, true, List, [], ◌∷◌, length, drop, Some, None, Err, refl, sym, ap, subst, ◌∙◌, arith, inl, inr, ◌⊎◌}
 use Rattle.std.specs.Prelude.{option_map}
 use Rattle.pixel_format.specs.declared.fault.Fault.{Fault}
-use Rattle.pixel_format.specs.Reading.{Reading, Done, Faulty, Want, after, taken, whole_of, fault_of, wants_more, renewed, Feeds}
+use Rattle.pixel_format.specs.Reading.{Reading, Done, Faulty, Want, after, taken, whole_of, fault_of, wants_more, renewed}
 use Rattle.pixel_format.proofs.ReadingLaws.{after-faulty}
 use Rattle.rfb_wire.specs.ClientMessage.{ClientMessage, without_text}
 use Rattle.rfb_wire.specs.declared.client_reader.ClientReader.{ClientReader}
 use Rattle.rfb_wire.specs.ClientReader.{ahead}
 use Rattle.rfb_wire.specs.Message.{viewer_form, IsOrLoses, FeedsOrLoses}
 use Rattle.rfb_wire.proofs.Losing.{goes_on_fed, goes_on_faults, goes_on_taken}
-use Rattle.viewer_session.specs.Record.{Took}
-use Rattle.viewer_session.specs.Viewer.{Setup, Viewer, served, after_bytes, with_message}
-use Rattle.viewer_session.specs.Session.{State, Stands, IsSameSession, ReadsOne, FedAnswer, at_rest, after_taking, without_look, fault_in}
+use Rattle.viewer_session.specs.Viewer.{Setup, Viewer, after_bytes, with_message}
+use Rattle.viewer_session.specs.Session.{State, Stands, IsSameSession, ReadsOne, at_rest, after_taking, without_look}
 use Rattle.viewer_session.proofs.Feeding.{takes_whole, takes_message, goes_on, stays}
 use Rattle.viewer_session.proofs.SessionLaws.{stands_look, stands_without_text}
 

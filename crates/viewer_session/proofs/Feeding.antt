@@ -1,8 +1,8 @@
 -- What a viewer's bytes make of it, message by message.
-use Rattle.std.proofs.Common.{◌≡◌, ℕ, ◌<◌, ◌≤◌, Ok, Bool, true, false, List, [], ◌∷◌, length, drop, Option, Some, None, refl, sym, ap, ◌∙◌, arith, inl, inr, ◌⊎◌}
+use Rattle.std.proofs.Common.{◌≡◌, ℕ, ◌<◌, ◌≤◌, Ok, true, List, [], ◌∷◌, length, drop, Option, Some, None, refl, sym, ap, ◌∙◌, arith, inl, inr}
 use Rattle.std.specs.Prelude.{option_map}
 use Rattle.pixel_format.specs.declared.fault.Fault.{Fault}
-use Rattle.pixel_format.specs.Reading.{Reading, Done, Faulty, Want, step, after, taken, fault_of, whole_of, wants_more, renewed, Feeds, GivesWhole}
+use Rattle.pixel_format.specs.Reading.{Reading, Done, Faulty, Want, after, taken, fault_of, whole_of, wants_more, renewed, Feeds, GivesWhole}
 use Rattle.pixel_format.proofs.ReadingLaws.{after-done, after-faulty, taken-le, taken-some}
 use Rattle.rfb_wire.specs.ClientMessage.{ClientMessage, SetPixelFormat, SetEncodings, Ask, Key, Pointer, CutText, LostText, without_text}
 use Rattle.rfb_wire.specs.Message.{viewer_form, losing, FeedsOrLoses}
@@ -10,7 +10,7 @@ use Rattle.rfb_wire.proofs.Losing.{losing-whole}
 use Rattle.viewer_session.specs.Extent.{Extent}
 use Rattle.viewer_session.specs.FirstPath.{first_path}
 use Rattle.viewer_session.specs.Record.{Took}
-use Rattle.viewer_session.specs.Viewer.{Setup, Viewer, served, marked, with_message, after_reading, after_byte, after_bytes, viewer_fault}
+use Rattle.viewer_session.specs.Viewer.{Setup, Viewer, served, marked, with_message, after_reading, after_bytes}
 use Rattle.viewer_session.specs.Session.{at_rest}
 
 abbrev with_reading : Viewer → Reading ClientMessage → Viewer

@@ -1,7 +1,7 @@
 -- A screen of at most 16 by 16 is one tile.
-use Rattle.std.proofs.Common.{◌≡◌, ℕ, ◌+◌, ◌-◌, ◌*◌, ◌/◌, ◌%◌, ◌<◌, ◌≤◌, Bool, true, false, List, [], ◌∷◌, ◌++◌, Option, Some, None, refl, sym, ap, ◌∙◌, subst, arith}
-use Rattle.std.specs.Prelude.{min, max, not, ◌&&◌, ◌||◌, map}
-use Rattle.std.specs.List.{list_any, list_all, range_with_len, flat_map}
+use Rattle.std.proofs.Common.{◌≡◌, ℕ, ◌+◌, ◌-◌, ◌≤◌, Bool, true, List, [], ◌∷◌, ◌++◌, refl, ap, ◌∙◌, arith}
+use Rattle.std.specs.Prelude.{min, ◌&&◌, map}
+use Rattle.std.specs.List.{range_with_len, flat_map}
 use Rattle.raster.specs.declared.rect.Rect.{Rect}
 use Rattle.raster.specs.Screen.{IsWithin, meets, common, whole_screen, tiles_across, tile_count, tile_rect}
 use Rattle.viewer_session.specs.Session.{IsOneTile}

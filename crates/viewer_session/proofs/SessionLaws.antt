@@ -1,24 +1,22 @@
 -- What a session's state stands for, call by call.
-use Rattle.std.proofs.Common.{◌≡◌, ℕ, ◌+◌, ◌-◌, ◌*◌, ◌<◌, ◌≤◌, Bool, true, false, cond, List, [], ◌∷◌, ◌++◌, length, drop, Option, Some, None, Ok, Err, refl, sym, ap, subst, ◌∙◌, arith, inl, inr, ◌⊎◌}
+use Rattle.std.proofs.Common.{◌≡◌, ℕ, ◌-◌, ◌≤◌, Bool, true, false, cond, List, ◌∷◌, length, Option, Some, None, refl, sym, ap, subst, ◌∙◌, arith, inl, inr}
 use Rattle.std.proofs.lemmas.Bool.Decides.{nat_tests}
 use Rattle.std.specs.Prelude.{◌&&◌, ◌||◌, nat_lt, unwrap_or, is_some}
 use Rattle.std.proofs.lemmas.List.{length-drop}
-use Rattle.pixel_format.specs.PixelFormat.{PixelFormat}
-use Rattle.pixel_format.specs.Reading.{Reading, Done, Faulty, Want, after, taken, whole_of, fault_of, wants_more, renewed, GivesWhole}
+use Rattle.pixel_format.specs.Reading.{Reading, fault_of}
 use Rattle.raster.specs.declared.rect.Rect.{Rect}
 use Rattle.raster.specs.declared.encoding.Encoding.TheVariants.{Raw}
-use Rattle.raster.specs.Screen.{common, whole_screen, meets, is_empty, tile_rect, tile_count}
+use Rattle.raster.specs.Screen.{common, whole_screen, meets, is_empty, tile_rect}
 use Rattle.rfb_wire.specs.ClientMessage.{ClientMessage, SetPixelFormat, SetEncodings, Ask, Key, Pointer, CutText, LostText, Choice, without_text}
 use Rattle.rfb_wire.specs.declared.client_reader.ClientReader.{ClientReader}
 use Rattle.rfb_wire.specs.ClientReader.{ahead}
 use Rattle.rfb_wire.specs.Message.{IsOrLoses}
 use Rattle.rfb_wire.proofs.Losing.{losing-fault}
 use Rattle.tiles.specs.Have.{SentTiles, HaveStands}
-use Rattle.tiles.specs.Touched.{Event, Requested, NewFormat, last_sent}
+use Rattle.tiles.specs.Touched.{Event, Requested, last_sent}
 use Rattle.reflect_core.specs.Asked.{Wanted, AskedStands, pending, has_asked}
-use Rattle.viewer_session.specs.Extent.{Extent}
 use Rattle.viewer_session.specs.FirstPath.{first_path}
-use Rattle.viewer_session.specs.Record.{Entry, Took, events, format_of, choice_of}
+use Rattle.viewer_session.specs.Record.{Took, events}
 use Rattle.viewer_session.specs.Viewer.{Setup, Viewer, served, viewer_fault, out_bytes}
 use Rattle.viewer_session.specs.Turn.{has_reason}
 use Rattle.viewer_session.specs.Session.{State, Stands, Keeps, at_rest, after_taking, after_look, fault_in, wants_cut}

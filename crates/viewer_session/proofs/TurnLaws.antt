@@ -1,23 +1,23 @@
 -- What a turn over one tile sends.
-use Rattle.std.proofs.Common.{◌≡◌, ℕ, suc, ◌+◌, ◌<◌, ◌≤◌, Bool, true, false, cond, List, [], ◌∷◌, ◌++◌, length, take, drop, get_or, Option, Some, None, refl, sym, ap, subst, ◌∙◌, arith, ◌-◌, length-append}
+use Rattle.std.proofs.Common.{◌≡◌, ℕ, suc, ◌+◌, ◌<◌, ◌≤◌, Bool, true, false, List, [], ◌∷◌, ◌++◌, length, take, drop, get_or, Option, Some, None, refl, sym, ap, subst, ◌∙◌, arith, length-append}
 use Rattle.std.specs.Prelude.{All, ◌&&◌, ◌||◌, nat_lt, is_none, if◌then◌else◌, slice_get, unwrap_or, ◌==◌}
 use Rattle.std.proofs.lemmas.Bool.{eqb-true}
 use Rattle.std.proofs.lemmas.Option.{get_or_from_slice_get}
 use Rattle.std.specs.List.{list_any, range_with_len}
 use Rattle.std.proofs.lemmas.Bool.Decides.{nat_tests}
-use Rattle.std.proofs.lemmas.List.{append-nil, length-take, length-drop}
+use Rattle.std.proofs.lemmas.List.{length-take, length-drop}
 use Rattle.std.proofs.Math.Seq.{drop-append_seam}
 use Rattle.std.proofs.lemmas.List.Elements.{All-take}
 use Rattle.pixel_format.specs.PixelFormat.{PixelFormat, row_bytes}
 use Rattle.raster.specs.declared.rect.Rect.{Rect}
-use Rattle.raster.specs.Screen.{Canvas, IsWithin, holds, meets, whole_screen, tile_rect, tile_count, value_at}
+use Rattle.raster.specs.Screen.{IsWithin, holds, meets, whole_screen, tile_rect, tile_count, value_at}
 use Rattle.raster.proofs.Places.{Has, holds_has}
 use Rattle.raster.specs.Update as updates
 use Rattle.raster.specs.Update.{Update, NumberedText, screen, bells, last_text, last_text_from}
 use Rattle.rfb_wire.specs.ClientMessage.{Choice}
 use Rattle.rfb_wire.specs.Writing.{update_head_bytes, rectangle_head_bytes}
 use Rattle.tiles.specs.Have.{SentTiles, HaveStands}
-use Rattle.tiles.specs.Touched.{Event, WasCut, Answered, is_due, runs}
+use Rattle.tiles.specs.Touched.{Event, WasCut, Answered, runs}
 use Rattle.reflect_core.specs.declared.cut.Cut.{Cut}
 use Rattle.reflect_core.specs.Asked.{Wanted, AskedStands, pending, last_cut}
 use Rattle.reflect_core.specs.Source.{IsCutOf, due_in}

@@ -1,5 +1,5 @@
-use Rattle.std.proofs.Common.{◌≡◌, Bool, true, false, List, ◌∷◌, sym, subst, ◌∙◌}
-use Rattle.tiles.specs.Touched.{Event, Requested}
+use Rattle.std.proofs.Common.{Bool, ◌∷◌, sym, subst, ◌∙◌}
+use Rattle.tiles.specs.Touched.{Requested}
 use Rattle.tiles.specs.Have.{HaveStands}
 use Rattle.tiles.proofs.HaveLaws.{stands_incremental}
 use Rattle.viewer_session.specs.Session.{State, Stands, after_taking}

@@ -1,4 +1,4 @@
-use Rattle.std.proofs.Common.{◌≡◌, ℕ, ◌<◌, ◌≤◌, Ok, length, subst}
+use Rattle.std.proofs.Common.{Ok, subst}
 use Rattle.rfb_wire.specs.Message.{FeedsOrLoses}
 use Rattle.viewer_session.specs.Session.{State}
 use Rattle.rfb_wire.specs.ClientReader.{ahead}

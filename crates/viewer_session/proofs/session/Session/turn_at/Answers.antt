@@ -1,5 +1,4 @@
-use Rattle.std.proofs.Common.{◌≡◌, sym, subst, ◌∙◌}
-use Rattle.raster.specs.Screen.{IsWithin}
+use Rattle.std.proofs.Common.{sym, subst, ◌∙◌}
 use Rattle.viewer_session.specs.Session.{State, CutsAt}
 use Rattle.viewer_session.specs.contracts.session.Session.{the_view}
 use Rattle.viewer_session.proofs.TurnLaws.{answers_at, quiet_at, unasked_at, all_sent, cut_for, lies_on, tile_marked}
