@@ -1,7 +1,7 @@
 -- Hearing a host's handshake byte by byte.
-use Rattle.std.proofs.Common.{◌≡◌, ℕ, suc, ◌+◌, ◌<◌, ◌≤◌, true, List, [], ◌∷◌, ◌++◌, length, take, drop, Option, None, Some, refl, sym, ap, subst, ◌∙◌, arith, append_assoc, length-drop}
+use Rattle.std.proofs.Common.{◌≡◌, ℕ, suc, ◌+◌, ◌≤◌, true, List, [], ◌∷◌, ◌++◌, length, take, drop, None, Some, refl, sym, ap, subst, ◌∙◌, arith, append_assoc, length-drop}
 use Rattle.std.proofs.lemmas.List.{append-nil, length-take, take-take, drop-take, take-append-drop}
-use Rattle.pixel_format.specs.Reading.{Reading, Done, Faulty, Want, step, after, taken, whole_of, fault_of, wants_more, Spells}
+use Rattle.pixel_format.specs.Reading.{Reading, Done, Faulty, Want, after, taken, whole_of, fault_of, wants_more}
 use Rattle.pixel_format.proofs.ReadingLaws.{taken-nil}
 use Rattle.rfb_wire.specs.Handshake.{Joined, version, host_hello, said_to_host}
 use Rattle.rfb_wire.specs.Joining.{ahead, to_send, HasHeard}

@@ -1,8 +1,8 @@
 -- What a host is told once its handshake is whole.
-use Rattle.std.proofs.Common.{◌≡◌, ℕ, false, List, [], ◌∷◌, ◌++◌, length, drop, refl, sym, ap, ◌∙◌, arith, append_assoc}
+use Rattle.std.proofs.Common.{◌≡◌, ℕ, false, List, [], ◌∷◌, ◌++◌, length, ap, ◌∙◌, arith, append_assoc}
 use Rattle.std.proofs.lemmas.List.{append-nil, drop_all}
 use Rattle.pixel_format.specs.PixelFormat.{host_format}
-use Rattle.rfb_wire.specs.Handshake.{Joined, version}
+use Rattle.rfb_wire.specs.Handshake.{Joined}
 use Rattle.rfb_wire.specs.Writing.{Writes, set_pixel_format_bytes, set_encodings_bytes, request_bytes}
 use Rattle.link.specs.Joins.{Hears, Joins, first_messages}
 

@@ -4,6 +4,8 @@
 mod join;
 mod link;
 mod memory_link;
+#[cfg(test)]
+mod tests;
 
 pub use join::join_host;
 pub use link::{Gave, Link, Took};

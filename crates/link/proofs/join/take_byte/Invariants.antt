@@ -1,4 +1,4 @@
-use Rattle.std.proofs.Common.{◌≡◌, ◌++◌, length}
+use Rattle.std.proofs.Common.{◌≡◌, length}
 use Rattle.link.proofs.join.take_byte.Given as goal
 
 abbrev pub invariant-loop : goal.invariant-loop
