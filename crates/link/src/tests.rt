@@ -137,6 +137,24 @@ fn fails_at_each_byte_given(rt: HostRuntime) -> Result<(), Fail> {
     Ok(())
 }
 
+// Where each call gives a whole answer or message, and the link fails or ends at one of them.
+#[test]
+fn fails_at_each_message_given(rt: HostRuntime) -> Result<(), Fail> {
+    let alloc = rt.alloc();
+    for (last, number) in [(Gave::Failed, 21), (Gave::End, 22)] {
+        for (count, given) in [0, 12, 13, 14, 34, 54].iter().enumerate() {
+            let takes = (Took::Bytes(45), 1, Took::Failed);
+            let mut link = link_to(alloc, takes, (Gave::Bytes(20), count, last))?;
+            assert_eq!(rt; fault(&join_host(&rt, &mut link)), number);
+            assert!(rt;
+                link.given() == GIVES.split_at(*given).0,
+                "given at {count}"
+            );
+        }
+    }
+    Ok(())
+}
+
 #[test]
 fn a_list_that_is_used_up_ends(rt: HostRuntime) -> Result<(), Fail> {
     let mut link = link_to(
