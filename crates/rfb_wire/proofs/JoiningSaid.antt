@@ -97,8 +97,8 @@ front_behind : (n k : ℕ) (xs : List ℕ) → drop k (take n xs) ≡ take (leng
 front_behind n k xs =
     elim (cases_lt k n) [
       | inl lt ↦ let split : k + (n - k) ≡ n = omega arith in
-        let cut : drop k (take n xs) ≡ take (n - k) (drop k xs) = sym (ap (λ i. drop k (take i xs)) split) ∙ drop-take k (n - k) xs in
-        cut ∙ (sym (take_min (n - k) (drop k xs)) ∙ ap (λ i. take i (drop k xs)) (sym (ap length cut ∙ length-take (n - k) (drop k xs))))
+          let cut : drop k (take n xs) ≡ take (n - k) (drop k xs) = sym (ap (λ i. drop k (take i xs)) split) ∙ drop-take k (n - k) xs in
+          cut ∙ (sym (take_min (n - k) (drop k xs)) ∙ ap (λ i. take i (drop k xs)) (sym (ap length cut ∙ length-take (n - k) (drop k xs))))
       | inr le ↦ let none : drop k (take n xs) ≡ [] = drop_all k (take n xs) (omega (arith, length-take n xs)) in none ∙ sym (ap (λ t. take (length t) (drop k xs)) none)
     ]
 
