@@ -1,0 +1,15 @@
+//! Tests of `reflect_world`, which stand in a crate of their own so that it is proved once.
+#![tactic(auto)]
+
+#[cfg(test)]
+mod answers;
+#[cfg(test)]
+mod bad_lines;
+#[cfg(test)]
+mod faults;
+#[cfg(test)]
+mod links;
+#[cfg(test)]
+mod played;
+#[cfg(test)]
+mod worlds;
