@@ -1,7 +1,7 @@
 //! What passes, and what is released, by what the rules say.
 
 use crate::{Held, Input, Role};
-use rfb_wire::ClientMessage;
+use rfb_wire::{ClientMessage, Text};
 
 fn press(held: &mut Held, key: u32) -> bool {
     held.passes(Role::Full, &ClientMessage::Key { down: true, key })
@@ -55,7 +55,16 @@ fn buttons_are_released(rt: HostRuntime) {
     assert!(rt; held.release().is_none());
 }
 
-// A view-only viewer's pointer and keys don't pass, and nothing is released.
+// A text passes of a viewer in full control, and leaves nothing to release.
+#[test]
+fn texts_pass(rt: HostRuntime) {
+    let mut held = Held::new();
+    let text = ClientMessage::Cut(Text::from_vec(Vec::new(rt.alloc())));
+    assert!(rt; held.passes(Role::Full, &text));
+    assert!(rt; held.release().is_none());
+}
+
+// A view-only viewer's pointer, keys and texts don't pass, and nothing is released.
 #[test]
 fn view_only(rt: HostRuntime) {
     let mut held = Held::new();
@@ -70,5 +79,7 @@ fn view_only(rt: HostRuntime) {
         key: 97,
     };
     assert!(rt; !held.passes(Role::View, &key));
+    let text = ClientMessage::Cut(Text::from_vec(Vec::new(rt.alloc())));
+    assert!(rt; !held.passes(Role::View, &text));
     assert!(rt; held.release().is_none());
 }
