@@ -2,7 +2,7 @@
 
 ghost use Rattle.std.specs.Prelude.{◌≡◌, ℕ, ◌≤◌, length, IfOk, IfErr, Some, None};
 ghost use Rattle.pixel_format.specs.declared.fault.Fault.TheVariants.{Memory};
-ghost use Rattle.reflect_core.specs.Kept.{number_of, bytes_of};
+ghost use Rattle.painter.specs.Kept.{number_of, bytes_of};
 
 use pixel_format::Fault;
 use std::alloc::Global;
@@ -18,7 +18,7 @@ pub struct Text {
 impl Model for Text {
     ghost use Rattle.std.specs.Prelude.{◌≤◌, Option, vec_capacity};
     ghost use Rattle.raster.specs.Update.{NumberedText};
-    ghost use Rattle.reflect_core.specs.Kept.{numbered};
+    ghost use Rattle.painter.specs.Kept.{numbered};
 
     ghost Value = { Option NumberedText };
 
