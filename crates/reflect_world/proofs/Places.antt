@@ -183,7 +183,7 @@ place_cut s place session p us k stands =
       session = stands;
       looked = refl;
       ready = λ no. absurd cc;
-      written = k.written ∙ sym (take-append-le p.written p.said_after (sent_at s.w s.h p.entries us) k.session.written);
+      written = k.written ∙ sym (take-append-le p.written p.said_after (sent_at s.extent.tells_news s.w s.h p.entries us) k.session.written);
     }
 
 -- ---- free places

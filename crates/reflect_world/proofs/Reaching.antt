@@ -1,9 +1,8 @@
 -- What stands in a world's fields after one step more.
 use Rattle.std.proofs.Common.{◌≡◌, ℕ, ◌<◌, ◌≤◌, Bool, true, false, cond, List, [], ◌∷◌, ◌++◌, length, take, drop, Option, Some, None, Ok, Err, inl, inr, refl, ap, sym, ◌∙◌, subst, arith}
-use Rattle.std.specs.Prelude.{All, is_some, slice_get, slice_index_or, slice_set, min, ◌==◌, if◌then◌else◌}
+use Rattle.std.specs.Prelude.{is_some, slice_get, slice_index_or, slice_set, min, ◌==◌, if◌then◌else◌}
 use Rattle.std.proofs.lemmas.Bool.{eqb-true}
 use Rattle.std.proofs.lemmas.List.{get_or_default, length-set, set-get_or}
-use Rattle.std.proofs.lemmas.List.Elements.{All-nil, All-push}
 use Rattle.pixel_format.specs.declared.fault.Fault.{Fault}
 use Rattle.pixel_format.specs.Reading.{Reading, Done, Faulty, Want, after, taken, fault_of, rest, whole_of, wants_more}
 use Rattle.raster.specs.Update.{Update, view}
@@ -18,12 +17,11 @@ use Rattle.viewer_session.specs.FirstPath.{first_path}
 use Rattle.viewer_session.specs.Extent.{Extent}
 use Rattle.viewer_session.specs.Turn.{has_reason}
 use Rattle.viewer_session.specs.Viewer.{Setup, Viewer, may_look, after_cut, after_bytes, new_viewer}
-use Rattle.viewer_session.specs.Session.{IsOneTile, State, Stands, OnlyPaints, after_look, without_look, after_writing, is_ready}
+use Rattle.viewer_session.specs.Session.{IsOneTile, State, Stands, after_look, without_look, after_writing, is_ready}
 use Rattle.reflect_core.specs.Sequential as history
 use Rattle.reflect_world.specs.Schedule.{set_viewer, World, Step, HostBytes, Put, Raise, Join, Bytes, Look, Cut, Written, beginning, happens, play, play_from, put_next, for_viewer, cut_at}
 use Rattle.reflect_world.specs.World.{Held, Standing, PlaceStands, PlaceIs, Reached, place_at, IsFed, HasLooked, IsWritten, GoesOn, IsPut, IsRefusal, TakesStep}
 use Rattle.painter.specs.Patch.{SizedUpdate}
-use Rattle.reflect_world.proofs.FirstForms.{host_paints}
 use Rattle.reflect_world.proofs.Hosts.{host_begins, host_grows, host_open, host_whole}
 use Rattle.reflect_world.proofs.Places.{places_set, place_is_none, place_is_some, place_fed, place_looked, place_written, place_stays, place_cut}
 
@@ -48,7 +46,6 @@ reached_begins s standing tile extent screen unread fault room free =
       height = ap (λ (p : Plain). p.height) screen;
       updates = ap (λ (p : Plain). p.updates) screen;
       tally = ap (λ (p : Plain). p.tally) screen;
-      paints = All-nil OnlyPaints;
       host = rw unread (host_begins (host_form s.w s.h));
       fault = fault;
       room = room;
@@ -64,7 +61,6 @@ reached_host_bytes s standing w b r =
       height = r.height;
       updates = r.updates;
       tally = r.tally;
-      paints = r.paints;
       host = host_grows (host_form s.w s.h) w.host_bytes standing.unread b w.shared.updates r.host;
       fault = r.fault;
       room = r.room;
@@ -81,7 +77,6 @@ reached_raise s standing w screen r is =
       height = ap (λ (p : Plain). p.height) is ∙ r.height;
       updates = ap (λ (p : Plain). p.updates) is ∙ r.updates;
       tally = ap (λ (p : Plain). p.tally) is ∙ ap length r.updates;
-      paints = r.paints;
       host = r.host;
       fault = r.fault;
       room = r.room;
@@ -94,11 +89,11 @@ form_is s e = ap (λ (x : Extent). x.from_host s.w s.h) e
 
 -- A whole message of the host is put.
 pub reached_put : (s : Setup) (standing : Standing) (w : World) (screen : Plain) (m : ServerMessage) (u : Update) (unread : List ℕ) → wants_more (host_form s.w s.h) ≡ true → Reached s standing w
-    → after (host_form s.w s.h) standing.unread ≡ Done m → update_of m ≡ Some u → OnlyPaints u
+    → after (host_form s.w s.h) standing.unread ≡ Done m → update_of m ≡ Some u
     → screen.width ≡ standing.screen.width → screen.height ≡ standing.screen.height → screen.updates ≡ standing.screen.updates ++ u ∷ [] → screen.tally ≡ standing.screen.tally
     → unread ≡ drop (taken (host_form s.w s.h) standing.unread) standing.unread
     → Reached s (record standing { screen = screen; unread = unread }) (happens s w Put)
-reached_put s standing w screen m u unread wants r whole gives paints width height updates tally left =
+reached_put s standing w screen m u unread wants r whole gives width height updates tally left =
     let next = host_whole (host_form s.w s.h) w.host_bytes standing.unread w.shared.updates m u wants r.host whole gives in
     let there : slice_get (updates_by (s.extent.from_host s.w s.h) w.host_bytes) (length w.shared.updates) ≡ Some u =
     ap (λ form. slice_get (updates_by form w.host_bytes) (length w.shared.updates)) (form_is s r.extent) ∙ next.0 in
@@ -110,7 +105,6 @@ reached_put s standing w screen m u unread wants r whole gives paints width heig
       height = height ∙ r.height;
       updates = updates ∙ ap (λ us. us ++ u ∷ []) r.updates;
       tally = tally ∙ r.tally;
-      paints = All-push OnlyPaints w.shared.updates u r.paints paints;
       host = rw left next.1;
       fault = r.fault;
       room = r.room;
@@ -132,7 +126,6 @@ reached_no_put s standing w fault r none is =
       height = r.height;
       updates = r.updates;
       tally = r.tally;
-      paints = r.paints;
       host = r.host;
       fault = is ∙ ap fault_of (sym left.1) ∙ ap (λ form. fault_of (rest form w.host_bytes)) (sym (form_is s r.extent));
       room = r.room;
@@ -162,7 +155,6 @@ reached_set s standing w steps v place p r within good =
       height = r.height;
       updates = r.updates;
       tally = r.tally;
-      paints = r.paints;
       host = r.host;
       fault = r.fault;
       room = length-set standing.places v (Some place) ∙ r.room;
@@ -239,7 +231,6 @@ reached_no_look s standing w v place r there none =
       height = r.height;
       updates = r.updates;
       tally = r.tally;
-      paints = r.paints;
       host = r.host;
       fault = r.fault;
       room = r.room;
@@ -327,11 +318,11 @@ joined_reaches standing v role new within looked written stands s w r =
 
 -- What a cut asks for.
 pub ready_there : (s : Setup) (standing : Standing) (w : World) (v : ℕ) (found : Option Held) (place : Held) → Reached s standing w → v < 65 → found ≡ slice_index_or standing.places v found → found ≡ Some place
-    → (is_some place.looked ≡ true → is_ready place.session ≡ true) × (place.session.width ≡ standing.screen.width) × (place.session.height ≡ standing.screen.height) × All OnlyPaints standing.screen.updates
+    → (is_some place.looked ≡ true → is_ready place.session ≡ true) × (place.session.width ≡ standing.screen.width) × (place.session.height ≡ standing.screen.height)
 ready_there s standing w v found place r within at e =
     let it = place_is_some s (place_at standing.places v) (w.viewers v) place (r.places v) (there_is standing v found place r.room within at e) in
     let k = it.2 in
-    (k.ready, k.session.width ∙ sym r.width, k.session.height ∙ sym r.height, rw r.updates r.paints)
+    (k.ready, k.session.width ∙ sym r.width, k.session.height ∙ sym r.height)
 
 -- ---- a put, as the reader of updates and the screen say what they do
 
@@ -345,7 +336,7 @@ put_reaches standing w h used m patch screen ew eh whole count gives width heigh
     let whole_there : after (host_form s.w s.h) standing.unread ≡ Done m = ap (λ f. after f standing.unread) (sym form) ∙ whole in
     let left : drop used standing.unread ≡ drop (taken (host_form s.w s.h) standing.unread) standing.unread =
     ap (λ n. drop n standing.unread) (sym count ∙ ap (λ f. taken f standing.unread) form) in
-    reached_put s standing world screen m patch.update (drop used standing.unread) refl r whole_there gives (host_paints s.w s.h standing.unread m patch.update whole_there gives) width height updates tally left
+    reached_put s standing world screen m patch.update (drop used standing.unread) refl r whole_there gives width height updates tally left
 
 wants_no_whole : (r : Reading ServerMessage) → wants_more r ≡ true → (whole_of r ≡ None) × (fault_of r ≡ None)
 wants_no_whole (Done m) e = absurd cc

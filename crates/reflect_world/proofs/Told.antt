@@ -1,5 +1,5 @@
 -- What each viewer is told in every schedule.
-use Rattle.std.proofs.Common.{◌≡◌, ℕ, ◌+◌, ◌-◌, ◌≤◌, List, [], ◌∷◌, ◌++◌, length, take, ap, sym, ◌∙◌, subst, arith, append_assoc}
+use Rattle.std.proofs.Common.{◌≡◌, ℕ, ◌+◌, ◌-◌, ◌≤◌, Bool, List, [], ◌∷◌, ◌++◌, length, take, ap, sym, ◌∙◌, subst, arith, append_assoc}
 use Rattle.std.proofs.Math.Seq.{take-append-add}
 use Rattle.std.proofs.lemmas.List.{append-nil}
 use Rattle.pixel_format.specs.PixelFormat.{host_format}
@@ -8,12 +8,12 @@ use Rattle.raster.specs.Update.{Update}
 use Rattle.raster.proofs.Spellings.{Each}
 use Rattle.rfb_wire.specs.ClientMessage.{SetPixelFormat, SetEncodings, Ask, Key, Pointer, CutText, LostText}
 use Rattle.rfb_wire.specs.Texts.{HasShortText, BringsShortText}
-use Rattle.reflect_core.specs.Asked.{last_cut}
 use Rattle.rfb_wire.proofs.ShortTexts.{server_message_short}
 use Rattle.host_decoder.proofs.ShortUpdates.{updates_short}
 use Rattle.update_encoder.specs.Follower.{HoldsArea}
-use Rattle.viewer_session.specs.Record.{Entry, Took, Saw, MadeCut, Began, events}
+use Rattle.viewer_session.specs.Record.{Entry, Took, Saw, MadeCut, Began}
 use Rattle.viewer_session.specs.Extent.{GivesAccepted, everything}
+use Rattle.viewer_session.specs.Turn.{news_since}
 use Rattle.viewer_session.specs.Viewer.{Setup, out_bytes}
 use Rattle.viewer_session.specs.Stream.{Heard, Format, Bytes, news_at, heard, stream_of, Listener}
 use Rattle.viewer_session.proofs.Accepted.{client_message_fine}
@@ -38,24 +38,24 @@ one_more : (xs all : List Heard) (x : Heard) → (more : List Heard) × (all ≡
 one_more xs all x k = (k.0 ++ x ∷ [], ap (λ t. t ++ x ∷ []) k.1 ∙ append_assoc xs k.0 (x ∷ []))
 
 -- What came of the earlier entries begins what came of all.
-heard_begins : (w h : ℕ) (us : List Update) (later earlier : List Entry) → (more : List Heard) × (heard w h us (later ++ earlier) ≡ heard w h us earlier ++ more)
-heard_begins w h us [] earlier = ([], sym (append-nil (heard w h us earlier)))
-heard_begins w h us (Took (SetPixelFormat format) ∷ later) earlier = one_more (heard w h us earlier) (heard w h us (later ++ earlier)) (Format format) (heard_begins w h us later earlier)
-heard_begins w h us (Took (SetEncodings choice) ∷ later) earlier = heard_begins w h us later earlier
-heard_begins w h us (Took (Ask incremental area) ∷ later) earlier = heard_begins w h us later earlier
-heard_begins w h us (Took (Key down key) ∷ later) earlier = heard_begins w h us later earlier
-heard_begins w h us (Took (Pointer mask x y) ∷ later) earlier = heard_begins w h us later earlier
-heard_begins w h us (Took (CutText text) ∷ later) earlier = heard_begins w h us later earlier
-heard_begins w h us (Took (LostText len) ∷ later) earlier = heard_begins w h us later earlier
-heard_begins w h us (Saw number ∷ later) earlier = heard_begins w h us later earlier
-heard_begins w h us (MadeCut number ∷ later) earlier =
-    one_more (heard w h us earlier) (heard w h us (later ++ earlier)) (Bytes (news_at (take number us) (last_cut (events w h (later ++ earlier))))) (heard_begins w h us later earlier)
-heard_begins w h us (Began area number bytes ∷ later) earlier = one_more (heard w h us earlier) (heard w h us (later ++ earlier)) (Bytes bytes) (heard_begins w h us later earlier)
+heard_begins : (tells : Bool) (w h : ℕ) (us : List Update) (later earlier : List Entry) → (more : List Heard) × (heard tells w h us (later ++ earlier) ≡ heard tells w h us earlier ++ more)
+heard_begins tells w h us [] earlier = ([], sym (append-nil (heard tells w h us earlier)))
+heard_begins tells w h us (Took (SetPixelFormat format) ∷ later) earlier = one_more (heard tells w h us earlier) (heard tells w h us (later ++ earlier)) (Format format) (heard_begins tells w h us later earlier)
+heard_begins tells w h us (Took (SetEncodings choice) ∷ later) earlier = heard_begins tells w h us later earlier
+heard_begins tells w h us (Took (Ask incremental area) ∷ later) earlier = heard_begins tells w h us later earlier
+heard_begins tells w h us (Took (Key down key) ∷ later) earlier = heard_begins tells w h us later earlier
+heard_begins tells w h us (Took (Pointer mask x y) ∷ later) earlier = heard_begins tells w h us later earlier
+heard_begins tells w h us (Took (CutText text) ∷ later) earlier = heard_begins tells w h us later earlier
+heard_begins tells w h us (Took (LostText len) ∷ later) earlier = heard_begins tells w h us later earlier
+heard_begins tells w h us (Saw number ∷ later) earlier = heard_begins tells w h us later earlier
+heard_begins tells w h us (MadeCut number ∷ later) earlier =
+    one_more (heard tells w h us earlier) (heard tells w h us (later ++ earlier)) (Bytes (news_at (take number us) (news_since tells w h (later ++ earlier)))) (heard_begins tells w h us later earlier)
+heard_begins tells w h us (Began area number bytes ∷ later) earlier = one_more (heard tells w h us earlier) (heard tells w h us (later ++ earlier)) (Bytes bytes) (heard_begins tells w h us later earlier)
 
 pub read_in : (s : Setup) → s.w ≤ 4096 → s.h ≤ 4096 → GivesAccepted s.extent.from_viewer → Gives HasShortText (s.extent.from_host s.w s.h) → (es : List Step) → IsRead s (play s es)
 read_in s lw lh form short es v p e later earlier split =
     let good : IsGood s (play s es).shared.updates p = good_in s lw lh form es v p e in
-    is_heard s.w s.h (play s es).shared.updates earlier (short_updates s es short)
+    is_heard s.extent.tells_news s.w s.h (play s es).shared.updates earlier (short_updates s es short)
     (answered_behind s.w s.h (play s es).shared.updates later earlier (subst (λ q. AllAnswered s.w s.h (play s es).shared.updates q) split good.record_stands.answers))
 
 -- what was written, where it is at least so long
@@ -68,14 +68,14 @@ pub holds_after_written : (s : Setup) → s.w ≤ 4096 → s.h ≤ 4096 → Give
 holds_after_written s lw lh form short es v p e later earlier area n bytes split le =
     let us : List Update = (play s es).shared.updates in
     let upto : List Entry = Began area n bytes ∷ earlier in
-    let begins = heard_begins s.w s.h us later upto in
-    let said : p.said_after ≡ stream_of (heard s.w s.h us upto) ++ stream_of begins.0 =
+    let begins = heard_begins s.extent.tells_news s.w s.h us later upto in
+    let said : p.said_after ≡ stream_of (heard s.extent.tells_news s.w s.h us upto) ++ stream_of begins.0 =
     (good_in s lw lh form es v p e).said
-    ∙ (ap (λ q. stream_of (heard s.w s.h us q)) split
-    ∙ (ap stream_of begins.1 ∙ stream-append (heard s.w s.h us upto) begins.0)) in
-    let out : out_bytes s p ≡ (hello_of s p ++ stream_of (heard s.w s.h us upto)) ++ stream_of begins.0 =
-    ap (λ t. hello_of s p ++ t) said ∙ sym (append_assoc (hello_of s p) (stream_of (heard s.w s.h us upto)) (stream_of begins.0)) in
-    let written = written_begins (hello_of s p ++ stream_of (heard s.w s.h us upto)) (stream_of begins.0) p.written le in
+    ∙ (ap (λ q. stream_of (heard s.extent.tells_news s.w s.h us q)) split
+    ∙ (ap stream_of begins.1 ∙ stream-append (heard s.extent.tells_news s.w s.h us upto) begins.0)) in
+    let out : out_bytes s p ≡ (hello_of s p ++ stream_of (heard s.extent.tells_news s.w s.h us upto)) ++ stream_of begins.0 =
+    ap (λ t. hello_of s p ++ t) said ∙ sym (append_assoc (hello_of s p) (stream_of (heard s.extent.tells_news s.w s.h us upto)) (stream_of begins.0)) in
+    let written = written_begins (hello_of s p ++ stream_of (heard s.extent.tells_news s.w s.h us upto)) (stream_of begins.0) p.written le in
     let read = read_in s lw lh form short es v p e later upto split in (
       (written.0, ap (take p.written) out ∙ written.1),
       subst (λ (l : Listener). HoldsArea l.follower area (take n us)) (sym read.2) (holds_after_each s lw lh form es v p e later earlier area n bytes split).2,

@@ -1,6 +1,6 @@
 -- The second half of a turn over a source for one thread.
 use Rattle.std.proofs.Common.{◌≡◌, ℕ, Bool, true, false, List, length, Option, refl, ap, sym, ◌∙◌, subst}
-use Rattle.std.specs.Prelude.{All, ◌&&◌, ◌||◌, is_some, nat_lt, unwrap_or}
+use Rattle.std.specs.Prelude.{◌&&◌, ◌||◌, is_some, nat_lt, unwrap_or}
 use Rattle.std.proofs.lemmas.List.{take_all}
 use Rattle.raster.specs.declared.rect.Rect.{Rect}
 use Rattle.raster.specs.Update.{Update}
@@ -8,7 +8,7 @@ use Rattle.reflect_core.specs.Asked.{pending, last_cut}
 use Rattle.viewer_session.specs.Record.{events}
 use Rattle.viewer_session.specs.Turn.{has_reason}
 use Rattle.viewer_session.specs.Viewer.{Setup, Viewer, after_cut}
-use Rattle.viewer_session.specs.Session.{State, Stands, CutsAt, OnlyPaints, wants_cut, without_look}
+use Rattle.viewer_session.specs.Session.{State, Stands, CutsAt, wants_cut, without_look}
 use Rattle.reflect_world.specs.World.{Held, HasTurned, with_session}
 use Rattle.reflect_world.proofs.Places.{stands_without_look}
 
@@ -20,14 +20,14 @@ reason_is s st p looked k =
     ∙ ap (λ (o : Option Rect). nat_lt (unwrap_or (last_cut es) 0) looked || (is_some o && st.asked.asked)) k.keeps.asked.area
     ∙ ap (λ (b : Bool). nat_lt (unwrap_or (last_cut es) 0) looked || (is_some (pending es) && b)) k.keeps.asked.asked
 
-pub has_turned : (old : Held) (session : State) (us : List Update) (looked : ℕ) → All OnlyPaints us → (wants_cut old.session.asked looked ≡ false → session ≡ old.session)
+pub has_turned : (old : Held) (session : State) (us : List Update) (looked : ℕ) → (wants_cut old.session.asked looked ≡ false → session ≡ old.session)
     → (wants_cut old.session.asked looked ≡ true → CutsAt old.session session us (length us)) → HasTurned old (with_session old session) looked us
-has_turned old session us looked paints idle cuts =
+has_turned old session us looked idle cuts =
     record {
       others = refl;
       stays = λ s p k e. subst (λ (st : State). Stands s st (without_look p)) (sym (idle (reason_is s old.session p looked k ∙ e))) (stands_without_look s old.session p k);
       cuts =
           λ s p k e.
           let cut = cuts (reason_is s old.session p looked k ∙ e) in
-          subst (λ (known : List Update). Stands s session (after_cut s known p)) (take_all cut.number us cut.fresh) (cut.stands paints s p k);
+          subst (λ (known : List Update). Stands s session (after_cut s known p)) (take_all cut.number us cut.fresh) (cut.stands s p k);
     }

@@ -1,5 +1,5 @@
 -- A reflector as the code keeps it, and the world of the definitions that it stands for.
-use Rattle.std.specs.Prelude.{◌≡◌, ℕ, ◌^◌, ◌⊎◌, Bool, true, false, if◌then◌else◌, List, [], ◌∷◌, ◌++◌, length, drop, All, is_some, slice_get, slice_index_or, take, Option, Some, None}
+use Rattle.std.specs.Prelude.{◌≡◌, ℕ, ◌^◌, ◌⊎◌, Bool, true, false, if◌then◌else◌, List, [], ◌∷◌, ◌++◌, length, drop, is_some, slice_get, slice_index_or, take, Option, Some, None}
 use Rattle.pixel_format.specs.declared.fault.Fault.{Fault}
 use Rattle.pixel_format.specs.declared.fault.Fault.TheVariants.{Memory, NumbersOut}
 use Rattle.pixel_format.specs.Reading.{Reading, rest}
@@ -10,7 +10,7 @@ use Rattle.host_decoder.specs.Updates.{updates_by}
 use Rattle.reflect_core.specs.Plain.{Plain}
 use Rattle.reflect_core.specs.Sequential.{IsHistory}
 use Rattle.viewer_session.specs.FirstPath.{first_path}
-use Rattle.viewer_session.specs.Session.{IsOneTile, State, Stands, is_ready, OnlyPaints, after_writing, without_look}
+use Rattle.viewer_session.specs.Session.{IsOneTile, State, Stands, is_ready, after_writing, without_look}
 use Rattle.viewer_session.specs.Turn.{has_reason}
 use Rattle.viewer_session.specs.Viewer.{Setup, Viewer, after_bytes, after_cut, may_look}
 use Rattle.reflect_world.specs.Schedule.{Step, World, HostBytes, Put, Raise, Join, Bytes, Look, Cut, Written, happens, play}
@@ -100,7 +100,6 @@ pub record Reached (s : Setup) (standing : Standing) (w : World) : Type 0 where
   pub height : standing.screen.height ≡ s.h
   pub updates : standing.screen.updates ≡ w.shared.updates
   pub tally : standing.screen.tally ≡ w.shared.tally
-  pub paints : All OnlyPaints w.shared.updates
   pub host : HostStands (host_form s.w s.h) w.host_bytes w.shared.updates standing.unread
   pub fault : standing.host_fault ≡ w.host_fault
   pub room : length standing.places ≡ 65

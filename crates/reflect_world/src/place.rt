@@ -1,9 +1,9 @@
 //! A viewer of a world.
 
-ghost use Rattle.std.specs.Prelude.{◌≡◌, ℕ, ◌≤◌, [], ◌++◌, All, true, false, is_some, min, length, take, None, Some, IfOk, IfErr, OnOk};
+ghost use Rattle.std.specs.Prelude.{◌≡◌, ℕ, ◌≤◌, [], ◌++◌, true, false, is_some, min, length, take, None, Some, IfOk, IfErr, OnOk};
 ghost use Rattle.pixel_format.specs.declared.fault.Fault.TheVariants.{Memory};
 ghost use Rattle.viewer_session.specs.FirstPath.{first_path};
-ghost use Rattle.viewer_session.specs.Session.{IsOneTile, OnlyPaints, Stands, fault_in, is_ready};
+ghost use Rattle.viewer_session.specs.Session.{IsOneTile, Stands, fault_in, is_ready};
 ghost use Rattle.viewer_session.specs.Viewer.{Setup, new_viewer};
 ghost use Rattle.reflect_world.specs.World.{GoesOn, HasLooked, IsFed, IsWritten};
 
@@ -82,7 +82,6 @@ impl Place {
     pub fn cut(&mut self, screen: &mut PlainScreen) -> Result<(), Fault>
         requires ready { is_some self.old.looked ≡ true → is_ready self.old.session ≡ true }
         requires size { (self.old.session.width ≡ screen.old.width) × (self.old.session.height ≡ screen.old.height) }
-        requires paints { All OnlyPaints screen.old.updates }
         ensures ok { OnOk result (GoesOn self.old.looked self.old self.new screen.old.updates) }
         ensures err { IfErr result (λ fault. (fault ≡ Memory) × (self.new ≡ self.old)) }
         ensures screen { screen.new ≡ screen.old }

@@ -1,72 +1,41 @@
 -- What a turn over one tile sends.
-use Rattle.std.proofs.Common.{◌≡◌, ℕ, suc, ◌+◌, ◌<◌, ◌≤◌, Bool, true, false, List, [], ◌∷◌, ◌++◌, length, take, drop, get_or, Option, Some, None, refl, sym, ap, subst, ◌∙◌, arith, length-append}
-use Rattle.std.specs.Prelude.{All, ◌&&◌, ◌||◌, nat_lt, is_none, if◌then◌else◌, slice_get, unwrap_or, ◌==◌}
+use Rattle.std.proofs.Common.{◌≡◌, ℕ, ◌<◌, ◌≤◌, Bool, true, false, List, [], ◌∷◌, ◌++◌, length, take, drop, get_or, Option, Some, None, refl, sym, ap, subst, ◌∙◌, arith, length-append}
+use Rattle.std.specs.Prelude.{◌&&◌, ◌||◌, is_none, if◌then◌else◌, slice_get, unwrap_or, ◌==◌}
 use Rattle.std.proofs.lemmas.Bool.{eqb-true}
 use Rattle.std.proofs.lemmas.Option.{get_or_from_slice_get}
 use Rattle.std.specs.List.{list_any, range_with_len}
-use Rattle.std.proofs.lemmas.Bool.Decides.{nat_tests}
 use Rattle.std.proofs.lemmas.List.{length-take, length-drop}
 use Rattle.std.proofs.Math.Seq.{drop-append_seam}
-use Rattle.std.proofs.lemmas.List.Elements.{All-take}
 use Rattle.pixel_format.specs.PixelFormat.{PixelFormat, row_bytes}
 use Rattle.raster.specs.declared.rect.Rect.{Rect}
 use Rattle.raster.specs.Screen.{IsWithin, holds, meets, whole_screen, tile_rect, tile_count, value_at}
 use Rattle.raster.proofs.Places.{Has, holds_has}
-use Rattle.raster.specs.Update as updates
-use Rattle.raster.specs.Update.{Update, NumberedText, screen, bells, last_text, last_text_from}
+use Rattle.raster.specs.Update.{Update, screen}
 use Rattle.rfb_wire.specs.ClientMessage.{Choice}
 use Rattle.rfb_wire.specs.Writing.{update_head_bytes, rectangle_head_bytes}
 use Rattle.tiles.specs.Have.{SentTiles, HaveStands}
 use Rattle.tiles.specs.Touched.{Event, WasCut, Answered, runs}
 use Rattle.reflect_core.specs.declared.cut.Cut.{Cut}
-use Rattle.reflect_core.specs.Asked.{Wanted, AskedStands, pending, last_cut}
+use Rattle.reflect_core.specs.Asked.{Wanted, AskedStands, pending}
 use Rattle.reflect_core.specs.Source.{IsCutOf, due_in}
 use Rattle.reflect_core.proofs.CutLaws.{due_by, marks_due}
 use Rattle.update_encoder.specs.Answer.{answer_bytes}
+use Rattle.viewer_session.specs.Extent.{Extent}
+use Rattle.viewer_session.specs.FirstPath.{first_path}
 use Rattle.viewer_session.specs.RawUpdate.{raw_update}
 use Rattle.viewer_session.specs.Record.{Entry, MadeCut, Began, events, format_of, choice_of}
-use Rattle.viewer_session.specs.Turn.{due_tile, due_tile_in, all_were_sent, update_for, update_at, update_part, bell_at, newer_text, text_at, sent_at, began_at, record_after_cut}
+use Rattle.viewer_session.specs.Turn.{due_tile, due_tile_in, all_were_sent, update_for, update_at, update_part, sent_at, began_at, record_after_cut}
 use Rattle.viewer_session.specs.Viewer.{Setup, Viewer, after_cut}
-use Rattle.viewer_session.specs.Session.{State, Stands, Keeps, IsOneTile, OnlyPaints, CutsAt, at_rest, is_ready, fault_in}
+use Rattle.viewer_session.specs.Session.{State, Stands, Keeps, IsOneTile, CutsAt, at_rest, is_ready, fault_in}
 use Rattle.viewer_session.proofs.OneTile.{one_tile, tile_is_screen, runs_one}
 use Rattle.viewer_session.proofs.RawAnswer.{raw_choice, raw_answer, colours_same}
 
--- ---- updates that only paint
+-- ---- what is sent
 
-tail_paints : (u : Update) (us : List Update) → All OnlyPaints (u ∷ us) → All OnlyPaints us
-tail_paints u us a = λ k d lt. a (suc k) d (omega arith)
-
-head_paints : (u : Update) (us : List Update) → All OnlyPaints (u ∷ us) → OnlyPaints u
-head_paints u us a = a 0 u (omega arith)
-
-no_bells : (us : List Update) → All OnlyPaints us → bells us ≡ 0
-no_bells [] a = refl
-no_bells (updates.Paints ps ∷ us) a = no_bells us (tail_paints (updates.Paints ps) us a)
-no_bells (updates.Bell ∷ us) a = absurd (head_paints updates.Bell us a)
-no_bells (updates.Cut text ∷ us) a = absurd (head_paints (updates.Cut text) us a)
-
-no_text_from : (last : Option NumberedText) (next : ℕ) (us : List Update) → All OnlyPaints us → last_text_from last next us ≡ last
-no_text_from last next [] a = refl
-no_text_from last next (updates.Paints ps ∷ us) a = no_text_from last (next + 1) us (tail_paints (updates.Paints ps) us a)
-no_text_from last next (updates.Bell ∷ us) a = absurd (head_paints updates.Bell us a)
-no_text_from last next (updates.Cut text ∷ us) a = absurd (head_paints (updates.Cut text) us a)
-
-below_none : (n m : ℕ) → m ≡ 0 → nat_lt n m ≡ false
-below_none n m e = grind (arith, nat_tests)
-
-no_bell_sent : (us : List Update) (last : Option ℕ) → All OnlyPaints us → bell_at us last ≡ []
-no_bell_sent us None a = refl
-no_bell_sent us (Some number) a = rw (below_none (bells (take number us)) (bells us) (no_bells us a)) refl
-
-no_text_sent : (us : List Update) (last : Option ℕ) → All OnlyPaints us → text_at us last ≡ []
-no_text_sent us None a = refl
-no_text_sent us (Some number) a = ap (newer_text number) (no_text_from None 1 us a)
-
--- Then an update alone is sent.
-pub sends_update : (w h : ℕ) (es : List Entry) (us : List Update) → All OnlyPaints us → sent_at w h es us ≡ update_part (update_at w h es us)
-sends_update w h es us a =
-    let last : Option ℕ = last_cut (events w h es) in
-    ap (λ bs. (bs ++ text_at us last) ++ update_part (update_at w h es us)) (no_bell_sent us last a) ∙ ap (λ bs. bs ++ update_part (update_at w h es us)) (no_text_sent us last a)
+-- Where no Bell and no text is told an update alone is sent.
+sends_update : (s : Setup) (es : List Entry) (us : List Update) → s.extent ≡ first_path s.extent.from_host
+    → sent_at s.extent.tells_news s.w s.h es us ≡ update_part (update_at s.w s.h es us)
+sends_update s es us e = ap (λ (extent : Extent). sent_at extent.tells_news s.w s.h es us) e
 
 -- ---- the update
 
@@ -115,7 +84,7 @@ drop_said : (n : ℕ) (xs ys : List ℕ) → n ≤ length xs → length (drop n 
 drop_said n xs ys le e = drop_at xs ys n (omega (arith, length-drop n xs))
 
 stands_cut : (s : Setup) (st : State) (p : Viewer) (us : List Update) (wanted : Wanted) (have : SentTiles) (bytes : List ℕ) → Stands s st p → length st.unsent ≡ 0
-    → sent_at s.w s.h p.entries us ≡ bytes → Keeps s.w s.h (record st { asked = wanted; have = have; unsent = bytes }) (record_after_cut s.w s.h p.entries us)
+    → sent_at s.extent.tells_news s.w s.h p.entries us ≡ bytes → Keeps s.w s.h (record st { asked = wanted; have = have; unsent = bytes }) (record_after_cut s.w s.h p.entries us)
     → Stands s (record st { asked = wanted; have = have; unsent = bytes }) (after_cut s us p)
 stands_cut s st p us wanted have bytes k none e keeps =
     let over : length (drop p.written p.said_after) ≡ 0 = ap length (sym k.unsent) ∙ none in
@@ -128,36 +97,36 @@ stands_cut s st p us wanted have bytes k none e keeps =
       reading = k.reading;
       taken = k.taken;
       keeps = keeps;
-      written = omega (arith, k.written, length-append p.said_after (sent_at s.w s.h p.entries us));
-      unsent = sym (drop_said p.written p.said_after (sent_at s.w s.h p.entries us) k.written over ∙ e);
+      written = omega (arith, k.written, length-append p.said_after (sent_at s.extent.tells_news s.w s.h p.entries us));
+      unsent = sym (drop_said p.written p.said_after (sent_at s.extent.tells_news s.w s.h p.entries us) k.written over ∙ e);
     }
 
 -- Nothing is sent.
-pub stands_quiet : (s : Setup) (st : State) (p : Viewer) (us : List Update) (n : ℕ) (wanted : Wanted) → Stands s st p → length st.unsent ≡ 0 → All OnlyPaints us → length us ≡ n
+pub stands_quiet : (s : Setup) (st : State) (p : Viewer) (us : List Update) (n : ℕ) (wanted : Wanted) → Stands s st p → length st.unsent ≡ 0 → length us ≡ n
     → update_at s.w s.h p.entries us ≡ None → ((es : List Event) → AskedStands st.asked es → AskedStands wanted (WasCut n ∷ es)) → Stands s (record st { asked = wanted }) (after_cut s us p)
-stands_quiet s st p us n wanted k none a count e asked =
+stands_quiet s st p us n wanted k none count e asked =
     let none_is : st.unsent ≡ [] = nothing st.unsent none in
     let es : List Event = events s.w s.h p.entries in
     let quiet : record_after_cut s.w s.h p.entries us ≡ MadeCut n ∷ p.entries = ap (λ u. began_at (length us) u (MadeCut (length us) ∷ p.entries)) e ∙ ap (λ m. MadeCut m ∷ p.entries) count in
     let kept : Keeps s.w s.h (record st { asked = wanted }) (MadeCut n ∷ p.entries) =
     record { asked = asked es k.keeps.asked; have = record { each = k.keeps.have.each }; format = k.keeps.format; choice = k.keeps.choice } in
-    let sends : sent_at s.w s.h p.entries us ≡ st.unsent = sends_update s.w s.h p.entries us a ∙ (ap update_part e ∙ sym none_is) in
+    let sends : sent_at s.extent.tells_news s.w s.h p.entries us ≡ st.unsent = sends_update s p.entries us k.extent ∙ (ap update_part e ∙ sym none_is) in
     stands_cut s st p us wanted st.have st.unsent k none sends
     (subst (λ (t : List Entry). Keeps s.w s.h (record st { asked = wanted }) t) (sym quiet) kept)
 
 -- An update of the area is sent.
-pub stands_answered : (s : Setup) (st : State) (p : Viewer) (us : List Update) (n : ℕ) (area : Rect) (wanted : Wanted) (have : SentTiles) (bytes : List ℕ) → Stands s st p → length st.unsent ≡ 0 → All OnlyPaints us
+pub stands_answered : (s : Setup) (st : State) (p : Viewer) (us : List Update) (n : ℕ) (area : Rect) (wanted : Wanted) (have : SentTiles) (bytes : List ℕ) → Stands s st p → length st.unsent ≡ 0
     → length us ≡ n → update_at s.w s.h p.entries us ≡ Some (area, bytes)
     → ((es : List Event) → AskedStands st.asked es → AskedStands wanted (Answered area n ∷ WasCut n ∷ es))
     → ((es : List Event) → HaveStands st.have es → HaveStands have (Answered area n ∷ es))
     → Stands s (record st { asked = wanted; have = have; unsent = bytes }) (after_cut s us p)
-stands_answered s st p us n area wanted have bytes k none a count e asked has =
+stands_answered s st p us n area wanted have bytes k none count e asked has =
     let es : List Event = events s.w s.h p.entries in
     let answered : record_after_cut s.w s.h p.entries us ≡ Began area n bytes ∷ MadeCut n ∷ p.entries =
     ap (λ u. began_at (length us) u (MadeCut (length us) ∷ p.entries)) e ∙ ap (λ m. Began area m bytes ∷ MadeCut m ∷ p.entries) count in
     let kept : Keeps s.w s.h (record st { asked = wanted; have = have; unsent = bytes }) (Began area n bytes ∷ MadeCut n ∷ p.entries) =
     record { asked = asked es k.keeps.asked; have = has (WasCut n ∷ es) (record { each = k.keeps.have.each }); format = k.keeps.format; choice = k.keeps.choice } in
-    stands_cut s st p us wanted have bytes k none (sends_update s.w s.h p.entries us a ∙ ap update_part e)
+    stands_cut s st p us wanted have bytes k none (sends_update s p.entries us k.extent ∙ ap update_part e)
     (subst (λ (t : List Entry). Keeps s.w s.h (record st { asked = wanted; have = have; unsent = bytes }) t) (sym answered) kept)
 
 -- ---- a cut of one tile
@@ -209,7 +178,7 @@ answers_at st now known least n area cut wanted have bytes same none one ew eh p
       number = n;
       known = is.known;
       fresh = fresh;
-      stands = λ a s p stands.
+      stands = λ s p stands.
           let k : Stands s st p = subst (λ (t : State). Stands s t p) (sym same) stands in
           let small : IsOneTile s.w s.h = one_of st.width st.height s.w s.h one (sym k.width) (sym k.height) in
           let on_screen : IsWithin area s.w s.h = record { across = omega (arith, on.across, k.width); down = omega (arith, on.down, k.height) } in
@@ -217,7 +186,7 @@ answers_at st now known least n area cut wanted have bytes same none one ew eh p
           update_one s.w s.h p.entries (take n known) area small on_screen (sym k.keeps.asked.area ∙ pends) (due_of_cut s st p known n area cut true k one ew eh is due) k.keeps.choice in
           let shown : raw_update (format_of p.entries) (screen (take n known)) area ≡ bytes =
           ap (λ (f : PixelFormat). raw_update f (screen (take n known)) area) (sym k.keeps.format) ∙ (sym (cut_shows st known n area cut one ew eh on is due) ∙ sym e) in
-          stands_answered s st p (take n known) n area wanted have bytes k (ap (λ (t : State). length t.unsent) same ∙ none) (All-take OnlyPaints n known a) (count_taken n known is.known) (sends ∙ ap (λ bs. Some (area, bs)) shown) asked has;
+          stands_answered s st p (take n known) n area wanted have bytes k (ap (λ (t : State). length t.unsent) same ∙ none) (count_taken n known is.known) (sends ∙ ap (λ bs. Some (area, bs)) shown) asked has;
     }
 
 -- The tile isn't due.
@@ -229,10 +198,10 @@ quiet_at st now known least n area cut wanted same none one ew eh pends is fresh
       number = n;
       known = is.known;
       fresh = fresh;
-      stands = λ a s p stands.
+      stands = λ s p stands.
           let k : Stands s st p = subst (λ (t : State). Stands s t p) (sym same) stands in
           let small : IsOneTile s.w s.h = one_of st.width st.height s.w s.h one (sym k.width) (sym k.height) in
-          stands_quiet s st p (take n known) n wanted k (ap (λ (t : State). length t.unsent) same ∙ none) (All-take OnlyPaints n known a) (count_taken n known is.known)
+          stands_quiet s st p (take n known) n wanted k (ap (λ (t : State). length t.unsent) same ∙ none) (count_taken n known is.known)
           (update_none s.w s.h p.entries (take n known) area small (sym k.keeps.asked.area ∙ pends) (due_of_cut s st p known n area cut false k one ew eh is due)) asked;
     }
 
@@ -244,9 +213,9 @@ unasked_at st now known least n wanted same none pends le fresh asked =
       number = n;
       known = le;
       fresh = fresh;
-      stands = λ a s p stands.
+      stands = λ s p stands.
           let k : Stands s st p = subst (λ (t : State). Stands s t p) (sym same) stands in
-          stands_quiet s st p (take n known) n wanted k (ap (λ (t : State). length t.unsent) same ∙ none) (All-take OnlyPaints n known a) (count_taken n known le)
+          stands_quiet s st p (take n known) n wanted k (ap (λ (t : State). length t.unsent) same ∙ none) (count_taken n known le)
           (ap (update_for s.w s.h p.entries (take n known)) (sym k.keeps.asked.area ∙ pends)) asked;
     }
 

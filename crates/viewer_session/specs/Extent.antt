@@ -6,16 +6,18 @@ use Rattle.rfb_wire.specs.ClientMessage.{ClientMessage, SetPixelFormat, SetEncod
 use Rattle.rfb_wire.specs.ServerMessage.{ServerMessage, server_message}
 
 -- What is read of a viewer, and of a host over a screen of w by h; whether answers follow the encodings that a viewer chose, or are
--- Raw; whether input is relayed. A build that serves less than everything says so by this, and the definitions are the same.
+-- Raw; whether a viewer is told the host's Bells and texts; whether input is relayed. A build that serves less than everything says so by
+-- this, and the definitions are the same.
 pub record Extent : Type 0 where
   pub from_viewer : Reading ClientMessage
   pub from_host : ℕ → ℕ → Reading ServerMessage
   pub follows_choice : Bool
+  pub tells_news : Bool
   pub relays_input : Bool
 
 -- The whole protocol of RFC 6143 in this project's profile.
 abbrev pub everything : Extent
-everything = record { from_viewer = client_message; from_host = server_message host_format; follows_choice = true; relays_input = true }
+everything = record { from_viewer = client_message; from_host = server_message host_format; follows_choice = true; tells_news = true; relays_input = true }
 
 -- Each pixel format in a message is an accepted one.
 abbrev pub HasAccepted : ClientMessage → Type 0

@@ -1,10 +1,9 @@
 -- What a session keeps, and which viewers it stands for.
-use Rattle.std.specs.Prelude.{◌≡◌, ℕ, ◌+◌, ◌*◌, ◌≤◌, Bool, true, false, max, ◌&&◌, ◌||◌, ◌==◌, nat_lt, is_some, is_none, unwrap_or, List, [], ◌∷◌, length, drop, take, All, Option, Some, None, Result, Ok, Err}
+use Rattle.std.specs.Prelude.{◌≡◌, ℕ, ◌+◌, ◌*◌, ◌≤◌, Bool, true, false, max, ◌&&◌, ◌||◌, ◌==◌, nat_lt, is_some, is_none, unwrap_or, List, [], ◌∷◌, length, drop, take, Option, Some, None, Result, Ok, Err}
 use Rattle.pixel_format.specs.declared.fault.Fault.{Fault}
 use Rattle.pixel_format.specs.PixelFormat.{PixelFormat}
 use Rattle.pixel_format.specs.Reading.{Reading, Done, whole_of, fault_of, GivesWhole}
 use Rattle.raster.specs.declared.encoding.Encoding.TheVariants.{Raw}
-use Rattle.raster.specs.Update as updates
 use Rattle.raster.specs.Update.{Update}
 use Rattle.rfb_wire.specs.declared.client_reader.ClientReader.{ClientReader}
 use Rattle.rfb_wire.specs.ClientReader.{ahead}
@@ -116,19 +115,13 @@ after_writing n p = record p { written = p.written + n }
 abbrev pub wants_cut : Wanted → ℕ → Bool
 wants_cut wanted looked = nat_lt (unwrap_or wanted.last 0) looked || (is_some wanted.area && wanted.asked)
 
--- An update that paints: no Bell and no text.
-abbrev pub OnlyPaints : Update → Type 0
-OnlyPaints (updates.Paints paints) = Unit {0}
-OnlyPaints updates.Bell = ⊥
-OnlyPaints (updates.Cut text) = ⊥
-
--- It was cut: at a number that is at least this, of the updates that the source knows. Where these only paint, the new state stands for the viewers that
--- the cut makes of those of the old.
+-- It was cut: at a number that is at least this, of the updates that the source knows. The new state stands for the viewers that the cut makes of those of
+-- the old.
 pub record CutsAt (old new : State) (us : List Update) (least : ℕ) : Type 0 where
   pub number : ℕ
   pub known : number ≤ length us
   pub fresh : least ≤ number
-  pub stands : All OnlyPaints us → (s : Setup) (p : Viewer) → Stands s old p → Stands s new (after_cut s (take number us) p)
+  pub stands : (s : Setup) (p : Viewer) → Stands s old p → Stands s new (after_cut s (take number us) p)
 
 -- It was looked at, with a reply that is known, and then cut where there is reason, at a number that is at least the reply.
 pub record Turns (old new : State) (us : List Update) (least : ℕ) : Type 0 where

@@ -128,4 +128,4 @@ may_look s p = nat_le (length (out_bytes s p)) p.written && (is_greeted p && is_
 -- What a cut of these updates makes of a viewer: more to be sent, and more in its record.
 abbrev pub after_cut : Setup → List Update → Viewer → Viewer
 after_cut s us p =
-    record p { looked = None; said_after = p.said_after ++ sent_at s.w s.h p.entries us; entries = record_after_cut s.w s.h p.entries us }
+    record p { looked = None; said_after = p.said_after ++ sent_at s.extent.tells_news s.w s.h p.entries us; entries = record_after_cut s.w s.h p.entries us }

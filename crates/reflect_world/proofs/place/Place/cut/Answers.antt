@@ -13,6 +13,6 @@ returns-in-Ok-clause-ok c =
     let us : List Update = c.args.screen.now.updates in
     subst (λ (before : Held). GoesOn before.looked before new us) c.self.view_is
     (subst (λ (looked : Option ℕ). GoesOn looked old new us) (sym c.in-Some.is)
-    (has_turned old c.turn_at.new.self us c.in-Some.looked c.requires.paints
+    (has_turned old c.turn_at.new.self us c.in-Some.looked
     (λ e. (c.turn_at.ensures.idle e).1)
     (λ e. subst (λ (screen : Plain). CutsAt c.self.inside.session c.turn_at.new.self screen.updates (length us)) c.turn_at.ensures.moves (c.in-Ok.ensures.cuts e))))
