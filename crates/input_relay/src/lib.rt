@@ -3,7 +3,5 @@
 
 mod queue;
 mod sink;
-#[cfg(test)]
-mod tests;
 
 pub use queue::{Sender, Settled, Taker, relay, settle};

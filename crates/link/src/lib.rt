@@ -4,8 +4,6 @@
 mod join;
 mod link;
 mod memory_link;
-#[cfg(test)]
-mod tests;
 
 pub use join::join_host;
 pub use link::{Gave, Link, Took};

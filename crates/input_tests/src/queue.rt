@@ -3,7 +3,7 @@
 ghost use Rattle.std.specs.Prelude.{◌≡◌};
 ghost use Rattle.input_relay.specs.Ends.{relay_of, host_of};
 
-use crate::{Sender, Taker, relay, settle};
+use input_relay::{Sender, Taker, relay, settle};
 use pixel_format::Fault;
 use roles::{Input, InputSink};
 use std::snapshot::Snapshot;

@@ -2,8 +2,11 @@
 
 ghost use Rattle.std.specs.Prelude.{◌<◌};
 
-use super::*;
 use pixel_format::Fault;
+use rfb_wire::{
+    HostHello, ViewerHello, write_bell, write_client_text, write_key, write_pointer,
+    write_server_text,
+};
 use std::alloc::Global;
 use std::test::Fail;
 
@@ -84,16 +87,21 @@ fn security(rt: HostRuntime) {
     assert_eq!(rt; host_fault(b"RFB 003.008\n\x02\x02\x01\0\0\0\0"), 99);
 }
 
+// The number of a text's bytes, and so many of them.
+fn push_text(bytes: &mut Vec<u8>, count: u32) -> Result<(), Fail> {
+    bytes.extend_from_slice(&count.to_be_bytes())?;
+    for _ in 0..count {
+        bytes.push(b'x')?;
+    }
+    Ok(())
+}
+
 #[test]
 fn reasons(rt: HostRuntime) -> Result<(), Fail> {
     let alloc = rt.alloc();
     for (count, kept) in [(0, 0), (1, 1), (255, 255), (256, 255), (300, 255)] {
         let mut bytes = b"RFB 003.008\n\0".to_vec(alloc)?;
-        let length: u32 = count;
-        bytes.extend_from_slice(&length.to_be_bytes())?;
-        for _ in 0..count {
-            bytes.push(b'x')?;
-        }
+        push_text(&mut bytes, count)?;
         assert_eq!(rt; host_fault(bytes.as_slice()), 2);
         let mut hello = HostHello::new();
         match hello.feed(bytes.as_slice()) {
@@ -110,11 +118,7 @@ fn long_names(rt: HostRuntime) -> Result<(), Fail> {
     for (count, kept) in [(0, 0), (255, 255), (256, 255), (300, 255)] {
         let mut bytes = host_bytes(alloc, b"RFB 003.008\n", &[0, 2, 0, 1])?;
         bytes.truncate(38);
-        let length: u32 = count;
-        bytes.extend_from_slice(&length.to_be_bytes())?;
-        for _ in 0..count {
-            bytes.push(b'x')?;
-        }
+        push_text(&mut bytes, count)?;
         assert_eq!(rt; host_fault(bytes.as_slice()), 0);
         let mut hello = HostHello::new();
         let used = hello.feed(bytes.as_slice()).ok().ok_or("a fault")?;
@@ -126,24 +130,36 @@ fn long_names(rt: HostRuntime) -> Result<(), Fail> {
     Ok(())
 }
 
+// Whether the viewer is to be sent exactly this, all of which is then sent.
+fn says(hello: &mut ViewerHello, wanted: &[u8]) -> bool {
+    let count = hello.out().len();
+    let says = hello.out() == wanted;
+    hello.sent(count);
+    says
+}
+
+// Whether all of a piece is used, and no fault shown.
+fn takes(hello: &mut ViewerHello, piece: &[u8]) -> bool {
+    match hello.feed(piece) {
+        Ok(used) => used == piece.len(),
+        Err(_) => false,
+    }
+}
+
 #[test]
 fn a_viewer_is_told(rt: HostRuntime) {
     let mut hello = ViewerHello::new(2, 1, b"T");
-    assert_eq!(rt; hello.out(), b"RFB 003.008\n".as_slice());
-    hello.sent(12);
-    assert_eq!(rt; hello.feed(b"RFB 003.008\n").ok(), Some(12));
-    assert_eq!(rt; hello.out(), b"\x01\x01".as_slice());
-    hello.sent(2);
-    assert_eq!(rt; hello.feed(b"\x01").ok(), Some(1));
-    assert_eq!(rt; hello.out(), b"\0\0\0\0".as_slice());
-    hello.sent(4);
+    assert!(rt; says(&mut hello, b"RFB 003.008\n"));
+    assert!(rt; takes(&mut hello, b"RFB 003.008\n"));
+    assert!(rt; says(&mut hello, b"\x01\x01"));
+    assert!(rt; takes(&mut hello, b"\x01"));
+    assert!(rt; says(&mut hello, b"\0\0\0\0"));
     assert!(rt; !hello.done());
-    assert_eq!(rt; hello.feed(b"\x01\x03").ok(), Some(1));
+    assert!(rt; takes(&mut hello, b"\x01"));
     assert!(rt; hello.done());
-    assert_eq!(rt;
-        hello.out(),
-        b"\0\x02\0\x01\x20\x18\0\x01\0\xFF\0\xFF\0\xFF\x10\x08\0\0\0\0\0\0\0\x01T".as_slice()
-    );
+    assert_eq!(rt; hello.feed(b"\x03").ok(), Some(0));
+    let init = b"\0\x02\0\x01\x20\x18\0\x01\0\xFF\0\xFF\0\xFF\x10\x08\0\0\0\0\0\0\0\x01T";
+    assert!(rt; says(&mut hello, init));
 }
 
 #[test]
@@ -167,17 +183,30 @@ fn a_viewer_is_refused(rt: HostRuntime) {
     assert!(rt; other.out().is_empty());
 }
 
+// Whether so many bytes are these, and stand at the front.
+fn is_written(out: &[u8], count: usize, wanted: &[u8]) -> bool {
+    count == wanted.len() && out.starts_with(wanted)
+}
+
+fn writes_input(out: &mut [u8; 24]) -> bool {
+    let key = write_key(true, 0xFF0D, out);
+    let is_key = is_written(out, key, &[4, 1, 0, 0, 0, 0, 0xFF, 0x0D]);
+    let pointer = write_pointer(5, 1, 0x203, out);
+    is_key && is_written(out, pointer, &[5, 5, 0, 1, 2, 3])
+}
+
+fn writes_texts(out: &mut [u8; 24]) -> bool {
+    let of_client = write_client_text(b"A", out);
+    let is_client = is_written(out, of_client, &[6, 0, 0, 0, 0, 0, 0, 1, b'A']);
+    let of_server = write_server_text(b"B", out);
+    is_client && is_written(out, of_server, &[3, 0, 0, 0, 0, 0, 0, 1, b'B'])
+}
+
 #[test]
 fn messages_by_hand(rt: HostRuntime) {
     let mut out = [0; 24];
-    assert_eq!(rt; write_key(true, 0xFF0D, &mut out), 8);
-    assert_eq!(rt; &out[..8], [4, 1, 0, 0, 0, 0, 0xFF, 0x0D].as_slice());
-    assert_eq!(rt; write_pointer(5, 1, 0x203, &mut out), 6);
-    assert_eq!(rt; &out[..6], [5, 5, 0, 1, 2, 3].as_slice());
-    assert_eq!(rt; write_client_text(b"A", &mut out), 9);
-    assert_eq!(rt; &out[..9], [6, 0, 0, 0, 0, 0, 0, 1, b'A'].as_slice());
-    assert_eq!(rt; write_server_text(b"B", &mut out), 9);
-    assert_eq!(rt; &out[..9], [3, 0, 0, 0, 0, 0, 0, 1, b'B'].as_slice());
-    assert_eq!(rt; write_bell(&mut out), 1);
-    assert_eq!(rt; out[0], 2);
+    assert!(rt; writes_input(&mut out));
+    assert!(rt; writes_texts(&mut out));
+    let bell = write_bell(&mut out);
+    assert!(rt; is_written(&out, bell, &[2]));
 }

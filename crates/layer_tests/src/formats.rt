@@ -1,7 +1,7 @@
 //! Worked values of RFC 6143, section 7.4, and of this project's rules beside it, typed by hand.
 
-use super::*;
 use arrayvec::ArrayVec;
+use pixel_format::{Fault, Format, LIMIT};
 use std::process::Abort;
 use std::test::Fail;
 

@@ -1,7 +1,7 @@
 //! What passes, and what is released, by what the rules say.
 
-use crate::{Held, Input, Role};
 use rfb_wire::{ClientMessage, Text};
+use roles::{Held, Input, Role};
 
 fn press(held: &mut Held, key: u32) -> bool {
     held.passes(Role::Full, &ClientMessage::Key { down: true, key })

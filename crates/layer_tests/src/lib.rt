@@ -1,0 +1,11 @@
+//! Tests of the crates up to `reflect_core`, which stand in a crate of their own so that each of those is proved once.
+#![tactic(auto)]
+
+#[cfg(test)]
+mod formats;
+#[cfg(test)]
+mod marks;
+#[cfg(test)]
+mod rasters;
+#[cfg(test)]
+mod screens;
