@@ -2,7 +2,6 @@
 
 use arrayvec::ArrayVec;
 use pixel_format::{Fault, Format, LIMIT};
-use std::process::Abort;
 use std::test::Fail;
 
 const RED: u32 = 0x00FF_0000;
@@ -41,16 +40,18 @@ fn changed(mut bytes: [u8; 16], position: usize, value: u8) -> [u8; 16] {
     bytes
 }
 
-/// Tints a row, once it has the room that it takes.
-fn tint_row(rt: &impl Abort, format: &Format, colours: &[u32], out: &mut [u8]) {
-    assert!(rt; colours.len() < 100);
-    assert_eq!(rt; out.len(), format.bytes() * colours.len());
-    format.tint_row(colours, out);
+/// Tints a row, where it has exactly the room that it takes.
+fn tint_row(format: &Format, colours: &[u32], out: &mut [u8]) {
+    if colours.len() < 100 && out.len() == format.bytes() * colours.len() {
+        format.tint_row(colours, out);
+    }
 }
 
-/// Puts a pixel, once there is room, and gets it again.
-fn put_and_get(rt: &impl Abort, format: &Format, value: u32, out: &mut [u8]) -> u32 {
-    assert!(rt; format.bytes() <= out.len());
+/// Puts a pixel where there is room, and gets it again.
+fn put_and_get(format: &Format, value: u32, out: &mut [u8]) -> u32 {
+    if format.bytes() > out.len() {
+        return 0;
+    }
     format.put_pixel(value, out);
     format.get_pixel(out)
 }
@@ -65,7 +66,7 @@ fn colours_in_the_host_format(rt: HostRuntime) -> Result<(), Fail> {
     assert_eq!(rt; format.bytes(), 4);
     assert_eq!(rt; format.tint(RED), RED);
     let mut row = [0xEE; 12];
-    tint_row(&rt, &format, &[RED, BLUE, 0xAA80_8080], &mut row);
+    tint_row(&format, &[RED, BLUE, 0xAA80_8080], &mut row);
     assert_eq!(rt;
         row,
         [
@@ -81,10 +82,9 @@ fn colours_in_16_bits(rt: HostRuntime) -> Result<(), Fail> {
     assert_eq!(rt; format.bytes(), 2);
     assert_eq!(rt; format.tint(GREY), 0x8410);
     let mut row = [0xEE; 6];
-    tint_row(&rt, &format, &[RED, BLUE, GREY], &mut row);
+    tint_row(&format, &[RED, BLUE, GREY], &mut row);
     assert_eq!(rt; row, [0xF8, 0x00, 0x00, 0x1F, 0x84, 0x10]);
     tint_row(
-        &rt,
         &format_of(changed(RGB565, 2, 0))?,
         &[RED, BLUE, GREY],
         &mut row,
@@ -98,7 +98,7 @@ fn colours_in_8_bits(rt: HostRuntime) -> Result<(), Fail> {
     let format = format_of(BGR233)?;
     assert_eq!(rt; format.bytes(), 1);
     let mut row = [0xEE; 3];
-    tint_row(&rt, &format, &[RED, BLUE, GREY], &mut row);
+    tint_row(&format, &[RED, BLUE, GREY], &mut row);
     assert_eq!(rt; row, [0x07, 0xC0, 0xA4]);
     Ok(())
 }
@@ -107,21 +107,19 @@ fn colours_in_8_bits(rt: HostRuntime) -> Result<(), Fail> {
 fn colours_in_other_formats_of_32_bits(rt: HostRuntime) -> Result<(), Fail> {
     let mut row = [0xEE; 8];
     tint_row(
-        &rt,
         &format_of(changed(HOST, 2, 1))?,
         &[RED, 0x0001_0203],
         &mut row,
     );
     assert_eq!(rt; row, [0x00, 0xFF, 0x00, 0x00, 0x00, 0x01, 0x02, 0x03]);
     tint_row(
-        &rt,
         &format_of(changed(changed(HOST, 10, 0), 12, 16))?,
         &[RED, 0x0001_0203],
         &mut row,
     );
     assert_eq!(rt; row, [0xFF, 0x00, 0x00, 0x00, 0x01, 0x02, 0x03, 0x00]);
     // 128 of 255 is 514 of 1023.
-    tint_row(&rt, &format_of(RGB30)?, &[GREY, RED], &mut row);
+    tint_row(&format_of(RGB30)?, &[GREY, RED], &mut row);
     assert_eq!(rt; row, [0x02, 0x0A, 0x28, 0x20, 0x00, 0x00, 0xF0, 0x3F]);
     Ok(())
 }
@@ -143,25 +141,19 @@ fn values_of_colours(rt: HostRuntime) -> Result<(), Fail> {
 fn pixels_are_put_and_got(rt: HostRuntime) -> Result<(), Fail> {
     let mut bytes = [0xEE; 5];
     assert_eq!(rt;
-        put_and_get(&rt, &Format::HOST, 0x0403_0201, &mut bytes),
+        put_and_get(&Format::HOST, 0x0403_0201, &mut bytes),
         0x0403_0201
     );
     assert_eq!(rt; bytes, [1, 2, 3, 4, 0xEE]);
     let big = format_of(changed(HOST, 2, 1))?;
-    assert_eq!(rt;
-        put_and_get(&rt, &big, 0x0403_0201, &mut bytes),
-        0x0403_0201
-    );
+    assert_eq!(rt; put_and_get(&big, 0x0403_0201, &mut bytes), 0x0403_0201);
     assert_eq!(rt; bytes, [4, 3, 2, 1, 0xEE]);
     assert_eq!(rt;
-        put_and_get(&rt, &format_of(RGB565)?, 0x8410, &mut bytes),
+        put_and_get(&format_of(RGB565)?, 0x8410, &mut bytes),
         0x8410
     );
     assert_eq!(rt; bytes, [0x84, 0x10, 2, 1, 0xEE]);
-    assert_eq!(rt;
-        put_and_get(&rt, &format_of(BGR233)?, 0xA4, &mut bytes),
-        0xA4
-    );
+    assert_eq!(rt; put_and_get(&format_of(BGR233)?, 0xA4, &mut bytes), 0xA4);
     assert_eq!(rt; bytes, [0xA4, 0x10, 2, 1, 0xEE]);
     Ok(())
 }
@@ -190,8 +182,9 @@ fn each_condition_is_looked_at(rt: HostRuntime) {
         // Channels lie inside the pixel; a shift may be as much as 255.
         changed(HOST, 10, 25),
         changed(HOST, 10, 255),
-        // Channels have no bit in common: red and green, red and blue, green and blue.
+        // Channels have no bit in common: red and green, red and blue, red and both, green and blue.
         changed(HOST, 10, 15),
+        changed(HOST, 10, 0),
         changed(HOST, 10, 7),
         changed(HOST, 11, 7),
         // A viewer that asks for a colour map.

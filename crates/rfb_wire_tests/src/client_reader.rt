@@ -252,3 +252,116 @@ fn format_that_is_refused(rt: HostRuntime) {
     assert!(rt; is_bad_format(reader.feed(&[0])));
     assert!(rt; is_bad_format(reader.feed(&[0])));
 }
+
+/// What is left to read of a text of 4,294,967,295 bytes is no message, and its first bytes are no fault.
+#[test]
+fn longest_text_begun(rt: HostRuntime) {
+    let mut reader = ClientReader::new(rt.alloc());
+    assert!(rt;
+        has_used(
+            reader.feed(&[6, 0, 0, 0, 255, 255, 255, 255, 65, 66, 67]),
+            11
+        )
+    );
+    assert!(rt; reader.fault().is_none());
+    assert!(rt; reader.take().is_none());
+}
+
+/// The same bytes in a piece each: the message, where all of them are used.
+fn read_byte_by_byte(alloc: Global, bytes: &[u8]) -> Option<ClientMessage> {
+    let mut reader = ClientReader::new(alloc);
+    for piece in bytes.chunks(1) {
+        if !has_used(reader.feed(piece), 1) {
+            return None;
+        }
+    }
+    reader.take()
+}
+
+#[test]
+fn messages_byte_by_byte(rt: HostRuntime) {
+    let messages: [&[u8]; 6] = [
+        &[
+            0, 0, 0, 0, 16, 16, 1, 1, 0, 31, 0, 63, 0, 31, 11, 5, 0, 0, 0, 0,
+        ],
+        &[2, 0, 0, 2, 0, 0, 0, 1, 255, 255, 255, 0],
+        &[3, 255, 1, 2, 0, 3, 16, 0, 0, 1],
+        &[4, 1, 9, 9, 0, 0, 255, 13],
+        &[5, 4, 1, 0, 0, 7],
+        &[6, 0, 0, 0, 0, 0, 0, 3, 65, 255, 67],
+    ];
+    for (i, bytes) in messages.iter().enumerate() {
+        assert!(rt;
+            read_byte_by_byte(rt.alloc(), bytes).is_some(),
+            "message {i}"
+        );
+    }
+}
+
+/// Whether a message type is known, and one byte of it is no fault.
+fn is_known_type(alloc: Global, kind: u8) -> bool {
+    let mut reader = ClientReader::new(alloc);
+    has_used(reader.feed(&[kind]), 1)
+}
+
+#[test]
+fn all_types(rt: HostRuntime) {
+    for kind in 0..=255 {
+        let known = matches!(kind, 0 | 2 | 3 | 4 | 5 | 6);
+        assert_eq!(rt; is_known_type(rt.alloc(), kind), known, "type {kind}");
+    }
+}
+
+/// Whether the format is still accepted with one byte changed so: byte 0 are the bits a pixel, 3 is the true-colour
+/// flag, 4 to 9 are the greatest values, 10 to 12 the shifts.
+fn stays_accepted(position: usize, value: u8) -> bool {
+    match position {
+        0 => value == 16 || value == 32,
+        3 => value != 0,
+        4 | 6 | 8 => value == 0,
+        5 | 9 => matches!(value, 1 | 3 | 7 | 15 | 31),
+        7 => matches!(value, 1 | 3 | 7 | 15 | 31 | 63),
+        10 => value == 11,
+        11 => value == 5,
+        12 => value == 0,
+        _ => true,
+    }
+}
+
+fn changed(position: usize, value: u8) -> [u8; 16] {
+    let mut bytes = FORMAT;
+    if position < 16 {
+        bytes[position] = value;
+    }
+    bytes
+}
+
+/// Whether SetPixelFormat with these bytes is read so: no fault up to the last of them, and there BadFormat, which stays,
+/// or a message.
+fn is_judged_at_its_end(alloc: Global, format: &[u8; 16], accepted: bool) -> bool {
+    let mut reader = ClientReader::new(alloc);
+    let (front, last) = format.split_at(15);
+    if !has_used(reader.feed(&[0, 0, 0, 0]), 4) || !has_used(reader.feed(front), 15) {
+        return false;
+    }
+    let answer = reader.feed(last);
+    if accepted {
+        has_used(answer, 1) && reader.take().is_some()
+    } else {
+        is_bad_format(answer) && is_bad_format(reader.feed(&[5])) && reader.take().is_none()
+    }
+}
+
+#[test]
+fn every_byte_of_a_format(rt: HostRuntime) {
+    for position in 0..16 {
+        for value in 0..=255 {
+            let accepted = stays_accepted(position, value);
+            let bytes = changed(position, value);
+            assert!(rt;
+                is_judged_at_its_end(rt.alloc(), &bytes, accepted),
+                "byte {position}: {value}"
+            );
+        }
+    }
+}

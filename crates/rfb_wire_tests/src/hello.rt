@@ -183,6 +183,89 @@ fn a_viewer_is_refused(rt: HostRuntime) {
     assert!(rt; other.out().is_empty());
 }
 
+// The viewer's side of a handshake: its version, the choice of None, and a shared-flag.
+const VIEWER: [u8; 14] = *b"RFB 003.008\n\x01\x01";
+
+fn changed(position: usize, value: u8) -> [u8; 14] {
+    let mut bytes = VIEWER;
+    if position < 14 {
+        bytes[position] = value;
+    }
+    bytes
+}
+
+// The number of the fault that a viewer's bytes, up to so many and then the rest, come to, and 0 where the handshake is done.
+fn viewer_fault(bytes: &[u8; 14], cut: usize) -> u64 {
+    let mut hello = ViewerHello::new(2, 1, b"T");
+    let (front, back) = bytes.split_at(cut.min(14));
+    for piece in [front, back] {
+        match hello.feed(piece) {
+            Ok(_) => {}
+            Err(fault) => return fault.number(),
+        }
+    }
+    if hello.done() { 0 } else { 99 }
+}
+
+#[test]
+fn a_viewer_is_read_in_pieces(rt: HostRuntime) {
+    for cut in 0..=14 {
+        assert_eq!(rt; viewer_fault(&VIEWER, cut), 0, "cut at {cut}");
+    }
+}
+
+// Each other version is refused, and each other choice; the shared-flag isn't looked at.
+#[test]
+fn every_byte_of_a_viewer(rt: HostRuntime) {
+    for position in 0..14 {
+        for value in 0..=255 {
+            let wanted = match position {
+                0..=11 if value != VIEWER[position] => 1,
+                12 if value != 1 => 13,
+                _ => 0,
+            };
+            let bytes = changed(position, value);
+            assert_eq!(rt; viewer_fault(&bytes, 7), wanted, "byte {position}: {value}");
+        }
+    }
+}
+
+// What is used of a host's bytes in which one byte more stands behind a fault, and the fault's number.
+fn used_before_a_fault(bytes: &[u8]) -> (usize, u64) {
+    let mut hello = HostHello::new();
+    let mut used = 0;
+    for piece in bytes.chunks(1) {
+        match hello.feed(piece) {
+            Ok(count) => used = count.saturating_add(used),
+            Err(fault) => return (used, fault.number()),
+        }
+    }
+    (used, 0)
+}
+
+// A fault comes with the last byte of its field, and no sooner.
+#[test]
+fn a_host_is_judged_at_the_end_of_a_field(rt: HostRuntime) {
+    assert_eq!(rt; used_before_a_fault(b"XXX 003.008\n\x01"), (11, 1));
+    assert_eq!(rt;
+        used_before_a_fault(b"RFB 003.008\n\x02\x02\x05\0"),
+        (14, 3)
+    );
+    assert_eq!(rt;
+        used_before_a_fault(b"RFB 003.008\n\x01\x01\x01\0\0\0\0"),
+        (17, 4)
+    );
+    assert_eq!(rt;
+        used_before_a_fault(b"RFB 003.008\n\x01\x01\0\0\0\0\0\0\0\x01\0"),
+        (21, 5)
+    );
+    assert_eq!(rt;
+        used_before_a_fault(b"RFB 003.008\n\0\0\0\0\x02no\0"),
+        (18, 2)
+    );
+    assert_eq!(rt; used_before_a_fault(b"RFB 003.008\n\0\0\0\0\0\0"), (16, 2));
+}
+
 // Whether so many bytes are these, and stand at the front.
 fn is_written(out: &[u8], count: usize, wanted: &[u8]) -> bool {
     count == wanted.len() && out.starts_with(wanted)

@@ -1,14 +1,13 @@
 -- What is kept of a viewer's input, key by key and message by message.
-use Rattle.std.proofs.Common.{◌≡◌, ℕ, ◌+◌, ◌<◌, ◌≤◌, Bool, true, false, cond, List, [], ◌∷◌, ◌++◌, length, map, filter, nat_lt, Option, Some, None, refl, ap, sym, ◌∙◌, arith, append_assoc}
-use Rattle.std.specs.Prelude.{◌||◌, ◌==◌, if◌then◌else◌}
+use Rattle.std.proofs.Common.{◌≡◌, ℕ, ◌<◌, Bool, true, false, cond, List, [], ◌∷◌, ◌++◌, length, map, nat_lt, Option, Some, None, refl, ap, sym, ◌∙◌, arith}
 use Rattle.std.specs.List.{prefix_len, insert, remove, filter_map, cons_option}
 use Rattle.std.proofs.lemmas.Bool.Decides.{nat_tests}
 use Rattle.std.proofs.lemmas.List.{append-nil}
 use Rattle.rfb_wire.specs.ClientMessage.{ClientMessage}
 use Rattle.roles.specs.declared.role.Role.{Role}
 use Rattle.roles.specs.declared.role.Role.TheVariants.{Full, View}
-use Rattle.roles.specs.Allowed.{Input, Key, Pointer, Cut, input_of, most_keys, with_key, without_key, is_down, passes, keys_after, passing, keys_down, last_pointer, releases, allowed}
-use Rattle.roles.specs.Held.{Kept, HeldStands, is_rising, input_for, passes_if, kept_with, kept_after, passed_if, left_in, pointer_left}
+use Rattle.roles.specs.Allowed.{Input, Key, Pointer, Cut, input_of, is_down, passes, keys_after, passing, keys_down, last_pointer, releases, allowed}
+use Rattle.roles.specs.Held.{Kept, HeldStands, is_rising, passes_if, kept_with, kept_after, passed_if, left_in, pointer_left}
 use Rattle.roles.proofs.Keys.{with_same, with_new, without_same, rising_with, rising_filter}
 
 -- ---- a key that is pressed or released

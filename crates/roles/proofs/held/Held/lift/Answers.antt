@@ -1,4 +1,4 @@
-use Rattle.std.proofs.Common.{◌≡◌, ◌∙◌, sym, ap, arith, nat_lt, true, false}
+use Rattle.std.proofs.Common.{◌≡◌, ◌∙◌, sym, ap, arith, nat_lt, true}
 use Rattle.std.specs.List.{prefix_len}
 use Rattle.roles.specs.Allowed.{is_down}
 use Rattle.roles.proofs.Keys.{place_within}
