@@ -49,11 +49,21 @@ fn tint_row(format: &Format, colours: &[u32], out: &mut [u8]) {
 
 /// Puts a pixel where there is room, and gets it again.
 fn put_and_get(format: &Format, value: u32, out: &mut [u8]) -> u32 {
-    if format.bytes() > out.len() {
+    put(format, value, out);
+    get(format, out)
+}
+
+fn put(format: &Format, value: u32, out: &mut [u8]) {
+    if format.bytes() <= out.len() {
+        format.put_pixel(value, out);
+    }
+}
+
+fn get(format: &Format, bytes: &[u8]) -> u32 {
+    if format.bytes() > bytes.len() {
         return 0;
     }
-    format.put_pixel(value, out);
-    format.get_pixel(out)
+    format.get_pixel(bytes)
 }
 
 fn is_refused(bytes: [u8; 16]) -> bool {

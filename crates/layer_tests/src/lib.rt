@@ -1,4 +1,5 @@
-//! Tests of the crates up to `reflect_core`, which stand in a crate of their own so that each of those is proved once.
+//! Tests of `pixel_format`, `raster`, `rre_codec`, `tiles` and `reflect_core`, which stand in a crate of their own so that each of
+//! those is proved once.
 #![tactic(auto)]
 
 #[cfg(test)]
@@ -7,5 +8,7 @@ mod formats;
 mod marks;
 #[cfg(test)]
 mod rasters;
+#[cfg(test)]
+mod rre;
 #[cfg(test)]
 mod screens;

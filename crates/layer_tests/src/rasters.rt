@@ -1,6 +1,6 @@
 //! Rectangles, and rasters that are painted and copied.
 
-ghost use Rattle.std.specs.Prelude.{◌≡◌};
+ghost use Rattle.std.specs.Prelude.{◌≡◌, ◌<◌};
 
 use raster::{Canvas, Paint, Raster, Rect, paint_one};
 use std::test::Fail;
@@ -71,14 +71,23 @@ fn copies_what_stood_there(rt: HostRuntime) -> Result<(), Fail> {
     Ok(())
 }
 
-fn draw<C: Canvas>(canvas: &mut C)
+// A whole row of a canvas that is 4 wide.
+fn draw_row<C: Canvas>(canvas: &mut C, y: u64, values: &[u32; 4])
+    requires width { C.width canvas.old ≡ 4 }
+    requires down { y < C.height canvas.old }
+    ensures same_width { C.width canvas.new ≡ C.width canvas.old }
+    ensures same_height { C.height canvas.new ≡ C.height canvas.old }
+{
+    canvas.put_row(0, y, values);
+}
+
+// Row 2 of a canvas of 4 by 3.
+fn draw_last_row<C: Canvas>(canvas: &mut C)
     requires width { C.width canvas.old ≡ 4 }
     requires height { C.height canvas.old ≡ 3 }
     ensures same_width { C.width canvas.new ≡ 4 }
     ensures same_height { C.height canvas.new ≡ 3 }
 {
-    canvas.put_row(0, 0, &[1, 2, 3, 4]);
-    canvas.put_row(0, 1, &[5, 6, 7, 8]);
     canvas.put(0, 2, 9);
     let rest = Rect {
         x: 1,
@@ -93,7 +102,9 @@ fn draw<C: Canvas>(canvas: &mut C)
 #[test]
 fn copies_where_the_two_overlap(rt: HostRuntime) -> Result<(), Fail> {
     let mut raster = Raster::new(rt.alloc(), 4, 3)?;
-    draw(&mut raster);
+    draw_row(&mut raster, 0, &[1, 2, 3, 4]);
+    draw_row(&mut raster, 1, &[5, 6, 7, 8]);
+    draw_last_row(&mut raster);
     raster.copy(
         Rect {
             x: 1,

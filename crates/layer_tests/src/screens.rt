@@ -3,7 +3,6 @@
 ghost use Rattle.std.specs.Prelude.{◌≡◌, IfOk};
 
 use painter::Patch;
-use pixel_format::Fault;
 use raster::{Paint, Rect};
 use reflect_core::{Cut, PlainScreen, Puts, ScreenSource};
 use std::alloc::Global;
@@ -28,8 +27,29 @@ fn red_and_blue(alloc: Global) -> Result<Patch, Fail>
 }
 
 // The number of an update that was put, and 0 where it was refused.
-fn number_of(answer: Result<u64, (Fault, Patch)>) -> u64 {
-    answer.unwrap_or(0)
+fn put(screen: &mut PlainScreen, patch: Patch) -> u64
+    requires { (patch.width ≡ screen.old.width) × (patch.height ≡ screen.old.height) }
+    ensures { (screen.new.width ≡ screen.old.width) × (screen.new.height ≡ screen.old.height) }
+{
+    screen.put(patch).unwrap_or(0)
+}
+
+// A first cut of a screen of 2 by 1.
+fn cut_of(alloc: Global, screen: &mut PlainScreen) -> Result<Cut, Fail>
+    requires { (screen.old.width ≡ 2) × (screen.old.height ≡ 1) }
+{
+    let have = Have::new(alloc, 2, 1)?;
+    let mut cut = Cut::new(alloc, 2, 1)?;
+    screen.cut(&AREA, &have, &mut cut)?;
+    Ok(cut)
+}
+
+// Whether it shows two updates, the second of them a Bell, and red and blue, which are due.
+fn shows_red_and_blue(cut: &Cut) -> bool {
+    cut.number == 2
+        && cut.bells == 1
+        && cut.colours.as_slice() == [0xFF0000, 0x0000FF].as_slice()
+        && cut.due.as_slice() == [true].as_slice()
 }
 
 // Red and blue and then a Bell are put, raised together, and cut.
@@ -37,17 +57,12 @@ fn number_of(answer: Result<u64, (Fault, Patch)>) -> u64 {
 fn shows_what_was_put(rt: HostRuntime) -> Result<(), Fail> {
     let alloc = rt.alloc();
     let mut screen = PlainScreen::new(alloc, 2, 1)?;
-    let have = Have::new(alloc, 2, 1)?;
-    let mut cut = Cut::new(alloc, 2, 1)?;
     let patch = red_and_blue(alloc)?;
-    assert_eq!(rt; number_of(screen.put(patch)), 1);
-    assert_eq!(rt; number_of(screen.put(Patch::bell(2, 1))), 2);
+    assert_eq!(rt; put(&mut screen, patch), 1);
+    assert_eq!(rt; put(&mut screen, Patch::bell(2, 1)), 2);
     assert_eq!(rt; screen.look(), 0);
     screen.raise();
     assert_eq!(rt; screen.look(), 2);
-    assert_eq!(rt; screen.cut(&AREA, &have, &mut cut)?, 2);
-    assert_eq!(rt; cut.bells, 1);
-    assert_eq!(rt; cut.colours.as_slice(), [0xFF0000, 0x0000FF].as_slice());
-    assert_eq!(rt; cut.due.as_slice(), [true].as_slice());
+    assert!(rt; shows_red_and_blue(&cut_of(alloc, &mut screen)?));
     Ok(())
 }

@@ -89,33 +89,3 @@ pub fn encode(values: &[u32], w: u64, h: u64, format: &Format, out: &mut [u8]) -
     out[..COUNT_LEN].copy_from_slice(&count.to_be_bytes());
     Some(end)
 }
-
-#[cfg(test)]
-mod tests {
-    use super::*;
-
-    const RED: u32 = 0xFF0000;
-
-    const BLUE: u32 = 0x0000FF;
-
-    #[test]
-    fn red_and_seven_blue(rt: HostRuntime) {
-        let values = [RED, BLUE, BLUE, BLUE, BLUE, BLUE, BLUE, BLUE];
-        let mut out = [0u8; 32];
-        assert_eq!(rt; encode(&values, 8, 1, &Format::HOST, &mut out), Some(20));
-        let wanted = [
-            0, 0, 0, 1, 0, 0, 0xFF, 0, 0xFF, 0, 0, 0, 0, 1, 0, 0, 0, 7, 0, 1,
-        ];
-        assert_eq!(rt; &out[..20], wanted.as_slice());
-    }
-
-    #[test]
-    fn no_fewer_bytes_than_raw(rt: HostRuntime) {
-        let mut out = [0u8; 12];
-        assert_eq!(rt;
-            encode(&[RED, BLUE, BLUE], 3, 1, &Format::HOST, &mut out),
-            None
-        );
-        assert_eq!(rt; encode(&[], 0, 3, &Format::HOST, &mut out), None);
-    }
-}

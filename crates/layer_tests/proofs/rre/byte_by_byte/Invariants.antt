@@ -1,5 +1,5 @@
 use Rattle.std.proofs.Common.{◌≡◌}
-use Rattle.rre_codec.proofs.reading.tests.byte_by_byte.Given as goal
+use Rattle.layer_tests.proofs.rre.byte_by_byte.Given as goal
 
 abbrev pub invariant-loop-byte : goal.invariant-loop-byte
 invariant-loop-byte g l = record {
