@@ -1,5 +1,5 @@
 -- What a viewer reads of its stream, computed.
-use Rattle.std.proofs.Common.{◌≡◌, ℕ, List, [], ◌∷◌, ◌++◌, false, refl}
+use Rattle.std.proofs.Common.{◌≡◌, List, [], ◌∷◌, ◌++◌, false, refl}
 use Rattle.std.specs.Prelude.{Option, Some, None}
 use Rattle.raster.specs.Update.{Update, Put}
 use Rattle.rfb_wire.specs.ServerMessage.{ServerMessage, FramebufferUpdate, Bell, ServerCutText}
