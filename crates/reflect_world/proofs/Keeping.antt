@@ -1,12 +1,12 @@
 -- A world and its schedule.
-use Rattle.std.proofs.Common.{◌≡◌, ℕ, ◌+◌, ◌<◌, ◌≤◌, List, [], ◌∷◌, ◌++◌, length, take, Some, ap, sym, ◌∙◌, subst, arith, append_assoc, inl, inr}
+use Rattle.std.proofs.Common.{◌≡◌, ℕ, ◌+◌, ◌<◌, ◌≤◌, List, [], ◌∷◌, ◌++◌, length, take, Some, refl, ap, sym, ◌∙◌, subst, arith, append_assoc, inl, inr}
 use Rattle.std.specs.Prelude.{map, slice_get, slice_index_or}
 use Rattle.std.proofs.lemmas.List.{get_or-map, length-map, map-append, take_more}
 use Rattle.std.proofs.lemmas.Option.{slice_get-get_or}
 use Rattle.pixel_format.specs.declared.fault.Fault.{Fault}
 use Rattle.viewer_session.specs.Session.{IsOneTile}
 use Rattle.reflect_world.specs.Schedule.{Step}
-use Rattle.reflect_world.specs.World.{IsFaithful, IsKept, IsReachable, Kept, Reached, Standing, StopsAt, TakesStep, entry_of, setup_of, step_of, with_steps, world_of}
+use Rattle.reflect_world.specs.World.{IsFaithful, IsKept, IsReachable, JoinsUnder, Kept, Reached, Standing, StopsAt, entry_of, setup_of, step_of, with_steps, world_of}
 use Rattle.reflect_world.specs.declared.step.Entry.{Entry}
 use Rattle.reflect_world.specs.declared.step.Step as declared
 use Rattle.reflect_world.proofs.FirstForms.{host_short, viewer_accepted}
@@ -14,13 +14,13 @@ use Rattle.reflect_world.proofs.Holds.{in_every_schedule}
 use Rattle.reflect_world.proofs.Reaching.{play-more}
 use Rattle.reflect_world.proofs.Told.{told_in_every_schedule}
 
-pub kept_more : (k : Kept) (old new : Standing) (e : Step) → IsKept k old → TakesStep e old new → IsKept (with_steps k (e ∷ [])) new
+pub kept_more : (k : Kept) (old new : Standing) (e : Step) → IsKept k old → JoinsUnder k.name e old new → IsKept (with_steps k (e ∷ [])) new
 kept_more k old new e kept takes =
-    record { reached = subst (λ w. Reached (setup_of k) new w) (sym (play-more (setup_of k) k.steps e)) (takes (setup_of k) (world_of k) kept.reached) }
+    record { named = kept.named; reached = subst (λ w. Reached (setup_of k) new w) (sym (play-more (setup_of k) k.steps e)) (takes (setup_of k) (world_of k) refl kept.reached) }
 
 -- An entry was pushed, and its step was taken.
 pub kept_pushed : (k : Kept) (entries more : List Entry) (entry : Entry) (old new : Standing) → IsKept (record k { steps = map entry_of entries }) old → more ≡ entries ++ entry ∷ []
-    → TakesStep (entry_of entry) old new → IsKept (record k { steps = map entry_of more }) new
+    → JoinsUnder k.name (entry_of entry) old new → IsKept (record k { steps = map entry_of more }) new
 kept_pushed k entries more entry old new kept pushed takes =
     let steps : map entry_of more ≡ map entry_of entries ++ entry_of entry ∷ [] = ap (map entry_of) pushed ∙ map-append entry_of entries (entry ∷ []) in
     subst (λ (es : List Step). IsKept (record k { steps = es }) new) (sym steps) (kept_more (record k { steps = map entry_of entries }) old new (entry_of entry) kept takes)

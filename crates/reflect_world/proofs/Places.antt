@@ -1,16 +1,21 @@
 -- Places of viewers.
-use Rattle.std.proofs.Common.{◌≡◌, ℕ, zero, suc, ◌+◌, ◌-◌, ◌<◌, Bool, true, false, cond, List, [], ◌∷◌, ◌++◌, length, take, Option, Some, None, refl, ap, sym, ◌∙◌, subst, arith}
+use Rattle.std.proofs.Common.{◌≡◌, ℕ, zero, suc, ◌+◌, ◌-◌, ◌<◌, Bool, true, false, cond, List, [], ◌∷◌, ◌++◌, length, take, Option, Some, None, refl, ap, sym, ◌∙◌, subst, arith, append-nil, append_assoc}
 use Rattle.std.specs.Prelude.{slice_set, is_some, min, ◌==◌, if◌then◌else◌}
 use Rattle.std.proofs.Math.Seq.{take-add}
 use Rattle.std.proofs.lemmas.Bool.{eqb-true, eqb-false}
 use Rattle.std.proofs.lemmas.List.{get_or-set_same, get_or-set_other, length-drop, take-append-le}
-use Rattle.pixel_format.specs.Reading.{Reading, Done, Faulty, Want, step, wants_more}
+use Rattle.pixel_format.specs.declared.fault.Fault.{Fault}
+use Rattle.pixel_format.specs.Reading.{Reading, Done, Faulty, Want, step, fault_of, wants_more}
 use Rattle.raster.specs.Update.{Update}
 use Rattle.rfb_wire.specs.ClientMessage.{ClientMessage}
+use Rattle.rfb_wire.specs.Greeting.{Greeting}
+use Rattle.rfb_wire.specs.Handshake.{said_to_viewer}
 use Rattle.roles.specs.Allowed.{Input, passes}
 use Rattle.viewer_session.specs.Viewer.{Setup, Viewer, out_bytes, may_look, after_cut, after_byte, after_bytes, after_hello, after_reading, marked, relayed, viewer_fault, with_input}
 use Rattle.viewer_session.specs.Turn.{sent_at}
-use Rattle.viewer_session.specs.Session.{State, Stands, at_rest, is_ready, after_look, without_look, after_writing}
+use Rattle.viewer_session.specs.Session.{State, Stands, Greets, at_rest, is_ready, after_look, without_look, after_writing}
+use Rattle.viewer_session.proofs.HelloLaws.{said_grows}
+use Rattle.reflect_world.specs.Said.{hello_of}
 use Rattle.reflect_world.specs.World.{Held, PlaceStands, PlaceIs, place_at}
 
 -- ---- a look, and what forgets it
@@ -23,6 +28,7 @@ stands_without_look s st p k =
       extent = k.extent;
       role = k.role;
       rests = ap without_look k.rests;
+      greets = k.greets;
       reading = k.reading;
       taken = k.taken;
       keeps = k.keeps;
@@ -38,16 +44,13 @@ stands_after_look s st number p k =
       extent = k.extent;
       role = k.role;
       rests = ap (after_look number) k.rests;
+      greets = k.greets;
       reading = k.reading;
       taken = k.taken;
       keeps = record { asked = k.keeps.asked; have = k.keeps.have; format = k.keeps.format; choice = k.keeps.choice };
       written = k.written;
       unsent = k.unsent;
     }
-
--- All bytes of a viewer whose hello is done are those of its answers.
-pub out_is : (s : Setup) (st : State) (p : Viewer) → Stands s st p → out_bytes s p ≡ p.said_after
-out_is s st p k = ap (out_bytes s) k.rests
 
 -- ---- one place among all
 
@@ -76,42 +79,81 @@ pub places_set : (s : Setup) (places : List (Option Held)) (viewers : ℕ → Op
     → (u : ℕ) → PlaceIs s (place_at (slice_set places v (Some place)) u) (cond (u == v) (Some p) (viewers u))
 places_set s places viewers v place p room k good u = places_set_if s places viewers v u place p (u == v) refl room (k u) good
 
--- ---- a viewer's bytes change neither what was said to it and written, nor its look
+-- ---- a viewer's bytes change neither what was written nor its look, and add to what is said in its hello at most
 
-pub record SameBefore (p q : Viewer) : Type 0 where
-  pub looked : q.looked ≡ p.looked
-  pub written : q.written ≡ p.written
-  pub said : q.said_after ≡ p.said_after
+abbrev Grows : List ℕ → List ℕ → Type 0
+Grows before now = (more : List ℕ) × (now ≡ before ++ more)
 
-same_if : (b : Bool) (p q r : Viewer) → SameBefore p q → SameBefore p r → SameBefore p (cond b q r)
-same_if true p q r k l = k
-same_if false p q r k l = l
+grows_none : (before : List ℕ) → Grows before before
+grows_none before = ([], sym (append-nil before))
 
-same : (p : Viewer) → SameBefore p p
-same p = record { looked = refl; written = refl; said = refl }
+grows_on : (a b c : List ℕ) → Grows a b → Grows b c → Grows a c
+grows_on a b c k l = (k.0 ++ l.0, l.1 ∙ (ap (λ t. t ++ l.0) k.1 ∙ append_assoc a k.0 l.0))
 
-same_input : (p q : Viewer) (o : Option Input) → SameBefore p q → SameBefore p (with_input q o)
-same_input p q None k = k
-same_input p q (Some input) k = same_if (passes q.keys input) p _ q (record { looked = k.looked; written = k.written; said = k.said }) k
+-- While more of a hello is to come, no answer is begun.
+abbrev IsEarly : Viewer → Type 0
+IsEarly p = wants_more p.hello ≡ true → p.said_after ≡ []
 
-same_reading : (s : Setup) (p : Viewer) (r : Reading ClientMessage) → SameBefore p (after_reading s p r)
-same_reading s p (Done m) = same_input p _ (relayed s p.role (marked p.lost m).0) (record { looked = refl; written = refl; said = refl })
-same_reading s p (Faulty f) = record { looked = refl; written = refl; said = refl }
-same_reading s p (Want more) = record { looked = refl; written = refl; said = refl }
+early_by : (s : Setup) (o : Option Greeting) (greet : Bool) (hello : Reading (Unit {0})) (said : ℕ) (said_after : List ℕ) → Greets s o greet hello said said_after → wants_more hello ≡ true → said_after ≡ []
+early_by s None greet hello said said_after k wants = absurd (let open_ : wants_more hello ≡ false = ap wants_more k.1 in cc)
+early_by s (Some g) greet hello said said_after k wants = (k.taken wants).1
 
-same_byte : (s : Setup) (p : Viewer) (b : ℕ) → SameBefore p (after_byte s p b)
-same_byte s p b =
-    same_if (wants_more p.hello) p (after_hello p (step p.hello b)) _ (record { looked = refl; written = refl; said = refl })
-    (same_if (is_some (viewer_fault p)) p p _ (same p) (same_reading s p (step p.reading b)))
+early : (s : Setup) (st : State) (p : Viewer) → Stands s st p → IsEarly p
+early s st p k = early_by s st.greeting p.greet p.hello p.said p.said_after k.greets
 
-same_on : (p q r : Viewer) → SameBefore p q → SameBefore q r → SameBefore p r
-same_on p q r k l = record { looked = l.looked ∙ k.looked; written = l.written ∙ k.written; said = l.said ∙ k.said }
+record HasGrown (s : Setup) (p q : Viewer) : Type 0 where
+  looked : q.looked ≡ p.looked
+  written : q.written ≡ p.written
+  out : Grows (out_bytes s p) (out_bytes s q)
+  early : IsEarly q
 
-pub same_bytes : (s : Setup) (p : Viewer) (bs : List ℕ) → SameBefore p (after_bytes s p bs)
-same_bytes s p [] = record { looked = refl; written = refl; said = refl }
-same_bytes s p (b ∷ bs) =
-    same_if (is_some p.waiting) p _ (after_bytes s (after_byte s p b) bs) (record { looked = refl; written = refl; said = refl })
-    (same_on p (after_byte s p b) (after_bytes s (after_byte s p b) bs) (same_byte s p b) (same_bytes s (after_byte s p b) bs))
+grown_if : (s : Setup) (b : Bool) (p q r : Viewer) → HasGrown s p q → HasGrown s p r → HasGrown s p (cond b q r)
+grown_if s true p q r k l = k
+grown_if s false p q r k l = l
+
+grown_from : (s : Setup) (p q r : Viewer) → HasGrown s p q → HasGrown s q r → HasGrown s p r
+grown_from s p q r k l =
+    record { looked = l.looked ∙ k.looked; written = l.written ∙ k.written; out = grows_on (out_bytes s p) (out_bytes s q) (out_bytes s r) k.out l.out; early = l.early }
+
+not_grown : (s : Setup) (p : Viewer) → IsEarly p → HasGrown s p p
+not_grown s p e = record { looked = refl; written = refl; out = grows_none (out_bytes s p); early = e }
+
+grown_input : (s : Setup) (p q : Viewer) (o : Option Input) → HasGrown s p q → HasGrown s p (with_input q o)
+grown_input s p q None k = k
+grown_input s p q (Some input) k = grown_if s (passes q.keys input) p _ q (record { looked = k.looked; written = k.written; out = k.out; early = k.early }) k
+
+grown_reading : (s : Setup) (p : Viewer) (r : Reading ClientMessage) → IsEarly p → HasGrown s p (after_reading s p r)
+grown_reading s p (Done m) e =
+    grown_input s p _ (relayed s p.role (marked p.lost m).0) (record { looked = refl; written = refl; out = grows_none (out_bytes s p); early = e })
+grown_reading s p (Faulty f) e = record { looked = refl; written = refl; out = grows_none (out_bytes s p); early = e }
+grown_reading s p (Want more) e = record { looked = refl; written = refl; out = grows_none (out_bytes s p); early = e }
+
+-- What is said in a hello by now, and the answers behind it.
+abbrev said_and : Setup → Bool → ℕ → List ℕ → List ℕ
+said_and s greet count after = (if greet then said_to_viewer s.w s.h s.name count else []) ++ after
+
+says_more : (s : Setup) (greet : Bool) (count : ℕ) (o : Option Fault) (after : List ℕ) → after ≡ [] → Grows (said_and s greet count after) (said_and s greet (if is_some o then count else count + 1) after)
+says_more s greet count (Some f) after none = grows_none (said_and s greet count after)
+says_more s false count None after none = grows_none (said_and s false count after)
+says_more s true count None after none =
+    let grows = said_grows s.w s.h s.name count in
+    let alone : (n : ℕ) → said_and s true n after ≡ said_to_viewer s.w s.h s.name n = λ n. ap (λ t. said_to_viewer s.w s.h s.name n ++ t) none ∙ append-nil (said_to_viewer s.w s.h s.name n) in
+    (grows.0, alone (count + 1) ∙ (grows.1 ∙ ap (λ t. t ++ grows.0) (sym (alone count))))
+
+grown_hello : (s : Setup) (p : Viewer) (r : Reading (Unit {0})) → p.said_after ≡ [] → HasGrown s p (after_hello p r)
+grown_hello s p r none = record { looked = refl; written = refl; out = says_more s p.greet p.said (fault_of r) p.said_after none; early = λ wants. none }
+
+grown_byte_if : (s : Setup) (p : Viewer) (b : ℕ) (w : Bool) → wants_more p.hello ≡ w → IsEarly p
+    → HasGrown s p (cond w (after_hello p (step p.hello b)) (cond (is_some (viewer_fault p)) p (after_reading s p (step p.reading b))))
+grown_byte_if s p b true wants e = grown_hello s p (step p.hello b) (e wants)
+grown_byte_if s p b false wants e = grown_if s (is_some (viewer_fault p)) p p _ (not_grown s p e) (grown_reading s p (step p.reading b) e)
+
+grown_bytes : (s : Setup) (p : Viewer) (bs : List ℕ) → IsEarly p → HasGrown s p (after_bytes s p bs)
+grown_bytes s p [] e = record { looked = refl; written = refl; out = grows_none (out_bytes s p); early = e }
+grown_bytes s p (b ∷ bs) e =
+    let one : HasGrown s p (after_byte s p b) = grown_byte_if s p b (wants_more p.hello) refl e in
+    grown_if s (is_some p.waiting) p _ (after_bytes s (after_byte s p b) bs) (record { looked = refl; written = refl; out = grows_none (out_bytes s p); early = e })
+    (grown_from s p (after_byte s p b) (after_bytes s (after_byte s p b) bs) one (grown_bytes s (after_byte s p b) bs one.early))
 
 -- ---- what the steps of a viewer make of its place
 
@@ -129,13 +171,13 @@ pub place_fed : (s : Setup) (place : Held) (session : State) (p : Viewer) (bytes
     → PlaceStands s (record { session = session; looked = None; written = place.written }) (after_bytes s (record p { looked = None; lost = p.lost ++ [] }) (p.unread ++ bytes))
 place_fed s place session p bytes k fed =
     let stands = fed p k.session in
-    let before = same_bytes s (without_look p) bytes in
+    let grown = grown_bytes s (without_look p) bytes (early s place.session p k.session) in
     subst (λ q. PlaceStands s (record { session = session; looked = None; written = place.written }) q) (sym (fed_is s p bytes k.session.rests))
     (record {
       session = stands;
-      looked = sym before.looked;
+      looked = sym grown.looked;
       ready = λ no. absurd cc;
-      written = k.written ∙ ap (λ said. take p.written said) (sym before.said) ∙ ap (λ n. take n (after_bytes s (without_look p) bytes).said_after) (sym before.written);
+      written = k.written ∙ (sym (take-append-le p.written (out_bytes s p) grown.out.0 k.session.written) ∙ (ap (take p.written) (sym grown.out.1) ∙ ap (λ n. take n (out_bytes s (after_bytes s (without_look p) bytes))) (sym grown.written)));
     })
 
 -- It looked, if it may.
@@ -160,15 +202,14 @@ pub place_written : (s : Setup) (place : Held) (session : State) (p : Viewer) (c
     (record p { looked = None; written = min (p.written + count) (length (out_bytes s p)) })
 place_written s place session p count k sent =
     let n : ℕ = min count (length place.session.unsent) in
-    let left : length place.session.unsent ≡ length p.said_after - p.written = ap length k.session.unsent ∙ length-drop p.written p.said_after in
-    let out : length (out_bytes s p) ≡ length p.said_after = ap length (out_is s place.session p k.session) in
+    let left : length place.session.unsent ≡ length (out_bytes s p) - p.written = ap length k.session.unsent ∙ length-drop p.written (out_bytes s p) in
     let count_is : min (p.written + count) (length (out_bytes s p)) ≡ p.written + n = omega (arith, k.session.written) in
     subst (λ (w : ℕ). PlaceStands s (record { session = session; looked = None; written = place.written ++ take n place.session.unsent }) (record p { looked = None; written = w })) (sym count_is)
     (record {
       session = stands_without_look s session (after_writing n p) sent;
       looked = refl;
       ready = λ no. absurd cc;
-      written = ap (λ w. w ++ take n place.session.unsent) k.written ∙ ap (λ u. take p.written p.said_after ++ take n u) k.session.unsent ∙ sym (take-add p.written n p.said_after);
+      written = ap (λ w. w ++ take n place.session.unsent) k.written ∙ ap (λ u. take p.written (out_bytes s p) ++ take n u) k.session.unsent ∙ sym (take-add p.written n (out_bytes s p));
     })
 
 -- It went on after its look: there was no reason to cut, or it cut.
@@ -183,7 +224,7 @@ place_cut s place session p us k stands =
       session = stands;
       looked = refl;
       ready = λ no. absurd cc;
-      written = k.written ∙ sym (take-append-le p.written p.said_after (sent_at s.extent.tells_news s.w s.h p.entries us) k.session.written);
+      written = k.written ∙ (sym (take-append-le p.written (out_bytes s p) (sent_at s.extent.tells_news s.w s.h p.entries us) k.session.written) ∙ ap (take p.written) (append_assoc (hello_of s p) p.said_after (sent_at s.extent.tells_news s.w s.h p.entries us)));
     }
 
 -- ---- free places

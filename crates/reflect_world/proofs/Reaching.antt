@@ -20,7 +20,7 @@ use Rattle.viewer_session.specs.Viewer.{Setup, Viewer, may_look, after_cut, afte
 use Rattle.viewer_session.specs.Session.{IsOneTile, State, Stands, after_look, without_look, after_writing, is_ready}
 use Rattle.reflect_core.specs.Sequential as history
 use Rattle.reflect_world.specs.Schedule.{set_viewer, World, Step, HostBytes, Put, Raise, Join, Bytes, Look, Cut, Written, beginning, happens, play, play_from, put_next, for_viewer, cut_at}
-use Rattle.reflect_world.specs.World.{Held, Standing, PlaceStands, PlaceIs, Reached, place_at, IsFed, HasLooked, IsWritten, GoesOn, IsPut, IsRefusal, TakesStep}
+use Rattle.reflect_world.specs.World.{Held, Standing, PlaceStands, PlaceIs, Reached, place_at, IsFed, HasLooked, IsWritten, GoesOn, IsPut, IsRefusal, JoinsUnder, TakesStep}
 use Rattle.painter.specs.Patch.{SizedUpdate}
 use Rattle.reflect_world.proofs.Hosts.{host_begins, host_grows, host_open, host_whole}
 use Rattle.reflect_world.proofs.Places.{places_set, place_is_none, place_is_some, place_fed, place_looked, place_written, place_stays, place_cut}
@@ -174,10 +174,10 @@ reached_for s standing new w v place make r there f =
     subst (λ o. Reached s new (for_viewer w o make)) (sym it.1) (f it.0 it.2)
 
 -- A viewer joins.
-pub reached_join : (s : Setup) (standing : Standing) (w : World) (v : ℕ) (role : Role) (session : State) → Reached s standing w → v < 65 → Stands s session (new_viewer s role false)
-    → Reached s (with_place standing v (record { session = session; looked = None; written = [] })) (happens s w (Join v role false))
-reached_join s standing w v role session r within stands =
-    reached_set s standing w w.steps v (record { session = session; looked = None; written = [] }) (new_viewer s role false) r within
+pub reached_join : (s : Setup) (standing : Standing) (w : World) (v : ℕ) (role : Role) (greet : Bool) (session : State) → Reached s standing w → v < 65 → Stands s session (new_viewer s role greet)
+    → Reached s (with_place standing v (record { session = session; looked = None; written = [] })) (happens s w (Join v role greet))
+reached_join s standing w v role greet session r within stands =
+    reached_set s standing w w.steps v (record { session = session; looked = None; written = [] }) (new_viewer s role greet) r within
     (record { session = stands; looked = refl; ready = λ no. absurd cc; written = refl })
 
 pub reached_bytes : (s : Setup) (standing : Standing) (w : World) (v : ℕ) (bytes : List ℕ) (place : Held) (session : State) → Reached s standing w → v < 65 → place_at standing.places v ≡ Some place
@@ -308,13 +308,13 @@ held_is new looked written =
     let with_written : List ℕ → Held = λ b. record { session = new.session; looked = None; written = b } in
     ap with_looked looked ∙ ap with_written written
 
-pub joined_reaches : (standing : Standing) (v : ℕ) (role : Role) (new : Held) → v < 65 → new.looked ≡ None → new.written ≡ []
-    → ((s : Setup) → s.w ≡ standing.screen.width → s.h ≡ standing.screen.height → s.extent ≡ first_path s.extent.from_host → Stands s new.session (new_viewer s role false))
-    → TakesStep (Join v role false) standing (with_place standing v new)
-joined_reaches standing v role new within looked written stands s w r =
+pub joined_reaches : (standing : Standing) (v : ℕ) (name : List ℕ) (role : Role) (greet : Bool) (new : Held) → v < 65 → new.looked ≡ None → new.written ≡ []
+    → ((s : Setup) → s.w ≡ standing.screen.width → s.h ≡ standing.screen.height → s.name ≡ name → s.extent ≡ first_path s.extent.from_host → Stands s new.session (new_viewer s role greet))
+    → JoinsUnder name (Join v role greet) standing (with_place standing v new)
+joined_reaches standing v name role greet new within looked written stands s w named r =
     let extent : s.extent ≡ first_path s.extent.from_host = r.extent ∙ ap first_path (sym (ap (λ (x : Extent). x.from_host) r.extent)) in
-    subst (λ h. Reached s (with_place standing v h) (happens s w (Join v role false))) (sym (held_is new looked written))
-    (reached_join s standing w v role new.session r within (stands s (sym r.width) (sym r.height) extent))
+    subst (λ h. Reached s (with_place standing v h) (happens s w (Join v role greet))) (sym (held_is new looked written))
+    (reached_join s standing w v role greet new.session r within (stands s (sym r.width) (sym r.height) named extent))
 
 -- What a cut asks for.
 pub ready_there : (s : Setup) (standing : Standing) (w : World) (v : ℕ) (found : Option Held) (place : Held) → Reached s standing w → v < 65 → found ≡ slice_index_or standing.places v found → found ≡ Some place

@@ -1,7 +1,7 @@
 -- The lines of a script.
 use Rattle.std.specs.Prelude.{◌≤◌, length}
 use Rattle.reflect_world.specs.declared.line.Line.{Line}
-use Rattle.reflect_world.specs.declared.line.Line.TheVariants.{Screen, Host, Raise, Open, Viewer, Turn}
+use Rattle.reflect_world.specs.declared.line.Line.TheVariants.{Screen, Host, Raise, Open, Greet, Viewer, Turn}
 
 -- Its numbers are in range: a screen has from 1 to 4096 pixels each way and a name of 1 to 255 bytes, viewers are 1 to 64.
 abbrev pub IsInRange : Line → Type 0
@@ -9,5 +9,6 @@ IsInRange (Screen width height name) = (1 ≤ width) × (width ≤ 4096) × (1 �
 IsInRange (Host bytes) = Unit {0}
 IsInRange Raise = Unit {0}
 IsInRange (Open viewer) = (1 ≤ viewer) × (viewer ≤ 64)
+IsInRange (Greet viewer) = (1 ≤ viewer) × (viewer ≤ 64)
 IsInRange (Viewer viewer bytes) = (1 ≤ viewer) × (viewer ≤ 64)
 IsInRange (Turn viewer) = (1 ≤ viewer) × (viewer ≤ 64)

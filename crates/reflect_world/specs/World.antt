@@ -1,5 +1,5 @@
 -- A reflector as the code keeps it, and the world of the definitions that it stands for.
-use Rattle.std.specs.Prelude.{◌≡◌, ℕ, ◌^◌, ◌⊎◌, Bool, true, false, if◌then◌else◌, List, [], ◌∷◌, ◌++◌, length, drop, is_some, slice_get, slice_index_or, take, Option, Some, None}
+use Rattle.std.specs.Prelude.{◌≡◌, ℕ, ◌≤◌, ◌^◌, ◌⊎◌, Bool, true, false, if◌then◌else◌, List, [], ◌∷◌, ◌++◌, length, drop, is_some, slice_get, slice_index_or, take, Option, Some, None}
 use Rattle.pixel_format.specs.declared.fault.Fault.{Fault}
 use Rattle.pixel_format.specs.declared.fault.Fault.TheVariants.{Memory, NumbersOut}
 use Rattle.pixel_format.specs.Reading.{Reading, rest}
@@ -12,7 +12,7 @@ use Rattle.reflect_core.specs.Sequential.{IsHistory}
 use Rattle.viewer_session.specs.FirstPath.{first_path}
 use Rattle.viewer_session.specs.Session.{IsOneTile, State, Stands, is_ready, after_writing, without_look}
 use Rattle.viewer_session.specs.Turn.{has_reason}
-use Rattle.viewer_session.specs.Viewer.{Setup, Viewer, after_bytes, after_cut, may_look}
+use Rattle.viewer_session.specs.Viewer.{Setup, Viewer, out_bytes, after_bytes, after_cut, may_look}
 use Rattle.reflect_world.specs.Schedule.{Step, World, HostBytes, Put, Raise, Join, Bytes, Look, Cut, Written, happens, play}
 use Rattle.reflect_world.specs.Headline.{HoldsAfterEachAnswer}
 use Rattle.reflect_world.specs.Said.{ArePutInOrder, HoldsAfterEachWritten, IsRead, IsSaid}
@@ -78,7 +78,7 @@ pub record PlaceStands (s : Setup) (place : Held) (p : Viewer) : Type 0 where
   pub session : Stands s place.session p
   pub looked : place.looked ≡ p.looked
   pub ready : is_some place.looked ≡ true → is_ready place.session ≡ true
-  pub written : place.written ≡ take p.written p.said_after
+  pub written : place.written ≡ take p.written (out_bytes s p)
 
 abbrev pub PlaceIs : Setup → Option Held → Option Viewer → Type 0
 PlaceIs s None None = Unit {0}
@@ -150,6 +150,10 @@ pub record IsPut (old new : Standing) (u : Update) (used : ℕ) : Type 0 where
 abbrev pub TakesStep : Step → Standing → Standing → Type 0
 TakesStep e old new = (s : Setup) (w : World) → Reached s old w → Reached s new (happens s w e)
 
+-- The same, over a screen of this name.
+abbrev pub JoinsUnder : List ℕ → Step → Standing → Standing → Type 0
+JoinsUnder name e old new = (s : Setup) (w : World) → s.name ≡ name → Reached s old w → Reached s new (happens s w e)
+
 -- It stands for some world.
 abbrev pub IsReachable : Standing → Type 0
 IsReachable standing = (s : Setup) × (w : World) × Reached s standing w
@@ -160,8 +164,9 @@ IsRefusal e standing fault = (fault ≡ Memory) ⊎ ((fault ≡ NumbersOut) × (
 
 -- ---- what a world's calls do
 
--- The fields stand for what the schedule has come to.
+-- The fields stand for what the schedule has come to, over a screen with a name of 1 to 255 bytes.
 pub record IsKept (k : Kept) (standing : Standing) : Type 0 where
+  pub named : (1 ≤ length k.name) × (length k.name ≤ 255)
   pub reached : Reached (setup_of k) standing (world_of k)
 
 -- A step was refused, and isn't in the schedule: for want of memory, which is noted; or at a Put for which there is no more number.

@@ -19,6 +19,8 @@ pub enum Line<'a> {
     Raise,
     /// A viewer joins, its hello done.
     Open(u64),
+    /// A viewer joins, and begins with its hello.
+    Greet(u64),
     /// Bytes of a viewer.
     Viewer(u64, Vec<u8>),
     /// A turn of a viewer.
@@ -41,6 +43,7 @@ impl<'a> Line<'a> {
             "screen" => Ok(screen_line(rest)),
             "host" => host_line(alloc, rest),
             "open" => Ok(open_line(rest)),
+            "greet" => Ok(greet_line(rest)),
             "viewer" => viewer_line(alloc, rest),
             "turn" => Ok(turn_line(rest)),
             _ => Ok(None),
@@ -103,15 +106,28 @@ fn host_line(alloc: Global, text: &str) -> Result<Option<Line<'static>>, Fault>
 }
 
 /// `V full`
-fn open_line(text: &str) -> Option<Line<'static>>
-    ensures { IfSome result IsInRange }
+fn full_viewer(text: &str) -> Option<u64>
+    ensures { IfSome result (λ viewer. (1 ≤ viewer) × (viewer ≤ 64)) }
 {
     let (viewer, role) = text.split_once(' ')?;
     if role != "full" {
         return None;
     }
-    let viewer = viewer_number(viewer)?;
+    viewer_number(viewer)
+}
+
+fn open_line(text: &str) -> Option<Line<'static>>
+    ensures { IfSome result IsInRange }
+{
+    let viewer = full_viewer(text)?;
     Some(Line::Open(viewer))
+}
+
+fn greet_line(text: &str) -> Option<Line<'static>>
+    ensures { IfSome result IsInRange }
+{
+    let viewer = full_viewer(text)?;
+    Some(Line::Greet(viewer))
 }
 
 /// `V HEX`

@@ -31,15 +31,29 @@ impl Model for Place {
 }
 
 impl Place {
-    /// A viewer that has sent nothing. It fails where memory is refused (`Memory`).
-    pub fn new(alloc: Global, width: u64, height: u64, role: Role) -> Result<Self, Fault>
-        requires { IsOneTile width height }
+    /// A viewer that has sent nothing, of a screen with a name of 1 to 255 bytes. It begins with its hello where `greet` says so.
+    /// It fails where memory is refused (`Memory`).
+    pub fn new(
+        alloc: Global,
+        width: u64,
+        height: u64,
+        name: &[u8],
+        role: Role,
+        greet: bool,
+    ) -> Result<Self, Fault>
+        requires size { IsOneTile width height }
+        requires name { (1 ≤ length name.now) × (length name.now ≤ 255) }
         ensures fresh { IfOk result (λ place. (place.looked ≡ None) × (place.written ≡ [])) }
-        ensures stands { IfOk result (λ place. (s : Setup) → s.w ≡ width → s.h ≡ height → s.extent ≡ first_path s.extent.from_host → Stands s place.session (new_viewer s role false)) }
+        ensures stands { IfOk result (λ place. (s : Setup) → s.w ≡ width → s.h ≡ height → s.name ≡ name.now → s.extent ≡ first_path s.extent.from_host → Stands s place.session (new_viewer s role greet)) }
         ensures err { IfErr result (λ fault. fault ≡ Memory) }
     {
+        let session = if greet {
+            Session::open(alloc, width, height, name, role)?
+        } else {
+            Session::ready(alloc, width, height, role)?
+        };
         Ok(Place {
-            session: Session::ready(alloc, width, height, role)?,
+            session,
             looked: None,
             written: Vec::new(alloc),
         })

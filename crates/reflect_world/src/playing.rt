@@ -162,7 +162,8 @@ fn play_line<W: Write>(
             play_one(world, Step::Raise)?;
             Ok(true)
         }
-        Line::Open(viewer) => open(world, viewer),
+        Line::Open(viewer) => join(world, viewer, false),
+        Line::Greet(viewer) => join(world, viewer, true),
         Line::Viewer(viewer, bytes) => viewer_bytes(alloc, world, output, viewer, bytes),
         Line::Turn(viewer) => turn(alloc, world, output, viewer),
     }
@@ -202,13 +203,14 @@ fn is_open(world: &World, viewer: u64) -> bool {
     world.is_joined(viewer) && world.fault(viewer).is_none()
 }
 
-fn open(world: &mut World, viewer: u64) -> Result<bool, Stop>
+/// A viewer joins, with its hello or behind it, unless it is there already.
+fn join(world: &mut World, viewer: u64, greet: bool) -> Result<bool, Stop>
     requires { (1 ≤ viewer) × (viewer ≤ 64) }
 {
     if is_open(world, viewer) {
         return Ok(false);
     }
-    world.join(viewer, Role::Full, false)?;
+    world.join(viewer, Role::Full, greet)?;
     Ok(true)
 }
 

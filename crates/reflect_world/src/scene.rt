@@ -9,7 +9,7 @@ ghost use Rattle.viewer_session.specs.Session.{IsOneTile};
 ghost use Rattle.viewer_session.specs.Viewer.{Setup};
 ghost use Rattle.reflect_world.specs.Schedule.{Put, Raise, Join, HostBytes, Bytes, Look, Cut, Written, beginning};
 ghost use Rattle.reflect_core.specs.Plain.{IsPutRefusal};
-ghost use Rattle.reflect_world.specs.World.{IsPut, IsReachable, IsRefusal, Reached, TakesStep, place_at, step_of};
+ghost use Rattle.reflect_world.specs.World.{IsPut, IsReachable, IsRefusal, JoinsUnder, Reached, TakesStep, place_at, step_of};
 
 use crate::fault::same_fault;
 use crate::place::Place;
@@ -86,15 +86,16 @@ impl Scene {
         }
     }
 
-    /// A viewer begins anew. Where memory is refused (`Memory`) nothing has changed.
-    pub fn join(&mut self, viewer: u64, role: Role) -> Result<(), Fault>
+    /// A viewer begins anew, of a screen with a name of 1 to 255 bytes. Where memory is refused (`Memory`) nothing has changed.
+    pub fn join(&mut self, viewer: u64, role: Role, name: &[u8], greet: bool) -> Result<(), Fault>
         requires there { viewer < 65 }
+        requires name { (1 ≤ length name.now) × (length name.now ≤ 255) }
         requires reached { IsReachable self.old }
-        ensures ok { OnOk result (TakesStep (Join viewer role false) self.old self.new) }
+        ensures ok { OnOk result (JoinsUnder name.now (Join viewer role greet) self.old self.new) }
         ensures err { IfErr result (λ fault. (fault ≡ Memory) × (self.new ≡ self.old)) }
     {
         let (width, height) = self.screen.size();
-        let place = Place::new(self.alloc, width, height, role)?;
+        let place = Place::new(self.alloc, width, height, name, role, greet)?;
         self.places[viewer as usize] = Some(place);
         Ok(())
     }

@@ -82,18 +82,17 @@ impl World {
         })
     }
 
-    /// A viewer of this number, from 1 to 64, joins, and begins anew: its hello is done. Where memory is refused (`Memory`) nothing has
-    /// changed.
+    /// A viewer of this number, from 1 to 64, joins, and begins anew: with its hello where `greet` says so, else its hello is done. Where
+    /// memory is refused (`Memory`) nothing has changed.
     pub fn join(&mut self, viewer: u64, role: Role, greet: bool) -> Result<(), Fault>
         requires viewer { (1 ≤ viewer) × (viewer ≤ 64) }
-        requires hello { greet ≡ false }
         ensures ok { OnOk result (self.new ≡ with_steps self.old (Join viewer role greet ∷ [])) }
         ensures err { IfErr result (λ fault. (fault ≡ Memory) × (self.new ≡ self.old)) }
     {
         let Ok(()) = self.schedule.push(Entry::Joined(viewer, role, greet)) else {
             return Err(Fault::Memory);
         };
-        match self.scene.join(viewer, role) {
+        match self.scene.join(viewer, role, self.name.as_slice(), greet) {
             Ok(()) => Ok(()),
             Err(fault) => {
                 let _ = self.schedule.pop();

@@ -67,7 +67,8 @@ impl ViewerHello {
         }
     }
 
-    fn fault(&self) -> Option<Fault>
+    /// The fault at which it stands, if there is one. A fault is final.
+    pub fn fault(&self) -> Option<Fault>
         ensures { result ≡ fault_of (ahead self.now) }
     {
         if self.taken >= 12 && !self.begun.starts_with(&VERSION) {
@@ -79,7 +80,8 @@ impl ViewerHello {
         }
     }
 
-    fn wants_more(&self) -> bool
+    /// Whether another byte of the viewer's side is to come.
+    pub fn wants_more(&self) -> bool
         ensures { result ≡ wants_more (ahead self.now) }
     {
         self.taken < 14 && self.fault().is_none()

@@ -11,7 +11,10 @@ use Rattle.viewer_session.specs.Extent.{Extent}
 use Rattle.viewer_session.specs.FirstPath.{first_path}
 use Rattle.viewer_session.specs.Record.{Took}
 use Rattle.viewer_session.specs.Viewer.{Setup, Viewer, served, marked, with_message, after_reading, after_bytes}
-use Rattle.viewer_session.specs.Session.{at_rest}
+
+-- A viewer whose hello is done, of which no byte waits.
+abbrev pub past_hello : Viewer → Viewer
+past_hello p = record p { hello = Done tt; unread = []; lost = []; waiting = None }
 
 abbrev with_reading : Viewer → Reading ClientMessage → Viewer
 with_reading p r = record p { reading = r }
@@ -33,16 +36,16 @@ marked_none (LostText len) = refl
 
 -- The bytes up to the end of a message: it is taken, and the bytes behind it are left.
 whole_from : (s : Setup) (p : Viewer) (r : Reading ClientMessage) (bs : List ℕ) (m : ClientMessage) → after r bs ≡ Done m
-    → after_bytes s (after_reading s (at_rest p) r) bs ≡ after_bytes s (with_message s (at_rest p) (m, [])) (drop (taken r bs) bs)
+    → after_bytes s (after_reading s (past_hello p) r) bs ≡ after_bytes s (with_message s (past_hello p) (m, [])) (drop (taken r bs) bs)
 whole_from s p (Done x) bs m e =
     let same : x ≡ m = done_is x m (sym (after-done x bs) ∙ e) in
-    ap (λ t. after_bytes s (with_message s (at_rest p) t) bs) (marked_none x ∙ ap (λ y. (y, [])) same)
+    ap (λ t. after_bytes s (with_message s (past_hello p) t) bs) (marked_none x ∙ ap (λ y. (y, [])) same)
 whole_from s p (Faulty f) bs m e = absurd (is_not f m (sym (after-faulty f bs) ∙ e))
 whole_from s p (Want more) [] m e = absurd cc
 whole_from s p (Want more) (b ∷ bs) m e = whole_from s p (more b) bs m e
 
 pub takes_whole : (s : Setup) (p : Viewer) (r : Reading ClientMessage) (bs : List ℕ) (m : ClientMessage) → wants_more r ≡ true → after r bs ≡ Done m
-    → after_bytes s (at_rest (with_reading p r)) bs ≡ after_bytes s (with_message s (at_rest p) (m, [])) (drop (taken r bs) bs)
+    → after_bytes s (past_hello (with_reading p r)) bs ≡ after_bytes s (with_message s (past_hello p) (m, [])) (drop (taken r bs) bs)
 takes_whole s p (Done x) bs m w e = absurd cc
 takes_whole s p (Faulty f) bs m w e = absurd cc
 takes_whole s p (Want more) [] m w e = absurd cc
@@ -52,31 +55,31 @@ some_is_not : (m : ClientMessage) → Some m ≡ None → ⊥
 some_is_not m e = cc
 
 goes_on_from : (s : Setup) (p : Viewer) (r : Reading ClientMessage) (bs : List ℕ) → whole_of (after r bs) ≡ None
-    → after_bytes s (after_reading s (at_rest p) r) bs ≡ after_bytes s (at_rest (with_reading p (after r bs))) (drop (taken r bs) bs)
+    → after_bytes s (after_reading s (past_hello p) r) bs ≡ after_bytes s (past_hello (with_reading p (after r bs))) (drop (taken r bs) bs)
 goes_on_from s p (Done x) bs e = absurd (some_is_not x (sym (ap whole_of (after-done x bs)) ∙ e))
-goes_on_from s p (Faulty f) bs e = ap (λ r. after_bytes s (at_rest (with_reading p r)) bs) (sym (after-faulty f bs))
+goes_on_from s p (Faulty f) bs e = ap (λ r. after_bytes s (past_hello (with_reading p r)) bs) (sym (after-faulty f bs))
 goes_on_from s p (Want more) [] e = refl
 goes_on_from s p (Want more) (b ∷ bs) e = goes_on_from s p (more b) bs e
 
 -- Bytes that end no message leave the reading of one gone on by them. A fault takes none.
 pub goes_on : (s : Setup) (p : Viewer) (r : Reading ClientMessage) (bs : List ℕ) → whole_of (after r bs) ≡ None
-    → after_bytes s (at_rest (with_reading p r)) bs ≡ after_bytes s (at_rest (with_reading p (after r bs))) (drop (taken r bs) bs)
+    → after_bytes s (past_hello (with_reading p r)) bs ≡ after_bytes s (past_hello (with_reading p (after r bs))) (drop (taken r bs) bs)
 goes_on s p (Done x) bs e = absurd (some_is_not x (sym (ap whole_of (after-done x bs)) ∙ e))
-goes_on s p (Faulty f) bs e = ap (λ r. after_bytes s (at_rest (with_reading p r)) bs) (sym (after-faulty f bs))
+goes_on s p (Faulty f) bs e = ap (λ r. after_bytes s (past_hello (with_reading p r)) bs) (sym (after-faulty f bs))
 goes_on s p (Want more) [] e = refl
 goes_on s p (Want more) (b ∷ bs) e = goes_on_from s p (more b) bs e
 
 -- Behind a fault nothing changes.
-pub stays : (s : Setup) (p : Viewer) (f : Fault) (bs : List ℕ) → after_bytes s (at_rest (with_reading p (Faulty f))) bs ≡ at_rest (with_reading p (Faulty f))
+pub stays : (s : Setup) (p : Viewer) (f : Fault) (bs : List ℕ) → after_bytes s (past_hello (with_reading p (Faulty f))) bs ≡ past_hello (with_reading p (Faulty f))
 stays s p f [] = refl
 stays s p f (b ∷ bs) = stays s p f bs
 
 -- A message is taken into the record, and nothing else of the viewer changes.
 pub takes_message : (s : Setup) (p : Viewer) (m : ClientMessage) → s.extent ≡ first_path s.extent.from_host
-    → with_message s (at_rest p) (m, []) ≡ at_rest (record p { entries = Took (served s m) ∷ p.entries; reading = viewer_form })
+    → with_message s (past_hello p) (m, []) ≡ past_hello (record p { entries = Took (served s m) ∷ p.entries; reading = viewer_form })
 takes_message s p m e =
-    let with_extent : Extent → Viewer = λ x. with_message (record s { extent = x }) (at_rest p) (m, []) in
-    let taken_by : Extent → Viewer = λ x. at_rest (record p { entries = Took (served (record s { extent = x }) m) ∷ p.entries; reading = viewer_form }) in
+    let with_extent : Extent → Viewer = λ x. with_message (record s { extent = x }) (past_hello p) (m, []) in
+    let taken_by : Extent → Viewer = λ x. past_hello (record p { entries = Took (served (record s { extent = x }) m) ∷ p.entries; reading = viewer_form }) in
     ap with_extent e ∙ sym (ap taken_by e)
 
 -- A reader in which no whole message waits uses some byte of a piece, where it meets no fault.

@@ -2,6 +2,7 @@ pub mod Feeding
 pub mod OneTile
 pub mod RawAnswer
 pub mod SessionLaws
+pub mod HelloLaws
 pub mod FeedLaws
 pub mod Stands
 pub mod Accepted

@@ -1,8 +1,9 @@
 -- What a session's state stands for, call by call.
-use Rattle.std.proofs.Common.{◌≡◌, ℕ, ◌-◌, ◌≤◌, Bool, true, false, cond, List, ◌∷◌, length, Option, Some, None, refl, sym, ap, subst, ◌∙◌, arith, inl, inr}
+use Rattle.std.proofs.Common.{◌≡◌, ℕ, ◌-◌, ◌≤◌, Bool, true, false, cond, List, ◌∷◌, length, drop, Option, Some, None, refl, sym, ap, subst, ◌∙◌, arith, inl, inr}
 use Rattle.std.proofs.lemmas.Bool.Decides.{nat_tests}
-use Rattle.std.specs.Prelude.{◌&&◌, ◌||◌, nat_lt, unwrap_or, is_some}
-use Rattle.std.proofs.lemmas.List.{length-drop}
+use Rattle.std.specs.Prelude.{◌&&◌, ◌||◌, if◌then◌else◌, nat_lt, unwrap_or, is_some}
+use Rattle.std.proofs.lemmas.List.{length-drop, drop-drop}
+use Rattle.pixel_format.specs.declared.fault.Fault.{Fault}
 use Rattle.pixel_format.specs.Reading.{Reading, fault_of}
 use Rattle.raster.specs.declared.rect.Rect.{Rect}
 use Rattle.raster.specs.declared.encoding.Encoding.TheVariants.{Raw}
@@ -10,6 +11,7 @@ use Rattle.raster.specs.Screen.{common, whole_screen, meets, is_empty, tile_rect
 use Rattle.rfb_wire.specs.ClientMessage.{ClientMessage, SetPixelFormat, SetEncodings, Ask, Key, Pointer, CutText, LostText, Choice, without_text}
 use Rattle.rfb_wire.specs.declared.client_reader.ClientReader.{ClientReader}
 use Rattle.rfb_wire.specs.ClientReader.{ahead}
+use Rattle.rfb_wire.specs.Greeting.{Greeting}
 use Rattle.rfb_wire.specs.Message.{IsOrLoses}
 use Rattle.rfb_wire.proofs.Losing.{losing-fault}
 use Rattle.tiles.specs.Have.{SentTiles, HaveStands}
@@ -19,7 +21,8 @@ use Rattle.viewer_session.specs.FirstPath.{first_path}
 use Rattle.viewer_session.specs.Record.{Took, events}
 use Rattle.viewer_session.specs.Viewer.{Setup, Viewer, served, viewer_fault, out_bytes}
 use Rattle.viewer_session.specs.Turn.{has_reason}
-use Rattle.viewer_session.specs.Session.{State, Stands, Keeps, at_rest, after_taking, after_look, fault_in, wants_cut}
+use Rattle.viewer_session.specs.Session.{State, Stands, Greets, Keeps, at_rest, after_taking, after_look, after_writing, fault_in, wants_cut}
+use Rattle.viewer_session.proofs.HelloLaws.{hello_stands}
 
 -- ---- messages
 
@@ -28,15 +31,16 @@ resting s m p e = ap (after_taking s m) e
 
 -- A message was taken, and the record is kept.
 pub stands_taking : (s : Setup) (m : ClientMessage) (st new : State) (p : Viewer) → Stands s st p
-    → new.width ≡ st.width → new.height ≡ st.height → new.role ≡ st.role → new.reader ≡ st.reader → new.unsent ≡ st.unsent
+    → new.width ≡ st.width → new.height ≡ st.height → new.role ≡ st.role → new.greeting ≡ st.greeting → new.reader ≡ st.reader → new.unsent ≡ st.unsent
     → Keeps s.w s.h new (Took (served s m) ∷ p.entries) → Stands s new (after_taking s m p)
-stands_taking s m st new p k ew eh er er2 eu keeps =
+stands_taking s m st new p k ew eh er eg er2 eu keeps =
     record {
       width = ew ∙ k.width;
       height = eh ∙ k.height;
       extent = k.extent;
       role = k.role ∙ sym er;
       rests = resting s m p k.rests;
+      greets = subst (λ (o : Option Greeting). Greets s o p.greet p.hello p.said p.said_after) (sym eg) k.greets;
       reading = subst (λ (r : ClientReader). IsOrLoses (ahead r) p.reading) (sym er2) k.reading;
       taken = k.taken;
       keeps = keeps;
@@ -54,7 +58,7 @@ stands_asked s st now p incremental area clipped asked have is stands e a h =
     let k : Stands s st p = subst (λ (t : State). Stands s t p) (sym is) stands in
     let same : clipped ≡ common area (whole_screen s.w s.h) = e ∙ (ap (λ n. common area (whole_screen n st.height)) k.width ∙ ap (λ n. common area (whole_screen s.w n)) k.height) in
     let es : List Event = events s.w s.h p.entries in
-    stands_taking s (Ask incremental area) st (record st { asked = asked; have = have }) p k refl refl refl refl refl
+    stands_taking s (Ask incremental area) st (record st { asked = asked; have = have }) p k refl refl refl refl refl refl
     (record {
       asked = subst (λ (r : Rect). AskedStands asked (Requested incremental r ∷ es)) same (a es k.keeps.asked);
       have = subst (λ (r : Rect). HaveStands have (Requested incremental r ∷ es)) same (h es k.keeps.have);
@@ -85,24 +89,24 @@ pub stands_encodings : (s : Setup) (st : State) (p : Viewer) (choice : Choice) �
 stands_encodings s st p choice k =
     let raw : Choice = record { kind = Raw; copy = false } in
     let kept : Keeps s.w s.h st (Took (SetEncodings raw) ∷ p.entries) = record { asked = k.keeps.asked; have = k.keeps.have; format = k.keeps.format; choice = refl } in
-    stands_taking s (SetEncodings choice) st st p k refl refl refl refl refl
+    stands_taking s (SetEncodings choice) st st p k refl refl refl refl refl refl
     (subst (λ (m : ClientMessage). Keeps s.w s.h st (Took m ∷ p.entries)) (sym (served_encodings s choice k.extent)) kept)
 
 pub stands_key : (s : Setup) (st : State) (p : Viewer) (down : Bool) (key : ℕ) → Stands s st p → Stands s st (after_taking s (Key down key) p)
 stands_key s st p down key k =
-    stands_taking s (Key down key) st st p k refl refl refl refl refl (record { asked = k.keeps.asked; have = k.keeps.have; format = k.keeps.format; choice = k.keeps.choice })
+    stands_taking s (Key down key) st st p k refl refl refl refl refl refl (record { asked = k.keeps.asked; have = k.keeps.have; format = k.keeps.format; choice = k.keeps.choice })
 
 pub stands_pointer : (s : Setup) (st : State) (p : Viewer) (mask x y : ℕ) → Stands s st p → Stands s st (after_taking s (Pointer mask x y) p)
 stands_pointer s st p mask x y k =
-    stands_taking s (Pointer mask x y) st st p k refl refl refl refl refl (record { asked = k.keeps.asked; have = k.keeps.have; format = k.keeps.format; choice = k.keeps.choice })
+    stands_taking s (Pointer mask x y) st st p k refl refl refl refl refl refl (record { asked = k.keeps.asked; have = k.keeps.have; format = k.keeps.format; choice = k.keeps.choice })
 
 pub stands_text : (s : Setup) (st : State) (p : Viewer) (text : List ℕ) → Stands s st p → Stands s st (after_taking s (CutText text) p)
 stands_text s st p text k =
-    stands_taking s (CutText text) st st p k refl refl refl refl refl (record { asked = k.keeps.asked; have = k.keeps.have; format = k.keeps.format; choice = k.keeps.choice })
+    stands_taking s (CutText text) st st p k refl refl refl refl refl refl (record { asked = k.keeps.asked; have = k.keeps.have; format = k.keeps.format; choice = k.keeps.choice })
 
 pub stands_lost : (s : Setup) (st : State) (p : Viewer) (len : ℕ) → Stands s st p → Stands s st (after_taking s (LostText len) p)
 stands_lost s st p len k =
-    stands_taking s (LostText len) st st p k refl refl refl refl refl (record { asked = k.keeps.asked; have = k.keeps.have; format = k.keeps.format; choice = k.keeps.choice })
+    stands_taking s (LostText len) st st p k refl refl refl refl refl refl (record { asked = k.keeps.asked; have = k.keeps.have; format = k.keeps.format; choice = k.keeps.choice })
 
 -- It makes no difference whether a text was lost.
 text_again : (s : Setup) (st : State) (p : Viewer) (text : List ℕ) (len : ℕ) → Stands s st (after_taking s (LostText len) p) → Stands s st (after_taking s (CutText text) p)
@@ -113,6 +117,7 @@ text_again s st p text len k =
       extent = k.extent;
       role = k.role;
       rests = ap (λ (q : Viewer). record q { entries = Took (CutText text) ∷ p.entries }) k.rests;
+      greets = k.greets;
       reading = k.reading;
       taken = k.taken;
       keeps = record { asked = k.keeps.asked; have = k.keeps.have; format = k.keeps.format; choice = k.keeps.choice };
@@ -140,6 +145,7 @@ stands_look s st p o k =
       extent = k.extent;
       role = k.role;
       rests = ap (λ (q : Viewer). record q { looked = o }) k.rests;
+      greets = k.greets;
       reading = k.reading;
       taken = k.taken;
       keeps = record { asked = k.keeps.asked; have = k.keeps.have; format = k.keeps.format; choice = k.keeps.choice };
@@ -156,6 +162,7 @@ stands_saw s st p n k =
       extent = k.extent;
       role = k.role;
       rests = ap (after_look n) k.rests;
+      greets = k.greets;
       reading = k.reading;
       taken = k.taken;
       keeps = record { asked = k.keeps.asked; have = k.keeps.have; format = k.keeps.format; choice = k.keeps.choice };
@@ -169,17 +176,34 @@ fault_told : (now reading : Reading ClientMessage) → IsOrLoses now reading →
 fault_told now reading (inl e) = ap fault_of e
 fault_told now reading (inr e) = ap fault_of e ∙ losing-fault reading
 
+abbrev first_fault : Option Fault → Option Fault → Option Fault
+first_fault o q = if is_some o then o else q
+
 pub fault_stands : (s : Setup) (st : State) (p : Viewer) → Stands s st p → fault_in st ≡ viewer_fault p
-fault_stands s st p k = fault_told (ahead st.reader) p.reading k.reading ∙ sym (ap viewer_fault k.rests)
+fault_stands s st p k =
+    ap (λ o. first_fault o (fault_of (ahead st.reader))) (ap fault_of (sym (hello_stands s st p k)))
+    ∙ ap (first_fault (fault_of p.hello)) (fault_told (ahead st.reader) p.reading k.reading)
 
--- All that the viewer is sent, and what of it isn't written yet.
-pub says_after : (s : Setup) (st : State) (p : Viewer) → Stands s st p → out_bytes s p ≡ p.said_after
-says_after s st p k = ap (out_bytes s) k.rests
+-- What of all that the viewer is sent isn't written yet.
+pub unsent_left : (s : Setup) (st : State) (p : Viewer) → Stands s st p → length st.unsent ≡ length (out_bytes s p) - p.written
+unsent_left s st p k = ap length k.unsent ∙ length-drop p.written (out_bytes s p)
 
-pub unsent_left : (s : Setup) (st : State) (p : Viewer) → Stands s st p → (p.written ≤ length (out_bytes s p)) × (length st.unsent ≡ length (out_bytes s p) - p.written)
-unsent_left s st p k =
-    let all : length (out_bytes s p) ≡ length p.said_after = ap length (says_after s st p k) in
-    (omega (arith, k.written, all), ap length k.unsent ∙ (length-drop p.written p.said_after ∙ ap (λ n. n - p.written) (sym all)))
+-- Some of it is written.
+pub stands_written : (s : Setup) (st : State) (p : Viewer) (n : ℕ) → n ≤ length st.unsent → Stands s st p → Stands s (record st { unsent = drop n st.unsent }) (after_writing n p)
+stands_written s st p n le k =
+    record {
+      width = k.width;
+      height = k.height;
+      extent = k.extent;
+      role = k.role;
+      rests = ap (after_writing n) k.rests;
+      greets = k.greets;
+      reading = k.reading;
+      taken = k.taken;
+      keeps = record { asked = k.keeps.asked; have = k.keeps.have; format = k.keeps.format; choice = k.keeps.choice };
+      written = omega (arith, unsent_left s st p k, k.written);
+      unsent = ap (drop n) k.unsent ∙ drop-drop n p.written (out_bytes s p);
+    }
 
 -- Reason to cut is reason by the record.
 pub reason_stands : (s : Setup) (st : State) (p : Viewer) (looked : ℕ) → Stands s st p → wants_cut st.asked looked ≡ has_reason s.w s.h p.entries looked

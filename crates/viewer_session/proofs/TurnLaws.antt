@@ -1,17 +1,20 @@
 -- What a turn over one tile sends.
-use Rattle.std.proofs.Common.{◌≡◌, ℕ, ◌<◌, ◌≤◌, Bool, true, false, List, [], ◌∷◌, ◌++◌, length, take, drop, get_or, Option, Some, None, refl, sym, ap, subst, ◌∙◌, arith, length-append}
-use Rattle.std.specs.Prelude.{◌&&◌, ◌||◌, is_none, if◌then◌else◌, slice_get, unwrap_or, ◌==◌}
+use Rattle.std.proofs.Common.{◌≡◌, ℕ, ◌<◌, ◌≤◌, Bool, true, false, List, [], ◌∷◌, ◌++◌, length, take, drop, get_or, Option, Some, None, refl, sym, ap, subst, ◌∙◌, arith, length-append, append_assoc}
+use Rattle.std.specs.Prelude.{◌&&◌, ◌||◌, is_none, is_some, if◌then◌else◌, slice_get, unwrap_or, ◌==◌}
 use Rattle.std.proofs.lemmas.Bool.{eqb-true}
 use Rattle.std.proofs.lemmas.Option.{get_or_from_slice_get}
 use Rattle.std.specs.List.{list_any, range_with_len}
 use Rattle.std.proofs.lemmas.List.{length-take, length-drop}
 use Rattle.std.proofs.Math.Seq.{drop-append_seam}
 use Rattle.pixel_format.specs.PixelFormat.{PixelFormat, row_bytes}
+use Rattle.pixel_format.specs.Reading.{Reading, whole_of}
 use Rattle.raster.specs.declared.rect.Rect.{Rect}
 use Rattle.raster.specs.Screen.{IsWithin, holds, meets, whole_screen, tile_rect, tile_count, value_at}
 use Rattle.raster.proofs.Places.{Has, holds_has}
 use Rattle.raster.specs.Update.{Update, screen}
 use Rattle.rfb_wire.specs.ClientMessage.{Choice}
+use Rattle.rfb_wire.specs.Greeting.{Greeting}
+use Rattle.rfb_wire.specs.Handshake.{said_to_viewer}
 use Rattle.rfb_wire.specs.Writing.{update_head_bytes, rectangle_head_bytes}
 use Rattle.tiles.specs.Have.{SentTiles, HaveStands}
 use Rattle.tiles.specs.Touched.{Event, WasCut, Answered, runs}
@@ -25,8 +28,9 @@ use Rattle.viewer_session.specs.FirstPath.{first_path}
 use Rattle.viewer_session.specs.RawUpdate.{raw_update}
 use Rattle.viewer_session.specs.Record.{Entry, MadeCut, Began, events, format_of, choice_of}
 use Rattle.viewer_session.specs.Turn.{due_tile, due_tile_in, all_were_sent, update_for, update_at, update_part, sent_at, began_at, record_after_cut}
-use Rattle.viewer_session.specs.Viewer.{Setup, Viewer, after_cut}
-use Rattle.viewer_session.specs.Session.{State, Stands, Keeps, IsOneTile, CutsAt, at_rest, is_ready, fault_in}
+use Rattle.viewer_session.specs.Viewer.{Setup, Viewer, out_bytes, after_cut}
+use Rattle.viewer_session.specs.Session.{State, Stands, Greets, Keeps, IsOneTile, CutsAt, at_rest, hello_of, is_greeted, is_ready, fault_in}
+use Rattle.viewer_session.proofs.HelloLaws.{not_yet}
 use Rattle.viewer_session.proofs.OneTile.{one_tile, tile_is_screen, runs_one}
 use Rattle.viewer_session.proofs.RawAnswer.{raw_choice, raw_answer, colours_same}
 
@@ -69,6 +73,10 @@ update_one w h es us area k on e d c =
 
 -- ---- the viewer after a cut
 
+-- All bytes of a viewer's hello, by now.
+abbrev hello_bytes : Setup → Viewer → List ℕ
+hello_bytes s p = if p.greet then said_to_viewer s.w s.h s.name p.said else []
+
 rests_cut : (s : Setup) (us : List Update) (p : Viewer) → p ≡ at_rest p → after_cut s us p ≡ at_rest (after_cut s us p)
 rests_cut s us p e = ap (after_cut s us) e
 
@@ -83,29 +91,61 @@ drop_at xs ys n e = ap (λ k. drop k (xs ++ ys)) e ∙ drop-append_seam xs ys
 drop_said : (n : ℕ) (xs ys : List ℕ) → n ≤ length xs → length (drop n xs) ≡ 0 → drop n (xs ++ ys) ≡ ys
 drop_said n xs ys le e = drop_at xs ys n (omega (arith, length-drop n xs))
 
-stands_cut : (s : Setup) (st : State) (p : Viewer) (us : List Update) (wanted : Wanted) (have : SentTiles) (bytes : List ℕ) → Stands s st p → length st.unsent ≡ 0
+-- The hello is done, so it says no more.
+greets_cut : (s : Setup) (o : Option Greeting) (greet : Bool) (hello : Reading (Unit {0})) (said : ℕ) (before after : List ℕ) → is_some (whole_of (hello_of o)) ≡ true → Greets s o greet hello said before
+    → Greets s o greet hello said after
+greets_cut s None greet hello said before after done k = k
+greets_cut s (Some g) greet hello said before after done k =
+    record {
+      w = k.w;
+      h = k.h;
+      name = k.name;
+      greets = k.greets;
+      goes_on = k.goes_on;
+      taken = λ wants. absurd (let open_ : is_some (whole_of hello) ≡ false = not_yet hello wants in let shut : is_some (whole_of hello) ≡ true = ap (λ r. is_some (whole_of r)) k.goes_on ∙ done in cc);
+    }
+
+and_left : (a b : Bool) → (a && b) ≡ true → a ≡ true
+and_left true b e = refl
+and_left false b e = e
+
+and_right : (a b : Bool) → (a && b) ≡ true → b ≡ true
+and_right true b e = e
+and_right false b e = absurd cc
+
+sent_all : (st : State) → is_ready st ≡ true → length st.unsent ≡ 0
+sent_all st e = eqb-true (length st.unsent) 0 (and_left (length st.unsent == 0) (is_greeted st && is_none (fault_in st)) e)
+
+greeted_ready : (st : State) → is_ready st ≡ true → is_greeted st ≡ true
+greeted_ready st e = and_left (is_greeted st) (is_none (fault_in st)) (and_right (length st.unsent == 0) (is_greeted st && is_none (fault_in st)) e)
+
+stands_cut : (s : Setup) (st : State) (p : Viewer) (us : List Update) (wanted : Wanted) (have : SentTiles) (bytes : List ℕ) → Stands s st p → is_ready st ≡ true
     → sent_at s.extent.tells_news s.w s.h p.entries us ≡ bytes → Keeps s.w s.h (record st { asked = wanted; have = have; unsent = bytes }) (record_after_cut s.w s.h p.entries us)
     → Stands s (record st { asked = wanted; have = have; unsent = bytes }) (after_cut s us p)
-stands_cut s st p us wanted have bytes k none e keeps =
-    let over : length (drop p.written p.said_after) ≡ 0 = ap length (sym k.unsent) ∙ none in
+stands_cut s st p us wanted have bytes k ready e keeps =
+    let none : length st.unsent ≡ 0 = sent_all st ready in
+    let sent : List ℕ = sent_at s.extent.tells_news s.w s.h p.entries us in
+    let over : length (drop p.written (out_bytes s p)) ≡ 0 = ap length (sym k.unsent) ∙ none in
+    let out : out_bytes s (after_cut s us p) ≡ out_bytes s p ++ sent = sym (append_assoc (hello_bytes s p) p.said_after sent) in
     record {
       width = k.width;
       height = k.height;
       extent = k.extent;
       role = k.role;
       rests = rests_cut s us p k.rests;
+      greets = greets_cut s st.greeting p.greet p.hello p.said p.said_after (p.said_after ++ sent) (greeted_ready st ready) k.greets;
       reading = k.reading;
       taken = k.taken;
       keeps = keeps;
-      written = omega (arith, k.written, length-append p.said_after (sent_at s.extent.tells_news s.w s.h p.entries us));
-      unsent = sym (drop_said p.written p.said_after (sent_at s.extent.tells_news s.w s.h p.entries us) k.written over ∙ e);
+      written = omega (arith, k.written, ap length out, length-append (out_bytes s p) sent);
+      unsent = sym (ap (drop p.written) out ∙ (drop_said p.written (out_bytes s p) sent k.written over ∙ e));
     }
 
 -- Nothing is sent.
-pub stands_quiet : (s : Setup) (st : State) (p : Viewer) (us : List Update) (n : ℕ) (wanted : Wanted) → Stands s st p → length st.unsent ≡ 0 → length us ≡ n
+pub stands_quiet : (s : Setup) (st : State) (p : Viewer) (us : List Update) (n : ℕ) (wanted : Wanted) → Stands s st p → is_ready st ≡ true → length us ≡ n
     → update_at s.w s.h p.entries us ≡ None → ((es : List Event) → AskedStands st.asked es → AskedStands wanted (WasCut n ∷ es)) → Stands s (record st { asked = wanted }) (after_cut s us p)
 stands_quiet s st p us n wanted k none count e asked =
-    let none_is : st.unsent ≡ [] = nothing st.unsent none in
+    let none_is : st.unsent ≡ [] = nothing st.unsent (sent_all st none) in
     let es : List Event = events s.w s.h p.entries in
     let quiet : record_after_cut s.w s.h p.entries us ≡ MadeCut n ∷ p.entries = ap (λ u. began_at (length us) u (MadeCut (length us) ∷ p.entries)) e ∙ ap (λ m. MadeCut m ∷ p.entries) count in
     let kept : Keeps s.w s.h (record st { asked = wanted }) (MadeCut n ∷ p.entries) =
@@ -115,7 +155,7 @@ stands_quiet s st p us n wanted k none count e asked =
     (subst (λ (t : List Entry). Keeps s.w s.h (record st { asked = wanted }) t) (sym quiet) kept)
 
 -- An update of the area is sent.
-pub stands_answered : (s : Setup) (st : State) (p : Viewer) (us : List Update) (n : ℕ) (area : Rect) (wanted : Wanted) (have : SentTiles) (bytes : List ℕ) → Stands s st p → length st.unsent ≡ 0
+pub stands_answered : (s : Setup) (st : State) (p : Viewer) (us : List Update) (n : ℕ) (area : Rect) (wanted : Wanted) (have : SentTiles) (bytes : List ℕ) → Stands s st p → is_ready st ≡ true
     → length us ≡ n → update_at s.w s.h p.entries us ≡ Some (area, bytes)
     → ((es : List Event) → AskedStands st.asked es → AskedStands wanted (Answered area n ∷ WasCut n ∷ es))
     → ((es : List Event) → HaveStands st.have es → HaveStands have (Answered area n ∷ es))
@@ -167,7 +207,7 @@ cut_shows st known n area cut one ew eh on is due =
     is.colours 0 x y inside is_due (holds_has area x y (record { left = left; right = right; top = top; bottom = bottom })) in_tile))
 
 -- The pending area is answered.
-pub answers_at : (st now : State) (known : List Update) (least n : ℕ) (area : Rect) (cut : Cut) (wanted : Wanted) (have : SentTiles) (bytes : List ℕ) → st ≡ now → length now.unsent ≡ 0
+pub answers_at : (st now : State) (known : List Update) (least n : ℕ) (area : Rect) (cut : Cut) (wanted : Wanted) (have : SentTiles) (bytes : List ℕ) → st ≡ now → is_ready now ≡ true
     → IsOneTile st.width st.height → st.have.width ≡ st.width → st.have.height ≡ st.height → st.asked.area ≡ Some area → IsWithin area st.width st.height
     → IsCutOf known n area st.have cut → least ≤ n → slice_get cut.due.items 0 ≡ Some true
     → ((es : List Event) → AskedStands st.asked es → AskedStands wanted (Answered area n ∷ WasCut n ∷ es))
@@ -186,11 +226,11 @@ answers_at st now known least n area cut wanted have bytes same none one ew eh p
           update_one s.w s.h p.entries (take n known) area small on_screen (sym k.keeps.asked.area ∙ pends) (due_of_cut s st p known n area cut true k one ew eh is due) k.keeps.choice in
           let shown : raw_update (format_of p.entries) (screen (take n known)) area ≡ bytes =
           ap (λ (f : PixelFormat). raw_update f (screen (take n known)) area) (sym k.keeps.format) ∙ (sym (cut_shows st known n area cut one ew eh on is due) ∙ sym e) in
-          stands_answered s st p (take n known) n area wanted have bytes k (ap (λ (t : State). length t.unsent) same ∙ none) (count_taken n known is.known) (sends ∙ ap (λ bs. Some (area, bs)) shown) asked has;
+          stands_answered s st p (take n known) n area wanted have bytes k (ap is_ready same ∙ none) (count_taken n known is.known) (sends ∙ ap (λ bs. Some (area, bs)) shown) asked has;
     }
 
 -- The tile isn't due.
-pub quiet_at : (st now : State) (known : List Update) (least n : ℕ) (area : Rect) (cut : Cut) (wanted : Wanted) → st ≡ now → length now.unsent ≡ 0
+pub quiet_at : (st now : State) (known : List Update) (least n : ℕ) (area : Rect) (cut : Cut) (wanted : Wanted) → st ≡ now → is_ready now ≡ true
     → IsOneTile st.width st.height → st.have.width ≡ st.width → st.have.height ≡ st.height → st.asked.area ≡ Some area → IsCutOf known n area st.have cut → least ≤ n → slice_get cut.due.items 0 ≡ Some false
     → ((es : List Event) → AskedStands st.asked es → AskedStands wanted (WasCut n ∷ es)) → CutsAt now (record st { asked = wanted }) known least
 quiet_at st now known least n area cut wanted same none one ew eh pends is fresh due asked =
@@ -201,12 +241,12 @@ quiet_at st now known least n area cut wanted same none one ew eh pends is fresh
       stands = λ s p stands.
           let k : Stands s st p = subst (λ (t : State). Stands s t p) (sym same) stands in
           let small : IsOneTile s.w s.h = one_of st.width st.height s.w s.h one (sym k.width) (sym k.height) in
-          stands_quiet s st p (take n known) n wanted k (ap (λ (t : State). length t.unsent) same ∙ none) (count_taken n known is.known)
+          stands_quiet s st p (take n known) n wanted k (ap is_ready same ∙ none) (count_taken n known is.known)
           (update_none s.w s.h p.entries (take n known) area small (sym k.keeps.asked.area ∙ pends) (due_of_cut s st p known n area cut false k one ew eh is due)) asked;
     }
 
 -- Nothing is pending.
-pub unasked_at : (st now : State) (known : List Update) (least n : ℕ) (wanted : Wanted) → st ≡ now → length now.unsent ≡ 0 → st.asked.area ≡ None → n ≤ length known → least ≤ n
+pub unasked_at : (st now : State) (known : List Update) (least n : ℕ) (wanted : Wanted) → st ≡ now → is_ready now ≡ true → st.asked.area ≡ None → n ≤ length known → least ≤ n
     → ((es : List Event) → AskedStands st.asked es → AskedStands wanted (WasCut n ∷ es)) → CutsAt now (record st { asked = wanted }) known least
 unasked_at st now known least n wanted same none pends le fresh asked =
     record {
@@ -215,18 +255,11 @@ unasked_at st now known least n wanted same none pends le fresh asked =
       fresh = fresh;
       stands = λ s p stands.
           let k : Stands s st p = subst (λ (t : State). Stands s t p) (sym same) stands in
-          stands_quiet s st p (take n known) n wanted k (ap (λ (t : State). length t.unsent) same ∙ none) (count_taken n known le)
+          stands_quiet s st p (take n known) n wanted k (ap is_ready same ∙ none) (count_taken n known le)
           (ap (update_for s.w s.h p.entries (take n known)) (sym k.keeps.asked.area ∙ pends)) asked;
     }
 
 -- ---- what the code has at hand
-
-and_left : (a b : Bool) → (a && b) ≡ true → a ≡ true
-and_left true b e = refl
-and_left false b e = e
-
-pub all_sent : (st : State) → is_ready st ≡ true → length st.unsent ≡ 0
-all_sent st e = eqb-true (length st.unsent) 0 (and_left (length st.unsent == 0) (is_none (fault_in st)) e)
 
 -- A pending area is what the source is cut for, and lies on the screen.
 pub cut_for : (us : List Update) (n : ℕ) (o : Option Rect) (r area nowhere : Rect) (have : SentTiles) (cut : Cut) → r ≡ unwrap_or o nowhere → o ≡ Some area → IsCutOf us n r have cut → IsCutOf us n area have cut

@@ -10,7 +10,8 @@ use Rattle.update_encoder.specs.Answer.{colours_in}
 abbrev pub raw_update : PixelFormat → Canvas → Rect → List ℕ
 raw_update format screen area = (update_head_bytes 1 ++ rectangle_head_bytes area 0) ++ row_bytes format (colours_in screen area)
 
--- How much room there is for an update, and the bytes of it that aren't sent yet.
+-- How much room there is for bytes, how many were put into it, and those that aren't sent yet.
 pub record Waiting : Type 0 where
   pub room : ℕ
+  pub filled : ℕ
   pub unsent : List ℕ

@@ -1,13 +1,16 @@
 -- What a session keeps, and which viewers it stands for.
-use Rattle.std.specs.Prelude.{◌≡◌, ℕ, ◌+◌, ◌*◌, ◌≤◌, Bool, true, false, max, ◌&&◌, ◌||◌, ◌==◌, nat_lt, is_some, is_none, unwrap_or, List, [], ◌∷◌, length, drop, take, Option, Some, None, Result, Ok, Err}
+use Rattle.std.specs.Prelude.{◌≡◌, ℕ, ◌+◌, ◌*◌, ◌≤◌, Bool, true, false, max, ◌&&◌, ◌||◌, ◌==◌, nat_lt, if◌then◌else◌, is_some, is_none, unwrap_or, List, [], ◌∷◌, length, drop, take, Option, Some, None, Result, Ok, Err}
 use Rattle.pixel_format.specs.declared.fault.Fault.{Fault}
 use Rattle.pixel_format.specs.PixelFormat.{PixelFormat}
-use Rattle.pixel_format.specs.Reading.{Reading, Done, whole_of, fault_of, GivesWhole}
+use Rattle.pixel_format.specs.Reading.{Reading, Done, whole_of, fault_of, wants_more, GivesWhole}
 use Rattle.raster.specs.declared.encoding.Encoding.TheVariants.{Raw}
 use Rattle.raster.specs.Update.{Update}
 use Rattle.rfb_wire.specs.declared.client_reader.ClientReader.{ClientReader}
 use Rattle.rfb_wire.specs.ClientReader.{ahead}
 use Rattle.rfb_wire.specs.ClientMessage.{ClientMessage}
+use Rattle.rfb_wire.specs.Greeting as handshake
+use Rattle.rfb_wire.specs.Greeting.{Greeting}
+use Rattle.rfb_wire.specs.Handshake.{said_to_viewer}
 use Rattle.rfb_wire.specs.Message.{IsOrLoses, FeedsOrLoses, viewer_form}
 use Rattle.roles.specs.declared.role.Role.{Role}
 use Rattle.tiles.specs.Have.{SentTiles, HaveStands}
@@ -16,14 +19,15 @@ use Rattle.reflect_core.specs.declared.cut.Cut.{Cut}
 use Rattle.viewer_session.specs.FirstPath.{first_path}
 use Rattle.viewer_session.specs.RawUpdate.{Waiting}
 use Rattle.viewer_session.specs.Record.{Entry, Took, Saw, events, format_of, choice_of}
-use Rattle.viewer_session.specs.Viewer.{Setup, Viewer, served, after_cut}
+use Rattle.viewer_session.specs.Viewer.{Setup, Viewer, served, out_bytes, new_viewer, after_bytes, after_cut}
 
--- The size of the screen, the viewer's role, what has come of its next message, the pixel format that holds, what it has asked for, what it has of each
+-- The size of the screen, the viewer's role, its hello where it has one, what has come of its next message, the pixel format that holds, what it has asked for, what it has of each
 -- tile, and the bytes for it that aren't sent yet.
 pub record State : Type 0 where
   pub width : ℕ
   pub height : ℕ
   pub role : Role
+  pub greeting : Option Greeting
   pub reader : ClientReader
   pub format : PixelFormat
   pub asked : Wanted
@@ -35,26 +39,69 @@ pub record IsOneTile (w h : ℕ) : Type 0 where
   pub wide : (1 ≤ w) × (w ≤ 16)
   pub high : (1 ≤ h) × (h ≤ 16)
 
--- All parts of a session are of the screen's size, and no whole message waits in its reader.
-pub record IsSound (w h : ℕ) (reader : ClientReader) (asked : Wanted) (have : SentTiles) (cut : Cut) (out : Waiting) : Type 0 where
+-- How the hello goes on. A session that begins after it has none, and takes it as done.
+abbrev pub hello_of : Option Greeting → Reading (Unit {0})
+hello_of None = Done tt
+hello_of (Some greeting) = handshake.ahead greeting
+
+-- While more of a hello is to come, all that is to be said by now was put out, and nothing else.
+pub record IsSaid (greeting : Greeting) (out : Waiting) : Type 0 where
+  pub said : greeting.sent ≡ length (said_to_viewer greeting.w greeting.h greeting.name (length greeting.begun))
+  pub filled : out.filled ≤ greeting.sent
+
+pub record HasRoom (greeting : Greeting) (out : Waiting) : Type 0 where
+  pub short : length greeting.name ≤ 255
+  pub room : 297 ≤ out.room
+  pub said : wants_more (handshake.ahead greeting) ≡ true → IsSaid greeting out
+
+abbrev pub IsGreeting : Option Greeting → Waiting → Type 0
+IsGreeting None out = Unit {0}
+IsGreeting (Some greeting) out = HasRoom greeting out
+
+-- All parts of a session are of the screen's size, no whole message waits in its reader, which no byte reaches before the hello is done, and
+-- there is room for hello and answers.
+pub record IsSound (w h : ℕ) (greeting : Option Greeting) (reader : ClientReader) (asked : Wanted) (have : SentTiles) (cut : Cut) (out : Waiting) : Type 0 where
   pub one : IsOneTile w h
   pub taken : whole_of (ahead reader) ≡ None
+  pub fresh : is_some (whole_of (hello_of greeting)) ≡ false → fault_of (ahead reader) ≡ None
   pub asked_size : (asked.width ≡ w) × (asked.height ≡ h)
   pub have_size : (have.width ≡ w) × (have.height ≡ h)
   pub cut_size : (cut.width ≡ w) × (cut.height ≡ h)
-  pub room : out.room ≡ 16 + 4 * (w * h)
+  pub room : 16 + 4 * (w * h) ≤ out.room
+  pub greets : IsGreeting greeting out
 
--- The fault of the viewer's bytes, if there is one.
+-- The fault of the hello, and of all of the viewer's bytes, if there is one.
+abbrev pub hello_fault : State → Option Fault
+hello_fault st = fault_of (hello_of st.greeting)
+
 abbrev pub fault_in : State → Option Fault
-fault_in st = fault_of (ahead st.reader)
+fault_in st = if is_some (hello_fault st) then hello_fault st else fault_of (ahead st.reader)
 
--- It may look: all bytes were sent, and there is no fault.
+-- The hello is done.
+abbrev pub is_greeted : State → Bool
+is_greeted st = is_some (whole_of (hello_of st.greeting))
+
+-- It may look: all bytes were sent, the hello is done, and there is no fault.
 abbrev pub is_ready : State → Bool
-is_ready st = (length st.unsent == 0) && is_none (fault_in st)
+is_ready st = (length st.unsent == 0) && (is_greeted st && is_none (fault_in st))
 
--- A viewer with no hello to read, of which no byte waits.
+-- A viewer of which no byte waits.
 abbrev pub at_rest : Viewer → Viewer
-at_rest p = record p { greet = false; hello = Done tt; unread = []; lost = []; waiting = None }
+at_rest p = record p { unread = []; lost = []; waiting = None }
+
+-- The hello of the session is the viewer's: its screen and name, and how it goes on. While more of it is to come so many bytes
+-- were taken, and no answer is begun.
+pub record GreetsAs (s : Setup) (greeting : Greeting) (greet : Bool) (hello : Reading (Unit {0})) (said : ℕ) (said_after : List ℕ) : Type 0 where
+  pub w : greeting.w ≡ s.w
+  pub h : greeting.h ≡ s.h
+  pub name : greeting.name ≡ s.name
+  pub greets : greet ≡ true
+  pub goes_on : hello ≡ handshake.ahead greeting
+  pub taken : wants_more hello ≡ true → (said ≡ length greeting.begun) × (said_after ≡ [])
+
+abbrev pub Greets : Setup → Option Greeting → Bool → Reading (Unit {0}) → ℕ → List ℕ → Type 0
+Greets s None greet hello said said_after = (greet ≡ false) × (hello ≡ Done tt)
+Greets s (Some greeting) greet hello said said_after = GreetsAs s greeting greet hello said said_after
 
 -- What the state says of a record: the latest entry stands first.
 pub record Keeps (w h : ℕ) (st : State) (entries : List Entry) : Type 0 where
@@ -70,14 +117,20 @@ pub record Stands (s : Setup) (st : State) (p : Viewer) : Type 0 where
   pub extent : s.extent ≡ first_path s.extent.from_host
   pub role : p.role ≡ st.role
   pub rests : p ≡ at_rest p
+  pub greets : Greets s st.greeting p.greet p.hello p.said p.said_after
   -- a reader that was refused memory reads a text as one that is lost; no whole message waits
   pub reading : IsOrLoses (ahead st.reader) p.reading
   pub taken : whole_of p.reading ≡ None
   pub keeps : Keeps s.w s.h st p.entries
-  pub written : p.written ≤ length p.said_after
-  pub unsent : st.unsent ≡ drop p.written p.said_after
+  pub written : p.written ≤ length (out_bytes s p)
+  pub unsent : st.unsent ≡ drop p.written (out_bytes s p)
 
 -- ---- what the calls do
+
+-- Before any byte of a viewer: what was said so far waits to be sent, and is all that the viewer is sent by then.
+pub record IsBegun (s : Setup) (role : Role) (greet : Bool) (greeting : Option Greeting) (out : Waiting) : Type 0 where
+  pub greets : Greets s greeting greet (new_viewer s role greet).hello 0 []
+  pub unsent : out.unsent ≡ out_bytes s (new_viewer s role greet)
 
 -- The size of the screen and the role stay.
 pub record IsSameSession (before now : State) : Type 0 where
@@ -89,6 +142,22 @@ pub record IsSameSession (before now : State) : Type 0 where
 abbrev pub FedAnswer : State → List ℕ → Result ℕ Fault → Type 0
 FedAnswer st piece (Ok used) = (used ≡ length piece) × (fault_in st ≡ None)
 FedAnswer st piece (Err fault) = fault_in st ≡ Some fault
+
+-- Of the piece these bytes are left, and this viewer, for which the state stands, is to take them.
+pub record HasFed (s : Setup) (p : Viewer) (now : State) (piece left : List ℕ) : Type 0 where
+  pub viewer : Viewer
+  pub stands : Stands s now viewer
+  pub rest : after_bytes s p piece ≡ after_bytes s viewer left
+
+abbrev pub IsFeeding : State → State → List ℕ → List ℕ → Type 0
+IsFeeding old now piece left = (s : Setup) (p : Viewer) → Stands s old p → HasFed s p now piece left
+
+-- Bytes of the hello were used: all of the piece, unless it is done.
+pub record ReadsHello (old new : State) (piece : List ℕ) (used : ℕ) : Type 0 where
+  pub fed : IsFeeding old new piece (drop used piece)
+  pub within : used ≤ length piece
+  pub fine : hello_fault new ≡ None
+  pub all : is_greeted new ≡ false → used ≡ length piece
 
 -- A whole message was taken from the reader, or there was none: how it goes on by the bytes, and then with that message taken.
 pub record ReadsOne (old new : State) (piece : List ℕ) (used : ℕ) (message : Option ClientMessage) : Type 0 where

@@ -1,6 +1,6 @@
 //! Bytes that wait to be sent.
 
-ghost use Rattle.std.specs.Prelude.{◌≡◌, ℕ, ◌+◌, ◌-◌, ◌*◌, ◌≤◌, ◌^◌, ◌<◌, [], drop, length, IfOk, IfErr};
+ghost use Rattle.std.specs.Prelude.{◌≡◌, ℕ, ◌+◌, ◌-◌, ◌*◌, ◌≤◌, ◌^◌, ◌<◌, [], ◌++◌, drop, length, IfOk, IfErr};
 ghost use Rattle.pixel_format.specs.declared.fault.Fault.TheVariants.{Memory};
 ghost use Rattle.raster.specs.Screen.{IsWithin, value_at};
 ghost use Rattle.viewer_session.specs.RawUpdate.{raw_update};
@@ -12,8 +12,8 @@ use reflect_core::Cut;
 use std::alloc::Global;
 use std::marker::Model;
 
-/// The bytes of an update that wait to be sent, in room that was reserved for them. Contracts see how much room there is, and the
-/// bytes that aren't sent yet.
+/// Bytes that wait to be sent, in room that was reserved for them. Contracts see how much room there is and how much of it is
+/// taken, and the bytes that aren't sent yet.
 #[derive(Drop)]
 pub struct Outbox {
     bytes: Vec<u8>,
@@ -27,7 +27,7 @@ impl Model for Outbox {
 
     ghost Value = { Waiting };
 
-    ghost view = { λ o. record { room = length o.bytes.items; unsent = drop o.sent (take o.filled o.bytes.items) } };
+    ghost view = { λ o. record { room = length o.bytes.items; filled = o.filled; unsent = drop o.sent (take o.filled o.bytes.items) } };
 
     ghost invariant = { λ o. (o.sent ≤ o.filled) × (o.filled ≤ length o.bytes.items) };
 }
@@ -35,7 +35,7 @@ impl Model for Outbox {
 impl Outbox {
     /// An empty one with room for so many bytes. It fails where memory is refused (`Memory`).
     pub fn new(alloc: Global, room: usize) -> Result<Self, Fault>
-        ensures ok { IfOk result (λ outbox. (outbox.room ≡ room) × (outbox.unsent ≡ [])) }
+        ensures ok { IfOk result (λ outbox. (outbox.room ≡ room) × (outbox.filled ≡ 0) × (outbox.unsent ≡ [])) }
         ensures err { IfErr result (λ fault. fault ≡ Memory) }
     {
         let mut bytes = Vec::new(alloc);
@@ -59,10 +59,22 @@ impl Outbox {
     /// So many of them, from the first on, were sent.
     pub fn sent(&mut self, count: usize)
         requires { count ≤ length self.old.unsent }
-        ensures room { self.new.room ≡ self.old.room }
+        ensures room { (self.new.room ≡ self.old.room) × (self.new.filled ≡ self.old.filled) }
         ensures unsent { self.new.unsent ≡ drop count self.old.unsent }
     {
         self.sent += count;
+    }
+
+    /// Further bytes wait, behind those that waited before.
+    pub fn append(&mut self, bytes: &[u8])
+        requires { self.old.filled + length bytes.now ≤ self.old.room }
+        ensures room { self.new.room ≡ self.old.room }
+        ensures filled { self.new.filled ≡ self.old.filled + length bytes.now }
+        ensures unsent { self.new.unsent ≡ self.old.unsent ++ bytes.now }
+    {
+        let end = self.filled + bytes.len();
+        self.bytes.as_mut_slice()[self.filled..end].copy_from_slice(bytes);
+        self.filled = end;
     }
 
     /// An update of the area's colours in a pixel format waits from now on, and nothing else.

@@ -7,4 +7,4 @@ use Rattle.reflect_world.proofs.world.World.new.Goals as goal
 pub invariant_of-result : goal.invariant_of-result
 invariant_of-result c =
     subst (λ (entries : List Entry). IsKept (record { width = c.args.width; height = c.args.height; name = c.in-Ok.name.items; room = c.args.room; steps = map entry_of entries; is_refused = false }) c.in_ok-new.field-0) (sym c.new.ensures.items)
-    (record { reached = c.in_ok-new.ensures.ok (setup_of (record { width = c.args.width; height = c.args.height; name = c.in-Ok.name.items; room = c.args.room; steps = []; is_refused = false })) refl refl refl })
+    (record { named = rw c.in-Ok.ensures.items c.requires.name; reached = c.in_ok-new.ensures.ok (setup_of (record { width = c.args.width; height = c.args.height; name = c.in-Ok.name.items; room = c.args.room; steps = []; is_refused = false })) refl refl refl })

@@ -8,4 +8,4 @@ use Rattle.reflect_world.proofs.world.World.step.Goals as goal
 pub invariant_of-self-in-Ok-take : goal.invariant_of-self-in-Ok-take
 invariant_of-self-in-Ok-take c =
     kept_pushed (record { width = c.self.inside.width; height = c.self.inside.height; name = c.self.inside.name.items; room = c.self.inside.room; steps = []; is_refused = c.self.inside.is_refused }) c.self.inside.schedule.items c.push.new.self.items (Played c.in-Ok.entry) c.self.inside.scene c.take.new.self c.self.invariant c.in-Ok-push.ensures.items
-    (subst (λ (e : Step). TakesStep e c.self.inside.scene c.take.new.self) (sym c.in-Ok.ensures) c.in-Ok-take.ensures.ok)
+    (λ s w named. subst (λ (e : Step). TakesStep e c.self.inside.scene c.take.new.self) (sym c.in-Ok.ensures) c.in-Ok-take.ensures.ok s w)

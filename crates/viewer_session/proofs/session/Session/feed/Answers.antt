@@ -1,47 +1,33 @@
-use Rattle.std.proofs.Common.{◌≡◌, ℕ, List, length, Option, Some, None, sym, subst, ◌∙◌}
-use Rattle.std.specs.Prelude.{option_map}
-use Rattle.std.proofs.lemmas.Bool.{eqb-true}
-use Rattle.rfb_wire.specs.declared.message.ClientMessage as declared
-use Rattle.rfb_wire.specs.Message.{message_of}
-use Rattle.viewer_session.specs.Session.{State, IsSameSession, ReadsOne}
-use Rattle.viewer_session.proofs.FeedLaws.{IsFeeding, feeding_begins, feeding_goes_on, feeding_takes, feeding_ends, feeding_faults, same_session, same_read, same_on}
+use Rattle.std.proofs.Common.{◌≡◌, Option, None, refl, sym, ap, subst, ◌∙◌}
+use Rattle.pixel_format.specs.Reading.{fault_of}
+use Rattle.rfb_wire.specs.Greeting.{Greeting}
+use Rattle.viewer_session.specs.Session.{State, Stands, fault_in, hello_of, without_look}
+use Rattle.viewer_session.specs.Viewer.{after_bytes}
+use Rattle.viewer_session.proofs.FeedLaws.{fed_hello, fed_through, no_fault_at}
 use Rattle.viewer_session.proofs.session.Session.feed.Goals as goal
-use Rattle.viewer_session.proofs.session.Session.feed.Goals.{in-Some, in-None}
+use Rattle.viewer_session.proofs.session.Session.feed.Goals.{then-is_greeted+in_ok-read_messages, else-is_greeted}
 
-pub messages-init : goal.messages-init
-messages-init c = record { fed = feeding_begins c.args.self.now c.args.piece.now; same = same_session c.args.self.now }
+pub returns-in_err-read_messages-clause-stands : goal.returns-in_err-read_messages-clause-stands
+returns-in_err-read_messages-clause-stands c =
+    fed_through c.args.self.now c.read_hello.new.self c.read_messages.new.self c.args.piece.now c.split_at.result.1.now c.in_ok-used.used c.in_ok-used.ensures.ok.fed c.split_at.ensures.back c.read_messages.ensures.stands
 
-pub returns-in_err-used-clause-stands : goal.returns-in_err-used-clause-stands
-returns-in_err-used-clause-stands c =
-    feeding_faults c.args.self.now c.messages.self c.read_one.new.self c.args.piece.now c.messages.left.now c.in_err-used.field-0.0 c.messages.invariant.fed c.in_err-used.ensures.others c.in_err-used.ensures.err
+pub returns-clause-stands : goal.returns-clause-stands
+returns-clause-stands c = λ s p k.
+    let P : State → Type 0 = λ st. Stands s st (after_bytes s (without_look p) c.args.piece.now) in
+    elim c.if-is_greeted.branch [
+      | then-is_greeted+in_ok-read_messages w ↦ subst P (sym w.self-is)
+          (fed_through c.args.self.now c.read_hello.new.self w.read_messages.new.self c.args.piece.now w.split_at.result.1.now c.in_ok-used.used c.in_ok-used.ensures.ok.fed w.split_at.ensures.back w.read_messages.ensures.stands s p k)
+      | else-is_greeted w ↦ subst P (sym w.self-is)
+          (fed_hello c.args.self.now c.read_hello.new.self c.args.piece.now c.in_ok-used.used c.in_ok-used.ensures.ok.fed (c.in_ok-used.ensures.ok.all (sym c.is_greeted.ensures.value ∙ w.if-is_greeted.false)) s p k)
+    ]
 
--- What was read whole.
-read : (old new : State) (piece : List ℕ) (used : ℕ) (m n : Option declared.ClientMessage) → m ≡ n → ReadsOne old new piece used (option_map message_of m) → ReadsOne old new piece used (option_map message_of n)
-read old new piece used m n e one = subst (λ (t : Option declared.ClientMessage). ReadsOne old new piece used (option_map message_of t)) e one
-
-pub messages-preserved : goal.messages-preserved
-messages-preserved c =
-    let P : State → Type 0 = λ st. IsFeeding c.args.self.now st c.args.piece.now c.split_at.result.1.now in
-    let read_same : IsSameSession c.args.self.now c.read_one.new.self = same_read c.args.self.now c.messages.self c.read_one.new.self c.messages.invariant.same c.in_ok-used.ensures.others in
-    let fed : P c.match-message.self =
-    elim c.match-message.branch [
-      | in-Some w ↦ subst P (sym w.self-is) (rw c.split_at.ensures.back (feeding_takes c.args.self.now c.messages.self c.read_one.new.self w.take_message.new.self c.args.piece.now c.messages.left.now c.in_ok-used.used (message_of w.in-Some.message) c.messages.invariant.fed c.in_ok-used.ensures.others (read c.messages.self c.read_one.new.self c.messages.left.now c.in_ok-used.used c.in_ok-used.message (Some w.in-Some.message) w.in-Some.is c.in_ok-used.ensures.ok.0) w.take_message.ensures.stands))
-      | in-None w ↦ subst P (sym w.self-is) (rw c.split_at.ensures.back (feeding_goes_on c.args.self.now c.messages.self c.read_one.new.self c.args.piece.now c.messages.left.now c.in_ok-used.used c.messages.invariant.fed c.in_ok-used.ensures.others (read c.messages.self c.read_one.new.self c.messages.left.now c.in_ok-used.used c.in_ok-used.message None w.in-None.is c.in_ok-used.ensures.ok.0)))
+pub returns-clause-answer : goal.returns-clause-answer
+returns-clause-answer c =
+    let P : State → Type 0 = λ st. fault_in st ≡ None in
+    let fine : P c.if-is_greeted.self =
+    elim c.if-is_greeted.branch [
+      | then-is_greeted+in_ok-read_messages w ↦ subst P (sym w.self-is)
+          (no_fault_at w.read_messages.new.self (ap (λ (o : Option Greeting). fault_of (hello_of o)) w.read_messages.ensures.greeting ∙ c.in_ok-used.ensures.ok.fine) w.in_ok-read_messages.ensures.ok)
+      | else-is_greeted w ↦ subst P (sym w.self-is) (no_fault_at c.read_hello.new.self c.in_ok-used.ensures.ok.fine (c.is_greeted.ensures.fresh (sym c.is_greeted.ensures.value ∙ w.if-is_greeted.false)))
     ] in
-    let same : IsSameSession c.args.self.now c.match-message.self =
-    elim c.match-message.branch [
-      | in-Some w ↦ subst (λ (st : State). IsSameSession c.args.self.now st) (sym w.self-is) (same_on c.args.self.now c.read_one.new.self w.take_message.new.self read_same w.take_message.ensures.same)
-      | in-None w ↦ subst (λ (st : State). IsSameSession c.args.self.now st) (sym w.self-is) read_same
-    ] in
-    record { fed = fed; same = same }
-
-pub returns-then-is_empty-clause-stands : goal.returns-then-is_empty-clause-stands
-returns-then-is_empty-clause-stands c =
-    let P : State → Type 0 = λ st. IsFeeding c.args.self.now st c.args.piece.now c.split_at.result.1.now in
-    let fed : P c.match-message.self =
-    elim c.match-message.branch [
-      | in-Some w ↦ subst P (sym w.self-is) (rw c.split_at.ensures.back (feeding_takes c.args.self.now c.messages.self c.read_one.new.self w.take_message.new.self c.args.piece.now c.messages.left.now c.in_ok-used.used (message_of w.in-Some.message) c.messages.invariant.fed c.in_ok-used.ensures.others (read c.messages.self c.read_one.new.self c.messages.left.now c.in_ok-used.used c.in_ok-used.message (Some w.in-Some.message) w.in-Some.is c.in_ok-used.ensures.ok.0) w.take_message.ensures.stands))
-      | in-None w ↦ subst P (sym w.self-is) (rw c.split_at.ensures.back (feeding_goes_on c.args.self.now c.messages.self c.read_one.new.self c.args.piece.now c.messages.left.now c.in_ok-used.used c.messages.invariant.fed c.in_ok-used.ensures.others (read c.messages.self c.read_one.new.self c.messages.left.now c.in_ok-used.used c.in_ok-used.message None w.in-None.is c.in_ok-used.ensures.ok.0)))
-    ] in
-    let none : length c.split_at.result.1.now ≡ 0 = eqb-true (length c.split_at.result.1.now) 0 (sym c.is_empty.ensures ∙ c.if-is_empty.true) in
-    feeding_ends c.args.self.now c.match-message.self c.args.piece.now c.split_at.result.1.now fed none
+    (refl, fine)

@@ -1,0 +1,9 @@
+use Rattle.std.proofs.Common.{length, ◌-◌, ◌≤◌, drop}
+use Rattle.viewer_session.specs.Session.{IsFeeding, IsSameSession}
+use Rattle.viewer_session.proofs.session.Session.read_hello.Given as goal
+
+abbrev pub invariant-loop-used : goal.invariant-loop-used
+invariant-loop-used l = record { within : l.used ≤ length l.piece; fed : IsFeeding l.fn.self l.self l.piece (drop l.used l.piece); same : IsSameSession l.fn.self l.self }
+
+abbrev pub decreases-loop-used : goal.decreases-loop-used
+decreases-loop-used l = length l.piece - l.used
