@@ -1,9 +1,9 @@
 -- What the reflector knows of a tile before it writes it.
-use Rattle.std.specs.Prelude.{◌≡◌, ℕ, ◌+◌, ◌*◌, ◌<◌, ◌≤◌, Bool, true, ◌==◌, if◌then◌else◌, List, [], ◌∷◌, length, slice_index, Option, Some, None}
+use Rattle.std.specs.Prelude.{◌≡◌, ℕ, ◌+◌, ◌*◌, ◌<◌, ◌≤◌, Bool, true, ◌==◌, if◌then◌else◌, List, [], ◌∷◌, length, slice_index, Some, None}
 use Rattle.std.specs.List.{list_all}
 use Rattle.pixel_format.specs.PixelFormat.{PixelFormat, pixel_len}
 use Rattle.raster.specs.Screen.{Canvas, values_of}
-use Rattle.raster.specs.Encoding.{Subrect, Carried, nothing_carried, raw_bytes, unless_said, drawn_bytes, tile_bytes}
+use Rattle.raster.specs.Encoding.{Subrect, Carried, nothing_carried, runs, raw_bytes, unless_said, drawn_bytes, tile_bytes}
 use Rattle.hextile_codec.specs.declared.runs.Run.{Run}
 use Rattle.hextile_codec.specs.declared.kind.Kind.{Kind}
 use Rattle.hextile_codec.specs.declared.kind.Kind.TheVariants.{Raw, Plain, TwoColours, Coloured}
@@ -53,11 +53,11 @@ leaves_of Plain background = record { background = Some background; foreground =
 leaves_of (TwoColours foreground) background = record { background = Some background; foreground = Some foreground }
 leaves_of Coloured background = record { background = Some background; foreground = None }
 
--- The bytes of a tile are these, its pixels or its drawing.
+-- The bytes of a tile are these, its pixels or the drawing of its runs.
 abbrev pub IsWrittenAs : PixelFormat → Carried → ℕ → ℕ → Canvas → List Subrect → ℕ → Kind → List ℕ → Type 0
 IsWrittenAs format before w h canvas found background Raw bytes = bytes ≡ 1 ∷ raw_bytes format (values_of w h canvas)
 IsWrittenAs format before w h canvas found background kind bytes =
-    (bytes ≡ drawn_bytes format before background found) × (kind ≡ kind_of found)
+    (bytes ≡ drawn_bytes format before background found) × (kind ≡ kind_of found) × (found ≡ runs canvas w h)
 
 -- A choice says how many bytes a tile has, what it leaves, and what they are.
 pub record IsChosen (format : PixelFormat) (before : Carried) (w h : ℕ) (canvas : Canvas) (found : List Subrect) (choice : Choice) : Type 0 where

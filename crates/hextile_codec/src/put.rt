@@ -27,7 +27,13 @@ const SUBRECTS_COLOURED: u8 = 16;
 const PLACE_LEN: usize = 2;
 
 /// Puts a colour from index `used` of `out` on, unless the tile before has it, and answers where it ends.
-fn put_colour(format: &Format, before: Option<u32>, value: u32, out: &mut [u8], used: usize) -> usize
+fn put_colour(
+    format: &Format,
+    before: Option<u32>,
+    value: u32,
+    out: &mut [u8],
+    used: usize,
+) -> usize
     requires { used + length (unless_said format.now before value) ≤ length out.old }
     ensures end { result ≡ used + length (unless_said format.now before value) }
     ensures bytes { take result out.new ≡ take used out.old ++ unless_said format.now before value }
@@ -59,7 +65,7 @@ fn put_byte(byte: u8, out: &mut [u8], used: usize) -> usize
 
 /// Puts the places of runs from index `used` of `out` on.
 fn put_places(runs: &[Run], out: &mut [u8], used: usize)
-    requires small { All runs.now IsSmall }
+    requires small { All IsSmall runs.now }
     requires room { used + 2 * length runs.now ≤ length out.old }
     ensures { take (used + 2 * length runs.now) out.new ≡ take used out.old ++ flat_map place_bytes (map subrect_of runs.now) }
 {
@@ -72,7 +78,7 @@ fn put_places(runs: &[Run], out: &mut [u8], used: usize)
 
 /// Puts runs with their values from index `used` of `out` on.
 fn put_coloured_runs(format: &Format, runs: &[Run], out: &mut [u8], used: usize)
-    requires small { All runs.now IsSmall }
+    requires small { All IsSmall runs.now }
     requires room { used + (pixel_len format.now + 2) * length runs.now ≤ length out.old }
     ensures { take (used + (pixel_len format.now + 2) * length runs.now) out.new ≡ take used out.old ++ flat_map (coloured_bytes format.now) (map subrect_of runs.now) }
 {
@@ -106,7 +112,7 @@ fn put_two_colours(
     out: &mut [u8],
     used: usize,
 )
-    requires small { All runs.now IsSmall }
+    requires small { All IsSmall runs.now }
     requires few { length runs.now ≤ 255 }
     requires is { kind_of (map subrect_of runs.now) ≡ Kind.TwoColours foreground }
     requires room { used + drawn_len format.now (carried_of said.now) background (Kind.TwoColours foreground) (length runs.now) ≤ length out.old }
@@ -134,7 +140,7 @@ fn put_coloured(
     out: &mut [u8],
     used: usize,
 )
-    requires small { All runs.now IsSmall }
+    requires small { All IsSmall runs.now }
     requires few { length runs.now ≤ 255 }
     requires is { kind_of (map subrect_of runs.now) ≡ Kind.Coloured }
     requires room { used + drawn_len format.now (carried_of said.now) background Kind.Coloured (length runs.now) ≤ length out.old }
@@ -156,7 +162,7 @@ pub fn put_drawn(
     out: &mut [u8],
     used: usize,
 )
-    requires small { All runs.now IsSmall }
+    requires small { All IsSmall runs.now }
     requires few { length runs.now ≤ 255 }
     requires is { choice.now.kind ≡ kind_of (map subrect_of runs.now) }
     requires room { used + drawn_len format.now (carried_of said.now) choice.now.background choice.now.kind (length runs.now) ≤ length out.old }
@@ -190,14 +196,7 @@ fn put_row(format: &Format, row: &[u32], out: &mut [u8], used: usize) -> usize
 }
 
 /// Puts a tile's pixels, from index `used` of `out` on.
-pub fn put_raw(
-    format: &Format,
-    values: &[u32],
-    w: usize,
-    tile: &Rect,
-    out: &mut [u8],
-    used: usize,
-)
+pub fn put_raw(format: &Format, values: &[u32], w: usize, tile: &Rect, out: &mut [u8], used: usize)
     requires w_some { 0 < tile.now.w }
     requires w_most { tile.now.w ≤ TILE_SIDE }
     requires h_most { tile.now.h ≤ TILE_SIDE }

@@ -68,27 +68,32 @@ fn add_row(row: &[u32], y: usize, background: u32, runs: &mut Runs)
     }
 }
 
-/// Finds the runs of a tile other than its background, the first pixel's value, and puts them into `runs`.
+/// Finds the runs of a tile other than its background, the first pixel's value, and puts them into `found`.
 ///
-/// `false` as soon as there are `enough` of them, of more values than one; `runs` then holds the first of them.
-pub fn find_runs(values: &[u32], w: usize, tile: &Rect, enough: usize, runs: &mut Runs) -> bool
+/// `false` as soon as there are `enough` of them, of more values than one; `found` then holds the first of them.
+pub fn find_runs(values: &[u32], w: usize, tile: &Rect, enough: usize, found: &mut Runs) -> bool
     requires w_some { 0 < tile.now.w }
     requires w_most { tile.now.w ≤ TILE_SIDE }
     requires h_some { 0 < tile.now.h }
     requires h_most { tile.now.h ≤ TILE_SIDE }
     requires across { tile.now.x + tile.now.w ≤ w }
     requires down { (tile.now.y + tile.now.h) * w ≤ length values.now }
-    ensures found { let all = runs (part_of tile.now (value_at w values.now)) tile.now.w tile.now.h in IsTrue result → map subrect_of runs.new.items ≡ all }
+    ensures all { let all = runs (part_of tile.now (value_at w values.now)) tile.now.w tile.now.h in IsTrue result → map subrect_of found.new.items ≡ all }
     ensures many { let all = runs (part_of tile.now (value_at w values.now)) tile.now.w tile.now.h in result ≡ false → enough ≤ length all }
     ensures mixed { let all = runs (part_of tile.now (value_at w values.now)) tile.now.w tile.now.h in result ≡ false → has_one_value all ≡ false }
 {
-    runs.clear();
+    found.clear();
     let first = tile.y as usize * w + tile.x as usize;
     let background = values[first];
     for y in 0..tile.h as usize {
         let start = first + y * w;
-        add_row(&values[start..start + tile.w as usize], y, background, runs);
-        if runs.len() >= enough && !has_one_value(runs.as_slice()) {
+        add_row(
+            &values[start..start + tile.w as usize],
+            y,
+            background,
+            found,
+        );
+        if found.len() >= enough && !has_one_value(found.as_slice()) {
             return false;
         }
     }

@@ -75,26 +75,3 @@ pub fn encode(values: &[u32], w: u64, h: u64, format: &Format, out: &mut [u8]) -
     }
     put_tiles(values, w, h, format, &mut out[..raw])
 }
-
-#[cfg(test)]
-mod tests {
-    use super::*;
-
-    const RED: u32 = 0xFF0000;
-
-    const BLUE: u32 = 0x0000FF;
-
-    #[test]
-    fn vectors(rt: HostRuntime) {
-        let values = [RED, BLUE, BLUE, BLUE, BLUE, BLUE, BLUE, BLUE];
-        let mut out = [0u8; 32];
-        assert_eq!(rt; encode(&values, 8, 1, &Format::HOST, &mut out), Some(12));
-        let wanted = [0x0E, 0, 0, 0xFF, 0, 0xFF, 0, 0, 0, 1, 0x10, 0x60];
-        assert_eq!(rt; &out[..12], wanted.as_slice());
-        let mut out = [0u8; 68];
-        assert_eq!(rt; encode(&[RED; 17], 17, 1, &Format::HOST, &mut out), Some(6));
-        let wanted = [2, 0, 0, 0xFF, 0, 0];
-        assert_eq!(rt; &out[..6], wanted.as_slice());
-        assert_eq!(rt; encode(&[RED], 1, 1, &Format::HOST, &mut out), None);
-    }
-}
