@@ -3,3 +3,5 @@
 
 #[cfg(test)]
 mod hextile_reading;
+#[cfg(test)]
+mod hextile_writing;

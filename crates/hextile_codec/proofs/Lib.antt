@@ -12,3 +12,9 @@ pub mod SubrectRead
 pub mod Taking
 pub mod TileDrawn
 pub mod TilesShown
+pub mod Puts
+pub mod RowRuns
+pub mod TileRuns
+pub mod Drawings
+pub mod RawRows
+pub mod Tiles

@@ -1,12 +1,18 @@
-//! Hextile (RFC 6143, section 7.7.4), over pixel values of any accepted format.
+//! Hextile (RFC 6143, section 7.7.4), both ways, over pixel values of any accepted format.
 //!
 //! A rectangle is cut into tiles of 16 by 16. Each has a mask that says what follows: its pixels as in Raw, or a
 //! background and subrectangles painted over it in order. A colour that a tile leaves unsaid is the last that the
-//! rectangle specified. Nothing here takes memory or a handle.
+//! rectangle specified. What is written is one spelling of our own: the tile's first pixel as background, the runs of
+//! each row, and Raw where that has no more bytes. Nothing here takes memory or a handle.
 #![tactic(auto)]
 
 mod drawing;
+mod kind;
+mod put;
 mod reading;
+mod runs;
 mod stage;
+mod writing;
 
 pub use reading::Reader;
+pub use writing::encode;

@@ -1,0 +1,122 @@
+-- The runs of a tile's row, found in the row's own values.
+use Rattle.std.proofs.Common.{◌≡◌, ℕ, zero, suc, Bool, true, false, cond, List, [], ◌∷◌, ◌++◌, length, map, take, drop, get_or, refl, sym, ap, ◌∙◌, ◌+◌, ◌-◌, ◌<◌, ◌≤◌, append_assoc, arith}
+use Rattle.std.specs.Prelude.{filter, ◌==◌, take_while}
+use Rattle.std.specs.List.{range_with_len}
+use Rattle.std.proofs.lemmas.List.{length-drop, get_or-drop, take_all, append-nil, map-append}
+use Rattle.std.proofs.lemmas.List.Sums.{take_while-cons}
+use Rattle.raster.specs.Screen.{Canvas}
+use Rattle.raster.specs.Encoding.{Subrect, begins_run, run_from, runs_of_row}
+use Rattle.raster.proofs.Runs.{run_some, run_within}
+use Rattle.raster.proofs.RowScan.{IsFresh, runs_behind, runs_behind_none, runs_behind_all, front_of_list, fresh_behind, found_other, found_background}
+use Rattle.hextile_codec.specs.declared.runs.Run.{Run}
+use Rattle.hextile_codec.specs.Kinds.{subrect_of, row_shows}
+
+-- The run at x, found in what is left of the row.
+pub run_at : (row : List ℕ) (y x : ℕ) → x < length row
+    → length (take_while (λ v. v == get_or row x 0) (take (length row - x) (drop x row))) ≡ (run_from (row_shows row) (length row) y x).area.w
+run_at row y x lx =
+    let left : length (drop x row) ≡ length row - x = length-drop x row in
+    ap (λ t. length (take_while (λ v. v == get_or row x 0) t)) (take_all (length row - x) (drop x row) (omega (arith, left)))
+    ∙ (front_of_list (λ k. get_or row k 0) (get_or row x 0) x (drop x row) (λ k lt. get_or-drop x row k 0)
+    ∙ ap (λ n. length (take_while (λ k. get_or row k 0 == get_or row x 0) (range_with_len x n))) left)
+
+-- ---- runs added one after another
+
+-- With the runs behind x those so far are all.
+abbrev pub AreSoFar : List Run → List Run → List ℕ → ℕ → ℕ → ℕ → Type 0
+AreSoFar before now row background y x =
+    map subrect_of now ++ runs_behind (row_shows row) background (length row) y x ≡ map subrect_of before ++ runs_of_row (row_shows row) background (length row) y
+
+pub none_added : (before : List Run) (row : List ℕ) (background y : ℕ) → AreSoFar before before row background y 0
+none_added before row background y = ap (λ t. map subrect_of before ++ t) (sym (runs_behind_none (row_shows row) background (length row) y))
+
+pub all_added : (before now : List Run) (row : List ℕ) (background y x : ℕ) → length row ≤ x → AreSoFar before now row background y x
+    → map subrect_of now ≡ map subrect_of before ++ runs_of_row (row_shows row) background (length row) y
+all_added before now row background y x le so =
+    sym (append-nil (map subrect_of now)) ∙ (ap (λ t. map subrect_of now ++ t) (sym (runs_behind_all (row_shows row) background (length row) y x le)) ∙ so)
+
+subrect_same : (canvas : Canvas) (w y x v len : ℕ) → v ≡ canvas x y → len ≡ (run_from canvas w y x).area.w → subrect_of (record { value = v; x = x; y = y; len = len }) ≡ run_from canvas w y x
+subrect_same canvas w y x v len a b = rw (a, b) refl
+
+pub run_added : (before now : List Run) (row : List ℕ) (background y x len : ℕ) → x < length row → IsFresh (row_shows row) y x → len ≡ (run_from (row_shows row) (length row) y x).area.w
+    → (get_or row x 0 ≡ background → ⊥) → AreSoFar before now row background y x
+    → AreSoFar before (now ++ record { value = get_or row x 0; x = x; y = y; len = len } ∷ []) row background y (x + len)
+run_added before now row background y x len lx fresh long ne so =
+    let c : Canvas = row_shows row in
+    let w : ℕ = length row in
+    let run : Run = record { value = get_or row x 0; x = x; y = y; len = len } in
+    let same : subrect_of run ≡ run_from c w y x = subrect_same c w y x (get_or row x 0) len refl long in
+    let rest : runs_behind c background w y (x + len) ≡ runs_behind c background w y (x + (run_from c w y x).area.w) = ap (λ n. runs_behind c background w y (x + n)) long in
+    ap (λ t. t ++ runs_behind c background w y (x + len)) (map-append subrect_of now (run ∷ []))
+    ∙ (append_assoc (map subrect_of now) (subrect_of run ∷ []) (runs_behind c background w y (x + len))
+    ∙ (ap (λ t. map subrect_of now ++ subrect_of run ∷ t) rest
+    ∙ (ap (λ s. map subrect_of now ++ s ∷ runs_behind c background w y (x + (run_from c w y x).area.w)) same
+    ∙ (ap (λ t. map subrect_of now ++ t) (sym (found_other c background w y x lx fresh ne)) ∙ so))))
+
+pub run_skipped : (before now : List Run) (row : List ℕ) (background y x len : ℕ) → x < length row → IsFresh (row_shows row) y x → len ≡ (run_from (row_shows row) (length row) y x).area.w
+    → get_or row x 0 ≡ background → AreSoFar before now row background y x → AreSoFar before now row background y (x + len)
+run_skipped before now row background y x len lx fresh long e so =
+    let c : Canvas = row_shows row in
+    let w : ℕ = length row in
+    ap (λ n. map subrect_of now ++ runs_behind c background w y (x + n)) long
+    ∙ (ap (λ t. map subrect_of now ++ t) (sym (found_background c background w y x lx fresh e)) ∙ so)
+
+pub fresh_next : (row : List ℕ) (y x len : ℕ) → x < length row → len ≡ (run_from (row_shows row) (length row) y x).area.w → x + len < length row → IsFresh (row_shows row) y (x + len)
+fresh_next row y x len lx long lt =
+    rw long (fresh_behind (row_shows row) (length row) y x lx (omega (arith, long)))
+
+pub run_fits : (row : List ℕ) (y x len : ℕ) → x < length row → len ≡ (run_from (row_shows row) (length row) y x).area.w → (0 < len) × (x + len ≤ length row)
+run_fits row y x len lx long =
+    let a = run_some (row_shows row) (length row) y x lx in
+    let b = run_within (row_shows row) (length row) y x lx in
+    (omega (arith, a, long), omega (arith, b, long))
+
+-- ---- two canvases with the same row
+
+take_while_same : (p q : ℕ → Bool) (a n : ℕ) → ((k : ℕ) → a ≤ k → k < a + n → p k ≡ q k) → take_while p (range_with_len a n) ≡ take_while q (range_with_len a n)
+take_while_same p q a zero f = refl
+take_while_same p q a (suc n) f =
+    let here : p a ≡ q a = f a (omega arith) (omega arith) in
+    let others = take_while_same p q (a + 1) n (λ k lo hi. f k (omega arith) (omega arith)) in
+    take_while-cons p a (range_with_len (a + 1) n)
+    ∙ (ap (λ t. cond (p a) (a ∷ t) []) others ∙ (ap (λ b. cond b (a ∷ take_while q (range_with_len (a + 1) n)) []) here ∙ sym (take_while-cons q a (range_with_len (a + 1) n))))
+
+run_same : (c d : Canvas) (w y z x : ℕ) → x < w → ((k : ℕ) → k < w → c k y ≡ d k z) → length (take_while (λ k. c k y == c x y) (range_with_len x (w - x))) ≡ length (take_while (λ k. d k z == d x z) (range_with_len x (w - x)))
+run_same c d w y z x lx f =
+    ap length (take_while_same (λ k. c k y == c x y) (λ k. d k z == d x z) x (w - x) (λ k lo hi. let a = f k (omega arith) in let b = f x lx in rw (a, b) refl))
+
+-- Lists made of the positions of a row that pass a test.
+picked_same : (p q : ℕ → Bool) (f g : ℕ → Subrect) (a n : ℕ) → ((k : ℕ) → a ≤ k → k < a + n → p k ≡ q k) → ((k : ℕ) → a ≤ k → k < a + n → f k ≡ g k)
+    → map f (filter p (range_with_len a n)) ≡ map g (filter q (range_with_len a n))
+picked_same p q f g a zero e s = refl
+picked_same p q f g a (suc n) e s =
+    let others = picked_same p q f g (a + 1) n (λ k lo hi. e k (omega arith) (omega arith)) (λ k lo hi. s k (omega arith) (omega arith)) in
+    by_head (p a) (q a) a (filter p (range_with_len (a + 1) n)) (filter q (range_with_len (a + 1) n)) (e a (omega arith) (omega arith)) (s a (omega arith) (omega arith)) others
+  where
+    by_head : (b c : Bool) (x : ℕ) (xs ys : List ℕ) → b ≡ c → f x ≡ g x → map f xs ≡ map g ys → map f (cond b (x ∷ xs) xs) ≡ map g (cond c (x ∷ ys) ys)
+    by_head true true x xs ys e s o = rw (s, o) refl
+    by_head false false x xs ys e s o = o
+    by_head true false x xs ys e s o = absurd cc
+    by_head false true x xs ys e s o = absurd cc
+
+begins_same : (c d : Canvas) (background w y : ℕ) → ((k : ℕ) → k < w → c k y ≡ d k y) → (k : ℕ) → k < w → begins_run c background y k ≡ begins_run d background y k
+begins_same c d background w y f k lt =
+    let a = f k lt in
+    let b = f (k - 1) (omega arith) in
+    rw (a, b) refl
+
+abbrev run_of : ℕ → ℕ → ℕ → ℕ → Subrect
+run_of x y value len = record { value = value; area = record { x = x; y = y; w = len; h = 1 } }
+
+by_parts : (x y u v n m : ℕ) → u ≡ v → n ≡ m → run_of x y u n ≡ run_of x y v m
+by_parts x y u v n m e g = rw (e, g) refl
+
+subrects_same : (c d : Canvas) (w y : ℕ) → ((k : ℕ) → k < w → c k y ≡ d k y) → (k : ℕ) → k < w → run_from c w y k ≡ run_from d w y k
+subrects_same c d w y f k lt =
+    let a = f k lt in
+    let l = run_same c d w y y k lt f in
+    by_parts k y (c k y) (d k y) (length (take_while (λ i. c i y == c k y) (range_with_len k (w - k)))) (length (take_while (λ i. d i y == d k y) (range_with_len k (w - k)))) a l
+
+pub row_same : (c d : Canvas) (background w y : ℕ) → ((k : ℕ) → k < w → c k y ≡ d k y) → runs_of_row c background w y ≡ runs_of_row d background w y
+row_same c d background w y f =
+    picked_same (begins_run c background y) (begins_run d background y) (run_from c w y) (run_from d w y) 0 w (λ k lo hi. begins_same c d background w y f k (omega arith)) (λ k lo hi. subrects_same c d w y f k (omega arith))

@@ -1,0 +1,91 @@
+-- The runs of a tile, found row after row.
+use Rattle.std.proofs.Common.{◌≡◌, ℕ, suc, false, ◌&&◌, List, [], ◌∷◌, ◌++◌, length, map, take, drop, get_or, refl, sym, ap, ◌∙◌, ◌+◌, ◌-◌, ◌*◌, ◌<◌, ◌≤◌, append_assoc, length-append, arith}
+use Rattle.std.specs.Prelude.{◌==◌}
+use Rattle.std.specs.List.{flat_map, range_with_len, list_all}
+use Rattle.std.proofs.lemmas.List.{length-take, length-drop, get_or-take, get_or-drop, append-nil, length-map}
+use Rattle.std.proofs.lemmas.List.Folds.{list_all-append}
+use Rattle.std.proofs.Math.Nat.{mul-le-mul_right}
+use Rattle.raster.specs.declared.rect.Rect.{Rect}
+use Rattle.raster.specs.Screen.{Canvas, value_at, part_of}
+use Rattle.raster.specs.Encoding.{Subrect, runs, runs_of_row}
+use Rattle.hextile_codec.specs.declared.runs.Run.{Run}
+use Rattle.hextile_codec.specs.Kinds.{subrect_of, has_one_value, row_shows}
+use Rattle.hextile_codec.proofs.RowRuns.{row_same}
+
+-- ---- a row of a tile in the values of all
+
+-- Row y of a tile.
+abbrev pub tile_row : List ℕ → ℕ → Rect → ℕ → List ℕ
+tile_row values w tile y = take (tile.y * w + tile.x + y * w + tile.w - (tile.y * w + tile.x + y * w)) (drop (tile.y * w + tile.x + y * w) values)
+
+pub row_inside : (w x y n ty th len : ℕ) → x + n ≤ w → (ty + th) * w ≤ len → y < th → ty * w + x + y * w + n ≤ len
+row_inside w x y n ty th len across down lt =
+    let p : (ty + y + 1) * w ≤ (ty + th) * w = mul-le-mul_right w (omega arith) in
+    omega (arith, p)
+
+pub tile_row_len : (values : List ℕ) (w : ℕ) (tile : Rect) (y : ℕ) → tile.x + tile.w ≤ w → (tile.y + tile.h) * w ≤ length values → y < tile.h → length (tile_row values w tile y) ≡ tile.w
+tile_row_len values w tile y across down lt =
+    let start : ℕ = tile.y * w + tile.x + y * w in
+    let p : start + tile.w ≤ length values = row_inside w tile.x y tile.w tile.y tile.h (length values) across down lt in
+    omega (arith, length-take (start + tile.w - start) (drop start values), length-drop start values, p)
+
+pub tile_row_at : (values : List ℕ) (w : ℕ) (tile : Rect) (y k : ℕ) → k < tile.w → get_or (tile_row values w tile y) k 0 ≡ part_of tile (value_at w values) k y
+tile_row_at values w tile y k lt =
+    let start : ℕ = tile.y * w + tile.x + y * w in
+    let place : start + k ≡ (tile.y + y) * w + (tile.x + k) = omega arith in
+    get_or-take (start + tile.w - start) (drop start values) k 0 (omega arith) ∙ (get_or-drop start values k 0 ∙ ap (λ p. get_or values p 0) place)
+
+-- The value of a tile's first pixel.
+pub tile_first : (values : List ℕ) (w : ℕ) (tile : Rect) → get_or values (tile.y * w + tile.x) 0 ≡ part_of tile (value_at w values) 0 0
+tile_first values w tile = let place : tile.y * w + tile.x ≡ (tile.y + 0) * w + (tile.x + 0) = omega arith in ap (λ p. get_or values p 0) place
+
+-- ---- row after row
+
+-- The runs of row y and of those below it.
+abbrev pub runs_from : Canvas → ℕ → ℕ → ℕ → List Subrect
+runs_from canvas w h y = flat_map (runs_of_row canvas (canvas 0 0) w) (range_with_len y (h - y))
+
+-- With those of the rows from y on these are all.
+pub record AreAbove (canvas : Canvas) (w h y : ℕ) (found : List Run) : Type 0 where
+  pub all : map subrect_of found ++ runs_from canvas w h y ≡ runs canvas w h
+
+pub none_above : (canvas : Canvas) (w h : ℕ) → AreAbove canvas w h 0 []
+none_above canvas w h = record { all = let e : h - 0 ≡ h = omega arith in rw e refl }
+
+pub all_above : (canvas : Canvas) (w h y : ℕ) (found : List Run) → h ≤ y → AreAbove canvas w h y found → map subrect_of found ≡ runs canvas w h
+all_above canvas w h y found le a =
+    let none : h - y ≡ 0 = omega arith in
+    let over : runs_from canvas w h y ≡ [] = rw none refl in
+    sym (append-nil (map subrect_of found)) ∙ (ap (λ t. map subrect_of found ++ t) (sym over) ∙ a.all)
+
+pub row_above : (values : List ℕ) (w : ℕ) (tile : Rect) (y background : ℕ) (found now : List Run) → tile.x + tile.w ≤ w → (tile.y + tile.h) * w ≤ length values → y < tile.h
+    → background ≡ part_of tile (value_at w values) 0 0
+    → map subrect_of now ≡ map subrect_of found ++ runs_of_row (row_shows (tile_row values w tile y)) background (length (tile_row values w tile y)) y
+    → AreAbove (part_of tile (value_at w values)) tile.w tile.h y found → AreAbove (part_of tile (value_at w values)) tile.w tile.h (y + 1) now
+row_above values w tile y background found now across down lt first added a =
+    let canvas : Canvas = part_of tile (value_at w values) in
+    let row : List ℕ = tile_row values w tile y in
+    let size : length row ≡ tile.w = tile_row_len values w tile y across down lt in
+    let same : runs_of_row (row_shows row) background (length row) y ≡ runs_of_row canvas (canvas 0 0) tile.w y =
+    ap (λ n. runs_of_row (row_shows row) background n y) size ∙ (ap (λ b. runs_of_row (row_shows row) b tile.w y) first ∙ row_same (row_shows row) canvas (canvas 0 0) tile.w y (λ k lk. tile_row_at values w tile y k lk)) in
+    let next : tile.h - y ≡ suc (tile.h - (y + 1)) = omega arith in
+    let below : runs_from canvas tile.w tile.h y ≡ runs_of_row canvas (canvas 0 0) tile.w y ++ runs_from canvas tile.w tile.h (y + 1) = rw next refl in
+    record {
+      all =
+          ap (λ t. t ++ runs_from canvas tile.w tile.h (y + 1)) (added ∙ ap (λ t. map subrect_of found ++ t) same)
+          ∙ (append_assoc (map subrect_of found) (runs_of_row canvas (canvas 0 0) tile.w y) (runs_from canvas tile.w tile.h (y + 1)) ∙ (ap (λ t. map subrect_of found ++ t) (sym below) ∙ a.all));
+    }
+
+-- ---- some of them are too many
+
+mixed_front : (ss ts : List Subrect) → has_one_value ss ≡ false → has_one_value (ss ++ ts) ≡ false
+mixed_front [] ts e = absurd cc
+mixed_front (s ∷ ss) ts e = list_all-append (λ t. t.value == s.value) ss ts ∙ ap (λ b. b && list_all (λ t. t.value == s.value) ts) e
+
+pub above_mixed : (canvas : Canvas) (w h y : ℕ) (found : List Run) → AreAbove canvas w h y found → has_one_value (map subrect_of found) ≡ false → has_one_value (runs canvas w h) ≡ false
+above_mixed canvas w h y found a e = ap has_one_value (sym a.all) ∙ mixed_front (map subrect_of found) (runs_from canvas w h y) e
+
+pub above_many : (canvas : Canvas) (w h y : ℕ) (found : List Run) → AreAbove canvas w h y found → length found ≤ length (runs canvas w h)
+above_many canvas w h y found a =
+    let size : length (map subrect_of found) ≡ length found = length-map found subrect_of in
+    omega (arith, ap length (sym a.all), length-append (map subrect_of found) (runs_from canvas w h y), size)

@@ -1,0 +1,70 @@
+use Rattle.std.proofs.Common.{◌≡◌, ◌+◌, ◌*◌, ◌/◌, ◌%◌, ◌<◌, ◌≤◌, ◌∙◌, ℕ, List, length, map, get_or, sym, ap, arith}
+use Rattle.std.proofs.lemmas.List.{length-map}
+use Rattle.std.proofs.Math.Nat.{mul-le-mul_left, mod-lt, mod-add-div'}
+use Rattle.pixel_format.specs.PixelFormat.{PixelFormat, pixel_len}
+use Rattle.raster.specs.declared.rect.Rect.{Rect}
+use Rattle.raster.specs.Screen.{Canvas, value_at, part_of}
+use Rattle.raster.specs.Encoding.{Subrect, Carried, runs, drawn_bytes}
+use Rattle.hextile_codec.specs.declared.runs.Run.{Run}
+use Rattle.hextile_codec.specs.Kinds.{subrect_of, kind_of, carried_of, drawn_len}
+use Rattle.hextile_codec.proofs.TileRuns.{tile_first}
+use Rattle.hextile_codec.proofs.Drawings.{chosen_raw, chosen_drawn, drawn_has, mixed_least}
+use Rattle.hextile_codec.proofs.kind.choose.Goals as goal
+
+-- More runs than Raw's bytes hold.
+too_many : (raw p n d enough : ℕ) → enough ≡ raw / (p + 2) + 1 → enough ≤ n → (p + 2) * n ≤ d → raw ≤ d
+too_many raw p n d enough is le least =
+    let q : ℕ = raw / (p + 2) in
+    let more : (p + 2) * (q + 1) ≤ (p + 2) * n = mul-le-mul_left (p + 2) (omega arith) in
+    let split = mod-add-div' raw (p + 2) in
+    let left : raw % (p + 2) < p + 2 = mod-lt raw (omega arith) in
+    let above : raw < (p + 2) * (q + 1) = omega (arith, split) in
+    omega (arith, more, above)
+
+pub returns-then-not-find_runs : goal.returns-then-not-find_runs
+returns-then-not-find_runs c =
+    let format : PixelFormat = c.args.format.now in
+    let tile : Rect = c.args.tile.now in
+    let canvas : Canvas = part_of tile (value_at c.args.w c.args.values.now) in
+    let before : Carried = carried_of c.args.said.now in
+    let p : ℕ = pixel_len format in
+    let len : ℕ = 1 + c.bytes-pixel.result * (tile.w * tile.h) in
+    let size : len ≡ 1 + p * (tile.w * tile.h) = ap (λ n. 1 + n * (tile.w * tile.h)) c.bytes-pixel.ensures in
+    let many = c.find_runs.ensures.many c.if-not-find_runs.true in
+    let mixed = c.find_runs.ensures.mixed c.if-not-find_runs.true in
+    let least = mixed_least format before (canvas 0 0) (runs canvas tile.w tile.h) mixed in
+    chosen_raw format before tile.w tile.h canvas (map subrect_of c.find_runs.new.found.items) (get_or c.args.values.now (tile.y * c.args.w + tile.x) 0) len size
+    (too_many (1 + p * (tile.w * tile.h)) p (length (runs canvas tile.w tile.h)) (length (drawn_bytes format before (canvas 0 0) (runs canvas tile.w tile.h))) (len / (c.bytes-pixel.result + 2) + 1) (ap (λ n. (1 + n * (tile.w * tile.h)) / (n + 2) + 1) c.bytes-pixel.ensures) many least)
+
+pub returns-then-raw-len : goal.returns-then-raw-len
+returns-then-raw-len c =
+    let format : PixelFormat = c.args.format.now in
+    let tile : Rect = c.args.tile.now in
+    let canvas : Canvas = part_of tile (value_at c.args.w c.args.values.now) in
+    let before : Carried = carried_of c.args.said.now in
+    let found : List Run = c.find_runs.new.found.items in
+    let background : ℕ = get_or c.args.values.now (tile.y * c.args.w + tile.x) 0 in
+    let first : background ≡ canvas 0 0 = tile_first c.args.values.now c.args.w tile in
+    let all : map subrect_of found ≡ runs canvas tile.w tile.h = c.find_runs.ensures.all c.if-not-find_runs.false in
+    let size : 1 + c.bytes-pixel.result * (tile.w * tile.h) ≡ 1 + pixel_len format * (tile.w * tile.h) = ap (λ n. 1 + n * (tile.w * tile.h)) c.bytes-pixel.ensures in
+    let kind : c.kind_of-kind.result ≡ kind_of (map subrect_of found) = c.kind_of-kind.ensures ∙ ap (λ (rs : List Run). kind_of (map subrect_of rs)) c.as_slice.ensures.value in
+    let count : c.len.result ≡ length (map subrect_of found) = c.len.ensures.value ∙ sym (length-map found subrect_of) in
+    let has : c.drawn_len-len.result ≡ length (drawn_bytes format before background (map subrect_of found)) =
+    c.drawn_len-len.ensures ∙ (ap (λ n. drawn_len format before background c.kind_of-kind.result n) count ∙ drawn_has format before background (map subrect_of found) c.kind_of-kind.result kind) in
+    let same : drawn_bytes format before background (map subrect_of found) ≡ drawn_bytes format before (canvas 0 0) (runs canvas tile.w tile.h) = ap (λ b. drawn_bytes format before b (map subrect_of found)) first ∙ ap (λ (ss : List Subrect). drawn_bytes format before (canvas 0 0) ss) all in
+    chosen_raw format before tile.w tile.h canvas (map subrect_of found) background (1 + c.bytes-pixel.result * (tile.w * tile.h)) size (omega (arith, size, has, ap length same, c.if-raw-len.true))
+
+pub returns : goal.returns
+returns c =
+    let format : PixelFormat = c.args.format.now in
+    let tile : Rect = c.args.tile.now in
+    let canvas : Canvas = part_of tile (value_at c.args.w c.args.values.now) in
+    let before : Carried = carried_of c.args.said.now in
+    let found : List Run = c.find_runs.new.found.items in
+    let background : ℕ = get_or c.args.values.now (tile.y * c.args.w + tile.x) 0 in
+    let first : background ≡ canvas 0 0 = tile_first c.args.values.now c.args.w tile in
+    let all : map subrect_of found ≡ runs canvas tile.w tile.h = c.find_runs.ensures.all c.if-not-find_runs.false in
+    let size : 1 + c.bytes-pixel.result * (tile.w * tile.h) ≡ 1 + pixel_len format * (tile.w * tile.h) = ap (λ n. 1 + n * (tile.w * tile.h)) c.bytes-pixel.ensures in
+    let kind : c.kind_of-kind.result ≡ kind_of (map subrect_of found) = c.kind_of-kind.ensures ∙ ap (λ (rs : List Run). kind_of (map subrect_of rs)) c.as_slice.ensures.value in
+    let count : c.len.result ≡ length (map subrect_of found) = c.len.ensures.value ∙ sym (length-map found subrect_of) in
+    chosen_drawn format before tile.w tile.h canvas (map subrect_of found) background c.drawn_len-len.result c.kind_of-kind.result all first kind (c.drawn_len-len.ensures ∙ ap (λ n. drawn_len format before background c.kind_of-kind.result n) count) (omega (arith, size, c.if-raw-len.false))

@@ -1,0 +1,34 @@
+use Rattle.std.proofs.Common.{◌≡◌, ◌+◌, ◌*◌, ◌∙◌, false, List, map, get_or, sym, ap, arith}
+use Rattle.raster.specs.declared.rect.Rect.{Rect}
+use Rattle.raster.specs.Screen.{Canvas, value_at, part_of}
+use Rattle.hextile_codec.specs.declared.runs.Run.{Run}
+use Rattle.hextile_codec.specs.Kinds.{subrect_of, has_one_value}
+use Rattle.hextile_codec.proofs.TileRuns.{AreAbove, row_above, tile_row_len, tile_first, above_many, above_mixed}
+use Rattle.hextile_codec.proofs.runs.find_runs.Goals as goal
+
+pub returns-then-not-has_one_value-clause-many : goal.returns-then-not-has_one_value-clause-many
+returns-then-not-has_one_value-clause-many c =
+    let tile : Rect = c.args.tile.now in
+    let canvas : Canvas = part_of tile (value_at c.args.w c.args.values.now) in
+    let above : AreAbove canvas tile.w tile.h (c.loop-y.y + 1) c.add_row.new.runs.items =
+    row_above c.args.values.now c.args.w tile c.loop-y.y (get_or c.args.values.now (tile.y * c.args.w + tile.x) 0) c.loop-y.found.items c.add_row.new.runs.items c.requires.across c.requires.down c.loop-y-test.true (tile_first c.args.values.now c.args.w tile) c.add_row.ensures.added c.loop-y.invariant.above in
+    λ _. omega (arith, above_many canvas tile.w tile.h (c.loop-y.y + 1) c.add_row.new.runs.items above, c.if-len-enough.true, c.len.ensures.value)
+
+pub returns-then-not-has_one_value-clause-mixed : goal.returns-then-not-has_one_value-clause-mixed
+returns-then-not-has_one_value-clause-mixed c =
+    let tile : Rect = c.args.tile.now in
+    let canvas : Canvas = part_of tile (value_at c.args.w c.args.values.now) in
+    let above : AreAbove canvas tile.w tile.h (c.loop-y.y + 1) c.add_row.new.runs.items =
+    row_above c.args.values.now c.args.w tile c.loop-y.y (get_or c.args.values.now (tile.y * c.args.w + tile.x) 0) c.loop-y.found.items c.add_row.new.runs.items c.requires.across c.requires.down c.loop-y-test.true (tile_first c.args.values.now c.args.w tile) c.add_row.ensures.added c.loop-y.invariant.above in
+    let one : has_one_value (map subrect_of c.add_row.new.runs.items) ≡ false = ap (λ (rs : List Run). has_one_value (map subrect_of rs)) (sym c.as_slice.ensures.value) ∙ (sym c.has_one_value.ensures ∙ c.if-not-has_one_value.true) in
+    λ _. above_mixed canvas tile.w tile.h (c.loop-y.y + 1) c.add_row.new.runs.items above one
+
+pub loop-y-preserved : goal.loop-y-preserved
+loop-y-preserved c =
+    let tile : Rect = c.args.tile.now in
+    let size = tile_row_len c.args.values.now c.args.w tile c.loop-y.y c.requires.across c.requires.down c.loop-y-test.true in
+    record {
+      few = omega (arith, c.add_row.ensures.few, c.loop-y.invariant.few, size);
+      above =
+          row_above c.args.values.now c.args.w tile c.loop-y.y (get_or c.args.values.now (tile.y * c.args.w + tile.x) 0) c.loop-y.found.items c.add_row.new.runs.items c.requires.across c.requires.down c.loop-y-test.true (tile_first c.args.values.now c.args.w tile) c.add_row.ensures.added c.loop-y.invariant.above;
+    }

@@ -1,0 +1,66 @@
+-- What the reflector knows of a tile before it writes it.
+use Rattle.std.specs.Prelude.{◌≡◌, ℕ, ◌+◌, ◌*◌, ◌<◌, ◌≤◌, Bool, true, ◌==◌, if◌then◌else◌, List, [], ◌∷◌, length, slice_index, Some, None}
+use Rattle.std.specs.List.{list_all}
+use Rattle.pixel_format.specs.PixelFormat.{PixelFormat, pixel_len}
+use Rattle.raster.specs.Screen.{Canvas, values_of}
+use Rattle.raster.specs.Encoding.{Subrect, Carried, nothing_carried, runs, raw_bytes, unless_said, drawn_bytes, tile_bytes}
+use Rattle.hextile_codec.specs.declared.runs.Run.{Run}
+use Rattle.hextile_codec.specs.declared.kind.Kind.{Kind}
+use Rattle.hextile_codec.specs.declared.kind.Kind.TheVariants.{Raw, Plain, TwoColours, Coloured}
+use Rattle.hextile_codec.specs.declared.kind.Said.{Said}
+use Rattle.hextile_codec.specs.declared.kind.Choice.{Choice}
+
+-- A run is a subrectangle of one row.
+abbrev pub subrect_of : Run → Subrect
+subrect_of run = record { value = run.value; area = record { x = run.x; y = run.y; w = run.len; h = 1 } }
+
+-- It lies in a tile.
+pub record IsSmall (run : Run) : Type 0 where
+  pub x : run.x < 16
+  pub y : run.y < 16
+  pub some : 0 < run.len
+  pub most : run.len ≤ 16
+
+-- A row of values as a canvas whose rows are all the same.
+abbrev pub row_shows : List ℕ → Canvas
+row_shows row x y = slice_index row x
+
+abbrev pub has_one_value : List Subrect → Bool
+has_one_value [] = true
+has_one_value (s ∷ ss) = list_all (λ t. t.value == s.value) ss
+
+-- What a tile of these runs is that isn't Raw.
+abbrev pub kind_of : List Subrect → Kind
+kind_of [] = Plain
+kind_of (s ∷ ss) = if has_one_value (s ∷ ss) then TwoColours s.value else Coloured
+
+-- How many bytes it has.
+abbrev pub drawn_len : PixelFormat → Carried → ℕ → Kind → ℕ → ℕ
+drawn_len format before background Raw count = 1 + length (unless_said format before.background background)
+drawn_len format before background Plain count = 1 + length (unless_said format before.background background)
+drawn_len format before background (TwoColours foreground) count =
+    1 + length (unless_said format before.background background) + length (unless_said format before.foreground foreground) + 1 + 2 * count
+drawn_len format before background Coloured count = 1 + length (unless_said format before.background background) + 1 + (pixel_len format + 2) * count
+
+-- What the tile before said.
+abbrev pub carried_of : Said → Carried
+carried_of said = record { background = said.background; foreground = said.foreground }
+
+-- What a tile of a kind leaves for the next.
+abbrev pub leaves_of : Kind → ℕ → Carried
+leaves_of Raw background = nothing_carried
+leaves_of Plain background = record { background = Some background; foreground = None }
+leaves_of (TwoColours foreground) background = record { background = Some background; foreground = Some foreground }
+leaves_of Coloured background = record { background = Some background; foreground = None }
+
+-- The bytes of a tile are these, its pixels or the drawing of its runs.
+abbrev pub IsWrittenAs : PixelFormat → Carried → ℕ → ℕ → Canvas → List Subrect → ℕ → Kind → List ℕ → Type 0
+IsWrittenAs format before w h canvas found background Raw bytes = bytes ≡ 1 ∷ raw_bytes format (values_of w h canvas)
+IsWrittenAs format before w h canvas found background kind bytes =
+    (bytes ≡ drawn_bytes format before background found) × (kind ≡ kind_of found) × (found ≡ runs canvas w h)
+
+-- A choice says how many bytes a tile has, what it leaves, and what they are.
+pub record IsChosen (format : PixelFormat) (before : Carried) (w h : ℕ) (canvas : Canvas) (found : List Subrect) (choice : Choice) : Type 0 where
+  pub len : choice.len ≡ length (tile_bytes format before w h canvas).0
+  pub leaves : leaves_of choice.kind choice.background ≡ (tile_bytes format before w h canvas).1
+  pub written : IsWrittenAs format before w h canvas found choice.background choice.kind (tile_bytes format before w h canvas).0

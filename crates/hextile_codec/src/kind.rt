@@ -1,0 +1,157 @@
+//! The kinds of a tile as it is written, and which of them one has.
+
+ghost use Rattle.std.specs.Prelude.{◌≡◌, ℕ, ◌+◌, ◌*◌, ◌<◌, ◌≤◌, length, map};
+ghost use Rattle.arrayvec.specs.ArrayVec.{array_vec_len};
+ghost use Rattle.pixel_format.specs.PixelFormat.{pixel_len};
+ghost use Rattle.raster.specs.Screen.{value_at, part_of};
+ghost use Rattle.raster.specs.Encoding.{runs, drawn_bytes, drawn_leaves, tile_bytes, is_said, unless_said};
+ghost use Rattle.hextile_codec.specs.Kinds.{subrect_of, kind_of, carried_of, leaves_of, drawn_len, IsChosen};
+
+use crate::runs::{Run, Runs, TILE_SIDE, find_runs, has_one_value};
+use pixel_format::Format;
+use raster::Rect;
+
+/// What a tile is written as (RFC 6143, section 7.7.4).
+#[derive(Clone, Copy)]
+pub enum Kind {
+    /// Its pixels.
+    Raw,
+    /// Its background alone.
+    Plain,
+    /// Runs of this value over its background.
+    TwoColours(u32),
+    /// Runs of a value each over its background.
+    Coloured,
+}
+
+/// The colours that a tile may leave off, since the tile directly before has them.
+#[derive(Clone, Copy)]
+pub struct Said {
+    pub background: Option<u32>,
+    pub foreground: Option<u32>,
+}
+
+impl Said {
+    /// Nothing, as before the first tile and after one that is Raw.
+    pub const NOTHING: Said = Said {
+        background: None,
+        foreground: None,
+    };
+}
+
+/// What is known of a tile before it is written: its kind, its first pixel's value, and how many bytes it has.
+#[derive(Clone, Copy)]
+pub struct Choice {
+    pub kind: Kind,
+    pub background: u32,
+    pub len: usize,
+}
+
+/// Whether the tile before has this value.
+pub fn is_said(before: Option<u32>, value: u32) -> bool
+    ensures { result ≡ is_said before value }
+{
+    match before {
+        Some(before) => before == value,
+        None => false,
+    }
+}
+
+/// The kind of a tile of these runs that isn't Raw.
+fn kind_of(runs: &[Run]) -> Kind
+    ensures { result ≡ kind_of (map subrect_of runs.now) }
+{
+    match runs.first() {
+        None => Kind::Plain,
+        Some(first) if has_one_value(runs) => Kind::TwoColours(first.value),
+        Some(_) => Kind::Coloured,
+    }
+}
+
+/// How many bytes a colour has, which is left off where the tile before has it.
+fn colour_len(format: &Format, before: Option<u32>, value: u32) -> usize
+    ensures { result ≡ length (unless_said format.now before value) }
+{
+    if is_said(before, value) {
+        0
+    } else {
+        format.bytes()
+    }
+}
+
+/// How many bytes a tile of so many runs has that isn't Raw.
+fn drawn_len(format: &Format, said: &Said, background: u32, kind: Kind, count: usize) -> usize
+    requires { count ≤ 256 }
+    ensures { result ≡ drawn_len format.now (carried_of said.now) background kind count }
+{
+    let head = 1 + colour_len(format, said.background, background);
+    match kind {
+        Kind::TwoColours(foreground) => {
+            head + colour_len(format, said.foreground, foreground) + 1 + 2 * count
+        }
+        Kind::Coloured => head + 1 + (format.bytes() + 2) * count,
+        _ => head,
+    }
+}
+
+/// Chooses what a tile is written as: Raw where that has no more bytes than its drawing. Its runs are then in `runs`,
+/// if it isn't Raw.
+pub fn choose(
+    format: &Format,
+    values: &[u32],
+    w: usize,
+    tile: &Rect,
+    said: &Said,
+    runs: &mut Runs,
+) -> Choice
+    requires w_some { 0 < tile.now.w }
+    requires w_most { tile.now.w ≤ TILE_SIDE }
+    requires h_some { 0 < tile.now.h }
+    requires h_most { tile.now.h ≤ TILE_SIDE }
+    requires across { tile.now.x + tile.now.w ≤ w }
+    requires down { (tile.now.y + tile.now.h) * w ≤ length values.now }
+    ensures { IsChosen format.now (carried_of said.now) tile.now.w tile.now.h (part_of tile.now (value_at w values.now)) (map subrect_of runs.new.items) result }
+{
+    let pixel = format.bytes();
+    let background = values[tile.y as usize * w + tile.x as usize];
+    let raw = Choice {
+        kind: Kind::Raw,
+        background,
+        len: 1 + pixel * (tile.w * tile.h) as usize,
+    };
+    // So many coloured runs have more bytes than Raw.
+    let enough = raw.len / (pixel + 2) + 1;
+    if !find_runs(values, w, tile, enough, runs) {
+        return raw;
+    }
+    let kind = kind_of(runs.as_slice());
+    let len = drawn_len(format, said, background, kind, runs.len());
+    if raw.len <= len {
+        return raw;
+    }
+    Choice {
+        kind,
+        background,
+        len,
+    }
+}
+
+impl Choice {
+    /// What the next tile may leave off.
+    pub fn leaves(&self) -> Said
+        ensures { carried_of result ≡ leaves_of self.now.kind self.now.background }
+    {
+        let background = match self.kind {
+            Kind::Raw => None,
+            _ => Some(self.background),
+        };
+        let foreground = match self.kind {
+            Kind::TwoColours(foreground) => Some(foreground),
+            _ => None,
+        };
+        Said {
+            background,
+            foreground,
+        }
+    }
+}

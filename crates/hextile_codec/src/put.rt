@@ -1,0 +1,214 @@
+//! Putting a tile's bytes.
+
+ghost use Rattle.std.specs.Prelude.{◌≡◌, ℕ, ◌+◌, ◌*◌, ◌<◌, ◌≤◌, ◌++◌, ◌∷◌, [], if◌then◌else◌, length, map, take};
+ghost use Rattle.std.specs.List.{All, flat_map};
+ghost use Rattle.pixel_format.specs.PixelFormat.{pixel_len};
+ghost use Rattle.raster.specs.Screen.{value_at, part_of, values_of};
+ghost use Rattle.raster.specs.Encoding.{drawn_bytes, unless_said, place_bytes, coloured_bytes, raw_bytes, is_said};
+ghost use Rattle.hextile_codec.specs.Kinds.{IsSmall, subrect_of, kind_of, carried_of, drawn_len};
+
+use crate::kind::{Choice, Kind, Said, is_said};
+use crate::runs::{Run, TILE_SIDE};
+use pixel_format::Format;
+use raster::Rect;
+
+/// Bits of a tile's mask (RFC 6143, section 7.7.4).
+const RAW: u8 = 1;
+
+const BACKGROUND_SPECIFIED: u8 = 2;
+
+const FOREGROUND_SPECIFIED: u8 = 4;
+
+const ANY_SUBRECTS: u8 = 8;
+
+const SUBRECTS_COLOURED: u8 = 16;
+
+/// How many bytes the place of a run has.
+const PLACE_LEN: usize = 2;
+
+/// Puts a colour from index `used` of `out` on, unless the tile before has it, and answers where it ends.
+fn put_colour(
+    format: &Format,
+    before: Option<u32>,
+    value: u32,
+    out: &mut [u8],
+    used: usize,
+) -> usize
+    requires { used + length (unless_said format.now before value) ≤ length out.old }
+    ensures end { result ≡ used + length (unless_said format.now before value) }
+    ensures bytes { take result out.new ≡ take used out.old ++ unless_said format.now before value }
+{
+    if is_said(before, value) {
+        return used;
+    }
+    format.put_pixel(value, &mut out[used..]);
+    used + format.bytes()
+}
+
+/// The place of a run as it is written: its position, and its size.
+fn place_of(run: &Run) -> [u8; 2]
+    requires { IsSmall run.now }
+    ensures { result ≡ place_bytes (subrect_of run.now) }
+{
+    [run.x * 16 + run.y, (run.len - 1) * 16]
+}
+
+/// Puts one byte at index `used` of `out`, and answers where it ends.
+fn put_byte(byte: u8, out: &mut [u8], used: usize) -> usize
+    requires { used < length out.old }
+    ensures end { result ≡ used + 1 }
+    ensures bytes { take result out.new ≡ take used out.old ++ byte ∷ [] }
+{
+    out[used] = byte;
+    used + 1
+}
+
+/// Puts the places of runs from index `used` of `out` on.
+fn put_places(runs: &[Run], out: &mut [u8], used: usize)
+    requires small { All IsSmall runs.now }
+    requires room { used + 2 * length runs.now ≤ length out.old }
+    ensures { take (used + 2 * length runs.now) out.new ≡ take used out.old ++ flat_map place_bytes (map subrect_of runs.now) }
+{
+    let mut at = used;
+    for run in runs {
+        out[at..at + PLACE_LEN].copy_from_slice(&place_of(run));
+        at += PLACE_LEN;
+    }
+}
+
+/// Puts runs with their values from index `used` of `out` on.
+fn put_coloured_runs(format: &Format, runs: &[Run], out: &mut [u8], used: usize)
+    requires small { All IsSmall runs.now }
+    requires room { used + (pixel_len format.now + 2) * length runs.now ≤ length out.old }
+    ensures { take (used + (pixel_len format.now + 2) * length runs.now) out.new ≡ take used out.old ++ flat_map (coloured_bytes format.now) (map subrect_of runs.now) }
+{
+    let mut at = used;
+    for run in runs {
+        format.put_pixel(run.value, &mut out[at..]);
+        let place = at + format.bytes();
+        out[place..place + PLACE_LEN].copy_from_slice(&place_of(run));
+        at = place + PLACE_LEN;
+    }
+}
+
+/// The bit that says that a background is written, unless the tile before has it.
+fn background_bit(said: &Said, background: u32) -> u8
+    ensures { result ≡ (if is_said said.now.background background then 0 else 2) }
+{
+    if is_said(said.background, background) {
+        0
+    } else {
+        BACKGROUND_SPECIFIED
+    }
+}
+
+/// Puts a tile of runs of one value.
+fn put_two_colours(
+    format: &Format,
+    said: &Said,
+    background: u32,
+    foreground: u32,
+    runs: &[Run],
+    out: &mut [u8],
+    used: usize,
+)
+    requires small { All IsSmall runs.now }
+    requires few { length runs.now ≤ 255 }
+    requires is { kind_of (map subrect_of runs.now) ≡ Kind.TwoColours foreground }
+    requires room { used + drawn_len format.now (carried_of said.now) background (Kind.TwoColours foreground) (length runs.now) ≤ length out.old }
+    ensures { take (used + drawn_len format.now (carried_of said.now) background (Kind.TwoColours foreground) (length runs.now)) out.new ≡ take used out.old ++ drawn_bytes format.now (carried_of said.now) background (map subrect_of runs.now) }
+{
+    let subrects = if is_said(said.foreground, foreground) {
+        ANY_SUBRECTS
+    } else {
+        ANY_SUBRECTS + FOREGROUND_SPECIFIED
+    };
+    let mask = background_bit(said, background) + subrects;
+    let at = put_byte(mask, out, used);
+    let at = put_colour(format, said.background, background, out, at);
+    let at = put_colour(format, said.foreground, foreground, out, at);
+    let at = put_byte(runs.len() as u8, out, at);
+    put_places(runs, out, at);
+}
+
+/// Puts a tile of runs with their values.
+fn put_coloured(
+    format: &Format,
+    said: &Said,
+    background: u32,
+    runs: &[Run],
+    out: &mut [u8],
+    used: usize,
+)
+    requires small { All IsSmall runs.now }
+    requires few { length runs.now ≤ 255 }
+    requires is { kind_of (map subrect_of runs.now) ≡ Kind.Coloured }
+    requires room { used + drawn_len format.now (carried_of said.now) background Kind.Coloured (length runs.now) ≤ length out.old }
+    ensures { take (used + drawn_len format.now (carried_of said.now) background Kind.Coloured (length runs.now)) out.new ≡ take used out.old ++ drawn_bytes format.now (carried_of said.now) background (map subrect_of runs.now) }
+{
+    let mask = background_bit(said, background) + ANY_SUBRECTS + SUBRECTS_COLOURED;
+    let at = put_byte(mask, out, used);
+    let at = put_colour(format, said.background, background, out, at);
+    let at = put_byte(runs.len() as u8, out, at);
+    put_coloured_runs(format, runs, out, at);
+}
+
+/// Puts a tile that isn't Raw, of a kind that its runs have, from index `used` of `out` on.
+pub fn put_drawn(
+    format: &Format,
+    said: &Said,
+    choice: &Choice,
+    runs: &[Run],
+    out: &mut [u8],
+    used: usize,
+)
+    requires small { All IsSmall runs.now }
+    requires few { length runs.now ≤ 255 }
+    requires is { choice.now.kind ≡ kind_of (map subrect_of runs.now) }
+    requires room { used + drawn_len format.now (carried_of said.now) choice.now.background choice.now.kind (length runs.now) ≤ length out.old }
+    ensures { take (used + drawn_len format.now (carried_of said.now) choice.now.background choice.now.kind (length runs.now)) out.new ≡ take used out.old ++ drawn_bytes format.now (carried_of said.now) choice.now.background (map subrect_of runs.now) }
+{
+    let background = choice.background;
+    match choice.kind {
+        Kind::TwoColours(foreground) => {
+            put_two_colours(format, said, background, foreground, runs, out, used)
+        }
+        Kind::Coloured => put_coloured(format, said, background, runs, out, used),
+        _ => {
+            let at = put_byte(background_bit(said, background), out, used);
+            put_colour(format, said.background, background, out, at);
+        }
+    }
+}
+
+/// Puts the pixels of a row from index `used` of `out` on, and answers where they end.
+fn put_row(format: &Format, row: &[u32], out: &mut [u8], used: usize) -> usize
+    requires { used + pixel_len format.now * length row.now ≤ length out.old }
+    ensures end { result ≡ used + pixel_len format.now * length row.now }
+    ensures bytes { take result out.new ≡ take used out.old ++ raw_bytes format.now row.now }
+{
+    let mut at = used;
+    for value in row {
+        format.put_pixel(*value, &mut out[at..]);
+        at += format.bytes();
+    }
+    at
+}
+
+/// Puts a tile's pixels, from index `used` of `out` on.
+pub fn put_raw(format: &Format, values: &[u32], w: usize, tile: &Rect, out: &mut [u8], used: usize)
+    requires w_some { 0 < tile.now.w }
+    requires w_most { tile.now.w ≤ TILE_SIDE }
+    requires h_most { tile.now.h ≤ TILE_SIDE }
+    requires across { tile.now.x + tile.now.w ≤ w }
+    requires down { (tile.now.y + tile.now.h) * w ≤ length values.now }
+    requires room { used + 1 + pixel_len format.now * (tile.now.w * tile.now.h) ≤ length out.old }
+    ensures { take (used + 1 + pixel_len format.now * (tile.now.w * tile.now.h)) out.new ≡ take used out.old ++ 1 ∷ raw_bytes format.now (values_of tile.now.w tile.now.h (part_of tile.now (value_at w values.now))) }
+{
+    let first = tile.y as usize * w + tile.x as usize;
+    let mut at = put_byte(RAW, out, used);
+    for y in 0..tile.h as usize {
+        let start = first + y * w;
+        at = put_row(format, &values[start..start + tile.w as usize], out, at);
+    }
+}

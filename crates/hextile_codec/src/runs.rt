@@ -1,0 +1,101 @@
+//! The runs of a tile.
+
+ghost use Rattle.std.specs.Prelude.{◌≡◌, ℕ, ◌+◌, ◌*◌, ◌<◌, ◌≤◌, ◌++◌, ◌==◌, false, length, map, take_while, slice_index, IsTrue};
+ghost use Rattle.arrayvec.specs.ArrayVec.{array_vec_len};
+ghost use Rattle.raster.specs.Screen.{value_at, part_of};
+ghost use Rattle.raster.specs.Encoding.{runs, runs_of_row};
+ghost use Rattle.hextile_codec.specs.Kinds.{subrect_of, has_one_value, row_shows};
+
+use arrayvec::ArrayVec;
+use raster::Rect;
+
+/// How many pixels a tile has across and down, where it isn't cut.
+pub const TILE_SIDE: usize = 16;
+
+/// How many pixels a tile has at most.
+pub const TILE_AREA: usize = 256;
+
+/// A run: `len` pixels of one value, from column `x` of row `y` of its tile on.
+#[derive(Clone, Copy, Default)]
+pub struct Run {
+    pub value: u32,
+    pub x: u8,
+    pub y: u8,
+    pub len: u8,
+}
+
+/// The runs of one tile, from the left and from the top.
+pub type Runs = ArrayVec<Run, TILE_AREA>;
+
+/// How many values at the front are this one.
+fn run_len(values: &[u32], value: u32) -> usize
+    ensures { result ≡ length (take_while (λ v. v == value) values.now) }
+{
+    values.iter().take_while(|v| **v == value).count()
+}
+
+/// Whether all runs have one value, as also none do.
+pub fn has_one_value(runs: &[Run]) -> bool
+    ensures { result ≡ has_one_value (map subrect_of runs.now) }
+{
+    match runs.split_first() {
+        Some((first, others)) => others.iter().all(|run| run.value == first.value),
+        None => true,
+    }
+}
+
+/// Adds the runs of row `y` other than the background to those of the rows above.
+fn add_row(row: &[u32], y: usize, background: u32, runs: &mut Runs)
+    requires wide { length row.now ≤ TILE_SIDE }
+    requires high { y < TILE_SIDE }
+    requires room { array_vec_len runs.old + length row.now ≤ TILE_AREA }
+    ensures added { map subrect_of runs.new.items ≡ map subrect_of runs.old.items ++ runs_of_row (row_shows row.now) background (length row.now) y }
+    ensures few { array_vec_len runs.new ≤ array_vec_len runs.old + length row.now }
+{
+    let mut x = 0;
+    while x < row.len() {
+        let value = row[x];
+        let len = run_len(&row[x..], value);
+        if value != background {
+            runs.push(Run {
+                value,
+                x: x as u8,
+                y: y as u8,
+                len: len as u8,
+            });
+        }
+        x += len;
+    }
+}
+
+/// Finds the runs of a tile other than its background, the first pixel's value, and puts them into `found`.
+///
+/// `false` as soon as there are `enough` of them, of more values than one; `found` then holds the first of them.
+pub fn find_runs(values: &[u32], w: usize, tile: &Rect, enough: usize, found: &mut Runs) -> bool
+    requires w_some { 0 < tile.now.w }
+    requires w_most { tile.now.w ≤ TILE_SIDE }
+    requires h_some { 0 < tile.now.h }
+    requires h_most { tile.now.h ≤ TILE_SIDE }
+    requires across { tile.now.x + tile.now.w ≤ w }
+    requires down { (tile.now.y + tile.now.h) * w ≤ length values.now }
+    ensures all { let all = runs (part_of tile.now (value_at w values.now)) tile.now.w tile.now.h in IsTrue result → map subrect_of found.new.items ≡ all }
+    ensures many { let all = runs (part_of tile.now (value_at w values.now)) tile.now.w tile.now.h in result ≡ false → enough ≤ length all }
+    ensures mixed { let all = runs (part_of tile.now (value_at w values.now)) tile.now.w tile.now.h in result ≡ false → has_one_value all ≡ false }
+{
+    found.clear();
+    let first = tile.y as usize * w + tile.x as usize;
+    let background = values[first];
+    for y in 0..tile.h as usize {
+        let start = first + y * w;
+        add_row(
+            &values[start..start + tile.w as usize],
+            y,
+            background,
+            found,
+        );
+        if found.len() >= enough && !has_one_value(found.as_slice()) {
+            return false;
+        }
+    }
+    true
+}
