@@ -84,7 +84,7 @@ def any_hextile(rng, pixels, w, h, colours):
             if rng.random() < 0.1:
                 data += bytes([1]) + pixels.all([rng.choice(colours) for _ in range(tw * th)])
                 continue
-            mask = rng.choice([0, 2, 4, 6, 8, 10, 12, 14, 24, 26, 16])
+            mask = rng.choice([0, 2, 4, 6, 8, 10, 12, 14, 16, 24, 26, 28, 30, 96])
             if not has_background:
                 mask |= 2
             if mask & 24 == 8 and not has_foreground:
