@@ -1,0 +1,102 @@
+//! Runs the codecs over rectangles that other programs spelled.
+//!
+//! Without words: over the files `rectangles` and `libvncserver`, how many there are, how many are read as the other program
+//! told, and of how many the writer answers what it told. With the words `FILE ROUNDS`: how long each rectangle of a file takes.
+#![tactic(auto)]
+
+mod codec;
+mod record;
+mod timing;
+
+use codec::{is_read, is_written, values_of};
+use pixel_format::Fault;
+use record::{Answer, Record, read_record};
+use std::alloc::Global;
+use std::test::Fail;
+use std::{env, fs};
+use timing::{reading_micros, writing_micros};
+
+/// How many rectangles there are, how many are read as told, of how many the writer is asked, and how often it answers as told.
+#[derive(Drop)]
+struct Tally {
+    rectangles: u64,
+    read: u64,
+    asked: u64,
+    written: u64,
+}
+
+/// Runs the codecs over one rectangle. There is no data to read where the writer has to answer nothing.
+fn count(alloc: Global, record: &Record<'_>, tally: &mut Tally) -> Result<(), Fault> {
+    let values = values_of(alloc, &record.format, record.pixels)?;
+    tally.rectangles = tally.rectangles.saturating_add(1);
+    if record.answer == Answer::Nothing || is_read(alloc, record, values.as_slice())? {
+        tally.read = tally.read.saturating_add(1);
+    }
+    if record.answer != Answer::Unasked {
+        tally.asked = tally.asked.saturating_add(1);
+        if is_written(alloc, record, values.as_slice())? {
+            tally.written = tally.written.saturating_add(1);
+        }
+    }
+    Ok(())
+}
+
+/// Runs the codecs over all rectangles of a file.
+fn count_all(alloc: Global, bytes: &[u8]) -> Result<Tally, Fail> {
+    let mut tally = Tally {
+        rectangles: 0,
+        read: 0,
+        asked: 0,
+        written: 0,
+    };
+    let mut rest = bytes;
+    for _ in 0..bytes.len() {
+        if rest.is_empty() {
+            return Ok(tally);
+        }
+        let Some((record, behind)) = read_record(rest) else {
+            return Err(Fail::new("no whole record"));
+        };
+        count(alloc, &record, &mut tally)?;
+        rest = behind;
+    }
+    Ok(tally)
+}
+
+/// How many rectangles of the two files are read and written as told.
+fn check(rt: &HostRuntime) -> Result<(), Fail> {
+    for name in ["rectangles", "libvncserver"] {
+        let bytes = fs::read(rt, name)?;
+        let tally = count_all(rt.alloc(), bytes.as_slice())?;
+        println!(rt;
+            "{name}: {} rectangles, {} read as told; {} to write, {} written as told",
+            tally.rectangles, tally.read, tally.asked, tally.written
+        )?;
+    }
+    Ok(())
+}
+
+/// Prints for each rectangle of a file the microseconds in which it is read and written, and the bytes that were written.
+fn time(rt: &HostRuntime, name: &str, rounds: u64) -> Result<(), Fail> {
+    let bytes = fs::read(rt, name)?;
+    let mut rest = bytes.as_slice();
+    for _ in 0..bytes.len() {
+        let Some((record, behind)) = read_record(rest) else {
+            return Ok(());
+        };
+        let reading = reading_micros(rt, &record, rounds)?;
+        let (writing, written) = writing_micros(rt, &record, rounds)?;
+        println!(rt; "{reading} {writing} {written}")?;
+        rest = behind;
+    }
+    Ok(())
+}
+
+fn main(rt: HostRuntime) -> Result<(), Fail> {
+    let mut words = env::args(&rt)?;
+    words.next();
+    match (words.next(), words.next()) {
+        (Some(name), Some(rounds)) => time(&rt, name.as_str(), rounds.parse::<u64>()?),
+        _ => check(&rt),
+    }
+}
