@@ -21,7 +21,7 @@ pub fn values_of(alloc: Global, format: &Format, pixels: &[u8]) -> Result<Vec<u3
 pub fn draw(record: &Record<'_>, raster: &mut Raster) -> Result<(usize, bool), Fault> {
     let (width, height) = (raster.width(), raster.height());
     if record.encoding == HEXTILE {
-        let mut reader = rre_codec::Reader::new(width, height, record.format);
+        let mut reader = hextile_codec::Reader::new(width, height, record.format);
         Ok((reader.feed(raster, record.data)?, reader.whole()))
     } else {
         let mut reader = rre_codec::Reader::new(width, height, record.format);
@@ -57,7 +57,7 @@ pub fn write(record: &Record<'_>, values: &[u32], out: &mut [u8]) -> Option<usiz
         return None;
     }
     if record.encoding == HEXTILE {
-        rre_codec::encode(values, width, height, format, out)
+        hextile_codec::encode(values, width, height, format, out)
     } else {
         rre_codec::encode(values, width, height, format, out)
     }
