@@ -17,9 +17,12 @@ pub fn values_of(alloc: Global, format: &Format, pixels: &[u8]) -> Result<Vec<u3
         .map_err(|_| Fault::Memory)
 }
 
-/// How many bytes of the data are used, and whether they are a whole rectangle, which is drawn.
+/// How many bytes of the data are used, and whether they are a whole rectangle, which is drawn. Nothing is drawn on a raster of another size.
 pub fn draw(record: &Record<'_>, raster: &mut Raster) -> Result<(usize, bool), Fault> {
-    let (width, height) = (raster.width(), raster.height());
+    let (width, height) = (u64::from(record.width), u64::from(record.height));
+    if raster.width() != width || raster.height() != height {
+        return Ok((0, false));
+    }
     if record.encoding == HEXTILE {
         let mut reader = hextile_codec::Reader::new(width, height, record.format);
         Ok((reader.feed(raster, record.data)?, reader.whole()))
