@@ -2,4 +2,8 @@
 #![tactic(auto)]
 
 #[cfg(test)]
+mod hextile_carried;
+#[cfg(test)]
+mod hextile_fed;
+#[cfg(test)]
 mod hextile_reading;
