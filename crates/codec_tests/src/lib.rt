@@ -2,6 +2,10 @@
 #![tactic(auto)]
 
 #[cfg(test)]
+mod hextile_carried;
+#[cfg(test)]
+mod hextile_fed;
+#[cfg(test)]
 mod hextile_reading;
 #[cfg(test)]
 mod hextile_writing;
