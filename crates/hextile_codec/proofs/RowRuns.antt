@@ -1,7 +1,8 @@
 -- The runs of a tile's row, found in the row's own values.
 use Rattle.std.proofs.Common.{◌≡◌, ℕ, zero, suc, Bool, true, false, cond, List, [], ◌∷◌, ◌++◌, length, map, take, drop, get_or, refl, sym, ap, ◌∙◌, ◌+◌, ◌-◌, ◌<◌, ◌≤◌, append_assoc, arith}
 use Rattle.std.specs.Prelude.{filter, ◌==◌, take_while}
-use Rattle.std.specs.List.{range_with_len}
+use Rattle.std.specs.List.{list_all, range_with_len}
+use Rattle.std.proofs.lemmas.Bool.{and_parts}
 use Rattle.std.proofs.lemmas.List.{length-drop, get_or-drop, take_all, append-nil, map-append}
 use Rattle.std.proofs.lemmas.List.Sums.{take_while-cons}
 use Rattle.raster.specs.Screen.{Canvas}
@@ -120,3 +121,20 @@ subrects_same c d w y f k lt =
 pub row_same : (c d : Canvas) (background w y : ℕ) → ((k : ℕ) → k < w → c k y ≡ d k y) → runs_of_row c background w y ≡ runs_of_row d background w y
 row_same c d background w y f =
     picked_same (begins_run c background y) (begins_run d background y) (run_from c w y) (run_from d w y) 0 w (λ k lo hi. begins_same c d background w y f k (omega arith)) (λ k lo hi. subrects_same c d w y f k (omega arith))
+
+-- ---- a row of the background alone
+
+passes_at : (p : ℕ → Bool) (xs : List ℕ) (k : ℕ) → list_all p xs ≡ true → k < length xs → p (get_or xs k 0) ≡ true
+passes_at p [] k e lt = absurd (omega arith)
+passes_at p (x ∷ xs) zero e lt = (and_parts (p x) (list_all p xs) e).0
+passes_at p (x ∷ xs) (suc k) e lt = passes_at p xs k (and_parts (p x) (list_all p xs) e).1 (omega arith)
+
+none_pass : (p : ℕ → Bool) (a n : ℕ) → ((k : ℕ) → a ≤ k → k < a + n → p k ≡ false) → filter p (range_with_len a n) ≡ []
+none_pass p a zero f = refl
+none_pass p a (suc n) f =
+    ap (λ b. cond b (a ∷ filter p (range_with_len (a + 1) n)) (filter p (range_with_len (a + 1) n))) (f a (omega arith) (omega arith)) ∙ none_pass p (a + 1) n (λ k lo hi. f k (omega arith) (omega arith))
+
+-- It has no run.
+pub background_alone : (row : List ℕ) (background y : ℕ) → list_all (λ v. v == background) row ≡ true → runs_of_row (row_shows row) background (length row) y ≡ []
+background_alone row background y e =
+    ap (map (run_from (row_shows row) (length row) y)) (none_pass (begins_run (row_shows row) background y) 0 (length row) (λ k lo hi. let here = passes_at (λ v. v == background) row k e (omega arith) in rw here refl))

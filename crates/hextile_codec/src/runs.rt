@@ -1,6 +1,7 @@
 //! The runs of a tile.
 
 ghost use Rattle.std.specs.Prelude.{◌≡◌, ℕ, ◌+◌, ◌*◌, ◌<◌, ◌≤◌, ◌++◌, ◌==◌, false, length, map, take_while, slice_index, IsTrue};
+ghost use Rattle.std.specs.List.{list_all};
 ghost use Rattle.arrayvec.specs.ArrayVec.{array_vec_len};
 ghost use Rattle.raster.specs.Screen.{value_at, part_of};
 ghost use Rattle.raster.specs.Encoding.{runs, runs_of_row};
@@ -8,6 +9,8 @@ ghost use Rattle.hextile_codec.specs.Kinds.{subrect_of, has_one_value, row_shows
 
 use arrayvec::ArrayVec;
 use raster::Rect;
+use std::simd::cmp::SimdPartialEq;
+use std::simd::u32x16;
 
 /// How many pixels a tile has across and down, where it isn't cut.
 pub const TILE_SIDE: usize = 16;
@@ -44,14 +47,28 @@ pub fn has_one_value(runs: &[Run]) -> bool
     }
 }
 
+/// Whether all values of a row are this one. A whole row of a tile is compared at once.
+fn is_all(row: &[u32], value: u32) -> bool
+    ensures { result ≡ list_all (λ v. v == value) row.now }
+{
+    if row.len() == TILE_SIDE {
+        return u32x16::from_slice(row).simd_eq(u32x16::splat(value)).all();
+    }
+    row.iter().all(|v| *v == value)
+}
+
 /// Adds the runs of row `y` other than the background to those of the rows above.
 fn add_row(row: &[u32], y: usize, background: u32, runs: &mut Runs)
+    requires some { 0 < length row.now }
     requires wide { length row.now ≤ TILE_SIDE }
     requires high { y < TILE_SIDE }
     requires room { array_vec_len runs.old + length row.now ≤ TILE_AREA }
     ensures added { map subrect_of runs.new.items ≡ map subrect_of runs.old.items ++ runs_of_row (row_shows row.now) background (length row.now) y }
     ensures few { array_vec_len runs.new ≤ array_vec_len runs.old + length row.now }
 {
+    if row[0] == background && is_all(row, background) {
+        return;
+    }
     let mut x = 0;
     while x < row.len() {
         let value = row[x];

@@ -1,9 +1,10 @@
-use Rattle.std.proofs.Common.{◌≡◌, ℕ, ◌+◌, ◌<◌, ◌∙◌, ◌++◌, [], ◌∷◌, List, length, get_or, ap, arith, length-append}
+use Rattle.std.proofs.Common.{◌≡◌, ℕ, ◌+◌, ◌<◌, ◌∙◌, ◌++◌, [], ◌∷◌, List, length, map, get_or, sym, ap, arith, length-append}
+use Rattle.std.proofs.lemmas.List.{append-nil}
 use Rattle.raster.proofs.RowScan.{IsFresh}
 use Rattle.raster.specs.Encoding.{run_from}
-use Rattle.hextile_codec.specs.Kinds.{row_shows}
+use Rattle.hextile_codec.specs.Kinds.{subrect_of, row_shows}
 use Rattle.hextile_codec.specs.declared.runs.Run.{Run}
-use Rattle.hextile_codec.proofs.RowRuns.{run_at, run_added, run_skipped, run_fits, fresh_next}
+use Rattle.hextile_codec.proofs.RowRuns.{background_alone, run_at, run_added, run_skipped, run_fits, fresh_next}
 use Rattle.hextile_codec.proofs.runs.add_row.Goals as goal
 use Rattle.hextile_codec.proofs.runs.add_row.Goals.{then-value-background, else-value-background}
 
@@ -37,3 +38,8 @@ loop-x-preserved c =
             so_far = rw same (run_skipped before c.loop-x.runs.items row c.args.background c.args.y x len c.loop-x-test.true fresh long w.if-value-background.false c.loop-x.invariant.so_far);
           }
     ]
+
+pub returns-then-is_all-clause-added : goal.returns-then-is_all-clause-added
+returns-then-is_all-clause-added c =
+    let none = background_alone c.args.row.now c.args.background c.args.y (sym c.is_all.ensures ∙ c.if-is_all.true) in
+    sym (ap (λ t. map subrect_of c.args.runs.now.items ++ t) none ∙ append-nil (map subrect_of c.args.runs.now.items))
