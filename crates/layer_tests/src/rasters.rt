@@ -38,6 +38,7 @@ fn rectangles(rt: HostRuntime) {
         }
     );
     assert!(rt; !area.meets(&touching));
+    assert!(rt; area.common(&touching).is_empty());
     assert!(rt; area.within(8, 2));
     assert!(rt; !area.within(7, 2));
     assert!(rt; !area.is_empty());
@@ -163,5 +164,26 @@ fn new_raster_is_black(rt: HostRuntime) -> Result<(), Fail> {
     assert_eq!(rt; raster.get(0, 1), 0);
     assert_eq!(rt; raster.width(), 2);
     assert_eq!(rt; raster.height(), 2);
+    Ok(())
+}
+
+// The upper row of two is put, its right position filled, and all of it painted one lower.
+#[test]
+fn raster_is_painted(rt: HostRuntime) -> Result<(), Fail> {
+    let alloc = rt.alloc();
+    let row = Rect {
+        x: 0,
+        y: 0,
+        w: 2,
+        h: 1,
+    };
+    let mut raster = Raster::new(alloc, 2, 2)?;
+    raster.put(row, &[1, 2]);
+    raster.fill(Rect { x: 1, w: 1, ..row }, 3);
+    let mut paints = Vec::new(alloc);
+    paints.push(Paint::Copy(Rect { y: 1, ..row }, 0, 0))?;
+    raster.paint_all(paints.as_slice());
+    assert_eq!(rt; raster.row(0), [1, 3].as_slice());
+    assert_eq!(rt; raster.row(1), [1, 3].as_slice());
     Ok(())
 }

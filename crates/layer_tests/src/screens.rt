@@ -1,10 +1,10 @@
-//! A source of screens, and a cut of it.
+//! What was asked for; a source of screens, and a cut of it.
 
 ghost use Rattle.std.specs.Prelude.{◌≡◌, IfOk};
 
 use painter::Patch;
 use raster::{Paint, Rect};
-use reflect_core::{Cut, PlainScreen, Puts, ScreenSource};
+use reflect_core::{Asked, Cut, PlainScreen, Puts, ScreenSource};
 use std::alloc::Global;
 use std::test::Fail;
 use tiles::Have;
@@ -44,15 +44,17 @@ fn cut_of(alloc: Global, screen: &mut PlainScreen) -> Result<Cut, Fail>
     Ok(cut)
 }
 
-// Whether it shows two updates, the second of them a Bell, and red and blue, which are due.
+// Whether it shows three updates, of which one is a Bell and the last a text, and red and blue, which are due.
 fn shows_red_and_blue(cut: &Cut) -> bool {
-    cut.number == 2
+    cut.number == 3
         && cut.bells == 1
+        && cut.text.number() == Some(3)
+        && cut.text.bytes() == b"Hi".as_slice()
         && cut.colours.as_slice() == [0xFF0000, 0x0000FF].as_slice()
         && cut.due.as_slice() == [true].as_slice()
 }
 
-// Red and blue and then a Bell are put, raised together, and cut.
+// Red and blue, a Bell and a text are put, raised together, and cut.
 #[test]
 fn shows_what_was_put(rt: HostRuntime) -> Result<(), Fail> {
     let alloc = rt.alloc();
@@ -60,9 +62,41 @@ fn shows_what_was_put(rt: HostRuntime) -> Result<(), Fail> {
     let patch = red_and_blue(alloc)?;
     assert_eq!(rt; put(&mut screen, patch), 1);
     assert_eq!(rt; put(&mut screen, Patch::bell(2, 1)), 2);
+    let text = b"Hi".to_vec(alloc)?;
+    assert_eq!(rt; put(&mut screen, Patch::text(2, 1, text)), 3);
     assert_eq!(rt; screen.look(), 0);
     screen.raise();
-    assert_eq!(rt; screen.look(), 2);
+    assert_eq!(rt; screen.look(), 3);
     assert!(rt; shows_red_and_blue(&cut_of(alloc, &mut screen)?));
     Ok(())
+}
+
+fn pixel_at(x: u64, y: u64) -> Rect
+    ensures { result ≡ record { x = x; y = y; w = 1; h = 1 } }
+{
+    Rect { x, y, w: 1, h: 1 }
+}
+
+// Whether the least rectangle that holds two far corners of 4 by 4 is pending.
+fn is_all_pending(asked: &Asked) -> bool {
+    match asked.area() {
+        Some(area) => area.x == 0 && area.y == 0 && area.w == 4 && area.h == 4,
+        None => false,
+    }
+}
+
+// What lies between two requests is asked for too; a cut leaves the area, an answer doesn't.
+#[test]
+fn asked_and_answered(rt: HostRuntime) {
+    let mut asked = Asked::new(4, 4);
+    asked.new_format();
+    assert!(rt; asked.asked() && asked.area().is_none());
+    asked.request(&pixel_at(0, 0));
+    asked.request(&pixel_at(3, 3));
+    assert!(rt; is_all_pending(&asked));
+    asked.was_cut(5);
+    assert!(rt; !asked.asked() && is_all_pending(&asked));
+    assert_eq!(rt; asked.last_cut(), Some(5));
+    asked.answered();
+    assert!(rt; asked.area().is_none());
 }

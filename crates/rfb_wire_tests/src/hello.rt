@@ -88,11 +88,10 @@ fn security(rt: HostRuntime) {
 }
 
 // The number of a text's bytes, and so many of them.
-fn push_text(bytes: &mut Vec<u8>, count: u32) -> Result<(), Fail> {
+fn push_text(alloc: Global, bytes: &mut Vec<u8>, count: u32) -> Result<(), Fail> {
+    let text = Vec::from_elem(alloc, b'x', count as usize)?;
     bytes.extend_from_slice(&count.to_be_bytes())?;
-    for _ in 0..count {
-        bytes.push(b'x')?;
-    }
+    bytes.extend_from_slice(text.as_slice())?;
     Ok(())
 }
 
@@ -101,7 +100,7 @@ fn reasons(rt: HostRuntime) -> Result<(), Fail> {
     let alloc = rt.alloc();
     for (count, kept) in [(0, 0), (1, 1), (255, 255), (256, 255), (300, 255)] {
         let mut bytes = b"RFB 003.008\n\0".to_vec(alloc)?;
-        push_text(&mut bytes, count)?;
+        push_text(alloc, &mut bytes, count)?;
         assert_eq!(rt; host_fault(bytes.as_slice()), 2);
         let mut hello = HostHello::new();
         match hello.feed(bytes.as_slice()) {
@@ -118,7 +117,7 @@ fn long_names(rt: HostRuntime) -> Result<(), Fail> {
     for (count, kept) in [(0, 0), (255, 255), (256, 255), (300, 255)] {
         let mut bytes = host_bytes(alloc, b"RFB 003.008\n", &[0, 2, 0, 1])?;
         bytes.truncate(38);
-        push_text(&mut bytes, count)?;
+        push_text(alloc, &mut bytes, count)?;
         assert_eq!(rt; host_fault(bytes.as_slice()), 0);
         let mut hello = HostHello::new();
         let used = hello.feed(bytes.as_slice()).ok().ok_or("a fault")?;

@@ -23,29 +23,16 @@ const GIVES: [u8; 64] = [
     0x00, 0x02, 0x00, 0x00, 0x00, 0x00, 0x03, 0x00, 0x00, 0x00, 0x00, 0x00, 0x00, 0x02, 0x00, 0x01,
 ];
 
-// An answer so many times, and then another.
-fn repeated<T: Copy + Drop>(
-    alloc: Global,
-    first: T,
-    count: usize,
-    last: T,
-) -> Result<Vec<T>, Fail> {
-    let mut answers = Vec::new(alloc);
-    for _ in 0..count {
-        answers.push(first)?;
-    }
-    answers.push(last)?;
-    Ok(answers)
-}
-
 // A link that answers a call to take `count` times with the first, and then with the last; so for calls to give.
 fn link_to(
     alloc: Global,
     takes: (Took, usize, Took),
     gives: (Gave, usize, Gave),
 ) -> Result<MemoryLink, Fail> {
-    let answers_to_take = repeated(alloc, takes.0, takes.1, takes.2)?;
-    let answers_to_give = repeated(alloc, gives.0, gives.1, gives.2)?;
+    let mut answers_to_take = Vec::from_elem(alloc, takes.0, takes.1)?;
+    answers_to_take.push(takes.2)?;
+    let mut answers_to_give = Vec::from_elem(alloc, gives.0, gives.1)?;
+    answers_to_give.push(gives.2)?;
     let sends = SENDS.to_vec(alloc)?;
     Ok(MemoryLink::new(alloc, sends, answers_to_take, answers_to_give)?)
 }
