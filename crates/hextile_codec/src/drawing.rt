@@ -1,6 +1,6 @@
 //! Drawing one tile, as its bytes come.
 
-ghost use Rattle.std.specs.Prelude.{◌≡◌, ℕ, ◌+◌, ◌*◌, ◌/◌, ◌%◌, ◌<◌, ◌≤◌, ◌^◌, true, false, length, take, drop, [], ◌∷◌, unwrap_or};
+ghost use Rattle.std.specs.Prelude.{◌≡◌, ℕ, ◌+◌, ◌*◌, ◌/◌, ◌%◌, ◌<◌, ◌≤◌, ◌^◌, true, false, length, take, drop, [], ◌∷◌, unwrap_or, min};
 ghost use Rattle.pixel_format.specs.PixelFormat.{PixelFormat, pixel_len};
 ghost use Rattle.pixel_format.specs.Reading.{step};
 ghost use Rattle.raster.specs.Encoding.{has_bit, tile};
@@ -167,6 +167,7 @@ fn get_row(format: &Format, bytes: &[u8], values: &mut [u32])
     requires { length bytes.now ≡ length values.old * pixel_len format.now }
     ensures { values.new ≡ pixels_in format.now (length values.old) bytes.now }
 {
+    let format = *format;
     let size = format.bytes();
     let mut rest = bytes;
     for value in values.iter_mut() {
@@ -191,6 +192,21 @@ fn draw_row<C: Canvas>(format: &Format, x: u64, y: u64, count: usize, bytes: &[u
     let row = &mut values[..count];
     get_row(format, bytes, row);
     canvas.put_row(x, y, row);
+}
+
+/// How many pixels of `size` bytes lie in `len` bytes, up to a number of them.
+fn pixels_upto(most: u64, len: usize, size: usize) -> u64
+    requires few { most ≤ 16 }
+    requires some { 0 < size }
+    requires small { size ≤ 4 }
+    ensures { result ≡ min most (len / size) }
+{
+    // There is no division where the bytes have them all.
+    if most as usize * size <= len {
+        most
+    } else {
+        (len / size) as u64
+    }
 }
 
 /// Draws the pixels that the bytes have, behind so many that have come, row by row.
@@ -218,7 +234,7 @@ fn draw_pixels<C: Canvas>(
     let mut rest = bytes;
     while count < area.w * area.h && size <= rest.len() {
         let column = count % area.w;
-        let now = (area.w - column).min((rest.len() / size) as u64);
+        let now = pixels_upto(area.w - column, rest.len(), size);
         let (row, others) = rest.split_at(now as usize * size);
         draw_row(
             format,

@@ -36,20 +36,20 @@ loop-count-preserved g c =
     let p : ℕ = pixel_len format in
     let is_size : size ≡ p = c.bytes-size.ensures in
     let count : ℕ = c.loop-count.count in
-    let n : ℕ = c.min-now.result in
+    let n : ℕ = c.pixels_upto-now.result in
     let rest : List ℕ = c.loop-count.rest.now in
     let lt : count < area.w * area.h = c.loop-count-test.true in
-    let least : n ≤ area.w - count % area.w = omega (arith, c.min-now.ensures) in
+    let least : n ≤ area.w - count % area.w = omega (arith, c.pixels_upto-now.ensures) in
     let tests : 1 * size ≤ length rest = omega (arith, c.if-size-rest.true) in
     let size_some : 0 < size = omega (arith, pixel_some format, is_size) in
     let one : 1 ≤ length rest / size = (le-div_iff_mul-le {k = size} {x = 1} {y = length rest} size_some).1 tests in
     let next = next_is area.w area.h count c.requires.tile.wide.0 lt in
-    let some : 0 < n = omega (arith, c.min-now.ensures, one, next.column) in
+    let some : 0 < n = omega (arith, c.pixels_upto-now.ensures, one, next.column) in
     let fills : 1 * size ≤ n * size = mul-le-mul_right {m = 1} {n = n} size some in
     let before = g.C.Canvas.shows c.loop-count.canvas in
     let now = g.C.Canvas.shows c.draw_row.new.canvas in
     let bs : List ℕ = take (n * size) rest in
-    let upto : n * size ≤ length rest = (le-div_iff_mul-le {k = size} {x = n} {y = length rest} size_some).0 (omega (arith, c.min-now.ensures)) in
+    let upto : n * size ≤ length rest = (le-div_iff_mul-le {k = size} {x = n} {y = length rest} size_some).0 (omega (arith, c.pixels_upto-now.ensures)) in
     let len : length bs ≡ n * p = omega (arith, length-take (n * size) rest, upto, ap (λ k. n * k) is_size) in
     let shows = rw (i.width, i.height, c.split_at.ensures.front) at c.draw_row.ensures.shows in
     record {
