@@ -1,6 +1,6 @@
 //! What viewers are answered.
 
-use crate::played::{ASK, ASK_FOR_CHANGES, GREEN_AND_RED, PAINTED, plays};
+use crate::played::{ASK, ASK_FOR_CHANGES, GREEN_AND_RED, PAINTED, plays, plays_bytes, push_bytes};
 use std::test::Fail;
 
 #[test]
@@ -15,6 +15,22 @@ fn pixels_of_two_bytes(rt: HostRuntime) -> Result<(), Fail> {
     let format = "open 1 full\nviewer 1 00000000 10100101 001F003F 001F0B05 00000000\n";
     let printed = "1: 00000001 00000000 00020001 00000000 F800001F\n";
     assert!(rt; plays(rt.alloc(), &[PAINTED, format, ASK, "turn 1\n"], printed, 0)?);
+    Ok(())
+}
+
+#[test]
+fn pixels_of_two_bytes_in_single_bytes(rt: HostRuntime) -> Result<(), Fail> {
+    let alloc = rt.alloc();
+    let mut script = PAINTED.as_bytes().to_vec(alloc)?;
+    script.extend_from_slice(b"open 1 full\n")?;
+    let format = [
+        0, 0, 0, 0, 16, 16, 1, 1, 0, 31, 0, 63, 0, 31, 11, 5, 0, 0, 0, 0,
+    ];
+    push_bytes(alloc, &mut script, &format)?;
+    push_bytes(alloc, &mut script, &[3, 0, 0, 0, 0, 0, 0, 2, 0, 1])?;
+    script.extend_from_slice(b"turn 1\n")?;
+    let printed = "1: 00000001 00000000 00020001 00000000 F800001F\n";
+    assert!(rt; plays_bytes(alloc, script.as_slice(), printed, 0));
     Ok(())
 }
 

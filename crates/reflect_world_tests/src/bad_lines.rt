@@ -4,7 +4,7 @@ use crate::played::{plays, plays_bytes};
 use std::test::Fail;
 
 /// Lines of another form, and viewers that aren't open.
-const BAD: [&str; 39] = [
+const BAD: [&str; 48] = [
     "",
     " ",
     "paint",
@@ -39,6 +39,15 @@ const BAD: [&str; 39] = [
     "open 65 full",
     "open 18446744073709551618 full",
     "open full",
+    "greet",
+    "greet 1",
+    "greet 1 full",
+    "greet 2",
+    "greet 2 Full",
+    "greet 2 full ",
+    "greet 0 full",
+    "greet 65 full",
+    "Greet 2 full",
     "viewer 1",
     "viewer 2 05",
     "viewer 01 05",
@@ -56,10 +65,11 @@ fn bad_lines(rt: HostRuntime) -> Result<(), Fail> {
 }
 
 /// First lines that open no screen.
-const NO_SCREEN: [&str; 17] = [
+const NO_SCREEN: [&str; 18] = [
     "\n",
     "raise\n",
     "open 1 full\n",
+    "greet 1 full\n",
     "screen\n",
     "screen 2 1\n",
     "screen 2 1 \n",

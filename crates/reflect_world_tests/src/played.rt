@@ -1,7 +1,8 @@
 //! Scripts, and what they print.
 
-use reflect_world::replay;
+use reflect_world::{replay, shown};
 use std::alloc::{AllocError, Global};
+use std::test::Fail;
 
 /// A screen of one green pixel and one red one beside it, put and raised.
 pub const PAINTED: &str = "screen 2 1 T
@@ -20,6 +21,17 @@ pub const ASK_FOR_CHANGES: &str = "viewer 1 03010000 00000002 0001
 /// The two pixels, as they are printed.
 pub const GREEN_AND_RED: &str = "1: 00000001 00000000 00020001 00000000 0000FF00 FF000000
 ";
+
+/// Adds a line of viewer 1 for each of these bytes.
+pub fn push_bytes(alloc: Global, script: &mut Vec<u8>, bytes: &[u8]) -> Result<(), Fail> {
+    for byte in bytes {
+        let hex = shown(alloc, &[*byte])?;
+        script.extend_from_slice(b"viewer 1 ")?;
+        script.extend_from_slice(hex.as_bytes())?;
+        script.push(b'\n')?;
+    }
+    Ok(())
+}
 
 /// Whether a script in parts prints this, with this status.
 pub fn plays(alloc: Global, parts: &[&str], printed: &str, status: u8) -> Result<bool, AllocError> {
