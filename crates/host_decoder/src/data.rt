@@ -54,10 +54,10 @@ impl Data {
     ) -> Result<Data, Fault>
         requires size { IsScreenSize width height }
         requires within { IsWithin area width height }
-        ensures stands { IfOk result (λ data. DataStands data (data_of host_format width height area encoding)) }
-        ensures width { IfOk result (λ data. data.width ≡ width) }
-        ensures height { IfOk result (λ data. data.height ≡ height) }
-        ensures area { IfOk result (λ data. data.area ≡ area) }
+        ensures stands { IfOk result (λ d. DataStands d (data_of host_format width height area encoding)) }
+        ensures width { IfOk result (λ d. d.width ≡ width) }
+        ensures height { IfOk result (λ d. d.height ≡ height) }
+        ensures area { IfOk result (λ d. d.area ≡ area) }
         ensures err { IfErr result (λ fault. (fault ≡ Memory) ⊎ ((fault ≡ UnknownEncoding) × (data_of host_format width height area encoding ≡ Faulty UnknownEncoding))) }
     {
         let body = match encoding {
