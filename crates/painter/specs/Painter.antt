@@ -1,6 +1,7 @@
 -- What the paints of a host's message are gathered in, and what they are painted on.
 use Rattle.std.specs.Prelude.{◌≡◌, ℕ, List, [], All}
-use Rattle.raster.specs.Painted.{Fits}
+use Rattle.raster.specs.declared.painting.Paint as code
+use Rattle.raster.specs.Painted.{Fits, paint_of}
 use Rattle.raster.specs.Screen.{Canvas, LooksLike, value_at}
 use Rattle.raster.specs.Size.{IsScreenSize}
 use Rattle.raster.specs.Update.{Paint, after_paints}
@@ -21,9 +22,9 @@ abbrev pub with_paints : Painting → List Paint → Painting
 with_paints painting paints = record { width = painting.width; height = painting.height; colours = painting.colours; paints = paints }
 
 -- A screen that holds each of the paints.
-pub record IsPainting (w h : ℕ) (paints : List Paint) : Type 0 where
+pub record IsPainting (w h : ℕ) (paints : List code.Paint) : Type 0 where
   pub size : IsScreenSize w h
-  pub fits : All (Fits w h) paints
+  pub fits : All (λ p. Fits w h (paint_of p)) paints
 
 -- The working raster shows the paints that were added before, and none is left.
 pub record IsPainted (old new : Painting) : Type 0 where

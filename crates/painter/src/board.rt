@@ -108,9 +108,7 @@ impl Board {
             self.height as usize,
             patch.painted(),
         );
-        if patch.is_bell() {
-            self.bells += 1;
-        }
+        self.bells += u64::from(patch.is_bell());
         if let Some(bytes) = patch.text_bytes() {
             self.text.set(bytes, self.number);
         }

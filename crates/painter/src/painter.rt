@@ -32,7 +32,7 @@ impl Model for Painter {
 
     ghost view = { λ p. record { width = p.raster.width; height = p.raster.height; colours = p.raster.colours; paints = map paint_of p.paints.items } };
 
-    ghost invariant = { λ p. IsPainting p.raster.width p.raster.height (map paint_of p.paints.items) };
+    ghost invariant = { λ p. IsPainting p.raster.width p.raster.height p.paints.items };
 }
 
 impl Painter {

@@ -142,19 +142,17 @@ impl Patch {
         ensures ok { IfOk result (λ copied. copied ≡ self.now) }
         ensures err { IfErr result (λ fault. fault ≡ Memory) }
     {
-        let change = match &self.change {
-            Change::Paints(paints) => Change::Paints(copies_of(alloc, paints.as_slice())?),
-            Change::Bell => Change::Bell,
+        match &self.change {
+            Change::Paints(paints) => {
+                let copied = copies_of(alloc, paints.as_slice())?;
+                Ok(Patch::paints(self.width, self.height, copied))
+            }
+            Change::Bell => Ok(Patch::bell(self.width, self.height)),
             Change::Text(text) => match text.as_slice().to_vec(alloc) {
-                Ok(text) => Change::Text(text),
-                Err(_) => return Err(Fault::Memory),
+                Ok(copied) => Ok(Patch::text(self.width, self.height, copied)),
+                Err(_) => Err(Fault::Memory),
             },
-        };
-        Ok(Patch {
-            width: self.width,
-            height: self.height,
-            change,
-        })
+        }
     }
 
     /// The width and height of the screen that it is for.
