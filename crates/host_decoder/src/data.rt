@@ -15,6 +15,7 @@ ghost use Rattle.host_decoder.specs.Data.{DataStands, IsSameArea, FedAs};
 use crate::body::Body;
 use crate::copy_source::CopySource;
 use crate::raw_data::RawPixels;
+use crate::rre_data::RreData;
 use pixel_format::Fault;
 use raster::{Paint, Rect};
 use std::alloc::Global;
@@ -63,7 +64,8 @@ impl Data {
         let body = match encoding {
             0 => Body::Raw(RawPixels::new(alloc, (area.w * area.h) as usize)?),
             1 => Body::Copy(CopySource::new()),
-            2 | 5 => return Err(Fault::Memory),
+            2 => Body::Rre(RreData::new(alloc, area.w, area.h)?),
+            5 => return Err(Fault::Memory),
             _ => return Err(Fault::UnknownEncoding),
         };
         Ok(Data {
@@ -82,14 +84,22 @@ impl Data {
         ensures area { IsSameArea self.old self.new }
         ensures fed { (reading : Reading update.Paint) → DataStands self.old reading → DataStands self.new (after reading piece.now) × FedAs reading piece.now result }
     {
-        Ok(piece.len())
+        match &mut self.body {
+            Body::Raw(raw) => raw.feed(piece),
+            Body::Copy(source) => source.feed(self.width, self.height, &self.area, piece),
+            Body::Rre(rre) => rre.feed(piece),
+        }
     }
 
     /// Whether the rectangle is read to its end.
     pub(crate) fn is_whole(&self) -> bool
         ensures { (reading : Reading update.Paint) → DataStands self.now reading → result ≡ is_some (whole_of reading) }
     {
-        false
+        match &self.body {
+            Body::Raw(raw) => raw.is_whole(),
+            Body::Copy(source) => source.is_whole(self.width, self.height, &self.area),
+            Body::Rre(rre) => rre.is_whole(),
+        }
     }
 
     /// The paint of a rectangle that is read to its end.
@@ -98,6 +108,14 @@ impl Data {
         ensures paint { (painted : update.Paint) → DataStands self (Done painted) → paint_of result ≡ in_colours painted }
         ensures fits { Fits self.width self.height (paint_of result) }
     {
-        Paint::Copy(self.area, 0, 0)
+        let area = self.area;
+        match self.body {
+            Body::Raw(raw) => Paint::Put(area, raw.into_colours()),
+            Body::Copy(copy) => {
+                let source = copy.source(&area);
+                Paint::Copy(area, source.x, source.y)
+            }
+            Body::Rre(rre) => Paint::Put(area, rre.into_colours()),
+        }
     }
 }
