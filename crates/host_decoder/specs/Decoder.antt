@@ -45,12 +45,16 @@ rectangles w h sofar left = times left (rectangle host_format w h) >>= λ others
 abbrev pub behind : ℕ → ℕ → List Paint → ℕ → Paint → Reading ServerMessage
 behind w h sofar left paint = rectangles w h (sofar ++ paint ∷ []) left
 
+-- The same behind one that is still being read.
+abbrev pub with_others : ℕ → ℕ → List Paint → ℕ → Reading Paint → Reading ServerMessage
+with_others w h sofar left reading = reading >>= behind w h sofar left
+
 -- What is read from the beginning of a part on.
 abbrev pub form_of : ℕ → ℕ → List Paint → Part → Reading ServerMessage
 form_of w h sofar Kind = host_message w h
 form_of w h sofar Count = framebuffer_update host_format w h
-form_of w h sofar (Area left) = rectangle host_format w h >>= behind w h sofar left
-form_of w h sofar (Encoding left area) = (u32 >>= data_of host_format w h area) >>= behind w h sofar left
+form_of w h sofar (Area left) = with_others w h sofar left (rectangle host_format w h)
+form_of w h sofar (Encoding left area) = with_others w h sofar left (u32 >>= data_of host_format w h area)
 form_of w h sofar Colours = set_color_map_entries
 form_of w h sofar Length = text ServerCutText LostText
 
@@ -97,7 +101,7 @@ pub record InData (w h left : ℕ) (reader : DataProgress) (paints : List Paint)
   pub reading : Reading Paint
   pub stands : DataStands reader reading
   pub wants : wants_more reading ≡ true
-  pub reads : r ≡ (reading >>= behind w h sofar left)
+  pub reads : r ≡ with_others w h sofar left reading
 
 -- A rectangle's data are at fault.
 pub record AtFault (reader : DataProgress) (r : Reading ServerMessage) : Type 0 where

@@ -1,14 +1,14 @@
 //! The rectangles of an update, one after another (RFC 6143, 7.6.1).
 
 ghost use Rattle.std.specs.Prelude.{◌≡◌, ℕ, ◌<◌, ◌≤◌, List, length, take};
-ghost use Rattle.pixel_format.specs.Reading.{Reading, Done, ◌>>=◌};
+ghost use Rattle.pixel_format.specs.Reading.{Reading, Done};
 ghost use Rattle.pixel_format.specs.PixelFormat.{host_format};
 ghost use Rattle.raster.specs.Screen.{IsWithin};
 ghost use Rattle.raster.specs.Size.{IsScreenSize};
 ghost use Rattle.raster.specs.Update as update;
 ghost use Rattle.rfb_wire.specs.ServerMessage.{data_of};
 ghost use Rattle.host_decoder.specs.Data.{DataStands};
-ghost use Rattle.host_decoder.specs.Decoder.{GoesOn, Holds, Stays, Uses, behind, rectangles};
+ghost use Rattle.host_decoder.specs.Decoder.{GoesOn, Holds, Stays, Uses, behind, rectangles, with_others};
 ghost use Rattle.host_decoder.specs.Pendings.{IsOpen, IsReading};
 
 use crate::data::Data;
@@ -64,7 +64,7 @@ pub(crate) fn read_data(
     ensures within { result.1 ≤ length bytes.now }
     ensures some { IsOpen reader → 0 < length bytes.now → 0 < result.1 }
     ensures uses { (sofar : List update.Paint) → (reading : Reading update.Paint) → Holds painter.old.width painter.old.height painter.old.paints sofar → DataStands reader reading
-        → Uses painter.old painter.new result.0 (reading >>= behind painter.old.width painter.old.height sofar left) bytes.now result.1 }
+        → Uses painter.old painter.new result.0 (with_others painter.old.width painter.old.height sofar left reading) bytes.now result.1 }
 {
     let Ok(used) = reader.feed(bytes) else {
         return (State::Spoiled(reader), bytes.len());
@@ -88,7 +88,7 @@ pub(crate) fn begin_data(
     requires within { IsWithin area painter.old.width painter.old.height }
     ensures stays { Stays painter.old painter.new result }
     ensures goes_on { (sofar : List update.Paint) → Holds painter.old.width painter.old.height painter.old.paints sofar
-        → GoesOn painter.old painter.new result (data_of host_format painter.old.width painter.old.height area encoding >>= behind painter.old.width painter.old.height sofar left) }
+        → GoesOn painter.old painter.new result (with_others painter.old.width painter.old.height sofar left (data_of host_format painter.old.width painter.old.height area encoding)) }
 {
     let (width, height) = painter.size();
     match Data::new(alloc, width, height, area, encoding) {
