@@ -1,0 +1,322 @@
+-- Reading a host's bytes message by message.
+use Rattle.std.proofs.Common.{◌≡◌, ℕ, suc, ◌+◌, ◌<◌, ◌≤◌, Bool, true, false, List, [], ◌∷◌, ◌++◌, length, take, drop, Some, None, Ok, Err, ◌^◌, ◌⊎◌, length-append, inl, inr, refl, sym, ap, subst, ◌∙◌, arith, append_assoc}
+use Rattle.std.proofs.lemmas.List.{append-nil, length-take, drop_all, take_all, take-append-drop}
+use Rattle.std.proofs.lemmas.List.Elements.{filter_map-append}
+use Rattle.std.proofs.lemmas.Bool.{cases_lt}
+use Rattle.std.proofs.Math.Seq.{take-add}
+use Rattle.std.specs.Prelude.{min, option_map}
+use Rattle.std.specs.List.{filter_map}
+use Rattle.pixel_format.specs.Reading.{Reading, Done, Faulty, Want, after, taken, whole_of, fault_of, wants_more, renewed, messages, rest, messages_from, rest_from}
+use Rattle.pixel_format.specs.declared.fault.Fault.{Fault}
+use Rattle.pixel_format.specs.declared.fault.Fault.TheVariants.{LinkFailed, Memory, NumbersOut}
+use Rattle.pixel_format.proofs.ReadingLaws.{after-append, after-done, after-faulty, messages-append, rest-append, messages-open, messages-whole, rest-whole, taken-le, taken-nil, taken-some}
+use Rattle.raster.specs.Update.{Update}
+use Rattle.rfb_wire.specs.ServerMessage.{ServerMessage, FramebufferUpdate, SetColorMapEntries, Bell, ServerCutText, LostText}
+use Rattle.painter.specs.Painter.{Painting}
+use Rattle.host_decoder.specs.Decoder.{Decodes, Decoding, Feeds, host_message}
+use Rattle.host_decoder.specs.Events.{brought_by, event_of}
+use Rattle.host_decoder.specs.Updates.{update_of, updates}
+use Rattle.host_decoder.specs.declared.event.HostEvent.{HostEvent}
+use Rattle.reflect_core.specs.Plain.{IsPutRefusal}
+use Rattle.reflect_core.specs.Sequential.{Begins}
+use Rattle.host_reader.specs.Running.{AtFault, CanRead, EndsAt, EndsWith, IsEventFor, IsInside, HasRead, Stops}
+
+-- ---- one message
+
+-- Where more is wanted after these bytes, all of them were taken.
+taken_open : {A : Type 0} (now : Reading A) (bs : List ℕ) → wants_more (after now bs) ≡ true → taken now bs ≡ length bs
+taken_open now [] w = taken-nil now
+taken_open (Done x) (b ∷ bs) w = let e : false ≡ true = sym (ap wants_more (after-done x bs)) ∙ w in absurd cc
+taken_open {A} (Faulty f) (b ∷ bs) w = let e : false ≡ true = sym (ap wants_more (after-faulty {A = A} f bs)) ∙ w in absurd cc
+taken_open (Want more) (b ∷ bs) w = ap suc (taken_open (more b) bs w)
+
+-- The bytes that are taken are all that matters.
+after_taken : {A : Type 0} (now : Reading A) (bs : List ℕ) → after now (take (taken now bs) bs) ≡ after now bs
+after_taken (Done x) bs = sym (after-done x bs)
+after_taken (Faulty f) bs = sym (after-faulty f bs)
+after_taken (Want more) [] = refl
+after_taken (Want more) (b ∷ bs) = after_taken (more b) bs
+
+taken_taken : {A : Type 0} (now : Reading A) (bs : List ℕ) → taken now (take (taken now bs) bs) ≡ taken now bs
+taken_taken (Done x) bs = refl
+taken_taken (Faulty f) bs = refl
+taken_taken (Want more) [] = refl
+taken_taken (Want more) (b ∷ bs) = ap suc (taken_taken (more b) bs)
+
+taken_over : {A : Type 0} (now : Reading A) (bs : List ℕ) → drop (taken now (take (taken now bs) bs)) (take (taken now bs) bs) ≡ []
+taken_over now bs = let n = taken_taken now bs in let l = length-take (taken now bs) bs in drop_all (taken now (take (taken now bs) bs)) (take (taken now bs) bs) (omega (arith, n, l))
+
+-- A message that is whole is the only one in the bytes that it takes, and the next begins behind them.
+whole_message : {A : Type 0} (form now : Reading A) (bs : List ℕ) (x : A) → wants_more now ≡ true → after now bs ≡ Done x → messages_from form now (take (taken now bs) bs) ≡ x ∷ []
+whole_message form now bs x w e =
+    messages-whole form now (take (taken now bs) bs) x w (after_taken now bs ∙ e) ∙ ap (λ (ys : List ℕ). x ∷ messages_from form form ys) (taken_over now bs)
+
+whole_rest : {A : Type 0} (form now : Reading A) (bs : List ℕ) (x : A) → wants_more now ≡ true → after now bs ≡ Done x → rest_from form now (take (taken now bs) bs) ≡ form
+whole_rest form now bs x w e =
+    rest-whole form now (take (taken now bs) bs) x w (after_taken now bs ∙ e) ∙ ap (λ (ys : List ℕ). rest_from form form ys) (taken_over now bs)
+
+open_is : {A : Type 0} (now : Reading A) → wants_more now ≡ true → whole_of now ≡ None
+open_is (Done x) w = absurd cc
+open_is (Faulty f) w = absurd cc
+open_is (Want more) w = refl
+
+wants_from : {A : Type 0} (now : Reading A) → whole_of now ≡ None → fault_of now ≡ None → wants_more now ≡ true
+wants_from (Done x) w f = absurd cc
+wants_from (Faulty g) w f = absurd cc
+wants_from (Want more) w f = refl
+
+renewed_open : {A : Type 0} (form now : Reading A) → whole_of now ≡ None → renewed form now ≡ now
+renewed_open form (Done x) w = absurd cc
+renewed_open form (Faulty f) w = refl
+renewed_open form (Want more) w = refl
+
+-- What was found is of a whole message.
+pub found : {A B : Type 0} (f : A → B) (event : B) (now : Reading A) → Some event ≡ option_map f (whole_of now) → (x : A) × (now ≡ Done x) × (event ≡ f x)
+found f event (Done x) e = (x, refl, cc)
+found f event (Faulty g) e = absurd cc
+found f event (Want more) e = absurd cc
+
+-- Where nothing is found no message is whole.
+pub found_none : {A B : Type 0} (f : A → B) (now : Reading A) → None ≡ option_map f (whole_of now) → whole_of now ≡ None
+found_none f (Done x) e = absurd cc
+found_none f (Faulty g) e = refl
+found_none f (Want more) e = refl
+
+-- ---- what a message brings
+
+brings : (w h : ℕ) (m : ServerMessage) → brought_by (event_of w h m) ≡ filter_map update_of (m ∷ [])
+brings w h (FramebufferUpdate paints) = refl
+brings w h SetColorMapEntries = refl
+brings w h Bell = refl
+brings w h (ServerCutText text) = refl
+brings w h (LostText len) = refl
+
+suited : (w h : ℕ) (m : ServerMessage) → IsEventFor w h (event_of w h m)
+suited w h (FramebufferUpdate paints) = (refl, refl)
+suited w h SetColorMapEntries = tt
+suited w h Bell = (refl, refl)
+suited w h (ServerCutText text) = (refl, refl)
+suited w h (LostText len) = tt
+
+-- An event is for the publisher's screen, which is the decoder's.
+pub event_suits : (w h dw dh pw ph : ℕ) (event : HostEvent) (now : Reading ServerMessage) → dw ≡ w → dh ≡ h → pw ≡ w → ph ≡ h → Some event ≡ option_map (event_of dw dh) (whole_of now) → IsEventFor pw ph event
+event_suits w h dw dh pw ph event now a b c d e =
+    let f = found (event_of dw dh) event now e in
+    rw (c ∙ sym a, d ∙ sym b) (subst (λ (v : HostEvent). IsEventFor dw dh v) (sym f.2) (suited dw dh f.0))
+
+-- ---- the updates of more bytes
+
+updates_more : (w h : ℕ) (xs ys : List ℕ) → updates w h (xs ++ ys) ≡ updates w h xs ++ filter_map update_of (messages_from (host_message w h) (rest (host_message w h) xs) ys)
+updates_more w h xs ys =
+    let form = host_message w h in
+    ap (λ (ms : List ServerMessage). filter_map update_of ms) (messages-append form form xs ys) ∙ filter_map-append update_of (messages form xs) (messages_from form (rest form xs) ys)
+
+-- Those of the first bytes are the first.
+pub updates_begin : (w h : ℕ) (xs ys : List ℕ) → Begins (updates w h xs) (updates w h (xs ++ ys))
+updates_begin w h xs ys = (filter_map update_of (messages_from (host_message w h) (rest (host_message w h) xs) ys), updates_more w h xs ys)
+
+-- Bytes that end no message bring none.
+updates_same : (w h : ℕ) (xs ys : List ℕ) → whole_of (after (rest (host_message w h) xs) ys) ≡ None → updates w h (xs ++ ys) ≡ updates w h xs
+updates_same w h xs ys n =
+    let open_ = messages-open (host_message w h) (rest (host_message w h) xs) ys n in
+    updates_more w h xs ys ∙ (ap (λ (ms : List ServerMessage). updates w h xs ++ filter_map update_of ms) open_.0 ∙ append-nil (updates w h xs))
+
+rest_open : (w h : ℕ) (xs ys : List ℕ) → whole_of (after (rest (host_message w h) xs) ys) ≡ None → rest (host_message w h) (xs ++ ys) ≡ after (rest (host_message w h) xs) ys
+rest_open w h xs ys n =
+    let form = host_message w h in
+    rest-append form form xs ys ∙ (messages-open form (rest form xs) ys n).1
+
+-- ---- in the middle of a message
+
+-- Reading the bytes that begin a message is how the stream goes on.
+inside_rest : (w h : ℕ) (stream : List ℕ) (i : IsInside w h stream) → rest (host_message w h) stream ≡ after (host_message w h) i.begun
+inside_rest w h stream i =
+    let form = host_message w h in
+    ap (rest form) i.bytes ∙ (rest-append form form i.whole i.begun ∙ (ap (λ (r : Reading ServerMessage). rest_from form r i.begun) i.between ∙ (messages-open form form i.begun (open_is (after form i.begun) i.wants)).1))
+
+goes_inside : (w h : ℕ) (is_between : Bool) (stream more : List ℕ) → EndsAt is_between w h stream → 0 < length more → wants_more (after (rest (host_message w h) stream) more) ≡ true → IsInside w h (stream ++ more)
+goes_inside w h true stream more e some wants =
+    record {
+      whole = stream;
+      begun = more;
+      bytes = refl;
+      between = e;
+      some = some;
+      wants = sym (ap (λ (r : Reading ServerMessage). wants_more (after r more)) e) ∙ wants;
+    }
+goes_inside w h false stream more i some wants =
+    let form = host_message w h in
+    let count = length-append i.begun more in
+    record {
+      whole = i.whole;
+      begun = i.begun ++ more;
+      bytes = ap (λ (xs : List ℕ). xs ++ more) i.bytes ∙ append_assoc i.whole i.begun more;
+      between = i.between;
+      some = omega (arith, count, some);
+      wants = ap wants_more (after-append form i.begun more ∙ sym (ap (λ (r : Reading ServerMessage). after r more) (inside_rest w h stream i))) ∙ wants;
+    }
+
+-- ---- a step of the loop over a piece
+
+-- So many bytes of a piece, and then so many more.
+pub further : (stream piece left : List ℕ) (used count : ℕ) → left ≡ drop used piece → (stream ++ take used piece) ++ take count left ≡ stream ++ take (used + count) piece
+further stream piece left used count e =
+    append_assoc stream (take used piece) (take count left) ∙ ap (λ (xs : List ℕ). stream ++ xs) (ap (λ (xs : List ℕ). take used piece ++ take count xs) e ∙ sym (take-add used count piece))
+
+-- And then all that are left.
+pub to_the_end : (stream piece left : List ℕ) (used : ℕ) → left ≡ drop used piece → (stream ++ take used piece) ++ left ≡ stream ++ piece
+to_the_end stream piece left used e =
+    append_assoc stream (take used piece) left ∙ ap (λ (xs : List ℕ). stream ++ xs) (ap (λ (xs : List ℕ). take used piece ++ xs) e ∙ take-append-drop used piece)
+
+-- A decoder for which more is wanted uses some of what it is fed, and no more than there is.
+pub uses_some : (decoder fed : Decoding) (old new : Painting) (now : Reading ServerMessage) (left : List ℕ) (count : ℕ) → wants_more now ≡ true → 0 < length left → Feeds fed new now left (Ok count) → (0 < count) × (count ≤ length left)
+uses_some decoder fed old new now left count w some f =
+    let least = taken-some now left w some in
+    let most = taken-le now left in
+    (omega (arith, least, f.1), omega (arith, most, f.1))
+
+-- A message was whole, and its update was put.
+pub read_whole : (w h : ℕ) (decoder fed new : Decoding) (painter other : Painting) (is_between : Bool) (stream left : List ℕ) (old now next : List Update) (count : ℕ) (event : HostEvent)
+    → fed.width ≡ w → fed.height ≡ h → HasRead w h decoder painter is_between stream old now → Feeds fed other (rest (host_message w h) stream) left (Ok count)
+    → Some event ≡ option_map (event_of fed.width fed.height) (whole_of (after (rest (host_message w h) stream) left))
+    → Decodes new other (renewed (host_message fed.width fed.height) (after (rest (host_message w h) stream) left))
+    → next ≡ now ++ brought_by event → HasRead w h new other true (stream ++ take count left) old next
+read_whole w h decoder fed new painter other is_between stream left old now next count event wide high read feeds gives decodes put =
+    let form = host_message w h in
+    let r = rest form stream in
+    let f = found (event_of fed.width fed.height) event (after r left) gives in
+    let n : take count left ≡ take (taken r left) left = ap (λ k. take k left) feeds.1 in
+    let ends : rest form (stream ++ take count left) ≡ form =
+    rest-append form form stream (take count left) ∙ (ap (λ (xs : List ℕ). rest_from form r xs) n ∙ whole_rest form r left f.0 read.wants f.1) in
+    let one : messages_from form r (take count left) ≡ f.0 ∷ [] = ap (λ (xs : List ℕ). messages_from form r xs) n ∙ whole_message form r left f.0 read.wants f.1 in
+    let more : updates w h (stream ++ take count left) ≡ updates w h stream ++ brought_by event =
+    updates_more w h stream (take count left)
+    ∙ (ap (λ (ms : List ServerMessage). updates w h stream ++ filter_map update_of ms) one ∙ ap (λ (us : List Update). updates w h stream ++ us) (sym (ap brought_by f.2 ∙ brings fed.width fed.height f.0))) in
+    let anew : renewed (host_message fed.width fed.height) (after r left) ≡ form = ap (λ (q : Reading ServerMessage). renewed (host_message fed.width fed.height) q) f.1 ∙ (ap (λ a. host_message a fed.height) wide ∙ ap (host_message w) high) in
+    record {
+      reads = subst (λ (q : Reading ServerMessage). Decodes new other q) (anew ∙ sym ends) decodes;
+      wants = ap wants_more ends;
+      ends = ends;
+      put = put ∙ (ap (λ (us : List Update). us ++ brought_by event) read.put ∙ (append_assoc old (updates w h stream) (brought_by event) ∙ ap (λ (us : List Update). old ++ us) (sym more)));
+    }
+
+-- None was.
+pub read_open : (w h : ℕ) (decoder fed new : Decoding) (painter other : Painting) (is_between : Bool) (stream left : List ℕ) (old now : List Update) (count : ℕ)
+    → 0 < length left → HasRead w h decoder painter is_between stream old now → Feeds fed other (rest (host_message w h) stream) left (Ok count)
+    → None ≡ option_map (event_of fed.width fed.height) (whole_of (after (rest (host_message w h) stream) left))
+    → Decodes new other (renewed (host_message fed.width fed.height) (after (rest (host_message w h) stream) left))
+    → HasRead w h new other false (stream ++ take count left) old now
+read_open w h decoder fed new painter other is_between stream left old now count some read feeds gives decodes =
+    let form = host_message w h in
+    let r = rest form stream in
+    let none : whole_of (after r left) ≡ None = found_none (event_of fed.width fed.height) (after r left) gives in
+    let wants : wants_more (after r left) ≡ true = wants_from (after r left) none feeds.2 in
+    let all : count ≡ length left = feeds.1 ∙ taken_open r left wants in
+    let whole : take count left ≡ left = take_all count left (omega (arith, all)) in
+    let goes : rest form (stream ++ left) ≡ after r left = rest_open w h stream left none in
+    let inside : HasRead w h new other false (stream ++ left) old now =
+    record {
+      reads = subst (λ (q : Reading ServerMessage). Decodes new other q) (renewed_open (host_message fed.width fed.height) (after r left) none ∙ sym goes) decodes;
+      wants = ap wants_more goes ∙ wants;
+      ends = goes_inside w h is_between stream left read.ends some wants;
+      put = read.put ∙ ap (λ (us : List Update). old ++ us) (sym (updates_same w h stream left none));
+    } in
+    subst (λ (xs : List ℕ). HasRead w h new other false (stream ++ xs) old now) (sym whole) inside
+
+-- The decoder is at a fault, or was refused memory.
+pub read_stops : (w h : ℕ) (decoder fed : Decoding) (painter other : Painting) (is_between : Bool) (stream left whole : List ℕ) (old now : List Update) (fault : Fault)
+    → stream ++ left ≡ whole → HasRead w h decoder painter is_between stream old now → Feeds fed other (rest (host_message w h) stream) left (Err fault) → Stops w h fault whole old now
+read_stops w h decoder fed painter other is_between stream left whole old now fault e read (inl refused) =
+    inl (record { put = updates w h stream; added = read.put; begins = subst (λ (xs : List ℕ). Begins (updates w h stream) (updates w h xs)) e (updates_begin w h stream left); why = inl refused.0 })
+read_stops w h decoder fed painter other is_between stream left whole old now fault e read (inr faulty) =
+    let r = rest (host_message w h) stream in
+    let none : whole_of (after r left) ≡ None = ap whole_of faulty.0 in
+    let at : AtFault w h fault (stream ++ left) old now =
+    record { put = read.put ∙ ap (λ (us : List Update). old ++ us) (sym (updates_same w h stream left none)); rest = rest_open w h stream left none ∙ faulty.0 } in
+    inr (subst (λ (xs : List ℕ). AtFault w h fault xs old now) e at)
+
+why_refused : (count : ℕ) (fault : Fault) → IsPutRefusal count fault → (fault ≡ Memory) ⊎ ((fault ≡ NumbersOut) × (count ≡ 2 ^ 62))
+why_refused count fault (inl p) = inl p.1
+why_refused count fault (inr p) = inr (p.1, p.0)
+
+-- An update was refused.
+pub put_stops : (w h : ℕ) (decoder : Decoding) (painter : Painting) (is_between : Bool) (stream left whole : List ℕ) (old now next : List Update) (fault : Fault)
+    → stream ++ left ≡ whole → HasRead w h decoder painter is_between stream old now → IsPutRefusal (length now) fault → next ≡ now → Stops w h fault whole old next
+put_stops w h decoder painter is_between stream left whole old now next fault e read refused same =
+    inl (
+    record {
+      put = updates w h stream;
+      added = same ∙ read.put;
+      begins = subst (λ (xs : List ℕ). Begins (updates w h stream) (updates w h xs)) e (updates_begin w h stream left);
+      why = subst (λ (us : List Update). (fault ≡ Memory) ⊎ ((fault ≡ NumbersOut) × (length us ≡ 2 ^ 62))) (sym same) (why_refused (length now) fault refused);
+    }
+    )
+
+-- ---- the loop over pieces
+
+-- Since the link had taken some bytes and the publisher had the updates old, these bytes more were taken, and all was read and put.
+pub record IsRunning (w h : ℕ) (decoder : Decoding) (painter : Painting) (is_between : Bool) (taken_old taken_now : List ℕ) (old now : List Update) : Type 0 where
+  pub stream : List ℕ
+  pub taken : taken_now ≡ taken_old ++ stream
+  pub read : HasRead w h decoder painter is_between stream old now
+
+pub running_begins : (decoder : Decoding) (painter : Painting) (taken_old : List ℕ) (old : List Update) → Decodes decoder painter (host_message decoder.width decoder.height)
+    → IsRunning decoder.width decoder.height decoder painter true taken_old taken_old old old
+running_begins decoder painter taken_old old decodes =
+    record { stream = []; taken = sym (append-nil taken_old); read = record { reads = decodes; wants = refl; ends = refl; put = sym (append-nil old) } }
+
+-- ---- more is wanted
+
+-- Behind a whole message another is wanted.
+pub can_whole : (fed new : Decoding) (other : Painting) (now : Reading ServerMessage) (event : HostEvent) → Some event ≡ option_map (event_of fed.width fed.height) (whole_of now)
+    → Decodes new other (renewed (host_message fed.width fed.height) now) → CanRead new other
+can_whole fed new other now event gives decodes =
+    let form = host_message fed.width fed.height in
+    let f = found (event_of fed.width fed.height) event now gives in
+    record { reading = form; reads = subst (λ (q : Reading ServerMessage). Decodes new other q) (ap (λ (q : Reading ServerMessage). renewed form q) f.1) decodes; wants = refl }
+
+-- And inside one more of it.
+pub can_open : (fed new : Decoding) (other : Painting) (now : Reading ServerMessage) → None ≡ option_map (event_of fed.width fed.height) (whole_of now) → fault_of now ≡ None
+    → Decodes new other (renewed (host_message fed.width fed.height) now) → CanRead new other
+can_open fed new other now gives fine decodes =
+    let none = found_none (event_of fed.width fed.height) now gives in
+    record { reading = now; reads = subst (λ (q : Reading ServerMessage). Decodes new other q) (renewed_open (host_message fed.width fed.height) now none) decodes; wants = wants_from now none fine }
+
+-- A piece more was taken, and read to its end.
+pub running_goes_on : (w h : ℕ) (decoder new : Decoding) (painter other : Painting) (is_between goes_between : Bool) (taken_old taken_now taken_next piece : List ℕ) (old now next : List Update)
+    → decoder.width ≡ w → decoder.height ≡ h → IsRunning w h decoder painter is_between taken_old taken_now old now → taken_next ≡ taken_now ++ piece
+    → ((stream : List ℕ) → (since : List Update) → HasRead decoder.width decoder.height decoder painter is_between stream since now → HasRead decoder.width decoder.height new other goes_between (stream ++ piece) since next)
+    → IsRunning w h new other goes_between taken_old taken_next old next
+running_goes_on w h decoder new painter other is_between goes_between taken_old taken_now taken_next piece old now next wide high running took puts =
+    let read = subst (λ a. HasRead a decoder.height decoder painter is_between running.stream old now) (sym wide) (subst (λ b. HasRead w b decoder painter is_between running.stream old now) (sym high) running.read) in
+    let more = puts running.stream old read in
+    record {
+      stream = running.stream ++ piece;
+      taken = took ∙ (ap (λ (xs : List ℕ). xs ++ piece) running.taken ∙ append_assoc taken_old running.stream piece);
+      read = subst (λ a. HasRead a h new other goes_between (running.stream ++ piece) old next) wide (subst (λ b. HasRead decoder.width b new other goes_between (running.stream ++ piece) old next) high more);
+    }
+
+-- Or it wasn't.
+pub running_stops : (w h : ℕ) (decoder : Decoding) (painter : Painting) (is_between : Bool) (taken_old taken_now taken_next piece : List ℕ) (old now next : List Update) (fault : Fault) (failed_old failed_new : ℕ) (has_ended : Bool)
+    → decoder.width ≡ w → decoder.height ≡ h → IsRunning w h decoder painter is_between taken_old taken_now old now → taken_next ≡ taken_now ++ piece
+    → ((stream : List ℕ) → (since : List Update) → HasRead decoder.width decoder.height decoder painter is_between stream since now → Stops decoder.width decoder.height fault (stream ++ piece) since next)
+    → EndsWith w h fault taken_old taken_next failed_old failed_new has_ended old next
+running_stops w h decoder painter is_between taken_old taken_now taken_next piece old now next fault failed_old failed_new has_ended wide high running took stops =
+    let read = subst (λ a. HasRead a decoder.height decoder painter is_between running.stream old now) (sym wide) (subst (λ b. HasRead w b decoder painter is_between running.stream old now) (sym high) running.read) in
+    let stopped = stops running.stream old read in
+    record {
+      stream = running.stream ++ piece;
+      taken = took ∙ (ap (λ (xs : List ℕ). xs ++ piece) running.taken ∙ append_assoc taken_old running.stream piece);
+      stops = inr (subst (λ a. Stops a h fault (running.stream ++ piece) old next) wide (subst (λ b. Stops decoder.width b fault (running.stream ++ piece) old next) high stopped));
+    }
+
+rises_by : (limit old now new : ℕ) → now ≡ old → new ≡ min limit (now + 1) → (old < limit) ⊎ (limit ≤ old) → (old < new) ⊎ (new ≡ limit)
+rises_by limit old now new same next (inl lt) = inl (omega (arith, same, next, lt))
+rises_by limit old now new same next (inr le) = inr (omega (arith, same, next, le))
+
+-- The link failed.
+pub running_fails : (w h : ℕ) (decoder : Decoding) (painter : Painting) (is_between : Bool) (taken_old taken_now taken_next : List ℕ) (old now : List Update) (failed_old failed_now failed_new : ℕ) (has_ended : Bool)
+    → IsRunning w h decoder painter is_between taken_old taken_now old now → taken_next ≡ taken_now → failed_now ≡ failed_old → failed_new ≡ min (2 ^ 62) (failed_now + 1)
+    → EndsWith w h LinkFailed taken_old taken_next failed_old failed_new has_ended old now
+running_fails w h decoder painter is_between taken_old taken_now taken_next old now failed_old failed_now failed_new has_ended running took same next =
+    record { stream = running.stream; taken = took ∙ running.taken; stops = inl (running.read.put, rises_by (2 ^ 62) failed_old failed_now failed_new same next (cases_lt failed_old (2 ^ 62))) }

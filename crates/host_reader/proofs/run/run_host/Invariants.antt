@@ -1,0 +1,19 @@
+use Rattle.std.proofs.Common.{◌≡◌, length}
+use Rattle.host_decoder.specs.Decoder.{IsFor}
+use Rattle.host_reader.proofs.Steps.{IsRunning}
+use Rattle.host_reader.proofs.run.run_host.Given as goal
+
+abbrev pub invariant-loop : goal.invariant-loop
+invariant-loop g l =
+    (goal.iterator-loop g).can_next l.iterator' × (goal.iterator-loop g).is_finite l.iterator'
+    × record {
+      room : length l.buffer.items ≡ 65536;
+      wide : l.decoder.width ≡ l.fn.decoder.width;
+      high : l.decoder.height ≡ l.fn.decoder.height;
+      painter : IsFor l.decoder l.painter;
+      publisher_wide : g.P.Puts.width l.publisher ≡ g.P.Puts.width l.fn.publisher;
+      publisher_high : g.P.Puts.height l.publisher ≡ g.P.Puts.height l.fn.publisher;
+      given : g.L.Link.given l.link ≡ g.L.Link.given l.fn.link;
+      failed : g.L.Link.failed l.link ≡ g.L.Link.failed l.fn.link;
+      running : IsRunning l.fn.decoder.width l.fn.decoder.height l.decoder l.painter l.is_between (g.L.Link.taken l.fn.link) (g.L.Link.taken l.link) (g.P.Puts.updates l.fn.publisher) (g.P.Puts.updates l.publisher);
+    }

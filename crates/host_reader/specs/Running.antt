@@ -1,0 +1,93 @@
+-- Reading a host's bytes from a link, and putting their updates (RFC 6143, 7.6).
+use Rattle.std.specs.Prelude.{◌≡◌, ℕ, ◌^◌, ◌<◌, ◌⊎◌, Bool, true, false, List, ◌++◌, length}
+use Rattle.pixel_format.specs.Reading.{Reading, Faulty, after, rest, wants_more}
+use Rattle.pixel_format.specs.declared.fault.Fault.{Fault}
+use Rattle.pixel_format.specs.declared.fault.Fault.TheVariants.{LinkEnded, LinkFailed, Memory, NumbersOut}
+use Rattle.raster.specs.Update.{Update}
+use Rattle.painter.specs.Painter.{Painting}
+use Rattle.link.specs.Links.{HasRisen}
+use Rattle.rfb_wire.specs.ServerMessage.{ServerMessage}
+use Rattle.host_decoder.specs.declared.event.HostEvent.{HostEvent}
+use Rattle.host_decoder.specs.declared.event.HostEvent.TheVariants as event
+use Rattle.host_decoder.specs.Decoder.{Decodes, Decoding, host_message}
+use Rattle.host_decoder.specs.Updates.{updates}
+use Rattle.reflect_core.specs.Sequential.{Begins}
+
+-- The host's bytes are in the middle of a message: behind some whole messages there are bytes that begin one, and it wants more.
+pub record IsInside (w h : ℕ) (stream : List ℕ) : Type 0 where
+  pub whole : List ℕ
+  pub begun : List ℕ
+  pub bytes : stream ≡ whole ++ begun
+  pub between : rest (host_message w h) whole ≡ host_message w h
+  pub some : 0 < length begun
+  pub wants : wants_more (after (host_message w h) begun) ≡ true
+
+-- They end between two messages, or inside one.
+abbrev pub EndsAt : Bool → ℕ → ℕ → List ℕ → Type 0
+EndsAt true w h stream = rest (host_message w h) stream ≡ host_message w h
+EndsAt false w h stream = IsInside w h stream
+
+-- Each patch is for a screen of w by h.
+abbrev pub IsEventFor : ℕ → ℕ → HostEvent → Type 0
+IsEventFor w h (event.Paint patch) = (patch.width ≡ w) × (patch.height ≡ h)
+IsEventFor w h (event.Bell patch) = (patch.width ≡ w) × (patch.height ≡ h)
+IsEventFor w h (event.Cut patch) = (patch.width ≡ w) × (patch.height ≡ h)
+IsEventFor w h event.Map = Unit {0}
+IsEventFor w h event.LongCut = Unit {0}
+
+-- ---- how it ends
+
+-- Since a publisher had the updates old, exactly those of the host's bytes were put, in order.
+abbrev pub ArePut : ℕ → ℕ → (stream : List ℕ) → (old new : List Update) → Type 0
+ArePut w h stream old new = new ≡ old ++ updates w h stream
+
+-- Or the first of these, where memory was refused or there were no more numbers.
+pub record AreCut (w h : ℕ) (fault : Fault) (stream : List ℕ) (old new : List Update) : Type 0 where
+  pub put : List Update
+  pub added : new ≡ old ++ put
+  pub begins : Begins put (updates w h stream)
+  pub why : (fault ≡ Memory) ⊎ ((fault ≡ NumbersOut) × (length new ≡ 2 ^ 62))
+
+-- The bytes are at fault.
+pub record AtFault (w h : ℕ) (fault : Fault) (stream : List ℕ) (old new : List Update) : Type 0 where
+  pub put : ArePut w h stream old new
+  pub rest : rest (host_message w h) stream ≡ Faulty fault
+
+-- A piece was read to its end unless this came between.
+abbrev pub Stops : ℕ → ℕ → Fault → (stream : List ℕ) → (old new : List Update) → Type 0
+Stops w h fault stream old new = AreCut w h fault stream old new ⊎ AtFault w h fault stream old new
+
+-- The link ended between two messages.
+pub record EndsBetween (w h : ℕ) (taken_old taken_new : List ℕ) (has_ended : Bool) (old new : List Update) : Type 0 where
+  pub stream : List ℕ
+  pub taken : taken_new ≡ taken_old ++ stream
+  pub put : ArePut w h stream old new
+  pub between : EndsAt true w h stream
+  pub ended : has_ended ≡ true
+
+-- The link failed, or it ended inside a message.
+abbrev pub LinkStops : ℕ → ℕ → Fault → (stream : List ℕ) → (failed_old failed_new : ℕ) → (has_ended : Bool) → Type 0
+LinkStops w h LinkFailed stream failed_old failed_new has_ended = HasRisen failed_old failed_new
+LinkStops w h LinkEnded stream failed_old failed_new has_ended = (has_ended ≡ true) × IsInside w h stream
+LinkStops w h _ stream failed_old failed_new has_ended = ⊥
+
+-- Why it ends otherwise. What was put stays.
+pub record EndsWith (w h : ℕ) (fault : Fault) (taken_old taken_new : List ℕ) (failed_old failed_new : ℕ) (has_ended : Bool) (old new : List Update) : Type 0 where
+  pub stream : List ℕ
+  pub taken : taken_new ≡ taken_old ++ stream
+  pub stops : (ArePut w h stream old new × LinkStops w h fault stream failed_old failed_new has_ended) ⊎ Stops w h fault stream old new
+
+-- ---- on the way
+
+-- The decoder and its painter stand for a message of which more is wanted.
+pub record CanRead (decoder : Decoding) (painter : Painting) : Type 0 where
+  pub reading : Reading ServerMessage
+  pub reads : Decodes decoder painter reading
+  pub wants : wants_more reading ≡ true
+
+-- They stand behind the host's bytes so far, all of whose updates were put.
+pub record HasRead (w h : ℕ) (decoder : Decoding) (painter : Painting) (is_between : Bool) (stream : List ℕ) (old new : List Update) : Type 0 where
+  pub reads : Decodes decoder painter (rest (host_message w h) stream)
+  pub wants : wants_more (rest (host_message w h) stream) ≡ true
+  pub ends : EndsAt is_between w h stream
+  pub put : ArePut w h stream old new

@@ -1,0 +1,63 @@
+//! The host's side of the reflector.
+
+ghost use Rattle.std.specs.Prelude.{◌≡◌, ℕ, ◌++◌, IfErr, OnOk};
+ghost use Rattle.host_decoder.specs.Decoder.{Decodes, IsFor, host_message};
+ghost use Rattle.host_reader.specs.Running.{EndsBetween, EndsWith};
+
+use crate::events::put_piece;
+use host_decoder::HostDecoder;
+use link::{Link, Took};
+use painter::Painter;
+use pixel_format::Fault;
+use reflect_core::Puts;
+use std::alloc::Global;
+use std::sync::Wait;
+
+/// How many bytes are taken from the link at a time, at most.
+const PIECE: usize = 65536;
+
+/// Takes the host's bytes from a link that has done its handshake, and puts the update of each whole message, in order,
+/// until the link ends. It is `Ok` where that is between two messages. The room for the bytes is taken once, at the start.
+///
+/// `LinkEnded` where the link ends inside a message, and `LinkFailed` where it fails; `UnknownMessage`, `RectOutside`,
+/// `UnknownEncoding`, `SubrectOutside`, `NoBackground`, `NoForeground` or `CopyOutside` at the byte that shows it: all
+/// updates of the messages before that are put. `Memory`, and `NumbersOut` where the publisher has no more numbers: the
+/// updates that were put are the first ones. In each case what was put stays.
+pub fn run_host<L: Link, P: Puts, R: Wait>(
+    rt: &R,
+    alloc: Global,
+    link: &mut L,
+    decoder: &mut HostDecoder,
+    painter: &mut Painter,
+    publisher: &mut P,
+) -> Result<(), Fault>
+    requires begins { Decodes decoder.old painter.old (host_message decoder.old.width decoder.old.height) }
+    requires painter { IsFor decoder.old painter.old }
+    requires publisher { (P.width publisher.old ≡ decoder.old.width) × (P.height publisher.old ≡ decoder.old.height) }
+    ensures decoder { (decoder.new.width ≡ decoder.old.width) × (decoder.new.height ≡ decoder.old.height) }
+    ensures painter { IsFor decoder.new painter.new }
+    ensures publisher { (P.width publisher.new ≡ P.width publisher.old) × (P.height publisher.new ≡ P.height publisher.old) }
+    ensures given { L.given link.new ≡ L.given link.old }
+    ensures ok { OnOk result (EndsBetween decoder.old.width decoder.old.height (L.taken link.old) (L.taken link.new) (L.ended link.new) (P.updates publisher.old) (P.updates publisher.new)) }
+    ensures failed { OnOk result (L.failed link.new ≡ L.failed link.old) }
+    ensures err { IfErr result (λ fault. EndsWith decoder.old.width decoder.old.height fault (L.taken link.old) (L.taken link.new) (L.failed link.old) (L.failed link.new) (L.ended link.new) (P.updates publisher.old) (P.updates publisher.new)) }
+{
+    let mut buffer = match vec![in alloc; 0u8; PIECE] {
+        Ok(buffer) => buffer,
+        Err(_) => return Err(Fault::Memory),
+    };
+    let mut is_between = true;
+    for _ in rt.forever() {
+        match link.take(buffer.as_mut_slice()) {
+            Took::Bytes(count) => {
+                let (piece, _) = buffer.as_slice().split_at(count);
+                is_between = put_piece(decoder, painter, publisher, piece, is_between)?;
+            }
+            Took::Nothing => {}
+            Took::End if is_between => return Ok(()),
+            Took::End => return Err(Fault::LinkEnded),
+            Took::Failed => return Err(Fault::LinkFailed),
+        }
+    }
+    unreachable!()
+}
