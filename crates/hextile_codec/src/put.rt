@@ -12,15 +12,19 @@ use crate::runs::{Run, TILE_SIDE};
 use pixel_format::Format;
 use raster::Rect;
 
-/// Bits of a tile's mask (RFC 6143, section 7.7.4).
+/// The bit of a tile's mask (RFC 6143, section 7.7.4) that says that its pixels follow.
 const RAW: u8 = 1;
 
+/// That its background follows.
 const BACKGROUND_SPECIFIED: u8 = 2;
 
+/// That the value of all its subrectangles follows.
 const FOREGROUND_SPECIFIED: u8 = 4;
 
+/// That it has subrectangles, whose number follows.
 const ANY_SUBRECTS: u8 = 8;
 
+/// That each of them has its own value.
 const SUBRECTS_COLOURED: u8 = 16;
 
 /// How many bytes the place of a run has.
@@ -46,7 +50,7 @@ fn put_colour(
 }
 
 /// The place of a run as it is written: its position, and its size.
-fn place_of(run: &Run) -> [u8; 2]
+fn place_of(run: &Run) -> [u8; PLACE_LEN]
     requires { IsSmall run.now }
     ensures { result ≡ place_bytes (subrect_of run.now) }
 {
