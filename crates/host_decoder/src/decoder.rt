@@ -96,6 +96,7 @@ impl HostDecoder {
         ensures size { (self.new.width ≡ self.old.width) × (self.new.height ≡ self.old.height) }
         ensures given { (painter : Painting) → (r : Reading ServerMessage) → Decodes self.old painter r
             → (result ≡ option_map (event_of self.old.width self.old.height) (whole_of r)) × Decodes self.new painter (renewed (host_message self.old.width self.old.height) r) }
+        ensures refused { is_refused self.old.state ≡ true → result ≡ None }
         ensures none { IfNone result (self.new ≡ self.old) }
         ensures some { IfSome result (λ event. (waiting self.old.state ≡ brought_by event) × (self.new.state ≡ start)) }
     {

@@ -11,6 +11,7 @@ returns-in_default c =
     (record {
       size = (refl, refl);
       given = λ painter r stands. nothing_given w h c.self.inside.state painter.paints r other stands;
+      refused = λ e. refl;
       none = refl;
       some = tt;
     })
