@@ -1,1 +1,4 @@
 pub mod Patch
+pub mod Kept
+pub mod Painter
+pub mod Board

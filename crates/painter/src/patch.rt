@@ -1,7 +1,8 @@
 //! What one whole message of the host changes on a screen.
 
-ghost use Rattle.std.specs.Prelude.{◌≡◌, ℕ, ◌<◌, ◌≤◌, ◌*◌, length, map, All, OnOk, IsTrue, ◌↔◌, IfSome, IfNone, Option, Some, None};
+ghost use Rattle.std.specs.Prelude.{◌≡◌, ℕ, ◌<◌, ◌≤◌, ◌*◌, length, map, All, OnOk, IfOk, IfErr, IsTrue, ◌↔◌, IfSome, IfNone, Option, Some, None};
 ghost use Rattle.painter.specs.Patch.{is_bell, text_of};
+ghost use Rattle.pixel_format.specs.declared.fault.Fault.TheVariants.{Memory};
 ghost use Rattle.raster.specs.Painted.{Fits, paint_of};
 ghost use Rattle.raster.specs.Screen.{Canvas, IsWithin, LooksLike, meets, value_at};
 ghost use Rattle.raster.specs.Size.{IsScreenSize};
@@ -10,6 +11,7 @@ ghost use Rattle.std.specs.List.{list_any};
 ghost use Rattle.std.specs.Option.{option_copied};
 ghost use Rattle.tiles.specs.Touched.{touches};
 
+use pixel_format::Fault;
 use raster::{Paint, Rect, paint_all};
 use std::alloc::{AllocError, Global};
 use std::marker::Model;
@@ -67,6 +69,35 @@ fn any_meets(paints: &[Paint], width: u64, height: u64, r: &Rect) -> bool
     false
 }
 
+/// An equal paint. It fails where memory is refused (`Memory`).
+fn copy_of(alloc: Global, paint: &Paint) -> Result<Paint, Fault>
+    ensures ok { IfOk result (λ copied. paint_of copied ≡ paint_of paint.now) }
+    ensures err { IfErr result (λ fault. fault ≡ Memory) }
+{
+    match paint {
+        Paint::Put(area, colours) => match colours.as_slice().to_vec(alloc) {
+            Ok(colours) => Ok(Paint::Put(*area, colours)),
+            Err(_) => Err(Fault::Memory),
+        },
+        Paint::Copy(area, x, y) => Ok(Paint::Copy(*area, *x, *y)),
+    }
+}
+
+/// Equal paints. It fails where memory is refused (`Memory`).
+fn copies_of(alloc: Global, paints: &[Paint]) -> Result<Vec<Paint>, Fault>
+    ensures ok { IfOk result (λ copied. map paint_of copied.items ≡ map paint_of paints.now) }
+    ensures err { IfErr result (λ fault. fault ≡ Memory) }
+{
+    let mut copied = Vec::new(alloc);
+    for paint in paints {
+        let pushed = copied.push(copy_of(alloc, paint)?);
+        if pushed.is_err() {
+            return Err(Fault::Memory);
+        }
+    }
+    Ok(copied)
+}
+
 impl Patch {
     /// Paints of a FramebufferUpdate, each of which lies on the screen.
     pub fn paints(width: u64, height: u64, paints: Vec<Paint>) -> Self
@@ -103,6 +134,24 @@ impl Patch {
             width,
             height,
             change: Change::Text(text),
+        }
+    }
+
+    /// An equal patch. It fails where memory is refused (`Memory`).
+    pub fn copy(&self, alloc: Global) -> Result<Patch, Fault>
+        ensures ok { IfOk result (λ copied. copied ≡ self.now) }
+        ensures err { IfErr result (λ fault. fault ≡ Memory) }
+    {
+        match &self.change {
+            Change::Paints(paints) => {
+                let copied = copies_of(alloc, paints.as_slice())?;
+                Ok(Patch::paints(self.width, self.height, copied))
+            }
+            Change::Bell => Ok(Patch::bell(self.width, self.height)),
+            Change::Text(text) => match text.as_slice().to_vec(alloc) {
+                Ok(copied) => Ok(Patch::text(self.width, self.height, copied)),
+                Err(_) => Err(Fault::Memory),
+            },
         }
     }
 

@@ -138,6 +138,13 @@ impl Raster {
         );
     }
 
+    /// Its colours, row after row.
+    pub fn into_colours(self) -> Vec<u32>
+        ensures { result.items ≡ self.colours }
+    {
+        self.colours
+    }
+
     /// Paints all of these, in order.
     pub fn paint_all(&mut self, paints: &[Paint])
         requires { All (λ p. Fits self.old.width self.old.height (paint_of p)) paints.now }

@@ -10,8 +10,7 @@ ghost use Rattle.reflect_core.specs.Source.{IsCutOf, due_in, was_sent_if_due};
 ghost use Rattle.tiles.specs.Touched.{touches, is_due_since};
 
 use crate::cut::Cut;
-use crate::text::Text;
-use painter::Patch;
+use painter::{Patch, Text};
 use raster::Rect;
 use std::alloc::{AllocError, Global};
 use tiles::{Have, is_met, rect_at};

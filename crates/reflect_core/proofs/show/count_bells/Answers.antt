@@ -3,7 +3,8 @@ use Rattle.std.specs.Prelude.{if◌then◌else◌, take}
 use Rattle.raster.specs.Update.{bells}
 use Rattle.painter.specs.Patch.{is_bell}
 use Rattle.reflect_core.specs.Plain.{updates_of}
-use Rattle.reflect_core.proofs.ShowLaws.{updates_of-take, bells-push}
+use Rattle.painter.proofs.ViewLaws.{bells-push}
+use Rattle.reflect_core.proofs.ShowLaws.{updates_of-take}
 use Rattle.reflect_core.proofs.show.count_bells.Goals as goal
 use Rattle.reflect_core.proofs.show.count_bells.Goals.{then-is_bell, else-is_bell}
 

@@ -4,7 +4,8 @@ use Rattle.std.specs.Option.{option_copied}
 use Rattle.painter.specs.Patch.{SizedUpdate, text_of}
 use Rattle.raster.specs.Update.{Update, last_text}
 use Rattle.reflect_core.specs.Plain.{updates_of}
-use Rattle.reflect_core.proofs.ShowLaws.{updates_of-take, last_text-push, newer}
+use Rattle.painter.proofs.ViewLaws.{last_text-push, newer}
+use Rattle.reflect_core.proofs.ShowLaws.{updates_of-take}
 use Rattle.reflect_core.proofs.show.keep_last_text.Goals as goal
 use Rattle.reflect_core.proofs.show.keep_last_text.Goals.{in-Some, in_default}
 

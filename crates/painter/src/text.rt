@@ -2,7 +2,7 @@
 
 ghost use Rattle.std.specs.Prelude.{◌≡◌, ℕ, ◌≤◌, length, IfOk, IfErr, Some, None};
 ghost use Rattle.pixel_format.specs.declared.fault.Fault.TheVariants.{Memory};
-ghost use Rattle.reflect_core.specs.Kept.{number_of, bytes_of};
+ghost use Rattle.painter.specs.Kept.{number_of, bytes_of};
 
 use pixel_format::Fault;
 use std::alloc::Global;
@@ -16,15 +16,15 @@ pub struct Text {
 }
 
 impl Model for Text {
-    ghost use Rattle.std.specs.Prelude.{◌≤◌, Option, vec_capacity};
+    ghost use Rattle.std.specs.Prelude.{◌≤◌, Option, length, vec_capacity};
     ghost use Rattle.raster.specs.Update.{NumberedText};
-    ghost use Rattle.reflect_core.specs.Kept.{numbered};
+    ghost use Rattle.painter.specs.Kept.{numbered};
 
     ghost Value = { Option NumberedText };
 
     ghost view = { λ text. numbered text.bytes.items text.number };
 
-    ghost invariant = { λ text. 65536 ≤ vec_capacity text.bytes };
+    ghost invariant = { λ text. (65536 ≤ vec_capacity text.bytes) × (length text.bytes.items ≤ 65536) };
 }
 
 impl Text {
@@ -51,7 +51,8 @@ impl Text {
 
     /// Its bytes: none where there is no text.
     pub fn bytes(&self) -> &[u8]
-        ensures { result.now ≡ bytes_of self.now }
+        ensures bytes { result.now ≡ bytes_of self.now }
+        ensures short { length result.now ≤ 65536 }
     {
         match self.number {
             None => &[],

@@ -1,4 +1,4 @@
--- The last text that a cut keeps.
+-- The last text that is kept.
 use Rattle.std.specs.Prelude.{ℕ, List, [], Option, Some, None}
 use Rattle.raster.specs.Update.{NumberedText}
 

@@ -1,0 +1,161 @@
+-- How reading Hextile goes on (RFC 6143, 7.7.4).
+use Rattle.std.specs.Prelude.{◌≡◌, ℕ, ◌+◌, ◌-◌, ◌*◌, ◌/◌, ◌<◌, ◌≤◌, List, [], ◌∷◌, ◌++◌, length, Result, Bool, true, false, nat_lt, if◌then◌else◌, unwrap_or}
+use Rattle.pixel_format.specs.PixelFormat.{PixelFormat, pixel_len}
+use Rattle.pixel_format.specs.Reading.{Reading, Done, Faulty, ◌>>=◌, after, taken, times, Feeds}
+use Rattle.pixel_format.specs.declared.fault.Fault.{Fault}
+use Rattle.pixel_format.specs.declared.fault.Fault.TheVariants.{SubrectOutside, NoBackground, NoForeground}
+use Rattle.raster.specs.declared.rect.Rect.{Rect}
+use Rattle.raster.specs.Screen.{Canvas, LooksLike, holds, part_of, value_at, tiles_across, tile_count, tile_rect}
+use Rattle.raster.specs.Encoding.{Drawing, drawn, Carried, Tile, Pixels, Drawn, has_bit, pixel, tile, drawn_tile, hextile_subrect, tiles_from, tiled}
+use Rattle.hextile_codec.specs.declared.stage.Colours.{Colours}
+use Rattle.hextile_codec.specs.declared.stage.Flaw.{Flaw}
+use Rattle.hextile_codec.specs.declared.stage.Flaw.TheVariants as flaw
+use Rattle.hextile_codec.specs.declared.stage.Stage.{Stage}
+use Rattle.hextile_codec.specs.declared.stage.Stage.TheVariants.{Mask, RawPixels, Head, Subrects, Failed}
+
+-- How far a reader of a rectangle has come: the number of the tile that is read, the colours carried to it, what the
+-- next bytes are, and those of them that have come.
+pub record Progress : Type 0 where
+  pub format : PixelFormat
+  pub width : ℕ
+  pub height : ℕ
+  pub tile : ℕ
+  pub carried : Carried
+  pub stage : Stage
+  pub begun : List ℕ
+
+-- What was read so far of one tile: the pixels of a Raw one, or the background and subrectangles of another.
+pub record Part : Type 0 where
+  pub pixels : List ℕ
+  pub drawing : Drawing
+
+-- What was read so far: the tiles that are whole, and the part of the next one.
+pub record Sofar : Type 0 where
+  pub tiles : List Tile
+  pub part : Part
+
+abbrev pub nothing_read : Part → Sofar
+nothing_read part = record { tiles = []; part = part }
+
+abbrev pub carried_by : Colours → Carried
+carried_by colours = record { background = colours.background; foreground = colours.foreground }
+
+abbrev pub fault_for : Flaw → Fault
+fault_for flaw.NoBackground = NoBackground
+fault_for flaw.NoForeground = NoForeground
+fault_for flaw.SubrectOutside = SubrectOutside
+
+-- What the rest of a tile of w by h is read as, over what was read of it so far.
+abbrev pub tile_rest : PixelFormat → ℕ → ℕ → Carried → Stage → Part → Reading (Tile × Carried)
+tile_rest format w h carried Mask part = tile format carried w h
+tile_rest format w h carried (RawPixels count) part =
+    times (w * h - count) (pixel format) >>= λ more. Done (Pixels (part.pixels ++ more), carried)
+tile_rest format w h carried (Head mask) part = drawn_tile format mask carried w h
+tile_rest format w h carried (Subrects coloured left) part =
+    times left (hextile_subrect format coloured (unwrap_or carried.foreground 0) w h) >>= λ more.
+    Done (Drawn (record { background = part.drawing.background; subrects = part.drawing.subrects ++ more }), carried)
+tile_rest format w h carried (Failed flaw) part = Faulty (fault_for flaw)
+
+-- The tiles behind tile number k, once that is read.
+abbrev pub others_behind : PixelFormat → ℕ → ℕ → ℕ → List Tile → Tile × Carried → Reading (List Tile)
+others_behind format w h k tiles first =
+    tiles_from format w h first.1 (k + 1) (tile_count w h - (k + 1)) >>= λ others. Done (tiles ++ first.0 ∷ others)
+
+-- What the next bytes are read as, over what was read so far. Behind the last tile there is nothing more to read.
+abbrev pub next_form : PixelFormat → ℕ → ℕ → ℕ → Carried → Stage → Sofar → Reading (List Tile)
+next_form format w h k carried stage sofar =
+    if nat_lt k (tile_count w h)
+    then (tile_rest format (tile_rect w h k).w (tile_rect w h k).h carried stage sofar.part >>= others_behind format w h k sofar.tiles)
+    else Done sofar.tiles
+
+-- How reading goes on.
+abbrev pub ahead : Progress → Sofar → Reading (List Tile)
+ahead p sofar = after (next_form p.format p.width p.height p.tile p.carried p.stage sofar) p.begun
+
+-- A canvas shows, in a tile at an area, what was read of it so far. Before the first pixel, and after a fault, nothing is said of it.
+abbrev pub IsDrawn : Rect → Stage → Canvas → Part → Type 0
+IsDrawn area Mask canvas part = Unit {0}
+IsDrawn area (RawPixels count) canvas part =
+    (length part.pixels ≡ count)
+    × ((x y : ℕ) → x < area.w → y < area.h → y * area.w + x < count → part_of area canvas x y ≡ value_at area.w part.pixels x y)
+IsDrawn area (Head mask) canvas part = Unit {0}
+IsDrawn area (Subrects coloured left) canvas part = LooksLike area.w area.h (part_of area canvas) (drawn part.drawing)
+IsDrawn area (Failed flaw) canvas part = Unit {0}
+
+-- A canvas shows the tiles that are whole, and what was read of the next one.
+pub record Stands (p : Progress) (canvas : Canvas) (sofar : Sofar) : Type 0 where
+  pub count : length sofar.tiles ≡ p.tile
+  pub before : (x y : ℕ) → x < p.width → y < p.height → y / 16 * tiles_across p.width + x / 16 < p.tile → canvas x y ≡ tiled p.width p.height sofar.tiles x y
+  pub part : IsDrawn (tile_rect p.width p.height p.tile) p.stage canvas sofar.part
+
+-- Readers of rectangles of one size and format.
+pub record IsSameSize (old new : Progress) : Type 0 where
+  pub format : new.format ≡ old.format
+  pub width : new.width ≡ old.width
+  pub height : new.height ≡ old.height
+
+-- A reader took bytes, each of which was wanted, and drew what they say.
+pub record Steps (old new : Progress) (now : Canvas) (bytes : List ℕ) (sofar : Sofar) : Type 0 where
+  pub drawing : Sofar
+  pub reads : ahead new drawing ≡ after (ahead old sofar) bytes
+  pub takes : taken (ahead old sofar) bytes ≡ length bytes
+  pub stands : Stands new now drawing
+
+-- A reader was fed a piece, and drew what it took of it.
+pub record Draws (old new : Progress) (now : Canvas) (piece : List ℕ) (answer : Result ℕ Fault) (sofar : Sofar) : Type 0 where
+  pub drawing : Sofar
+  pub feeds : Feeds (ahead old sofar) (ahead new drawing) piece answer
+  pub stands : Stands new now drawing
+
+-- ---- in one tile
+
+-- The bytes of a stage lead to a later one, each of them was wanted, and what they say was drawn.
+pub record Led (format : PixelFormat) (area : Rect) (carried later : Carried) (stage next : Stage) (bytes : List ℕ) (now : Canvas) (part : Part) : Type 0 where
+  pub grown : Part
+  pub reads : after (tile_rest format area.w area.h carried stage part) bytes ≡ tile_rest format area.w area.h later next grown
+  pub takes : taken (tile_rest format area.w area.h carried stage part) bytes ≡ length bytes
+  pub shows : IsDrawn area next now grown
+
+abbrev pub Leads : PixelFormat → Rect → Carried → Carried → Stage → Stage → List ℕ → Canvas → Canvas → Part → Type 0
+Leads format area carried later stage next bytes before now part = IsDrawn area stage before part → Led format area carried later stage next bytes now part
+
+-- Outside an area nothing was drawn.
+abbrev pub Keeps : Rect → ℕ → ℕ → Canvas → Canvas → Type 0
+Keeps area w h old new = (x y : ℕ) → x < w → y < h → holds area x y ≡ false → new x y ≡ old x y
+
+-- How many bytes tell what the mask announces: two colours and the number of subrectangles.
+abbrev pub head_len : PixelFormat → ℕ → ℕ
+head_len format mask =
+    (if has_bit mask 1 then pixel_len format else 0) + (if has_bit mask 2 then pixel_len format else 0) + (if has_bit mask 3 then 1 else 0)
+
+-- How many bytes are looked at together.
+abbrev pub needed : PixelFormat → Stage → ℕ
+needed format Mask = 1
+needed format (RawPixels count) = pixel_len format
+needed format (Head mask) = head_len format mask
+needed format (Subrects coloured left) = (if coloured then pixel_len format else 0) + 2
+needed format (Failed flaw) = 1
+
+-- A stage of a tile of w by h at which another byte is wanted.
+abbrev pub is_open : PixelFormat → ℕ → ℕ → Stage → Bool
+is_open format w h Mask = true
+is_open format w h (RawPixels count) = nat_lt count (w * h)
+is_open format w h (Head mask) = nat_lt 0 (head_len format mask)
+is_open format w h (Subrects coloured left) = nat_lt 0 left
+is_open format w h (Failed flaw) = false
+
+-- A stage in a tile at an area is one at which another byte is wanted, or the tile is faulty.
+abbrev pub IsReady : PixelFormat → Rect → Stage → Type 0
+IsReady format area (Failed flaw) = Unit {0}
+IsReady format area stage = is_open format area.w area.h stage ≡ true
+
+-- Where a reader stands: the tile that is read lies at an area. Behind the last tile no byte has come.
+pub record IsPlace (format : PixelFormat) (w h tiles k : ℕ) (area : Rect) (stage : Stage) (filled : ℕ) : Type 0 where
+  pub wide : w ≤ 65535
+  pub high : h ≤ 65535
+  pub count : tiles ≡ tile_count w h
+  pub within : k ≤ tiles
+  pub lies : k < tiles → area ≡ tile_rect w h k
+  pub ready : k < tiles → IsReady format area stage
+  pub over : k ≡ tiles → stage ≡ Mask
+  pub room : filled < needed format stage

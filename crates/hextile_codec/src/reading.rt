@@ -1,0 +1,172 @@
+//! Reading Hextile, in whatever pieces it comes.
+
+ghost use Rattle.std.specs.Prelude.{◌≡◌, ℕ, ◌+◌, ◌<◌, ◌≤◌, true, length, take, is_some, Some, None, MatchResult};
+ghost use Rattle.pixel_format.specs.Reading.{Done, whole_of, fault_of};
+ghost use Rattle.raster.specs.Encoding.{Tile, hextile, tiled};
+ghost use Rattle.raster.specs.Screen.{Map, LooksLike};
+ghost use Rattle.hextile_codec.specs.Ahead.{Part, Sofar, nothing_read, ahead, Stands, Steps, Draws, IsSameSize, needed};
+
+use crate::stage::{Colours, MOST_NEEDED, Stage, needed};
+use crate::tile::{draw, is_whole, tile_rect};
+use pixel_format::{Fault, Format};
+use raster::{Canvas, Rect};
+use std::marker::Model;
+
+/// A reader of one rectangle in Hextile (RFC 6143, section 7.7.4), which paints as it reads. It holds no more than
+/// the bytes that follow a mask up to the first subrectangle, and where it stands.
+#[derive(Drop)]
+pub struct Reader {
+    format: Format,
+    width: u64,
+    height: u64,
+    /// How many tiles the rectangle has.
+    tiles: u64,
+    /// The number of the tile that is read, and where it lies.
+    tile: u64,
+    area: Rect,
+    carried: Colours,
+    stage: Stage,
+    buffer: [u8; MOST_NEEDED],
+    filled: usize,
+}
+
+impl Model for Reader {
+    ghost use Rattle.std.specs.Prelude.{take};
+    ghost use Rattle.hextile_codec.specs.Ahead.{Progress, IsPlace, carried_by};
+
+    ghost Value = { Progress };
+
+    ghost view = { λ r. record {
+      format = r.format;
+      width = r.width;
+      height = r.height;
+      tile = r.tile;
+      carried = carried_by r.carried;
+      stage = r.stage;
+      begun = take r.filled r.buffer;
+    } };
+
+    ghost invariant = { λ r. IsPlace r.format r.width r.height r.tiles r.tile r.area r.stage r.filled };
+}
+
+impl Reader {
+    /// A reader to which no byte has come, of a rectangle of `w` by `h` in a format.
+    pub fn new(w: u64, h: u64, format: Format) -> Reader
+        requires width { w ≤ 65535 }
+        requires height { h ≤ 65535 }
+        ensures width { result.width ≡ w }
+        ensures height { result.height ≡ h }
+        ensures begins { (part : Part) → ahead result (nothing_read part) ≡ hextile format w h }
+        ensures stands { (canvas : Map ℕ) (part : Part) → Stands result canvas (nothing_read part) }
+    {
+        Reader {
+            format,
+            width: w,
+            height: h,
+            tiles: w.div_ceil(16) * h.div_ceil(16),
+            tile: 0,
+            area: Rect {
+                x: 0,
+                y: 0,
+                w: w.min(16),
+                h: h.min(16),
+            },
+            carried: Colours {
+                background: None,
+                foreground: None,
+            },
+            stage: Stage::Mask,
+            buffer: [0; MOST_NEEDED],
+            filled: 0,
+        }
+    }
+
+    /// Whether the rectangle is read to its end. Then a canvas on which it drew shows its tiles.
+    pub fn whole(&self) -> bool
+        ensures whole { (sofar : Sofar) → result ≡ is_some (whole_of (ahead self.now sofar)) }
+        ensures shows { (canvas : Map ℕ) (sofar : Sofar) (tiles : List Tile) → Stands self.now canvas sofar → ahead self.now sofar ≡ Done tiles → LooksLike self.now.width self.now.height canvas (tiled self.now.width self.now.height tiles) }
+    {
+        self.tile == self.tiles
+    }
+
+    /// Whether another byte is wanted.
+    fn wants_more(&self) -> bool {
+        self.tile < self.tiles && !matches!(self.stage, Stage::Failed(_))
+    }
+
+    /// Goes on behind a tile that is whole.
+    fn next_tile(&mut self) {
+        self.tile += 1;
+        self.stage = Stage::Mask;
+        if self.tile < self.tiles {
+            self.area = tile_rect(self.width, self.height, self.tile);
+        }
+    }
+
+    /// Draws what bytes say that follow those looked at last, and answers how many it took.
+    fn take<C: Canvas>(&mut self, canvas: &mut C, bytes: &[u8]) -> usize {
+        let drawn = draw(
+            &self.format,
+            self.area,
+            self.carried,
+            self.stage,
+            bytes,
+            canvas,
+        );
+        self.carried = drawn.carried;
+        self.stage = drawn.stage;
+        if is_whole(&self.area, self.stage) {
+            self.next_tile();
+        }
+        drawn.used
+    }
+
+    /// Takes the front of some bytes, and answers how many. Only where they end too early, they are kept.
+    fn step<C: Canvas>(&mut self, canvas: &mut C, bytes: &[u8]) -> usize {
+        let needed = needed(&self.format, self.stage);
+        if self.filled == 0 && needed <= bytes.len() {
+            return self.take(canvas, bytes);
+        }
+        let count = bytes.len().min(needed - self.filled);
+        self.buffer[self.filled..self.filled + count].copy_from_slice(&bytes[..count]);
+        self.filled += count;
+        if self.filled == needed {
+            self.filled = 0;
+            let field = self.buffer;
+            self.take(canvas, &field[..needed]);
+        }
+        count
+    }
+
+    /// How many bytes were used, or the fault at which it stands.
+    fn answer(&self, used: usize) -> Result<usize, Fault>
+        ensures { (sofar : Sofar) → MatchResult result (λ n. (n ≡ used) × (fault_of (ahead self.now sofar) ≡ None)) (λ fault. fault_of (ahead self.now sofar) ≡ Some fault) }
+    {
+        match self.stage {
+            Stage::Failed(flaw) => Err(flaw.fault()),
+            _ => Ok(used),
+        }
+    }
+
+    /// Takes the next piece, up to the end of the rectangle, and draws it on a canvas of the rectangle's size.
+    /// Answers how many bytes it used.
+    ///
+    /// `NoBackground` and `NoForeground` at the mask of a tile that lacks that colour, where none is carried;
+    /// `SubrectOutside` at the last byte of a subrectangle that leaves its tile. A fault is final.
+    pub fn feed<C: Canvas>(&mut self, canvas: &mut C, piece: &[u8]) -> Result<usize, Fault>
+        requires width { C.width canvas.old ≡ self.old.width }
+        requires height { C.height canvas.old ≡ self.old.height }
+        ensures size { IsSameSize self.old self.new }
+        ensures width { C.width canvas.new ≡ self.old.width }
+        ensures height { C.height canvas.new ≡ self.old.height }
+        ensures drawn { (sofar : Sofar) → Stands self.old (C.shows canvas.old) sofar → Draws self.old self.new (C.shows canvas.new) piece.now result sofar }
+    {
+        let mut left = piece;
+        while !left.is_empty() && self.wants_more() {
+            let used = self.step(canvas, left);
+            let (_, rest) = left.split_at(used);
+            left = rest;
+        }
+        self.answer(piece.len() - left.len())
+    }
+}

@@ -1,0 +1,262 @@
+-- How reading a host's message goes on, by what its decoder and its painter hold (RFC 6143, 7.6).
+use Rattle.std.specs.Int.{w16, from_be_bytes}
+use Rattle.std.specs.Prelude.{◌≡◌, ℕ, ◌+◌, drop, slice_index, Bool, true, false, List, [], ◌∷◌, ◌++◌, map, All, Option, Some, None, Result, Ok, Err, ◌⊎◌}
+use Rattle.pixel_format.specs.PixelFormat.{host_format}
+use Rattle.pixel_format.specs.declared.fault.Fault.{Fault}
+use Rattle.pixel_format.specs.declared.fault.Fault.TheVariants.{UnknownMessage, RectOutside, UnknownEncoding, Memory}
+use Rattle.pixel_format.specs.Reading.{Reading, Done, Faulty, ◌>>=◌, after, taken, bytes, padding, times, u32, wants_more, fault_of}
+use Rattle.raster.specs.declared.rect.Rect.{Rect}
+use Rattle.raster.specs.Painted.{Fits}
+use Rattle.raster.specs.Screen.{Canvas, IsWithin, LooksLike}
+use Rattle.raster.specs.Size.{IsScreenSize}
+use Rattle.raster.specs.Update.{Paint, Update, after_updates}
+use Rattle.painter.specs.Painter.{Painting, shows}
+use Rattle.rfb_wire.specs.ClientMessage.{text}
+use Rattle.rfb_wire.specs.ServerMessage.{ServerMessage, FramebufferUpdate, SetColorMapEntries, ServerCutText, LostText, rectangle, data_of, framebuffer_update, set_color_map_entries, server_message}
+use Rattle.host_decoder.specs.Updates.{in_colours}
+use Rattle.host_decoder.specs.Events.{event_of, brought_by}
+use Rattle.host_decoder.specs.Data.{DataProgress, DataStands}
+use Rattle.host_decoder.specs.Parts.{Passed, message_of}
+use Rattle.host_decoder.specs.declared.event.HostEvent.{HostEvent}
+use Rattle.host_decoder.specs.declared.part.Part.{Part}
+use Rattle.host_decoder.specs.declared.part.Part.TheVariants.{Kind, Count, Area, Encoding, Colours, Length}
+use Rattle.host_decoder.specs.declared.state.State.{State}
+use Rattle.host_decoder.specs.declared.state.State.TheVariants.{Fields, Pixels, Spoiled, Keeping, Passing, Whole, Failed, Refused}
+use Rattle.host_decoder.specs.declared.state.Wrong as declared_wrong
+use Rattle.host_decoder.specs.declared.state.Wrong.TheVariants as wrong
+
+-- What contracts see of a decoder: the size of the screen in pixels, and what stands in it.
+pub record Decoding : Type 0 where
+  pub width : ℕ
+  pub height : ℕ
+  pub state : State
+
+-- The messages of a host over a screen of w by h.
+abbrev pub host_message : ℕ → ℕ → Reading ServerMessage
+host_message w h = server_message host_format w h
+
+-- ---- the rest of an update, behind the paints so far
+
+-- So many rectangles are left.
+abbrev pub rectangles : ℕ → ℕ → List Paint → ℕ → Reading ServerMessage
+rectangles w h sofar left = times left (rectangle host_format w h) >>= λ others. Done (FramebufferUpdate (sofar ++ others))
+
+-- And so many behind one that was just read.
+abbrev pub behind : ℕ → ℕ → List Paint → ℕ → Paint → Reading ServerMessage
+behind w h sofar left paint = rectangles w h (sofar ++ paint ∷ []) left
+
+-- The same behind one that is still being read.
+abbrev pub with_others : ℕ → ℕ → List Paint → ℕ → Reading Paint → Reading ServerMessage
+with_others w h sofar left reading = reading >>= behind w h sofar left
+
+-- What is read from the beginning of a part on.
+abbrev pub form_of : ℕ → ℕ → List Paint → Part → Reading ServerMessage
+form_of w h sofar Kind = host_message w h
+form_of w h sofar Count = framebuffer_update host_format w h
+form_of w h sofar (Area left) = with_others w h sofar left (rectangle host_format w h)
+form_of w h sofar (Encoding left area) = with_others w h sofar left (u32 >>= data_of host_format w h area)
+form_of w h sofar Colours = set_color_map_entries
+form_of w h sofar Length = text ServerCutText LostText
+
+-- Only inside an update there are paints.
+abbrev pub IsSuited : Part → List Paint → Type 0
+IsSuited Kind paints = paints ≡ []
+IsSuited Count paints = paints ≡ []
+IsSuited (Area left) paints = Unit {0}
+IsSuited (Encoding left area) paints = Unit {0}
+IsSuited Colours paints = paints ≡ []
+IsSuited Length paints = paints ≡ []
+
+-- The rest of a text that is kept, where these bytes have come and so many are left.
+abbrev pub keeping : List ℕ → ℕ → Reading ServerMessage
+keeping kept left = bytes left >>= λ others. Done (ServerCutText (kept ++ others))
+
+-- And of what is read past.
+abbrev pub passing : ℕ → Passed → Reading ServerMessage
+passing left what = padding left (Done (message_of what))
+
+abbrev pub at_fault : declared_wrong.Wrong → Fault
+at_fault (wrong.Kind kind) = UnknownMessage kind
+at_fault wrong.Area = RectOutside
+at_fault wrong.Encoding = UnknownEncoding
+
+-- ---- what stands in a decoder, beside the paints in the painter
+
+-- The painter holds the paints of the message so far, in colours, each of which lies on the screen.
+pub record Holds (w h : ℕ) (paints sofar : List Paint) : Type 0 where
+  pub same : paints ≡ map in_colours sofar
+  pub fits : All (Fits w h) paints
+
+-- Some bytes of a part have come.
+pub record InPart (w h : ℕ) (part : Part) (begun : List ℕ) (paints : List Paint) (r : Reading ServerMessage) : Type 0 where
+  pub sofar : List Paint
+  pub holds : Holds w h paints sofar
+  pub suited : IsSuited part sofar
+  pub reads : r ≡ after (form_of w h sofar part) begun
+
+-- A rectangle's data are being read, and so many rectangles are left behind it.
+pub record InData (w h left : ℕ) (reader : DataProgress) (paints : List Paint) (r : Reading ServerMessage) : Type 0 where
+  pub sofar : List Paint
+  pub holds : Holds w h paints sofar
+  pub reading : Reading Paint
+  pub stands : DataStands reader reading
+  pub wants : wants_more reading ≡ true
+  pub reads : r ≡ with_others w h sofar left reading
+
+-- A rectangle's data are at fault.
+pub record AtFault (reader : DataProgress) (r : Reading ServerMessage) : Type 0 where
+  pub fault : Fault
+  pub stands : DataStands reader (Faulty fault)
+  pub reads : r ≡ Faulty fault
+
+-- The event of a whole message waits.
+pub record AtEnd (w h : ℕ) (event : HostEvent) (paints : List Paint) (r : Reading ServerMessage) : Type 0 where
+  pub message : ServerMessage
+  pub reads : r ≡ Done message
+  pub brings : event ≡ event_of w h message
+  pub none : paints ≡ []
+
+-- What stands there stands for a message that goes on so. Once memory was refused nothing does.
+abbrev pub Stands : ℕ → ℕ → State → List Paint → Reading ServerMessage → Type 0
+Stands w h (Fields fields) paints r = InPart w h fields.0 fields.1 paints r
+Stands w h (Pixels pending) paints r = InData w h pending.left pending.reader paints r
+Stands w h (Spoiled reader) paints r = AtFault reader r
+Stands w h (Keeping kept) paints r = (paints ≡ []) × (r ≡ keeping kept.0 kept.1)
+Stands w h (Passing past) paints r = (paints ≡ []) × (r ≡ passing past.0 past.1)
+Stands w h (Whole event) paints r = AtEnd w h event paints r
+Stands w h (Failed what) paints r = r ≡ Faulty (at_fault what)
+Stands w h Refused paints r = ⊥
+
+-- A decoder and its painter stand for a message of the host that goes on so.
+abbrev pub Decodes : Decoding → Painting → Reading ServerMessage → Type 0
+Decodes decoder painter r = Stands decoder.width decoder.height decoder.state painter.paints r
+
+-- No byte of a message has come.
+abbrev pub start : State
+start = Fields (Kind, [])
+
+-- Another byte is taken: no message is whole, no fault was met, and no memory refused.
+abbrev pub is_open : State → Bool
+is_open (Fields fields) = true
+is_open (Pixels pending) = true
+is_open (Spoiled reader) = false
+is_open (Keeping kept) = true
+is_open (Passing past) = true
+is_open (Whole event) = false
+is_open (Failed what) = false
+is_open Refused = false
+
+-- Memory was refused: this is final.
+abbrev pub is_refused : State → Bool
+is_refused (Fields fields) = false
+is_refused (Pixels pending) = false
+is_refused (Spoiled reader) = false
+is_refused (Keeping kept) = false
+is_refused (Passing past) = false
+is_refused (Whole event) = false
+is_refused (Failed what) = false
+is_refused Refused = true
+
+-- The update, if any, of the message that waits.
+abbrev pub waiting : State → List Update
+waiting (Fields fields) = []
+waiting (Pixels pending) = []
+waiting (Spoiled reader) = []
+waiting (Keeping kept) = []
+waiting (Passing past) = []
+waiting (Whole event) = brought_by event
+waiting (Failed what) = []
+waiting Refused = []
+
+-- What came to wait paints nothing.
+abbrev pub PaintsNothing : State → Type 0
+PaintsNothing state = (canvas : Canvas) → after_updates canvas (waiting state) ≡ canvas
+
+-- ---- what a decoder does
+
+-- The decoder and the painter are for screens of one size.
+pub record IsFor (decoder : Decoding) (painter : Painting) : Type 0 where
+  pub width : painter.width ≡ decoder.width
+  pub height : painter.height ≡ decoder.height
+
+-- A message that went on as r was fed a piece. Where memory is refused, nothing is said of it from then on.
+abbrev pub Feeds : Decoding → Painting → Reading ServerMessage → List ℕ → Result ℕ Fault → Type 0
+Feeds decoder painter r piece (Ok used) = Decodes decoder painter (after r piece) × (used ≡ taken r piece) × (fault_of (after r piece) ≡ None)
+Feeds decoder painter r piece (Err fault) =
+    ((fault ≡ Memory) × (is_refused decoder.state ≡ true)) ⊎ ((after r piece ≡ Faulty fault) × Decodes decoder painter (after r piece))
+
+-- The working raster goes from before to after the updates that came to wait.
+abbrev pub Repaints : Painting → Painting → List Update → List Update → Type 0
+Repaints old new before after_ =
+    (canvas : Canvas) → LooksLike old.width old.height (shows old) (after_updates canvas before) → LooksLike new.width new.height (shows new) (after_updates canvas after_)
+
+-- ---- a step of it
+
+-- A rectangle lies on the screen where its encoding is read.
+abbrev pub SuitsPart : ℕ → ℕ → Part → Type 0
+SuitsPart w h Kind = Unit {0}
+SuitsPart w h Count = Unit {0}
+SuitsPart w h (Area left) = Unit {0}
+SuitsPart w h (Encoding left area) = IsWithin area w h
+SuitsPart w h Colours = Unit {0}
+SuitsPart w h Length = Unit {0}
+
+-- And its data are read for this screen.
+abbrev pub Suits : ℕ → ℕ → State → Type 0
+Suits w h (Fields fields) = SuitsPart w h fields.0
+Suits w h (Pixels pending) = (pending.reader.width ≡ w) × (pending.reader.height ≡ h)
+Suits w h (Spoiled reader) = Unit {0}
+Suits w h (Keeping kept) = Unit {0}
+Suits w h (Passing past) = Unit {0}
+Suits w h (Whole event) = Unit {0}
+Suits w h (Failed what) = Unit {0}
+Suits w h Refused = Unit {0}
+
+-- What stands in a decoder for a screen of w by h.
+pub record IsDecoding (w h : ℕ) (state : State) : Type 0 where
+  pub size : IsScreenSize w h
+  pub suits : Suits w h state
+
+-- The painter's screen stays, and what stands in the decoder is for it.
+pub record Stays (old new : Painting) (state : State) : Type 0 where
+  pub width : new.width ≡ old.width
+  pub height : new.height ≡ old.height
+  pub suits : Suits old.width old.height state
+
+-- A message that waited for more goes on as r. Or memory was refused.
+pub record GoesOn (old new : Painting) (state : State) (r : Reading ServerMessage) : Type 0 where
+  pub stands : (is_refused state ≡ true) ⊎ Stands old.width old.height state new.paints r
+  pub repaints : Repaints old new [] (waiting state)
+
+-- Behind the first n bytes reading goes on as next.
+pub record IsBehind (r next : Reading ServerMessage) (bytes : List ℕ) (n : ℕ) : Type 0 where
+  pub says : after r bytes ≡ after next (drop n bytes)
+  pub count : fault_of next ≡ None → taken r bytes ≡ n + taken next (drop n bytes)
+
+-- It does so once these bytes were used.
+pub record Uses (old new : Painting) (state : State) (r : Reading ServerMessage) (bytes : List ℕ) (n : ℕ) : Type 0 where
+  pub next : Reading ServerMessage
+  pub behind_ : IsBehind r next bytes n
+  pub goes_on : GoesOn old new state next
+
+-- What is answered at the end. Where a rectangle's data are at fault, they name it again.
+abbrev pub Judges : State → State → ℕ → Result ℕ Fault → Type 0
+Judges (Fields fields) new used answer = (new ≡ Fields fields) × (answer ≡ Ok used)
+Judges (Pixels pending) new used answer = (new ≡ Pixels pending) × (answer ≡ Ok used)
+Judges (Spoiled reader) new used answer =
+    (fault : Fault) → DataStands reader (Faulty fault) → (answer ≡ Err fault) × ((w h : ℕ) (paints : List Paint) → Stands w h new paints (Faulty fault))
+Judges (Keeping kept) new used answer = (new ≡ Keeping kept) × (answer ≡ Ok used)
+Judges (Passing past) new used answer = (new ≡ Passing past) × (answer ≡ Ok used)
+Judges (Whole event) new used answer = (new ≡ Whole event) × (answer ≡ Ok used)
+Judges (Failed what) new used answer = (new ≡ Failed what) × (answer ≡ Err (at_fault what))
+Judges Refused new used answer = (new ≡ Refused) × (answer ≡ Err Memory)
+
+-- The rectangle in eight bytes.
+abbrev pub rect_in : List ℕ → Rect
+rect_in bytes =
+    record {
+      x = from_be_bytes w16 (slice_index bytes 0 ∷ slice_index bytes 1 ∷ []);
+      y = from_be_bytes w16 (slice_index bytes 2 ∷ slice_index bytes 3 ∷ []);
+      w = from_be_bytes w16 (slice_index bytes 4 ∷ slice_index bytes 5 ∷ []);
+      h = from_be_bytes w16 (slice_index bytes 6 ∷ slice_index bytes 7 ∷ []);
+    }

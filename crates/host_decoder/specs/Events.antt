@@ -1,0 +1,37 @@
+-- What whole messages of a host bring (RFC 6143, 7.6).
+use Rattle.std.specs.Prelude.{ℕ, List, [], ◌∷◌, map, Option, Some, None}
+use Rattle.raster.specs.Update as update
+use Rattle.raster.specs.Update.{Update, Paints}
+use Rattle.painter.specs.Patch.{SizedUpdate}
+use Rattle.rfb_wire.specs.ServerMessage as server
+use Rattle.rfb_wire.specs.ServerMessage.{ServerMessage, FramebufferUpdate, SetColorMapEntries, ServerCutText, LostText}
+use Rattle.host_decoder.specs.Updates.{in_colours}
+use Rattle.host_decoder.specs.declared.event.HostEvent.{HostEvent}
+use Rattle.host_decoder.specs.declared.event.HostEvent.TheVariants.{Paint, Bell, Cut, Map, LongCut}
+
+abbrev pub sized : ℕ → ℕ → Update → SizedUpdate
+sized w h update = record { width = w; height = h; update = update }
+
+-- The event of a message, over a screen of w by h.
+abbrev pub event_of : ℕ → ℕ → ServerMessage → HostEvent
+event_of w h (FramebufferUpdate paints) = Paint (sized w h (Paints (map in_colours paints)))
+event_of w h SetColorMapEntries = Map
+event_of w h server.Bell = Bell (sized w h update.Bell)
+event_of w h (ServerCutText text) = Cut (sized w h (update.Cut text))
+event_of w h (LostText len) = LongCut
+
+-- The update of an event: a colour map and a text that isn't kept bring none.
+abbrev pub update_in : HostEvent → Option Update
+update_in (Paint patch) = Some patch.update
+update_in (Bell patch) = Some patch.update
+update_in (Cut patch) = Some patch.update
+update_in Map = None
+update_in LongCut = None
+
+-- The same as a list.
+abbrev pub brought_by : HostEvent → List Update
+brought_by (Paint patch) = patch.update ∷ []
+brought_by (Bell patch) = patch.update ∷ []
+brought_by (Cut patch) = patch.update ∷ []
+brought_by Map = []
+brought_by LongCut = []

@@ -1,0 +1,122 @@
+//! What follows once all bytes of a part have come.
+
+ghost use Rattle.std.specs.Prelude.{◌≡◌, ℕ, List, [], length};
+ghost use Rattle.pixel_format.specs.PixelFormat.{host_format};
+ghost use Rattle.pixel_format.specs.Reading.{after};
+ghost use Rattle.raster.specs.Size.{IsScreenSize};
+ghost use Rattle.raster.specs.Update as update;
+ghost use Rattle.rfb_wire.specs.ClientMessage.{text};
+ghost use Rattle.rfb_wire.specs.ServerMessage.{LostText, ServerCutText, fields_of, set_color_map_entries};
+ghost use Rattle.host_decoder.specs.Decoder.{GoesOn, Holds, IsSuited, PaintsNothing, Stands, Stays, Suits, SuitsPart, form_of, rect_in};
+ghost use Rattle.host_decoder.specs.declared.part.Part.TheVariants.{Area};
+ghost use Rattle.host_decoder.specs.Parts.{len_of};
+
+use crate::event::HostEvent;
+use crate::fields::Fields;
+use crate::kept::{Kept, LONGEST_TEXT};
+use crate::part::Part;
+use crate::past::{Passed, Past};
+use crate::state::{State, Wrong};
+use crate::update_data::{begin_data, next_rectangle};
+use painter::{Painter, Patch};
+use raster::Rect;
+use std::alloc::Global;
+
+/// The rectangle in eight bytes: x, y, width and height.
+fn area_of(b: &[u8]) -> Rect
+    requires { length b.now ≡ 8 }
+    ensures { result ≡ rect_in b.now }
+{
+    Rect {
+        x: u64::from(u16::from_be_bytes([b[0], b[1]])),
+        y: u64::from(u16::from_be_bytes([b[2], b[3]])),
+        w: u64::from(u16::from_be_bytes([b[4], b[5]])),
+        h: u64::from(u16::from_be_bytes([b[6], b[7]])),
+    }
+}
+
+/// What follows the type of a message.
+fn behind_kind(painter: &Painter, kind: u8) -> State
+    requires size { IsScreenSize painter.now.width painter.now.height }
+    ensures suits { Suits painter.now.width painter.now.height result }
+    ensures stands { Stands painter.now.width painter.now.height result [] (fields_of host_format painter.now.width painter.now.height kind) }
+    ensures still { PaintsNothing result }
+{
+    let part = match kind {
+        0 => Part::Count,
+        1 => Part::Colours,
+        2 => {
+            let (width, height) = painter.size();
+            return State::Whole(HostEvent::Bell(Patch::bell(width, height)));
+        }
+        3 => Part::Length,
+        _ => return State::Failed(Wrong::Kind(kind)),
+    };
+    State::Fields(Fields::of(part))
+}
+
+/// What follows the place of a rectangle, of which so many follow it.
+fn behind_area(painter: &Painter, left: u16, b: &[u8]) -> State
+    requires { length b.now ≡ 8 }
+    ensures suits { Suits painter.now.width painter.now.height result }
+    ensures stands { (sofar : List update.Paint) → Holds painter.now.width painter.now.height painter.now.paints sofar
+        → Stands painter.now.width painter.now.height result painter.now.paints (after (form_of painter.now.width painter.now.height sofar (Area left)) b.now) }
+    ensures still { PaintsNothing result }
+{
+    let area = area_of(b);
+    let (width, height) = painter.size();
+    if area.within(width, height) {
+        State::Fields(Fields::of(Part::Encoding(left, area)))
+    } else {
+        State::Failed(Wrong::Area)
+    }
+}
+
+/// What follows the number of a colour map's entries, of six bytes each.
+fn behind_colours(b: &[u8]) -> State
+    requires { length b.now ≡ 5 }
+    ensures stands { (w h : ℕ) → Stands w h result [] (after set_color_map_entries b.now) }
+    ensures suits { (w h : ℕ) → Suits w h result }
+    ensures still { PaintsNothing result }
+{
+    let count = u16::from_be_bytes([b[3], b[4]]);
+    Past::begin(u32::from(count) * 6, Passed::Colours)
+}
+
+/// What follows the length of a text.
+fn behind_length(alloc: Global, painter: &Painter, b: &[u8]) -> State
+    requires size { IsScreenSize painter.now.width painter.now.height }
+    requires count { length b.now ≡ 7 }
+    ensures suits { Suits painter.now.width painter.now.height result }
+    ensures stands { Stands painter.now.width painter.now.height result [] (after (text ServerCutText LostText) b.now) }
+    ensures still { PaintsNothing result }
+{
+    let len = u32::from_be_bytes([b[3], b[4], b[5], b[6]]);
+    if len > LONGEST_TEXT {
+        return Past::begin(len, Passed::Text(len));
+    }
+    let (width, height) = painter.size();
+    Kept::begin(alloc, width, height, len as usize)
+}
+
+/// How reading goes on behind a part that has these bytes.
+pub(crate) fn complete(alloc: Global, painter: &mut Painter, part: Part, b: &[u8]) -> State
+    requires size { IsScreenSize painter.old.width painter.old.height }
+    requires count { length b.now ≡ len_of part }
+    requires suits { SuitsPart painter.old.width painter.old.height part }
+    ensures stays { Stays painter.old painter.new result }
+    ensures goes_on { (sofar : List update.Paint) → Holds painter.old.width painter.old.height painter.old.paints sofar → IsSuited part sofar
+        → GoesOn painter.old painter.new result (after (form_of painter.old.width painter.old.height sofar part) b.now) }
+{
+    match part {
+        Part::Kind => behind_kind(painter, b[0]),
+        Part::Count => next_rectangle(painter, u16::from_be_bytes([b[1], b[2]])),
+        Part::Area(left) => behind_area(painter, left, b),
+        Part::Encoding(left, area) => {
+            let encoding = u32::from_be_bytes([b[0], b[1], b[2], b[3]]);
+            begin_data(alloc, painter, left, area, encoding)
+        }
+        Part::Colours => behind_colours(b),
+        Part::Length => behind_length(alloc, painter, b),
+    }
+}

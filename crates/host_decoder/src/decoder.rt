@@ -1,0 +1,109 @@
+//! Reading what a host sends, in whatever pieces it comes.
+
+ghost use Rattle.std.specs.Prelude.{◌≡◌, ℕ, true, [], Ok, Err, None, Some, Result, IfNone, IfSome, option_map};
+ghost use Rattle.pixel_format.specs.declared.fault.Fault.{Fault};
+ghost use Rattle.pixel_format.specs.declared.fault.Fault.TheVariants.{Memory};
+ghost use Rattle.pixel_format.specs.Reading.{Reading, Faulty, renewed, whole_of};
+ghost use Rattle.raster.specs.Size.{IsScreenSize};
+ghost use Rattle.painter.specs.Painter.{Painting};
+ghost use Rattle.rfb_wire.specs.ServerMessage.{ServerMessage};
+ghost use Rattle.host_decoder.specs.Decoder.{Decodes, Feeds, IsFor, Repaints, host_message, is_refused, start, waiting};
+ghost use Rattle.host_decoder.specs.Events.{brought_by, event_of};
+
+use crate::advance::{advance, judge};
+use crate::event::HostEvent;
+use crate::state::State;
+use painter::Painter;
+use pixel_format::Fault;
+use std::alloc::Global;
+use std::marker::Model;
+use std::mem;
+
+/// A decoder of what a host sends after its handshake (RFC 6143, 7.6 and 7.7), over a screen of one size, which holds
+/// what has come of the next message. Contracts see the width and the height of the screen in pixels, and what is held.
+///
+/// The paints of an update wait in the painter until the update is whole.
+#[derive(Drop)]
+pub struct HostDecoder {
+    alloc: Global,
+    width: u64,
+    height: u64,
+    state: State,
+}
+
+impl Model for HostDecoder {
+    ghost use Rattle.host_decoder.specs.Decoder.{Decoding, IsDecoding};
+
+    ghost Value = { Decoding };
+
+    ghost view = { λ d. record { width = d.width; height = d.height; state = d.state } };
+
+    ghost invariant = { λ d. IsDecoding d.width d.height d.state };
+}
+
+impl HostDecoder {
+    /// A decoder to which no byte has come, for a screen of `width` by `height` pixels. It takes no memory.
+    pub fn new(alloc: Global, width: u64, height: u64) -> Self
+        requires { IsScreenSize width height }
+        ensures value { result ≡ record { width = width; height = height; state = start } }
+        ensures begins { (painter : Painting) → painter.paints ≡ [] → Decodes result painter (host_message width height) }
+    {
+        HostDecoder {
+            alloc,
+            width,
+            height,
+            state: State::start(),
+        }
+    }
+
+    /// The width and height of the screen in pixels.
+    pub fn size(&self) -> (u64, u64)
+        ensures { (result.0 ≡ self.now.width) × (result.1 ≡ self.now.height) }
+    {
+        (self.width, self.height)
+    }
+
+    /// Takes the next piece, up to the end of a whole message, and answers how many bytes it used. It uses none while
+    /// a message waits to be taken, and none after a fault, which it names again.
+    ///
+    /// `UnknownMessage`, `RectOutside`, `UnknownEncoding`, `CopyOutside`, `SubrectOutside`, `NoBackground` and
+    /// `NoForeground` at the byte that shows it; `Memory` where memory is refused. Each is final. The paints of a
+    /// message that isn't whole may be left in the painter, and are never painted.
+    pub fn feed(&mut self, painter: &mut Painter, piece: &[u8]) -> Result<usize, Fault>
+        requires { IsFor self.old painter.old }
+        ensures size { (self.new.width ≡ self.old.width) × (self.new.height ≡ self.old.height) × IsFor self.new painter.new }
+        ensures feeds { (r : Reading ServerMessage) → Decodes self.old painter.old r → Feeds self.new painter.new r piece.now result }
+        ensures repaints { (r : Reading ServerMessage) → Decodes self.old painter.old r → Repaints painter.old painter.new (waiting self.old.state) (waiting self.new.state) }
+        ensures refused { is_refused self.old.state ≡ true → (result ≡ Err Memory) × (self.new ≡ self.old) × (painter.new ≡ painter.old) }
+        ensures faulty { (fault : Fault) → Decodes self.old painter.old (Faulty fault) → (result ≡ Err fault) × Decodes self.new painter.new (Faulty fault) × (painter.new ≡ painter.old) }
+    {
+        let mut state = mem::replace(&mut self.state, State::start());
+        let mut used = 0;
+        while used < piece.len() && state.is_open() {
+            let (_, left) = piece.split_at(used);
+            let (next, count) = advance(self.alloc, painter, state, left);
+            state = next;
+            used += count;
+        }
+        let (state, answer) = judge(state, used);
+        self.state = state;
+        answer
+    }
+
+    /// The event of the message that is whole, if there is one. The next bytes begin another.
+    pub fn whole(&mut self) -> Option<HostEvent>
+        ensures size { (self.new.width ≡ self.old.width) × (self.new.height ≡ self.old.height) }
+        ensures given { (painter : Painting) → (r : Reading ServerMessage) → Decodes self.old painter r
+            → (result ≡ option_map (event_of self.old.width self.old.height) (whole_of r)) × Decodes self.new painter (renewed (host_message self.old.width self.old.height) r) }
+        ensures none { IfNone result (self.new ≡ self.old) }
+        ensures some { IfSome result (λ event. (waiting self.old.state ≡ brought_by event) × (self.new.state ≡ start)) }
+    {
+        match mem::replace(&mut self.state, State::start()) {
+            State::Whole(event) => Some(event),
+            state => {
+                self.state = state;
+                None
+            }
+        }
+    }
+}

@@ -1,0 +1,77 @@
+-- What one update more makes of a view.
+use Rattle.std.proofs.Common.{◌≡◌, ℕ, ◌+◌, Bool, true, false, List, All, map, length-append, [], ◌∷◌, ◌++◌, length, Option, Some, None, refl, ap, sym, subst, ◌∙◌, arith, add_assoc}
+use Rattle.std.specs.Int.{from_bool}
+use Rattle.std.specs.Prelude.{if◌then◌else◌}
+use Rattle.raster.specs.declared.painting.Paint as code
+use Rattle.raster.specs.Painted.{Fits, paint_of}
+use Rattle.raster.specs.Screen.{Canvas, LooksLike, opening, value_at}
+use Rattle.raster.specs.Update.{Paint, Update, Paints, Bell, Cut, NumberedText, after_paints, bells, last_text, last_text_from, paints_of, screen}
+use Rattle.tiles.proofs.Due.{after_updates-more}
+use Rattle.painter.specs.Board.{BoardStands, Posted}
+use Rattle.painter.specs.Patch.{SizedUpdate, is_bell, text_of}
+use Rattle.painter.proofs.PatchLaws.{shows_over}
+
+-- A Bell more.
+pub bells-push : (us : List Update) (u : Update) → bells (us ++ u ∷ []) ≡ bells us + (if is_bell u then 1 else 0)
+bells-push [] (Paints ps) = refl
+bells-push [] Bell = refl
+bells-push [] (Cut text) = refl
+bells-push (Paints ps ∷ us) u = bells-push us u
+bells-push (Bell ∷ us) u = ap (λ n. 1 + n) (bells-push us u) ∙ sym (add_assoc 1 (bells us) (if is_bell u then 1 else 0))
+bells-push (Cut text ∷ us) u = bells-push us u
+
+-- The text of an update that has this number, or the one before it.
+abbrev pub newer : Option NumberedText → ℕ → Option (List ℕ) → Option NumberedText
+newer last number None = last
+newer last number (Some text) = Some (record { text = text; number = number })
+
+newer_here : (last : Option NumberedText) (n : ℕ) (u : Update) → last_text_from last n (u ∷ []) ≡ newer last (n + 0) (text_of u)
+newer_here last n (Paints ps) = refl
+newer_here last n Bell = refl
+newer_here last n (Cut text) = let e : n ≡ n + 0 = omega arith in ap (λ m. Some (record { text = text; number = m })) e
+
+last_text_from-push : (last : Option NumberedText) (n : ℕ) (us : List Update) (u : Update) → last_text_from last n (us ++ u ∷ []) ≡ newer (last_text_from last n us) (n + length us) (text_of u)
+last_text_from-push last n [] u = newer_here last n u
+last_text_from-push last n (Paints ps ∷ us) u = let e : n + 1 + length us ≡ n + length (Paints ps ∷ us) = omega arith in last_text_from-push last (n + 1) us u ∙ ap (λ m. newer (last_text_from last (n + 1) us) m (text_of u)) e
+last_text_from-push last n (Bell ∷ us) u = let e : n + 1 + length us ≡ n + length (Bell ∷ us) = omega arith in last_text_from-push last (n + 1) us u ∙ ap (λ m. newer (last_text_from last (n + 1) us) m (text_of u)) e
+last_text_from-push last n (Cut text ∷ us) u =
+    let e : n + 1 + length us ≡ n + length (Cut text ∷ us) = omega arith in
+    let there : Option NumberedText = Some (record { text = text; number = n }) in
+    last_text_from-push there (n + 1) us u ∙ ap (λ m. newer (last_text_from there (n + 1) us) m (text_of u)) e
+
+-- A text more.
+pub last_text-push : (us : List Update) (u : Update) → last_text (us ++ u ∷ []) ≡ newer (last_text us) (1 + length us) (text_of u)
+last_text-push us u = last_text_from-push None 1 us u
+
+-- Paints of an update over colours that show some updates show those and this one.
+pub screen-push : (w h : ℕ) (old new : List ℕ) (ps : List code.Paint) (us : List Update) (u : Update) → All (λ p. Fits w h (paint_of p)) ps → map paint_of ps ≡ paints_of u
+    → LooksLike w h (value_at w new) (after_paints (value_at w old) (map paint_of ps)) → LooksLike w h (value_at w old) (screen us)
+    → LooksLike w h (value_at w new) (screen (us ++ u ∷ []))
+screen-push w h old new ps us u fits same shows stood x y lx ly =
+    shows_over w h old new ps fits shows (screen us) stood x y lx ly
+    ∙ (ap (λ (qs : List Paint). after_paints (screen us) qs x y) same ∙ sym (ap (λ (s : Canvas). s x y) (after_updates-more opening us u)))
+
+counted : (b : Bool) → from_bool b ≡ (if b then 1 else 0)
+counted true = refl
+counted false = refl
+
+-- A board that stands for some updates does so for one more, where that was painted on it, counted, and kept as a text.
+pub stands-push : (board : Posted) (patch : SizedUpdate) (w h n rung count : ℕ) (old seen new : List ℕ) (last : Option NumberedText) (text : Option (List ℕ)) (ps : List code.Paint) (us : List Update)
+    → seen ≡ old → record { width = w; height = h; number = n; colours = old; bells = rung; text = last } ≡ board → (patch.width ≡ board.width) × (patch.height ≡ board.height)
+    → All (λ p. Fits patch.width patch.height (paint_of p)) ps → map paint_of ps ≡ paints_of patch.update → LooksLike w h (value_at w new) (after_paints (value_at w seen) (map paint_of ps))
+    → count ≡ from_bool (is_bell patch.update) → text ≡ text_of patch.update → BoardStands board us
+    → BoardStands (record { width = w; height = h; number = n + 1; colours = new; bells = rung + count; text = newer last (n + 1) text }) (us ++ patch.update ∷ [])
+stands-push board patch w h n rung count old seen new last text ps us is_old is size fits same shows is_count is_text stands =
+    let u : Update = patch.update in
+    let stood : BoardStands (record { width = w; height = h; number = n; colours = old; bells = rung; text = last }) us = subst (λ (b : Posted). BoardStands b us) (sym is) stands in
+    let wide : patch.width ≡ w = size.0 ∙ ap (λ (b : Posted). b.width) (sym is) in
+    let high : patch.height ≡ h = size.1 ∙ ap (λ (b : Posted). b.height) (sym is) in
+    let fit : All (λ p. Fits w h (paint_of p)) ps = subst (λ v. All (λ p. Fits w v (paint_of p)) ps) high (subst (λ v. All (λ p. Fits v patch.height (paint_of p)) ps) wide fits) in
+    let longer : length (us ++ u ∷ []) ≡ length us + 1 = length-append us (u ∷ []) in
+    let next : n + 1 ≡ 1 + length us = omega (arith, stood.number) in
+    record {
+      number = omega (arith, stood.number, longer);
+      screen = screen-push w h seen new ps us u fit same shows (subst (λ (cs : List ℕ). LooksLike w h (value_at w cs) (screen us)) (sym is_old) stood.screen);
+      bells = ap (λ k. k + count) stood.bells ∙ (ap (λ k. bells us + k) (is_count ∙ counted (is_bell u)) ∙ sym (bells-push us u));
+      text = ap (λ (t : Option NumberedText). newer t (n + 1) text) stood.text ∙ (ap (λ k. newer (last_text us) k text) next ∙ (ap (λ (t : Option (List ℕ)). newer (last_text us) (1 + length us) t) is_text ∙ sym (last_text-push us u)));
+    }

@@ -1,0 +1,116 @@
+//! A screen that is kept.
+
+ghost use Rattle.std.specs.Prelude.{◌≡◌, ℕ, ◌+◌, ◌<◌, ◌^◌, List, [], ◌∷◌, ◌++◌, IfOk, IfErr};
+ghost use Rattle.painter.specs.Board.{BoardStands, IsSameScreen};
+ghost use Rattle.pixel_format.specs.declared.fault.Fault.TheVariants.{Memory};
+ghost use Rattle.raster.specs.Size.{IsScreenSize};
+ghost use Rattle.raster.specs.Update.{Update};
+
+use crate::patch::Patch;
+use crate::text::Text;
+use pixel_format::Fault;
+use raster::apply_paints;
+use std::alloc::Global;
+use std::marker::Model;
+
+/// What a list of updates shows: the number of the last of them, the screen, how many Bells there were, and the last text of the
+/// host's cut buffer. All its room is taken where it is made.
+#[derive(Drop)]
+pub struct Board {
+    width: u64,
+    height: u64,
+    number: u64,
+    colours: Vec<u32>,
+    bells: u64,
+    text: Text,
+}
+
+impl Model for Board {
+    ghost use Rattle.painter.specs.Board.{IsBoard, Posted};
+
+    ghost Value = { Posted };
+
+    ghost view = { λ b. record { width = b.width; height = b.height; number = b.number; colours = b.colours.items; bells = b.bells; text = b.text } };
+
+    ghost invariant = { λ b. IsBoard (record { width = b.width; height = b.height; number = b.number; colours = b.colours.items; bells = b.bells; text = b.text }) };
+}
+
+impl Board {
+    /// A black screen of `width` by `height` pixels, to which no update was applied, and room for a text of 65,536 bytes. It fails
+    /// where memory is refused (`Memory`).
+    pub fn new(alloc: Global, width: u64, height: u64) -> Result<Self, Fault>
+        requires { IsScreenSize width height }
+        ensures size { IfOk result (λ board. (board.width ≡ width) × (board.height ≡ height)) }
+        ensures stands { IfOk result (λ board. BoardStands board []) }
+        ensures err { IfErr result (λ fault. fault ≡ Memory) }
+    {
+        let text = Text::new(alloc)?;
+        let colours = match vec![in alloc; 0u32; (width * height) as usize] {
+            Ok(colours) => colours,
+            Err(_) => return Err(Fault::Memory),
+        };
+        Ok(Board {
+            width,
+            height,
+            number: 0,
+            colours,
+            bells: 0,
+            text,
+        })
+    }
+
+    /// The width and height of its screen in pixels.
+    pub fn size(&self) -> (u64, u64)
+        ensures { (result.0 ≡ self.now.width) × (result.1 ≡ self.now.height) }
+    {
+        (self.width, self.height)
+    }
+
+    /// The number of the last update, from 1; 0 before the first.
+    pub fn number(&self) -> u64
+        ensures { result ≡ self.now.number }
+    {
+        self.number
+    }
+
+    /// How many of the updates were Bells.
+    pub fn bells(&self) -> u64
+        ensures { result ≡ self.now.bells }
+    {
+        self.bells
+    }
+
+    /// The last text, with the number of the update that brought it.
+    pub fn text(&self) -> &Text
+        ensures { result.now ≡ self.now.text }
+    {
+        &self.text
+    }
+
+    /// The colours, row after row, each row as long as the screen is wide.
+    pub fn colours(&self) -> &[u32]
+        ensures { result.now ≡ self.now.colours }
+    {
+        self.colours.as_slice()
+    }
+
+    /// Applies the next update. It always succeeds, and takes no memory.
+    pub fn apply(&mut self, patch: &Patch)
+        requires size { (patch.now.width ≡ self.old.width) × (patch.now.height ≡ self.old.height) }
+        requires number { self.old.number < 2 ^ 62 }
+        ensures size { IsSameScreen self.old self.new }
+        ensures stands { (us : List Update) → BoardStands self.old us → BoardStands self.new (us ++ patch.now.update ∷ []) }
+    {
+        self.number += 1;
+        apply_paints(
+            self.colours.as_mut_slice(),
+            self.width as usize,
+            self.height as usize,
+            patch.painted(),
+        );
+        self.bells += u64::from(patch.is_bell());
+        if let Some(bytes) = patch.text_bytes() {
+            self.text.set(bytes, self.number);
+        }
+    }
+}
