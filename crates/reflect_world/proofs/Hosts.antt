@@ -10,7 +10,8 @@ use Rattle.pixel_format.proofs.ReadingLaws.{taken-le}
 use Rattle.raster.specs.Update.{Update}
 use Rattle.rfb_wire.specs.ServerMessage.{ServerMessage, FramebufferUpdate, SetColorMapEntries, Bell, ServerCutText, LostText}
 use Rattle.painter.specs.Patch.{SizedUpdate}
-use Rattle.host_decoder.specs.Decoder.{Decoding, Decodes, Feeds, Painting, host_message, is_refused}
+use Rattle.host_decoder.specs.Decoder.{Decoding, Decodes, Feeds, host_message, is_refused}
+use Rattle.painter.specs.Painter.{Painting}
 use Rattle.host_decoder.specs.Events.{event_of}
 use Rattle.host_decoder.specs.Updates.{update_of, updates_by}
 use Rattle.host_decoder.specs.declared.event.HostEvent.{HostEvent}

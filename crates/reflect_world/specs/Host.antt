@@ -8,7 +8,8 @@ use Rattle.raster.specs.Size.{IsScreenSize}
 use Rattle.raster.specs.Update.{Update}
 use Rattle.rfb_wire.specs.ServerMessage.{ServerMessage, server_message}
 use Rattle.painter.specs.Patch.{SizedUpdate}
-use Rattle.host_decoder.specs.Decoder.{Painting, Decoding, Decodes, is_refused}
+use Rattle.painter.specs.Painter.{Painting}
+use Rattle.host_decoder.specs.Decoder.{Decoding, Decodes, is_refused}
 use Rattle.host_decoder.specs.declared.event.HostEvent.{HostEvent}
 use Rattle.host_decoder.specs.declared.event.HostEvent.TheVariants.{Paint, Bell, Cut, Map, LongCut}
 use Rattle.host_decoder.specs.Updates.{updates_by}

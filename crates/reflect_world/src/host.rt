@@ -8,8 +8,8 @@ ghost use Rattle.painter.specs.Patch.{SizedUpdate};
 ghost use Rattle.reflect_world.specs.Host.{CanRead, HasReadTo, HostStands, IsHost, IsSameHost, ReadsMessage, ReadsOn, patch_in};
 
 use crate::unread::Unread;
-use host_decoder::{HostDecoder, HostEvent, Painter};
-use painter::Patch;
+use host_decoder::{HostDecoder, HostEvent};
+use painter::{Painter, Patch};
 use pixel_format::Fault;
 use std::alloc::Global;
 use std::marker::Model;
