@@ -8,6 +8,8 @@ mod bad_lines;
 #[cfg(test)]
 mod faults;
 #[cfg(test)]
+mod hosts;
+#[cfg(test)]
 mod links;
 #[cfg(test)]
 mod played;
