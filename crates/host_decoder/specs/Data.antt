@@ -66,7 +66,6 @@ source_in area bytes =
 
 pub record RreStands (area : Rect) (p : RreProgress) (reading : Reading Paint) : Type 0 where
   pub sofar : Drawing
-  pub format : p.reader.format ≡ host_format
   pub width : p.reader.width ≡ area.w
   pub height : p.reader.height ≡ area.h
   pub stands : rre.Stands p.reader (shown p.canvas) sofar

@@ -1,5 +1,5 @@
 -- What is kept of a rectangle's data while it comes.
-use Rattle.std.specs.Prelude.{◌≡◌, ℕ, ◌<◌, ◌≤◌, List, length}
+use Rattle.std.specs.Prelude.{ℕ, List}
 use Rattle.raster.specs.Picture.{Picture}
 use Rattle.rre_codec.specs.Ahead as rre
 

@@ -1,6 +1,6 @@
 -- How reading a host's message goes on, by what its decoder and its painter hold (RFC 6143, 7.6).
 use Rattle.std.specs.Int.{w16, from_be_bytes}
-use Rattle.std.specs.Prelude.{◌≡◌, ℕ, ◌+◌, drop, slice_index, Bool, true, false, List, [], ◌∷◌, ◌++◌, map, All, Option, Some, None, Result, Ok, Err, ◌⊎◌}
+use Rattle.std.specs.Prelude.{◌≡◌, ℕ, ◌+◌, ◌<◌, drop, length, slice_index, Bool, true, false, List, [], ◌∷◌, ◌++◌, map, All, Option, Some, None, Result, Ok, Err, ◌⊎◌}
 use Rattle.pixel_format.specs.PixelFormat.{host_format}
 use Rattle.pixel_format.specs.declared.fault.Fault.{Fault}
 use Rattle.pixel_format.specs.declared.fault.Fault.TheVariants.{UnknownMessage, RectOutside, UnknownEncoding, Memory}
@@ -16,7 +16,7 @@ use Rattle.rfb_wire.specs.ServerMessage.{ServerMessage, FramebufferUpdate, SetCo
 use Rattle.host_decoder.specs.Updates.{in_colours}
 use Rattle.host_decoder.specs.Events.{event_of, brought_by}
 use Rattle.host_decoder.specs.Data.{DataProgress, DataStands}
-use Rattle.host_decoder.specs.Parts.{Passed, message_of}
+use Rattle.host_decoder.specs.Parts.{Passed, len_of, message_of}
 use Rattle.host_decoder.specs.declared.event.HostEvent.{HostEvent}
 use Rattle.host_decoder.specs.declared.part.Part.{Part}
 use Rattle.host_decoder.specs.declared.part.Part.TheVariants.{Kind, Count, Area, Encoding, Colours, Length}
@@ -87,11 +87,12 @@ pub record Holds (w h : ℕ) (paints sofar : List Paint) : Type 0 where
   pub same : paints ≡ map in_colours sofar
   pub fits : All (Fits w h) paints
 
--- Some bytes of a part have come.
+-- Some bytes of a part have come, and one is missing.
 pub record InPart (w h : ℕ) (part : Part) (begun : List ℕ) (paints : List Paint) (r : Reading ServerMessage) : Type 0 where
   pub sofar : List Paint
   pub holds : Holds w h paints sofar
   pub suited : IsSuited part sofar
+  pub missing : length begun < len_of part
   pub reads : r ≡ after (form_of w h sofar part) begun
 
 -- A rectangle's data are being read, and so many rectangles are left behind it.
@@ -121,8 +122,8 @@ abbrev pub Stands : ℕ → ℕ → State → List Paint → Reading ServerMessa
 Stands w h (Fields fields) paints r = InPart w h fields.0 fields.1 paints r
 Stands w h (Pixels pending) paints r = InData w h pending.left pending.reader paints r
 Stands w h (Spoiled reader) paints r = AtFault reader r
-Stands w h (Keeping kept) paints r = (paints ≡ []) × (r ≡ keeping kept.0 kept.1)
-Stands w h (Passing past) paints r = (paints ≡ []) × (r ≡ passing past.0 past.1)
+Stands w h (Keeping kept) paints r = (paints ≡ []) × (0 < kept.1) × (r ≡ keeping kept.0 kept.1)
+Stands w h (Passing past) paints r = (paints ≡ []) × (0 < past.0) × (r ≡ passing past.0 past.1)
 Stands w h (Whole event) paints r = AtEnd w h event paints r
 Stands w h (Failed what) paints r = r ≡ Faulty (at_fault what)
 Stands w h Refused paints r = ⊥
@@ -244,7 +245,7 @@ abbrev pub Judges : State → State → ℕ → Result ℕ Fault → Type 0
 Judges (Fields fields) new used answer = (new ≡ Fields fields) × (answer ≡ Ok used)
 Judges (Pixels pending) new used answer = (new ≡ Pixels pending) × (answer ≡ Ok used)
 Judges (Spoiled reader) new used answer =
-    (fault : Fault) → DataStands reader (Faulty fault) → (answer ≡ Err fault) × ((w h : ℕ) (paints : List Paint) → Stands w h new paints (Faulty fault))
+    (again : DataProgress) × (new ≡ Spoiled again) × ((fault : Fault) → DataStands reader (Faulty fault) → (answer ≡ Err fault) × DataStands again (Faulty fault))
 Judges (Keeping kept) new used answer = (new ≡ Keeping kept) × (answer ≡ Ok used)
 Judges (Passing past) new used answer = (new ≡ Passing past) × (answer ≡ Ok used)
 Judges (Whole event) new used answer = (new ≡ Whole event) × (answer ≡ Ok used)

@@ -31,7 +31,7 @@ pub(crate) fn make_colours(pixels: &[[u8; PIXEL_LEN]], colours: &mut [u32])
 pub(crate) fn keep_colours(values: &mut [u32])
     ensures { values.new ≡ map colour_of values.old }
 {
-    for value in values.iter_mut() {
-        *value %= COLOURS;
+    for i in 0..values.len() {
+        values[i] %= COLOURS;
     }
 }

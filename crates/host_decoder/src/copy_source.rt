@@ -55,14 +55,15 @@ impl CopySource {
 
     /// Whether all bytes have come.
     fn is_full(&self) -> bool
-        ensures { result ≡ (length self.now == 4) }
+        ensures value { result ≡ (length self.now == 4) }
+        ensures most { length self.now ≤ 4 }
     {
         self.filled == SOURCE_LEN
     }
 
-    /// The source of a rectangle, once all bytes have come.
+    /// The source of a rectangle, once all of its bytes have come.
     pub(crate) fn source(&self, area: &Rect) -> Rect
-        ensures { length self.now ≡ 4 → result ≡ source_in area.now self.now }
+        ensures { 4 ≤ length self.now → result ≡ source_in area.now self.now }
     {
         Rect {
             x: u64::from(u16::from_be_bytes([self.bytes[0], self.bytes[1]])),

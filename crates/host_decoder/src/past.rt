@@ -1,7 +1,7 @@
 //! What is read past.
 
 ghost use Rattle.std.specs.Prelude.{◌≡◌, ℕ, ◌-◌, ◌<◌, ◌≤◌, []};
-ghost use Rattle.host_decoder.specs.Decoder.{PaintsNothing, Stands, passing};
+ghost use Rattle.host_decoder.specs.Decoder.{PaintsNothing, Stands, Suits, passing};
 
 use crate::event::HostEvent;
 use crate::state::State;
@@ -38,6 +38,7 @@ impl Past {
     /// So many bytes are left.
     pub(crate) fn begin(left: u32, what: Passed) -> State
         ensures stands { (w h : ℕ) → Stands w h result [] (passing left what) }
+        ensures suits { (w h : ℕ) → Suits w h result }
         ensures still { PaintsNothing result }
     {
         if left > 0 {
@@ -61,6 +62,7 @@ impl Past {
     pub(crate) fn with_bytes(self, count: usize) -> State
         requires { count ≤ self.0 }
         ensures stands { (w h : ℕ) → Stands w h result [] (passing (self.0 - count) self.1) }
+        ensures suits { (w h : ℕ) → Suits w h result }
         ensures still { PaintsNothing result }
     {
         Past::begin(self.left - count as u32, self.what)

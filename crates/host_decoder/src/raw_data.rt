@@ -1,6 +1,6 @@
 //! The pixels of a Raw rectangle, in whatever pieces they come (RFC 6143, section 7.7.1).
 
-ghost use Rattle.std.specs.Prelude.{◌≡◌, ◌+◌, ◌*◌, ◌<◌, ◌≤◌, ◌^◌, ◌++◌, [], length, map, is_some, IfOk, IfErr};
+ghost use Rattle.std.specs.Prelude.{◌≡◌, ◌+◌, ◌*◌, ◌<◌, ◌≤◌, ◌^◌, ◌⊎◌, ◌++◌, [], length, map, is_some, IfOk, IfErr};
 ghost use Rattle.pixel_format.specs.PixelFormat.{host_format};
 ghost use Rattle.pixel_format.specs.Reading.{Reading, Done, after, whole_of};
 ghost use Rattle.pixel_format.specs.declared.fault.Fault.TheVariants.{Memory};
@@ -28,14 +28,14 @@ pub(crate) struct RawPixels {
 }
 
 impl Model for RawPixels {
-    ghost use Rattle.std.specs.Prelude.{◌+◌, ◌*◌, ◌^◌, ◌<◌, ◌≤◌, take, length, vec_len, vec_capacity};
+    ghost use Rattle.std.specs.Prelude.{◌≡◌, ◌+◌, ◌*◌, ◌^◌, ◌<◌, ◌≤◌, take, length, vec_len, vec_capacity};
     ghost use Rattle.host_decoder.specs.DataParts.{RawProgress};
 
     ghost Value = { RawProgress };
 
     ghost view = { λ r. record { count = r.count; colours = r.colours.items; begun = take r.filled r.begun } };
 
-    ghost invariant = { λ r. (r.filled < 4) × (r.filled + 4 * vec_len r.colours ≤ 4 * r.count) × (r.count ≤ vec_capacity r.colours) × (r.count < 2 ^ 32) };
+    ghost invariant = { λ r. (length r.begun ≡ 4) × (r.filled < 4) × (r.filled + 4 * vec_len r.colours ≤ 4 * r.count) × (r.count ≤ vec_capacity r.colours) × (r.count < 2 ^ 32) };
 }
 
 impl RawPixels {
@@ -63,13 +63,27 @@ impl RawPixels {
         (self.count - self.colours.len()) * PIXEL_LEN - self.filled
     }
 
+    /// How many bytes at the front end the pixel that is begun.
+    fn first_len(&self, bytes: &[u8]) -> usize
+        ensures most { result ≤ length bytes.now }
+        ensures pixel { length self.now.begun + result ≤ 4 }
+        ensures ends { result < length bytes.now → (length self.now.begun + result ≡ 0) ⊎ (length self.now.begun + result ≡ 4) }
+    {
+        if self.filled == 0 {
+            0
+        } else {
+            bytes.len().min(PIXEL_LEN - self.filled)
+        }
+    }
+
     /// Takes bytes that end no later than the pixel that is begun.
     fn take_bytes(&mut self, bytes: &[u8])
         requires pixel { length self.old.begun + length bytes.now ≤ 4 }
         requires missing { length self.old.begun + length bytes.now + 4 * length self.old.colours ≤ 4 * self.old.count }
         ensures takes { (area : Rect) (reading : Reading Paint) → RawStands area self.old reading → RawTakes area self.new reading bytes.now }
         ensures count { self.new.count ≡ self.old.count }
-        ensures begun { length self.old.begun + length bytes.now ≡ 4 → self.new.begun ≡ [] }
+        ensures more { length self.new.begun + 4 * length self.new.colours ≡ length self.old.begun + 4 * length self.old.colours + length bytes.now }
+        ensures begun { length self.new.begun < 4 }
     {
         let end = self.filled + bytes.len();
         self.begun[self.filled..end].copy_from_slice(bytes);
@@ -80,6 +94,22 @@ impl RawPixels {
         }
     }
 
+    /// Takes one block of whole pixels, where none is begun.
+    fn take_block(&mut self, pixels: &[[u8; PIXEL_LEN]])
+        requires begun { self.old.begun ≡ [] }
+        requires block { length pixels.now ≤ BLOCK_LEN }
+        requires missing { length pixels.now + length self.old.colours ≤ self.old.count }
+        ensures count { self.new.count ≡ self.old.count }
+        ensures begun { self.new.begun ≡ [] }
+        ensures colours { self.new.colours ≡ self.old.colours ++ map colour_in pixels.now }
+    {
+        let mut block = [0u32; BLOCK_LEN];
+        let colours = &mut block[..pixels.len()];
+        make_colours(pixels, colours);
+        // There is room, so it never fails.
+        let _ = self.colours.extend_from_slice(colours);
+    }
+
     /// Takes whole pixels, where none is begun.
     fn take_pixels(&mut self, pixels: &[[u8; PIXEL_LEN]])
         requires begun { self.old.begun ≡ [] }
@@ -88,13 +118,30 @@ impl RawPixels {
         ensures begun { self.new.begun ≡ [] }
         ensures colours { self.new.colours ≡ self.old.colours ++ map colour_in pixels.now }
     {
-        let mut block = [0u32; BLOCK_LEN];
-        for pixels in pixels.chunks(BLOCK_LEN) {
-            let colours = &mut block[..pixels.len()];
-            make_colours(pixels, colours);
-            // There is room, so it never fails.
-            let _ = self.colours.extend_from_slice(colours);
+        let mut left = pixels;
+        while !left.is_empty() {
+            let (block, rest) = left.split_at(left.len().min(BLOCK_LEN));
+            self.take_block(block);
+            left = rest;
         }
+    }
+
+    /// Takes bytes that are all wanted.
+    fn take_all(&mut self, bytes: &[u8])
+        requires missing { length self.old.begun + length bytes.now + 4 * length self.old.colours ≤ 4 * self.old.count }
+        ensures takes { (area : Rect) (reading : Reading Paint) → RawStands area self.old reading → RawTakes area self.new reading bytes.now }
+        ensures count { self.new.count ≡ self.old.count }
+        ensures more { length self.new.begun + 4 * length self.new.colours ≡ length self.old.begun + 4 * length self.old.colours + length bytes.now }
+        ensures begun { length self.new.begun < 4 }
+    {
+        let (first, rest) = bytes.split_at(self.first_len(bytes));
+        self.take_bytes(first);
+        if rest.is_empty() {
+            return;
+        }
+        let (pixels, last) = rest.as_chunks::<PIXEL_LEN>();
+        self.take_pixels(pixels);
+        self.take_bytes(last);
     }
 
     /// Takes the next piece, up to the end of the pixels, and answers how many bytes it used. It never fails.
@@ -102,17 +149,7 @@ impl RawPixels {
         ensures { (area : Rect) (reading : Reading Paint) → RawStands area self.old reading → RawStands area self.new (after reading piece.now) × FedAs reading piece.now result }
     {
         let used = piece.len().min(self.missing());
-        let begun = if self.filled == 0 {
-            0
-        } else {
-            used.min(PIXEL_LEN - self.filled)
-        };
-        self.take_bytes(&piece[..begun]);
-        let (pixels, bytes) = piece[begun..used].as_chunks::<PIXEL_LEN>();
-        if !pixels.is_empty() {
-            self.take_pixels(pixels);
-        }
-        self.take_bytes(bytes);
+        self.take_all(&piece[..used]);
         Ok(used)
     }
 

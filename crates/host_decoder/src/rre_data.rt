@@ -1,6 +1,6 @@
 //! A rectangle in RRE, in whatever pieces it comes, and what it is drawn on (RFC 6143, section 7.7.3).
 
-ghost use Rattle.std.specs.Prelude.{◌≡◌, ◌*◌, ◌<◌, ◌^◌, is_some, IfOk, IfErr};
+ghost use Rattle.std.specs.Prelude.{◌≡◌, ◌≤◌, is_some, IfOk, IfErr};
 ghost use Rattle.pixel_format.specs.PixelFormat.{host_format};
 ghost use Rattle.pixel_format.specs.Reading.{Reading, Done, after, whole_of};
 ghost use Rattle.pixel_format.specs.declared.fault.Fault.TheVariants.{Memory};
@@ -38,7 +38,8 @@ impl Model for RreData {
 impl RreData {
     /// A reader to which no byte has come, of a rectangle of `w` by `h`. `Memory` where there is no room for a raster.
     pub(crate) fn new(alloc: Global, w: u64, h: u64) -> Result<RreData, Fault>
-        requires small { w * h < 2 ^ 62 }
+        requires wide { w ≤ 4096 }
+        requires high { h ≤ 4096 }
         ensures ok { IfOk result (λ r. (area : area_of.Rect) → w ≡ area.w → h ≡ area.h → RreStands area r (putting area (pixels Rre host_format area.w area.h))) }
         ensures err { IfErr result (λ fault. fault ≡ Memory) }
     {
@@ -68,6 +69,8 @@ impl RreData {
     pub(crate) fn into_colours(self) -> Vec<u32>
         ensures { (area : area_of.Rect) (painted : Paint) → RreStands area self (Done painted) → IsPaintOf area result.items painted }
     {
+        // Where it is whole, the canvas shows what was read.
+        self.reader.whole();
         let mut colours = self.canvas.into_colours();
         keep_colours(&mut colours);
         colours

@@ -66,13 +66,10 @@ pub(crate) fn read_data(
     ensures uses { (sofar : List update.Paint) → (reading : Reading update.Paint) → Holds painter.old.width painter.old.height painter.old.paints sofar → DataStands reader reading
         → Uses painter.old painter.new result.0 (with_others painter.old.width painter.old.height sofar left reading) bytes.now result.1 }
 {
-    let Ok(used) = reader.feed(bytes) else {
-        return (State::Spoiled(reader), bytes.len());
-    };
-    if reader.is_whole() {
-        (add_paint(painter, left, reader), used)
-    } else {
-        (State::Pixels(Pending::of(left, reader)), used)
+    match reader.feed(bytes) {
+        Err(_) => (State::Spoiled(reader), bytes.len()),
+        Ok(used) if reader.is_whole() => (add_paint(painter, left, reader), used),
+        Ok(used) => (State::Pixels(Pending::of(left, reader)), used),
     }
 }
 

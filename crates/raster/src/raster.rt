@@ -140,7 +140,8 @@ impl Raster {
 
     /// Its colours, row after row.
     pub fn into_colours(self) -> Vec<u32>
-        ensures { result.items ≡ self.colours }
+        ensures colours { result.items ≡ self.colours }
+        ensures count { length result.items ≡ self.width * self.height }
     {
         self.colours
     }

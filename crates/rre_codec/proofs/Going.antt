@@ -2,11 +2,13 @@
 use Rattle.std.proofs.Common.{◌≡◌, ℕ, zero, suc, ◌+◌, ◌-◌, ◌<◌, ◌≤◌, true, false, List, [], ◌++◌, length, Some, None, is_some, refl, sym, ap, ◌∙◌, arith}
 use Rattle.std.specs.Prelude.{◌==◌}
 use Rattle.std.proofs.lemmas.Bool.{lt-ltb, ne_eqb}
+use Rattle.std.proofs.lemmas.List.{append-nil}
 use Rattle.pixel_format.specs.PixelFormat.{PixelFormat}
 use Rattle.pixel_format.specs.Reading.{Reading, Done, Faulty, Want, after, taken, wants_more, whole_of, fault_of}
 use Rattle.pixel_format.specs.declared.fault.Fault.TheVariants.{SubrectOutside}
 use Rattle.pixel_format.proofs.ReadingLaws.{after-append, after-done, after-faulty}
-use Rattle.raster.specs.Encoding.{Drawing}
+use Rattle.raster.specs.Encoding.{Drawing, Subrect, drawn}
+use Rattle.raster.specs.Screen.{Canvas, LooksLike}
 use Rattle.raster.proofs.FixedLength.{Needs, needs_takes, needs_after, needs_wants}
 use Rattle.rre_codec.specs.declared.stage.Stage.{Stage}
 use Rattle.rre_codec.specs.declared.stage.Stage.TheVariants.{Head, Subrects, Outside}
@@ -68,3 +70,28 @@ pub all_taken : (format : PixelFormat) (w h : ℕ) (stage : Stage) (sofar : Draw
     → taken (after (next_form format w h stage sofar) begun) more ≡ length more
 all_taken format w h stage sofar begun more e le =
     needs_takes (needed format stage - length begun) (after (next_form format w h stage sofar) begun) more (left_needs format w h stage sofar begun e (omega arith)) (omega arith)
+
+pub never_whole : {A : Type 0} (r : Reading A) (x : A) → is_some (whole_of r) ≡ false → r ≡ Done x → ⊥
+never_whole (Done y) x none e = cc
+never_whole (Faulty f) x none e = cc
+never_whole (Want more) x none e = cc
+
+wants_not_done : {A : Type 0} (r : Reading A) (x : A) → wants_more r ≡ true → r ≡ Done x → ⊥
+wants_not_done r x w e = never_whole r x (wants_not_whole r w) e
+
+abbrev done_drawing : Drawing → Reading Drawing
+done_drawing d = Done d
+
+drawing_is : (a b : Drawing) → done_drawing a ≡ done_drawing b → a ≡ b
+drawing_is a b e = cc
+
+-- Then the canvas shows what was read.
+pub whole_shows : (format : PixelFormat) (w h n : ℕ) (canvas : Canvas) (sofar drawing : Drawing) (begun : List ℕ) → length begun < needed format (Subrects n)
+    → LooksLike w h canvas (drawn sofar) → after (next_form format w h (Subrects n) sofar) begun ≡ Done drawing → LooksLike w h canvas (drawn drawing)
+whole_shows format w h zero canvas sofar drawing begun lt shows e =
+    let read : done_drawing (record { background = sofar.background; subrects = sofar.subrects ++ [] }) ≡ done_drawing drawing =
+    sym (after-done (record { background = sofar.background; subrects = sofar.subrects ++ [] }) begun) ∙ e in
+    let same : sofar ≡ drawing = ap (λ (ss : List Subrect). record { background = sofar.background; subrects = ss }) (sym (append-nil sofar.subrects)) ∙ drawing_is _ drawing read in
+    rw (← same) shows
+whole_shows format w h (suc n) canvas sofar drawing begun lt shows e =
+    absurd (wants_not_done (after (next_form format w h (Subrects (suc n)) sofar) begun) drawing (open_wants format w h (Subrects (suc n)) sofar begun (lt-ltb 0 (suc n) (omega arith)) lt) e)

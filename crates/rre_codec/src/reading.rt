@@ -2,9 +2,9 @@
 
 ghost use Rattle.std.specs.Prelude.{◌≡◌, ℕ, ◌+◌, ◌<◌, ◌≤◌, true, length, take, is_some, Some, None, MatchResult};
 ghost use Rattle.pixel_format.specs.PixelFormat.{pixel_len};
-ghost use Rattle.pixel_format.specs.Reading.{whole_of, fault_of};
-ghost use Rattle.raster.specs.Encoding.{Drawing, rre};
-ghost use Rattle.raster.specs.Screen.{Map};
+ghost use Rattle.pixel_format.specs.Reading.{Done, whole_of, fault_of};
+ghost use Rattle.raster.specs.Encoding.{Drawing, drawn, rre};
+ghost use Rattle.raster.specs.Screen.{Map, LooksLike};
 ghost use Rattle.rre_codec.specs.Ahead.{Leads, rect_in, needed, is_open, ahead, Stands, Steps, Draws, IsSameSize};
 
 use crate::run::{COUNT_LEN, PLACE_LEN};
@@ -134,7 +134,8 @@ impl Reader {
 
     /// Whether the rectangle is read to its end.
     pub fn whole(&self) -> bool
-        ensures { (sofar : Drawing) → result ≡ is_some (whole_of (ahead self.now sofar)) }
+        ensures whole { (sofar : Drawing) → result ≡ is_some (whole_of (ahead self.now sofar)) }
+        ensures shows { (canvas : Map ℕ) (sofar drawing : Drawing) → Stands self.now canvas sofar → ahead self.now sofar ≡ Done drawing → LooksLike self.now.width self.now.height canvas (drawn drawing) }
     {
         match self.stage {
             Stage::Subrects(left) => left == 0,

@@ -1,0 +1,52 @@
+-- What follows once all bytes of a part have come.
+use Rattle.std.proofs.Common.{◌≡◌, ℕ, ◌+◌, ◌<◌, ◌≤◌, Bool, true, false, List, [], ◌++◌, length, map, inr, refl, sym, ap, subst, ◌∙◌, arith}
+use Rattle.std.specs.Prelude.{if◌then◌else◌, nat_le}
+use Rattle.std.proofs.lemmas.Bool.{lt-leb, le-leb}
+use Rattle.pixel_format.specs.PixelFormat.{host_format}
+use Rattle.pixel_format.specs.Reading.{Reading, Done, ◌>>=◌, after, bytes, padding}
+use Rattle.raster.specs.declared.rect.Rect.{Rect}
+use Rattle.raster.specs.Screen.{Canvas}
+use Rattle.raster.specs.Update.{Paint}
+use Rattle.painter.specs.Painter.{Painting}
+use Rattle.rfb_wire.specs.ServerMessage.{ServerMessage, ServerCutText, LostText, data_of}
+use Rattle.host_decoder.specs.declared.part.Part.TheVariants as part
+use Rattle.host_decoder.specs.declared.past.Passed.TheVariants as passed
+use Rattle.host_decoder.specs.declared.state.State.{State}
+use Rattle.host_decoder.specs.Updates.{in_colours}
+use Rattle.host_decoder.specs.Decoder.{GoesOn, Holds, PaintsNothing, Stands, form_of, keeping, passing, rectangles, with_others}
+use Rattle.host_decoder.proofs.HostParts.{part_full, short_at, long_at, text_of}
+
+-- Where nothing is painted the working raster shows what it did.
+pub nothing_painted : (painter : Painting) (state : State) (r : Reading ServerMessage) → Stands painter.width painter.height state painter.paints r → PaintsNothing state → GoesOn painter painter state r
+nothing_painted painter state r stands still =
+    record {
+      stands = inr stands;
+      repaints = λ canvas same x y lx ly. same x y lx ly ∙ ap (λ (c : Canvas). c x y) (sym (still canvas));
+    }
+
+-- Outside an update no paint is held.
+none_held : (w h : ℕ) (paints sofar : List Paint) → Holds w h paints sofar → sofar ≡ [] → paints ≡ []
+none_held w h paints sofar holds none = holds.same ∙ ap (map in_colours) none
+
+pub outside_update : (painter : Painting) (sofar : List Paint) (state : State) (r : Reading ServerMessage) → Holds painter.width painter.height painter.paints sofar → sofar ≡ []
+    → Stands painter.width painter.height state [] r → PaintsNothing state → GoesOn painter painter state r
+outside_update painter sofar state r holds none stands still =
+    nothing_painted painter state r (subst (λ ps. Stands painter.width painter.height state ps r) (sym (none_held painter.width painter.height painter.paints sofar holds none)) stands) still
+
+-- ---- what is read behind a part
+
+pub behind_count : (w h : ℕ) (sofar : List Paint) (bs : List ℕ) (count : ℕ) → length bs ≡ 3 → sofar ≡ [] → count ≡ short_at bs 1 → after (form_of w h sofar part.Count) bs ≡ rectangles w h sofar count
+behind_count w h sofar bs count e none same = part_full w h sofar part.Count bs e ∙ (ap (λ n. rectangles w h [] n) (sym same) ∙ ap (λ ps. rectangles w h ps count) (sym none))
+
+pub behind_encoding : (w h : ℕ) (sofar : List Paint) (left : ℕ) (area : Rect) (bs : List ℕ) (encoding : ℕ) → length bs ≡ 4 → encoding ≡ long_at bs 0
+    → after (form_of w h sofar (part.Encoding left area)) bs ≡ with_others w h sofar left (data_of host_format w h area encoding)
+behind_encoding w h sofar left area bs encoding e same = part_full w h sofar (part.Encoding left area) bs e ∙ ap (λ n. with_others w h sofar left (data_of host_format w h area n)) (sym same)
+
+chosen : (b : Bool) (len : ℕ) → nat_le len 65536 ≡ b → text_of len ≡ (if b then (bytes len >>= λ text. Done (ServerCutText text)) else padding len (Done (LostText len)))
+chosen b len e = ap (λ t. if t then (bytes len >>= λ text. Done (ServerCutText text)) else padding len (Done (LostText len))) e
+
+pub long_text : (w h : ℕ) (bs : List ℕ) (len : ℕ) → length bs ≡ 7 → len ≡ long_at bs 3 → 65536 < len → passing len (passed.Text len) ≡ after (form_of w h [] part.Length) bs
+long_text w h bs len e same lt = sym (part_full w h [] part.Length bs e ∙ (ap text_of (sym same) ∙ chosen false len (lt-leb len 65536 lt)))
+
+pub short_text : (w h : ℕ) (bs : List ℕ) (len : ℕ) → length bs ≡ 7 → len ≡ long_at bs 3 → len ≤ 65536 → keeping [] len ≡ after (form_of w h [] part.Length) bs
+short_text w h bs len e same le = sym (part_full w h [] part.Length bs e ∙ (ap text_of (sym same) ∙ chosen true len (le-leb len 65536 le)))

@@ -1,0 +1,95 @@
+-- The source of a CopyRect, in pieces.
+use Rattle.std.proofs.Common.{◌≡◌, ℕ, zero, suc, ◌+◌, ◌-◌, ◌<◌, ◌≤◌, min, not, Bool, true, false, List, [], ◌∷◌, ◌++◌, take, drop, length, get_or, Some, None, is_some, refl, sym, ap, ◌∙◌, arith}
+use Rattle.std.specs.Int.{w16, from_be_bytes}
+use Rattle.std.proofs.lemmas.Bool.Decides.{nat_tests}
+use Rattle.std.proofs.lemmas.List.{take-append-drop, length-take, length-drop, length-append}
+use Rattle.pixel_format.specs.Reading.{Reading, Done, Faulty, Want, after, taken, wants_more, whole_of, fault_of, unless}
+use Rattle.pixel_format.specs.declared.fault.Fault.TheVariants.{CopyOutside}
+use Rattle.pixel_format.proofs.ReadingLaws.{after-append, after-done, after-faulty, after-stays, taken-stays, taken-nil}
+use Rattle.raster.specs.declared.rect.Rect.{Rect}
+use Rattle.raster.specs.Screen.{IsWithin, is_within}
+use Rattle.raster.specs.Update.{Paint, Copy}
+use Rattle.raster.proofs.FixedLength.{Needs, needs_takes, needs_after, needs_wants}
+use Rattle.rfb_wire.specs.ServerMessage.{copy_rect}
+use Rattle.host_decoder.specs.Data.{source_in}
+
+-- ---- a form that needs so many bytes and then wants no more
+
+abbrev pub Closes : {A : Type 0} → ℕ → Reading A → Type 0
+Closes k form = (bs : List ℕ) → length bs ≡ k → wants_more (after form bs) ≡ false
+
+pub taken-append : {A : Type 0} (form : Reading A) (xs ys : List ℕ) → taken form xs ≡ length xs → taken form (xs ++ ys) ≡ length xs + taken (after form xs) ys
+taken-append form [] ys e = omega arith
+taken-append (Done x) (b ∷ xs) ys e = absurd (omega arith)
+taken-append (Faulty f) (b ∷ xs) ys e = absurd (omega arith)
+taken-append (Want more) (b ∷ xs) ys e = let h = taken-append (more b) xs ys (omega (arith, e)) in omega (arith, h)
+
+pub stays_behind : {A : Type 0} (r : Reading A) (ys : List ℕ) (missing : ℕ) → (missing ≡ 0 → wants_more r ≡ false) → (0 < length ys → missing ≡ 0) → (after r ys ≡ r) × (taken r ys ≡ 0)
+stays_behind r [] missing closed none = (refl, taken-nil r)
+stays_behind r (b ∷ ys) missing closed none = let w = closed (none (omega arith)) in (after-stays r (b ∷ ys) w, taken-stays r (b ∷ ys) w)
+
+-- It is fed what is missing of them.
+pub closing_fed : {A : Type 0} (k n : ℕ) (form : Reading A) (begun piece : List ℕ) → Needs k form → Closes k form → length begun ≤ k → n ≡ min (k - length begun) (length piece)
+    → (after (after form begun) piece ≡ after form (begun ++ take n piece)) × (taken (after form begun) piece ≡ n)
+closing_fed {A} k n form begun piece needs closes le e =
+    let r : Reading A = after form begun in
+    let xs : List ℕ = take n piece in
+    let ys : List ℕ = drop n piece in
+    let len : length xs ≡ n = omega (arith, length-take n piece, e) in
+    let left : Needs (k - length begun) r = needs_after k (k - length begun) form begun needs (omega arith) in
+    let first : taken r xs ≡ length xs = needs_takes (k - length begun) r xs left (omega (arith, len, e)) in
+    let both : taken r piece ≡ length xs + taken (after r xs) ys = ap (taken r) (sym (take-append-drop n piece)) ∙ taken-append r xs ys first in
+    let goes : after r piece ≡ after (after r xs) ys = ap (after r) (sym (take-append-drop n piece)) ∙ after-append r xs ys in
+    let joined : after r xs ≡ after form (begun ++ xs) = sym (after-append form begun xs) in
+    let whole : (k - length begun - n ≡ 0) → wants_more (after r xs) ≡ false = λ z. rw joined (closes (begun ++ xs) (omega (arith, len, length-append begun xs, z, le, e))) in
+    let stays = stays_behind (after r xs) ys (k - length begun - n) whole (λ lt. omega (arith, lt, length-drop n piece, e)) in
+    (goes ∙ (stays.0 ∙ joined), omega (arith, both, stays.1, len))
+
+-- ---- the source
+
+pub copy_needs : (w h : ℕ) (area : Rect) → Needs 4 (copy_rect w h area)
+copy_needs w h area = λ a b c d. tt
+
+-- What four bytes, and whatever follows them, lead to.
+abbrev judged : ℕ → ℕ → Rect → Rect → Reading Paint
+judged w h area source = unless (not (is_within source w h)) CopyOutside (Done (Copy area source.x source.y))
+
+closed_by : (b : Bool) (painted : Paint) → wants_more (unless (not b) CopyOutside (Done painted)) ≡ false
+closed_by true painted = refl
+closed_by false painted = refl
+
+judged_closed : (w h : ℕ) (area source : Rect) → wants_more (judged w h area source) ≡ false
+judged_closed w h area source = closed_by (is_within source w h) (Copy area source.x source.y)
+
+judged_by : (b : Bool) (w h : ℕ) (area source : Rect) → is_within source w h ≡ b → judged w h area source ≡ unless (not b) CopyOutside (Done (Copy area source.x source.y))
+judged_by b w h area source e = ap (λ t. unless (not t) CopyOutside (Done (Copy area source.x source.y))) e
+
+copy_judged : (w h : ℕ) (area : Rect) (bs : List ℕ) → 4 ≤ length bs → after (copy_rect w h area) bs ≡ judged w h area (source_in area bs)
+copy_judged w h area [] le = absurd (omega arith)
+copy_judged w h area (a ∷ []) le = absurd (omega arith)
+copy_judged w h area (a ∷ b ∷ []) le = absurd (omega arith)
+copy_judged w h area (a ∷ b ∷ c ∷ []) le = absurd (omega arith)
+copy_judged w h area (a ∷ b ∷ c ∷ d ∷ bs) le =
+    after-stays (judged w h area (source_in area (a ∷ b ∷ c ∷ d ∷ bs))) bs (judged_closed w h area (source_in area (a ∷ b ∷ c ∷ d ∷ bs)))
+
+pub copy_closes : (w h : ℕ) (area : Rect) → Closes 4 (copy_rect w h area)
+copy_closes w h area bs e = rw (copy_judged w h area bs (omega (arith, e))) (judged_closed w h area (source_in area bs))
+
+pub copy_open : (w h : ℕ) (area : Rect) (bs : List ℕ) → length bs < 4 → wants_more (after (copy_rect w h area) bs) ≡ true
+copy_open w h area bs lt = needs_wants (4 - length bs) (after (copy_rect w h area) bs) (needs_after 4 (4 - length bs) (copy_rect w h area) bs (copy_needs w h area) (omega arith)) (omega arith)
+
+pub copy_inside : (w h : ℕ) (area : Rect) (bs : List ℕ) → 4 ≤ length bs → is_within (source_in area bs) w h ≡ true → after (copy_rect w h area) bs ≡ Done (Copy area (source_in area bs).x (source_in area bs).y)
+copy_inside w h area bs le e = copy_judged w h area bs le ∙ judged_by true w h area (source_in area bs) e
+
+pub copy_outside : (w h : ℕ) (area : Rect) (bs : List ℕ) → 4 ≤ length bs → is_within (source_in area bs) w h ≡ false → after (copy_rect w h area) bs ≡ Faulty CopyOutside
+copy_outside w h area bs le e = copy_judged w h area bs le ∙ judged_by false w h area (source_in area bs) e
+
+pub open_no_fault : {A : Type 0} (r : Reading A) → wants_more r ≡ true → fault_of r ≡ None
+open_no_fault (Done x) e = refl
+open_no_fault (Faulty f) e = absurd cc
+open_no_fault (Want more) e = refl
+
+pub open_not_whole : {A : Type 0} (r : Reading A) → wants_more r ≡ true → is_some (whole_of r) ≡ false
+open_not_whole (Done x) e = absurd cc
+open_not_whole (Faulty f) e = refl
+open_not_whole (Want more) e = refl

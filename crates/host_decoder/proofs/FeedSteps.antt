@@ -1,0 +1,213 @@
+-- A loop that feeds a piece to a decoder, step by step.
+use Rattle.std.proofs.Common.{◌≡◌, ℕ, ◌+◌, ◌<◌, ◌≤◌, Bool, true, false, List, [], ◌++◌, length, drop, ◌⊎◌, inl, inr, Some, None, Result, Ok, Err, refl, sym, ap, subst, ◌∙◌, arith}
+use Rattle.std.proofs.lemmas.List.{drop_all, drop-drop}
+use Rattle.pixel_format.specs.declared.fault.Fault.{Fault}
+use Rattle.pixel_format.specs.declared.fault.Fault.TheVariants.{Memory}
+use Rattle.pixel_format.specs.Reading.{Reading, Done, Faulty, Want, after, taken, wants_more, fault_of}
+use Rattle.pixel_format.proofs.ReadingLaws.{after-stays, taken-stays, taken-nil}
+use Rattle.raster.specs.Screen.{LooksLike}
+use Rattle.raster.specs.Update.{Paint, Update, after_updates}
+use Rattle.painter.specs.Painter.{Painting, shows}
+use Rattle.rfb_wire.specs.ServerMessage.{ServerMessage}
+use Rattle.host_decoder.specs.Data.{DataStands}
+use Rattle.host_decoder.specs.declared.state.State.{State}
+use Rattle.host_decoder.specs.declared.state.State.TheVariants.{Fields, Pixels, Spoiled, Keeping, Passing, Whole, Failed, Refused}
+use Rattle.host_decoder.specs.Decoder.{Decoding, Feeds, IsBehind, Judges, Repaints, Stands, Uses, at_fault, is_open, is_refused, waiting}
+use Rattle.host_decoder.proofs.Standing.{open_wants, closed_wants}
+
+-- So many bytes of a piece were fed to what stood for r before.
+pub record HasFed (old now : Painting) (before state : State) (r : Reading ServerMessage) (piece : List ℕ) (used : ℕ) : Type 0 where
+  pub stands : (is_refused state ≡ true) ⊎ ((next : Reading ServerMessage) × IsBehind r next piece used × Stands old.width old.height state now.paints next)
+  pub repaints : Repaints old now (waiting before) (waiting state)
+
+pub fed_none : (painter : Painting) (state : State) (r : Reading ServerMessage) (piece : List ℕ) → Stands painter.width painter.height state painter.paints r → HasFed painter painter state state r piece 0
+fed_none painter state r piece s = record { stands = inr (r, record { says = refl; count = λ fine. omega arith }, s); repaints = λ canvas same. same }
+
+open_waits : (state : State) → is_open state ≡ true → waiting state ≡ []
+open_waits (Fields fields) e = refl
+open_waits (Pixels pending) e = refl
+open_waits (Spoiled reader) e = refl
+open_waits (Keeping kept) e = refl
+open_waits (Passing past) e = refl
+open_waits (Whole event) e = absurd cc
+open_waits (Failed what) e = refl
+open_waits Refused e = refl
+
+wants_fine : (r : Reading ServerMessage) → wants_more r ≡ true → fault_of r ≡ None
+wants_fine (Done m) e = refl
+wants_fine (Faulty fault) e = absurd cc
+wants_fine (Want more) e = refl
+
+behind_more : (r mid next : Reading ServerMessage) (piece : List ℕ) (m n : ℕ) → fault_of mid ≡ None → IsBehind r mid piece m → IsBehind mid next (drop m piece) n → IsBehind r next piece (m + n)
+behind_more r mid next piece m n fine g h =
+    let there : drop n (drop m piece) ≡ drop (m + n) piece = drop-drop n m piece in
+    record {
+      says = g.says ∙ (h.says ∙ ap (after next) there);
+      count = λ f. let c : taken next (drop n (drop m piece)) ≡ taken next (drop (m + n) piece) = ap (taken next) there in omega (arith, g.count fine, h.count f, c);
+    }
+
+open_kept : (state : State) → is_open state ≡ true → is_refused state ≡ true → ⊥
+open_kept (Fields fields) e f = absurd cc
+open_kept (Pixels pending) e f = absurd cc
+open_kept (Spoiled reader) e f = absurd cc
+open_kept (Keeping kept) e f = absurd cc
+open_kept (Passing past) e f = absurd cc
+open_kept (Whole event) e f = absurd cc
+open_kept (Failed what) e f = absurd cc
+open_kept Refused e f = absurd cc
+
+painted_more : (old now new : Painting) (before state next : State) → is_open state ≡ true → Repaints old now (waiting before) (waiting state) → Repaints now new [] (waiting next) → Repaints old new (waiting before) (waiting next)
+painted_more old now new before state next o first then_ canvas same = then_ canvas (subst (λ (us : List Update). LooksLike now.width now.height (shows now) (after_updates canvas us)) (open_waits state o) (first canvas same))
+
+stands_behind : (old now new : Painting) (next : State) (r q last : Reading ServerMessage) (piece : List ℕ) (used n : ℕ) → now.width ≡ old.width → now.height ≡ old.height → IsBehind r last piece (used + n)
+    → (is_refused next ≡ true) ⊎ Stands now.width now.height next new.paints last → (is_refused next ≡ true) ⊎ ((q : Reading ServerMessage) × IsBehind r q piece (used + n) × Stands old.width old.height next new.paints q)
+stands_behind old now new next r q last piece used n ew eh b (inl e) = inl e
+stands_behind old now new next r q last piece used n ew eh b (inr s) = inr (last, b, rw (ew, eh) at s)
+
+stands_more : (old now new : Painting) (before state next : State) (r : Reading ServerMessage) (piece : List ℕ) (used n : ℕ) → now.width ≡ old.width → now.height ≡ old.height → is_open state ≡ true
+    → (is_refused state ≡ true) ⊎ ((q : Reading ServerMessage) × IsBehind r q piece used × Stands old.width old.height state now.paints q) → Repaints old now (waiting before) (waiting state)
+    → ((q : Reading ServerMessage) → Stands now.width now.height state now.paints q → Uses now new next q (drop used piece) n) → HasFed old new before next r piece (used + n)
+stands_more old now new before state next r piece used n ew eh o (inl e) painted step = absurd (open_kept state o e)
+stands_more old now new before state next r piece used n ew eh o (inr s) painted step =
+    let q : Reading ServerMessage = s.0 in
+    let here : Stands now.width now.height state now.paints q = rw (ew, eh) (s.2) in
+    let u = step q here in
+    let fine : fault_of q ≡ None = wants_fine q (open_wants old.width old.height state now.paints q o s.2) in
+    record {
+      stands = stands_behind old now new next r q u.next piece used n ew eh (behind_more r q u.next piece used n fine s.1 u.behind_) u.goes_on.stands;
+      repaints = painted_more old now new before state next o painted u.goes_on.repaints;
+    }
+
+-- One step more.
+pub fed_more : (old now new : Painting) (before state next : State) (r : Reading ServerMessage) (piece : List ℕ) (used n : ℕ) → now.width ≡ old.width → now.height ≡ old.height → is_open state ≡ true → HasFed old now before state r piece used
+    → ((q : Reading ServerMessage) → Stands now.width now.height state now.paints q → Uses now new next q (drop used piece) n) → HasFed old new before next r piece (used + n)
+fed_more old now new before state next r piece used n ew eh o h step = stands_more old now new before state next r piece used n ew eh o h.stands h.repaints step
+
+-- ---- what is answered
+
+-- What was fed is over: no byte is wanted, or the piece has no more.
+abbrev pub IsOver : State → List ℕ → ℕ → Type 0
+IsOver state piece used = (is_open state ≡ false) ⊎ (length piece ≤ used)
+
+none_left : (r : Reading ServerMessage) (bs : List ℕ) → bs ≡ [] → (after r bs ≡ r) × (taken r bs ≡ 0)
+none_left r bs e = (ap (after r) e, ap (taken r) e ∙ taken-nil r)
+
+is_over : (w h : ℕ) (state : State) (paints : List Paint) (next : Reading ServerMessage) (piece : List ℕ) (used : ℕ) → Stands w h state paints next → IsOver state piece used → (after next (drop used piece) ≡ next) × (taken next (drop used piece) ≡ 0)
+is_over w h state paints next piece used s (inl e) = let none = closed_wants w h state paints next e s in (after-stays next (drop used piece) none, taken-stays next (drop used piece) none)
+is_over w h state paints next piece used s (inr le) = none_left next (drop used piece) (drop_all used piece le)
+
+-- The decoder with this in it.
+abbrev pub decoding : ℕ → ℕ → State → Decoding
+decoding w h state = record { width = w; height = h; state = state }
+
+-- It stands for what is read after the piece.
+fine_answer : (w h : ℕ) (painter : Painting) (state new : State) (r next : Reading ServerMessage) (piece : List ℕ) (used : ℕ) (answer : Result ℕ Fault) → after r piece ≡ next → (fault_of next ≡ None → taken r piece ≡ used) → fault_of next ≡ None
+    → Stands w h state painter.paints next → new ≡ state → answer ≡ Ok used → Feeds (decoding w h new) painter r piece answer
+fine_answer w h painter state new r next piece used answer says count fine s is e = rw (e, is, says) (s, sym (count fine), fine)
+
+faulty_answer : (w h : ℕ) (painter : Painting) (new : State) (r : Reading ServerMessage) (piece : List ℕ) (fault : Fault) (answer : Result ℕ Fault) → after r piece ≡ Faulty fault → Stands w h new painter.paints (Faulty fault) → answer ≡ Err fault → Feeds (decoding w h new) painter r piece answer
+faulty_answer w h painter new r piece fault answer says s e = rw (e, says) (inr (refl, s))
+
+answered : (w h : ℕ) (painter : Painting) (state new : State) (r next : Reading ServerMessage) (piece : List ℕ) (used : ℕ) (answer : Result ℕ Fault) → after r piece ≡ next → (fault_of next ≡ None → taken r piece ≡ used) → Stands w h state painter.paints next
+    → Judges state new used answer → Feeds (decoding w h new) painter r piece answer
+answered w h painter (Fields fields) new r next piece used answer says count s j = fine_answer w h painter (Fields fields) new r next piece used answer says count (wants_fine next (open_wants w h (Fields fields) painter.paints next refl s)) s j.0 j.1
+answered w h painter (Pixels pending) new r next piece used answer says count s j = fine_answer w h painter (Pixels pending) new r next piece used answer says count (wants_fine next (open_wants w h (Pixels pending) painter.paints next refl s)) s j.0 j.1
+answered w h painter (Spoiled reader) new r next piece used answer says count s j =
+    let named = j.2 s.fault s.stands in
+    let there : Stands w h (Spoiled j.0) painter.paints (Faulty s.fault) = record { fault = s.fault; stands = named.1; reads = refl } in
+    faulty_answer w h painter new r piece s.fault answer (says ∙ s.reads) (subst (λ t. Stands w h t painter.paints (Faulty s.fault)) (sym j.1) there) named.0
+answered w h painter (Keeping kept) new r next piece used answer says count s j = fine_answer w h painter (Keeping kept) new r next piece used answer says count (wants_fine next (open_wants w h (Keeping kept) painter.paints next refl s)) s j.0 j.1
+answered w h painter (Passing past) new r next piece used answer says count s j = fine_answer w h painter (Passing past) new r next piece used answer says count (wants_fine next (open_wants w h (Passing past) painter.paints next refl s)) s j.0 j.1
+answered w h painter (Whole event) new r next piece used answer says count s j = fine_answer w h painter (Whole event) new r next piece used answer says count (ap fault_of s.reads) s j.0 j.1
+answered w h painter (Failed what) new r next piece used answer says count s j =
+    let there : Stands w h (Failed what) painter.paints (Faulty (at_fault what)) = refl in
+    faulty_answer w h painter new r piece (at_fault what) answer (says ∙ s) (subst (λ t. Stands w h t painter.paints (Faulty (at_fault what))) (sym j.0) there) j.1
+answered w h painter Refused new r next piece used answer says count s j = absurd s
+
+refused_answer : (w h : ℕ) (painter : Painting) (state new : State) (r : Reading ServerMessage) (piece : List ℕ) (used : ℕ) (answer : Result ℕ Fault) → is_refused state ≡ true → Judges state new used answer → Feeds (decoding w h new) painter r piece answer
+refused_answer w h painter (Fields fields) new r piece used answer e j = absurd cc
+refused_answer w h painter (Pixels pending) new r piece used answer e j = absurd cc
+refused_answer w h painter (Spoiled reader) new r piece used answer e j = absurd cc
+refused_answer w h painter (Keeping kept) new r piece used answer e j = absurd cc
+refused_answer w h painter (Passing past) new r piece used answer e j = absurd cc
+refused_answer w h painter (Whole event) new r piece used answer e j = absurd cc
+refused_answer w h painter (Failed what) new r piece used answer e j = absurd cc
+refused_answer w h painter Refused new r piece used answer e j = rw (j.1, j.0) (inl (refl, refl))
+
+fed_by : (old now : Painting) (state new : State) (r : Reading ServerMessage) (piece : List ℕ) (used : ℕ) (answer : Result ℕ Fault)
+    → (is_refused state ≡ true) ⊎ ((q : Reading ServerMessage) × IsBehind r q piece used × Stands old.width old.height state now.paints q) → IsOver state piece used → Judges state new used answer → Feeds (decoding old.width old.height new) now r piece answer
+fed_by old now state new r piece used answer (inl e) over j = refused_answer old.width old.height now state new r piece used answer e j
+fed_by old now state new r piece used answer (inr s) over j =
+    let none = is_over old.width old.height state now.paints s.0 piece used s.2 over in
+    answered old.width old.height now state new r s.0 piece used answer (s.1.says ∙ none.0) (λ fine. let c = s.1.count fine in omega (arith, c, none.1)) s.2 j
+
+pub fed_answer : (old now : Painting) (before state new : State) (r : Reading ServerMessage) (piece : List ℕ) (used : ℕ) (answer : Result ℕ Fault) → HasFed old now before state r piece used → IsOver state piece used → Judges state new used answer
+    → Feeds (decoding old.width old.height new) now r piece answer
+fed_answer old now before state new r piece used answer h over j = fed_by old now state new r piece used answer h.stands over j
+
+-- What waits isn't changed by the answer.
+pub judged_waits : (state new : State) (used : ℕ) (answer : Result ℕ Fault) → Judges state new used answer → waiting new ≡ waiting state
+judged_waits (Fields fields) new used answer j = ap waiting j.0
+judged_waits (Pixels pending) new used answer j = ap waiting j.0
+judged_waits (Spoiled reader) new used answer j = ap waiting j.1
+judged_waits (Keeping kept) new used answer j = ap waiting j.0
+judged_waits (Passing past) new used answer j = ap waiting j.0
+judged_waits (Whole event) new used answer j = ap waiting j.0
+judged_waits (Failed what) new used answer j = ap waiting j.0
+judged_waits Refused new used answer j = ap waiting j.0
+
+-- ---- where nothing more is read
+
+pub refused_closed : (state : State) → is_refused state ≡ true → is_open state ≡ false
+refused_closed (Fields fields) e = absurd cc
+refused_closed (Pixels pending) e = absurd cc
+refused_closed (Spoiled reader) e = absurd cc
+refused_closed (Keeping kept) e = absurd cc
+refused_closed (Passing past) e = absurd cc
+refused_closed (Whole event) e = absurd cc
+refused_closed (Failed what) e = absurd cc
+refused_closed Refused e = refl
+
+pub judged_refused : (state new : State) (used : ℕ) (answer : Result ℕ Fault) → is_refused state ≡ true → Judges state new used answer → (answer ≡ Err Memory) × (new ≡ state)
+judged_refused (Fields fields) new used answer e j = absurd cc
+judged_refused (Pixels pending) new used answer e j = absurd cc
+judged_refused (Spoiled reader) new used answer e j = absurd cc
+judged_refused (Keeping kept) new used answer e j = absurd cc
+judged_refused (Passing past) new used answer e j = absurd cc
+judged_refused (Whole event) new used answer e j = absurd cc
+judged_refused (Failed what) new used answer e j = absurd cc
+judged_refused Refused new used answer e j = (j.1, j.0)
+
+abbrev faulty : Fault → Reading ServerMessage
+faulty fault = Faulty fault
+
+abbrev done : ServerMessage → Reading ServerMessage
+done m = Done m
+
+open_or_closed : (b : Bool) → (b ≡ true → ⊥) → b ≡ false
+open_or_closed true n = absurd (n refl)
+open_or_closed false n = refl
+
+pub faulty_closed : (w h : ℕ) (state : State) (paints : List Paint) (fault : Fault) → Stands w h state paints (Faulty fault) → is_open state ≡ false
+faulty_closed w h state paints fault s = open_or_closed (is_open state) (λ o. let e : false ≡ true = open_wants w h state paints (Faulty fault) o s in absurd cc)
+
+fault_is : (fault found : Fault) → faulty fault ≡ faulty found → fault ≡ found
+fault_is fault found e = cc
+
+fault_is_not : (fault : Fault) (m : ServerMessage) → faulty fault ≡ done m → ⊥
+fault_is_not fault m e = cc
+
+pub judged_faulty : (w h : ℕ) (state new : State) (paints : List Paint) (used : ℕ) (answer : Result ℕ Fault) (fault : Fault) → is_open state ≡ false → Stands w h state paints (Faulty fault) → Judges state new used answer
+    → (answer ≡ Err fault) × Stands w h new paints (Faulty fault)
+judged_faulty w h (Fields fields) new paints used answer fault o s j = absurd cc
+judged_faulty w h (Pixels pending) new paints used answer fault o s j = absurd cc
+judged_faulty w h (Spoiled reader) new paints used answer fault o s j =
+    let named = j.2 s.fault s.stands in
+    let same : fault ≡ s.fault = fault_is fault s.fault s.reads in
+    let there : Stands w h (Spoiled j.0) paints (Faulty fault) = record { fault = s.fault; stands = named.1; reads = s.reads } in
+    (named.0 ∙ ap (λ f. Err f) (sym same), subst (λ t. Stands w h t paints (Faulty fault)) (sym j.1) there)
+judged_faulty w h (Keeping kept) new paints used answer fault o s j = absurd cc
+judged_faulty w h (Passing past) new paints used answer fault o s j = absurd cc
+judged_faulty w h (Whole event) new paints used answer fault o s j = absurd (fault_is_not fault s.message s.reads)
+judged_faulty w h (Failed what) new paints used answer fault o s j = (j.1 ∙ ap (λ f. Err f) (sym (fault_is fault (at_fault what) s)), subst (λ t. Stands w h t paints (Faulty fault)) (sym j.0) s)
+judged_faulty w h Refused new paints used answer fault o s j = absurd s

@@ -1,0 +1,275 @@
+-- The pixels of a Raw rectangle, in pieces.
+use Rattle.std.proofs.Common.{◌≡◌, ℕ, zero, suc, ◌+◌, ◌-◌, ◌*◌, ◌/◌, ◌<◌, ◌≤◌, true, false, ◌⊎◌, List, [], ◌∷◌, ◌++◌, take, drop, map, length, Some, None, is_some, subst, Ok, inl, inr, refl, sym, ap, ◌∙◌, append_assoc, append-nil, length-append, arith}
+use Rattle.std.proofs.lemmas.Bool.{eq-eqb, ne_eqb}
+use Rattle.std.proofs.lemmas.List.{length-take, length-drop, take_all, take-append-drop}
+use Rattle.std.proofs.lemmas.Slice.{take-put_mid, drop-put_mid}
+use borrow.Rule.Slice.PartMut.{put_mid}
+use Rattle.std.proofs.Math.Nat.{eq-or-lt_of_le}
+use mathlib.Core.Path.{fun_ext}
+use Rattle.std.specs.Prelude.{◌==◌}
+use Rattle.std.specs.Simd.{first_chunks}
+use Rattle.std.specs.Int.{w32, from_le_bytes}
+use Rattle.pixel_format.specs.PixelFormat.{host_format}
+use Rattle.pixel_format.specs.Reading.{Reading, Done, Faulty, Want, ◌>>=◌, after, taken, times, wants_more, whole_of, fault_of}
+use Rattle.pixel_format.proofs.ReadingLaws.{after-append, after-done, bind_assoc, bind_done}
+use Rattle.pixel_format.proofs.InOrder.{then_wants}
+use Rattle.raster.specs.declared.rect.Rect.{Rect}
+use Rattle.raster.specs.Encoding.{pixel, raw}
+use Rattle.raster.specs.Update.{Paint, Put}
+use Rattle.raster.proofs.FixedLength.{Needs, exactly_pixel, needs_both, needs_first, needs_takes, needs_after, needs_wants}
+use Rattle.host_decoder.specs.Updates.{colour_of, in_colours}
+use Rattle.host_decoder.specs.Data.{colour_in, putting, raw_ahead, RawStands, RawTakes, IsPaintOf, FedAs}
+use Rattle.host_decoder.specs.DataParts.{RawProgress}
+use Rattle.host_decoder.proofs.Copies.{taken-append, stays_behind, open_no_fault, open_not_whole}
+use Rattle.host_decoder.proofs.Mapping.{told, told_after, told_taken, told_whole, told_fault, told_done}
+
+-- The pixels that are still to come, behind those of some values.
+abbrev pub to_come : ℕ → List ℕ → Reading (List ℕ)
+to_come n values = times n (pixel host_format) >>= λ more. Done (values ++ more)
+
+-- Each needs four bytes.
+times_need : (n : ℕ) → Needs (4 * n) (times n (pixel host_format))
+times_need zero = tt
+times_need (suc n) =
+    let e : 4 + 4 * n ≡ 4 * suc n = omega arith in
+    rw (← e) (needs_both 4 (4 * n) (pixel host_format) (λ first. times n (pixel host_format) >>= λ others. Done (first ∷ others)) (exactly_pixel host_format)
+    (λ first. needs_first (4 * n) (times n (pixel host_format)) (λ others. Done (first ∷ others)) (times_need n)))
+
+pub come_need : (n : ℕ) (values : List ℕ) → Needs (4 * n) (to_come n values)
+come_need n values = needs_first (4 * n) (times n (pixel host_format)) (λ more. Done (values ++ more)) (times_need n)
+
+-- What four bytes are.
+one_more : (a b c d : ℕ) (bs : List ℕ) (n : ℕ) (values : List ℕ) → after (to_come (suc n) values) (a ∷ b ∷ c ∷ d ∷ bs) ≡ after (to_come n (values ++ from_le_bytes w32 (a ∷ b ∷ c ∷ d ∷ []) ∷ [])) bs
+one_more a b c d bs n values =
+    let v : ℕ = from_le_bytes w32 (a ∷ b ∷ c ∷ d ∷ []) in
+    let shape : ((times n (pixel host_format) >>= λ others. Done (v ∷ others)) >>= λ more. Done (values ++ more)) ≡ to_come n (values ++ v ∷ []) =
+    bind_assoc (times n (pixel host_format)) (λ others. Done (v ∷ others)) (λ more. Done (values ++ more))
+    ∙ ap (λ (f : List ℕ → List ℕ). times n (pixel host_format) >>= λ more. Done (f more)) (fun_ext (λ more. sym (append_assoc values (v ∷ []) more))) in
+    ap (λ (r : Reading (List ℕ)). after r bs) shape
+
+pub pixel_more : (bytes : List ℕ) (n : ℕ) (values : List ℕ) → length bytes ≡ 4 → after (to_come (suc n) values) bytes ≡ to_come n (values ++ from_le_bytes w32 bytes ∷ [])
+pixel_more [] n values e = absurd (omega arith)
+pixel_more (a ∷ []) n values e = absurd (omega arith)
+pixel_more (a ∷ b ∷ []) n values e = absurd (omega arith)
+pixel_more (a ∷ b ∷ c ∷ []) n values e = absurd (omega arith)
+pixel_more (a ∷ b ∷ c ∷ d ∷ []) n values e = one_more a b c d [] n values
+pixel_more (a ∷ b ∷ c ∷ d ∷ f ∷ bs) n values e = absurd (omega arith)
+
+abbrev values_in : ℕ → List ℕ → List ℕ
+values_in k bytes = map (from_le_bytes w32) (first_chunks 4 k bytes)
+
+-- And what the bytes of several pixels are.
+pixels_more : (k n : ℕ) (values bytes : List ℕ) → 4 * k ≤ length bytes → k ≤ n → after (to_come n values) (take (4 * k) bytes) ≡ to_come (n - k) (values ++ values_in k bytes)
+pixels_more zero n values bytes le in_ =
+    let none : n - 0 ≡ n = omega arith in
+    rw (none, append-nil values) refl
+pixels_more (suc k) zero values bytes le in_ = absurd (omega arith)
+pixels_more (suc k) (suc n) values [] le in_ = absurd (omega arith)
+pixels_more (suc k) (suc n) values (a ∷ []) le in_ = absurd (omega arith)
+pixels_more (suc k) (suc n) values (a ∷ b ∷ []) le in_ = absurd (omega arith)
+pixels_more (suc k) (suc n) values (a ∷ b ∷ c ∷ []) le in_ = absurd (omega arith)
+pixels_more (suc k) (suc n) values (a ∷ b ∷ c ∷ d ∷ bytes) le in_ =
+    let v : ℕ = from_le_bytes w32 (a ∷ b ∷ c ∷ d ∷ []) in
+    let size : 4 * suc k ≡ suc (suc (suc (suc (4 * k)))) = omega arith in
+    let left : suc n - suc k ≡ n - k = omega arith in
+    rw (size, left)
+    (one_more a b c d (take (4 * k) bytes) n values
+    ∙ (pixels_more k n (values ++ v ∷ []) bytes (omega arith) (omega arith) ∙ ap (to_come (n - k)) (append_assoc values (v ∷ []) (values_in k bytes))))
+
+-- ---- a reader of them
+
+colours_len : (values : List ℕ) → length (map colour_of values) ≡ length values
+colours_len [] = refl
+colours_len (v ∷ values) = ap suc (colours_len values)
+
+colours_joined : (xs ys : List ℕ) → map colour_of (xs ++ ys) ≡ map colour_of xs ++ map colour_of ys
+colours_joined [] ys = refl
+colours_joined (x ∷ xs) ys = ap (λ t. colour_of x ∷ t) (colours_joined xs ys)
+
+colours_in : (chunks : List (List ℕ)) → map colour_in chunks ≡ map colour_of (map (from_le_bytes w32) chunks)
+colours_in [] = refl
+colours_in (x ∷ chunks) = ap (λ t. colour_in x ∷ t) (colours_in chunks)
+
+values_len : (area : Rect) (p : RawProgress) (reading : Reading Paint) (s : RawStands area p reading) → length s.values ≡ length p.colours
+values_len area p reading s = sym (ap length s.colours ∙ colours_len s.values)
+
+-- How it goes on, with so many pixels to come.
+goes_on : (area : Rect) (p : RawProgress) (reading : Reading Paint) (s : RawStands area p reading) (n : ℕ) → n + length p.colours ≡ p.count → reading ≡ putting area (after (to_come n s.values) p.begun)
+goes_on area p reading s n e =
+    let m : p.count - length s.values ≡ n = omega (arith, e, values_len area p reading s) in
+    s.reads ∙ ap (λ k. putting area (after (to_come k s.values) p.begun)) m
+
+-- As many bytes as are missing are taken.
+raw_takes : (area : Rect) (p : RawProgress) (reading : Reading Paint) (s : RawStands area p reading) (n : ℕ) (bytes : List ℕ) → n + length p.colours ≡ p.count → length p.begun + length bytes ≤ 4 * n → taken reading bytes ≡ length bytes
+raw_takes area p reading s n bytes e le =
+    let form : Reading (List ℕ) = to_come n s.values in
+    ap (λ (r : Reading Paint). taken r bytes) (goes_on area p reading s n e)
+    ∙ (told_taken (λ vs. Put area vs) (after form p.begun) bytes
+    ∙ needs_takes (4 * n - length p.begun) (after form p.begun) bytes (needs_after (4 * n) (4 * n - length p.begun) form p.begun (come_need n s.values) (omega arith)) (omega arith))
+
+raw_after : (area : Rect) (p : RawProgress) (reading : Reading Paint) (s : RawStands area p reading) (n : ℕ) (bytes : List ℕ) → n + length p.colours ≡ p.count → after reading bytes ≡ putting area (after (to_come n s.values) (p.begun ++ bytes))
+raw_after area p reading s n bytes e =
+    ap (λ (r : Reading Paint). after r bytes) (goes_on area p reading s n e)
+    ∙ (told_after (λ vs. Put area vs) (after (to_come n s.values) p.begun) bytes ∙ ap (putting area) (sym (after-append (to_come n s.values) p.begun bytes)))
+
+-- Bytes inside one pixel.
+pub takes_some : (area : Rect) (old new : RawProgress) (reading : Reading Paint) (bytes : List ℕ) → length old.begun + length bytes + 4 * length old.colours ≤ 4 * old.count
+    → new.count ≡ old.count → new.colours ≡ old.colours → new.begun ≡ old.begun ++ bytes → RawStands area old reading → RawTakes area new reading bytes
+takes_some area old new reading bytes le count colours begun s =
+    let n : ℕ = old.count - length old.colours in
+    let e : n + length old.colours ≡ old.count = omega (arith, le) in
+    let m : new.count - length s.values ≡ n = omega (arith, e, count, values_len area old reading s) in
+    record {
+      stands =
+          record {
+            values = s.values;
+            colours = colours ∙ s.colours;
+            count = count ∙ s.count;
+            reads = raw_after area old reading s n bytes e ∙ (ap (λ b. putting area (after (to_come n s.values) b)) (sym begun) ∙ ap (λ k. putting area (after (to_come k s.values) new.begun)) (sym m));
+          };
+      all = raw_takes area old reading s n bytes e (omega (arith, le));
+    }
+
+-- Bytes up to the end of one pixel.
+pub takes_pixel : (area : Rect) (old new : RawProgress) (reading : Reading Paint) (bytes joined : List ℕ) → length old.begun + length bytes + 4 * length old.colours ≤ 4 * old.count → joined ≡ old.begun ++ bytes → length joined ≡ 4
+    → new.count ≡ old.count → new.colours ≡ old.colours ++ colour_in joined ∷ [] → new.begun ≡ [] → RawStands area old reading → RawTakes area new reading bytes
+takes_pixel area old new reading bytes joined le is four count colours begun s =
+    let v : ℕ = from_le_bytes w32 joined in
+    let n : ℕ = old.count - length old.colours - 1 in
+    let len : length joined ≡ length old.begun + length bytes = ap length is ∙ length-append old.begun bytes in
+    let e : suc n + length old.colours ≡ old.count = omega (arith, le, len, four) in
+    let m : new.count - length (s.values ++ v ∷ []) ≡ n = omega (arith, e, count, values_len area old reading s, length-append s.values (v ∷ [])) in
+    let read : after (to_come (suc n) s.values) (old.begun ++ bytes) ≡ to_come n (s.values ++ v ∷ []) = ap (after (to_come (suc n) s.values)) (sym is) ∙ pixel_more joined n s.values four in
+    record {
+      stands =
+          record {
+            values = s.values ++ v ∷ [];
+            colours = colours ∙ (ap (λ t. t ++ colour_in joined ∷ []) s.colours ∙ sym (colours_joined s.values (v ∷ [])));
+            count = count ∙ s.count;
+            reads = raw_after area old reading s (suc n) bytes e ∙ (ap (putting area) read ∙ (ap (λ k. putting area (to_come k (s.values ++ v ∷ []))) (sym m) ∙ ap (λ b. putting area (after (to_come (new.count - length (s.values ++ v ∷ [])) (s.values ++ v ∷ [])) b)) (sym begun)));
+          };
+      all = raw_takes area old reading s (suc n) bytes e (omega (arith, le, e));
+    }
+
+chunk_count : (k : ℕ) (bytes : List ℕ) → length (values_in k bytes) ≡ k
+chunk_count zero bytes = refl
+chunk_count (suc k) bytes = ap suc (chunk_count k (drop 4 bytes))
+
+-- Whole pixels, where none is begun.
+pub takes_pixels : (area : Rect) (old new : RawProgress) (reading : Reading Paint) (k : ℕ) (bytes : List ℕ) → 4 * k ≤ length bytes → k + length old.colours ≤ old.count → old.begun ≡ []
+    → new.count ≡ old.count → new.colours ≡ old.colours ++ map colour_in (first_chunks 4 k bytes) → new.begun ≡ [] → RawStands area old reading → RawTakes area new reading (take (4 * k) bytes)
+takes_pixels area old new reading k bytes some le none count colours begun s =
+    let vs : List ℕ = values_in k bytes in
+    let front : List ℕ = take (4 * k) bytes in
+    let n : ℕ = old.count - length old.colours in
+    let e : n + length old.colours ≡ old.count = omega (arith, le) in
+    let size : length vs ≡ k = chunk_count k bytes in
+    let m : new.count - length (s.values ++ vs) ≡ n - k = omega (arith, e, count, values_len area old reading s, length-append s.values vs, size) in
+    let read : after (to_come n s.values) (old.begun ++ front) ≡ to_come (n - k) (s.values ++ vs) = ap (λ b. after (to_come n s.values) (b ++ front)) none ∙ pixels_more k n s.values bytes some (omega (arith, le, e)) in
+    record {
+      stands =
+          record {
+            values = s.values ++ vs;
+            colours = colours ∙ (ap (λ t. t ++ map colour_in (first_chunks 4 k bytes)) s.colours ∙ (ap (λ t. map colour_of s.values ++ t) (colours_in (first_chunks 4 k bytes)) ∙ sym (colours_joined s.values vs)));
+            count = count ∙ s.count;
+            reads = raw_after area old reading s n front e ∙ (ap (putting area) read ∙ (ap (λ j. putting area (to_come j (s.values ++ vs))) (sym m) ∙ ap (λ b. putting area (after (to_come (new.count - length (s.values ++ vs)) (s.values ++ vs)) b)) (sym begun)));
+          };
+      all = raw_takes area old reading s n front e (omega (arith, ap length none, length-take (4 * k) bytes, some, le, e));
+    }
+
+-- ---- at the start and at the end
+
+pub stands_new : (area : Rect) (p : RawProgress) → p.count ≡ area.w * area.h → p.colours ≡ [] → p.begun ≡ [] → RawStands area p (putting area (raw host_format area.w area.h))
+stands_new area p count colours begun =
+    let all : p.count - 0 ≡ area.w * area.h = omega (arith, count) in
+    let form : Reading (List ℕ) = raw host_format area.w area.h in
+    record {
+      values = [];
+      colours = colours;
+      count = count;
+      reads =
+          ap (putting area)
+          (sym (bind_done form) ∙ ap (λ n. times n (pixel host_format) >>= λ more. Done more) (sym all) ∙ ap (λ b. after (times (p.count - 0) (pixel host_format) >>= λ more. Done more) b) (sym begun));
+    }
+
+is_count : (area : Rect) (p : RawProgress) (reading : Reading Paint) (s : RawStands area p reading) → length p.colours ≡ p.count → reading ≡ Done (Put area (s.values ++ []))
+is_count area p reading s e =
+    goes_on area p reading s 0 (omega (arith, e)) ∙ ap (putting area) (after-done (s.values ++ []) p.begun)
+
+pub wants_pixels : (area : Rect) (p : RawProgress) (reading : Reading Paint) → length p.begun < 4 → length p.colours < p.count → RawStands area p reading → wants_more reading ≡ true
+wants_pixels area p reading short lt s =
+    let n : ℕ = p.count - length p.colours in
+    let form : Reading (List ℕ) = to_come n s.values in
+    let inner : wants_more (after form p.begun) ≡ true =
+    needs_wants (4 * n - length p.begun) (after form p.begun) (needs_after (4 * n) (4 * n - length p.begun) form p.begun (come_need n s.values) (omega arith)) (omega arith) in
+    ap (λ (r : Reading Paint). wants_more r) (goes_on area p reading s n (omega (arith, lt))) ∙ then_wants (after form p.begun) (λ vs. Done (Put area vs)) [] inner
+
+pub no_fault : (area : Rect) (p : RawProgress) (reading : Reading Paint) → length p.begun < 4 → length p.colours ≤ p.count → RawStands area p reading → fault_of reading ≡ None
+no_fault area p reading short le s =
+    elim (eq-or-lt_of_le le) [
+      | inl e ↦ ap (λ (r : Reading Paint). fault_of r) (is_count area p reading s e)
+      | inr lt ↦ open_no_fault reading (wants_pixels area p reading short lt s)
+    ]
+
+pub closes : (area : Rect) (p : RawProgress) (reading : Reading Paint) → length p.colours ≡ p.count → RawStands area p reading → wants_more reading ≡ false
+closes area p reading e s = ap (λ (r : Reading Paint). wants_more r) (is_count area p reading s e)
+
+pub whole_at_count : (area : Rect) (p : RawProgress) (reading : Reading Paint) → length p.begun < 4 → length p.colours ≤ p.count → RawStands area p reading → (length p.colours == p.count) ≡ is_some (whole_of reading)
+whole_at_count area p reading short le s =
+    elim (eq-or-lt_of_le le) [
+      | inl e ↦ eq-eqb (length p.colours) p.count e ∙ sym (ap (λ (r : Reading Paint). is_some (whole_of r)) (is_count area p reading s e))
+      | inr lt ↦ ne_eqb (length p.colours) p.count (λ e. absurd (omega (arith, lt, e))) ∙ sym (open_not_whole reading (wants_pixels area p reading short lt s))
+    ]
+
+abbrev done : Paint → Reading Paint
+done painted = Done painted
+
+done_is : (a b : Paint) → done a ≡ done b → a ≡ b
+done_is a b e = cc
+
+done_wants_none : (painted : Paint) → wants_more (done painted) ≡ true → ⊥
+done_wants_none painted e = cc
+
+pub paint_at_count : (area : Rect) (p : RawProgress) (painted : Paint) → length p.begun < 4 → length p.colours ≤ p.count → RawStands area p (Done painted) → IsPaintOf area p.colours painted
+paint_at_count area p painted short le s =
+    elim (eq-or-lt_of_le le) [
+      | inl e ↦ (let same : painted ≡ Put area (s.values ++ []) = done_is painted (Put area (s.values ++ [])) (is_count area p (Done painted) s e) in
+          record {
+            same = ap (λ vs. Put area vs) (s.colours ∙ ap (map colour_of) (sym (append-nil s.values))) ∙ sym (ap in_colours same);
+            count = e ∙ s.count;
+          })
+      | inr lt ↦ absurd (done_wants_none painted (wants_pixels area p (Done painted) short lt s))
+    ]
+
+-- A slice that was written to its end.
+pub written_to_end : (a k : ℕ) (xs ys : List ℕ) → a + k ≡ 4 → length xs ≡ 4 → length ys ≡ k → put_mid a k xs ys ≡ take a xs ++ ys
+written_to_end a k xs ys e four some =
+    let all : List ℕ = put_mid a k xs ys in
+    let front : take 4 all ≡ take a xs ++ ys = take-put_mid a k xs ys 4 (omega (arith, e, some)) (omega (arith, e, four)) in
+    let back : drop 4 all ≡ drop 4 xs = drop-put_mid a k xs ys 4 (omega (arith, e)) (omega (arith, e, four)) some in
+    sym (take_all 4 all (omega (arith, length-drop 4 all, ap length back, length-drop 4 xs, four))) ∙ front
+
+-- ---- one piece after another
+
+pub takes_then : (area : Rect) (mid new : RawProgress) (reading : Reading Paint) (xs ys : List ℕ) → RawTakes area mid reading xs → ((r : Reading Paint) → RawStands area mid r → RawTakes area new r ys) → RawTakes area new reading (xs ++ ys)
+takes_then area mid new reading xs ys one more =
+    let two = more (after reading xs) one.stands in
+    record {
+      stands = subst (λ (r : Reading Paint). RawStands area new r) (sym (after-append reading xs ys)) two.stands;
+      all = taken-append reading xs ys one.all ∙ (ap (λ n. length xs + n) two.all ∙ sym (length-append xs ys));
+    }
+
+-- It took the front of a piece, up to the last pixel.
+pub takes_front : (area : Rect) (new : RawProgress) (reading : Reading Paint) (piece : List ℕ) (used left : ℕ) → used ≤ length piece → (used < length piece → left ≡ 0) → length new.begun + left + 4 * length new.colours ≡ 4 * new.count → length new.begun < 4
+    → RawTakes area new reading (take used piece) → RawStands area new (after reading piece) × FedAs reading piece (Ok used)
+takes_front area new reading piece used left le whole count short t =
+    let front : List ℕ = take used piece in
+    let behind : List ℕ = drop used piece in
+    let split : front ++ behind ≡ piece = take-append-drop used piece in
+    let closed : left ≡ 0 → wants_more (after reading front) ≡ false = λ z. closes area new (after reading front) (omega (arith, z, count, short)) t.stands in
+    let stays = stays_behind (after reading front) behind left closed (λ some. whole (omega (arith, some, length-drop used piece))) in
+    let goes : after reading piece ≡ after reading front = ap (after reading) (sym split) ∙ (after-append reading front behind ∙ stays.0) in
+    let all : taken reading piece ≡ length front + taken (after reading front) behind = ap (taken reading) (sym split) ∙ taken-append reading front behind t.all in (
+      subst (λ (r : Reading Paint). RawStands area new r) (sym goes) t.stands,
+      (omega (arith, all, stays.1, length-take used piece, le), ap (λ (r : Reading Paint). fault_of r) goes ∙ no_fault area new (after reading front) short (omega (arith, count)) t.stands),
+    )

@@ -1,0 +1,130 @@
+-- The data of a rectangle, and what follows them.
+use Rattle.std.proofs.Common.{◌≡◌, ℕ, zero, suc, ◌+◌, ◌<◌, ◌≤◌, Bool, true, false, List, [], ◌∷◌, ◌++◌, length, map, drop, All, Option, Some, None, is_some, inl, inr, refl, sym, ap, subst, ◌∙◌, arith}
+use Rattle.std.proofs.lemmas.List.{drop_all, map-append}
+use Rattle.std.proofs.lemmas.List.Elements.{All-append}
+use Rattle.std.proofs.Math.Seq.{drop-nil}
+use Rattle.pixel_format.specs.declared.fault.Fault.{Fault}
+use Rattle.pixel_format.specs.Reading.{Reading, Done, Faulty, Want, ◌>>=◌, after, taken, wants_more, whole_of, fault_of}
+use Rattle.pixel_format.proofs.InOrder.{then_done, then_taken, then_faulty}
+use Rattle.pixel_format.proofs.ReadingLaws.{after_bind_open, after-faulty, after-done, taken-le, taken-some, taken-nil}
+use Rattle.raster.specs.Painted.{Fits}
+use Rattle.raster.specs.Update.{Paint}
+use Rattle.painter.specs.Painter.{Painting, with_paints}
+use Rattle.rfb_wire.specs.ServerMessage.{ServerMessage}
+use Rattle.host_decoder.specs.Data.{DataProgress, DataStands, FedAs}
+use Rattle.host_decoder.specs.Pendings.{Unread, IsReading, IsOpen}
+use Rattle.host_decoder.specs.Updates.{in_colours}
+use Rattle.host_decoder.specs.declared.state.State.{State}
+use Rattle.host_decoder.specs.declared.state.State.TheVariants as state
+use Rattle.host_decoder.specs.Decoder.{GoesOn, Holds, IsBehind, Uses, behind, rectangles, with_others}
+
+-- ---- a paint is added
+
+all_one : (P : Paint → Type 0) (p : Paint) → P p → All P (p ∷ [])
+all_one P p holds zero d lt = holds
+all_one P p holds (suc k) d lt = absurd (omega arith)
+
+paint_held : (w h : ℕ) (paints sofar : List Paint) (paint painted : Paint) → paint ≡ in_colours painted → Fits w h paint → Holds w h paints sofar → Holds w h (paints ++ paint ∷ []) (sofar ++ painted ∷ [])
+paint_held w h paints sofar paint painted is fits holds =
+    record {
+      same = ap (λ ps. ps ++ paint ∷ []) holds.same ∙ (ap (λ p. map in_colours sofar ++ p ∷ []) is ∙ sym (map-append in_colours sofar (painted ∷ [])));
+      fits = All-append (Fits w h) paints (paint ∷ []) holds.fits (all_one (Fits w h) paint fits);
+    }
+
+pub paint_added : (old new : Painting) (paint painted : Paint) (state : State) (sofar : List Paint) (left : ℕ) → paint ≡ in_colours painted → Fits old.width old.height paint → Holds old.width old.height old.paints sofar
+    → ((s : List Paint) → Holds old.width old.height (old.paints ++ paint ∷ []) s → GoesOn (with_paints old (old.paints ++ paint ∷ [])) new state (rectangles old.width old.height s left))
+    → GoesOn old new state (behind old.width old.height sofar left painted)
+paint_added old new paint painted state sofar left is fits holds next =
+    let g = next (sofar ++ painted ∷ []) (paint_held old.width old.height old.paints sofar paint painted is fits holds) in
+    record { stands = g.stands; repaints = g.repaints }
+
+-- ---- what was fed to a rectangle's data
+
+whole_from : (r : Reading Paint) → is_some (whole_of r) ≡ true → (p : Paint) × (r ≡ Done p)
+whole_from (Done p) e = (p, refl)
+whole_from (Faulty fault) e = absurd cc
+whole_from (Want more) e = absurd cc
+
+wants_from : (r : Reading Paint) → is_some (whole_of r) ≡ false → fault_of r ≡ None → wants_more r ≡ true
+wants_from (Done p) e f = absurd cc
+wants_from (Faulty fault) e f = absurd cc
+wants_from (Want more) e f = refl
+
+-- They are whole.
+pub data_whole : (new : DataProgress) (bs : List ℕ) (r : Reading Paint) → DataStands new (after r bs) → is_some (whole_of (after r bs)) ≡ true → (p : Paint) × DataStands new (Done p)
+data_whole new bs r stands e = let whole = whole_from (after r bs) e in (whole.0, subst (λ s. DataStands new s) whole.1 stands)
+
+-- They want more.
+pub data_open : (new : DataProgress) (bs : List ℕ) (r : Reading Paint) → DataStands new (after r bs) → is_some (whole_of (after r bs)) ≡ false → fault_of (after r bs) ≡ None → IsOpen new
+data_open new bs r stands e f = record { reading = after r bs; stands = stands; wants = wants_from (after r bs) e f }
+
+-- Where all is taken of the first thing, it is of both.
+taken_open : {A B : Type 0} (form : Reading A) (next : A → Reading B) (bs : List ℕ) → taken form bs ≡ length bs → taken (form >>= next) bs ≡ length bs
+taken_open (Done x) next [] e = taken-nil (next x)
+taken_open (Done x) next (b ∷ bs) e = absurd (omega arith)
+taken_open (Faulty f) next [] e = refl
+taken_open (Faulty f) next (b ∷ bs) e = absurd (omega arith)
+taken_open (Want more) next [] e = refl
+taken_open (Want more) next (b ∷ bs) e = ap suc (taken_open (more b) next bs (omega (arith, e)))
+
+-- What wants more took all.
+taken_all : (r : Reading Paint) (bs : List ℕ) → wants_more (after r bs) ≡ true → taken r bs ≡ length bs
+taken_all r [] w = taken-nil r
+taken_all (Done x) (b ∷ bs) w = let e : false ≡ true = sym (ap wants_more (after-done x bs)) ∙ w in absurd cc
+taken_all (Faulty f) (b ∷ bs) w = let e : false ≡ true = sym (ap wants_more (after-faulty {A = Paint} f bs)) ∙ w in absurd cc
+taken_all (Want more) (b ∷ bs) w = ap suc (taken_all (more b) bs w)
+
+-- ---- a step over them
+
+pub uses_whole : (old new : Painting) (state : State) (left used : ℕ) (bs : List ℕ) (sofar : List Paint) (r : Reading Paint) → used ≡ taken r bs → is_some (whole_of (after r bs)) ≡ true
+    → ((p : Paint) → after r bs ≡ Done p → GoesOn old new state (behind old.width old.height sofar left p)) → Uses old new state (with_others old.width old.height sofar left r) bs used
+uses_whole old new state left used bs sofar r count e next =
+    let whole = whole_from (after r bs) e in
+    let b : Paint → Reading ServerMessage = behind old.width old.height sofar left in
+    record {
+      next = b whole.0;
+      behind_ = record {
+        says = rw count (then_done r b bs whole.0 whole.1);
+        count = λ fine. rw count (then_taken r b bs whole.0 whole.1);
+      };
+      goes_on = next whole.0 whole.1;
+    }
+
+pub uses_open : (painter : Painting) (pending : Unread) (new : DataProgress) (left used : ℕ) (bs : List ℕ) (sofar : List Paint) (r : Reading Paint) → used ≡ taken r bs → fault_of (after r bs) ≡ None → is_some (whole_of (after r bs)) ≡ false
+    → pending ≡ record { left = left; reader = new } → DataStands new (after r bs) → Holds painter.width painter.height painter.paints sofar
+    → Uses painter painter (state.Pixels pending) (with_others painter.width painter.height sofar left r) bs used
+uses_open painter pending new left used bs sofar r count fine e is stands holds =
+    let w : ℕ = painter.width in
+    let h : ℕ = painter.height in
+    let b : Paint → Reading ServerMessage = behind w h sofar left in
+    let wants : wants_more (after r bs) ≡ true = wants_from (after r bs) e fine in
+    let all : taken r bs ≡ length bs = taken_all r bs wants in
+    let over : drop used bs ≡ [] = drop_all used bs (omega (arith, count, all)) in
+    let none : taken (after r bs >>= b) (drop used bs) ≡ 0 = ap (taken (after r bs >>= b)) over ∙ taken-nil (after r bs >>= b) in
+    record {
+      next = after r bs >>= b;
+      behind_ = record {
+        says = after_bind_open r b bs all ∙ ap (after (after r bs >>= b)) (sym over);
+        count = λ f. omega (arith, taken_open r b bs all, count, all, none);
+      };
+      goes_on = record {
+        stands = inr (rw is (record { sofar = sofar; holds = holds; reading = after r bs; stands = stands; wants = wants; reads = refl }));
+        repaints = λ canvas same. same;
+      };
+    }
+
+pub uses_spoiled : (painter : Painting) (new : DataProgress) (left : ℕ) (bs : List ℕ) (sofar : List Paint) (r : Reading Paint) (fault : Fault) → after r bs ≡ Faulty fault → DataStands new (after r bs)
+    → Uses painter painter (state.Spoiled new) (with_others painter.width painter.height sofar left r) bs (length bs)
+uses_spoiled painter new left bs sofar r fault e stands =
+    let b : Paint → Reading ServerMessage = behind painter.width painter.height sofar left in
+    record {
+      next = Faulty fault;
+      behind_ = record { says = then_faulty r b bs fault e ∙ sym (after-faulty fault (drop (length bs) bs)); count = λ f. absurd cc };
+      goes_on = record { stands = inr (record { fault = fault; stands = subst (λ s. DataStands new s) e stands; reads = refl }); repaints = λ canvas same. same };
+    }
+
+-- Where there are no bytes reading goes on as it did.
+pub uses_none : (old new : Painting) (state : State) (r : Reading ServerMessage) (n : ℕ) → Uses old new state r [] n → GoesOn old new state r
+uses_none old new state r n u =
+    let same : r ≡ u.next = u.behind_.says ∙ ap (after u.next) (drop-nil n) in
+    subst (λ (s : Reading ServerMessage). GoesOn old new state s) (sym same) u.goes_on

@@ -1,0 +1,99 @@
+-- The rectangles of an update, one after another.
+use Rattle.std.proofs.Common.{◌≡◌, ℕ, zero, suc, ◌+◌, ◌-◌, ◌<◌, ◌≤◌, Bool, true, false, not, List, [], ◌∷◌, ◌++◌, length, map, All, Ok, inr, refl, sym, ap, subst, ◌∙◌, append_assoc, arith}
+use mathlib.Core.Path.{fun_ext}
+use Rattle.std.proofs.lemmas.List.{append-nil}
+use Rattle.pixel_format.proofs.InOrder.{unless_passes, unless_fails}
+use Rattle.pixel_format.proofs.ReadingLaws.{bind_assoc}
+use Rattle.pixel_format.specs.PixelFormat.{host_format}
+use Rattle.pixel_format.specs.declared.fault.Fault.TheVariants.{RectOutside}
+use Rattle.pixel_format.specs.Reading.{Reading, Done, Faulty, ◌>>=◌, after, times, u32}
+use Rattle.raster.proofs.Screens.{looks_after}
+use Rattle.raster.specs.declared.rect.Rect.{Rect}
+use Rattle.raster.specs.Painted.{Fits}
+use Rattle.raster.specs.Screen.{Canvas, LooksLike, IsWithin, is_within}
+use Rattle.raster.specs.Update.{Paint, Paints, after_paint, after_paints}
+use Rattle.painter.specs.Painter.{Painting, IsPainted, shows}
+use Rattle.painter.specs.Patch.{SizedUpdate}
+use Rattle.rfb_wire.specs.ServerMessage.{ServerMessage, FramebufferUpdate, data_of, rectangle}
+use Rattle.host_decoder.specs.declared.event.HostEvent.TheVariants as event
+use Rattle.host_decoder.specs.declared.part.Part.{Part}
+use Rattle.host_decoder.specs.declared.part.Part.TheVariants as part
+use Rattle.host_decoder.specs.declared.state.State.TheVariants as state
+use Rattle.host_decoder.specs.Updates.{in_colours}
+use Rattle.host_decoder.specs.Events.{sized}
+use Rattle.host_decoder.specs.Decoder.{GoesOn, Holds, InPart, behind, form_of, rectangles, with_others, rect_in}
+use Rattle.host_decoder.proofs.HostParts.{judged, part_full}
+
+-- One of them, and then the others.
+pub one_and_others : (w h : ℕ) (sofar : List Paint) (left : ℕ) → rectangles w h sofar (suc left) ≡ with_others w h sofar left (rectangle host_format w h)
+one_and_others w h sofar left =
+    let one : Reading Paint = rectangle host_format w h in
+    let others : Reading (List Paint) = times left one in
+    let all : Paint → Reading (List Paint) = λ first. others >>= λ ps. Done (first ∷ ps) in
+    let end : List Paint → Reading ServerMessage = λ ps. Done (FramebufferUpdate (sofar ++ ps)) in
+    bind_assoc one all end
+    ∙ ap (λ (f : Paint → Reading ServerMessage). one >>= f) (fun_ext (λ first.
+    bind_assoc others (λ ps. Done (first ∷ ps)) end
+    ∙ ap (λ (f : List Paint → Reading ServerMessage). others >>= f) (fun_ext (λ ps. ap (λ t. Done (FramebufferUpdate t)) (sym (append_assoc sofar (first ∷ []) ps))))))
+
+-- The next one's place is read.
+pub to_area : (painter : Painting) (left : ℕ) (fields : Part × List ℕ) (sofar : List Paint) → 0 < left → fields ≡ (part.Area (left - 1), []) → Holds painter.width painter.height painter.paints sofar
+    → GoesOn painter painter (state.Fields fields) (rectangles painter.width painter.height sofar left)
+to_area painter left fields sofar some is holds =
+    let w : ℕ = painter.width in
+    let h : ℕ = painter.height in
+    let grown : suc (left - 1) ≡ left = omega arith in
+    let reads : rectangles w h sofar left ≡ after (form_of w h sofar (part.Area (left - 1))) [] = ap (λ n. rectangles w h sofar n) (sym grown) ∙ one_and_others w h sofar (left - 1) in
+    let here : InPart w h (part.Area (left - 1)) [] painter.paints (rectangles w h sofar left) = record { sofar = sofar; holds = holds; suited = tt; missing = omega arith; reads = reads } in
+    record {
+      stands = inr (subst (λ (f : Part × List ℕ). InPart w h f.0 f.1 painter.paints (rectangles w h sofar left)) (sym is) here);
+      repaints = λ canvas same. same;
+    }
+
+-- What looks alike looks alike after paints that fit.
+looks_after_paints : (w h : ℕ) (a b : Canvas) (ps : List Paint) → All (Fits w h) ps → LooksLike w h a b → LooksLike w h (after_paints a ps) (after_paints b ps)
+looks_after_paints w h a b [] fits same = same
+looks_after_paints w h a b (p ∷ ps) fits same =
+    looks_after_paints w h (after_paint a p) (after_paint b p) ps (λ k d lt. fits (suc k) d (omega arith)) (looks_after w h a b p (fits 0 p (omega arith)) same)
+
+-- None is left, and the update is painted.
+pub to_end : (old new : Painting) (left : ℕ) (patch : SizedUpdate) (sofar : List Paint) → left ≡ 0 → patch ≡ sized old.width old.height (Paints old.paints) → IsPainted old new → Holds old.width old.height old.paints sofar
+    → GoesOn old new (state.Whole (event.Paint patch)) (rectangles old.width old.height sofar left)
+to_end old new left patch sofar none is painted holds =
+    let w : ℕ = old.width in
+    let h : ℕ = old.height in
+    record {
+      stands = inr (record {
+        message = FramebufferUpdate sofar;
+        reads = ap (λ n. rectangles w h sofar n) none ∙ ap (λ ps. Done (FramebufferUpdate ps)) (append-nil sofar);
+        brings = ap (λ p. event.Paint p) (is ∙ ap (λ ps. sized w h (Paints ps)) holds.same);
+        none = painted.paints;
+      });
+      repaints = λ canvas same.
+          rw (is)
+          (λ x y lx ly.
+          painted.shows x y (omega (arith, lx, painted.width)) (omega (arith, ly, painted.height))
+          ∙ looks_after_paints w h (shows old) canvas old.paints holds.fits same x y (omega (arith, lx, painted.width)) (omega (arith, ly, painted.height)));
+    }
+
+-- ---- the place of a rectangle
+
+pub area_inside : (w h : ℕ) (sofar : List Paint) (left : ℕ) (bs : List ℕ) → length bs ≡ 8 → is_within (rect_in bs) w h ≡ true → after (form_of w h sofar (part.Area left)) bs ≡ form_of w h sofar (part.Encoding left (rect_in bs))
+area_inside w h sofar left bs e ok =
+    part_full w h sofar (part.Area left) bs e ∙ ap (with_others w h sofar left) (unless_passes (not (is_within (rect_in bs) w h)) RectOutside (u32 >>= data_of host_format w h (rect_in bs)) (ap not ok))
+
+pub area_outside : (w h : ℕ) (sofar : List Paint) (left : ℕ) (bs : List ℕ) → length bs ≡ 8 → is_within (rect_in bs) w h ≡ false → after (form_of w h sofar (part.Area left)) bs ≡ Faulty RectOutside
+area_outside w h sofar left bs e out =
+    part_full w h sofar (part.Area left) bs e ∙ ap (with_others w h sofar left) (unless_fails (not (is_within (rect_in bs) w h)) RectOutside (u32 >>= data_of host_format w h (rect_in bs)) (ap not out))
+
+pub encoding_next : (w h : ℕ) (paints sofar : List Paint) (left : ℕ) (bs : List ℕ) (area : Rect) (fields : Part × List ℕ)
+    → length bs ≡ 8 → area ≡ rect_in bs → is_within area w h ≡ true → fields ≡ (part.Encoding left area, []) → Holds w h paints sofar → InPart w h fields.0 fields.1 paints (after (form_of w h sofar (part.Area left)) bs)
+encoding_next w h paints sofar left bs area fields e same ok is holds =
+    let r : Reading ServerMessage = after (form_of w h sofar (part.Area left)) bs in
+    let inside : is_within (rect_in bs) w h ≡ true = ap (λ a. is_within a w h) (sym same) ∙ ok in
+    let reads : r ≡ after (form_of w h sofar (part.Encoding left area)) [] = area_inside w h sofar left bs e inside ∙ ap (λ a. form_of w h sofar (part.Encoding left a)) (sym same) in
+    let here : InPart w h (part.Encoding left area) [] paints r = record { sofar = sofar; holds = holds; suited = tt; missing = omega arith; reads = reads } in
+    subst (λ (f : Part × List ℕ). InPart w h f.0 f.1 paints r) (sym is) here
+
+pub area_fault : (w h : ℕ) (sofar : List Paint) (left : ℕ) (bs : List ℕ) (area : Rect) → length bs ≡ 8 → area ≡ rect_in bs → is_within area w h ≡ false → after (form_of w h sofar (part.Area left)) bs ≡ Faulty RectOutside
+area_fault w h sofar left bs area e same out = area_outside w h sofar left bs e (ap (λ a. is_within a w h) (sym same) ∙ out)

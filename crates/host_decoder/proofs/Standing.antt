@@ -1,0 +1,73 @@
+-- What stands in a decoder tells whether it wants more.
+use Rattle.std.proofs.Common.{◌≡◌, ℕ, zero, suc, ◌<◌, true, false, List, [], Option, Some, None, refl, sym, ap, subst, ◌∙◌, arith}
+use Rattle.std.specs.Prelude.{option_map}
+use Rattle.pixel_format.specs.declared.fault.Fault.{Fault}
+use Rattle.pixel_format.specs.Reading.{Reading, Done, Faulty, Want, ◌>>=◌, after, wants_more, whole_of, fault_of, renewed}
+use Rattle.pixel_format.proofs.InOrder.{then_wants}
+use Rattle.raster.specs.Update.{Paint}
+use Rattle.rfb_wire.specs.ServerMessage.{ServerMessage}
+use Rattle.host_decoder.specs.declared.past.Passed.{Passed}
+use Rattle.host_decoder.specs.declared.event.HostEvent.{HostEvent}
+use Rattle.host_decoder.specs.declared.state.State.{State}
+use Rattle.host_decoder.specs.declared.state.State.TheVariants.{Fields, Pixels, Spoiled, Keeping, Passing, Whole, Failed, Refused}
+use Rattle.host_decoder.specs.Decoder.{Stands, behind, host_message, is_open, keeping, passing, form_of}
+use Rattle.host_decoder.specs.Events.{event_of}
+use Rattle.host_decoder.proofs.HostParts.{part_wants}
+
+keeping_wants : (kept : List ℕ) (left : ℕ) → 0 < left → wants_more (keeping kept left) ≡ true
+keeping_wants kept zero lt = absurd (omega arith)
+keeping_wants kept (suc left) lt = refl
+
+passing_wants : (left : ℕ) (what : Passed) → 0 < left → wants_more (passing left what) ≡ true
+passing_wants zero what lt = absurd (omega arith)
+passing_wants (suc left) what lt = refl
+
+-- An open one wants another byte.
+pub open_wants : (w h : ℕ) (state : State) (paints : List Paint) (r : Reading ServerMessage) → is_open state ≡ true → Stands w h state paints r → wants_more r ≡ true
+open_wants w h (Fields fields) paints r e s = ap wants_more s.reads ∙ part_wants w h s.sofar fields.0 fields.1 s.missing
+open_wants w h (Pixels pending) paints r e s = ap wants_more s.reads ∙ then_wants s.reading (behind w h s.sofar pending.left) [] s.wants
+open_wants w h (Spoiled reader) paints r e s = absurd cc
+open_wants w h (Keeping kept) paints r e s = ap wants_more s.2 ∙ keeping_wants kept.0 kept.1 s.1
+open_wants w h (Passing past) paints r e s = ap wants_more s.2 ∙ passing_wants past.0 past.1 s.1
+open_wants w h (Whole event) paints r e s = absurd cc
+open_wants w h (Failed what) paints r e s = absurd cc
+open_wants w h Refused paints r e s = absurd s
+
+-- And another one doesn't.
+pub closed_wants : (w h : ℕ) (state : State) (paints : List Paint) (r : Reading ServerMessage) → is_open state ≡ false → Stands w h state paints r → wants_more r ≡ false
+closed_wants w h (Fields fields) paints r e s = absurd cc
+closed_wants w h (Pixels pending) paints r e s = absurd cc
+closed_wants w h (Spoiled reader) paints r e s = ap wants_more s.reads
+closed_wants w h (Keeping kept) paints r e s = absurd cc
+closed_wants w h (Passing past) paints r e s = absurd cc
+closed_wants w h (Whole event) paints r e s = ap wants_more s.reads
+closed_wants w h (Failed what) paints r e s = ap wants_more s
+closed_wants w h Refused paints r e s = absurd s
+
+wants_whole : (r : Reading ServerMessage) → wants_more r ≡ true → whole_of r ≡ None
+wants_whole (Done m) e = absurd cc
+wants_whole (Faulty fault) e = absurd cc
+wants_whole (Want more) e = refl
+
+-- A message is whole only where its event waits.
+pub not_whole : (w h : ℕ) (state : State) (paints : List Paint) (r : Reading ServerMessage) → ((event : HostEvent) → state ≡ Whole event → ⊥) → Stands w h state paints r → whole_of r ≡ None
+not_whole w h (Fields fields) paints r other s = wants_whole r (open_wants w h (Fields fields) paints r refl s)
+not_whole w h (Pixels pending) paints r other s = wants_whole r (open_wants w h (Pixels pending) paints r refl s)
+not_whole w h (Spoiled reader) paints r other s = ap whole_of s.reads
+not_whole w h (Keeping kept) paints r other s = wants_whole r (open_wants w h (Keeping kept) paints r refl s)
+not_whole w h (Passing past) paints r other s = wants_whole r (open_wants w h (Passing past) paints r refl s)
+not_whole w h (Whole event) paints r other s = absurd (other event refl)
+not_whole w h (Failed what) paints r other s = ap whole_of s
+not_whole w h Refused paints r other s = absurd s
+
+renewed_from : (form r : Reading ServerMessage) → whole_of r ≡ None → renewed form r ≡ r
+renewed_from form (Done m) e = absurd cc
+renewed_from form (Faulty fault) e = refl
+renewed_from form (Want more) e = refl
+
+-- Then nothing is given, and it goes on as it did.
+pub nothing_given : (w h : ℕ) (state : State) (paints : List Paint) (r : Reading ServerMessage) → ((event : HostEvent) → state ≡ Whole event → ⊥) → Stands w h state paints r
+    → (None ≡ option_map (event_of w h) (whole_of r)) × Stands w h state paints (renewed (host_message w h) r)
+nothing_given w h state paints r other s =
+    let none = not_whole w h state paints r other s in
+    (sym (ap (option_map (event_of w h)) none), subst (λ t. Stands w h state paints t) (sym (renewed_from (host_message w h) r none)) s)

@@ -1,0 +1,132 @@
+-- A step of a decoder over some bytes.
+use Rattle.std.proofs.Common.{◌≡◌, ℕ, zero, suc, ◌+◌, ◌-◌, ◌<◌, ◌≤◌, true, false, List, [], ◌∷◌, ◌++◌, min, length, take, drop, ◌⊎◌, inl, inr, refl, sym, ap, subst, ◌∙◌, append_assoc, arith}
+use mathlib.Core.Path.{fun_ext}
+use Rattle.std.proofs.lemmas.List.{append-nil, length-append, length-take, take-append-drop}
+use Rattle.pixel_format.specs.Reading.{Reading, Done, Faulty, Want, ◌>>=◌, step, after, taken, bytes, padding, fault_of}
+use Rattle.pixel_format.proofs.ReadingLaws.{after-append, bind_assoc}
+use Rattle.raster.specs.Screen.{Canvas}
+use Rattle.raster.specs.Update.{Paint}
+use Rattle.painter.specs.Painter.{Painting}
+use Rattle.rfb_wire.specs.ServerMessage.{ServerMessage, ServerCutText}
+use Rattle.host_decoder.specs.Parts.{Passed, len_of, message_of}
+use Rattle.host_decoder.specs.declared.part.Part.{Part}
+use Rattle.host_decoder.specs.declared.state.State.{State}
+use Rattle.host_decoder.specs.declared.state.State.TheVariants as state
+use Rattle.host_decoder.specs.Decoder.{GoesOn, Holds, InPart, IsBehind, IsSuited, PaintsNothing, Stands, Uses, form_of, is_refused, keeping, passing}
+use Rattle.host_decoder.proofs.HostParts.{part_takes}
+
+-- Where the first bytes are all taken, those behind them are taken after them.
+taken-append : {A : Type 0} (form : Reading A) (xs ys : List ℕ) → taken form xs ≡ length xs → taken form (xs ++ ys) ≡ length xs + taken (after form xs) ys
+taken-append form [] ys e = omega arith
+taken-append (Done x) (b ∷ xs) ys e = absurd (omega arith)
+taken-append (Faulty f) (b ∷ xs) ys e = absurd (omega arith)
+taken-append (Want more) (b ∷ xs) ys e = let h = taken-append (more b) xs ys (omega (arith, e)) in omega (arith, h)
+
+pub behind_first : (r : Reading ServerMessage) (bs : List ℕ) (n : ℕ) → n ≤ length bs → taken r (take n bs) ≡ n → IsBehind r (after r (take n bs)) bs n
+behind_first r bs n le all =
+    let xs : List ℕ = take n bs in
+    let ys : List ℕ = drop n bs in
+    let parts : bs ≡ xs ++ ys = sym (take-append-drop n bs) in
+    let few : length xs ≡ n = omega (arith, length-take n bs) in
+    let more : taken r bs ≡ length xs + taken (after r xs) ys = ap (taken r) parts ∙ taken-append r xs ys (all ∙ sym few) in
+    record { says = ap (after r) parts ∙ after-append r xs ys; count = λ fine. omega (arith, more, few) }
+
+-- ---- fields
+
+-- Bytes of a part, of which more are missing.
+pub fields_use : (painter : Painting) (p : Part) (begun bs next : List ℕ) (fields : Part × List ℕ) (left n : ℕ) (r : Reading ServerMessage) → length begun + left ≡ len_of p → n ≡ min (length bs) left → n < left → next ≡ take n bs → fields ≡ (p, begun ++ next)
+    → InPart painter.width painter.height p begun painter.paints r → Uses painter painter (state.Fields fields) r bs n
+fields_use painter p begun bs next fields left n r all e lt f is here =
+    let w : ℕ = painter.width in
+    let h : ℕ = painter.height in
+    let xs : List ℕ = take n bs in
+    let few : length xs ≡ n = omega (arith, length-take n bs) in
+    let form : Reading ServerMessage = form_of w h here.sofar p in
+    let taken_ : taken r xs ≡ n = ap (λ (q : Reading ServerMessage). taken q xs) here.reads ∙ (part_takes w h here.sofar p begun xs (omega arith) ∙ few) in
+    let reads : after r xs ≡ after form (begun ++ xs) = ap (λ (q : Reading ServerMessage). after q xs) here.reads ∙ sym (after-append form begun xs) in
+    let there : InPart w h p (begun ++ xs) painter.paints (after r xs) = record { sofar = here.sofar; holds = here.holds; suited = here.suited; missing = omega (arith, length-append begun xs, few); reads = reads } in
+    let same : fields ≡ (p, begun ++ xs) = is ∙ ap (λ t. (p, begun ++ t)) f in
+    record {
+      next = after r xs;
+      behind_ = behind_first r bs n (omega arith) taken_;
+      goes_on = record { stands = inr (subst (λ (g : Part × List ℕ). InPart w h g.0 g.1 painter.paints (after r xs)) (sym same) there); repaints = λ canvas looks. looks };
+    }
+
+-- The last bytes of a part.
+pub fields_end : (old new : Painting) (state : State) (p : Part) (begun bs next all : List ℕ) (left n : ℕ) (r : Reading ServerMessage) → length begun + left ≡ len_of p → n ≡ min (length bs) left → left ≤ n → next ≡ take n bs → all ≡ begun ++ next
+    → InPart old.width old.height p begun old.paints r → ((sofar : List Paint) → Holds old.width old.height old.paints sofar → IsSuited p sofar → GoesOn old new state (after (form_of old.width old.height sofar p) all)) → Uses old new state r bs n
+fields_end old new state p begun bs next all left n r len e le f is here then_ =
+    let w : ℕ = old.width in
+    let h : ℕ = old.height in
+    let xs : List ℕ = take n bs in
+    let few : length xs ≡ n = omega (arith, length-take n bs) in
+    let form : Reading ServerMessage = form_of w h here.sofar p in
+    let taken_ : taken r xs ≡ n = ap (λ (q : Reading ServerMessage). taken q xs) here.reads ∙ (part_takes w h here.sofar p begun xs (omega arith) ∙ few) in
+    let reads : after form all ≡ after r xs = ap (after form) (is ∙ ap (λ t. begun ++ t) f) ∙ (after-append form begun xs ∙ ap (λ (q : Reading ServerMessage). after q xs) (sym here.reads)) in
+    record {
+      next = after r xs;
+      behind_ = behind_first r bs n (omega arith) taken_;
+      goes_on = subst (λ (q : Reading ServerMessage). GoesOn old new state q) reads (then_ here.sofar here.holds here.suited);
+    }
+
+-- ---- texts
+
+less_none : (n : ℕ) → n - 0 ≡ n
+less_none n = omega arith
+
+keeping_step : (kept : List ℕ) (left b : ℕ) → step (keeping kept (suc left)) b ≡ keeping (kept ++ b ∷ []) left
+keeping_step kept left b =
+    bind_assoc (bytes left) (λ others. Done (b ∷ others)) (λ others. Done (ServerCutText (kept ++ others)))
+    ∙ ap (λ (f : List ℕ → Reading ServerMessage). bytes left >>= f) (fun_ext (λ others. ap (λ t. Done (ServerCutText t)) (sym (append_assoc kept (b ∷ []) others))))
+
+keeping_after : (kept xs : List ℕ) (left : ℕ) → length xs ≤ left → after (keeping kept left) xs ≡ keeping (kept ++ xs) (left - length xs)
+keeping_after kept [] left le = ap (λ t. keeping t left) (sym (append-nil kept)) ∙ ap (λ n. keeping (kept ++ []) n) (sym (less_none left))
+keeping_after kept (b ∷ xs) zero le = absurd (omega arith)
+keeping_after kept (b ∷ xs) (suc left) le =
+    let e : suc left - length (b ∷ xs) ≡ left - length xs = omega arith in
+    ap (λ r. after r xs) (keeping_step kept left b) ∙ (keeping_after (kept ++ b ∷ []) xs left (omega arith) ∙ rw (e, append_assoc kept (b ∷ []) xs) refl)
+
+keeping_taken : (kept xs : List ℕ) (left : ℕ) → length xs ≤ left → taken (keeping kept left) xs ≡ length xs
+keeping_taken kept [] zero le = refl
+keeping_taken kept [] (suc left) le = refl
+keeping_taken kept (b ∷ xs) zero le = absurd (omega arith)
+keeping_taken kept (b ∷ xs) (suc left) le = ap suc (ap (λ r. taken r xs) (keeping_step kept left b) ∙ keeping_taken (kept ++ b ∷ []) xs left (omega arith))
+
+passing_after : (left : ℕ) (r : Reading ServerMessage) (xs : List ℕ) → length xs ≤ left → after (padding left r) xs ≡ padding (left - length xs) r
+passing_after left r [] le = ap (λ n. padding n r) (sym (less_none left))
+passing_after zero r (b ∷ xs) le = absurd (omega arith)
+passing_after (suc left) r (b ∷ xs) le =
+    let e : suc left - length (b ∷ xs) ≡ left - length xs = omega arith in
+    passing_after left r xs (omega arith) ∙ ap (λ n. padding n r) (sym e)
+
+passing_taken : (left : ℕ) (m : ServerMessage) (xs : List ℕ) → length xs ≤ left → taken (padding left (Done m)) xs ≡ length xs
+passing_taken zero m [] le = refl
+passing_taken (suc left) m [] le = refl
+passing_taken zero m (b ∷ xs) le = absurd (omega arith)
+passing_taken (suc left) m (b ∷ xs) le = ap suc (passing_taken left m xs (omega arith))
+
+-- Where nothing is painted.
+unpainted : (painter : Painting) (state : State) (r : Reading ServerMessage) → (is_refused state ≡ true) ⊎ Stands painter.width painter.height state painter.paints r → PaintsNothing state → GoesOn painter painter state r
+unpainted painter state r stands still = record { stands = stands; repaints = λ canvas same x y lx ly. same x y lx ly ∙ ap (λ (c : Canvas). c x y) (sym (still canvas)) }
+
+with_paints_of : (w h : ℕ) (state : State) (paints : List Paint) (r : Reading ServerMessage) → paints ≡ [] → (is_refused state ≡ true) ⊎ Stands w h state [] r → (is_refused state ≡ true) ⊎ Stands w h state paints r
+with_paints_of w h state paints r none (inl e) = inl e
+with_paints_of w h state paints r none (inr s) = inr (subst (λ ps. Stands w h state ps r) (sym none) s)
+
+pub text_uses : (painter : Painting) (kept : List ℕ) (left : ℕ) (state : State) (bs next : List ℕ) (n : ℕ) (r : Reading ServerMessage) → painter.paints ≡ [] → r ≡ keeping kept left → n ≡ min (length bs) left → next ≡ take n bs
+    → (is_refused state ≡ true) ⊎ Stands painter.width painter.height state [] (keeping (kept ++ next) (left - length next)) → PaintsNothing state → Uses painter painter state r bs n
+text_uses painter kept left state bs next n r none reads e f stands still =
+    let few : length (take n bs) ≡ n = omega (arith, length-take n bs) in
+    let same : keeping (kept ++ next) (left - length next) ≡ after r (take n bs) = rw (f, reads) (sym (keeping_after kept (take n bs) left (omega arith))) in
+    let all : taken r (take n bs) ≡ n = rw reads (keeping_taken kept (take n bs) left (omega arith) ∙ few) in
+    let there = with_paints_of painter.width painter.height state painter.paints (after r (take n bs)) none (subst (λ q. (is_refused state ≡ true) ⊎ Stands painter.width painter.height state [] q) same stands) in
+    record { next = after r (take n bs); behind_ = behind_first r bs n (omega arith) all; goes_on = unpainted painter state (after r (take n bs)) there still }
+
+pub past_uses : (painter : Painting) (left : ℕ) (what : Passed) (state : State) (bs : List ℕ) (n : ℕ) (r : Reading ServerMessage) → painter.paints ≡ [] → r ≡ passing left what → n ≡ min (length bs) left
+    → Stands painter.width painter.height state [] (passing (left - n) what) → PaintsNothing state → Uses painter painter state r bs n
+past_uses painter left what state bs n r none reads e stands still =
+    let few : length (take n bs) ≡ n = omega (arith, length-take n bs) in
+    let same : passing (left - n) what ≡ after r (take n bs) = rw reads (ap (λ k. padding (left - k) (Done (message_of what))) (sym few) ∙ sym (passing_after left (Done (message_of what)) (take n bs) (omega arith))) in
+    let all : taken r (take n bs) ≡ n = rw reads (passing_taken left (message_of what) (take n bs) (omega arith) ∙ few) in
+    let there = with_paints_of painter.width painter.height state painter.paints (after r (take n bs)) none (inr (subst (λ q. Stands painter.width painter.height state [] q) same stands)) in
+    record { next = after r (take n bs); behind_ = behind_first r bs n (omega arith) all; goes_on = unpainted painter state (after r (take n bs)) there still }

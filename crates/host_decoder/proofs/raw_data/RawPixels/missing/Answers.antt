@@ -1,0 +1,6 @@
+use Rattle.std.proofs.Common.{take, arith}
+use Rattle.std.proofs.lemmas.List.{length-take}
+use Rattle.host_decoder.proofs.raw_data.RawPixels.missing.Goals as goal
+
+pub returns : goal.returns
+returns c = rw (← c.self.view_is) (omega (arith, length-take c.self.inside.filled c.self.inside.begun, c.self.invariant, c.len.ensures, c.self.inside.colours.ok))
