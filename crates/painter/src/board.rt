@@ -99,6 +99,7 @@ impl Board {
         requires size { (patch.now.width ≡ self.old.width) × (patch.now.height ≡ self.old.height) }
         requires number { self.old.number < 2 ^ 62 }
         ensures size { IsSameScreen self.old self.new }
+        ensures number { self.new.number ≡ self.old.number + 1 }
         ensures stands { (us : List Update) → BoardStands self.old us → BoardStands self.new (us ++ patch.now.update ∷ []) }
     {
         self.number += 1;

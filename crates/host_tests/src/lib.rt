@@ -1,0 +1,5 @@
+//! Tests of `painter` and `host_decoder`, which stand in a crate of their own so that these are proved once.
+#![tactic(auto)]
+
+#[cfg(test)]
+mod painting;
