@@ -1,13 +1,11 @@
 -- The source of a CopyRect, in pieces.
-use Rattle.std.proofs.Common.{◌≡◌, ℕ, zero, suc, ◌+◌, ◌-◌, ◌<◌, ◌≤◌, min, not, Bool, true, false, List, [], ◌∷◌, ◌++◌, take, drop, length, get_or, Some, None, is_some, refl, sym, ap, ◌∙◌, arith}
-use Rattle.std.specs.Int.{w16, from_be_bytes}
-use Rattle.std.proofs.lemmas.Bool.Decides.{nat_tests}
+use Rattle.std.proofs.Common.{◌≡◌, ℕ, ◌+◌, ◌-◌, ◌<◌, ◌≤◌, min, not, Bool, true, false, List, [], ◌∷◌, ◌++◌, take, drop, length, None, is_some, refl, sym, ap, ◌∙◌, arith}
 use Rattle.std.proofs.lemmas.List.{take-append-drop, length-take, length-drop, length-append}
 use Rattle.pixel_format.specs.Reading.{Reading, Done, Faulty, Want, after, taken, wants_more, whole_of, fault_of, unless}
 use Rattle.pixel_format.specs.declared.fault.Fault.TheVariants.{CopyOutside}
-use Rattle.pixel_format.proofs.ReadingLaws.{after-append, after-done, after-faulty, after-stays, taken-stays, taken-nil}
+use Rattle.pixel_format.proofs.ReadingLaws.{after-append, after-stays, taken-stays, taken-nil}
 use Rattle.raster.specs.declared.rect.Rect.{Rect}
-use Rattle.raster.specs.Screen.{IsWithin, is_within}
+use Rattle.raster.specs.Screen.{is_within}
 use Rattle.raster.specs.Update.{Paint, Copy}
 use Rattle.raster.proofs.FixedLength.{Needs, needs_takes, needs_after, needs_wants}
 use Rattle.rfb_wire.specs.ServerMessage.{copy_rect}

@@ -1,8 +1,8 @@
 -- The colours of what was drawn on a picture.
-use Rattle.std.proofs.Common.{◌≡◌, ℕ, zero, suc, ◌*◌, ◌/◌, ◌%◌, ◌<◌, List, [], ◌∷◌, ◌++◌, take, length, map, refl, sym, ap, ◌∙◌, arith}
+use Rattle.std.proofs.Common.{◌≡◌, ℕ, zero, suc, ◌*◌, ◌/◌, ◌%◌, List, [], ◌∷◌, ◌++◌, take, length, map, refl, sym, ap, ◌∙◌, arith}
 use Rattle.std.specs.List.{range_with_len}
 use Rattle.std.proofs.Math.Seq.{take-append_seam}
-use Rattle.pixel_format.specs.Reading.{Reading, Done, ◌>>=◌}
+use Rattle.pixel_format.specs.Reading.{Reading, Done}
 use Rattle.raster.specs.declared.rect.Rect.{Rect}
 use Rattle.raster.specs.Picture.{Picture, shown}
 use Rattle.raster.specs.Screen.{Canvas, LooksLike, value_at, values_of}

@@ -1,5 +1,5 @@
 -- The pixels of a Raw rectangle, in pieces.
-use Rattle.std.proofs.Common.{◌≡◌, ℕ, zero, suc, ◌+◌, ◌-◌, ◌*◌, ◌/◌, ◌<◌, ◌≤◌, true, false, ◌⊎◌, List, [], ◌∷◌, ◌++◌, take, drop, map, length, Some, None, is_some, subst, Ok, inl, inr, refl, sym, ap, ◌∙◌, append_assoc, append-nil, length-append, arith}
+use Rattle.std.proofs.Common.{◌≡◌, ℕ, zero, suc, ◌+◌, ◌-◌, ◌*◌, ◌<◌, ◌≤◌, true, false, List, [], ◌∷◌, ◌++◌, take, drop, map, length, None, is_some, subst, Ok, inl, inr, refl, sym, ap, ◌∙◌, append_assoc, append-nil, length-append, arith}
 use Rattle.std.proofs.lemmas.Bool.{eq-eqb, ne_eqb}
 use Rattle.std.proofs.lemmas.List.{length-take, length-drop, take_all, take-append-drop}
 use Rattle.std.proofs.lemmas.Slice.{take-put_mid, drop-put_mid}
@@ -10,7 +10,7 @@ use Rattle.std.specs.Prelude.{◌==◌}
 use Rattle.std.specs.Simd.{first_chunks}
 use Rattle.std.specs.Int.{w32, from_le_bytes}
 use Rattle.pixel_format.specs.PixelFormat.{host_format}
-use Rattle.pixel_format.specs.Reading.{Reading, Done, Faulty, Want, ◌>>=◌, after, taken, times, wants_more, whole_of, fault_of}
+use Rattle.pixel_format.specs.Reading.{Reading, Done, ◌>>=◌, after, taken, times, wants_more, whole_of, fault_of}
 use Rattle.pixel_format.proofs.ReadingLaws.{after-append, after-done, bind_assoc, bind_done}
 use Rattle.pixel_format.proofs.InOrder.{then_wants}
 use Rattle.raster.specs.declared.rect.Rect.{Rect}
@@ -18,10 +18,10 @@ use Rattle.raster.specs.Encoding.{pixel, raw}
 use Rattle.raster.specs.Update.{Paint, Put}
 use Rattle.raster.proofs.FixedLength.{Needs, exactly_pixel, needs_both, needs_first, needs_takes, needs_after, needs_wants}
 use Rattle.host_decoder.specs.Updates.{colour_of, in_colours}
-use Rattle.host_decoder.specs.Data.{colour_in, putting, raw_ahead, RawStands, RawTakes, IsPaintOf, FedAs}
+use Rattle.host_decoder.specs.Data.{colour_in, putting, RawStands, RawTakes, IsPaintOf, FedAs}
 use Rattle.host_decoder.specs.DataParts.{RawProgress}
 use Rattle.host_decoder.proofs.Copies.{taken-append, stays_behind, open_no_fault, open_not_whole}
-use Rattle.host_decoder.proofs.Mapping.{told, told_after, told_taken, told_whole, told_fault, told_done}
+use Rattle.host_decoder.proofs.Mapping.{told_after, told_taken}
 
 -- The pixels that are still to come, behind those of some values.
 abbrev pub to_come : ℕ → List ℕ → Reading (List ℕ)

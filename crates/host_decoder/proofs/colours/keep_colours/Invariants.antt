@@ -1,4 +1,4 @@
-use Rattle.std.proofs.Common.{◌≡◌, ℕ, ◌<◌, ◌≤◌, map, take, length, get_or}
+use Rattle.std.proofs.Common.{◌≡◌, ℕ, ◌≤◌, map, take, length, get_or}
 use Rattle.host_decoder.specs.Updates.{colour_of}
 use Rattle.host_decoder.proofs.colours.keep_colours.Given as goal
 

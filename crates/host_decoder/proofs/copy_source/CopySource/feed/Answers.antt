@@ -1,4 +1,4 @@
-use Rattle.std.proofs.Common.{◌≡◌, ℕ, ◌-◌, ◌≤◌, ◌++◌, Bool, true, false, List, length, take, min, ap, sym, ◌∙◌, length-append, None, arith}
+use Rattle.std.proofs.Common.{◌≡◌, ℕ, ◌-◌, ◌≤◌, ◌++◌, true, false, List, length, take, min, ap, sym, ◌∙◌, length-append, None, arith}
 use Rattle.std.proofs.lemmas.Bool.{eqb-true, eqb-false}
 use Rattle.pixel_format.specs.Reading.{Reading, after, taken, fault_of}
 use Rattle.raster.specs.declared.rect.Rect.{Rect}

@@ -1,4 +1,4 @@
-use Rattle.std.proofs.Common.{◌≡◌, List, length, ap, sym, ◌∙◌, is_some, arith}
+use Rattle.std.proofs.Common.{length, ap, sym, ◌∙◌, is_some, arith}
 use Rattle.std.proofs.lemmas.Bool.{eqb-false}
 use Rattle.pixel_format.specs.Reading.{Reading, after, whole_of}
 use Rattle.raster.specs.Update.{Paint}

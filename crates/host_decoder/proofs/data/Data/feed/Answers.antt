@@ -1,4 +1,3 @@
-use Rattle.std.proofs.Common.{◌≡◌}
 use Rattle.host_decoder.proofs.data.Data.feed.Goals as goal
 use Rattle.host_decoder.proofs.data.Data.feed.Goals.{in-Raw, in-Copy, in-Rre}
 

@@ -1,4 +1,4 @@
-use Rattle.std.proofs.Common.{◌≡◌, ℕ, ◌-◌, take, length, arith}
+use Rattle.std.proofs.Common.{ℕ, ◌-◌, arith}
 use Rattle.std.proofs.lemmas.List.{length-take}
 use Rattle.host_decoder.proofs.RawPieces.{takes_front}
 use Rattle.host_decoder.proofs.raw_data.RawPixels.feed.Goals as goal

@@ -1,4 +1,4 @@
-use Rattle.std.proofs.Common.{take, inr, arith}
+use Rattle.std.proofs.Common.{inr, arith}
 use Rattle.std.proofs.lemmas.List.{length-take}
 use Rattle.host_decoder.proofs.raw_data.RawPixels.first_len.Goals as goal
 

@@ -1,4 +1,4 @@
-use Rattle.std.proofs.Common.{◌≡◌, take, ap, ◌∙◌, sym, arith}
+use Rattle.std.proofs.Common.{take, arith}
 use Rattle.std.proofs.lemmas.List.{length-take}
 use Rattle.host_decoder.specs.DataParts.{RawProgress}
 use Rattle.host_decoder.proofs.RawPieces.{paint_at_count}

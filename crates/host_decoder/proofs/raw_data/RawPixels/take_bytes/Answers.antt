@@ -1,7 +1,6 @@
-use Rattle.std.proofs.Common.{◌≡◌, ◌+◌, ◌-◌, ◌∙◌, ◌++◌, List, ℕ, take, drop, [], ◌∷◌, length, refl, ap, sym, arith}
+use Rattle.std.proofs.Common.{◌≡◌, ◌+◌, ◌-◌, ◌∙◌, ◌++◌, List, ℕ, take, [], ◌∷◌, length, refl, ap, arith}
 use Rattle.std.proofs.lemmas.List.{length-take, length-append}
 use Rattle.std.proofs.lemmas.Slice.{take-put_mid}
-use Rattle.host_decoder.specs.Data.{colour_in}
 use Rattle.host_decoder.specs.DataParts.{RawProgress}
 use Rattle.host_decoder.proofs.RawPieces.{takes_some, takes_pixel, written_to_end}
 use Rattle.host_decoder.proofs.raw_data.RawPixels.take_bytes.Goals as goal

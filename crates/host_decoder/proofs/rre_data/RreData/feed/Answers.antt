@@ -1,10 +1,9 @@
-use Rattle.std.proofs.Common.{◌≡◌, List, ℕ, ap, sym, ◌∙◌}
+use Rattle.std.proofs.Common.{List, ℕ, ap, ◌∙◌}
 use Rattle.pixel_format.specs.Reading.{Reading, after}
 use Rattle.raster.specs.Encoding.{Drawing, drawn}
 use Rattle.raster.specs.Screen.{values_of}
 use Rattle.raster.specs.Update.{Paint}
 use Rattle.rre_codec.specs.Ahead.{ahead}
-use Rattle.host_decoder.specs.Data.{FedAs}
 use Rattle.host_decoder.proofs.Mapping.{putting_fed}
 use Rattle.host_decoder.proofs.rre_data.RreData.feed.Goals as goal
 

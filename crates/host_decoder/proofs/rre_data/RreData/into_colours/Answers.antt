@@ -1,5 +1,5 @@
-use Rattle.std.proofs.Common.{◌≡◌, map, length, ap, sym, ◌∙◌}
-use Rattle.raster.specs.Encoding.{Drawing, drawn}
+use Rattle.std.proofs.Common.{map, length, ap, sym, ◌∙◌}
+use Rattle.raster.specs.Encoding.{drawn}
 use Rattle.raster.specs.Picture.{shown}
 use Rattle.rre_codec.specs.Ahead.{ahead}
 use Rattle.host_decoder.specs.Updates.{colour_of}

@@ -1,4 +1,4 @@
-use Rattle.std.proofs.Common.{◌≡◌, List, [], ℕ, ap, sym, ◌∙◌}
+use Rattle.std.proofs.Common.{◌≡◌, [], ℕ, ap, sym, ◌∙◌}
 use Rattle.pixel_format.specs.PixelFormat.{PixelFormat, host_format}
 use Rattle.pixel_format.specs.Reading.{Reading}
 use Rattle.raster.specs.Encoding.{Drawing, drawn, rre}
