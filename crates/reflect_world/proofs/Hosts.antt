@@ -15,7 +15,7 @@ use Rattle.painter.specs.Painter.{Painting}
 use Rattle.host_decoder.specs.Events.{event_of}
 use Rattle.host_decoder.specs.Updates.{update_of, updates_by}
 use Rattle.host_decoder.specs.declared.event.HostEvent.{HostEvent}
-use Rattle.reflect_world.specs.Host.{CanRead, HasReadTo, HostSide, HostStands, IsReadOut, ReadsMessage, ReadsOn, form_of, patch_in, waiting_list}
+use Rattle.reflect_world.specs.Host.{CanRead, HasReadTo, HostSide, HostStands, IsReadOut, IsSameHost, ReadsMessage, ReadsOn, form_of, patch_in, waiting_list}
 use Rattle.reflect_world.proofs.HostReading.{message_read, message_shortens, next_update, none_read, open_read}
 
 -- The update put next, where it was read and none waits.
@@ -336,3 +336,6 @@ nothing_comes old mid new answer event is none stands reads bytes us k =
 
 pub can_read_on : (old new : HostSide) → ((bytes : List ℕ) (us : List Update) → HostStands bytes us old → HostStands bytes us new) → CanRead old → CanRead new
 can_read_on old new stands can = (can.0, can.1, stands can.0 can.1 can.2)
+
+pub same_host_on : (old mid new : HostSide) → IsSameHost old mid → IsSameHost mid new → IsSameHost old new
+same_host_on old mid new to_mid to_new = record { width = to_new.width ∙ to_mid.width; height = to_new.height ∙ to_mid.height }

@@ -3,7 +3,7 @@ use Rattle.std.specs.Prelude.{Ok, Err, None}
 use Rattle.std.proofs.lemmas.Result.{err_from_is_err_and}
 use Rattle.reflect_world.specs.Host.{HostSide, HostStands, patch_in}
 use Rattle.reflect_world.specs.contracts.host.Host.{the_view}
-use Rattle.reflect_world.proofs.Hosts.{host_hands_on, patch_comes, reads_on_from}
+use Rattle.reflect_world.proofs.Hosts.{host_hands_on, nothing_comes, patch_comes, reads_on_from, same_host_on}
 use Rattle.reflect_world.proofs.host.Host.next_patch.Goals as goal
 
 pub returns-in-Some-clause-ok : goal.returns-in-Some-clause-ok
@@ -36,3 +36,23 @@ pub returns-in-Some-Cut-clause-ok : goal.returns-in-Some-Cut-clause-ok
 returns-in-Some-Cut-clause-ok c =
     patch_comes c.args.self.now c.messages.self c.read_one.new.self c.in_ok-read_one.field-0 c.in-Some-Cut.field-0 c.in-Some-Cut.patch c.in-Some-Cut.is (ap patch_in c.in-Some-Cut.field-0-is)
     c.messages.invariant.stands c.in_ok-read_one.ensures.message
+
+pub messages-preserved-in-Some-Map : goal.messages-preserved-in-Some-Map
+messages-preserved-in-Some-Map c =
+    record {
+      none = c.in_ok-read_one.ensures.none;
+      same = same_host_on c.args.self.now c.messages.self c.read_one.new.self c.messages.invariant.same c.in_ok-read_one.ensures.same;
+      stands =
+          nothing_comes c.args.self.now c.messages.self c.read_one.new.self c.in_ok-read_one.field-0 c.in-Some-Map.field-0 c.in-Some-Map.is (ap patch_in c.in-Some-Map.field-0-is)
+          c.messages.invariant.stands c.in_ok-read_one.ensures.message;
+    }
+
+pub messages-preserved : goal.messages-preserved
+messages-preserved c =
+    record {
+      none = c.in_ok-read_one.ensures.none;
+      same = same_host_on c.args.self.now c.messages.self c.read_one.new.self c.messages.invariant.same c.in_ok-read_one.ensures.same;
+      stands =
+          nothing_comes c.args.self.now c.messages.self c.read_one.new.self c.in_ok-read_one.field-0 c.in-Some-LongCut.field-0 c.in-Some-LongCut.is (ap patch_in c.in-Some-LongCut.field-0-is)
+          c.messages.invariant.stands c.in_ok-read_one.ensures.message;
+    }
