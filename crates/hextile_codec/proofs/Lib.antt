@@ -1,0 +1,14 @@
+pub mod Behind
+pub mod Fed
+pub mod Goes
+pub mod HeadRead
+pub mod LedOn
+pub mod MaskRead
+pub mod Needed
+pub mod PixelsIn
+pub mod RowRead
+pub mod Standing
+pub mod SubrectRead
+pub mod Taking
+pub mod TileDrawn
+pub mod TilesShown

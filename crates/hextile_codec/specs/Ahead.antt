@@ -1,11 +1,11 @@
 -- How reading Hextile goes on (RFC 6143, 7.7.4).
-use Rattle.std.specs.Prelude.{◌≡◌, ℕ, ◌+◌, ◌-◌, ◌*◌, ◌/◌, ◌<◌, ◌≤◌, List, [], ◌∷◌, ◌++◌, length, Result, Bool, true, false, nat_lt, if◌then◌else◌, unwrap_or}
-use Rattle.pixel_format.specs.PixelFormat.{PixelFormat, pixel_len}
+use Rattle.std.specs.Prelude.{◌≡◌, ℕ, zero, suc, ◌+◌, ◌-◌, ◌*◌, ◌/◌, ◌<◌, ◌≤◌, ◌==◌, ◌%◌, List, [], ◌∷◌, ◌++◌, length, take, drop, Option, Some, Result, Bool, true, false, ◌&&◌, not, nat_lt, if◌then◌else◌, unwrap_or}
+use Rattle.pixel_format.specs.PixelFormat.{PixelFormat, pixel_len, pixel_of}
 use Rattle.pixel_format.specs.Reading.{Reading, Done, Faulty, ◌>>=◌, after, taken, times, Feeds}
 use Rattle.pixel_format.specs.declared.fault.Fault.{Fault}
 use Rattle.pixel_format.specs.declared.fault.Fault.TheVariants.{SubrectOutside, NoBackground, NoForeground}
 use Rattle.raster.specs.declared.rect.Rect.{Rect}
-use Rattle.raster.specs.Screen.{Canvas, LooksLike, holds, part_of, value_at, tiles_across, tile_count, tile_rect}
+use Rattle.raster.specs.Screen.{Canvas, LooksLike, IsWithin, holds, part_of, value_at, tiles_across, tile_count, tile_rect}
 use Rattle.raster.specs.Encoding.{Drawing, drawn, Carried, Tile, Pixels, Drawn, has_bit, pixel, tile, drawn_tile, hextile_subrect, tiles_from, tiled}
 use Rattle.hextile_codec.specs.declared.stage.Colours.{Colours}
 use Rattle.hextile_codec.specs.declared.stage.Flaw.{Flaw}
@@ -33,6 +33,9 @@ pub record Part : Type 0 where
 pub record Sofar : Type 0 where
   pub tiles : List Tile
   pub part : Part
+
+abbrev pub blank : Part
+blank = record { pixels = []; drawing = record { background = 0; subrects = [] } }
 
 abbrev pub nothing_read : Part → Sofar
 nothing_read part = record { tiles = []; part = part }
@@ -72,6 +75,13 @@ next_form format w h k carried stage sofar =
 abbrev pub ahead : Progress → Sofar → Reading (List Tile)
 ahead p sofar = after (next_form p.format p.width p.height p.tile p.carried p.stage sofar) p.begun
 
+-- An area of at most 16 by 16 on a canvas of w by h.
+pub record IsTile (area : Rect) (w h : ℕ) : Type 0 where
+  pub wide : (0 < area.w) × (area.w ≤ 16)
+  pub high : (0 < area.h) × (area.h ≤ 16)
+  pub within : IsWithin area w h
+  pub small : (area.x < 65536) × (area.y < 65536)
+
 -- A canvas shows, in a tile at an area, what was read of it so far. Before the first pixel, and after a fault, nothing is said of it.
 abbrev pub IsDrawn : Rect → Stage → Canvas → Part → Type 0
 IsDrawn area Mask canvas part = Unit {0}
@@ -94,11 +104,15 @@ pub record IsSameSize (old new : Progress) : Type 0 where
   pub width : new.width ≡ old.width
   pub height : new.height ≡ old.height
 
+-- Bytes are all taken, and lead from one way of reading to another.
+pub record Goes {A : Type 0} (form : Reading A) (bytes : List ℕ) (later : Reading A) : Type 0 where
+  pub all : taken form bytes ≡ length bytes
+  pub leads : after form bytes ≡ later
+
 -- A reader took bytes, each of which was wanted, and drew what they say.
 pub record Steps (old new : Progress) (now : Canvas) (bytes : List ℕ) (sofar : Sofar) : Type 0 where
   pub drawing : Sofar
-  pub reads : ahead new drawing ≡ after (ahead old sofar) bytes
-  pub takes : taken (ahead old sofar) bytes ≡ length bytes
+  pub goes : Goes (ahead old sofar) bytes (ahead new drawing)
   pub stands : Stands new now drawing
 
 -- A reader was fed a piece, and drew what it took of it.
@@ -109,11 +123,10 @@ pub record Draws (old new : Progress) (now : Canvas) (piece : List ℕ) (answer 
 
 -- ---- in one tile
 
--- The bytes of a stage lead to a later one, each of them was wanted, and what they say was drawn.
+-- The bytes of a stage lead to a later one, and what they say was drawn.
 pub record Led (format : PixelFormat) (area : Rect) (carried later : Carried) (stage next : Stage) (bytes : List ℕ) (now : Canvas) (part : Part) : Type 0 where
   pub grown : Part
-  pub reads : after (tile_rest format area.w area.h carried stage part) bytes ≡ tile_rest format area.w area.h later next grown
-  pub takes : taken (tile_rest format area.w area.h carried stage part) bytes ≡ length bytes
+  pub goes : Goes (tile_rest format area.w area.h carried stage part) bytes (tile_rest format area.w area.h later next grown)
   pub shows : IsDrawn area next now grown
 
 abbrev pub Leads : PixelFormat → Rect → Carried → Carried → Stage → Stage → List ℕ → Canvas → Canvas → Part → Type 0
@@ -123,31 +136,69 @@ Leads format area carried later stage next bytes before now part = IsDrawn area 
 abbrev pub Keeps : Rect → ℕ → ℕ → Canvas → Canvas → Type 0
 Keeps area w h old new = (x y : ℕ) → x < w → y < h → holds area x y ≡ false → new x y ≡ old x y
 
+-- A colour that the bytes give, or the carried one; and how many bytes it has.
+abbrev pub colour_in : PixelFormat → Bool → Option ℕ → List ℕ → Option ℕ
+colour_in format given carried bytes = if given then Some (pixel_of format (take (pixel_len format) bytes)) else carried
+
+abbrev pub colour_len : PixelFormat → Bool → ℕ
+colour_len format given = if given then pixel_len format else 0
+
 -- How many bytes tell what the mask announces: two colours and the number of subrectangles.
 abbrev pub head_len : PixelFormat → ℕ → ℕ
 head_len format mask =
-    (if has_bit mask 1 then pixel_len format else 0) + (if has_bit mask 2 then pixel_len format else 0) + (if has_bit mask 3 then 1 else 0)
+    colour_len format (has_bit mask 1) + colour_len format (has_bit mask 2) + (if has_bit mask 3 then 1 else 0)
 
 -- How many bytes are looked at together.
 abbrev pub needed : PixelFormat → Stage → ℕ
 needed format Mask = 1
 needed format (RawPixels count) = pixel_len format
 needed format (Head mask) = head_len format mask
-needed format (Subrects coloured left) = (if coloured then pixel_len format else 0) + 2
+needed format (Subrects coloured left) = colour_len format coloured + 2
 needed format (Failed flaw) = 1
 
--- A stage of a tile of w by h at which another byte is wanted.
-abbrev pub is_open : PixelFormat → ℕ → ℕ → Stage → Bool
-is_open format w h Mask = true
-is_open format w h (RawPixels count) = nat_lt count (w * h)
-is_open format w h (Head mask) = nat_lt 0 (head_len format mask)
-is_open format w h (Subrects coloured left) = nat_lt 0 left
-is_open format w h (Failed flaw) = false
+-- A fault was met.
+abbrev pub is_failed : Stage → Bool
+is_failed Mask = false
+is_failed (RawPixels count) = false
+is_failed (Head mask) = false
+is_failed (Subrects coloured left) = false
+is_failed (Failed flaw) = true
+
+-- Whether another byte is wanted.
+abbrev pub is_wanting : Progress → Bool
+is_wanting p = nat_lt p.tile (tile_count p.width p.height) && not (is_failed p.stage)
+
+-- A stage directly behind a mask.
+abbrev pub IsBehindMask : Stage → Type 0
+IsBehindMask Mask = ⊥
+IsBehindMask (RawPixels count) = count ≡ 0
+IsBehindMask (Head mask) = Unit {0}
+IsBehindMask (Subrects coloured left) = ⊥
+IsBehindMask (Failed flaw) = Unit {0}
+
+-- Where reading in a tile at an area leads: it is faulty, whole, or wants another byte.
+abbrev pub IsLater : PixelFormat → Rect → Stage → Type 0
+IsLater format area Mask = Unit {0}
+IsLater format area (RawPixels count) = count ≤ area.w * area.h
+IsLater format area (Head mask) = 0 < head_len format mask
+IsLater format area (Subrects coloured left) = Unit {0}
+IsLater format area (Failed flaw) = Unit {0}
+
+-- A tile of w by h is whole at a stage.
+abbrev pub is_whole : ℕ → ℕ → Stage → Bool
+is_whole w h Mask = false
+is_whole w h (RawPixels count) = count == w * h
+is_whole w h (Head mask) = false
+is_whole w h (Subrects coloured left) = left == 0
+is_whole w h (Failed flaw) = false
 
 -- A stage in a tile at an area is one at which another byte is wanted, or the tile is faulty.
 abbrev pub IsReady : PixelFormat → Rect → Stage → Type 0
+IsReady format area Mask = Unit {0}
+IsReady format area (RawPixels count) = count < area.w * area.h
+IsReady format area (Head mask) = 0 < head_len format mask
+IsReady format area (Subrects coloured left) = 0 < left
 IsReady format area (Failed flaw) = Unit {0}
-IsReady format area stage = is_open format area.w area.h stage ≡ true
 
 -- Where a reader stands: the tile that is read lies at an area. Behind the last tile no byte has come.
 pub record IsPlace (format : PixelFormat) (w h tiles k : ℕ) (area : Rect) (stage : Stage) (filled : ℕ) : Type 0 where
@@ -159,3 +210,12 @@ pub record IsPlace (format : PixelFormat) (w h tiles k : ℕ) (area : Rect) (sta
   pub ready : k < tiles → IsReady format area stage
   pub over : k ≡ tiles → stage ≡ Mask
   pub room : filled < needed format stage
+
+-- The pixel values in some bytes, so many of them.
+abbrev pub pixels_in : PixelFormat → ℕ → List ℕ → List ℕ
+pixels_in format zero bytes = []
+pixels_in format (suc n) bytes = pixel_of format (take (pixel_len format) bytes) ∷ pixels_in format n (drop (pixel_len format) bytes)
+
+-- A subrectangle's place in its tile, from its two bytes.
+abbrev pub place_in : ℕ → ℕ → Rect
+place_in position size = record { x = position / 16; y = position % 16; w = size / 16 + 1; h = size % 16 + 1 }

@@ -5,8 +5,8 @@
 //! rectangle specified. Nothing here takes memory or a handle.
 #![tactic(auto)]
 
+mod drawing;
 mod reading;
 mod stage;
-mod tile;
 
 pub use reading::Reader;

@@ -1,13 +1,13 @@
 //! Reading Hextile, in whatever pieces it comes.
 
-ghost use Rattle.std.specs.Prelude.{◌≡◌, ℕ, ◌+◌, ◌<◌, ◌≤◌, true, length, take, is_some, Some, None, MatchResult};
+ghost use Rattle.std.specs.Prelude.{◌≡◌, ℕ, ◌+◌, ◌<◌, ◌≤◌, true, List, [], length, take, is_some, Some, None, MatchResult};
 ghost use Rattle.pixel_format.specs.Reading.{Done, whole_of, fault_of};
 ghost use Rattle.raster.specs.Encoding.{Tile, hextile, tiled};
 ghost use Rattle.raster.specs.Screen.{Map, LooksLike};
-ghost use Rattle.hextile_codec.specs.Ahead.{Part, Sofar, nothing_read, ahead, Stands, Steps, Draws, IsSameSize, needed};
+ghost use Rattle.hextile_codec.specs.Ahead.{Part, Sofar, nothing_read, ahead, Stands, Steps, Draws, IsSameSize, is_wanting, needed};
 
+use crate::drawing::{draw, is_whole, tile_rect};
 use crate::stage::{Colours, MOST_NEEDED, Stage, needed};
-use crate::tile::{draw, is_whole, tile_rect};
 use pixel_format::{Fault, Format};
 use raster::{Canvas, Rect};
 use std::marker::Model;
@@ -90,21 +90,26 @@ impl Reader {
     }
 
     /// Whether another byte is wanted.
-    fn wants_more(&self) -> bool {
+    fn wants_more(&self) -> bool
+        ensures { result ≡ is_wanting self.now }
+    {
         self.tile < self.tiles && !matches!(self.stage, Stage::Failed(_))
     }
 
-    /// Goes on behind a tile that is whole.
-    fn next_tile(&mut self) {
-        self.tile += 1;
-        self.stage = Stage::Mask;
-        if self.tile < self.tiles {
-            self.area = tile_rect(self.width, self.height, self.tile);
-        }
-    }
-
     /// Draws what bytes say that follow those looked at last, and answers how many it took.
-    fn take<C: Canvas>(&mut self, canvas: &mut C, bytes: &[u8]) -> usize {
+    fn take<C: Canvas>(&mut self, canvas: &mut C, bytes: &[u8]) -> usize
+        requires wanting { is_wanting self.old ≡ true }
+        requires fresh { self.old.begun ≡ [] }
+        requires count { needed self.old.format self.old.stage ≤ length bytes.now }
+        requires width { C.width canvas.old ≡ self.old.width }
+        requires height { C.height canvas.old ≡ self.old.height }
+        ensures used { needed self.old.format self.old.stage ≤ result }
+        ensures within { result ≤ length bytes.now }
+        ensures size { IsSameSize self.old self.new }
+        ensures width { C.width canvas.new ≡ self.old.width }
+        ensures height { C.height canvas.new ≡ self.old.height }
+        ensures drawn { (sofar : Sofar) → Stands self.old (C.shows canvas.old) sofar → Steps self.old self.new (C.shows canvas.new) (take result bytes.now) sofar }
+    {
         let drawn = draw(
             &self.format,
             self.area,
@@ -114,15 +119,31 @@ impl Reader {
             canvas,
         );
         self.carried = drawn.carried;
-        self.stage = drawn.stage;
-        if is_whole(&self.area, self.stage) {
-            self.next_tile();
+        if is_whole(&self.area, drawn.stage) {
+            self.tile += 1;
+            self.stage = Stage::Mask;
+            if self.tile < self.tiles {
+                self.area = tile_rect(self.width, self.height, self.tile);
+            }
+        } else {
+            self.stage = drawn.stage;
         }
         drawn.used
     }
 
     /// Takes the front of some bytes, and answers how many. Only where they end too early, they are kept.
-    fn step<C: Canvas>(&mut self, canvas: &mut C, bytes: &[u8]) -> usize {
+    fn step<C: Canvas>(&mut self, canvas: &mut C, bytes: &[u8]) -> usize
+        requires wanting { is_wanting self.old ≡ true }
+        requires some { 0 < length bytes.now }
+        requires width { C.width canvas.old ≡ self.old.width }
+        requires height { C.height canvas.old ≡ self.old.height }
+        ensures some { 0 < result }
+        ensures within { result ≤ length bytes.now }
+        ensures size { IsSameSize self.old self.new }
+        ensures width { C.width canvas.new ≡ self.old.width }
+        ensures height { C.height canvas.new ≡ self.old.height }
+        ensures drawn { (sofar : Sofar) → Stands self.old (C.shows canvas.old) sofar → Steps self.old self.new (C.shows canvas.new) (take result bytes.now) sofar }
+    {
         let needed = needed(&self.format, self.stage);
         if self.filled == 0 && needed <= bytes.len() {
             return self.take(canvas, bytes);

@@ -1,5 +1,5 @@
 -- A loop that feeds a piece to a decoder, step by step.
-use Rattle.std.proofs.Common.{◌≡◌, ℕ, ◌+◌, ◌<◌, ◌≤◌, Bool, true, false, List, [], ◌++◌, length, drop, ◌⊎◌, inl, inr, Some, None, Result, Ok, Err, refl, sym, ap, subst, ◌∙◌, arith}
+use Rattle.std.proofs.Common.{◌≡◌, ℕ, ◌+◌, ◌≤◌, Bool, true, false, List, [], length, drop, ◌⊎◌, inl, inr, None, Result, Ok, Err, refl, sym, ap, subst, ◌∙◌, arith}
 use Rattle.std.proofs.lemmas.List.{drop_all, drop-drop}
 use Rattle.pixel_format.specs.declared.fault.Fault.{Fault}
 use Rattle.pixel_format.specs.declared.fault.Fault.TheVariants.{Memory}
@@ -9,7 +9,6 @@ use Rattle.raster.specs.Screen.{LooksLike}
 use Rattle.raster.specs.Update.{Paint, Update, after_updates}
 use Rattle.painter.specs.Painter.{Painting, shows}
 use Rattle.rfb_wire.specs.ServerMessage.{ServerMessage}
-use Rattle.host_decoder.specs.Data.{DataStands}
 use Rattle.host_decoder.specs.declared.state.State.{State}
 use Rattle.host_decoder.specs.declared.state.State.TheVariants.{Fields, Pixels, Spoiled, Keeping, Passing, Whole, Failed, Refused}
 use Rattle.host_decoder.specs.Decoder.{Decoding, Feeds, IsBehind, Judges, Repaints, Stands, Uses, at_fault, is_open, is_refused, waiting}

@@ -1,10 +1,10 @@
 -- The parts of a host's message whose length is fixed.
-use Rattle.std.proofs.Common.{◌≡◌, ℕ, ◌+◌, ◌*◌, ◌<◌, ◌≤◌, true, false, not, List, [], ◌∷◌, length, refl, ap, ◌∙◌}
+use Rattle.std.proofs.Common.{◌≡◌, ℕ, ◌+◌, ◌*◌, ◌<◌, ◌≤◌, true, not, List, [], ◌∷◌, length, refl, ap, ◌∙◌}
 use Rattle.std.specs.Prelude.{if◌then◌else◌, nat_le, slice_index}
 use Rattle.std.specs.Int.{w16, w32, from_be_bytes}
 use Rattle.pixel_format.specs.PixelFormat.{host_format}
 use Rattle.pixel_format.specs.declared.fault.Fault.TheVariants.{RectOutside}
-use Rattle.pixel_format.specs.Reading.{Reading, Done, Faulty, ◌>>=◌, after, taken, bytes, padding, u32, unless, wants_more}
+use Rattle.pixel_format.specs.Reading.{Reading, Done, ◌>>=◌, after, taken, bytes, padding, u32, unless, wants_more}
 use Rattle.raster.specs.declared.rect.Rect.{Rect}
 use Rattle.raster.specs.Screen.{is_within}
 use Rattle.raster.specs.Update.{Paint}

@@ -1,7 +1,7 @@
 -- A fault of a rectangle's data is named again.
-use Rattle.std.proofs.Common.{◌≡◌, ℕ, List, [], Some, None, Result, Ok, Err, ap, sym}
+use Rattle.std.proofs.Common.{◌≡◌, ℕ, [], Some, None, Result, Ok, Err, ap, sym}
 use Rattle.pixel_format.specs.declared.fault.Fault.{Fault}
-use Rattle.pixel_format.specs.Reading.{Reading, Faulty, taken, fault_of}
+use Rattle.pixel_format.specs.Reading.{Reading, Faulty}
 use Rattle.raster.specs.Update.{Paint}
 use Rattle.host_decoder.specs.Data.{FedAs}
 

@@ -1,22 +1,22 @@
 -- The data of a rectangle, and what follows them.
-use Rattle.std.proofs.Common.{◌≡◌, ℕ, zero, suc, ◌+◌, ◌<◌, ◌≤◌, Bool, true, false, List, [], ◌∷◌, ◌++◌, length, map, drop, All, Option, Some, None, is_some, inl, inr, refl, sym, ap, subst, ◌∙◌, arith}
+use Rattle.std.proofs.Common.{◌≡◌, ℕ, zero, suc, true, false, List, [], ◌∷◌, ◌++◌, length, map, drop, All, None, is_some, inr, refl, sym, ap, subst, ◌∙◌, arith}
 use Rattle.std.proofs.lemmas.List.{drop_all, map-append}
 use Rattle.std.proofs.lemmas.List.Elements.{All-append}
 use Rattle.std.proofs.Math.Seq.{drop-nil}
 use Rattle.pixel_format.specs.declared.fault.Fault.{Fault}
 use Rattle.pixel_format.specs.Reading.{Reading, Done, Faulty, Want, ◌>>=◌, after, taken, wants_more, whole_of, fault_of}
 use Rattle.pixel_format.proofs.InOrder.{then_done, then_taken, then_faulty}
-use Rattle.pixel_format.proofs.ReadingLaws.{after_bind_open, after-faulty, after-done, taken-le, taken-some, taken-nil}
+use Rattle.pixel_format.proofs.ReadingLaws.{after_bind_open, after-faulty, after-done, taken-nil}
 use Rattle.raster.specs.Painted.{Fits}
 use Rattle.raster.specs.Update.{Paint}
 use Rattle.painter.specs.Painter.{Painting, with_paints}
 use Rattle.rfb_wire.specs.ServerMessage.{ServerMessage}
-use Rattle.host_decoder.specs.Data.{DataProgress, DataStands, FedAs}
-use Rattle.host_decoder.specs.Pendings.{Unread, IsReading, IsOpen}
+use Rattle.host_decoder.specs.Data.{DataProgress, DataStands}
+use Rattle.host_decoder.specs.Pendings.{Unread, IsOpen}
 use Rattle.host_decoder.specs.Updates.{in_colours}
 use Rattle.host_decoder.specs.declared.state.State.{State}
 use Rattle.host_decoder.specs.declared.state.State.TheVariants as state
-use Rattle.host_decoder.specs.Decoder.{GoesOn, Holds, IsBehind, Uses, behind, rectangles, with_others}
+use Rattle.host_decoder.specs.Decoder.{GoesOn, Holds, Uses, behind, rectangles, with_others}
 
 -- ---- a paint is added
 

@@ -1,5 +1,5 @@
 -- The rectangles of an update, one after another.
-use Rattle.std.proofs.Common.{◌≡◌, ℕ, zero, suc, ◌+◌, ◌-◌, ◌<◌, ◌≤◌, Bool, true, false, not, List, [], ◌∷◌, ◌++◌, length, map, All, Ok, inr, refl, sym, ap, subst, ◌∙◌, append_assoc, arith}
+use Rattle.std.proofs.Common.{◌≡◌, ℕ, suc, ◌-◌, ◌<◌, true, false, not, List, [], ◌∷◌, ◌++◌, length, All, inr, sym, ap, subst, ◌∙◌, append_assoc, arith}
 use mathlib.Core.Path.{fun_ext}
 use Rattle.std.proofs.lemmas.List.{append-nil}
 use Rattle.pixel_format.proofs.InOrder.{unless_passes, unless_fails}
@@ -10,7 +10,7 @@ use Rattle.pixel_format.specs.Reading.{Reading, Done, Faulty, ◌>>=◌, after, 
 use Rattle.raster.proofs.Screens.{looks_after}
 use Rattle.raster.specs.declared.rect.Rect.{Rect}
 use Rattle.raster.specs.Painted.{Fits}
-use Rattle.raster.specs.Screen.{Canvas, LooksLike, IsWithin, is_within}
+use Rattle.raster.specs.Screen.{Canvas, LooksLike, is_within}
 use Rattle.raster.specs.Update.{Paint, Paints, after_paint, after_paints}
 use Rattle.painter.specs.Painter.{Painting, IsPainted, shows}
 use Rattle.painter.specs.Patch.{SizedUpdate}
@@ -19,10 +19,9 @@ use Rattle.host_decoder.specs.declared.event.HostEvent.TheVariants as event
 use Rattle.host_decoder.specs.declared.part.Part.{Part}
 use Rattle.host_decoder.specs.declared.part.Part.TheVariants as part
 use Rattle.host_decoder.specs.declared.state.State.TheVariants as state
-use Rattle.host_decoder.specs.Updates.{in_colours}
 use Rattle.host_decoder.specs.Events.{sized}
-use Rattle.host_decoder.specs.Decoder.{GoesOn, Holds, InPart, behind, form_of, rectangles, with_others, rect_in}
-use Rattle.host_decoder.proofs.HostParts.{judged, part_full}
+use Rattle.host_decoder.specs.Decoder.{GoesOn, Holds, InPart, form_of, rectangles, with_others, rect_in}
+use Rattle.host_decoder.proofs.HostParts.{part_full}
 
 -- One of them, and then the others.
 pub one_and_others : (w h : ℕ) (sofar : List Paint) (left : ℕ) → rectangles w h sofar (suc left) ≡ with_others w h sofar left (rectangle host_format w h)

@@ -1,8 +1,7 @@
 -- What stands in a decoder tells whether it wants more.
-use Rattle.std.proofs.Common.{◌≡◌, ℕ, zero, suc, ◌<◌, true, false, List, [], Option, Some, None, refl, sym, ap, subst, ◌∙◌, arith}
+use Rattle.std.proofs.Common.{◌≡◌, ℕ, zero, suc, ◌<◌, true, false, List, [], None, refl, sym, ap, subst, ◌∙◌, arith}
 use Rattle.std.specs.Prelude.{option_map}
-use Rattle.pixel_format.specs.declared.fault.Fault.{Fault}
-use Rattle.pixel_format.specs.Reading.{Reading, Done, Faulty, Want, ◌>>=◌, after, wants_more, whole_of, fault_of, renewed}
+use Rattle.pixel_format.specs.Reading.{Reading, Done, Faulty, Want, wants_more, whole_of, renewed}
 use Rattle.pixel_format.proofs.InOrder.{then_wants}
 use Rattle.raster.specs.Update.{Paint}
 use Rattle.rfb_wire.specs.ServerMessage.{ServerMessage}
@@ -10,7 +9,7 @@ use Rattle.host_decoder.specs.declared.past.Passed.{Passed}
 use Rattle.host_decoder.specs.declared.event.HostEvent.{HostEvent}
 use Rattle.host_decoder.specs.declared.state.State.{State}
 use Rattle.host_decoder.specs.declared.state.State.TheVariants.{Fields, Pixels, Spoiled, Keeping, Passing, Whole, Failed, Refused}
-use Rattle.host_decoder.specs.Decoder.{Stands, behind, host_message, is_open, keeping, passing, form_of}
+use Rattle.host_decoder.specs.Decoder.{Stands, behind, host_message, is_open, keeping, passing}
 use Rattle.host_decoder.specs.Events.{event_of}
 use Rattle.host_decoder.proofs.HostParts.{part_wants}
 

@@ -1,8 +1,8 @@
 -- A step of a decoder over some bytes.
-use Rattle.std.proofs.Common.{◌≡◌, ℕ, zero, suc, ◌+◌, ◌-◌, ◌<◌, ◌≤◌, true, false, List, [], ◌∷◌, ◌++◌, min, length, take, drop, ◌⊎◌, inl, inr, refl, sym, ap, subst, ◌∙◌, append_assoc, arith}
+use Rattle.std.proofs.Common.{◌≡◌, ℕ, zero, suc, ◌+◌, ◌-◌, ◌<◌, ◌≤◌, true, List, [], ◌∷◌, ◌++◌, min, length, take, drop, ◌⊎◌, inl, inr, refl, sym, ap, subst, ◌∙◌, append_assoc, arith}
 use mathlib.Core.Path.{fun_ext}
 use Rattle.std.proofs.lemmas.List.{append-nil, length-append, length-take, take-append-drop}
-use Rattle.pixel_format.specs.Reading.{Reading, Done, Faulty, Want, ◌>>=◌, step, after, taken, bytes, padding, fault_of}
+use Rattle.pixel_format.specs.Reading.{Reading, Done, Faulty, Want, ◌>>=◌, step, after, taken, bytes, padding}
 use Rattle.pixel_format.proofs.ReadingLaws.{after-append, bind_assoc}
 use Rattle.raster.specs.Screen.{Canvas}
 use Rattle.raster.specs.Update.{Paint}

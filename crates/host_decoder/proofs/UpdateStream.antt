@@ -1,8 +1,8 @@
 -- The updates of a stream, by what the reader finds at its front.
-use Rattle.std.proofs.Common.{◌≡◌, ℕ, true, List, [], ◌∷◌, drop, Option, Some, None, refl, ap, sym, subst, ◌∙◌}
+use Rattle.std.proofs.Common.{◌≡◌, ℕ, true, List, [], ◌∷◌, drop, Option, Some, None, refl, ap, ◌∙◌}
 use Rattle.std.specs.List.{filter_map, cons_option}
 use Rattle.pixel_format.proofs.ReadingLaws.{messages-whole, messages-open, rest-whole}
-use Rattle.pixel_format.specs.Reading.{Reading, Done, Faulty, Want, after, taken, messages, rest, wants_more, whole_of}
+use Rattle.pixel_format.specs.Reading.{Reading, Done, Faulty, Want, after, messages, rest, wants_more, whole_of}
 use Rattle.pixel_format.specs.declared.fault.Fault.{Fault}
 use Rattle.raster.specs.Update.{Update}
 use Rattle.rfb_wire.specs.ServerMessage.{ServerMessage}

@@ -5,14 +5,15 @@ use Rattle.pixel_format.specs.PixelFormat.{host_format}
 use Rattle.pixel_format.specs.Reading.{Reading, Done, Faulty, ◌>>=◌, after, taken, times, fault_of}
 use Rattle.pixel_format.specs.declared.fault.Fault.{Fault}
 use Rattle.raster.specs.declared.rect.Rect.{Rect}
-use Rattle.raster.specs.Encoding.{pixel, Drawing, drawn}
+use Rattle.raster.specs.Encoding.{pixel, Drawing, drawn, tiled}
 use Rattle.raster.specs.Picture.{shown}
 use Rattle.raster.specs.Screen.{values_of}
 use Rattle.raster.specs.Update.{Paint, Put}
 use Rattle.rfb_wire.specs.ServerMessage.{copy_rect}
+use Rattle.hextile_codec.specs.Ahead as hextile
 use Rattle.rre_codec.specs.Ahead as rre
 use Rattle.host_decoder.specs.Updates.{colour_of, in_colours}
-use Rattle.host_decoder.specs.DataParts.{RawProgress, RreProgress}
+use Rattle.host_decoder.specs.DataParts.{RawProgress, RreProgress, HextileProgress}
 use Rattle.host_decoder.specs.declared.body.Body.{Body}
 use Rattle.host_decoder.specs.declared.body.Body.TheVariants as body
 
@@ -71,12 +72,22 @@ pub record RreStands (area : Rect) (p : RreProgress) (reading : Reading Paint) :
   pub stands : rre.Stands p.reader (shown p.canvas) sofar
   pub reads : reading ≡ putting area (rre.ahead p.reader sofar >>= λ drawing. Done (values_of area.w area.h (drawn drawing)))
 
+-- ---- Hextile
+
+pub record HextileStands (area : Rect) (p : HextileProgress) (reading : Reading Paint) : Type 0 where
+  pub sofar : hextile.Sofar
+  pub width : p.reader.width ≡ area.w
+  pub height : p.reader.height ≡ area.h
+  pub stands : hextile.Stands p.reader (shown p.canvas) sofar
+  pub reads : reading ≡ putting area (hextile.ahead p.reader sofar >>= λ tiles. Done (values_of area.w area.h (tiled area.w area.h tiles)))
+
 -- ---- any encoding
 
 abbrev pub BodyStands : ℕ → ℕ → Rect → Body → Reading Paint → Type 0
 BodyStands w h area (body.Raw p) reading = RawStands area p reading
 BodyStands w h area (body.Copy begun) reading = CopyStands w h area begun reading
 BodyStands w h area (body.Rre p) reading = RreStands area p reading
+BodyStands w h area (body.Hextile p) reading = HextileStands area p reading
 
 -- What is kept of the data of a rectangle on a screen of width by height.
 pub record DataProgress : Type 0 where

@@ -1,6 +1,6 @@
 -- How reading a host's message goes on, by what its decoder and its painter hold (RFC 6143, 7.6).
 use Rattle.std.specs.Int.{w16, from_be_bytes}
-use Rattle.std.specs.Prelude.{◌≡◌, ℕ, ◌+◌, ◌<◌, drop, length, slice_index, Bool, true, false, List, [], ◌∷◌, ◌++◌, map, All, Option, Some, None, Result, Ok, Err, ◌⊎◌}
+use Rattle.std.specs.Prelude.{◌≡◌, ℕ, ◌+◌, ◌<◌, drop, length, slice_index, Bool, true, false, List, [], ◌∷◌, ◌++◌, map, All, None, Result, Ok, Err, ◌⊎◌}
 use Rattle.pixel_format.specs.PixelFormat.{host_format}
 use Rattle.pixel_format.specs.declared.fault.Fault.{Fault}
 use Rattle.pixel_format.specs.declared.fault.Fault.TheVariants.{UnknownMessage, RectOutside, UnknownEncoding, Memory}
@@ -12,7 +12,7 @@ use Rattle.raster.specs.Size.{IsScreenSize}
 use Rattle.raster.specs.Update.{Paint, Update, after_updates}
 use Rattle.painter.specs.Painter.{Painting, shows}
 use Rattle.rfb_wire.specs.ClientMessage.{text}
-use Rattle.rfb_wire.specs.ServerMessage.{ServerMessage, FramebufferUpdate, SetColorMapEntries, ServerCutText, LostText, rectangle, data_of, framebuffer_update, set_color_map_entries, server_message}
+use Rattle.rfb_wire.specs.ServerMessage.{ServerMessage, FramebufferUpdate, ServerCutText, LostText, rectangle, data_of, framebuffer_update, set_color_map_entries, server_message}
 use Rattle.host_decoder.specs.Updates.{in_colours}
 use Rattle.host_decoder.specs.Events.{event_of, brought_by}
 use Rattle.host_decoder.specs.Data.{DataProgress, DataStands}

@@ -1,6 +1,6 @@
 //! One step of a decoder.
 
-ghost use Rattle.std.specs.Prelude.{◌≡◌, ℕ, ◌<◌, ◌≤◌, true, length, Ok, MatchResult, Option, Some, None};
+ghost use Rattle.std.specs.Prelude.{◌≡◌, ℕ, ◌<◌, ◌≤◌, true, length, IfOk};
 ghost use Rattle.pixel_format.specs.Reading.{Reading, fault_of};
 ghost use Rattle.raster.specs.Size.{IsScreenSize};
 ghost use Rattle.painter.specs.Painter.{Painting};
@@ -76,6 +76,7 @@ pub(crate) fn advance(
 pub(crate) fn judge(state: State, used: usize) -> (State, Result<usize, Fault>)
     ensures suits { (w h : ℕ) → Suits w h state → Suits w h result.0 }
     ensures judges { Judges state result.0 used result.1 }
+    ensures ok { IfOk result.1 (λ count. count ≡ used) }
 {
     match state {
         State::Spoiled(mut reader) => match reader.feed(&[]) {

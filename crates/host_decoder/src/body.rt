@@ -1,6 +1,7 @@
 //! What is kept of a rectangle's data, by its encoding.
 
 use crate::copy_source::CopySource;
+use crate::hextile_data::HextileData;
 use crate::raw_data::RawPixels;
 use crate::rre_data::RreData;
 
@@ -13,4 +14,6 @@ pub(crate) enum Body {
     Copy(CopySource),
     /// A background and subrectangles.
     Rre(RreData),
+    /// Tiles.
+    Hextile(HextileData),
 }

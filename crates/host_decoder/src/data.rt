@@ -14,6 +14,7 @@ ghost use Rattle.host_decoder.specs.Data.{DataStands, IsSameArea, FedAs};
 
 use crate::body::Body;
 use crate::copy_source::CopySource;
+use crate::hextile_data::HextileData;
 use crate::raw_data::RawPixels;
 use crate::rre_data::RreData;
 use pixel_format::Fault;
@@ -65,7 +66,7 @@ impl Data {
             0 => Body::Raw(RawPixels::new(alloc, (area.w * area.h) as usize)?),
             1 => Body::Copy(CopySource::new()),
             2 => Body::Rre(RreData::new(alloc, area.w, area.h)?),
-            5 => return Err(Fault::Memory),
+            5 => Body::Hextile(HextileData::new(alloc, area.w, area.h)?),
             _ => return Err(Fault::UnknownEncoding),
         };
         Ok(Data {
@@ -88,6 +89,7 @@ impl Data {
             Body::Raw(raw) => raw.feed(piece),
             Body::Copy(source) => source.feed(self.width, self.height, &self.area, piece),
             Body::Rre(rre) => rre.feed(piece),
+            Body::Hextile(hextile) => hextile.feed(piece),
         }
     }
 
@@ -99,6 +101,7 @@ impl Data {
             Body::Raw(raw) => raw.is_whole(),
             Body::Copy(source) => source.is_whole(self.width, self.height, &self.area),
             Body::Rre(rre) => rre.is_whole(),
+            Body::Hextile(hextile) => hextile.is_whole(),
         }
     }
 
@@ -116,6 +119,7 @@ impl Data {
                 Paint::Copy(area, source.x, source.y)
             }
             Body::Rre(rre) => Paint::Put(area, rre.into_colours()),
+            Body::Hextile(hextile) => Paint::Put(area, hextile.into_colours()),
         }
     }
 }

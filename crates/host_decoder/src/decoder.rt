@@ -1,6 +1,6 @@
 //! Reading what a host sends, in whatever pieces it comes.
 
-ghost use Rattle.std.specs.Prelude.{◌≡◌, ℕ, true, [], Ok, Err, None, Some, Result, IfNone, IfSome, option_map};
+ghost use Rattle.std.specs.Prelude.{◌≡◌, ℕ, true, [], Ok, Err, None, Some, Result, IfNone, IfOk, IfSome, ◌≤◌, length, option_map};
 ghost use Rattle.pixel_format.specs.declared.fault.Fault.{Fault};
 ghost use Rattle.pixel_format.specs.declared.fault.Fault.TheVariants.{Memory};
 ghost use Rattle.pixel_format.specs.Reading.{Reading, Faulty, renewed, whole_of};
@@ -72,6 +72,7 @@ impl HostDecoder {
     pub fn feed(&mut self, painter: &mut Painter, piece: &[u8]) -> Result<usize, Fault>
         requires { IsFor self.old painter.old }
         ensures size { (self.new.width ≡ self.old.width) × (self.new.height ≡ self.old.height) × IsFor self.new painter.new }
+        ensures within { IfOk result (λ used. used ≤ length piece.now) }
         ensures feeds { (r : Reading ServerMessage) → Decodes self.old painter.old r → Feeds self.new painter.new r piece.now result }
         ensures repaints { (r : Reading ServerMessage) → Decodes self.old painter.old r → Repaints painter.old painter.new (waiting self.old.state) (waiting self.new.state) }
         ensures refused { is_refused self.old.state ≡ true → (result ≡ Err Memory) × (self.new ≡ self.old) × (painter.new ≡ painter.old) }
@@ -95,6 +96,7 @@ impl HostDecoder {
         ensures size { (self.new.width ≡ self.old.width) × (self.new.height ≡ self.old.height) }
         ensures given { (painter : Painting) → (r : Reading ServerMessage) → Decodes self.old painter r
             → (result ≡ option_map (event_of self.old.width self.old.height) (whole_of r)) × Decodes self.new painter (renewed (host_message self.old.width self.old.height) r) }
+        ensures refused { is_refused self.old.state ≡ true → result ≡ None }
         ensures none { IfNone result (self.new ≡ self.old) }
         ensures some { IfSome result (λ event. (waiting self.old.state ≡ brought_by event) × (self.new.state ≡ start)) }
     {

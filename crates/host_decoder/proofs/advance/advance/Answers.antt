@@ -1,4 +1,4 @@
-use Rattle.std.proofs.Common.{◌∙◌, refl, sym, arith}
+use Rattle.std.proofs.Common.{refl}
 use Rattle.host_decoder.proofs.Steps.{text_uses, past_uses}
 use Rattle.host_decoder.proofs.advance.advance.Goals as goal
 

@@ -1,5 +1,4 @@
-use Rattle.std.proofs.Common.{◌∙◌, sym, subst}
-use Rattle.raster.specs.Painted.{Fits, paint_of}
+use Rattle.raster.specs.Painted.{paint_of}
 use Rattle.host_decoder.proofs.RectangleData.{paint_added}
 use Rattle.host_decoder.proofs.update_data.add_paint.Goals as goal
 

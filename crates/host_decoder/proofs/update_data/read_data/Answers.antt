@@ -1,5 +1,5 @@
-use Rattle.std.proofs.Common.{◌≡◌, ◌∙◌, sym, ap, subst, arith}
-use Rattle.pixel_format.specs.Reading.{Reading, Done, after}
+use Rattle.std.proofs.Common.{◌∙◌, sym, subst, arith}
+use Rattle.pixel_format.specs.Reading.{Reading, after}
 use Rattle.pixel_format.proofs.ReadingLaws.{taken-le, taken-some}
 use Rattle.raster.specs.Update.{Paint}
 use Rattle.host_decoder.specs.Data.{DataStands}

@@ -1,7 +1,5 @@
-use Rattle.std.proofs.Common.{◌≡◌, ◌∙◌, ℕ, true, false, ◌≤◌, ◌⊎◌, length, inl, inr, refl, sym, ap, subst, arith}
+use Rattle.std.proofs.Common.{◌≡◌, ◌∙◌, true, false, inl, inr, refl, sym, ap, arith}
 use Rattle.pixel_format.specs.Reading.{Faulty}
-use Rattle.painter.specs.Painter.{Painting}
-use Rattle.host_decoder.specs.declared.state.State.{State}
 use Rattle.host_decoder.specs.Decoder.{Stands, is_open, is_refused}
 use Rattle.host_decoder.proofs.FeedSteps.{IsOver, fed_more, fed_answer, judged_waits, refused_closed, judged_refused, faulty_closed, judged_faulty}
 use Rattle.host_decoder.proofs.decoder.HostDecoder.feed.Goals as goal

@@ -1,6 +1,4 @@
-use Rattle.std.proofs.Common.{refl, ap, ◌∙◌}
-use Rattle.host_decoder.specs.declared.state.State.{State}
-use Rattle.host_decoder.specs.Decoder.{Decoding}
+use Rattle.std.proofs.Common.{refl}
 use Rattle.host_decoder.proofs.Standing.{nothing_given}
 use Rattle.host_decoder.proofs.decoder.HostDecoder.whole.Goals as goal
 
@@ -13,6 +11,7 @@ returns-in_default c =
     (record {
       size = (refl, refl);
       given = λ painter r stands. nothing_given w h c.self.inside.state painter.paints r other stands;
+      refused = λ e. refl;
       none = refl;
       some = tt;
     })

@@ -1,0 +1,62 @@
+-- A reader that takes a piece step by step.
+use Rattle.std.proofs.Common.{◌≡◌, ℕ, ◌+◌, ◌-◌, ◌≤◌, false, List, [], ◌∷◌, ◌++◌, length, take, drop, Result, None, Some, refl, sym, ap, ◌∙◌, arith}
+use Rattle.std.specs.Prelude.{MatchResult}
+use Rattle.std.proofs.lemmas.List.{take-append-drop, length-take, length-drop}
+use Rattle.pixel_format.specs.declared.fault.Fault.{Fault}
+use Rattle.pixel_format.specs.Reading.{Reading, after, taken, wants_more, fault_of}
+use Rattle.pixel_format.proofs.ReadingLaws.{after-append, after-stays, taken-stays, taken-nil, feeds_ok}
+use Rattle.raster.specs.Screen.{Canvas}
+use Rattle.raster.specs.Encoding.{Tile}
+use Rattle.hextile_codec.specs.Ahead.{Progress, Sofar, ahead, Stands, Steps, Draws, IsSameSize}
+use Rattle.hextile_codec.proofs.Goes.{taken-append}
+
+pub same_size : (old mid new : Progress) → IsSameSize old mid → IsSameSize mid new → IsSameSize old new
+same_size old mid new a b = record { format = b.format ∙ a.format; width = b.width ∙ a.width; height = b.height ∙ a.height }
+
+-- Of a piece there is left what has not been taken, and the rest of it was drawn.
+pub record HasDrawn (start now : Progress) (canvas : Canvas) (piece left : List ℕ) (sofar : Sofar) : Type 0 where
+  pub drawing : Sofar
+  pub goes_on : after (ahead start sofar) piece ≡ after (ahead now drawing) left
+  pub count : taken (ahead start sofar) piece + length left ≡ length piece + taken (ahead now drawing) left
+  pub stands : Stands now canvas drawing
+
+pub drawn_none : (start : Progress) (canvas : Canvas) (piece : List ℕ) (sofar : Sofar) → Stands start canvas sofar → HasDrawn start start canvas piece piece sofar
+drawn_none start canvas piece sofar stands = record { drawing = sofar; goes_on = refl; count = omega arith; stands = stands }
+
+-- A step further.
+pub drawn_more : (start now next : Progress) (canvas after_it : Canvas) (piece left : List ℕ) (n : ℕ) (sofar : Sofar) → n ≤ length left → HasDrawn start now canvas piece left sofar
+    → ((d : Sofar) → Stands now canvas d → Steps now next after_it (take n left) d) → HasDrawn start next after_it piece (drop n left) sofar
+drawn_more start now next canvas after_it piece left n sofar le h step =
+    let s = step h.drawing h.stands in
+    let xs : List ℕ = take n left in
+    let ys : List ℕ = drop n left in
+    let split : left ≡ xs ++ ys = sym (take-append-drop n left) in
+    let r : Reading (List Tile) = ahead now h.drawing in
+    let here : after r left ≡ after (ahead next s.drawing) ys = ap (after r) split ∙ (after-append r xs ys ∙ ap (λ (t : Reading (List Tile)). after t ys) s.goes.leads) in
+    let more : taken r left ≡ length xs + taken (ahead next s.drawing) ys = ap (taken r) split ∙ (taken-append r xs ys s.goes.all ∙ ap (λ (t : Reading (List Tile)). length xs + taken t ys) s.goes.leads) in
+    record {
+      drawing = s.drawing;
+      goes_on = h.goes_on ∙ here;
+      count = omega (arith, h.count, more, length-take n left, length-drop n left);
+      stands = s.stands;
+    }
+
+-- It stops where nothing is left, or no byte is wanted.
+pub drawn_stops : (start now : Progress) (canvas : Canvas) (piece left : List ℕ) (answer : Result ℕ Fault) (sofar : Sofar) → HasDrawn start now canvas piece left sofar
+    → ((d : Sofar) → (after (ahead now d) left ≡ ahead now d) × (taken (ahead now d) left ≡ 0))
+    → ((d : Sofar) → MatchResult answer (λ n. (n ≡ length piece - length left) × (fault_of (ahead now d) ≡ None)) (λ fault. fault_of (ahead now d) ≡ Some fault))
+    → Draws start now canvas piece answer sofar
+drawn_stops start now canvas piece left answer sofar h none e =
+    let stays = none h.drawing in
+    record {
+      drawing = h.drawing;
+      feeds = feeds_ok (ahead start sofar) (ahead now h.drawing) piece (length piece - length left) answer (sym (h.goes_on ∙ stays.0), omega (arith, h.count, stays.1)) (e h.drawing);
+      stands = h.stands;
+    }
+
+pub none_left : {A : Type 0} (r : Reading A) (left : List ℕ) → length left ≡ 0 → (after r left ≡ r) × (taken r left ≡ 0)
+none_left r [] e = (refl, taken-nil r)
+none_left r (b ∷ bs) e = absurd (omega (arith, e))
+
+pub none_wanted : {A : Type 0} (r : Reading A) (left : List ℕ) → wants_more r ≡ false → (after r left ≡ r) × (taken r left ≡ 0)
+none_wanted r left e = (after-stays r left e, taken-stays r left e)

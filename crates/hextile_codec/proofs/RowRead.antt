@@ -1,0 +1,64 @@
+-- A part of a row of a Raw tile is read and drawn.
+use Rattle.std.proofs.Common.{◌≡◌, ℕ, ◌+◌, ◌-◌, ◌*◌, ◌/◌, ◌%◌, ◌<◌, ◌≤◌, Bool, true, false, cond, List, ◌++◌, length, length-append, sym, ◌∙◌, arith}
+use Rattle.std.specs.Prelude.{◌==◌}
+use Rattle.std.specs.Int.{w8, w16, w32, byte_len}
+use Rattle.std.proofs.Math.Nat.{div-add-mod, div-lt_iff_lt-mul, mod-lt, mul-le-mul_right}
+use Rattle.pixel_format.specs.PixelFormat.{PixelFormat, pixel_len}
+use Rattle.raster.specs.declared.rect.Rect.{Rect}
+use Rattle.raster.specs.Screen.{Canvas, LooksLike, lay, value_at}
+use Rattle.raster.specs.Encoding.{Carried}
+use Rattle.hextile_codec.specs.declared.stage.Stage.TheVariants.{RawPixels}
+use Rattle.hextile_codec.specs.Ahead.{Part, IsTile, IsDrawn, Led, pixels_in}
+use Rattle.hextile_codec.proofs.PixelsIn.{pixels_go, pixels_count}
+use Rattle.hextile_codec.proofs.TileDrawn.{row_grows}
+
+some_bytes : (eight sixteen : Bool) → 0 < byte_len (cond eight w8 (cond sixteen w16 w32))
+some_bytes true sixteen = omega arith
+some_bytes false true = omega arith
+some_bytes false false = omega arith
+
+-- A pixel has bytes.
+pub pixel_some : (format : PixelFormat) → 0 < pixel_len format
+pixel_some format = some_bytes (format.bits_per_pixel == 8) (format.bits_per_pixel == 16)
+
+-- Where the next pixel stands.
+pub record IsNext (w h count : ℕ) : Type 0 where
+  pub row : count / w < h
+  pub column : count % w < w
+  pub is : count / w * w + count % w ≡ count
+
+pub next_is : (w h count : ℕ) → 0 < w → count < w * h → IsNext w h count
+next_is w h count some lt =
+    let turned : count < h * w = omega arith in
+    record {
+      row = (div-lt_iff_lt-mul some).1 turned;
+      column = mod-lt count some;
+      is = let e = div-add-mod count w in omega (arith, e);
+    }
+
+pub still_inside : (w h count n : ℕ) → 0 < w → count < w * h → n ≤ w - count % w → count + n ≤ w * h
+still_inside w h count n some lt le =
+    let i = next_is w h count some lt in
+    let p : (count / w + 1) * w ≤ h * w = mul-le-mul_right {m = count / w + 1} {n = h} w (omega (arith, i.row)) in
+    omega (arith, i.is, i.column, p)
+
+pub row_leads : (format : PixelFormat) (area : Rect) (carried : Carried) (w h count n : ℕ) (part : Part) (old new : Canvas) (bs : List ℕ) → IsTile area w h → count < area.w * area.h → n ≤ area.w - count % area.w → length bs ≡ n * pixel_len format
+    → LooksLike w h new (lay (record { x = area.x + count % area.w; y = area.y + count / area.w; w = n; h = 1 }) (value_at n (pixels_in format n bs)) old)
+    → IsDrawn area (RawPixels count) old part
+    → Led format area carried carried (RawPixels count) (RawPixels (count + n)) bs new part
+row_leads format area carried w h count n part old new bs tile lt le size shows before =
+    let row : ℕ = count / area.w in
+    let column : ℕ = count % area.w in
+    let i = next_is area.w area.h count tile.wide.0 lt in
+    let more : List ℕ = pixels_in format n bs in
+    let len : length more ≡ n = pixels_count format n bs in
+    record {
+      grown = record { pixels = part.pixels ++ more; drawing = part.drawing };
+      goes = pixels_go format carried area.w area.h count n part bs (still_inside area.w area.h count n tile.wide.0 lt le) size;
+      shows = (
+        omega (arith, length-append part.pixels more, len, before.0),
+        λ x y lx ly inside.
+            row_grows area w h row column n part.pixels more old new tile (omega (arith, i.column, le)) i.row (before.0 ∙ sym i.is) len shows
+            (λ u v lu lv k. before.1 u v lu lv (omega (arith, i.is, k))) x y lx ly (omega (arith, i.is, inside)),
+      );
+    }

@@ -1,0 +1,30 @@
+use Rattle.std.proofs.Common.{◌≡◌, ◌∙◌, length, sym, arith}
+use Rattle.std.proofs.lemmas.Bool.{eqb-true}
+use Rattle.pixel_format.specs.Reading.{after, taken}
+use Rattle.hextile_codec.specs.Ahead.{Sofar, ahead}
+use Rattle.hextile_codec.proofs.Fed.{same_size, drawn_more, drawn_stops, none_left, none_wanted}
+use Rattle.hextile_codec.proofs.Standing.{closed_there}
+use Rattle.hextile_codec.proofs.reading.Reader.feed.Goals as goal
+use Rattle.hextile_codec.proofs.reading.Reader.feed.Goals.{then-loop-self-test+else-wants_more, else-loop-self-test}
+
+pub loop-self-preserved : goal.loop-self-preserved
+loop-self-preserved g c =
+    let i = c.loop-self.invariant in
+    record {
+      within = omega (arith, c.split_at.ensures.back_len, i.within);
+      size = same_size c.args.self.now c.loop-self.self c.step-used.new.self i.size c.step-used.ensures.size;
+      width = c.step-used.ensures.width ∙ i.size.width;
+      height = c.step-used.ensures.height ∙ i.size.height;
+      drawn = λ sofar stands. rw c.split_at.ensures.back
+          (drawn_more c.args.self.now c.loop-self.self c.step-used.new.self (g.C.Canvas.shows c.loop-self.canvas) (g.C.Canvas.shows c.step-used.new.canvas) c.args.piece.now c.loop-self.left.now c.step-used.result sofar c.step-used.ensures.within (i.drawn sofar stands) c.step-used.ensures.drawn);
+    }
+
+pub returns-clause-drawn : goal.returns-clause-drawn
+returns-clause-drawn g c sofar stands =
+    let now = c.loop-self.self in
+    let over : (d : Sofar) → (after (ahead now d) c.loop-self.left.now ≡ ahead now d) × (taken (ahead now d) c.loop-self.left.now ≡ 0) =
+    elim c.loop-self-test.branch [
+      | then-loop-self-test+else-wants_more w ↦ λ d. none_wanted (ahead now d) c.loop-self.left.now (closed_there now.format now.width now.height now.tile now.stage now.carried d now.begun (sym w.wants_more.ensures ∙ w.if-wants_more.false))
+      | else-loop-self-test w ↦ λ d. none_left (ahead now d) c.loop-self.left.now (eqb-true (length c.loop-self.left.now) 0 (sym c.is_empty.ensures ∙ w.loop-self-test.false))
+    ] in
+    drawn_stops c.args.self.now now (g.C.Canvas.shows c.loop-self.canvas) c.args.piece.now c.loop-self.left.now c.answer.result sofar (c.loop-self.invariant.drawn sofar stands) over c.answer.ensures

@@ -1,0 +1,17 @@
+use Rattle.std.proofs.Common.{◌≡◌, ◌≤◌, length}
+use Rattle.hextile_codec.specs.Ahead.{Sofar, Stands, IsSameSize}
+use Rattle.hextile_codec.proofs.Fed.{HasDrawn}
+use Rattle.hextile_codec.proofs.reading.Reader.feed.Given as goal
+
+abbrev pub invariant-loop-self : goal.invariant-loop-self
+invariant-loop-self g l =
+    record {
+      within : length l.left ≤ length l.piece;
+      size : IsSameSize l.fn.self l.self;
+      width : g.C.Canvas.width l.canvas ≡ l.fn.self.width;
+      height : g.C.Canvas.height l.canvas ≡ l.fn.self.height;
+      drawn : (sofar : Sofar) → Stands l.fn.self (g.C.Canvas.shows l.fn.canvas) sofar → HasDrawn l.fn.self l.self (g.C.Canvas.shows l.canvas) l.piece l.left sofar;
+    }
+
+abbrev pub decreases-loop-self : goal.decreases-loop-self
+decreases-loop-self g l = length l.left
