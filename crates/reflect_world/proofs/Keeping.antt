@@ -1,12 +1,14 @@
 -- A world and its schedule.
-use Rattle.std.proofs.Common.{◌≡◌, ℕ, ◌+◌, ◌<◌, ◌≤◌, List, [], ◌∷◌, ◌++◌, length, take, Some, refl, ap, sym, ◌∙◌, subst, arith, append_assoc, inl, inr}
+use Rattle.std.proofs.Common.{◌≡◌, ℕ, ◌+◌, ◌<◌, ◌≤◌, List, [], ◌∷◌, ◌++◌, length, take, Some, refl, ap, sym, ◌∙◌, subst, arith, append_assoc, inl, inr, Bool, length-append, Option}
 use Rattle.std.specs.Prelude.{map, slice_get, slice_index_or}
+use Rattle.std.specs.Option.{option_to_list}
+use Rattle.std.proofs.Math.Seq.{take-append_seam}
 use Rattle.std.proofs.lemmas.List.{get_or-map, length-map, map-append, take_more}
 use Rattle.std.proofs.lemmas.Option.{slice_get-get_or}
 use Rattle.pixel_format.specs.declared.fault.Fault.{Fault}
 use Rattle.viewer_session.specs.Session.{IsOneTile}
 use Rattle.reflect_world.specs.Schedule.{Step}
-use Rattle.reflect_world.specs.World.{IsFaithful, IsKept, IsReachable, JoinsUnder, Kept, Reached, Standing, StopsAt, entry_of, setup_of, step_of, with_steps, world_of}
+use Rattle.reflect_world.specs.World.{IsFaithful, IsKept, IsReachable, JoinsUnder, Kept, Reached, Standing, StopsAt, entry_of, setup_of, step_of, with_steps, world_of, StaysFor, TakesStep}
 use Rattle.reflect_world.specs.declared.step.Entry.{Entry}
 use Rattle.reflect_world.specs.declared.step.Step as declared
 use Rattle.reflect_world.proofs.FirstForms.{host_short, viewer_accepted}
@@ -24,6 +26,23 @@ pub kept_pushed : (k : Kept) (entries more : List Entry) (entry : Entry) (old ne
 kept_pushed k entries more entry old new kept pushed takes =
     let steps : map entry_of more ≡ map entry_of entries ++ entry_of entry ∷ [] = ap (map entry_of) pushed ∙ map-append entry_of entries (entry ∷ []) in
     subst (λ (es : List Step). IsKept (record k { steps = es }) new) (sym steps) (kept_more (record k { steps = map entry_of entries }) old new (entry_of entry) kept takes)
+
+-- What is left when the last was taken off again.
+last_off : (entries left : List Entry) (entry taken_off : Entry) → entries ++ entry ∷ [] ≡ left ++ taken_off ∷ [] → left ≡ entries
+last_off entries left entry taken_off same =
+    let count : length left ≡ length entries = omega (arith, ap length same, length-append entries (entry ∷ []), length-append left (taken_off ∷ [])) in
+    sym (take-append_seam left (taken_off ∷ []))
+    ∙ (ap (take (length left)) (sym same) ∙ (ap (λ n. take n (entries ++ entry ∷ [])) count ∙ take-append_seam entries (entry ∷ [])))
+
+pub pushed_and_popped : (entries more left : List Entry) (entry taken_off : Entry) (popped : Option Entry) → more ≡ entries ++ entry ∷ [] → more ≡ left ++ option_to_list popped → popped ≡ Some taken_off → left ≡ entries
+pushed_and_popped entries more left entry taken_off popped pushed was is = last_off entries left entry taken_off (sym pushed ∙ (was ∙ ap (λ o. left ++ option_to_list o) is))
+
+-- A step wasn't taken, and the entries are as before.
+pub kept_stays : (k : Kept) (entries left : List Entry) (is_refused : Bool) (old new : Standing) → IsKept (record k { steps = map entry_of entries }) old → left ≡ entries → StaysFor old new
+    → IsKept (record k { steps = map entry_of left; is_refused = is_refused }) new
+kept_stays k entries left is_refused old new kept same stays =
+    let as_before : IsKept (record k { steps = map entry_of entries; is_refused = is_refused }) new = record { reached = stays (setup_of k) (world_of (record k { steps = map entry_of entries })) kept.reached } in
+    subst (λ (es : List Entry). IsKept (record k { steps = map entry_of es; is_refused = is_refused }) new) (sym same) as_before
 
 pub kept_is_reachable : (k : Kept) (standing : Standing) → IsKept k standing → IsReachable standing
 kept_is_reachable k standing kept = (setup_of k, world_of k, kept.reached)

@@ -1,17 +1,14 @@
 -- What stands in a world's fields after one step more.
-use Rattle.std.proofs.Common.{◌≡◌, ℕ, ◌<◌, ◌≤◌, Bool, true, false, cond, List, [], ◌∷◌, ◌++◌, length, take, drop, Option, Some, None, Ok, Err, inl, inr, refl, ap, sym, ◌∙◌, subst, arith}
+use Rattle.std.proofs.Common.{◌≡◌, ℕ, ◌<◌, Bool, true, false, cond, List, [], ◌∷◌, ◌++◌, length, take, Option, Some, None, Ok, Err, inl, inr, refl, ap, sym, ◌∙◌, subst, arith}
 use Rattle.std.specs.Prelude.{is_some, slice_get, slice_index_or, slice_set, min, ◌==◌, if◌then◌else◌}
 use Rattle.std.proofs.lemmas.Bool.{eqb-true}
 use Rattle.std.proofs.lemmas.List.{get_or_default, length-set, set-get_or}
 use Rattle.pixel_format.specs.declared.fault.Fault.{Fault}
-use Rattle.pixel_format.specs.Reading.{Reading, Done, Faulty, Want, after, taken, fault_of, rest, whole_of, wants_more}
+use Rattle.pixel_format.specs.Reading.{fault_of, rest}
 use Rattle.raster.specs.Update.{Update, view}
-use Rattle.rfb_wire.specs.ServerMessage.{ServerMessage}
 use Rattle.roles.specs.declared.role.Role.{Role}
 use Rattle.pixel_format.specs.declared.fault.Fault.TheVariants.{Memory}
-use Rattle.pixel_format.proofs.ReadingLaws.{taken-le}
-use Rattle.host_decoder.specs.FirstPath.{Finds, MeansPatch, host_form}
-use Rattle.host_decoder.specs.Updates.{update_of, updates_by}
+use Rattle.host_decoder.specs.Updates.{updates_by}
 use Rattle.reflect_core.specs.Plain.{IsPutRefusal, Plain}
 use Rattle.viewer_session.specs.FirstPath.{first_path}
 use Rattle.viewer_session.specs.Extent.{Extent}
@@ -19,10 +16,12 @@ use Rattle.viewer_session.specs.Turn.{has_reason}
 use Rattle.viewer_session.specs.Viewer.{Setup, Viewer, may_look, after_cut, after_bytes, new_viewer}
 use Rattle.viewer_session.specs.Session.{IsOneTile, State, Stands, after_look, without_look, after_writing, is_ready}
 use Rattle.reflect_core.specs.Sequential as history
+use Rattle.reflect_world.specs.Host.{HasReadTo, HostSide, HostStands, IsReadOut, IsSameHost, ReadsOn, form_of, host_form}
 use Rattle.reflect_world.specs.Schedule.{set_viewer, World, Step, HostBytes, Put, Raise, Join, Bytes, Look, Cut, Written, beginning, happens, play, play_from, put_next, for_viewer, cut_at}
-use Rattle.reflect_world.specs.World.{Held, Standing, PlaceStands, PlaceIs, Reached, place_at, IsFed, HasLooked, IsWritten, GoesOn, IsPut, IsRefusal, JoinsUnder, TakesStep}
+use Rattle.reflect_world.specs.World.{Held, Standing, PlaceStands, PlaceIs, Reached, place_at, IsFed, HasLooked, IsWritten, GoesOn, IsPut, IsRefusal, JoinsUnder, TakesStep, IsUnread, StaysFor}
 use Rattle.painter.specs.Patch.{SizedUpdate}
-use Rattle.reflect_world.proofs.Hosts.{host_begins, host_grows, host_open, host_whole}
+use Rattle.reflect_world.proofs.HostReading.{no_next}
+use Rattle.reflect_world.proofs.Hosts.{next_of}
 use Rattle.reflect_world.proofs.Places.{places_set, place_is_none, place_is_some, place_fed, place_looked, place_written, place_stays, place_cut}
 
 -- ---- the schedule grows
@@ -37,8 +36,9 @@ play-more s es e = play_from-more s beginning es e
 -- ---- the host and the screen
 
 pub reached_begins : (s : Setup) (standing : Standing) → IsOneTile s.w s.h → s.extent ≡ first_path host_form → standing.screen ≡ record { width = s.w; height = s.h; updates = []; tally = 0 }
-    → standing.unread ≡ [] → standing.host_fault ≡ None → length standing.places ≡ 65 → ((v : ℕ) → place_at standing.places v ≡ None) → Reached s standing beginning
-reached_begins s standing tile extent screen unread fault room free =
+    → standing.host.decoder.width ≡ s.w → standing.host.decoder.height ≡ s.h → HostStands [] [] standing.host
+    → standing.host_fault ≡ None → length standing.places ≡ 65 → ((v : ℕ) → place_at standing.places v ≡ None) → Reached s standing beginning
+reached_begins s standing tile extent screen width height host fault room free =
     record {
       tile = tile;
       extent = extent;
@@ -46,14 +46,22 @@ reached_begins s standing tile extent screen unread fault room free =
       height = ap (λ (p : Plain). p.height) screen;
       updates = ap (λ (p : Plain). p.updates) screen;
       tally = ap (λ (p : Plain). p.tally) screen;
-      host = rw unread (host_begins (host_form s.w s.h));
+      host_width = width;
+      host_height = height;
+      host = host;
       fault = fault;
       room = room;
       places = λ v. rw (free v) tt;
     }
 
-pub reached_host_bytes : (s : Setup) (standing : Standing) (w : World) (b : List ℕ) → Reached s standing w → Reached s (record standing { unread = standing.unread ++ b }) (happens s w (HostBytes b))
-reached_host_bytes s standing w b r =
+-- The host goes on, and the rest stays.
+abbrev pub with_host : Standing → HostSide → Standing
+with_host standing host = record standing { host = host }
+
+-- Its bytes and the updates put are these from now on.
+reached_with_host : (s : Setup) (standing : Standing) (w : World) (bytes : List ℕ) (host : HostSide) → Reached s standing w → IsSameHost standing.host host → HostStands bytes w.shared.updates host
+    → Reached s (with_host standing host) (record w { host_bytes = bytes })
+reached_with_host s standing w bytes host r same stands =
     record {
       tile = r.tile;
       extent = r.extent;
@@ -61,11 +69,17 @@ reached_host_bytes s standing w b r =
       height = r.height;
       updates = r.updates;
       tally = r.tally;
-      host = host_grows (host_form s.w s.h) w.host_bytes standing.unread b w.shared.updates r.host;
+      host_width = same.width ∙ r.host_width;
+      host_height = same.height ∙ r.host_height;
+      host = stands;
       fault = r.fault;
       room = r.room;
       places = r.places;
     }
+
+pub host_bytes_reach : (standing : Standing) (bytes : List ℕ) (host : HostSide) → IsSameHost standing.host host
+    → ((all : List ℕ) (us : List Update) → HostStands all us standing.host → HostStands (all ++ bytes) us host) → TakesStep (HostBytes bytes) standing (with_host standing host)
+host_bytes_reach standing bytes host same grows s w r = reached_with_host s standing w (w.host_bytes ++ bytes) host r same (grows w.host_bytes w.shared.updates r.host)
 
 pub reached_raise : (s : Setup) (standing : Standing) (w : World) (screen : Plain) → Reached s standing w → screen ≡ record standing.screen { tally = length standing.screen.updates }
     → Reached s (record standing { screen = screen }) (happens s w Raise)
@@ -77,6 +91,8 @@ reached_raise s standing w screen r is =
       height = ap (λ (p : Plain). p.height) is ∙ r.height;
       updates = ap (λ (p : Plain). p.updates) is ∙ r.updates;
       tally = ap (λ (p : Plain). p.tally) is ∙ ap length r.updates;
+      host_width = r.host_width;
+      host_height = r.host_height;
       host = r.host;
       fault = r.fault;
       room = r.room;
@@ -84,20 +100,20 @@ reached_raise s standing w screen r is =
     }
 
 -- The host's form that the schedule reads by.
-form_is : (s : Setup) → s.extent ≡ first_path host_form → s.extent.from_host s.w s.h ≡ host_form s.w s.h
-form_is s e = ap (λ (x : Extent). x.from_host s.w s.h) e
+form_is : (s : Setup) (standing : Standing) (w : World) (host : HostSide) → Reached s standing w → IsSameHost standing.host host → s.extent.from_host s.w s.h ≡ form_of host
+form_is s standing w host r same =
+    ap (λ (x : Extent). x.from_host s.w s.h) r.extent
+    ∙ (ap (λ n. host_form n s.h) (sym (same.width ∙ r.host_width)) ∙ ap (host_form host.decoder.width) (sym (same.height ∙ r.host_height)))
 
--- A whole message of the host is put.
-pub reached_put : (s : Setup) (standing : Standing) (w : World) (screen : Plain) (m : ServerMessage) (u : Update) (unread : List ℕ) → wants_more (host_form s.w s.h) ≡ true → Reached s standing w
-    → after (host_form s.w s.h) standing.unread ≡ Done m → update_of m ≡ Some u
+-- An update of the host was read and put.
+reached_put : (s : Setup) (standing : Standing) (w : World) (host : HostSide) (screen : Plain) (u : Update) → Reached s standing w → IsSameHost standing.host host → host.waiting ≡ None
+    → HasReadTo w.host_bytes (w.shared.updates ++ u ∷ []) host
     → screen.width ≡ standing.screen.width → screen.height ≡ standing.screen.height → screen.updates ≡ standing.screen.updates ++ u ∷ [] → screen.tally ≡ standing.screen.tally
-    → unread ≡ drop (taken (host_form s.w s.h) standing.unread) standing.unread
-    → Reached s (record standing { screen = screen; unread = unread }) (happens s w Put)
-reached_put s standing w screen m u unread wants r whole gives width height updates tally left =
-    let next = host_whole (host_form s.w s.h) w.host_bytes standing.unread w.shared.updates m u wants r.host whole gives in
+    → Reached s (record standing { host = host; screen = screen }) (happens s w Put)
+reached_put s standing w host screen u r same none reads width height updates tally =
     let there : slice_get (updates_by (s.extent.from_host s.w s.h) w.host_bytes) (length w.shared.updates) ≡ Some u =
-    ap (λ form. slice_get (updates_by form w.host_bytes) (length w.shared.updates)) (form_is s r.extent) ∙ next.0 in
-    subst (λ o. Reached s (record standing { screen = screen; unread = unread }) (put_next s w o)) (sym there)
+    ap (λ form. slice_get (updates_by form w.host_bytes) (length w.shared.updates)) (form_is s standing w host r same) ∙ next_of w.host_bytes w.shared.updates host u none reads in
+    subst (λ o. Reached s (record standing { host = host; screen = screen }) (put_next s w o)) (sym there)
     (record {
       tile = r.tile;
       extent = r.extent;
@@ -105,20 +121,22 @@ reached_put s standing w screen m u unread wants r whole gives width height upda
       height = height ∙ r.height;
       updates = updates ∙ ap (λ us. us ++ u ∷ []) r.updates;
       tally = tally ∙ r.tally;
-      host = rw left next.1;
+      host_width = same.width ∙ r.host_width;
+      host_height = same.height ∙ r.host_height;
+      host = inr reads;
       fault = r.fault;
       room = r.room;
       places = r.places;
     })
 
--- No message is whole.
-pub reached_no_put : (s : Setup) (standing : Standing) (w : World) (fault : Option Fault) → Reached s standing w → whole_of (after (host_form s.w s.h) standing.unread) ≡ None
-    → fault ≡ fault_of (after (host_form s.w s.h) standing.unread) → Reached s (record standing { host_fault = fault }) (happens s w Put)
-reached_no_put s standing w fault r none is =
-    let left = host_open (host_form s.w s.h) w.host_bytes standing.unread w.shared.updates r.host none in
+-- There is none left.
+reached_no_put : (s : Setup) (standing : Standing) (w : World) (host : HostSide) (fault : Option Fault) → Reached s standing w → IsSameHost standing.host host → HostStands w.host_bytes w.shared.updates host
+    → IsReadOut w.host_bytes w.shared.updates (form_of host) fault → Reached s (record standing { host = host; host_fault = fault }) (happens s w Put)
+reached_no_put s standing w host fault r same stands out =
+    let form = form_is s standing w host r same in
     let there : slice_get (updates_by (s.extent.from_host s.w s.h) w.host_bytes) (length w.shared.updates) ≡ None =
-    ap (λ form. slice_get (updates_by form w.host_bytes) (length w.shared.updates)) (form_is s r.extent) ∙ left.0 in
-    subst (λ o. Reached s (record standing { host_fault = fault }) (put_next s w o)) (sym there)
+    ap (λ f. slice_get (updates_by f w.host_bytes) (length w.shared.updates)) form ∙ (ap (λ all. slice_get all (length w.shared.updates)) out.none_left ∙ no_next w.shared.updates) in
+    subst (λ o. Reached s (record standing { host = host; host_fault = fault }) (put_next s w o)) (sym there)
     (record {
       tile = r.tile;
       extent = r.extent;
@@ -126,8 +144,10 @@ reached_no_put s standing w fault r none is =
       height = r.height;
       updates = r.updates;
       tally = r.tally;
-      host = r.host;
-      fault = is ∙ ap fault_of (sym left.1) ∙ ap (λ form. fault_of (rest form w.host_bytes)) (sym (form_is s r.extent));
+      host_width = same.width ∙ r.host_width;
+      host_height = same.height ∙ r.host_height;
+      host = stands;
+      fault = sym out.stands_at ∙ ap (λ f. fault_of (rest f w.host_bytes)) (sym form);
       room = r.room;
       places = r.places;
     })
@@ -141,9 +161,6 @@ with_place standing v place = record standing { places = slice_set standing.plac
 abbrev pub with_screen : Standing → Plain → Standing
 with_screen standing screen = record standing { screen = screen }
 
-abbrev pub with_unread : Standing → List ℕ → Standing
-with_unread standing unread = record standing { unread = unread }
-
 -- One viewer's place changes, over the same host and screen.
 reached_set : (s : Setup) (standing : Standing) (w : World) (steps : List history.Step) (v : ℕ) (place : Held) (p : Viewer) → Reached s standing w → v < 65 → PlaceStands s place p
     → Reached s (with_place standing v place) (set_viewer (record w { steps = steps }) v (Some p))
@@ -155,6 +172,8 @@ reached_set s standing w steps v place p r within good =
       height = r.height;
       updates = r.updates;
       tally = r.tally;
+      host_width = r.host_width;
+      host_height = r.host_height;
       host = r.host;
       fault = r.fault;
       room = length-set standing.places v (Some place) ∙ r.room;
@@ -231,6 +250,8 @@ reached_no_look s standing w v place r there none =
       height = r.height;
       updates = r.updates;
       tally = r.tally;
+      host_width = r.host_width;
+      host_height = r.host_height;
       host = r.host;
       fault = r.fault;
       room = r.room;
@@ -324,70 +345,43 @@ ready_there s standing w v found place r within at e =
     let k = it.2 in
     (k.ready, k.session.width ∙ sym r.width, k.session.height ∙ sym r.height)
 
--- ---- a put, as the reader of updates and the screen say what they do
+-- ---- a put, as the host and the screen say what they do
 
--- The sizes of the screen, as the code reads them.
-pub put_reaches : (standing : Standing) (w h used : ℕ) (m : ServerMessage) (patch : SizedUpdate) (screen : Plain) → w ≡ standing.screen.width → h ≡ standing.screen.height
-    → after (host_form w h) standing.unread ≡ Done m → taken (host_form w h) standing.unread ≡ used → update_of m ≡ Some patch.update
-    → screen.width ≡ standing.screen.width → screen.height ≡ standing.screen.height → screen.updates ≡ standing.screen.updates ++ patch.update ∷ [] → screen.tally ≡ standing.screen.tally
-    → TakesStep Put standing (with_unread (with_screen standing screen) (drop used standing.unread))
-put_reaches standing w h used m patch screen ew eh whole count gives width height updates tally s world r =
-    let form : host_form w h ≡ host_form s.w s.h = ap (λ n. host_form n h) (ew ∙ r.width) ∙ ap (host_form s.w) (eh ∙ r.height) in
-    let whole_there : after (host_form s.w s.h) standing.unread ≡ Done m = ap (λ f. after f standing.unread) (sym form) ∙ whole in
-    let left : drop used standing.unread ≡ drop (taken (host_form s.w s.h) standing.unread) standing.unread =
-    ap (λ n. drop n standing.unread) (sym count ∙ ap (λ f. taken f standing.unread) form) in
-    reached_put s standing world screen m patch.update (drop used standing.unread) refl r whole_there gives width height updates tally left
+pub put_reaches : (old mid new : Standing) (patch : SizedUpdate) → mid ≡ with_host old mid.host → IsSameHost old.host mid.host → mid.host.waiting ≡ None → ReadsOn old.host mid.host (Ok (Some patch))
+    → IsPut mid new patch.update → TakesStep Put old new
+put_reaches old mid new patch is same none reads put s w r =
+    let with_screen_of : Standing → Standing = λ standing. record standing { screen = new.screen } in
+    let before : (standing : Standing) → Plain = λ standing. standing.screen in
+    let at = ap before is in
+    subst (λ n. Reached s n (happens s w Put)) (sym (put.others ∙ ap with_screen_of is))
+    (reached_put s old w mid.host new.screen patch.update r same none (reads w.host_bytes w.shared.updates r.host)
+    (put.size.0 ∙ ap (λ (p : Plain). p.width) at) (put.size.1 ∙ ap (λ (p : Plain). p.height) at) (put.updates ∙ ap (λ (p : Plain). p.updates ++ patch.update ∷ []) at) (put.tally ∙ ap (λ (p : Plain). p.tally) at))
 
-wants_no_whole : (r : Reading ServerMessage) → wants_more r ≡ true → (whole_of r ≡ None) × (fault_of r ≡ None)
-wants_no_whole (Done m) e = absurd cc
-wants_no_whole (Faulty f) e = absurd cc
-wants_no_whole (Want more) e = (refl, refl)
+-- An update that isn't put is kept.
+pub unread_stays : (old mid new : Standing) (patch : SizedUpdate) → mid ≡ with_host old mid.host → IsSameHost old.host mid.host → ReadsOn old.host mid.host (Ok (Some patch))
+    → IsUnread mid new patch.update → StaysFor old new
+unread_stays old mid new patch is same reads kept s w r =
+    subst (λ n. Reached s n w) (sym (kept.others ∙ ap (λ standing. with_host standing new.host) is))
+    (reached_with_host s old w w.host_bytes new.host r (record { width = kept.size.width ∙ same.width; height = kept.size.height ∙ same.height })
+    (inr (kept.stands w.host_bytes w.shared.updates (reads w.host_bytes w.shared.updates r.host))))
 
-no_put_by : (standing : Standing) (w h : ℕ) (fault : Option Fault) → w ≡ standing.screen.width → h ≡ standing.screen.height → whole_of (after (host_form w h) standing.unread) ≡ None
-    → fault ≡ fault_of (after (host_form w h) standing.unread) → TakesStep Put standing (record standing { host_fault = fault })
-no_put_by standing w h fault ew eh none is s world r =
-    let form : host_form w h ≡ host_form s.w s.h = ap (λ n. host_form n h) (ew ∙ r.width) ∙ ap (host_form s.w) (eh ∙ r.height) in
-    reached_no_put s standing world fault r (ap (λ f. whole_of (after f standing.unread)) (sym form) ∙ none) (is ∙ ap (λ f. fault_of (after f standing.unread)) form)
+pub none_reaches : (standing : Standing) (host : HostSide) → IsSameHost standing.host host → ReadsOn standing.host host (Ok None) → TakesStep Put standing (record standing { host = host; host_fault = None })
+none_reaches standing host same reads s w r =
+    let out = reads w.host_bytes w.shared.updates r.host in
+    reached_no_put s standing w host None r same (inr out.0) out.1
 
--- Bytes of the next message are missing.
-pub open_reaches : (standing : Standing) (w h : ℕ) → w ≡ standing.screen.width → h ≡ standing.screen.height → wants_more (after (host_form w h) standing.unread) ≡ true
-    → TakesStep Put standing (record standing { host_fault = None })
-open_reaches standing w h ew eh wants =
-    let so = wants_no_whole (after (host_form w h) standing.unread) wants in
-    no_put_by standing w h None ew eh so.0 (sym so.1)
-
--- The bytes stand at a fault.
-pub fault_reaches : (standing : Standing) (w h : ℕ) (fault : Fault) → w ≡ standing.screen.width → h ≡ standing.screen.height → after (host_form w h) standing.unread ≡ Faulty fault
-    → TakesStep Put standing (record standing { host_fault = Some fault })
-fault_reaches standing w h fault ew eh at = no_put_by standing w h (Some fault) ew eh (ap whole_of at) (sym (ap fault_of at))
-
--- What the reader of updates answers.
-pub found_used : (w h : ℕ) (bytes unread : List ℕ) (o : Option (SizedUpdate × ℕ)) (patch : SizedUpdate) (used : ℕ) → bytes ≡ unread → o ≡ Some (patch, used)
-    → Finds (host_form w h) (MeansPatch w h) bytes (Ok o) → used ≤ length unread
-found_used w h bytes unread o patch used same is found =
-    let there = subst (λ (o' : Option (SizedUpdate × ℕ)). Finds (host_form w h) (MeansPatch w h) bytes (Ok o')) is found in
-    omega (arith, taken-le (host_form w h) bytes, there.2, ap length same)
-
-pub found_reaches : (standing new : Standing) (w h : ℕ) (bytes : List ℕ) (o : Option (SizedUpdate × ℕ)) (patch : SizedUpdate) (used : ℕ) → bytes ≡ standing.unread → w ≡ standing.screen.width → h ≡ standing.screen.height
-    → o ≡ Some (patch, used) → Finds (host_form w h) (MeansPatch w h) bytes (Ok o) → IsPut standing new patch.update used → TakesStep Put standing new
-found_reaches standing new w h bytes o patch used same ew eh is found put =
-    let there = subst (λ (o' : Option (SizedUpdate × ℕ)). Finds (host_form w h) (MeansPatch w h) bytes (Ok o')) is found in
-    subst (λ n. TakesStep Put standing n) (sym put.others)
-    (put_reaches standing w h used there.0 patch new.screen ew eh (ap (after (host_form w h)) (sym same) ∙ there.1) (ap (taken (host_form w h)) (sym same) ∙ there.2) there.3.0 put.size.0 put.size.1 put.updates put.tally)
-
-pub none_reaches : (standing : Standing) (w h : ℕ) (bytes : List ℕ) (o : Option (SizedUpdate × ℕ)) → bytes ≡ standing.unread → w ≡ standing.screen.width → h ≡ standing.screen.height → o ≡ None
-    → Finds (host_form w h) (MeansPatch w h) bytes (Ok o) → TakesStep Put standing (record standing { host_fault = None })
-none_reaches standing w h bytes o same ew eh is found =
-    let there = subst (λ (o' : Option (SizedUpdate × ℕ)). Finds (host_form w h) (MeansPatch w h) bytes (Ok o')) is found in
-    open_reaches standing w h ew eh (ap (λ b. wants_more (after (host_form w h) b)) (sym same) ∙ there)
-
-pub err_reaches : (standing : Standing) (w h : ℕ) (bytes : List ℕ) (fault : Fault) → bytes ≡ standing.unread → w ≡ standing.screen.width → h ≡ standing.screen.height → (fault ≡ Memory → ⊥)
-    → Finds (host_form w h) (MeansPatch w h) bytes (Err fault) → TakesStep Put standing (record standing { host_fault = Some fault })
-err_reaches standing w h bytes fault same ew eh other found =
-    elim found [
-      | inl at ↦ fault_reaches standing w h fault ew eh (ap (after (host_form w h)) (sym same) ∙ at)
-      | inr memory ↦ absurd (other memory)
+pub err_reaches : (standing : Standing) (host : HostSide) (fault : Fault) → IsSameHost standing.host host → (fault ≡ Memory → ⊥) → ReadsOn standing.host host (Err fault)
+    → TakesStep Put standing (record standing { host = host; host_fault = Some fault })
+err_reaches standing host fault same other reads s w r =
+    let out = reads w.host_bytes w.shared.updates r.host in
+    elim out.1 [
+      | inl memory ↦ absurd (other memory)
+      | inr read ↦ reached_no_put s standing w host (Some fault) r same out.0 read
     ]
+
+-- Memory was refused: nothing is shown of it.
+pub memory_stays : (standing : Standing) (host : HostSide) (fault : Fault) → IsSameHost standing.host host → ReadsOn standing.host host (Err fault) → StaysFor standing (with_host standing host)
+memory_stays standing host fault same reads s w r = reached_with_host s standing w w.host_bytes host r same (reads w.host_bytes w.shared.updates r.host).0
 
 -- Why a put is refused.
 pub put_refused : (standing : Standing) (fault : Fault) → IsPutRefusal (length standing.screen.updates) fault → IsRefusal Put standing fault

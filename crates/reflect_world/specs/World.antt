@@ -1,12 +1,8 @@
 -- A reflector as the code keeps it, and the world of the definitions that it stands for.
-use Rattle.std.specs.Prelude.{◌≡◌, ℕ, ◌≤◌, ◌^◌, ◌⊎◌, Bool, true, false, if◌then◌else◌, List, [], ◌∷◌, ◌++◌, length, drop, is_some, slice_get, slice_index_or, take, Option, Some, None}
+use Rattle.std.specs.Prelude.{◌≡◌, ℕ, ◌^◌, ◌⊎◌, Bool, true, false, if◌then◌else◌, List, [], ◌∷◌, ◌++◌, length, is_some, slice_get, slice_index_or, take, Option, Some, None, ◌≤◌}
 use Rattle.pixel_format.specs.declared.fault.Fault.{Fault}
 use Rattle.pixel_format.specs.declared.fault.Fault.TheVariants.{Memory, NumbersOut}
-use Rattle.pixel_format.specs.Reading.{Reading, rest}
 use Rattle.raster.specs.Update.{Update}
-use Rattle.rfb_wire.specs.ServerMessage.{ServerMessage}
-use Rattle.host_decoder.specs.FirstPath.{host_form}
-use Rattle.host_decoder.specs.Updates.{updates_by}
 use Rattle.reflect_core.specs.Plain.{Plain}
 use Rattle.reflect_core.specs.Sequential.{IsHistory}
 use Rattle.viewer_session.specs.FirstPath.{first_path}
@@ -14,6 +10,7 @@ use Rattle.viewer_session.specs.Session.{IsOneTile, State, Stands, is_ready, aft
 use Rattle.viewer_session.specs.Turn.{has_reason}
 use Rattle.viewer_session.specs.Viewer.{Setup, Viewer, out_bytes, after_bytes, after_cut, may_look}
 use Rattle.reflect_world.specs.Schedule.{Step, World, HostBytes, Put, Raise, Join, Bytes, Look, Cut, Written, happens, play}
+use Rattle.reflect_world.specs.Host.{HasReadTo, HostSide, HostStands, IsSameHost, host_form}
 use Rattle.reflect_world.specs.Headline.{HoldsAfterEachAnswer}
 use Rattle.reflect_world.specs.Said.{ArePutInOrder, HoldsAfterEachWritten, IsRead, IsSaid}
 use Rattle.reflect_world.specs.declared.step.Step as declared_step
@@ -63,10 +60,10 @@ pub record Held : Type 0 where
   pub looked : Option ℕ
   pub written : List ℕ
 
--- The screen, the host's bytes that weren't read yet and the fault that they showed, and the viewers by number.
+-- The screen, the host and the fault that its bytes showed, and the viewers by number.
 pub record Standing : Type 0 where
   pub screen : Plain
-  pub unread : List ℕ
+  pub host : HostSide
   pub host_fault : Option Fault
   pub places : List (Option Held)
 
@@ -86,12 +83,6 @@ PlaceIs s None (Some p) = ⊥
 PlaceIs s (Some place) None = ⊥
 PlaceIs s (Some place) (Some p) = PlaceStands s place p
 
--- Of a host's bytes all but these were read, and gave these updates: those of the bytes left come behind them, and the rest is that of
--- the bytes left.
-pub record HostStands (form : Reading ServerMessage) (bytes : List ℕ) (us : List Update) (unread : List ℕ) : Type 0 where
-  pub updates : updates_by form bytes ≡ us ++ updates_by form unread
-  pub rest_same : rest form bytes ≡ rest form unread
-
 -- What stands in the fields is what the schedule has come to.
 pub record Reached (s : Setup) (standing : Standing) (w : World) : Type 0 where
   pub tile : IsOneTile s.w s.h
@@ -100,7 +91,9 @@ pub record Reached (s : Setup) (standing : Standing) (w : World) : Type 0 where
   pub height : standing.screen.height ≡ s.h
   pub updates : standing.screen.updates ≡ w.shared.updates
   pub tally : standing.screen.tally ≡ w.shared.tally
-  pub host : HostStands (host_form s.w s.h) w.host_bytes w.shared.updates standing.unread
+  pub host_width : standing.host.decoder.width ≡ s.w
+  pub host_height : standing.host.decoder.height ≡ s.h
+  pub host : HostStands w.host_bytes w.shared.updates standing.host
   pub fault : standing.host_fault ≡ w.host_fault
   pub room : length standing.places ≡ 65
   pub places : (v : ℕ) → PlaceIs s (place_at standing.places v) (w.viewers v)
@@ -137,12 +130,18 @@ abbrev pub GoesOn : Option ℕ → Held → Held → List Update → Type 0
 GoesOn None old new us = new ≡ old
 GoesOn (Some looked) old new us = HasTurned old new looked us
 
--- An update of so many bytes was put.
-pub record IsPut (old new : Standing) (u : Update) (used : ℕ) : Type 0 where
-  pub others : new ≡ record old { screen = new.screen; unread = drop used old.unread }
+-- An update was put.
+pub record IsPut (old new : Standing) (u : Update) : Type 0 where
+  pub others : new ≡ record old { screen = new.screen }
   pub size : (new.screen.width ≡ old.screen.width) × (new.screen.height ≡ old.screen.height)
   pub updates : new.screen.updates ≡ old.screen.updates ++ u ∷ []
   pub tally : new.screen.tally ≡ old.screen.tally
+
+-- An update wasn't put: it is as if it weren't read.
+pub record IsUnread (old new : Standing) (u : Update) : Type 0 where
+  pub others : new ≡ record old { host = new.host }
+  pub size : IsSameHost old.host new.host
+  pub stands : (bytes : List ℕ) (us : List Update) → HasReadTo bytes (us ++ u ∷ []) old.host → HasReadTo bytes us new.host
 
 -- ---- what a step does
 
@@ -153,6 +152,10 @@ TakesStep e old new = (s : Setup) (w : World) → Reached s old w → Reached s 
 -- The same, over a screen of this name.
 abbrev pub JoinsUnder : List ℕ → Step → Standing → Standing → Type 0
 JoinsUnder name e old new = (s : Setup) (w : World) → s.name ≡ name → Reached s old w → Reached s new (happens s w e)
+
+-- What stood for a world stands for it still.
+abbrev pub StaysFor : Standing → Standing → Type 0
+StaysFor old new = (s : Setup) (w : World) → Reached s old w → Reached s new w
 
 -- It stands for some world.
 abbrev pub IsReachable : Standing → Type 0

@@ -3,18 +3,18 @@
 ghost use Rattle.std.specs.Prelude.{◌≡◌, ℕ, ◌<◌, ◌≤◌, false, [], None, length, IfOk, IfErr, OnOk};
 ghost use Rattle.std.specs.Option.{option_copied};
 ghost use Rattle.pixel_format.specs.declared.fault.Fault.TheVariants.{Memory};
-ghost use Rattle.host_decoder.specs.FirstPath.{host_form};
 ghost use Rattle.viewer_session.specs.FirstPath.{first_path};
 ghost use Rattle.viewer_session.specs.Session.{IsOneTile};
 ghost use Rattle.viewer_session.specs.Viewer.{Setup};
 ghost use Rattle.reflect_world.specs.Schedule.{Put, Raise, Join, HostBytes, Bytes, Look, Cut, Written, beginning};
 ghost use Rattle.reflect_core.specs.Plain.{IsPutRefusal};
-ghost use Rattle.reflect_world.specs.World.{IsPut, IsReachable, IsRefusal, JoinsUnder, Reached, TakesStep, place_at, step_of};
+ghost use Rattle.reflect_world.specs.World.{IsPut, IsReachable, IsRefusal, JoinsUnder, Reached, TakesStep, place_at, step_of, IsUnread, StaysFor};
+ghost use Rattle.reflect_world.specs.Host.{host_form};
 
 use crate::fault::same_fault;
+use crate::host::Host;
 use crate::place::Place;
 use crate::step::Step;
-use crate::unread::Unread;
 use painter::Patch;
 use pixel_format::Fault;
 use reflect_core::{PlainScreen, Puts, ScreenSource};
@@ -25,12 +25,12 @@ use std::marker::Model;
 /// Places are numbered below this. That of number 0 stays free.
 pub const PLACES: u64 = 65;
 
-/// The screen, the host's bytes that weren't read yet, the fault that they showed, and the viewers by number.
+/// The screen, the host, the fault that its bytes showed, and the viewers by number.
 #[derive(Drop)]
 pub struct Scene {
     alloc: Global,
     screen: PlainScreen,
-    host: Unread,
+    host: Host,
     host_fault: Option<Fault>,
     places: Vec<Option<Place>>,
 }
@@ -40,7 +40,7 @@ impl Model for Scene {
 
     ghost Value = { Standing };
 
-    ghost view = { λ s. record { screen = s.screen; unread = s.host; host_fault = s.host_fault; places = s.places.items } };
+    ghost view = { λ s. record { screen = s.screen; host = s.host; host_fault = s.host_fault; places = s.places.items } };
 }
 
 impl Scene {
@@ -56,7 +56,7 @@ impl Scene {
         Ok(Scene {
             alloc,
             screen: PlainScreen::new(alloc, width, height)?,
-            host: Unread::new(alloc),
+            host: Host::new(alloc, width, height)?,
             host_fault: None,
             places,
         })
@@ -100,11 +100,12 @@ impl Scene {
         Ok(())
     }
 
-    /// Takes a step. Where memory is refused (`Memory`), or there are no more numbers of updates (`NumbersOut`), nothing has changed.
+    /// Takes a step. Where memory is refused (`Memory`), or there are no more numbers of updates (`NumbersOut`), it isn't taken: what stands
+    /// is that of the steps before.
     pub fn take(&mut self, step: &Step) -> Result<(), Fault>
         requires { IsReachable self.old }
         ensures ok { OnOk result (TakesStep (step_of step.now) self.old self.new) }
-        ensures err { IfErr result (λ fault. IsRefusal (step_of step.now) self.old fault × (self.new ≡ self.old)) }
+        ensures err { IfErr result (λ fault. IsRefusal (step_of step.now) self.old fault × StaysFor self.old self.new) }
     {
         match step {
             Step::HostBytes(bytes) => self.host_bytes(bytes.as_slice()),
@@ -136,12 +137,10 @@ impl Scene {
     fn put_next(&mut self) -> Result<(), Fault>
         requires { IsReachable self.old }
         ensures ok { OnOk result (TakesStep Put self.old self.new) }
-        ensures err { IfErr result (λ fault. IsRefusal Put self.old fault × (self.new ≡ self.old)) }
+        ensures err { IfErr result (λ fault. IsRefusal Put self.old fault × StaysFor self.old self.new) }
     {
-        let (width, height) = self.screen.size();
-        let found = host_decoder::read_update(self.alloc, self.host.bytes(), width, height);
-        match found {
-            Ok(Some((patch, used))) => self.put(patch, used),
+        match self.host.next_patch() {
+            Ok(Some(patch)) => self.put(patch),
             Ok(None) => {
                 self.host_fault = None;
                 Ok(())
@@ -156,18 +155,20 @@ impl Scene {
         }
     }
 
-    fn put(&mut self, patch: Patch, used: usize) -> Result<(), Fault>
+    // Puts an update. One that is refused waits for the next step that puts.
+    fn put(&mut self, patch: Patch) -> Result<(), Fault>
+        requires none { self.old.host.waiting ≡ None }
         requires size { (patch.width ≡ self.old.screen.width) × (patch.height ≡ self.old.screen.height) }
-        requires there { used ≤ length self.old.unread }
-        ensures ok { OnOk result (IsPut self.old self.new patch.update used) }
-        ensures err { IfErr result (λ fault. IsPutRefusal (length self.old.screen.updates) fault × (self.new ≡ self.old)) }
+        requires host_size { (patch.width ≡ self.old.host.decoder.width) × (patch.height ≡ self.old.host.decoder.height) }
+        ensures ok { OnOk result (IsPut self.old self.new patch.update) }
+        ensures err { IfErr result (λ fault. IsPutRefusal (length self.old.screen.updates) fault × IsUnread self.old self.new patch.update) }
     {
         match self.screen.put(patch) {
-            Ok(_) => {
-                self.host.take(used);
-                Ok(())
+            Ok(_) => Ok(()),
+            Err((fault, refused)) => {
+                self.host.keep(refused);
+                Err(fault)
             }
-            Err(refused) => Err(refused.0),
         }
     }
 

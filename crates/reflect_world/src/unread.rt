@@ -64,4 +64,12 @@ impl Unread {
             self.read = 0;
         }
     }
+
+    /// None of them is read any more.
+    pub fn clear(&mut self)
+        ensures { self.new ≡ [] }
+    {
+        self.bytes.clear();
+        self.read = 0;
+    }
 }

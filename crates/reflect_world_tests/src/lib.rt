@@ -10,6 +10,8 @@ mod faults;
 #[cfg(test)]
 mod hellos;
 #[cfg(test)]
+mod hosts;
+#[cfg(test)]
 mod links;
 #[cfg(test)]
 mod played;

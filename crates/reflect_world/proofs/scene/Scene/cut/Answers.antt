@@ -9,8 +9,8 @@ pub returns-in-Some-clause-ok : goal.returns-in-Some-clause-ok
 returns-in-Some-clause-ok c =
     on_ok_weaker c.cut.result
     (λ goes_on s w r.
-    subst (λ screen. Reached s (with_screen (with_place (record { screen = c.self.inside.screen; unread = c.self.inside.host; host_fault = c.self.inside.host_fault; places = c.self.inside.places.items }) c.args.viewer c.cut.new.self) screen) (happens s w (Cut c.args.viewer))) (sym c.cut.ensures.screen)
-    (cut_reaches (record { screen = c.self.inside.screen; unread = c.self.inside.host; host_fault = c.self.inside.host_fault; places = c.self.inside.places.items }) c.args.viewer c.index_mut-slot.result.now c.in-Some.place c.cut.new.self
+    subst (λ screen. Reached s (with_screen (with_place (record { screen = c.self.inside.screen; host = c.self.inside.host; host_fault = c.self.inside.host_fault; places = c.self.inside.places.items }) c.args.viewer c.cut.new.self) screen) (happens s w (Cut c.args.viewer))) (sym c.cut.ensures.screen)
+    (cut_reaches (record { screen = c.self.inside.screen; host = c.self.inside.host; host_fault = c.self.inside.host_fault; places = c.self.inside.places.items }) c.args.viewer c.index_mut-slot.result.now c.in-Some.place c.cut.new.self
     c.if-viewer-lt-PLACES.true c.index_mut-slot.ensures.value c.in-Some.is goes_on s w
     (subst (λ (standing : Standing). Reached s standing w) (sym c.self.view_is) r)))
     c.cut.ensures.ok

@@ -1,0 +1,12 @@
+use Rattle.std.proofs.Common.{ap, subst, sym, ◌∙◌}
+use Rattle.std.specs.Prelude.{OnOk}
+use Rattle.reflect_world.specs.Schedule.{HostBytes, Step, happens}
+use Rattle.reflect_world.specs.World.{Reached, TakesStep, step_of}
+use Rattle.reflect_world.proofs.scene.Scene.take.Goals as goal
+
+pub returns-in-HostBytes-clause-ok : goal.returns-in-HostBytes-clause-ok
+returns-in-HostBytes-clause-ok c =
+    subst (λ (e : Step). OnOk c.host_bytes.result (TakesStep e c.args.self.now c.host_bytes.new.self)) (sym (ap step_of c.in-HostBytes.is ∙ ap HostBytes (sym c.as_slice.ensures.value))) c.host_bytes.ensures.ok
+
+pub returns-in-Raise-clause-ok : goal.returns-in-Raise-clause-ok
+returns-in-Raise-clause-ok c = λ s w r. subst (λ (e : Step). Reached s c.raise.new.self (happens s w e)) (sym (ap step_of c.in-Raise.is)) (c.raise.ensures s w r)

@@ -1,0 +1,88 @@
+-- The host of a world: its bytes, and how far they were read.
+use Rattle.std.specs.Prelude.{◌≡◌, ℕ, ◌⊎◌, true, List, [], ◌∷◌, ◌++◌, Option, Some, None, IfSome, Result, Ok, Err}
+use Rattle.pixel_format.specs.PixelFormat.{host_format}
+use Rattle.pixel_format.specs.declared.fault.Fault.{Fault}
+use Rattle.pixel_format.specs.declared.fault.Fault.TheVariants.{Memory}
+use Rattle.pixel_format.specs.Reading.{Reading, fault_of, rest}
+use Rattle.raster.specs.Size.{IsScreenSize}
+use Rattle.raster.specs.Update.{Update}
+use Rattle.rfb_wire.specs.ServerMessage.{ServerMessage, server_message}
+use Rattle.painter.specs.Patch.{SizedUpdate}
+use Rattle.painter.specs.Painter.{Painting}
+use Rattle.host_decoder.specs.Decoder.{Decoding, Decodes, is_refused}
+use Rattle.host_decoder.specs.declared.event.HostEvent.{HostEvent}
+use Rattle.host_decoder.specs.declared.event.HostEvent.TheVariants.{Paint, Bell, Cut, Map, LongCut}
+use Rattle.host_decoder.specs.Updates.{updates_by}
+
+-- All that a host may send in the format that it was asked for.
+abbrev pub host_form : ℕ → ℕ → Reading ServerMessage
+host_form w h = server_message host_format w h
+
+-- The decoder, the painter that it fills, the bytes that weren't read yet, and an update that was read and couldn't be put.
+pub record HostSide : Type 0 where
+  pub decoder : Decoding
+  pub painter : Painting
+  pub unread : List ℕ
+  pub waiting : Option SizedUpdate
+
+abbrev pub form_of : HostSide → Reading ServerMessage
+form_of host = host_form host.decoder.width host.decoder.height
+
+abbrev pub waiting_list : Option SizedUpdate → List Update
+waiting_list None = []
+waiting_list (Some patch) = patch.update ∷ []
+
+-- Of all bytes of the host those that aren't unread were read. They spell these updates, and the one that waits; and the decoder goes on as
+-- the rest behind them.
+pub record HasReadTo (bytes : List ℕ) (us : List Update) (host : HostSide) : Type 0 where
+  pub read : List ℕ
+  pub split : bytes ≡ read ++ host.unread
+  pub updates : updates_by (form_of host) read ≡ us ++ waiting_list host.waiting
+  pub decodes : Decodes host.decoder host.painter (rest (form_of host) read)
+
+-- That stands, unless the decoder was refused memory: then it reads nothing more.
+abbrev pub HostStands : List ℕ → List Update → HostSide → Type 0
+HostStands bytes us host = ((is_refused host.decoder.state ≡ true) × (host.waiting ≡ None)) ⊎ HasReadTo bytes us host
+
+-- It stands for the bytes and updates of some host.
+abbrev pub CanRead : HostSide → Type 0
+CanRead host = (bytes : List ℕ) × (us : List Update) × HostStands bytes us host
+
+-- The host's bytes spell no further update, and this is the fault at which they stand, if there is one.
+pub record IsReadOut (bytes : List ℕ) (us : List Update) (form : Reading ServerMessage) (fault : Option Fault) : Type 0 where
+  pub none_left : updates_by form bytes ≡ us
+  pub stands_at : fault_of (rest form bytes) ≡ fault
+
+-- The next update was read; or there is none, with or without a fault; or memory was refused. What stood for some bytes and updates then stands
+-- for the same, with that update.
+abbrev pub ReadsOn : HostSide → HostSide → Result (Option SizedUpdate) Fault → Type 0
+ReadsOn old new (Ok (Some patch)) = (bytes : List ℕ) (us : List Update) → HostStands bytes us old → HasReadTo bytes (us ++ patch.update ∷ []) new
+ReadsOn old new (Ok None) = (bytes : List ℕ) (us : List Update) → HostStands bytes us old → HasReadTo bytes us new × IsReadOut bytes us (form_of new) None
+ReadsOn old new (Err fault) =
+    (bytes : List ℕ) (us : List Update) → HostStands bytes us old
+    → HostStands bytes us new × ((fault ≡ Memory) ⊎ IsReadOut bytes us (form_of new) (Some fault))
+
+-- The update of an event: a colour map and a text that isn't kept bring none.
+abbrev pub patch_in : HostEvent → Option SizedUpdate
+patch_in (Paint patch) = Some patch
+patch_in (Bell patch) = Some patch
+patch_in (Cut patch) = Some patch
+patch_in Map = None
+patch_in LongCut = None
+
+-- A message was read. One that brings no update leaves the updates as they are.
+abbrev pub ReadsMessage : HostSide → HostSide → Option SizedUpdate → Type 0
+ReadsMessage old new brings = (bytes : List ℕ) (us : List Update) → HostStands bytes us old → HasReadTo bytes (us ++ waiting_list brings) new
+
+-- ---- what stands in its fields
+
+-- All of it is for one screen.
+pub record IsHost (host : HostSide) : Type 0 where
+  pub size : IsScreenSize host.decoder.width host.decoder.height
+  pub painter : (host.painter.width ≡ host.decoder.width) × (host.painter.height ≡ host.decoder.height)
+  pub waiting : IfSome host.waiting (λ patch. (patch.width ≡ host.decoder.width) × (patch.height ≡ host.decoder.height))
+
+-- The size of the screen stays.
+pub record IsSameHost (old new : HostSide) : Type 0 where
+  pub width : new.decoder.width ≡ old.decoder.width
+  pub height : new.decoder.height ≡ old.decoder.height

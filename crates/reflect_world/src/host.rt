@@ -1,0 +1,119 @@
+//! The host of a world.
+
+ghost use Rattle.std.specs.Prelude.{◌≡◌, ℕ, ◌<◌, [], ◌∷◌, ◌++◌, List, length, Option, Some, None, Ok, Err, IfOk, IfErr, IfSome, OnOk};
+ghost use Rattle.pixel_format.specs.declared.fault.Fault.TheVariants.{Memory};
+ghost use Rattle.raster.specs.Size.{IsScreenSize};
+ghost use Rattle.raster.specs.Update.{Update};
+ghost use Rattle.painter.specs.Patch.{SizedUpdate};
+ghost use Rattle.reflect_world.specs.Host.{CanRead, HasReadTo, HostStands, IsHost, IsSameHost, ReadsMessage, ReadsOn, patch_in};
+
+use crate::unread::Unread;
+use host_decoder::{HostDecoder, HostEvent};
+use painter::{Painter, Patch};
+use pixel_format::Fault;
+use std::alloc::Global;
+use std::marker::Model;
+
+/// The bytes of a host, which are read update by update; and an update that was read and couldn't be put.
+#[derive(Drop)]
+pub struct Host {
+    decoder: HostDecoder,
+    painter: Painter,
+    unread: Unread,
+    waiting: Option<Patch>,
+}
+
+impl Model for Host {
+    ghost use Rattle.reflect_world.specs.Host.{HostSide, IsHost};
+
+    ghost Value = { HostSide };
+
+    ghost view = { λ h. record { decoder = h.decoder; painter = h.painter; unread = h.unread; waiting = h.waiting } };
+
+    ghost invariant = { λ h. IsHost (record { decoder = h.decoder; painter = h.painter; unread = h.unread; waiting = h.waiting }) };
+}
+
+impl Host {
+    /// A host over a black screen that has sent nothing. It fails where memory is refused (`Memory`).
+    pub fn new(alloc: Global, width: u64, height: u64) -> Result<Self, Fault>
+        requires { IsScreenSize width height }
+        ensures size { IfOk result (λ host. (host.decoder.width ≡ width) × (host.decoder.height ≡ height)) }
+        ensures stands { IfOk result (λ host. HostStands [] [] host) }
+        ensures err { IfErr result (λ fault. fault ≡ Memory) }
+    {
+        Ok(Host {
+            decoder: HostDecoder::new(alloc, width, height),
+            painter: Painter::new(alloc, width, height)?,
+            unread: Unread::new(alloc),
+            waiting: None,
+        })
+    }
+
+    /// Bytes of it come, and are kept. Where memory is refused (`Memory`) nothing has changed.
+    pub fn add(&mut self, bytes: &[u8]) -> Result<(), Fault>
+        ensures same { IsSameHost self.old self.new }
+        ensures ok { OnOk result ((all : List ℕ) (us : List Update) → HostStands all us self.old → HostStands (all ++ bytes.now) us self.new) }
+        ensures err { IfErr result (λ fault. (fault ≡ Memory) × (self.new ≡ self.old)) }
+    {
+        self.unread.add(bytes)
+    }
+
+    /// The next update, where it has come whole. It fails at the fault at which the bytes stand; or where memory is refused (`Memory`),
+    /// which is final.
+    pub fn next_patch(&mut self) -> Result<Option<Patch>, Fault>
+        requires { CanRead self.old }
+        ensures same { IsSameHost self.old self.new }
+        ensures none { self.new.waiting ≡ None }
+        ensures size { IfOk result (λ found. IfSome found (λ patch. (patch.width ≡ self.old.decoder.width) × (patch.height ≡ self.old.decoder.height))) }
+        ensures ok { IfOk result (λ found. ReadsOn self.old self.new (Ok found)) }
+        ensures err { IfErr result (λ fault. ReadsOn self.old self.new (Err fault)) }
+    {
+        if let Some(patch) = self.waiting.take() {
+            return Ok(Some(patch));
+        }
+        'messages: loop {
+            match self.read_one()? {
+                None => return Ok(None),
+                Some(HostEvent::Paint(patch)) => return Ok(Some(patch)),
+                Some(HostEvent::Bell(patch)) => return Ok(Some(patch)),
+                Some(HostEvent::Cut(patch)) => return Ok(Some(patch)),
+                Some(HostEvent::Map) => {}
+                Some(HostEvent::LongCut) => {}
+            }
+        }
+    }
+
+    /// An update that was read and couldn't be put waits, and is the next again.
+    pub fn keep(&mut self, patch: Patch)
+        requires none { self.old.waiting ≡ None }
+        requires size { (patch.width ≡ self.old.decoder.width) × (patch.height ≡ self.old.decoder.height) }
+        ensures same { IsSameHost self.old self.new }
+        ensures stands { (bytes : List ℕ) (us : List Update) → HasReadTo bytes (us ++ patch.update ∷ []) self.old → HasReadTo bytes us self.new }
+    {
+        self.waiting = Some(patch);
+    }
+
+    // Reads on up to the end of a message, or to the end of the bytes. Behind a fault there is nothing to be read.
+    fn read_one(&mut self) -> Result<Option<HostEvent>, Fault>
+        requires none { self.old.waiting ≡ None }
+        requires stands { CanRead self.old }
+        ensures same { IsSameHost self.old self.new }
+        ensures none { self.new.waiting ≡ None }
+        ensures size { IfOk result (λ found. IfSome found (λ event. IfSome (patch_in event) (λ patch. (patch.width ≡ self.old.decoder.width) × (patch.height ≡ self.old.decoder.height)))) }
+        ensures message { IfOk result (λ found. IfSome found (λ event. ReadsMessage self.old self.new (patch_in event))) }
+        ensures shorter { IfOk result (λ found. IfSome found (λ event. length self.new.unread < length self.old.unread)) }
+        ensures end { result ≡ Ok None → ReadsOn self.old self.new (Ok None) }
+        ensures err { IfErr result (λ fault. ReadsOn self.old self.new (Err fault)) }
+    {
+        match self.decoder.feed(&mut self.painter, self.unread.bytes()) {
+            Ok(used) => {
+                self.unread.take(used);
+                Ok(self.decoder.whole())
+            }
+            Err(fault) => {
+                self.unread.clear();
+                Err(fault)
+            }
+        }
+    }
+}
