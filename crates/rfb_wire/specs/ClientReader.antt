@@ -1,8 +1,8 @@
 -- How reading a viewer's message goes on, by what its reader holds.
-use Rattle.std.specs.Prelude.{◌≡◌, ℕ, suc, Bool, true, false, ◌<◌, ◌≤◌, ◌==◌, ◌||◌, ◌⊎◌, unwrap_or, List, ◌++◌, length, take}
+use Rattle.std.specs.Prelude.{◌≡◌, ℕ, suc, Bool, true, false, ◌<◌, ◌≤◌, ◌==◌, ◌||◌, ◌⊎◌, unwrap_or, Some, List, ◌++◌, length, take}
 use Rattle.std.specs.List.{list_any}
 use Rattle.pixel_format.specs.declared.fault.Fault.TheVariants.{BadFormat, UnknownMessage}
-use Rattle.pixel_format.specs.Reading.{Reading, Done, Faulty, ◌>>=◌, after, taken, bytes, padding, u32, times}
+use Rattle.pixel_format.specs.Reading.{Reading, Done, Faulty, ◌>>=◌, step, after, taken, fault_of, bytes, padding, u32, times}
 use Rattle.rfb_wire.specs.ClientMessage as client
 use Rattle.rfb_wire.specs.ClientMessage.{ClientMessage, SetEncodings, CutText, LostText, client_message, set_pixel_format, set_encodings, key_event, pointer_event, text, kind_of}
 use Rattle.rfb_wire.specs.Message.{message_of, losing}
@@ -66,6 +66,10 @@ is_partial (Keeping kept) = true
 is_partial (Passing past) = true
 is_partial (Whole message) = false
 is_partial (Failed what) = false
+
+-- The type of the message has come: no further byte shows one that isn't known, 255 say.
+abbrev pub KnowsType : Reading ClientMessage → Type 0
+KnowsType reading = fault_of (step reading 255) ≡ Some (UnknownMessage 255) → ⊥
 
 -- ---- what a reader does
 

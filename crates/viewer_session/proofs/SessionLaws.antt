@@ -1,10 +1,10 @@
 -- What a session's state stands for, call by call.
 use Rattle.std.proofs.Common.{◌≡◌, ℕ, ◌-◌, ◌≤◌, Bool, true, false, cond, List, ◌∷◌, length, drop, Option, Some, None, refl, sym, ap, subst, ◌∙◌, arith, inl, inr}
 use Rattle.std.proofs.lemmas.Bool.Decides.{nat_tests}
-use Rattle.std.specs.Prelude.{◌&&◌, ◌||◌, if◌then◌else◌, nat_lt, unwrap_or, is_some}
+use Rattle.std.specs.Prelude.{◌&&◌, ◌||◌, if◌then◌else◌, nat_lt, unwrap_or, is_some, IsTrue}
 use Rattle.std.proofs.lemmas.List.{length-drop, drop-drop}
 use Rattle.pixel_format.specs.declared.fault.Fault.{Fault}
-use Rattle.pixel_format.specs.Reading.{Reading, fault_of}
+use Rattle.pixel_format.specs.Reading.{Reading, fault_of, whole_of}
 use Rattle.raster.specs.declared.rect.Rect.{Rect}
 use Rattle.raster.specs.declared.encoding.Encoding.TheVariants.{Raw}
 use Rattle.raster.specs.Screen.{common, whole_screen, meets, is_empty, tile_rect}
@@ -12,16 +12,18 @@ use Rattle.rfb_wire.specs.ClientMessage.{ClientMessage, SetPixelFormat, SetEncod
 use Rattle.rfb_wire.specs.declared.client_reader.ClientReader.{ClientReader}
 use Rattle.rfb_wire.specs.ClientReader.{ahead}
 use Rattle.rfb_wire.specs.Greeting.{Greeting}
-use Rattle.rfb_wire.specs.Message.{IsOrLoses}
+use Rattle.rfb_wire.specs.Message.{IsOrLoses, viewer_form}
+use Rattle.rfb_wire.proofs.Beginnings.{nothing_lost}
 use Rattle.rfb_wire.proofs.Losing.{losing-fault}
 use Rattle.tiles.specs.Have.{SentTiles, HaveStands}
 use Rattle.tiles.specs.Touched.{Event, Requested, last_sent}
 use Rattle.reflect_core.specs.Asked.{Wanted, AskedStands, pending, has_asked}
+use Rattle.viewer_session.specs.Extent.{Extent}
 use Rattle.viewer_session.specs.FirstPath.{first_path}
 use Rattle.viewer_session.specs.Record.{Took, events}
 use Rattle.viewer_session.specs.Viewer.{Setup, Viewer, served, viewer_fault, out_bytes}
 use Rattle.viewer_session.specs.Turn.{has_reason}
-use Rattle.viewer_session.specs.Session.{State, Stands, Greets, Keeps, at_rest, after_taking, after_look, after_writing, fault_in, wants_cut}
+use Rattle.viewer_session.specs.Session.{State, Stands, Greets, IsBetween, Keeps, at_rest, after_taking, after_look, after_writing, fault_in, is_greeted, wants_cut}
 use Rattle.viewer_session.proofs.HelloLaws.{hello_stands}
 
 -- ---- messages
@@ -204,6 +206,24 @@ stands_written s st p n le k =
       written = omega (arith, unsent_left s st p k, k.written);
       unsent = ap (drop n) k.unsent ∙ drop-drop n p.written (out_bytes s p);
     }
+
+-- ---- between two messages
+
+begins_as : (now reading : Reading ClientMessage) → now ≡ viewer_form → IsOrLoses now reading → reading ≡ viewer_form
+begins_as now reading begins (inl e) = sym e ∙ begins
+begins_as now reading begins (inr e) = absurd (nothing_lost reading (sym begins ∙ e))
+
+-- A reader at the beginning of a message, behind the hello.
+pub between_stands : (s : Setup) (st : State) (p : Viewer) (b : Bool) → is_greeted st ≡ true → (IsTrue b → IsOrLoses (ahead st.reader) viewer_form) → (IsOrLoses (ahead st.reader) viewer_form → IsTrue b)
+    → (IsTrue b → ahead st.reader ≡ viewer_form) → Stands s st p → (IsTrue b → IsBetween s p) × (IsBetween s p → IsTrue b)
+between_stands s st p b greeted to from begins k =
+    let form : s.extent.from_viewer ≡ viewer_form = ap (λ (x : Extent). x.from_viewer) k.extent in (
+      λ e. record {
+        greeted = ap (λ r. is_some (whole_of r)) (hello_stands s st p k) ∙ greeted;
+        begins = begins_as (ahead st.reader) p.reading (begins e) k.reading ∙ sym form;
+      },
+      λ t. from (subst (λ r. IsOrLoses (ahead st.reader) r) (t.begins ∙ form) k.reading),
+    )
 
 -- Reason to cut is reason by the record.
 pub reason_stands : (s : Setup) (st : State) (p : Viewer) (looked : ℕ) → Stands s st p → wants_cut st.asked looked ≡ has_reason s.w s.h p.entries looked

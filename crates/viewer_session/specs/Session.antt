@@ -19,6 +19,7 @@ use Rattle.reflect_core.specs.declared.cut.Cut.{Cut}
 use Rattle.viewer_session.specs.FirstPath.{first_path}
 use Rattle.viewer_session.specs.RawUpdate.{Waiting}
 use Rattle.viewer_session.specs.Record.{Entry, Took, Saw, events, format_of, choice_of}
+use Rattle.viewer_session.specs.Viewer as viewer
 use Rattle.viewer_session.specs.Viewer.{Setup, Viewer, served, out_bytes, new_viewer, after_bytes, after_cut}
 
 -- The size of the screen, the viewer's role, its hello where it has one, what has come of its next message, the pixel format that holds, what it has asked for, what it has of each
@@ -175,6 +176,11 @@ after_look number p = record p { looked = Some number; entries = Saw number ∷ 
 
 abbrev pub without_look : Viewer → Viewer
 without_look p = record p { looked = None }
+
+-- A viewer that stands between two messages: its hello is done and it is at no fault, since it is at the beginning of a message.
+pub record IsBetween (s : Setup) (p : Viewer) : Type 0 where
+  pub greeted : viewer.is_greeted p ≡ true
+  pub begins : p.reading ≡ s.extent.from_viewer
 
 -- So many bytes more were written.
 abbrev pub after_writing : ℕ → Viewer → Viewer

@@ -1,6 +1,6 @@
 //! One viewer's session.
 
-ghost use Rattle.std.specs.Prelude.{◌≡◌, ℕ, ◌+◌, ◌*◌, ◌<◌, ◌≤◌, Bool, not, ◌==◌, ◌++◌, true, false, [], ◌∷◌, List, All, drop, length, take, IfOk, IfErr, OnOk, Ok, Err, None, Some, option_map};
+ghost use Rattle.std.specs.Prelude.{◌≡◌, ℕ, ◌+◌, ◌*◌, ◌<◌, ◌≤◌, ◌↔◌, Bool, IsTrue, not, ◌==◌, ◌++◌, true, false, [], ◌∷◌, List, All, drop, length, take, IfOk, IfErr, OnOk, Ok, Err, None, Some, option_map};
 ghost use Rattle.pixel_format.specs.declared.fault.Fault.TheVariants.{Memory};
 ghost use Rattle.pixel_format.specs.Reading.{wants_more, fault_of};
 ghost use Rattle.raster.specs.Screen.{IsWithin, common, whole_screen};
@@ -13,7 +13,7 @@ ghost use Rattle.reflect_core.specs.Sequential.{Begins};
 ghost use Rattle.reflect_core.specs.Source.{IsCutRefusal};
 ghost use Rattle.viewer_session.specs.FirstPath.{first_path};
 ghost use Rattle.viewer_session.specs.Record.{Took};
-ghost use Rattle.viewer_session.specs.Session.{State, Stands, IsOneTile, IsSameSession, FedAnswer, IsBegun, IsGreeting, ReadsHello, ReadsOne, fault_in, hello_fault, hello_of, is_greeted, is_ready, without_look, after_writing, after_taking, wants_cut, CutsAt, Turns};
+ghost use Rattle.viewer_session.specs.Session.{State, Stands, IsOneTile, IsSameSession, FedAnswer, IsBegun, IsBetween, IsGreeting, ReadsHello, ReadsOne, fault_in, hello_fault, hello_of, is_greeted, is_ready, without_look, after_writing, after_taking, wants_cut, CutsAt, Turns};
 ghost use Rattle.viewer_session.specs.Turn.{has_reason};
 ghost use Rattle.viewer_session.specs.Viewer.{Setup, Viewer, new_viewer, after_byte, after_bytes, after_cut, may_look, served};
 
@@ -196,6 +196,14 @@ impl Session {
         ensures stands { (s : Setup) (p : Viewer) → Stands s self.now p → result ≡ may_look s p }
     {
         self.out.unsent().is_empty() && self.is_greeted() && self.reader.fault().is_none()
+    }
+
+    /// Whether the viewer stands between two messages: its hello is done, there is no fault, and no byte was used since the hello's end or
+    /// the last whole message.
+    pub fn between(&self) -> bool
+        ensures { (s : Setup) (p : Viewer) → Stands s self.now p → (IsTrue result ↔ IsBetween s p) }
+    {
+        self.is_greeted() && self.reader.is_between()
     }
 
     // A byte of the hello is taken. What is to be said to it waits to be sent; where the byte shows a fault that is nothing.

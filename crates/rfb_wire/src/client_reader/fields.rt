@@ -1,8 +1,9 @@
 //! Fields of a fixed length, as they come.
 
-ghost use Rattle.std.specs.Prelude.{◌≡◌, true, ◌+◌, ◌<◌, ◌≤◌, [], ◌++◌, length};
+ghost use Rattle.std.specs.Prelude.{◌≡◌, IsTrue, true, false, ◌+◌, ◌<◌, ◌≤◌, [], ◌++◌, length};
 ghost use Rattle.pixel_format.specs.Reading.{after, wants_more};
-ghost use Rattle.rfb_wire.specs.ClientReader.{ahead, form_of};
+ghost use Rattle.rfb_wire.specs.ClientReader.{ahead, form_of, KnowsType};
+ghost use Rattle.rfb_wire.specs.declared.client_reader.part.Part.TheVariants.{Kind};
 ghost use Rattle.rfb_wire.specs.Parts.{len_of};
 
 use crate::client_reader::complete::complete;
@@ -42,6 +43,14 @@ impl Fields {
             bytes: [0; 19],
             filled: 0,
         }
+    }
+
+    /// Whether they are the type of a message, of which no byte has come.
+    pub fn are_kind(&self) -> bool
+        ensures start { IsTrue result → self.now ≡ (Kind, []) }
+        ensures other { result ≡ false → KnowsType (after (form_of self.now.0) self.now.1) }
+    {
+        matches!(self.part, Part::Kind)
     }
 
     /// How many of its bytes are missing.

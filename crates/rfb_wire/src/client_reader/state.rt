@@ -1,9 +1,10 @@
 //! How far a reader of a viewer's messages has come.
 
-ghost use Rattle.std.specs.Prelude.{◌≡◌, ◌<◌, true, length};
+ghost use Rattle.std.specs.Prelude.{◌≡◌, ◌<◌, ◌↔◌, IsTrue, true, length};
 ghost use Rattle.pixel_format.specs.Reading.{fault_of, wants_more};
 ghost use Rattle.rfb_wire.specs.ClientMessage.{client_message};
 ghost use Rattle.rfb_wire.specs.ClientReader.{ahead, is_partial, UsesOrLoses};
+ghost use Rattle.rfb_wire.specs.Message.{IsOrLoses};
 
 use crate::client_reader::fields::Fields;
 use crate::client_reader::kept::Kept;
@@ -43,6 +44,17 @@ impl State {
         ensures { ahead result ≡ client_message }
     {
         State::Fields(Fields::of(Part::Kind))
+    }
+
+    /// Whether nothing of a message has come.
+    pub fn is_start(&self) -> bool
+        ensures value { IsTrue result ↔ IsOrLoses (ahead self.now) client_message }
+        ensures begins { IsTrue result → ahead self.now ≡ client_message }
+    {
+        match self {
+            State::Fields(fields) => fields.are_kind(),
+            State::Keeping(_) | State::Passing(_) | State::Whole(_) | State::Failed(_) => false,
+        }
     }
 
     /// Whether another byte is wanted: neither is a message whole nor a fault shown.
