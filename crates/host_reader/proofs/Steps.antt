@@ -282,6 +282,10 @@ can_open fed new other now gives fine decodes =
     let none = found_none (event_of fed.width fed.height) now gives in
     record { reading = now; reads = subst (λ (q : Reading ServerMessage). Decodes new other q) (renewed_open (host_message fed.width fed.height) now none) decodes; wants = wants_from now none fine }
 
+-- What stands at the front of the buffer was taken.
+pub took_piece : (taken_old taken_new into seen piece : List ℕ) (count : ℕ) → piece ≡ take count seen → seen ≡ into → taken_new ≡ taken_old ++ take count into → taken_new ≡ taken_old ++ piece
+took_piece taken_old taken_new into seen piece count front same took = took ∙ ap (λ (xs : List ℕ). taken_old ++ xs) (sym (front ∙ ap (take count) same))
+
 -- A piece more was taken, and read to its end.
 pub running_goes_on : (w h : ℕ) (decoder new : Decoding) (painter other : Painting) (is_between goes_between : Bool) (taken_old taken_now taken_next piece : List ℕ) (old now next : List Update)
     → decoder.width ≡ w → decoder.height ≡ h → IsRunning w h decoder painter is_between taken_old taken_now old now → taken_next ≡ taken_now ++ piece

@@ -1,8 +1,7 @@
-use Rattle.std.proofs.Common.{◌≡◌, ℕ, ◌++◌, List, length, take, refl, sym, ap, ◌∙◌, arith}
+use Rattle.std.proofs.Common.{◌≡◌, length, refl, ap, ◌∙◌, arith}
 use Rattle.std.proofs.lemmas.List.{with_items_is}
-use Rattle.std.specs.Vec.{with_items}
 use Rattle.std.proofs.lemmas.Result.{err_from_is_err_and}
-use Rattle.host_reader.proofs.Steps.{running_begins, running_fails, running_goes_on, running_stops}
+use Rattle.host_reader.proofs.Steps.{running_begins, running_fails, running_goes_on, running_stops, took_piece}
 use Rattle.host_reader.proofs.run.run_host.Goals as goal
 
 pub loop-init : goal.loop-init
@@ -26,21 +25,21 @@ pub returns-in_err-is_between-in-Bytes-clause-err : goal.returns-in_err-is_betwe
 returns-in_err-is_between-in-Bytes-clause-err g c =
     let p = err_from_is_err_and c.from_residual.result c.from_residual.ensures.1 in
     let inv = c.loop.invariant.2 in
-    let filled : (with_items c.loop.buffer c.take.new.into).items ≡ c.take.new.into = with_items_is c.loop.buffer c.take.new.into (omega arith) in
-    let piece : c.split_at.result.0.now ≡ take c.in-Bytes.count c.take.new.into = c.split_at.ensures.front ∙ ap (λ (xs : List ℕ). take c.in-Bytes.count xs) (c.as_slice.ensures.value ∙ filled) in
+    let filled : c.as_slice.result.now ≡ c.take.new.into = c.as_slice.ensures.value ∙ with_items_is c.loop.buffer c.take.new.into (omega arith) in
     rw (p.1, p.2)
     (running_stops c.args.decoder.now.width c.args.decoder.now.height c.loop.decoder c.loop.painter c.loop.is_between _ _ _ c.split_at.result.0.now _ _ _ _ _ _ _ inv.wide inv.high inv.running
-    (c.in-Bytes.ensures.bytes.2 ∙ ap (λ (xs : List ℕ). g.L.Link.taken c.loop.link ++ xs) (sym piece)) c.in_err-is_between-in-Bytes.ensures.puts)
+    (took_piece (g.L.Link.taken c.loop.link) (g.L.Link.taken c.take.new.self) c.take.new.into c.as_slice.result.now c.split_at.result.0.now c.in-Bytes.count c.split_at.ensures.front filled c.in-Bytes.ensures.bytes.2)
+    c.in_err-is_between-in-Bytes.ensures.puts)
 
 pub loop-preserved-in-Bytes : goal.loop-preserved-in-Bytes
 loop-preserved-in-Bytes g c =
     let inv = c.loop.invariant.2 in
-    let filled : (with_items c.loop.buffer c.take.new.into).items ≡ c.take.new.into = with_items_is c.loop.buffer c.take.new.into (omega arith) in
-    let piece : c.split_at.result.0.now ≡ take c.in-Bytes.count c.take.new.into = c.split_at.ensures.front ∙ ap (λ (xs : List ℕ). take c.in-Bytes.count xs) (c.as_slice.ensures.value ∙ filled) in (
+    let held = with_items_is c.loop.buffer c.take.new.into (omega arith) in
+    let filled : c.as_slice.result.now ≡ c.take.new.into = c.as_slice.ensures.value ∙ held in (
       tt,
       tt,
       record {
-        room = ap length filled ∙ omega arith;
+        room = ap length held ∙ omega arith;
         wide = c.put_piece.ensures.decoder.0 ∙ inv.wide;
         high = c.put_piece.ensures.decoder.1 ∙ inv.high;
         painter = c.put_piece.ensures.painter;
@@ -49,7 +48,9 @@ loop-preserved-in-Bytes g c =
         given = c.take.ensures.given ∙ inv.given;
         failed = c.in-Bytes.ensures.failed ∙ inv.failed;
         running = running_goes_on c.args.decoder.now.width c.args.decoder.now.height c.loop.decoder c.put_piece.new.decoder c.loop.painter c.put_piece.new.painter c.loop.is_between c.in_ok-is_between-in-Bytes.is_between _ _ _ c.split_at.result.0.now _ _ _
-            inv.wide inv.high inv.running (c.in-Bytes.ensures.bytes.2 ∙ ap (λ (xs : List ℕ). g.L.Link.taken c.loop.link ++ xs) (sym piece)) c.in_ok-is_between-in-Bytes.ensures.puts;
+            inv.wide inv.high inv.running
+            (took_piece (g.L.Link.taken c.loop.link) (g.L.Link.taken c.take.new.self) c.take.new.into c.as_slice.result.now c.split_at.result.0.now c.in-Bytes.count c.split_at.ensures.front filled c.in-Bytes.ensures.bytes.2)
+            c.in_ok-is_between-in-Bytes.ensures.puts;
       },
     )
 
