@@ -94,8 +94,8 @@ impl RawPixels {
         }
     }
 
-    /// Takes one block of whole pixels, where none is begun.
-    fn take_block(&mut self, pixels: &[[u8; PIXEL_LEN]])
+    /// Takes one block of whole pixels, where none is begun. Their colours are made in `block`.
+    fn take_block(&mut self, pixels: &[[u8; PIXEL_LEN]], block: &mut [u32; BLOCK_LEN])
         requires begun { self.old.begun ≡ [] }
         requires block { length pixels.now ≤ BLOCK_LEN }
         requires missing { length pixels.now + length self.old.colours ≤ self.old.count }
@@ -103,7 +103,6 @@ impl RawPixels {
         ensures begun { self.new.begun ≡ [] }
         ensures colours { self.new.colours ≡ self.old.colours ++ map colour_in pixels.now }
     {
-        let mut block = [0u32; BLOCK_LEN];
         let colours = &mut block[..pixels.len()];
         make_colours(pixels, colours);
         // There is room, so it never fails.
@@ -118,10 +117,11 @@ impl RawPixels {
         ensures begun { self.new.begun ≡ [] }
         ensures colours { self.new.colours ≡ self.old.colours ++ map colour_in pixels.now }
     {
+        let mut block = [0; BLOCK_LEN];
         let mut left = pixels;
         while !left.is_empty() {
-            let (block, rest) = left.split_at(left.len().min(BLOCK_LEN));
-            self.take_block(block);
+            let (front, rest) = left.split_at(left.len().min(BLOCK_LEN));
+            self.take_block(front, &mut block);
             left = rest;
         }
     }
