@@ -14,4 +14,6 @@ mod links;
 #[cfg(test)]
 mod played;
 #[cfg(test)]
+mod sessions;
+#[cfg(test)]
 mod worlds;
