@@ -16,4 +16,6 @@ mod links;
 #[cfg(test)]
 mod played;
 #[cfg(test)]
+mod sessions;
+#[cfg(test)]
 mod worlds;
