@@ -2,4 +2,6 @@
 #![tactic(auto)]
 
 #[cfg(test)]
+mod host_faults;
+#[cfg(test)]
 mod painting;
