@@ -82,7 +82,7 @@ pub fn replay<R: Read + Drop, W: Write + Drop>(alloc: Global, reader: R, writer:
     }
 }
 
-/// Plays it line by line, and answers whether the host's bytes were at fault.
+/// Plays it, and answers whether the host's bytes were at fault.
 fn play_script<B: BufRead, W: Write>(
     alloc: Global,
     input: &mut B,
@@ -92,14 +92,25 @@ fn play_script<B: BufRead, W: Write>(
     if !next_line(input, &mut line)? {
         return Ok(false);
     }
-    let Some(mut world) = opened(alloc, line.as_slice())? else {
-        return Err(bad_line(alloc, output, 1)?);
-    };
+    match opened(alloc, line.as_slice())? {
+        Some(mut world) => play_lines(alloc, &mut world, input, output),
+        None => Err(bad_line(alloc, output, 1)?),
+    }
+}
+
+/// Plays the lines behind the first, and answers whether the host's bytes were at fault.
+fn play_lines<B: BufRead, W: Write>(
+    alloc: Global,
+    world: &mut World,
+    input: &mut B,
+    output: &mut W,
+) -> Result<bool, Stop> {
+    let mut line = Vec::new(alloc);
     for number in 2..LINES {
         if !next_line(input, &mut line)? {
             return Ok(world.host_fault().is_some());
         }
-        if !play_line(alloc, &mut world, output, line.as_slice())? {
+        if !play_line(alloc, world, output, line.as_slice())? {
             return Err(bad_line(alloc, output, number)?);
         }
     }
