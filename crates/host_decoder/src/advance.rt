@@ -1,9 +1,8 @@
 //! One step of a decoder.
 
 ghost use Rattle.std.specs.Prelude.{◌≡◌, ℕ, ◌<◌, ◌≤◌, true, length, IfOk};
-ghost use Rattle.pixel_format.specs.Reading.{Reading, fault_of};
+ghost use Rattle.pixel_format.specs.Reading.{Reading};
 ghost use Rattle.raster.specs.Size.{IsScreenSize};
-ghost use Rattle.painter.specs.Painter.{Painting};
 ghost use Rattle.rfb_wire.specs.ServerMessage.{ServerMessage};
 ghost use Rattle.host_decoder.specs.Decoder.{InPart, Judges, Stands, Stays, Suits, SuitsPart, Uses, is_open};
 

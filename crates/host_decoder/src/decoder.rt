@@ -1,6 +1,6 @@
 //! Reading what a host sends, in whatever pieces it comes.
 
-ghost use Rattle.std.specs.Prelude.{◌≡◌, ℕ, true, [], Ok, Err, None, Some, Result, IfNone, IfOk, IfSome, ◌≤◌, length, option_map};
+ghost use Rattle.std.specs.Prelude.{◌≡◌, true, [], Err, None, Some, Result, IfNone, IfOk, IfSome, ◌≤◌, length, option_map};
 ghost use Rattle.pixel_format.specs.declared.fault.Fault.{Fault};
 ghost use Rattle.pixel_format.specs.declared.fault.Fault.TheVariants.{Memory};
 ghost use Rattle.pixel_format.specs.Reading.{Reading, Faulty, renewed, whole_of};

@@ -1,6 +1,6 @@
 //! How far a decoder has come.
 
-ghost use Rattle.std.specs.Prelude.{◌≡◌, ◌<◌, true, length};
+ghost use Rattle.std.specs.Prelude.{◌≡◌, true, length};
 ghost use Rattle.host_decoder.specs.Decoder.{at_fault, is_open, start};
 
 use crate::data::Data;

@@ -1,6 +1,6 @@
 //! The rectangles of an update, one after another (RFC 6143, 7.6.1).
 
-ghost use Rattle.std.specs.Prelude.{◌≡◌, ℕ, ◌<◌, ◌≤◌, List, length, take};
+ghost use Rattle.std.specs.Prelude.{◌≡◌, ◌<◌, ◌≤◌, List, length};
 ghost use Rattle.pixel_format.specs.Reading.{Reading, Done};
 ghost use Rattle.pixel_format.specs.PixelFormat.{host_format};
 ghost use Rattle.raster.specs.Screen.{IsWithin};

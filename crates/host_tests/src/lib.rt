@@ -2,6 +2,8 @@
 #![tactic(auto)]
 
 #[cfg(test)]
+mod decoding;
+#[cfg(test)]
 mod host_faults;
 #[cfg(test)]
 mod painting;
