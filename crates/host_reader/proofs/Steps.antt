@@ -8,7 +8,7 @@ use Rattle.std.specs.Prelude.{min, option_map}
 use Rattle.std.specs.List.{filter_map}
 use Rattle.pixel_format.specs.Reading.{Reading, Done, Faulty, Want, after, taken, whole_of, fault_of, wants_more, renewed, messages, rest, messages_from, rest_from}
 use Rattle.pixel_format.specs.declared.fault.Fault.{Fault}
-use Rattle.pixel_format.specs.declared.fault.Fault.TheVariants.{LinkFailed, Memory, NumbersOut}
+use Rattle.pixel_format.specs.declared.fault.Fault.TheVariants.{LinkEnded, LinkFailed, Memory, NumbersOut}
 use Rattle.pixel_format.proofs.ReadingLaws.{after-append, after-done, after-faulty, messages-append, rest-append, messages-open, messages-whole, rest-whole, taken-le, taken-nil, taken-some}
 use Rattle.raster.specs.Update.{Update}
 use Rattle.rfb_wire.specs.ServerMessage.{ServerMessage, FramebufferUpdate, SetColorMapEntries, Bell, ServerCutText, LostText}
@@ -19,7 +19,7 @@ use Rattle.host_decoder.specs.Updates.{update_of, updates}
 use Rattle.host_decoder.specs.declared.event.HostEvent.{HostEvent}
 use Rattle.reflect_core.specs.Plain.{IsPutRefusal}
 use Rattle.reflect_core.specs.Sequential.{Begins}
-use Rattle.host_reader.specs.Running.{AtFault, CanRead, EndsAt, EndsWith, IsEventFor, IsInside, HasRead, Stops}
+use Rattle.host_reader.specs.Running.{AtFault, CanRead, EndsAt, EndsBetween, EndsWith, IsEventFor, IsInside, HasRead, Stops}
 
 -- ---- one message
 
@@ -301,11 +301,11 @@ running_goes_on w h decoder new painter other is_between goes_between taken_old 
     }
 
 -- Or it wasn't.
-pub running_stops : (w h : ℕ) (decoder : Decoding) (painter : Painting) (is_between : Bool) (taken_old taken_now taken_next piece : List ℕ) (old now next : List Update) (fault : Fault) (failed_old failed_new : ℕ) (has_ended : Bool)
+pub running_stops : (w h : ℕ) (decoder : Decoding) (painter : Painting) (is_between : Bool) (taken_old taken_now taken_next piece : List ℕ) (old now next : List Update) (fault : Fault) (failed_old failed_new : ℕ) (ended_old ended_new : ℕ)
     → decoder.width ≡ w → decoder.height ≡ h → IsRunning w h decoder painter is_between taken_old taken_now old now → taken_next ≡ taken_now ++ piece
     → ((stream : List ℕ) → (since : List Update) → HasRead decoder.width decoder.height decoder painter is_between stream since now → Stops decoder.width decoder.height fault (stream ++ piece) since next)
-    → EndsWith w h fault taken_old taken_next failed_old failed_new has_ended old next
-running_stops w h decoder painter is_between taken_old taken_now taken_next piece old now next fault failed_old failed_new has_ended wide high running took stops =
+    → EndsWith w h fault taken_old taken_next failed_old failed_new ended_old ended_new old next
+running_stops w h decoder painter is_between taken_old taken_now taken_next piece old now next fault failed_old failed_new ended_old ended_new wide high running took stops =
     let read = subst (λ a. HasRead a decoder.height decoder painter is_between running.stream old now) (sym wide) (subst (λ b. HasRead w b decoder painter is_between running.stream old now) (sym high) running.read) in
     let stopped = stops running.stream old read in
     record {
@@ -319,8 +319,29 @@ rises_by limit old now new same next (inl lt) = inl (omega (arith, same, next, l
 rises_by limit old now new same next (inr le) = inr (omega (arith, same, next, le))
 
 -- The link failed.
-pub running_fails : (w h : ℕ) (decoder : Decoding) (painter : Painting) (is_between : Bool) (taken_old taken_now taken_next : List ℕ) (old now : List Update) (failed_old failed_now failed_new : ℕ) (has_ended : Bool)
+pub running_fails : (w h : ℕ) (decoder : Decoding) (painter : Painting) (is_between : Bool) (taken_old taken_now taken_next : List ℕ) (old now : List Update) (failed_old failed_now failed_new : ℕ) (ended_old ended_new : ℕ)
     → IsRunning w h decoder painter is_between taken_old taken_now old now → taken_next ≡ taken_now → failed_now ≡ failed_old → failed_new ≡ min (2 ^ 62) (failed_now + 1)
-    → EndsWith w h LinkFailed taken_old taken_next failed_old failed_new has_ended old now
-running_fails w h decoder painter is_between taken_old taken_now taken_next old now failed_old failed_now failed_new has_ended running took same next =
+    → EndsWith w h LinkFailed taken_old taken_next failed_old failed_new ended_old ended_new old now
+running_fails w h decoder painter is_between taken_old taken_now taken_next old now failed_old failed_now failed_new ended_old ended_new running took same next =
     record { stream = running.stream; taken = took ∙ running.taken; stops = inl (running.read.put, rises_by (2 ^ 62) failed_old failed_now failed_new same next (cases_lt failed_old (2 ^ 62))) }
+
+-- The link said that it ended, between two messages.
+pub running_ends : (w h : ℕ) (decoder : Decoding) (painter : Painting) (is_between : Bool) (taken_old taken_now taken_next : List ℕ) (old now : List Update) (ended_old ended_now ended_new : ℕ)
+    → is_between ≡ true → IsRunning w h decoder painter is_between taken_old taken_now old now → taken_next ≡ taken_now → ended_now ≡ ended_old → ended_new ≡ min (2 ^ 62) (ended_now + 1)
+    → EndsBetween w h taken_old taken_next ended_old ended_new old now
+running_ends w h decoder painter is_between taken_old taken_now taken_next old now ended_old ended_now ended_new between running took same next =
+    record {
+      stream = running.stream;
+      taken = took ∙ running.taken;
+      put = running.read.put;
+      between = subst (λ b. EndsAt b w h running.stream) between running.read.ends;
+      ended = rises_by (2 ^ 62) ended_old ended_now ended_new same next (cases_lt ended_old (2 ^ 62));
+    }
+
+-- Or inside one.
+pub running_ends_inside : (w h : ℕ) (decoder : Decoding) (painter : Painting) (is_between : Bool) (taken_old taken_now taken_next : List ℕ) (old now : List Update) (failed_old failed_new : ℕ) (ended_old ended_now ended_new : ℕ)
+    → is_between ≡ false → IsRunning w h decoder painter is_between taken_old taken_now old now → taken_next ≡ taken_now → ended_now ≡ ended_old → ended_new ≡ min (2 ^ 62) (ended_now + 1)
+    → EndsWith w h LinkEnded taken_old taken_next failed_old failed_new ended_old ended_new old now
+running_ends_inside w h decoder painter is_between taken_old taken_now taken_next old now failed_old failed_new ended_old ended_now ended_new inside running took same next =
+    let rises = rises_by (2 ^ 62) ended_old ended_now ended_new same next (cases_lt ended_old (2 ^ 62)) in
+    record { stream = running.stream; taken = took ∙ running.taken; stops = inl (running.read.put, (rises, subst (λ b. EndsAt b w h running.stream) inside running.read.ends)) }

@@ -57,25 +57,25 @@ pub record AtFault (w h : ℕ) (fault : Fault) (stream : List ℕ) (old new : Li
 abbrev pub Stops : ℕ → ℕ → Fault → (stream : List ℕ) → (old new : List Update) → Type 0
 Stops w h fault stream old new = AreCut w h fault stream old new ⊎ AtFault w h fault stream old new
 
--- The link ended between two messages.
-pub record EndsBetween (w h : ℕ) (taken_old taken_new : List ℕ) (has_ended : Bool) (old new : List Update) : Type 0 where
+-- The link said in the meantime that it ended, between two messages.
+pub record EndsBetween (w h : ℕ) (taken_old taken_new : List ℕ) (ended_old ended_new : ℕ) (old new : List Update) : Type 0 where
   pub stream : List ℕ
   pub taken : taken_new ≡ taken_old ++ stream
   pub put : ArePut w h stream old new
   pub between : EndsAt true w h stream
-  pub ended : has_ended ≡ true
+  pub ended : HasRisen ended_old ended_new
 
--- The link failed, or it ended inside a message.
-abbrev pub LinkStops : ℕ → ℕ → Fault → (stream : List ℕ) → (failed_old failed_new : ℕ) → (has_ended : Bool) → Type 0
-LinkStops w h LinkFailed stream failed_old failed_new has_ended = HasRisen failed_old failed_new
-LinkStops w h LinkEnded stream failed_old failed_new has_ended = (has_ended ≡ true) × IsInside w h stream
-LinkStops w h _ stream failed_old failed_new has_ended = ⊥
+-- The link failed in the meantime, or it said that it ended, inside a message.
+abbrev pub LinkStops : ℕ → ℕ → Fault → (stream : List ℕ) → (failed_old failed_new : ℕ) → (ended_old ended_new : ℕ) → Type 0
+LinkStops w h LinkFailed stream failed_old failed_new ended_old ended_new = HasRisen failed_old failed_new
+LinkStops w h LinkEnded stream failed_old failed_new ended_old ended_new = HasRisen ended_old ended_new × IsInside w h stream
+LinkStops w h _ stream failed_old failed_new ended_old ended_new = ⊥
 
 -- Why it ends otherwise. What was put stays.
-pub record EndsWith (w h : ℕ) (fault : Fault) (taken_old taken_new : List ℕ) (failed_old failed_new : ℕ) (has_ended : Bool) (old new : List Update) : Type 0 where
+pub record EndsWith (w h : ℕ) (fault : Fault) (taken_old taken_new : List ℕ) (failed_old failed_new : ℕ) (ended_old ended_new : ℕ) (old new : List Update) : Type 0 where
   pub stream : List ℕ
   pub taken : taken_new ≡ taken_old ++ stream
-  pub stops : (ArePut w h stream old new × LinkStops w h fault stream failed_old failed_new has_ended) ⊎ Stops w h fault stream old new
+  pub stops : (ArePut w h stream old new × LinkStops w h fault stream failed_old failed_new ended_old ended_new) ⊎ Stops w h fault stream old new
 
 -- ---- on the way
 

@@ -1,5 +1,5 @@
 -- Joining a host over a link.
-use Rattle.std.specs.Prelude.{◌≡◌, ◌≤◌, ◌⊎◌, ℕ, Bool, true, false, List, [], ◌∷◌, ◌++◌}
+use Rattle.std.specs.Prelude.{◌≡◌, ◌≤◌, ◌⊎◌, ℕ, false, List, [], ◌∷◌, ◌++◌}
 use Rattle.pixel_format.specs.PixelFormat.{host_format}
 use Rattle.pixel_format.specs.Reading.{Faulty, after, Spells}
 use Rattle.pixel_format.specs.declared.fault.Fault.{Fault}
@@ -32,13 +32,13 @@ pub record Joins (taken_old taken_new given_old given_new : List ℕ) (joined : 
   pub spells : Spells host_hello heard joined
   pub given : given_new ≡ given_old ++ version ++ (1 ∷ 1 ∷ []) ++ first_messages joined
 
--- The link failed in the meantime, or it has ended.
-abbrev pub LinkFails : Fault → (failed_old failed_new : ℕ) → (ended : Bool) → Type 0
-LinkFails LinkFailed failed_old failed_new ended = HasRisen failed_old failed_new
-LinkFails LinkEnded failed_old failed_new ended = ended ≡ true
-LinkFails _ failed_old failed_new ended = ⊥
+-- The link failed in the meantime, or it said in the meantime that it ended.
+abbrev pub LinkFails : Fault → (failed_old failed_new : ℕ) → (ended_old ended_new : ℕ) → Type 0
+LinkFails LinkFailed failed_old failed_new ended_old ended_new = HasRisen failed_old failed_new
+LinkFails LinkEnded failed_old failed_new ended_old ended_new = HasRisen ended_old ended_new
+LinkFails _ failed_old failed_new ended_old ended_new = ⊥
 
 -- That, or the handshake that was taken is at fault.
-abbrev pub FailsAs : Fault → (failed_old failed_new : ℕ) → (ended : Bool) → (taken_old taken_new : List ℕ) → Type 0
-FailsAs fault failed_old failed_new ended taken_old taken_new =
-    LinkFails fault failed_old failed_new ended ⊎ ((heard : List ℕ) × (taken_new ≡ taken_old ++ heard) × (after host_hello heard ≡ Faulty fault))
+abbrev pub FailsAs : Fault → (failed_old failed_new : ℕ) → (ended_old ended_new : ℕ) → (taken_old taken_new : List ℕ) → Type 0
+FailsAs fault failed_old failed_new ended_old ended_new taken_old taken_new =
+    LinkFails fault failed_old failed_new ended_old ended_new ⊎ ((heard : List ℕ) × (taken_new ≡ taken_old ++ heard) × (after host_hello heard ≡ Faulty fault))

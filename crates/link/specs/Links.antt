@@ -1,5 +1,5 @@
 -- What a link answers, and what it leaves.
-use Rattle.std.specs.Prelude.{◌≡◌, ℕ, ◌+◌, ◌^◌, ◌≤◌, ◌<◌, ◌⊎◌, Bool, true, List, ◌++◌, length, take, min}
+use Rattle.std.specs.Prelude.{◌≡◌, ℕ, ◌+◌, ◌^◌, ◌≤◌, ◌<◌, ◌⊎◌, List, ◌++◌, length, take, min}
 use Rattle.link.specs.declared.link.Took.{Took}
 use Rattle.link.specs.declared.link.Took.TheVariants as took
 use Rattle.link.specs.declared.link.Gave.{Gave}
@@ -24,13 +24,13 @@ abbrev pub GaveCounts : Gave → ℕ → ℕ → Type 0
 GaveCounts gave.Failed old new = new ≡ min (2 ^ 62) (old + 1)
 GaveCounts _ old new = new ≡ old
 
--- The end is told.
-abbrev pub TookEnds : Took → Bool → Bool → Type 0
-TookEnds took.End old new = new ≡ true
+-- That the link ended is counted each time it says so, up to 2 ^ 62.
+abbrev pub TookEnds : Took → ℕ → ℕ → Type 0
+TookEnds took.End old new = new ≡ min (2 ^ 62) (old + 1)
 TookEnds _ old new = new ≡ old
 
-abbrev pub GaveEnds : Gave → Bool → Bool → Type 0
-GaveEnds gave.End old new = new ≡ true
+abbrev pub GaveEnds : Gave → ℕ → ℕ → Type 0
+GaveEnds gave.End old new = new ≡ min (2 ^ 62) (old + 1)
 GaveEnds _ old new = new ≡ old
 
 -- A count has risen, or stands where it stays.

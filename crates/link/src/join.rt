@@ -14,7 +14,8 @@ fn give_all<L: Link, R: Wait>(rt: &R, link: &mut L, bytes: &[u8]) -> Result<(), 
     ensures given { OnOk result (L.given link.new ≡ L.given link.old ++ bytes.now) }
     ensures taken { L.taken link.new ≡ L.taken link.old }
     ensures failed { OnOk result (L.failed link.new ≡ L.failed link.old) }
-    ensures err { IfErr result (λ fault. LinkFails fault (L.failed link.old) (L.failed link.new) (L.ended link.new)) }
+    ensures ended { OnOk result (L.ended link.new ≡ L.ended link.old) }
+    ensures err { IfErr result (λ fault. LinkFails fault (L.failed link.old) (L.failed link.new) (L.ended link.old) (L.ended link.new)) }
 {
     let mut left = bytes;
     for _ in rt.forever() {
@@ -39,7 +40,8 @@ fn take_byte<L: Link, R: Wait>(rt: &R, link: &mut L) -> Result<u8, Fault>
     ensures taken { IfOk result (λ byte. L.taken link.new ≡ L.taken link.old ++ byte ∷ []) }
     ensures given { L.given link.new ≡ L.given link.old }
     ensures failed { OnOk result (L.failed link.new ≡ L.failed link.old) }
-    ensures err { IfErr result (λ fault. LinkFails fault (L.failed link.old) (L.failed link.new) (L.ended link.new)) }
+    ensures ended { OnOk result (L.ended link.new ≡ L.ended link.old) }
+    ensures err { IfErr result (λ fault. LinkFails fault (L.failed link.old) (L.failed link.new) (L.ended link.old) (L.ended link.new)) }
 {
     let mut byte = [0];
     for _ in rt.forever() {
@@ -57,7 +59,8 @@ fn take_byte<L: Link, R: Wait>(rt: &R, link: &mut L) -> Result<u8, Fault>
 fn hear<L: Link, R: Wait>(rt: &R, link: &mut L) -> Result<Joined, Fault>
     ensures joined { IfOk result (λ joined. Hears (L.taken link.old) (L.taken link.new) (L.given link.old) (L.given link.new) joined) }
     ensures failed { OnOk result (L.failed link.new ≡ L.failed link.old) }
-    ensures err { IfErr result (λ fault. FailsAs fault (L.failed link.old) (L.failed link.new) (L.ended link.new) (L.taken link.old) (L.taken link.new)) }
+    ensures ended { OnOk result (L.ended link.new ≡ L.ended link.old) }
+    ensures err { IfErr result (λ fault. FailsAs fault (L.failed link.old) (L.failed link.new) (L.ended link.old) (L.ended link.new) (L.taken link.old) (L.taken link.new)) }
 {
     let mut hello = HostHello::new();
     for _ in rt.forever() {
@@ -82,7 +85,8 @@ fn hear<L: Link, R: Wait>(rt: &R, link: &mut L) -> Result<Joined, Fault>
 pub fn join_host<L: Link, R: Wait>(rt: &R, link: &mut L) -> Result<Joined, Fault>
     ensures joined { IfOk result (λ joined. Joins (L.taken link.old) (L.taken link.new) (L.given link.old) (L.given link.new) joined) }
     ensures failed { OnOk result (L.failed link.new ≡ L.failed link.old) }
-    ensures err { IfErr result (λ fault. FailsAs fault (L.failed link.old) (L.failed link.new) (L.ended link.new) (L.taken link.old) (L.taken link.new)) }
+    ensures ended { OnOk result (L.ended link.new ≡ L.ended link.old) }
+    ensures err { IfErr result (λ fault. FailsAs fault (L.failed link.old) (L.failed link.new) (L.ended link.old) (L.ended link.new) (L.taken link.old) (L.taken link.new)) }
 {
     let joined = hear(rt, link)?;
     let mut format = [0; 20];

@@ -1,6 +1,6 @@
 //! What a link to a peer does.
 
-ghost use Rattle.std.specs.Prelude.{◌≡◌, ◌<◌, ℕ, Bool, List, length};
+ghost use Rattle.std.specs.Prelude.{◌≡◌, ◌<◌, ℕ, List, length};
 ghost use Rattle.link.specs.Links.{TakesAs, GivesAs, TookCounts, GaveCounts, TookEnds, GaveEnds};
 
 /// What came of taking bytes: how many there were, none yet, none any more, or a failure.
@@ -21,7 +21,7 @@ pub enum Gave {
     Failed,
 }
 
-/// A link to a peer. It counts its failures, and the count stays where it is `LIMIT`.
+/// A link to a peer. It counts how often it failed and how often it said that it ended. A count stays where it is 2^62.
 pub trait Link {
     /// The bytes that were taken from the peer.
     ghost taken: { Self → List ℕ };
@@ -32,8 +32,8 @@ pub trait Link {
     /// How often the link has failed.
     ghost failed: { Self → ℕ };
 
-    /// Whether the link has said that it ended.
-    ghost ended: { Self → Bool };
+    /// How often the link has said that it ended.
+    ghost ended: { Self → ℕ };
 
     /// Takes bytes into the front of the slice.
     fn take(&mut self, into: &mut [u8]) -> Took

@@ -1,6 +1,6 @@
 //! A link in memory.
 
-ghost use Rattle.std.specs.Prelude.{◌≡◌, ℕ, ◌+◌, ◌≤◌, [], ◌++◌, false, length, take, IfOk, IfErr};
+ghost use Rattle.std.specs.Prelude.{◌≡◌, ℕ, ◌+◌, ◌≤◌, [], ◌++◌, length, take, IfOk, IfErr};
 ghost use Rattle.pixel_format.specs.declared.fault.Fault.TheVariants.{Memory};
 
 use crate::link::{Gave, Link, Took};
@@ -27,7 +27,7 @@ pub struct MemoryLink {
     gives: Vec<Gave>,
     next_give: usize,
     failures: u64,
-    ended: bool,
+    ends: u64,
 }
 
 impl Model for MemoryLink {
@@ -36,9 +36,9 @@ impl Model for MemoryLink {
 
     ghost Value = { InMemory };
 
-    ghost view = { λ l. record { taken = take l.taken l.sends.items; given = take l.given l.room.items; failed = l.failures; ended = l.ended } };
+    ghost view = { λ l. record { taken = take l.taken l.sends.items; given = take l.given l.room.items; failed = l.failures; ended = l.ends } };
 
-    ghost invariant = { λ l. (l.taken ≤ length l.sends.items) × (l.given ≤ length l.room.items) × (l.failures ≤ 2 ^ 62) };
+    ghost invariant = { λ l. (l.taken ≤ length l.sends.items) × (l.given ≤ length l.room.items) × (l.failures ≤ 2 ^ 62) × (l.ends ≤ 2 ^ 62) };
 }
 
 // How many bytes these answers allow in all.
@@ -64,7 +64,7 @@ fn put_at(slice: &mut [u8], start: usize, bytes: &[u8])
 }
 
 impl MemoryLink {
-    ghost use Rattle.std.specs.Prelude.{◌≡◌, ℕ, ◌^◌, min, ◌+◌, [], false, true, IfOk, IfErr};
+    ghost use Rattle.std.specs.Prelude.{◌≡◌, ℕ, ◌^◌, min, ◌+◌, [], IfOk, IfErr};
 
     /// A link to a peer that sends these bytes. `Memory` where there is no room for all that the peer may be given.
     pub fn new(
@@ -73,7 +73,7 @@ impl MemoryLink {
         takes: Vec<Took>,
         gives: Vec<Gave>,
     ) -> Result<MemoryLink, Fault>
-        ensures ok { IfOk result (λ link. link ≡ record { taken = []; given = []; failed = 0; ended = false }) }
+        ensures ok { IfOk result (λ link. link ≡ record { taken = []; given = []; failed = 0; ended = 0 }) }
         ensures err { IfErr result (λ fault. fault ≡ Memory) }
     {
         match vec![in alloc; 0u8; most(gives.as_slice())] {
@@ -87,7 +87,7 @@ impl MemoryLink {
                 gives,
                 next_give: 0,
                 failures: 0,
-                ended: false,
+                ends: 0,
             }),
             Err(_) => Err(Fault::Memory),
         }
@@ -143,9 +143,9 @@ impl MemoryLink {
     }
 
     fn end(&mut self)
-        ensures { self.new ≡ record self.old { ended = true } }
+        ensures { self.new ≡ record self.old { ended = min (2 ^ 62) (self.old.ended + 1) } }
     {
-        self.ended = true;
+        self.ends = LIMIT.min(self.ends + 1);
     }
 }
 

@@ -1,7 +1,7 @@
 use Rattle.std.proofs.Common.{◌≡◌, length, refl, ap, ◌∙◌, arith}
 use Rattle.std.proofs.lemmas.List.{with_items_is}
 use Rattle.std.proofs.lemmas.Result.{err_from_is_err_and}
-use Rattle.host_reader.proofs.Steps.{running_begins, running_fails, running_goes_on, running_stops, took_piece}
+use Rattle.host_reader.proofs.Steps.{running_begins, running_ends, running_ends_inside, running_fails, running_goes_on, running_stops, took_piece}
 use Rattle.host_reader.proofs.run.run_host.Goals as goal
 
 pub loop-init : goal.loop-init
@@ -17,6 +17,7 @@ loop-init g c = (
     publisher_high = refl;
     given = refl;
     failed = refl;
+    ended = refl;
     running = running_begins c.args.decoder.now c.args.painter.now _ _ c.requires.begins;
   },
 )
@@ -27,7 +28,7 @@ returns-in_err-is_between-in-Bytes-clause-err g c =
     let inv = c.loop.invariant.2 in
     let filled : c.as_slice.result.now ≡ c.take.new.into = c.as_slice.ensures.value ∙ with_items_is c.loop.buffer c.take.new.into (omega arith) in
     rw (p.1, p.2)
-    (running_stops c.args.decoder.now.width c.args.decoder.now.height c.loop.decoder c.loop.painter c.loop.is_between _ _ _ c.split_at.result.0.now _ _ _ _ _ _ _ inv.wide inv.high inv.running
+    (running_stops c.args.decoder.now.width c.args.decoder.now.height c.loop.decoder c.loop.painter c.loop.is_between _ _ _ c.split_at.result.0.now _ _ _ _ _ _ _ _ inv.wide inv.high inv.running
     (took_piece (g.L.Link.taken c.loop.link) (g.L.Link.taken c.take.new.self) c.take.new.into c.as_slice.result.now c.split_at.result.0.now c.in-Bytes.count c.split_at.ensures.front filled c.in-Bytes.ensures.bytes.2)
     c.in_err-is_between-in-Bytes.ensures.puts)
 
@@ -47,6 +48,7 @@ loop-preserved-in-Bytes g c =
         publisher_high = c.put_piece.ensures.publisher.1 ∙ inv.publisher_high;
         given = c.take.ensures.given ∙ inv.given;
         failed = c.in-Bytes.ensures.failed ∙ inv.failed;
+        ended = c.in-Bytes.ensures.ended ∙ inv.ended;
         running = running_goes_on c.args.decoder.now.width c.args.decoder.now.height c.loop.decoder c.put_piece.new.decoder c.loop.painter c.put_piece.new.painter c.loop.is_between c.in_ok-is_between-in-Bytes.is_between _ _ _ c.split_at.result.0.now _ _ _
             inv.wide inv.high inv.running
             (took_piece (g.L.Link.taken c.loop.link) (g.L.Link.taken c.take.new.self) c.take.new.into c.as_slice.result.now c.split_at.result.0.now c.in-Bytes.count c.split_at.ensures.front filled c.in-Bytes.ensures.bytes.2)
@@ -57,4 +59,14 @@ loop-preserved-in-Bytes g c =
 pub returns-in-Failed-clause-err : goal.returns-in-Failed-clause-err
 returns-in-Failed-clause-err g c =
     let inv = c.loop.invariant.2 in
-    running_fails _ _ c.loop.decoder c.loop.painter c.loop.is_between _ _ _ _ _ _ _ _ _ inv.running c.in-Failed.ensures.bytes inv.failed c.in-Failed.ensures.failed
+    running_fails _ _ c.loop.decoder c.loop.painter c.loop.is_between _ _ _ _ _ _ _ _ _ _ inv.running c.in-Failed.ensures.bytes inv.failed c.in-Failed.ensures.failed
+
+pub returns-in-End-clause-ok : goal.returns-in-End-clause-ok
+returns-in-End-clause-ok g c =
+    let inv = c.loop.invariant.2 in
+    running_ends _ _ c.loop.decoder c.loop.painter c.loop.is_between _ _ _ _ _ _ _ _ c.if-is_between.true inv.running c.in-End.ensures.bytes inv.ended c.in-End.ensures.ended
+
+pub returns-in-End-2-clause-err : goal.returns-in-End-2-clause-err
+returns-in-End-2-clause-err g c =
+    let inv = c.loop.invariant.2 in
+    running_ends_inside _ _ c.loop.decoder c.loop.painter c.loop.is_between _ _ _ _ _ _ _ _ _ _ c.if-is_between.false inv.running c.in-End-2.ensures.bytes inv.ended c.in-End-2.ensures.ended

@@ -7,3 +7,4 @@ invariant-loop g l =
     × (g.L.Link.given l.link ++ l.left ≡ g.L.Link.given l.fn.link ++ l.fn.bytes)
     × (g.L.Link.taken l.link ≡ g.L.Link.taken l.fn.link)
     × (g.L.Link.failed l.link ≡ g.L.Link.failed l.fn.link)
+    × (g.L.Link.ended l.link ≡ g.L.Link.ended l.fn.link)

@@ -14,6 +14,7 @@ loop-preserved g c = (
   hearing_goes_on _ _ _ _ _ _ _ _ c.out.result.now c.loop.hello c.sent.new.self c.feed.new.self _ c.in_ok-byte.byte c.loop.invariant.2 c.give_all.ensures.taken c.in_ok-give_all.ensures.given c.out.ensures.value
       (ap length c.out-count.ensures.value) c.sent.ensures (sym c.done.ensures ∙ c.in-None-done.is) c.in_ok-byte.ensures.taken c.take_byte.ensures.given c.feed.ensures.heard c.feed.ensures.sent c.in_ok-feed.ensures.reads.2,
   c.in_ok-byte.ensures.failed ∙ (c.in_ok-give_all.ensures.failed ∙ c.loop.invariant.3),
+  c.in_ok-byte.ensures.ended ∙ (c.in_ok-give_all.ensures.ended ∙ c.loop.invariant.4),
 )
 
 pub returns-in_err-feed-clause-err : goal.returns-in_err-feed-clause-err

@@ -7,3 +7,4 @@ invariant-loop g l =
     (goal.iterator-loop g).can_next l.iterator' × (goal.iterator-loop g).is_finite l.iterator'
     × IsHearing (g.L.Link.taken l.fn.link) (g.L.Link.taken l.link) (g.L.Link.given l.fn.link) (g.L.Link.given l.link) l.hello
     × (g.L.Link.failed l.link ≡ g.L.Link.failed l.fn.link)
+    × (g.L.Link.ended l.link ≡ g.L.Link.ended l.fn.link)
