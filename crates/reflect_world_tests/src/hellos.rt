@@ -1,10 +1,12 @@
 //! Viewers that begin with their hello (RFC 6143, 7.1 to 7.3).
 
 use crate::played::{ASK, GREEN_AND_RED, PAINTED, plays, plays_bytes, push_bytes};
+use crate::worlds::of_one_pixel;
 use pixel_format::Fault;
 use reflect_world::{Step, World, play};
 use roles::Role;
 use std::alloc::Global;
+use std::process::Abort;
 use std::test::Fail;
 
 /// A viewer begins with its hello, and is told the version.
@@ -117,50 +119,61 @@ const HELLO_AND_ASK: &[u8] = b"RFB 003.008\n\x01\x01\x03\0\0\0\0\0\0\x01\0\x01";
 const TOLD: &[u8] =
     b"RFB 003.008\n\x01\x01\0\0\0\0\0\x01\0\x01\x20\x18\0\x01\0\xFF\0\xFF\0\xFF\x10\x08\0\0\0\0\0\0\0\x01T";
 
-/// A world of one red pixel, whose viewer 1 begins with its hello.
-fn greeted(alloc: Global) -> Result<World, Fail> {
-    let mut world = World::new(alloc, 1, 1, b"T", 0)?;
+/// The pixel becomes red, and viewer 1 begins with its hello.
+fn greet(alloc: Global, world: &mut World) -> Result<(), Fail> {
     world.join(1, Role::Full, true)?;
     let steps = [
         Step::HostBytes(Vec::from_slice(alloc, &RED)?),
         Step::Put,
         Step::Raise,
     ];
-    play(&mut world, &steps)?;
-    Ok(world)
+    play(world, &steps)?;
+    Ok(())
 }
 
 #[test]
 fn cut_at_each_place(rt: HostRuntime) -> Result<(), Fail> {
-    let alloc = rt.alloc();
     for cut in 0..=24 {
-        let stream = HELLO_AND_ASK;
-        let (before, behind) = stream.split_at(cut);
-        let mut world = greeted(alloc)?;
-        let steps = [
-            Step::Bytes(1, Vec::from_slice(alloc, before)?),
-            Step::Written(1, 1),
-            Step::Bytes(1, Vec::from_slice(alloc, behind)?),
-            Step::Look(1),
-            Step::Cut(1),
-            Step::Written(1, 100),
-        ];
-        play(&mut world, &steps)?;
-        assert!(rt; world.written(1) == TOLD);
-        play(
-            &mut world,
-            &[Step::Look(1), Step::Cut(1), Step::Written(1, 100)],
-        )?;
-        let written = world.written(1);
-        assert!(rt; written.starts_with(TOLD) && &written[43..] == RED.as_slice());
+        let mut world = of_one_pixel(rt.alloc())?;
+        is_told_whole(&rt, &mut world, HELLO_AND_ASK, cut)?;
     }
+    Ok(())
+}
+
+fn is_told_whole<R: Abort + AllocGlobal>(
+    rt: &R,
+    world: &mut World,
+    stream: &[u8],
+    cut: usize,
+) -> Result<(), Fail> {
+    let alloc = rt.alloc();
+    greet(alloc, world)?;
+    let (before, behind) = stream.split_at(cut.min(stream.len()));
+    let steps = [
+        Step::Bytes(1, Vec::from_slice(alloc, before)?),
+        Step::Written(1, 1),
+        Step::Bytes(1, Vec::from_slice(alloc, behind)?),
+        Step::Look(1),
+        Step::Cut(1),
+        Step::Written(1, 100),
+    ];
+    play(world, &steps)?;
+    assert!(rt; world.written(1) == TOLD);
+    play(world, &[Step::Look(1), Step::Cut(1), Step::Written(1, 100)])?;
+    let written = world.written(1);
+    assert!(rt; written.starts_with(TOLD) && &written[43..] == RED.as_slice());
     Ok(())
 }
 
 #[test]
 fn bytes_due_before_a_fault(rt: HostRuntime) -> Result<(), Fail> {
+    let mut world = of_one_pixel(rt.alloc())?;
+    is_told_up_to_a_fault(&rt, &mut world)
+}
+
+fn is_told_up_to_a_fault<R: Abort + AllocGlobal>(rt: &R, world: &mut World) -> Result<(), Fail> {
     let alloc = rt.alloc();
-    let mut world = greeted(alloc)?;
+    greet(alloc, world)?;
     let steps = [
         Step::Bytes(1, Vec::from_slice(alloc, b"RFB 003.008\n\x02\x01")?),
         Step::Bytes(1, Vec::from_slice(alloc, HELLO_AND_ASK)?),
@@ -168,7 +181,7 @@ fn bytes_due_before_a_fault(rt: HostRuntime) -> Result<(), Fail> {
         Step::Cut(1),
         Step::Written(1, 100),
     ];
-    play(&mut world, &steps)?;
+    play(world, &steps)?;
     assert!(rt; matches!(world.fault(1), Some(Fault::BadChoice)));
     let told = TOLD;
     assert!(rt; world.written(1) == &told[..14]);

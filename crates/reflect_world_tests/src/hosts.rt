@@ -1,7 +1,9 @@
 //! What hosts send, message by message.
 
 use crate::played::{ASK, ASK_FOR_CHANGES, GREEN_AND_RED, PAINTED, plays};
+use crate::worlds::of_one_pixel;
 use reflect_world::{Step, World, play};
+use std::process::Abort;
 use std::test::Fail;
 
 /// The host's update of `PAINTED` and one in Hextile behind it, whose tile has no background, each byte on a line of its own.
@@ -91,14 +93,15 @@ fn bell_and_text_that_are_not_sent(rt: HostRuntime) -> Result<(), Fail> {
 
 #[test]
 fn updates_are_counted_as_they_are_put(rt: HostRuntime) -> Result<(), Fail> {
-    let alloc = rt.alloc();
-    let mut world = World::new(alloc, 1, 1, b"T", 0)?;
-    play(
-        &mut world,
-        &[Step::HostBytes(Vec::from_slice(alloc, &MESSAGES)?)],
-    )?;
+    let mut world = of_one_pixel(rt.alloc())?;
+    counts(&rt, &mut world)
+}
+
+fn counts<R: Abort + AllocGlobal>(rt: &R, world: &mut World) -> Result<(), Fail> {
+    let bytes = Vec::from_slice(rt.alloc(), &MESSAGES)?;
+    play(world, &[Step::HostBytes(bytes)])?;
     for count in [1, 2, 3, 4, 4] {
-        play(&mut world, &[Step::Put])?;
+        play(world, &[Step::Put])?;
         assert_eq!(rt; world.updates(), count);
     }
     assert!(rt; world.host_fault().is_none());
