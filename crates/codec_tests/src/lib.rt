@@ -9,3 +9,5 @@ mod hextile_fed;
 mod hextile_reading;
 #[cfg(test)]
 mod hextile_writing;
+#[cfg(test)]
+mod rre_reading;
