@@ -28,6 +28,12 @@ turn_inside w h k a b p q lt = rw (count_is w h a b p q) at lt
 turn_over : (w h k a b : ℕ) → a ≡ div_ceil w 16 → b ≡ div_ceil h 16 → a * b ≤ k → tile_count w h ≤ k
 turn_over w h k a b p q le = rw (count_is w h a b p q) at le
 
+pub choose-choice-requires-clause-h_some : goal.choose-choice-requires-clause-h_some
+choose-choice-requires-clause-h_some c =
+    let inside = turn_inside c.args.w c.args.h c.loop-k.k c.div_ceil.result c.div_ceil-2.result c.div_ceil.ensures c.div_ceil-2.ensures c.loop-k-test.true in
+    let lies : IsTile c.args.w c.args.h c.tile_rect-tile.result = rw c.tile_rect-tile.ensures (tile_lies c.args.w c.args.h c.loop-k.k c.requires.wide.0 inside) in
+    lies.h_some
+
 pub choose-choice-requires-clause-down : goal.choose-choice-requires-clause-down
 choose-choice-requires-clause-down c =
     let inside = turn_inside c.args.w c.args.h c.loop-k.k c.div_ceil.result c.div_ceil-2.result c.div_ceil.ensures c.div_ceil-2.ensures c.loop-k-test.true in
