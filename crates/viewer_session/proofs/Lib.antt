@@ -8,3 +8,4 @@ pub mod Stands
 pub mod Accepted
 pub mod Streams
 pub mod TurnLaws
+pub mod Parts
