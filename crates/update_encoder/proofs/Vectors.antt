@@ -1,13 +1,16 @@
--- The definitions compute where a CopyRect is written, and what a follower knows.
-use Rattle.std.proofs.Common.{◌≡◌, ℕ, List, [], ◌∷◌, ◌++◌, true, false, refl}
-use Rattle.std.specs.Prelude.{Some, None, ◌==◌, if◌then◌else◌}
+-- The definitions compute what an answer's bytes are, and what a follower of answers holds.
+use Rattle.std.proofs.Common.{◌≡◌, ℕ, zero, suc, List, [], ◌∷◌, ◌++◌, map, replicate, true, false, refl, arith}
+use Rattle.std.specs.Prelude.{Option, Some, None, ◌==◌, ◌||◌, if◌then◌else◌}
+use Rattle.std.specs.List.{range_with_len}
 use Rattle.pixel_format.specs.PixelFormat.{PixelFormat, host_format}
 use Rattle.raster.specs.declared.rect.Rect.{Rect}
-use Rattle.raster.specs.declared.encoding.Encoding.TheVariants.{Raw}
+use Rattle.raster.specs.declared.encoding.Encoding.{Encoding}
+use Rattle.raster.specs.declared.encoding.Encoding.TheVariants.{Raw, Rre, Hextile}
 use Rattle.raster.specs.Screen.{Canvas}
+use Rattle.raster.specs.Update.{Paints, Put, Update}
 use Rattle.rfb_wire.specs.ClientMessage.{Choice}
 use Rattle.update_encoder.specs.Answer.{answer_bytes}
-use Rattle.update_encoder.specs.Follower.{Format, Answer, follower}
+use Rattle.update_encoder.specs.Follower.{Received, Format, Answer, HoldsArea, follower, only_message}
 
 abbrev rect : ℕ → ℕ → ℕ → ℕ → Rect
 rect x y w h = record { x = x; y = y; w = w; h = h }
@@ -64,3 +67,175 @@ answer_is_known = refl
 
 pub format_makes_unknown : (follower 1 1 (Answer ((0 ∷ 0 ∷ 0 ∷ 1 ∷ []) ++ raw_head 0 ++ 0 ∷ 0 ∷ 255 ∷ 0 ∷ []) ∷ Format host_format ∷ [])).held 0 0 ≡ None
 format_makes_unknown = refl
+
+-- ---- in the encoding that was chosen
+
+abbrev chosen : Encoding → Choice
+chosen kind = record { kind = kind; copy = false }
+
+abbrev red_pixel : List ℕ
+red_pixel = 0 ∷ 0 ∷ 255 ∷ 0 ∷ []
+
+abbrev blue_pixel : List ℕ
+blue_pixel = 255 ∷ 0 ∷ 0 ∷ 0 ∷ []
+
+abbrev black_pixel : List ℕ
+black_pixel = 0 ∷ 0 ∷ 0 ∷ 0 ∷ []
+
+-- An update of one rectangle from the top left, so wide and high, in an encoding.
+abbrev one_rectangle : ℕ → ℕ → ℕ → List ℕ → List ℕ
+one_rectangle w h encoding data_bytes = 0 ∷ 0 ∷ 0 ∷ 1 ∷ 0 ∷ 0 ∷ 0 ∷ 0 ∷ 0 ∷ w ∷ 0 ∷ h ∷ 0 ∷ 0 ∷ 0 ∷ encoding ∷ data_bytes
+
+-- Red, and blue to its right.
+abbrev red_then_blue : Canvas
+red_then_blue x y = if x == 0 then 0xFF0000 else 0x0000FF
+
+pub in_rre : answer_bytes host_format (chosen Rre) red_then_blue false (rect 0 0 8 1 ∷ []) ≡ one_rectangle 8 1 2 ((0 ∷ 0 ∷ 0 ∷ 1 ∷ []) ++ red_pixel ++ blue_pixel ++ 0 ∷ 1 ∷ 0 ∷ 0 ∷ 0 ∷ 7 ∷ 0 ∷ 1 ∷ [])
+in_rre = refl
+
+pub in_hextile : answer_bytes host_format (chosen Hextile) red_then_blue false (rect 0 0 8 1 ∷ []) ≡ one_rectangle 8 1 5 ((0x0E ∷ []) ++ red_pixel ++ blue_pixel ++ 1 ∷ 0x10 ∷ 0x60 ∷ [])
+in_hextile = refl
+
+pub two_hextile_tiles : answer_bytes host_format (chosen Hextile) red false (rect 0 0 17 1 ∷ []) ≡ one_rectangle 17 1 5 ((2 ∷ []) ++ red_pixel ++ 0 ∷ [])
+two_hextile_tiles = refl
+
+-- Where it has no fewer bytes the rectangle is Raw: 20 in RRE against 12, and 5 in Hextile against 4.
+pub rre_would_be_longer : answer_bytes host_format (chosen Rre) red_then_blue false (rect 0 0 3 1 ∷ []) ≡ one_rectangle 3 1 0 (red_pixel ++ blue_pixel ++ blue_pixel)
+rre_would_be_longer = refl
+
+pub hextile_would_be_longer : answer_bytes host_format (chosen Hextile) red false (rect 0 0 1 1 ∷ []) ≡ one_rectangle 1 1 0 red_pixel
+hextile_would_be_longer = refl
+
+-- Each run by itself: on black, blue at the columns 0 and 32, the first run in RRE and the second Raw.
+abbrev two_blues : Canvas
+two_blues x y = if (x == 0) || (x == 32) then 0x0000FF else 0
+
+abbrev rre_and_raw : List ℕ
+rre_and_raw =
+    (0 ∷ 0 ∷ 0 ∷ 2 ∷ []) ++ (0 ∷ 0 ∷ 0 ∷ 0 ∷ 0 ∷ 16 ∷ 0 ∷ 1 ∷ 0 ∷ 0 ∷ 0 ∷ 2 ∷ []) ++ (0 ∷ 0 ∷ 0 ∷ 1 ∷ []) ++ blue_pixel ++ black_pixel ++ (0 ∷ 1 ∷ 0 ∷ 0 ∷ 0 ∷ 15 ∷ 0 ∷ 1 ∷ [])
+    ++ (0 ∷ 32 ∷ 0 ∷ 0 ∷ 0 ∷ 1 ∷ 0 ∷ 1 ∷ 0 ∷ 0 ∷ 0 ∷ 0 ∷ []) ++ blue_pixel
+
+pub each_run_by_itself : answer_bytes host_format (chosen Rre) two_blues true (rect 0 0 16 1 ∷ rect 32 0 1 1 ∷ []) ≡ rre_and_raw
+each_run_by_itself = refl
+
+-- Two rows of tiles of a screen of 17 by 17.
+pub two_rows_of_tiles : answer_bytes host_format (chosen Rre) (λ x y. 0) false (rect 0 0 17 16 ∷ rect 0 16 17 1 ∷ [])
+    ≡ (0 ∷ 0 ∷ 0 ∷ 2 ∷ []) ++ (0 ∷ 0 ∷ 0 ∷ 0 ∷ 0 ∷ 17 ∷ 0 ∷ 16 ∷ 0 ∷ 0 ∷ 0 ∷ 2 ∷ 0 ∷ 0 ∷ 0 ∷ 0 ∷ []) ++ black_pixel
+    ++ (0 ∷ 0 ∷ 0 ∷ 16 ∷ 0 ∷ 17 ∷ 0 ∷ 1 ∷ 0 ∷ 0 ∷ 0 ∷ 2 ∷ 0 ∷ 0 ∷ 0 ∷ 0 ∷ []) ++ black_pixel
+two_rows_of_tiles = refl
+
+-- A CopyRect goes before RRE.
+abbrev copied_below : List ℕ
+copied_below =
+    (0 ∷ 0 ∷ 0 ∷ 2 ∷ []) ++ (0 ∷ 0 ∷ 0 ∷ 0 ∷ 0 ∷ 16 ∷ 0 ∷ 16 ∷ 0 ∷ 0 ∷ 0 ∷ 2 ∷ 0 ∷ 0 ∷ 0 ∷ 0 ∷ []) ++ red_pixel
+    ++ 0 ∷ 0 ∷ 0 ∷ 16 ∷ 0 ∷ 16 ∷ 0 ∷ 16 ∷ 0 ∷ 0 ∷ 0 ∷ 1 ∷ 0 ∷ 0 ∷ 0 ∷ 0 ∷ []
+
+pub copied_before_rre : answer_bytes host_format (record { kind = Rre; copy = true }) red true (rect 0 0 16 16 ∷ rect 0 16 16 16 ∷ []) ≡ copied_below
+copied_before_rre = refl
+
+-- ---- what a follower holds
+
+-- What it holds in the first row of a screen of w by 1.
+abbrev row : ℕ → List Received → List (Option ℕ)
+row w received =
+    let held = (follower w 1 received).held in
+    map (λ x. held x 0) (range_with_len 0 w)
+
+abbrev red_green_blue : List ℕ
+red_green_blue = one_rectangle 3 1 0 (red_pixel ++ (0 ∷ 255 ∷ 0 ∷ 0 ∷ []) ++ blue_pixel)
+
+pub nothing_is_known : row 3 [] ≡ None ∷ None ∷ None ∷ []
+nothing_is_known = refl
+
+-- A CopyRect writes what was held at its source before it: of two pixels from the first on, over the second and third.
+abbrev one_to_the_right : List ℕ
+one_to_the_right = 0 ∷ 0 ∷ 0 ∷ 1 ∷ 0 ∷ 1 ∷ 0 ∷ 0 ∷ 0 ∷ 2 ∷ 0 ∷ 1 ∷ 0 ∷ 0 ∷ 0 ∷ 1 ∷ 0 ∷ 0 ∷ 0 ∷ 0 ∷ []
+
+pub copy_is_followed : row 3 (Answer red_green_blue ∷ Answer one_to_the_right ∷ []) ≡ Some 0xFF0000 ∷ Some 0xFF0000 ∷ Some 0x00FF00 ∷ []
+copy_is_followed = refl
+
+-- What is unknown stays so where it is copied.
+pub copy_of_the_unknown : row 3 (Answer (one_rectangle 1 1 0 red_pixel) ∷ Answer one_to_the_right ∷ []) ≡ Some 0xFF0000 ∷ Some 0xFF0000 ∷ None ∷ []
+copy_of_the_unknown = refl
+
+pub rre_is_followed : row 3 (Answer (one_rectangle 3 1 2 ((0 ∷ 0 ∷ 0 ∷ 1 ∷ []) ++ red_pixel ++ blue_pixel ++ 0 ∷ 1 ∷ 0 ∷ 0 ∷ 0 ∷ 2 ∷ 0 ∷ 1 ∷ [])) ∷ []) ≡ Some 0xFF0000 ∷ Some 0x0000FF ∷ Some 0x0000FF ∷ []
+rre_is_followed = refl
+
+pub hextile_is_followed : row 2 (Answer (one_rectangle 2 1 5 ((0x1E ∷ []) ++ red_pixel ++ black_pixel ++ (1 ∷ []) ++ blue_pixel ++ 0x10 ∷ 0x00 ∷ [])) ∷ []) ≡ Some 0xFF0000 ∷ Some 0x0000FF ∷ []
+hextile_is_followed = refl
+
+-- Two rectangles of one answer, and between them what no answer brought.
+pub two_runs_are_followed : row 33 (Answer rre_and_raw ∷ []) ≡ (Some 0x0000FF ∷ replicate 15 (Some 0)) ++ replicate 16 None ++ Some 0x0000FF ∷ []
+two_runs_are_followed = refl
+
+-- An answer of one byte more is none, and one of one byte less is none: they change nothing.
+abbrev red_one : List ℕ
+red_one = one_rectangle 1 1 0 red_pixel
+
+pub whole_answer : row 1 (Answer (one_rectangle 1 1 0 blue_pixel) ∷ Answer red_one ∷ []) ≡ Some 0xFF0000 ∷ []
+whole_answer = refl
+
+pub one_byte_more : row 1 (Answer (one_rectangle 1 1 0 blue_pixel) ∷ Answer (red_one ++ 0 ∷ []) ∷ []) ≡ Some 0x0000FF ∷ []
+one_byte_more = refl
+
+pub one_byte_less : row 1 (Answer (one_rectangle 1 1 0 blue_pixel) ∷ Answer (one_rectangle 1 1 0 (0 ∷ 0 ∷ 255 ∷ [])) ∷ []) ≡ Some 0x0000FF ∷ []
+one_byte_less = refl
+
+pub more_is_no_message : only_message host_format 1 1 (red_one ++ 0 ∷ []) ≡ None
+more_is_no_message = refl
+
+pub less_is_no_message : only_message host_format 1 1 (one_rectangle 1 1 0 (0 ∷ 0 ∷ 255 ∷ [])) ≡ None
+less_is_no_message = refl
+
+-- Nor are two answers in one, nor one that leaves the screen; a Bell changes nothing.
+pub two_in_one : row 1 (Answer (red_one ++ red_one) ∷ []) ≡ None ∷ []
+two_in_one = refl
+
+pub outside : row 1 (Answer (one_rectangle 2 1 0 (red_pixel ++ blue_pixel)) ∷ []) ≡ None ∷ []
+outside = refl
+
+pub bell_changes_nothing : row 1 (Answer red_one ∷ Answer (2 ∷ []) ∷ []) ≡ Some 0xFF0000 ∷ []
+bell_changes_nothing = refl
+
+-- ---- an area of the host's screen in the viewer's format
+
+abbrev rgb565 : PixelFormat
+rgb565 =
+    record {
+      bits_per_pixel = 16;
+      depth = 16;
+      big_endian = true;
+      red = record { max = 31; shift = 11 };
+      green = record { max = 63; shift = 5 };
+      blue = record { max = 31; shift = 0 };
+    }
+
+abbrev red_blue_update : Update
+red_blue_update = Paints (Put (rect 0 0 2 1) (0xFF0000 ∷ 0x0000FF ∷ []) ∷ [])
+
+-- What a follower has taken after a change to 16 bits, F800 and 001F.
+abbrev in_sixteen_bits : List Received
+in_sixteen_bits = Format rgb565 ∷ Answer (one_rectangle 2 1 0 (0xF8 ∷ 0x00 ∷ 0x00 ∷ 0x1F ∷ [])) ∷ []
+
+pub sixteen_bits_are_followed : row 2 in_sixteen_bits ≡ Some 0xF800 ∷ Some 0x001F ∷ []
+sixteen_bits_are_followed = refl
+
+pub area_is_held : HoldsArea (follower 2 1 in_sixteen_bits) (rect 0 0 2 1) (red_blue_update ∷ [])
+area_is_held zero zero a b c d = refl
+area_is_held (suc zero) zero a b c d = refl
+area_is_held (suc (suc x)) zero a b c d = absurd (omega arith)
+area_is_held x (suc y) a b c d = absurd (omega arith)
+
+other_pixel : (m n : ℕ) → Some m ≡ Some n → m ≡ n
+other_pixel m n e = cc
+
+unknown_pixel : (n : ℕ) → None ≡ Some n → ⊥
+unknown_pixel n e = cc
+
+-- It isn't held of the screen before that update, nor after a further change of format.
+pub not_of_another_screen : HoldsArea (follower 2 1 in_sixteen_bits) (rect 0 0 2 1) [] → ⊥
+not_of_another_screen holds =
+    let e : 0xF800 ≡ 0 = other_pixel 0xF800 0 (holds 0 0 (omega arith) (omega arith) (omega arith) (omega arith)) in omega (arith, e)
+
+pub not_after_a_format : HoldsArea (follower 2 1 (in_sixteen_bits ++ Format rgb565 ∷ [])) (rect 0 0 2 1) (red_blue_update ∷ []) → ⊥
+not_after_a_format holds = unknown_pixel 0xF800 (holds 0 0 (omega arith) (omega arith) (omega arith) (omega arith))
