@@ -1,7 +1,7 @@
 -- Pixel values in bytes, one after another.
 use Rattle.std.proofs.Common.{◌≡◌, ℕ, zero, suc, ◌+◌, ◌-◌, ◌*◌, ◌<◌, ◌≤◌, List, [], ◌∷◌, ◌++◌, length, take, drop, refl, sym, ap, ◌∙◌, append_assoc, arith}
 use Rattle.std.specs.Prelude.{slice_set}
-use Rattle.std.proofs.lemmas.List.{append-nil, take_more_set, length-take, length-drop, length-set}
+use Rattle.std.proofs.lemmas.List.{append-nil, take_all, take_more_set, length-take, length-drop, length-set}
 use Rattle.pixel_format.specs.PixelFormat.{PixelFormat, pixel_len, pixel_of}
 use Rattle.pixel_format.specs.Reading.{Reading, Done, ◌>>=◌, times}
 use Rattle.raster.specs.Encoding.{Carried, Tile, Pixels, pixel}
@@ -29,6 +29,12 @@ row_more format values rest all i v lt e sofar =
     ∙ (ap (λ n. (take i values ++ v ∷ []) ++ pixels_in format n (drop (pixel_len format) rest)) behind
     ∙ (append_assoc (take i values) (v ∷ []) tail
     ∙ (ap (λ u. take i values ++ u ∷ tail) e ∙ (ap (λ t. take i values ++ t) (sym (pixels_cons format (length values - i) rest (omega arith))) ∙ sofar))))
+
+-- All are stored.
+pub row_done : (format : PixelFormat) (values rest all : List ℕ) (i : ℕ) → length values ≤ i → take i values ++ pixels_in format (length values - i) rest ≡ all → values ≡ all
+row_done format values rest all i le sofar =
+    let none : length values - i ≡ 0 = omega arith in
+    sym (ap (λ t. t ++ pixels_in format (length values - i) rest) (take_all i values le) ∙ (ap (λ n. values ++ pixels_in format n rest) none ∙ append-nil values)) ∙ sofar
 
 -- ---- how a Raw tile is read on
 

@@ -1,8 +1,8 @@
 -- A part of a row of a Raw tile is read and drawn.
 use Rattle.std.proofs.Common.{◌≡◌, ℕ, ◌+◌, ◌-◌, ◌*◌, ◌/◌, ◌%◌, ◌<◌, ◌≤◌, Bool, true, false, cond, List, ◌++◌, length, length-append, sym, ◌∙◌, arith}
-use Rattle.std.specs.Prelude.{◌==◌}
+use Rattle.std.specs.Prelude.{◌==◌, min}
 use Rattle.std.specs.Int.{w8, w16, w32, byte_len}
-use Rattle.std.proofs.Math.Nat.{div-add-mod, div-lt_iff_lt-mul, mod-lt, mul-le-mul_right}
+use Rattle.std.proofs.Math.Nat.{div-add-mod, div-lt_iff_lt-mul, le-div_iff_mul-le, mod-lt, mul-le-mul_right}
 use Rattle.pixel_format.specs.PixelFormat.{PixelFormat, pixel_len}
 use Rattle.raster.specs.declared.rect.Rect.{Rect}
 use Rattle.raster.specs.Screen.{Canvas, LooksLike, lay, value_at}
@@ -35,6 +35,24 @@ next_is w h count some lt =
       column = mod-lt count some;
       is = let e = div-add-mod count w in omega (arith, e);
     }
+
+-- How many pixels of a row are read at once, where n bytes are there for each.
+pub record IsPart (w count n len size : ℕ) : Type 0 where
+  pub some : 0 < n
+  pub least : n ≤ w - count % w
+  pub upto : n * size ≤ len
+  pub fills : size ≤ n * size
+
+pub row_part : (w h count n len size : ℕ) {k : ℕ} → 0 < k → size ≡ k → 0 < w → count < w * h → size ≤ len → n ≡ min (w - count % w) (len / size) → IsPart w count n len size
+row_part w h count n len size pixel is some lt le e =
+    let size_some : 0 < size = omega (arith, pixel, is) in
+    let one : 1 ≤ len / size = (le-div_iff_mul-le {k = size} {x = 1} {y = len} size_some).1 (omega (arith, le)) in
+    let next = next_is w h count some lt in
+    let least : n ≤ w - count % w = omega (arith, e) in
+    let few : n ≤ len / size = omega (arith, e) in
+    let more : 0 < n = omega (arith, e, one, next.column) in
+    let fills : 1 * size ≤ n * size = mul-le-mul_right {m = 1} {n = n} size more in
+    record { some = more; least = least; upto = (le-div_iff_mul-le {k = size} {x = n} {y = len} size_some).0 few; fills = omega (arith, fills) }
 
 pub still_inside : (w h count n : ℕ) → 0 < w → count < w * h → n ≤ w - count % w → count + n ≤ w * h
 still_inside w h count n some lt le =

@@ -34,15 +34,19 @@ pub record Sofar : Type 0 where
   pub tiles : List Tile
   pub part : Part
 
+-- Nothing of a tile was read.
 abbrev pub blank : Part
 blank = record { pixels = []; drawing = record { background = 0; subrects = [] } }
 
+-- No tile is whole.
 abbrev pub nothing_read : Part → Sofar
 nothing_read part = record { tiles = []; part = part }
 
+-- The colours that those in the code stand for.
 abbrev pub carried_by : Colours → Carried
 carried_by colours = record { background = colours.background; foreground = colours.foreground }
 
+-- The fault that one in the code stands for.
 abbrev pub fault_for : Flaw → Fault
 fault_for flaw.NoBackground = NoBackground
 fault_for flaw.NoForeground = NoForeground
@@ -129,6 +133,7 @@ pub record Led (format : PixelFormat) (area : Rect) (carried later : Carried) (s
   pub goes : Goes (tile_rest format area.w area.h carried stage part) bytes (tile_rest format area.w area.h later next grown)
   pub shows : IsDrawn area next now grown
 
+-- That, wherever the canvas before showed what was read of the tile so far.
 abbrev pub Leads : PixelFormat → Rect → Carried → Carried → Stage → Stage → List ℕ → Canvas → Canvas → Part → Type 0
 Leads format area carried later stage next bytes before now part = IsDrawn area stage before part → Led format area carried later stage next bytes now part
 
@@ -136,10 +141,11 @@ Leads format area carried later stage next bytes before now part = IsDrawn area 
 abbrev pub Keeps : Rect → ℕ → ℕ → Canvas → Canvas → Type 0
 Keeps area w h old new = (x y : ℕ) → x < w → y < h → holds area x y ≡ false → new x y ≡ old x y
 
--- A colour that the bytes give, or the carried one; and how many bytes it has.
+-- A colour that the bytes give, or the carried one.
 abbrev pub colour_in : PixelFormat → Bool → Option ℕ → List ℕ → Option ℕ
 colour_in format given carried bytes = if given then Some (pixel_of format (take (pixel_len format) bytes)) else carried
 
+-- How many bytes a colour has that may be left off.
 abbrev pub colour_len : PixelFormat → Bool → ℕ
 colour_len format given = if given then pixel_len format else 0
 

@@ -25,6 +25,7 @@ pub record IsSmall (run : Run) : Type 0 where
 abbrev pub row_shows : List ℕ → Canvas
 row_shows row x y = slice_index row x
 
+-- All runs have the value of the first.
 abbrev pub has_one_value : List Subrect → Bool
 has_one_value [] = true
 has_one_value (s ∷ ss) = list_all (λ t. t.value == s.value) ss

@@ -4,7 +4,7 @@ ghost use Rattle.std.specs.Prelude.{◌≡◌, ℕ, ◌+◌, ◌*◌, ◌/◌, �
 ghost use Rattle.pixel_format.specs.PixelFormat.{PixelFormat, pixel_len};
 ghost use Rattle.pixel_format.specs.Reading.{step};
 ghost use Rattle.raster.specs.Encoding.{has_bit, tile};
-ghost use Rattle.raster.specs.Screen.{LooksLike, IsWithin, is_within, fill, lay, part_of, value_at, tile_count, tile_rect};
+ghost use Rattle.raster.specs.Screen.{LooksLike, IsWithin, is_within, fill, lay, part_of, value_at};
 ghost use Rattle.hextile_codec.specs.Ahead.{Part, blank, Leads, Keeps, IsTile, IsBehindMask, IsLater, IsReady, is_whole, is_failed, tile_rest, needed, head_len, colour_in, colour_len, pixels_in, place_in, carried_by};
 
 use crate::stage::{
@@ -370,23 +370,5 @@ pub fn is_whole(area: &Rect, stage: Stage) -> bool
         Stage::RawPixels(count) => count == area.w * area.h,
         Stage::Subrects { left, .. } => left == 0,
         _ => false,
-    }
-}
-
-/// Where tile number `k` of a rectangle of `w` by `h` lies.
-pub fn tile_rect(w: u64, h: u64, k: u64) -> Rect
-    requires wide { w ≤ 65535 }
-    requires high { h ≤ 65535 }
-    requires one { k < tile_count w h }
-    ensures { result ≡ tile_rect w h k }
-{
-    let across = w.div_ceil(16);
-    let x = k % across * 16;
-    let y = k / across * 16;
-    Rect {
-        x,
-        y,
-        w: (w - x).min(16),
-        h: (h - y).min(16),
     }
 }

@@ -12,6 +12,7 @@ mod put;
 mod reading;
 mod runs;
 mod stage;
+mod tile;
 mod writing;
 
 pub use reading::Reader;

@@ -9,23 +9,20 @@ ghost use Rattle.hextile_codec.specs.Kinds.{IsSmall, subrect_of, kind_of, carrie
 
 use crate::kind::{Choice, Kind, Said, is_said};
 use crate::runs::{Run, TILE_SIDE};
+use crate::stage;
 use pixel_format::Format;
 use raster::Rect;
 
-/// The bit of a tile's mask (RFC 6143, section 7.7.4) that says that its pixels follow.
-const RAW: u8 = 1;
+/// The bits of a tile's mask, as they are written.
+const RAW: u8 = 1 << stage::RAW;
 
-/// That its background follows.
-const BACKGROUND_SPECIFIED: u8 = 2;
+const BACKGROUND_SPECIFIED: u8 = 1 << stage::BACKGROUND_SPECIFIED;
 
-/// That the value of all its subrectangles follows.
-const FOREGROUND_SPECIFIED: u8 = 4;
+const FOREGROUND_SPECIFIED: u8 = 1 << stage::FOREGROUND_SPECIFIED;
 
-/// That it has subrectangles, whose number follows.
-const ANY_SUBRECTS: u8 = 8;
+const ANY_SUBRECTS: u8 = 1 << stage::ANY_SUBRECTS;
 
-/// That each of them has its own value.
-const SUBRECTS_COLOURED: u8 = 16;
+const SUBRECTS_COLOURED: u8 = 1 << stage::SUBRECTS_COLOURED;
 
 /// How many bytes the place of a run has.
 const PLACE_LEN: usize = 2;

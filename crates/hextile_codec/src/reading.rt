@@ -6,8 +6,9 @@ ghost use Rattle.raster.specs.Encoding.{Tile, hextile, tiled};
 ghost use Rattle.raster.specs.Screen.{Map, LooksLike};
 ghost use Rattle.hextile_codec.specs.Ahead.{Part, Sofar, nothing_read, ahead, Stands, Steps, Draws, IsSameSize, is_wanting, needed};
 
-use crate::drawing::{draw, is_whole, tile_rect};
+use crate::drawing::{draw, is_whole};
 use crate::stage::{Colours, MOST_NEEDED, Stage, needed};
+use crate::tile::tile_rect;
 use pixel_format::{Fault, Format};
 use raster::{Canvas, Rect};
 use std::marker::Model;

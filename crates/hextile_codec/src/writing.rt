@@ -3,33 +3,15 @@
 ghost use Rattle.std.specs.Prelude.{◌≡◌, ◌*◌, ◌<◌, ◌≤◌, ◌^◌, length, take, MatchOption};
 ghost use Rattle.pixel_format.specs.PixelFormat.{pixel_len};
 ghost use Rattle.raster.specs.declared.encoding.Encoding.TheVariants.{Hextile};
-ghost use Rattle.raster.specs.Screen.{value_at, tile_count, tile_rect};
+ghost use Rattle.raster.specs.Screen.{value_at};
 ghost use Rattle.raster.specs.Encoding.{hextile_bytes};
 ghost use Rattle.raster.specs.Encoded.{IsEncoded};
 
 use crate::kind::{Kind, Said, choose};
 use crate::put::{put_drawn, put_raw};
 use crate::runs::Runs;
+use crate::tile::tile_rect;
 use pixel_format::Format;
-use raster::Rect;
-
-/// Tile number `k` of a rectangle of `w` by `h`, from the left and from the top.
-fn tile_at(w: u64, h: u64, k: u64) -> Rect
-    requires wide { (0 < w) × (w < 2 ^ 16) }
-    requires high { h < 2 ^ 16 }
-    requires inside { k < tile_count w h }
-    ensures { result ≡ tile_rect w h k }
-{
-    let across = w.div_ceil(16);
-    let x = k % across * 16;
-    let y = k / across * 16;
-    Rect {
-        x,
-        y,
-        w: (w - x).min(16),
-        h: (h - y).min(16),
-    }
-}
 
 /// Writes all tiles, and answers where they end; `None` where that isn't inside `out`.
 fn put_tiles(values: &[u32], w: u64, h: u64, format: &Format, out: &mut [u8]) -> Option<usize>
@@ -43,7 +25,7 @@ fn put_tiles(values: &[u32], w: u64, h: u64, format: &Format, out: &mut [u8]) ->
     let mut said = Said::NOTHING;
     let mut used = 0;
     for k in 0..w.div_ceil(16) * h.div_ceil(16) {
-        let tile = tile_at(w, h, k);
+        let tile = tile_rect(w, h, k);
         let choice = choose(format, values, w as usize, &tile, &said, &mut runs);
         if out.len() - used <= choice.len {
             return None;

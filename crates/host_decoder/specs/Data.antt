@@ -50,6 +50,7 @@ pub record RawTakes (area : Rect) (new : RawProgress) (reading : Reading Paint) 
 
 -- ---- CopyRect
 
+-- These bytes of the source have come.
 abbrev pub CopyStands : ℕ → ℕ → Rect → List ℕ → Reading Paint → Type 0
 CopyStands w h area begun reading = reading ≡ after (copy_rect w h area) begun
 
@@ -65,6 +66,7 @@ source_in area bytes =
 
 -- ---- RRE
 
+-- The raster shows what was read so far.
 pub record RreStands (area : Rect) (p : RreProgress) (reading : Reading Paint) : Type 0 where
   pub sofar : Drawing
   pub width : p.reader.width ≡ area.w
@@ -74,6 +76,7 @@ pub record RreStands (area : Rect) (p : RreProgress) (reading : Reading Paint) :
 
 -- ---- Hextile
 
+-- The raster shows what was read so far.
 pub record HextileStands (area : Rect) (p : HextileProgress) (reading : Reading Paint) : Type 0 where
   pub sofar : hextile.Sofar
   pub width : p.reader.width ≡ area.w
@@ -83,6 +86,7 @@ pub record HextileStands (area : Rect) (p : HextileProgress) (reading : Reading 
 
 -- ---- any encoding
 
+-- The same for what is kept of any of them.
 abbrev pub BodyStands : ℕ → ℕ → Rect → Body → Reading Paint → Type 0
 BodyStands w h area (body.Raw p) reading = RawStands area p reading
 BodyStands w h area (body.Copy begun) reading = CopyStands w h area begun reading

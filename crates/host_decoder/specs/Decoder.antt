@@ -75,6 +75,7 @@ keeping kept left = bytes left >>= λ others. Done (ServerCutText (kept ++ other
 abbrev pub passing : ℕ → Passed → Reading ServerMessage
 passing left what = padding left (Done (message_of what))
 
+-- The fault of what was found wrong.
 abbrev pub at_fault : declared_wrong.Wrong → Fault
 at_fault (wrong.Kind kind) = UnknownMessage kind
 at_fault wrong.Area = RectOutside

@@ -9,6 +9,7 @@ use Rattle.host_decoder.specs.Updates.{in_colours}
 use Rattle.host_decoder.specs.declared.event.HostEvent.{HostEvent}
 use Rattle.host_decoder.specs.declared.event.HostEvent.TheVariants.{Paint, Bell, Cut, Map, LongCut}
 
+-- An update for a screen of w by h.
 abbrev pub sized : ℕ → ℕ → Update → SizedUpdate
 sized w h update = record { width = w; height = h; update = update }
 

@@ -19,6 +19,7 @@ len_of Length = 7
 abbrev pub Passed : Type 0
 Passed = declared.Passed
 
+-- The message that it is.
 abbrev pub message_of : Passed → ServerMessage
 message_of passed.Colours = SetColorMapEntries
 message_of (passed.Text len) = LostText len

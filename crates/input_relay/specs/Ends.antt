@@ -15,6 +15,7 @@ use Rattle.input_relay.specs.declared.queue.Taker.{Taker}
 use Rattle.input_relay.specs.declared.queue.Settled.{Settled}
 
 module _ {R : Type 0} where
+  -- the number of its place
   abbrev pub place_of : Sender R → ℕ
   place_of s = s.place
 
@@ -30,15 +31,19 @@ module _ {R : Type 0} where
   abbrev pub relay_of : Sender R → TableId
   relay_of s = s.pass.table_id
 
+  -- what the taker has taken, in order
   abbrev pub taken_of : Taker R → List Message
   taken_of t = (view t.pass).got
 
+  -- which relay it is of
   abbrev pub host_of : Taker R → TableId
   host_of t = t.pass.table_id
 
+  -- its place, with all that it sent
   abbrev pub strand_of : Sender R → Strand
   strand_of s = strand (place_of s) (sent_of s)
 
+  -- what was taken so far of a relay whose ends came back
   abbrev pub taken_at_end : Settled R → List Message
   taken_at_end t = (view t.pass).got
 
@@ -46,6 +51,7 @@ module _ {R : Type 0} where
   abbrev pub known_at_end : Settled R → List Strand
   known_at_end t = (view t.pass).known
 
+  -- which relay it was
   abbrev pub relay_at_end : Settled R → TableId
   relay_at_end t = t.pass.table_id
 

@@ -8,9 +8,11 @@ use Rattle.input_relay.specs.declared.queue.Message.{Message}
 use Rattle.input_relay.specs.declared.queue.Strand.{Strand}
 use Rattle.input_relay.specs.declared.queue.View.{View}
 
+-- an input with the place that sent it
 abbrev pub message : ℕ → Input → Message
 message from input = record { from = from; input = input }
 
+-- a place, with all that it sent
 abbrev pub strand : ℕ → List Input → Strand
 strand from sent = record { from = from; sent = sent }
 
@@ -22,6 +24,7 @@ sender from put = record { sends = true; gets = false; from = from; put = put; g
 abbrev pub taker : ℕ → List Message → List Strand → View
 taker made got known = record { sends = false; gets = true; from = made; put = []; got = got; known = known }
 
+-- the view of a sender that came back
 abbrev pub spent : View
 spent = record { sends = false; gets = false; from = 0; put = []; got = []; known = [] }
 

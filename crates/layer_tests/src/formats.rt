@@ -40,30 +40,33 @@ fn changed(mut bytes: [u8; 16], position: usize, value: u8) -> [u8; 16] {
     bytes
 }
 
-/// Tints a row, where it has exactly the room that it takes.
-fn tint_row(format: &Format, colours: &[u32], out: &mut [u8]) {
-    if colours.len() < 100 && out.len() == format.bytes() * colours.len() {
-        format.tint_row(colours, out);
+/// Whether the bytes of a row of at most three colours in a format are these, and as many as it says.
+fn is_row(format: &Format, colours: &[u32], wanted: &[u8]) -> bool {
+    let mut room = [0xEE; 12];
+    if colours.len() > 3 || wanted.len() != format.bytes() * colours.len() {
+        return false;
     }
+    let row = &mut room[..wanted.len()];
+    format.tint_row(colours, row);
+    &*row == wanted
 }
 
-/// Puts a pixel where there is room, and gets it again.
-fn put_and_get(format: &Format, value: u32, out: &mut [u8]) -> u32 {
-    put(format, value, out);
-    get(format, out)
+/// Whether three colours are these pixel values in a format, each alone and all at once.
+fn are_values(format: &Format, colours: &[u32; 3], wanted: &[u32; 3]) -> bool {
+    let mut values = [7; 3];
+    format.tint_values(colours, &mut values);
+    let alone = [
+        format.tint(colours[0]),
+        format.tint(colours[1]),
+        format.tint(colours[2]),
+    ];
+    values == *wanted && alone == *wanted
 }
 
-fn put(format: &Format, value: u32, out: &mut [u8]) {
-    if format.bytes() <= out.len() {
-        format.put_pixel(value, out);
-    }
-}
-
-fn get(format: &Format, bytes: &[u8]) -> u32 {
-    if format.bytes() > bytes.len() {
-        return 0;
-    }
-    format.get_pixel(bytes)
+/// Whether a pixel value is put as these bytes, of which the last are those that stood there, and got again.
+fn is_put_and_got(format: &Format, value: u32, bytes: &mut [u8; 5], wanted: &[u8; 5]) -> bool {
+    format.put_pixel(value, bytes);
+    *bytes == *wanted && format.get_pixel(bytes) == value
 }
 
 fn is_refused(bytes: [u8; 16]) -> bool {
@@ -72,110 +75,80 @@ fn is_refused(bytes: [u8; 16]) -> bool {
 
 #[test]
 fn colours_in_the_host_format(rt: HostRuntime) -> Result<(), Fail> {
-    let format = format_of(HOST)?;
-    assert_eq!(rt; format.bytes(), 4);
-    assert_eq!(rt; format.tint(RED), RED);
-    let mut row = [0xEE; 12];
-    tint_row(&format, &[RED, BLUE, 0xAA80_8080], &mut row);
-    assert_eq!(rt;
-        row,
-        [
-            0x00, 0x00, 0xFF, 0x00, 0xFF, 0x00, 0x00, 0x00, 0x80, 0x80, 0x80, 0x00
-        ]
-    );
+    let wanted = [
+        0x00, 0x00, 0xFF, 0x00, 0xFF, 0x00, 0x00, 0x00, 0x80, 0x80, 0x80, 0x00,
+    ];
+    assert!(rt; is_row(&format_of(HOST)?, &[RED, BLUE, 0xAA80_8080], &wanted));
     Ok(())
 }
 
 #[test]
 fn colours_in_16_bits(rt: HostRuntime) -> Result<(), Fail> {
-    let format = format_of(RGB565)?;
-    assert_eq!(rt; format.bytes(), 2);
-    assert_eq!(rt; format.tint(GREY), 0x8410);
-    let mut row = [0xEE; 6];
-    tint_row(&format, &[RED, BLUE, GREY], &mut row);
-    assert_eq!(rt; row, [0xF8, 0x00, 0x00, 0x1F, 0x84, 0x10]);
-    tint_row(
-        &format_of(changed(RGB565, 2, 0))?,
-        &[RED, BLUE, GREY],
-        &mut row,
-    );
-    assert_eq!(rt; row, [0x00, 0xF8, 0x1F, 0x00, 0x10, 0x84]);
+    let colours = [RED, BLUE, GREY];
+    let big = [0xF8, 0x00, 0x00, 0x1F, 0x84, 0x10];
+    assert!(rt; is_row(&format_of(RGB565)?, &colours, &big));
+    let little = [0x00, 0xF8, 0x1F, 0x00, 0x10, 0x84];
+    assert!(rt; is_row(&format_of(changed(RGB565, 2, 0))?, &colours, &little));
     Ok(())
 }
 
 #[test]
 fn colours_in_8_bits(rt: HostRuntime) -> Result<(), Fail> {
-    let format = format_of(BGR233)?;
-    assert_eq!(rt; format.bytes(), 1);
-    let mut row = [0xEE; 3];
-    tint_row(&format, &[RED, BLUE, GREY], &mut row);
-    assert_eq!(rt; row, [0x07, 0xC0, 0xA4]);
+    assert!(rt; is_row(&format_of(BGR233)?, &[RED, BLUE, GREY], &[0x07, 0xC0, 0xA4]));
     Ok(())
 }
 
 #[test]
 fn colours_in_other_formats_of_32_bits(rt: HostRuntime) -> Result<(), Fail> {
-    let mut row = [0xEE; 8];
-    tint_row(
-        &format_of(changed(HOST, 2, 1))?,
-        &[RED, 0x0001_0203],
-        &mut row,
-    );
-    assert_eq!(rt; row, [0x00, 0xFF, 0x00, 0x00, 0x00, 0x01, 0x02, 0x03]);
-    tint_row(
-        &format_of(changed(changed(HOST, 10, 0), 12, 16))?,
-        &[RED, 0x0001_0203],
-        &mut row,
-    );
-    assert_eq!(rt; row, [0xFF, 0x00, 0x00, 0x00, 0x01, 0x02, 0x03, 0x00]);
+    let colours = [RED, 0x0001_0203];
+    let big = [0x00, 0xFF, 0x00, 0x00, 0x00, 0x01, 0x02, 0x03];
+    assert!(rt; is_row(&format_of(changed(HOST, 2, 1))?, &colours, &big));
+    let red_lowest = format_of(changed(changed(HOST, 10, 0), 12, 16))?;
+    let turned = [0xFF, 0x00, 0x00, 0x00, 0x01, 0x02, 0x03, 0x00];
+    assert!(rt; is_row(&red_lowest, &colours, &turned));
     // 128 of 255 is 514 of 1023.
-    tint_row(&format_of(RGB30)?, &[GREY, RED], &mut row);
-    assert_eq!(rt; row, [0x02, 0x0A, 0x28, 0x20, 0x00, 0x00, 0xF0, 0x3F]);
+    let wide = [0x02, 0x0A, 0x28, 0x20, 0x00, 0x00, 0xF0, 0x3F];
+    assert!(rt; is_row(&format_of(RGB30)?, &[GREY, RED], &wide));
     Ok(())
 }
 
 #[test]
 fn values_of_colours(rt: HostRuntime) -> Result<(), Fail> {
     let colours = [RED, BLUE, GREY];
-    let mut values = [7; 3];
-    format_of(RGB565)?.tint_values(&colours, &mut values);
-    assert_eq!(rt; values, [0xF800, 0x001F, 0x8410]);
-    Format::HOST.tint_values(&colours, &mut values);
-    assert_eq!(rt; values, colours);
-    format_of(RGB30)?.tint_values(&colours, &mut values);
-    assert_eq!(rt; values, [0x3FF0_0000, 0x0000_03FF, 0x2028_0A02]);
+    assert!(rt; are_values(&format_of(RGB565)?, &colours, &[0xF800, 0x001F, 0x8410]));
+    assert!(rt; are_values(&Format::HOST, &colours, &colours));
+    let wide = [0x3FF0_0000, 0x0000_03FF, 0x2028_0A02];
+    assert!(rt; are_values(&format_of(RGB30)?, &colours, &wide));
     Ok(())
 }
 
 #[test]
 fn pixels_are_put_and_got(rt: HostRuntime) -> Result<(), Fail> {
     let mut bytes = [0xEE; 5];
-    assert_eq!(rt;
-        put_and_get(&Format::HOST, 0x0403_0201, &mut bytes),
-        0x0403_0201
-    );
-    assert_eq!(rt; bytes, [1, 2, 3, 4, 0xEE]);
+    let value = 0x0403_0201;
+    assert!(rt; is_put_and_got(&Format::HOST, value, &mut bytes, &[1, 2, 3, 4, 0xEE]));
     let big = format_of(changed(HOST, 2, 1))?;
-    assert_eq!(rt; put_and_get(&big, 0x0403_0201, &mut bytes), 0x0403_0201);
-    assert_eq!(rt; bytes, [4, 3, 2, 1, 0xEE]);
-    assert_eq!(rt;
-        put_and_get(&format_of(RGB565)?, 0x8410, &mut bytes),
-        0x8410
-    );
-    assert_eq!(rt; bytes, [0x84, 0x10, 2, 1, 0xEE]);
-    assert_eq!(rt; put_and_get(&format_of(BGR233)?, 0xA4, &mut bytes), 0xA4);
-    assert_eq!(rt; bytes, [0xA4, 0x10, 2, 1, 0xEE]);
+    assert!(rt; is_put_and_got(&big, value, &mut bytes, &[4, 3, 2, 1, 0xEE]));
+    let two = format_of(RGB565)?;
+    assert!(rt; is_put_and_got(&two, 0x8410, &mut bytes, &[0x84, 0x10, 2, 1, 0xEE]));
+    let one = format_of(BGR233)?;
+    assert!(rt; is_put_and_got(&one, 0xA4, &mut bytes, &[0xA4, 0x10, 2, 1, 0xEE]));
     Ok(())
+}
+
+/// The bytes that are written of a format.
+fn written(format: &Format) -> [u8; 16] {
+    let mut bytes = [0xEE; 16];
+    format.write(&mut bytes);
+    bytes
 }
 
 #[test]
 fn formats_are_written(rt: HostRuntime) -> Result<(), Fail> {
-    let mut bytes = [0xEE; 16];
-    Format::HOST.write(&mut bytes);
-    assert_eq!(rt; bytes, HOST);
+    assert!(rt; written(&Format::HOST) == HOST);
     // Flags are written as 0 or 1 and padding as 0, whatever was read.
-    format_of(changed(changed(changed(RGB565, 2, 0xFF), 3, 0xFF), 14, 9))?.write(&mut bytes);
-    assert_eq!(rt; bytes, RGB565);
+    let loose = changed(changed(changed(RGB565, 2, 0xFF), 3, 0xFF), 14, 9);
+    assert!(rt; written(&format_of(loose)?) == RGB565);
     Ok(())
 }
 
@@ -225,9 +198,8 @@ fn each_byte_counts_as_the_rules_say(rt: HostRuntime) {
     for position in 0..16 {
         for value in 0..=255 {
             let refused = is_refused(changed(RGB565, position, value));
-            assert_eq!(rt;
-                refused,
-                !stays_accepted(position, value),
+            assert!(rt;
+                refused != stays_accepted(position, value),
                 "byte {position}: {value}"
             );
         }
@@ -263,7 +235,7 @@ fn faults_have_their_numbers(rt: HostRuntime) {
         1, 2, 3, 4, 5, 6, 7, 8, 9, 10, 11, 12, 13, 14, 20, 21, 22, 23, 24, 30, 31,
     ];
     for (fault, number) in faults.iter().zip(numbers.iter()) {
-        assert_eq!(rt; fault.number(), *number);
+        assert!(rt; fault.number() == *number, "not {number}");
     }
-    assert_eq!(rt; LIMIT, 4_611_686_018_427_387_904);
+    assert!(rt; LIMIT == 4_611_686_018_427_387_904);
 }

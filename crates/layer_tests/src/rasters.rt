@@ -3,72 +3,40 @@
 ghost use Rattle.std.specs.Prelude.{◌≡◌, ◌<◌};
 
 use raster::{Canvas, Paint, Raster, Rect, paint_one};
+use std::alloc::Global;
 use std::test::Fail;
+
+fn rect(x: u64, y: u64, w: u64, h: u64) -> Rect
+    ensures { result ≡ record { x = x; y = y; w = w; h = h } }
+{
+    Rect { x, y, w, h }
+}
 
 #[test]
 fn rectangles(rt: HostRuntime) {
-    let area = Rect {
-        x: 3,
-        y: 1,
-        w: 5,
-        h: 1,
-    };
-    let touching = Rect {
-        x: 8,
-        y: 0,
-        w: 2,
-        h: 4,
-    };
-    assert_eq!(rt;
-        area.clip(4, 3),
-        Rect {
-            x: 3,
-            y: 1,
-            w: 1,
-            h: 1
-        }
-    );
-    assert_eq!(rt;
-        area.cover(&touching),
-        Rect {
-            x: 3,
-            y: 0,
-            w: 7,
-            h: 4
-        }
-    );
-    assert!(rt; !area.meets(&touching));
-    assert!(rt; area.common(&touching).is_empty());
-    assert!(rt; area.within(8, 2));
-    assert!(rt; !area.within(7, 2));
-    assert!(rt; !area.is_empty());
+    let area = rect(3, 1, 5, 1);
+    let touching = rect(8, 0, 2, 4);
+    assert!(rt; area.clip(4, 3) == rect(3, 1, 1, 1));
+    assert!(rt; area.cover(&touching) == rect(3, 0, 7, 4));
+    assert!(rt; !area.meets(&touching) && area.common(&touching).is_empty());
+    assert!(rt; area.within(8, 2) && !area.within(7, 2) && !area.is_empty());
 }
 
-// Red, green and blue, and then the first two copied one to the right.
+// Puts red, green and blue on a row of three.
+fn put_three(alloc: Global, values: &mut [u32; 3]) -> Result<(), Fail> {
+    let colours = [0xFF0000, 0x00FF00, 0x0000FF].to_vec(alloc)?;
+    paint_one(alloc, values, 3, 1, &Paint::Put(rect(0, 0, 3, 1), colours))?;
+    Ok(())
+}
+
+// Then the first two are copied one to the right.
 #[test]
 fn copies_what_stood_there(rt: HostRuntime) -> Result<(), Fail> {
-    let alloc = rt.alloc();
-    let mut paints = Vec::new(alloc);
-    let row = Rect {
-        x: 0,
-        y: 0,
-        w: 3,
-        h: 1,
-    };
-    paints.push(Paint::Put(row, [0xFF0000, 0x00FF00, 0x0000FF].to_vec(alloc)?))?;
-    let right = Rect {
-        x: 1,
-        y: 0,
-        w: 2,
-        h: 1,
-    };
-    paints.push(Paint::Copy(right, 0, 0))?;
-    let mut values = [0u32; 3];
-    paint_one(alloc, &mut values, 3, 1, &paints[0])?;
-    paint_one(alloc, &mut values, 3, 1, &paints[1])?;
-    assert_eq!(rt; values[0], 0xFF0000);
-    assert_eq!(rt; values[1], 0xFF0000);
-    assert_eq!(rt; values[2], 0x00FF00);
+    let mut values = [0; 3];
+    put_three(rt.alloc(), &mut values)?;
+    let right = Paint::Copy(rect(1, 0, 2, 1), 0, 0);
+    paint_one(rt.alloc(), &mut values, 3, 1, &right)?;
+    assert!(rt; values == [0xFF0000, 0xFF0000, 0x00FF00]);
     Ok(())
 }
 
@@ -90,13 +58,31 @@ fn draw_last_row<C: Canvas>(canvas: &mut C)
     ensures same_height { C.height canvas.new ≡ 3 }
 {
     canvas.put(0, 2, 9);
-    let rest = Rect {
-        x: 1,
-        y: 2,
-        w: 3,
-        h: 1,
-    };
-    canvas.fill(rest, 10);
+    canvas.fill(rect(1, 2, 3, 1), 10);
+}
+
+// Copies where both the area and its source lie on the raster.
+fn copy(raster: &mut Raster, area: Rect, x: u64, y: u64)
+    ensures { raster.new.height ≡ raster.old.height }
+{
+    let source = Rect { x, y, ..area };
+    if area.within(raster.width(), raster.height())
+        && source.within(raster.width(), raster.height())
+    {
+        raster.copy(area, x, y);
+    }
+}
+
+// Whether a raster of 4 by 3 shows these rows.
+fn shows(raster: &Raster, rows: &[[u32; 4]; 3]) -> bool
+    requires { raster.now.height ≡ 3 }
+{
+    for (y, row) in rows.iter().enumerate() {
+        if raster.row(y as u64) != row.as_slice() {
+            return false;
+        }
+    }
+    true
 }
 
 // To the lower right, to the upper left, and along a row both ways.
@@ -106,53 +92,14 @@ fn copies_where_the_two_overlap(rt: HostRuntime) -> Result<(), Fail> {
     draw_row(&mut raster, 0, &[1, 2, 3, 4]);
     draw_row(&mut raster, 1, &[5, 6, 7, 8]);
     draw_last_row(&mut raster);
-    raster.copy(
-        Rect {
-            x: 1,
-            y: 1,
-            w: 3,
-            h: 2,
-        },
-        0,
-        0,
-    );
-    assert_eq!(rt; raster.row(0), [1, 2, 3, 4].as_slice());
-    assert_eq!(rt; raster.row(1), [5, 1, 2, 3].as_slice());
-    assert_eq!(rt; raster.row(2), [9, 5, 6, 7].as_slice());
-    raster.copy(
-        Rect {
-            x: 0,
-            y: 0,
-            w: 3,
-            h: 2,
-        },
-        1,
-        1,
-    );
-    assert_eq!(rt; raster.row(0), [1, 2, 3, 4].as_slice());
-    assert_eq!(rt; raster.row(1), [5, 6, 7, 3].as_slice());
-    raster.copy(
-        Rect {
-            x: 1,
-            y: 2,
-            w: 3,
-            h: 1,
-        },
-        0,
-        2,
-    );
-    assert_eq!(rt; raster.row(2), [9, 9, 5, 6].as_slice());
-    raster.copy(
-        Rect {
-            x: 0,
-            y: 2,
-            w: 3,
-            h: 1,
-        },
-        1,
-        2,
-    );
-    assert_eq!(rt; raster.row(2), [9, 5, 6, 6].as_slice());
+    copy(&mut raster, rect(1, 1, 3, 2), 0, 0);
+    assert!(rt; shows(&raster, &[[1, 2, 3, 4], [5, 1, 2, 3], [9, 5, 6, 7]]));
+    copy(&mut raster, rect(0, 0, 3, 2), 1, 1);
+    assert!(rt; shows(&raster, &[[1, 2, 3, 4], [5, 6, 7, 3], [9, 5, 6, 7]]));
+    copy(&mut raster, rect(1, 2, 3, 1), 0, 2);
+    assert!(rt; shows(&raster, &[[1, 2, 3, 4], [5, 6, 7, 3], [9, 9, 5, 6]]));
+    copy(&mut raster, rect(0, 2, 3, 1), 1, 2);
+    assert!(rt; shows(&raster, &[[1, 2, 3, 4], [5, 6, 7, 3], [9, 5, 6, 6]]));
     Ok(())
 }
 
@@ -160,30 +107,28 @@ fn copies_where_the_two_overlap(rt: HostRuntime) -> Result<(), Fail> {
 fn new_raster_is_black(rt: HostRuntime) -> Result<(), Fail> {
     let mut raster = Raster::new(rt.alloc(), 2, 2)?;
     raster.set(1, 0, 0x00FF00);
-    assert_eq!(rt; raster.get(1, 0), 0x00FF00);
-    assert_eq!(rt; raster.get(0, 1), 0);
-    assert_eq!(rt; raster.width(), 2);
-    assert_eq!(rt; raster.height(), 2);
+    assert!(rt; raster.get(1, 0) == 0x00FF00 && raster.get(0, 1) == 0);
+    assert!(rt; raster.width() == 2 && raster.height() == 2);
     Ok(())
 }
 
-// The upper row of two is put, its right position filled, and all of it painted one lower.
+// The upper row of a raster of 2 by 2 is put, its right position filled, and all of it painted one lower.
+fn paint_two_rows(alloc: Global, raster: &mut Raster) -> Result<(), Fail>
+    requires { (raster.old.width ≡ 2) × (raster.old.height ≡ 2) }
+    ensures { raster.new.height ≡ 2 }
+{
+    raster.put(rect(0, 0, 2, 1), &[1, 2]);
+    raster.fill(rect(1, 0, 1, 1), 3);
+    let mut paints = Vec::new(alloc);
+    paints.push(Paint::Copy(rect(0, 1, 2, 1), 0, 0))?;
+    raster.paint_all(paints.as_slice());
+    Ok(())
+}
+
 #[test]
 fn raster_is_painted(rt: HostRuntime) -> Result<(), Fail> {
-    let alloc = rt.alloc();
-    let row = Rect {
-        x: 0,
-        y: 0,
-        w: 2,
-        h: 1,
-    };
-    let mut raster = Raster::new(alloc, 2, 2)?;
-    raster.put(row, &[1, 2]);
-    raster.fill(Rect { x: 1, w: 1, ..row }, 3);
-    let mut paints = Vec::new(alloc);
-    paints.push(Paint::Copy(Rect { y: 1, ..row }, 0, 0))?;
-    raster.paint_all(paints.as_slice());
-    assert_eq!(rt; raster.row(0), [1, 3].as_slice());
-    assert_eq!(rt; raster.row(1), [1, 3].as_slice());
+    let mut raster = Raster::new(rt.alloc(), 2, 2)?;
+    paint_two_rows(rt.alloc(), &mut raster)?;
+    assert!(rt; raster.row(0) == [1, 3].as_slice() && raster.row(1) == [1, 3].as_slice());
     Ok(())
 }

@@ -54,20 +54,26 @@ fn shows_red_and_blue(cut: &Cut) -> bool {
         && cut.due.as_slice() == [true].as_slice()
 }
 
-// Red and blue, a Bell and a text are put, raised together, and cut.
+// Puts red and blue, a Bell and a text on a screen of 2 by 1: the numbers of the three.
+fn put_three(alloc: Global, screen: &mut PlainScreen) -> Result<[u64; 3], Fail>
+    requires { (screen.old.width ≡ 2) × (screen.old.height ≡ 1) }
+    ensures { (screen.new.width ≡ 2) × (screen.new.height ≡ 1) }
+{
+    let painted = put(screen, red_and_blue(alloc)?);
+    let bell = put(screen, Patch::bell(2, 1));
+    let text = b"Hi".to_vec(alloc)?;
+    Ok([painted, bell, put(screen, Patch::text(2, 1, text))])
+}
+
+// What was put is raised together, and cut.
 #[test]
 fn shows_what_was_put(rt: HostRuntime) -> Result<(), Fail> {
-    let alloc = rt.alloc();
-    let mut screen = PlainScreen::new(alloc, 2, 1)?;
-    let patch = red_and_blue(alloc)?;
-    assert_eq!(rt; put(&mut screen, patch), 1);
-    assert_eq!(rt; put(&mut screen, Patch::bell(2, 1)), 2);
-    let text = b"Hi".to_vec(alloc)?;
-    assert_eq!(rt; put(&mut screen, Patch::text(2, 1, text)), 3);
+    let mut screen = PlainScreen::new(rt.alloc(), 2, 1)?;
+    assert!(rt; put_three(rt.alloc(), &mut screen)? == [1, 2, 3]);
     assert_eq!(rt; screen.look(), 0);
     screen.raise();
     assert_eq!(rt; screen.look(), 3);
-    assert!(rt; shows_red_and_blue(&cut_of(alloc, &mut screen)?));
+    assert!(rt; shows_red_and_blue(&cut_of(rt.alloc(), &mut screen)?));
     Ok(())
 }
 

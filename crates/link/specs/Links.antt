@@ -20,6 +20,7 @@ abbrev pub TookCounts : Took → ℕ → ℕ → Type 0
 TookCounts took.Failed old new = new ≡ min (2 ^ 62) (old + 1)
 TookCounts _ old new = new ≡ old
 
+-- The same where bytes are given.
 abbrev pub GaveCounts : Gave → ℕ → ℕ → Type 0
 GaveCounts gave.Failed old new = new ≡ min (2 ^ 62) (old + 1)
 GaveCounts _ old new = new ≡ old
@@ -29,6 +30,7 @@ abbrev pub TookEnds : Took → ℕ → ℕ → Type 0
 TookEnds took.End old new = new ≡ min (2 ^ 62) (old + 1)
 TookEnds _ old new = new ≡ old
 
+-- The same where bytes are given.
 abbrev pub GaveEnds : Gave → ℕ → ℕ → Type 0
 GaveEnds gave.End old new = new ≡ min (2 ^ 62) (old + 1)
 GaveEnds _ old new = new ≡ old

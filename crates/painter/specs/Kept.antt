@@ -2,14 +2,17 @@
 use Rattle.std.specs.Prelude.{ℕ, List, [], Option, Some, None}
 use Rattle.raster.specs.Update.{NumberedText}
 
+-- These bytes with their update's number, where there is one.
 abbrev pub numbered : List ℕ → Option ℕ → Option NumberedText
 numbered bytes None = None
 numbered bytes (Some number) = Some (record { text = bytes; number = number })
 
+-- Its number.
 abbrev pub number_of : Option NumberedText → Option ℕ
 number_of None = None
 number_of (Some last) = Some last.number
 
+-- Its bytes.
 abbrev pub bytes_of : Option NumberedText → List ℕ
 bytes_of None = []
 bytes_of (Some last) = last.text

@@ -11,6 +11,7 @@ pub record SizedUpdate : Type 0 where
   pub height : ℕ
   pub update : Update
 
+-- The update that one in the code stands for.
 abbrev pub update_of : Change → Update
 update_of (code.Paints paints) = Paints (map paint_of paints.items)
 update_of code.Bell = Bell
@@ -24,11 +25,13 @@ IsFor w h (code.Text text) = length text.items ≤ 65536
 
 -- ---- what kind of update it is
 
+-- It is a Bell.
 abbrev pub is_bell : Update → Bool
 is_bell (Paints paints) = false
 is_bell Bell = true
 is_bell (Cut text) = false
 
+-- Its text, where it is one.
 abbrev pub text_of : Update → Option (List ℕ)
 text_of (Paints paints) = None
 text_of Bell = None

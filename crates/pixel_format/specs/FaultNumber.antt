@@ -4,6 +4,7 @@ use Rattle.std.specs.Prelude.{ℕ}
 use Rattle.pixel_format.specs.declared.fault.Fault.{Fault}
 use Rattle.pixel_format.specs.declared.fault.Fault.TheVariants.{BadVersion, HostRefused, NoNone, SecurityFailed, BadScreen, UnknownMessage, RectOutside, UnknownEncoding, SubrectOutside, NoBackground, NoForeground, BadFormat, BadChoice, CopyOutside, Memory, LinkFailed, LinkEnded, Gone, NoPlace, QueueFull, NumbersOut}
 
+-- The number of each.
 abbrev pub number_of : Fault → ℕ
 number_of BadVersion = 1
 number_of (HostRefused reason) = 2

@@ -10,7 +10,7 @@ use Rattle.host_decoder.proofs.ShortUpdates.{updates-append}
 use Rattle.reflect_core.specs.Sequential.{Begins}
 use Rattle.viewer_session.specs.Turn.{has_reason}
 use Rattle.viewer_session.specs.Viewer.{Setup, Viewer, may_look}
-use Rattle.reflect_world.specs.Schedule.{World, Step, HostBytes, Put, Raise, Join, Bytes, Look, Cut, Written, Send, Take, Part, beginning, happens, play, play_from, put_next, for_viewer, look_at, cut_at, send_waiting, take_first}
+use Rattle.reflect_world.specs.Schedule.{World, Relayed, Step, HostBytes, Put, Raise, Join, Bytes, Look, Cut, Written, Send, Take, Part, beginning, happens, play, play_from, put_next, for_viewer, look_at, cut_at, send_waiting, take_first}
 use Rattle.reflect_world.specs.Said.{ArePutInOrder}
 
 order_if : (s : Setup) (b : Bool) (x y : World) → ArePutInOrder s x → ArePutInOrder s y → ArePutInOrder s (cond b x y)
@@ -52,7 +52,7 @@ order_send : (s : Setup) (w : World) (v : ℕ) (p : Viewer) (o : Option Input) �
 order_send s w v p None k = k
 order_send s w v p (Some input) k = order_if s (nat_lt (length w.queue) s.room) _ _ k k
 
-order_take : (s : Setup) (w : World) (queue : List Input) → ArePutInOrder s w → ArePutInOrder s (take_first w queue)
+order_take : (s : Setup) (w : World) (queue : List Relayed) → ArePutInOrder s w → ArePutInOrder s (take_first w queue)
 order_take s w [] k = k
 order_take s w (i ∷ is) k = k
 

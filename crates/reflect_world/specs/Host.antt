@@ -25,9 +25,11 @@ pub record HostSide : Type 0 where
   pub unread : List ℕ
   pub waiting : Option SizedUpdate
 
+-- The form of its messages.
 abbrev pub form_of : HostSide → Reading ServerMessage
 form_of host = host_form host.decoder.width host.decoder.height
 
+-- The update that waits, as a list.
 abbrev pub waiting_list : Option SizedUpdate → List Update
 waiting_list None = []
 waiting_list (Some patch) = patch.update ∷ []

@@ -20,7 +20,8 @@ use Rattle.reflect_world.specs.declared.step.Entry.TheVariants as kept
 
 -- ---- steps
 
--- The step that one in the code stands for. No text of a viewer is lost: none is read.
+-- The step that one in the code stands for. All messages of a viewer are read, and memory may be refused for a text. That isn't noted: where no
+-- input is relayed, a text that is lost leaves the same bytes and faults as one that is kept.
 abbrev pub step_of : declared_step.Step → Step
 step_of (code.HostBytes bytes) = HostBytes bytes.items
 step_of code.Put = Put
@@ -30,6 +31,7 @@ step_of (code.Look viewer) = Look viewer
 step_of (code.Cut viewer) = Cut viewer
 step_of (code.Written viewer count) = Written viewer count
 
+-- The step that an entry of the world's list stands for.
 abbrev pub entry_of : declared_entry.Entry → Step
 entry_of (kept.Joined viewer role greet) = Join viewer role greet
 entry_of (kept.Played step) = step_of step
@@ -45,6 +47,7 @@ pub record Kept : Type 0 where
   pub steps : List Step
   pub is_refused : Bool
 
+-- The setup of the definitions: its screen, its room, and what the first path serves, over all that a host may send.
 abbrev pub setup_of : Kept → Setup
 setup_of k = record { w = k.width; h = k.height; name = k.name; room = k.room; extent = first_path host_form }
 
@@ -67,6 +70,7 @@ pub record Standing : Type 0 where
   pub host_fault : Option Fault
   pub places : List (Option Held)
 
+-- The place of a number, if a viewer has it.
 abbrev pub place_at : List (Option Held) → ℕ → Option Held
 place_at places v = slice_index_or places v None
 
@@ -77,6 +81,7 @@ pub record PlaceStands (s : Setup) (place : Held) (p : Viewer) : Type 0 where
   pub ready : is_some place.looked ≡ true → is_ready place.session ≡ true
   pub written : place.written ≡ take p.written (out_bytes s p)
 
+-- There is a place where there is a viewer, and it stands for that one.
 abbrev pub PlaceIs : Setup → Option Held → Option Viewer → Type 0
 PlaceIs s None None = Unit {0}
 PlaceIs s None (Some p) = ⊥

@@ -14,8 +14,12 @@ mod hosts;
 #[cfg(test)]
 mod links;
 #[cfg(test)]
+mod names;
+#[cfg(test)]
 mod played;
 #[cfg(test)]
 mod sessions;
+#[cfg(test)]
+mod turns;
 #[cfg(test)]
 mod worlds;

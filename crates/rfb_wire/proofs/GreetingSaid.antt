@@ -2,7 +2,8 @@
 use Rattle.std.proofs.Common.{◌≡◌, ℕ, ◌+◌, ◌-◌, ◌<◌, ◌≤◌, Bool, true, false, List, [], ◌∷◌, ◌++◌, length, take, drop, Option, None, Some, inl, inr, refl, sym, ap, ◌∙◌, arith, length-drop}
 use Rattle.std.specs.Prelude.{nat_le, if◌then◌else◌, is_none}
 use Rattle.std.proofs.lemmas.Bool.{le-leb, lt-leb, cases_lt}
-use Rattle.std.proofs.lemmas.List.{length-take, take-take, take_all, drop-take}
+use Rattle.std.proofs.Math.ListN.{set}
+use Rattle.std.proofs.lemmas.List.{length-take, take-take, take_all, drop-take, take_more_set}
 use Rattle.pixel_format.specs.Reading.{fault_of}
 use Rattle.pixel_format.specs.declared.fault.Fault.{Fault}
 use Rattle.rfb_wire.specs.Handshake.{version, server_init, said_to_viewer}
@@ -135,6 +136,12 @@ more_sent w h len said begun taken sent count g l e le =
     (omega (arith, left, same, own, le), omega (arith, left, same, own, le, least, l.fits))
 
 -- One more byte was taken.
+pub seen_more : (w h len : ℕ) (said begun : List ℕ) (taken sent b : ℕ) (g : Greeting) → taken < length begun → seen w h len said begun taken sent ≡ g
+    → seen w h len said (set begun taken b) (taken + 1) sent ≡ record g { begun = g.begun ++ b ∷ [] }
+seen_more w h len said begun taken sent b g lt is =
+    let with_begun : List ℕ → Greeting = λ t. record { w = w; h = h; name = drop 42 (take len said); begun = t; sent = sent } in
+    ap with_begun (take_more_set begun taken b lt) ∙ ap (λ (v : Greeting). record v { begun = v.begun ++ b ∷ [] }) is
+
 pub due_more : (w h len : ℕ) (said begun : List ℕ) (taken sent : ℕ) → IsLaid w h len said begun taken sent → sent ≤ due len (taken + 1)
 due_more w h len said begun taken sent l = let n = laid_len w h len said begun taken sent l in omega (arith, due_grows len taken n.2, l.within)
 

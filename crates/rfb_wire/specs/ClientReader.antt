@@ -47,6 +47,7 @@ form_of part.Key = key_event
 form_of part.Pointer = pointer_event
 form_of part.Length = text CutText LostText
 
+-- How a reader stands at what it found wrong.
 abbrev pub at_fault : declared_wrong.Wrong → Reading ClientMessage
 at_fault (wrong.Kind kind) = Faulty (UnknownMessage kind)
 at_fault wrong.Format = Faulty BadFormat

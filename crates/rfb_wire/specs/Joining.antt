@@ -9,12 +9,13 @@ use Rattle.rfb_wire.specs.declared.host_talk.Stage.TheVariants as at
 use Rattle.rfb_wire.specs.declared.host_talk.HostTalk.{HostTalk}
 
 -- How each part of the handshake goes on, where so much of a field of it has been read: a part behind that field is
--- still to come, and a part before it is done.
+-- still to come, and a part before it is done. First the version.
 abbrev pub version_ahead : Stage → List ℕ → Reading (Unit {0})
 version_ahead at.Version begun = after host_version begun
 version_ahead at.BadVersion begun = Faulty fault.BadVersion
 version_ahead _ begun = Done tt
 
+-- The security types.
 abbrev pub types_ahead : Stage → ℕ → List ℕ → Reading (Unit {0})
 types_ahead at.Version wanted begun = security_types
 types_ahead at.BadVersion wanted begun = security_types
@@ -26,6 +27,7 @@ types_ahead at.Types wanted begun = after (bytes wanted >>= λ types. unless (no
 types_ahead at.NoNone wanted begun = Faulty fault.NoNone
 types_ahead _ wanted begun = Done tt
 
+-- SecurityResult.
 abbrev pub result_ahead : Stage → List ℕ → Reading (Unit {0})
 result_ahead at.Version begun = security_result
 result_ahead at.BadVersion begun = security_result
@@ -39,6 +41,7 @@ result_ahead at.Outcome begun = after security_result begun
 result_ahead at.Failed begun = Faulty fault.SecurityFailed
 result_ahead _ begun = Done tt
 
+-- ServerInit.
 abbrev pub init_ahead : Stage → (w h rest wanted : ℕ) → List ℕ → Reading Joined
 init_ahead at.Size w h rest wanted begun = after host_init begun
 init_ahead at.BadScreen w h rest wanted begun = Faulty fault.BadScreen
@@ -49,16 +52,19 @@ init_ahead at.Rest w h rest wanted begun = padding rest (Done (record { w = w; h
 init_ahead at.Joined w h rest wanted begun = Done (record { w = w; h = h; name = begun })
 init_ahead _ w h rest wanted begun = host_init
 
--- The same of a handshake in the code.
+-- The same of a handshake in the code: its version.
 abbrev pub version_of : HostTalk → Reading (Unit {0})
 version_of talk = version_ahead talk.stage talk.field.items
 
+-- Its security types.
 abbrev pub types_of : HostTalk → Reading (Unit {0})
 types_of talk = types_ahead talk.stage talk.wanted talk.field.items
 
+-- Its SecurityResult.
 abbrev pub result_of : HostTalk → Reading (Unit {0})
 result_of talk = result_ahead talk.stage talk.field.items
 
+-- Its ServerInit.
 abbrev pub init_of : HostTalk → Reading Joined
 init_of talk = init_ahead talk.stage talk.w talk.h talk.rest talk.wanted talk.field.items
 

@@ -5,19 +5,31 @@ use rfb_wire::{
     read_text_head, read_update_head,
 };
 
+// The number that a head tells, by every reader that tells one.
+fn reads_numbers() -> bool {
+    read_update_head(&[0, 1, 2]) == 258
+        && read_colour_map_head(&[0, 9, 9, 1, 2]) == 258
+        && read_text_head(&[0, 0, 0, 0, 1, 0, 2]) == 65538
+        && read_encoding(&[255, 255, 255, 33]) == 0xFFFF_FF21
+}
+
+fn reads_source() -> bool {
+    read_copy_source(&[0, 16, 1, 0]) == (16, 256)
+}
+
 #[test]
 fn heads(rt: HostRuntime) {
-    assert_eq!(rt; read_update_head(&[0, 1, 2]), 258);
-    assert_eq!(rt; read_colour_map_head(&[0, 9, 9, 1, 2]), 258);
-    assert_eq!(rt; read_text_head(&[0, 0, 0, 0, 1, 0, 2]), 65538);
-    assert_eq!(rt; read_encoding(&[255, 255, 255, 33]), 0xFFFF_FF21);
-    assert_eq!(rt; read_copy_source(&[0, 16, 1, 0]), (16, 256));
+    assert!(rt; reads_numbers() && reads_source());
+}
+
+fn reads_rectangle() -> bool {
+    let area = read_rect(&[0, 1, 1, 0, 0, 16, 255, 255]);
+    let head = read_rectangle_head(&[0, 1, 1, 0, 0, 16, 255, 255, 0, 0, 0, 5]);
+    let is_placed = area.x == 1 && area.y == 256 && area.w == 16 && area.h == 65535;
+    is_placed && head.area == area && head.encoding == 5
 }
 
 #[test]
 fn rectangles(rt: HostRuntime) {
-    let area = read_rect(&[0, 1, 1, 0, 0, 16, 255, 255]);
-    assert!(rt; area.x == 1 && area.y == 256 && area.w == 16 && area.h == 65535);
-    let head = read_rectangle_head(&[0, 1, 1, 0, 0, 16, 255, 255, 0, 0, 0, 5]);
-    assert!(rt; head.area == area && head.encoding == 5);
+    assert!(rt; reads_rectangle());
 }

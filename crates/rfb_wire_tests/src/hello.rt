@@ -1,37 +1,53 @@
 //! Handshakes, each in one piece and byte by byte.
 
-ghost use Rattle.std.specs.Prelude.{◌<◌};
+ghost use Rattle.std.specs.Prelude.{◌<◌, ◌≤◌};
 
 use pixel_format::Fault;
 use rfb_wire::{
     HostHello, ViewerHello, write_bell, write_client_text, write_key, write_pointer,
     write_server_text,
 };
-use std::alloc::Global;
-use std::test::Fail;
 
-// A host that offers None, says OK and has a screen of this size, named T.
-fn host_bytes(alloc: Global, version: &[u8], size: &[u8; 4]) -> Result<Vec<u8>, Fail> {
-    let mut bytes = version.to_vec(alloc)?;
-    bytes.extend_from_slice(&[1, 1, 0, 0, 0, 0])?;
-    bytes.extend_from_slice(size)?;
-    bytes.extend_from_slice(&[32, 24, 0, 1, 0, 255, 0, 255, 0, 255, 16, 8, 0, 0, 0, 0])?;
-    bytes.extend_from_slice(&[0, 0, 0, 1, b'T'])?;
-    Ok(bytes)
+// A host that offers None, says OK and has a screen of 2 by 1, named T.
+const HOST: [u8; 43] =
+    *b"RFB 003.008\n\x01\x01\0\0\0\0\0\x02\0\x01\x20\x18\0\x01\0\xFF\0\xFF\0\xFF\x10\x08\0\0\0\0\0\0\0\x01T";
+
+// The same host with another version, and with a screen of another size.
+fn host_with(version: &[u8; 12], size: &[u8; 4]) -> [u8; 43] {
+    let mut bytes = HOST;
+    bytes[..12].copy_from_slice(version);
+    bytes[18..22].copy_from_slice(size);
+    bytes
 }
 
-// The number of the fault that the host's bytes come to, 0 where it is joined, and 99 where it is neither.
-fn host_in_pieces(bytes: &[u8], size: usize) -> u64
+// The number of the fault that the host's bytes come to, and 0 where there is none.
+fn feed_host(hello: &mut HostHello, bytes: &[u8], size: usize) -> u64
     requires { 0 < size }
 {
-    let mut hello = HostHello::new();
     for piece in bytes.chunks(size) {
         match hello.feed(piece) {
             Ok(_) => {}
             Err(fault) => return fault.number(),
         }
     }
-    if hello.done().is_some() { 0 } else { 99 }
+    0
+}
+
+fn is_joined(hello: &HostHello) -> bool {
+    hello.done().is_some()
+}
+
+// The number of the fault, 0 where the host is joined, and 99 where it is neither.
+fn host_in_pieces(bytes: &[u8], size: usize) -> u64
+    requires { 0 < size }
+{
+    let mut hello = HostHello::new();
+    let fault = feed_host(&mut hello, bytes, size);
+    if fault == 0 && !is_joined(&hello) {
+        99
+    } else {
+        fault
+    }
 }
 
 fn host_fault(bytes: &[u8]) -> u64 {
@@ -44,8 +60,7 @@ fn host_fault(bytes: &[u8]) -> u64 {
 }
 
 #[test]
-fn sizes(rt: HostRuntime) -> Result<(), Fail> {
-    let alloc = rt.alloc();
+fn sizes(rt: HostRuntime) {
     for (size, fault) in [
         ([0x10, 0, 0x10, 0], 0),
         ([0, 1, 0, 1], 0),
@@ -54,16 +69,14 @@ fn sizes(rt: HostRuntime) -> Result<(), Fail> {
         ([0, 0, 0, 1], 5),
         ([0, 1, 0, 0], 5),
     ] {
-        let bytes = host_bytes(alloc, b"RFB 003.008\n", &size)?;
-        assert_eq!(rt; host_fault(bytes.as_slice()), fault);
+        let bytes = host_with(b"RFB 003.008\n", &size);
+        assert!(rt; host_fault(&bytes) == fault, "a size of fault {fault}");
     }
-    Ok(())
 }
 
 #[test]
-fn versions(rt: HostRuntime) -> Result<(), Fail> {
-    let alloc = rt.alloc();
-    for (version, fault) in [
+fn versions(rt: HostRuntime) {
+    for (i, (version, fault)) in [
         (b"RFB 003.008\n", 0),
         (b"RFB 003.889\n", 0),
         (b"RFB 004.000\n", 0),
@@ -73,60 +86,83 @@ fn versions(rt: HostRuntime) -> Result<(), Fail> {
         (b"RFB 003.00a\n", 1),
         (b"RFB 003.008\r", 1),
         (b"rfb 003.008\n", 1),
-    ] {
-        let bytes = host_bytes(alloc, version, &[0, 2, 0, 1])?;
-        assert_eq!(rt; host_fault(bytes.as_slice()), fault);
+    ]
+    .iter()
+    .enumerate()
+    {
+        let bytes = host_with(version, &[0, 2, 0, 1]);
+        assert!(rt; host_fault(&bytes) == *fault, "version {i}");
     }
-    Ok(())
 }
 
 #[test]
 fn security(rt: HostRuntime) {
-    assert_eq!(rt; host_fault(b"RFB 003.008\n\x01\x02"), 3);
-    assert_eq!(rt; host_fault(b"RFB 003.008\n\x02\x02\x01\0\0\0\x01"), 4);
-    assert_eq!(rt; host_fault(b"RFB 003.008\n\x02\x02\x01\0\0\0\0"), 99);
+    assert!(rt; host_fault(b"RFB 003.008\n\x01\x02") == 3);
+    assert!(rt; host_fault(b"RFB 003.008\n\x02\x02\x01\0\0\0\x01") == 4);
+    assert!(rt; host_fault(b"RFB 003.008\n\x02\x02\x01\0\0\0\0") == 99);
 }
 
-// The number of a text's bytes, and so many of them.
-fn push_text(alloc: Global, bytes: &mut Vec<u8>, count: u32) -> Result<(), Fail> {
-    let text = Vec::from_elem(alloc, b'x', count as usize)?;
-    bytes.extend_from_slice(&count.to_be_bytes())?;
-    bytes.extend_from_slice(text.as_slice())?;
-    Ok(())
+// How much is kept of the reason that a host gives, where it refuses.
+fn kept_reason(bytes: &[u8]) -> Option<usize> {
+    let mut hello = HostHello::new();
+    match hello.feed(bytes) {
+        Err(Fault::HostRefused(reason)) => Some(reason.len()),
+        _ => None,
+    }
+}
+
+// A host that refuses with a reason of so many bytes.
+fn is_refused(count: u32, kept: usize) -> bool
+    requires { count ≤ 300 }
+{
+    let mut bytes = [b'x'; 317];
+    bytes[..13].copy_from_slice(b"RFB 003.008\n\0");
+    bytes[13..17].copy_from_slice(&count.to_be_bytes());
+    let sent = &bytes[..17 + count as usize];
+    host_fault(sent) == 2 && kept_reason(sent) == Some(kept)
 }
 
 #[test]
-fn reasons(rt: HostRuntime) -> Result<(), Fail> {
-    let alloc = rt.alloc();
-    for (count, kept) in [(0, 0), (1, 1), (255, 255), (256, 255), (300, 255)] {
-        let mut bytes = b"RFB 003.008\n\0".to_vec(alloc)?;
-        push_text(alloc, &mut bytes, count)?;
-        assert_eq!(rt; host_fault(bytes.as_slice()), 2);
-        let mut hello = HostHello::new();
-        match hello.feed(bytes.as_slice()) {
-            Err(Fault::HostRefused(reason)) => assert_eq!(rt; reason.len(), kept),
-            _ => assert!(rt; false),
-        }
+fn reasons(rt: HostRuntime) {
+    assert!(rt; is_refused(0, 0) && is_refused(1, 1));
+    assert!(rt; is_refused(255, 255) && is_refused(256, 255) && is_refused(300, 255));
+}
+
+fn uses_all(hello: &mut HostHello, bytes: &[u8]) -> bool {
+    match hello.feed(bytes) {
+        Ok(used) => used == bytes.len(),
+        Err(_) => false,
     }
-    Ok(())
+}
+
+// How long the name of a host of 2 by 1 is, where it is joined.
+fn name_length(hello: &HostHello) -> Option<usize> {
+    match hello.done() {
+        Some(joined) if joined.w == 2 && joined.h == 1 => Some(joined.name.len()),
+        _ => None,
+    }
+}
+
+fn is_joined_with_name(bytes: &[u8], kept: usize) -> bool {
+    let mut hello = HostHello::new();
+    uses_all(&mut hello, bytes) && name_length(&hello) == Some(kept)
+}
+
+// A host with a name of so many bytes.
+fn is_named(count: u32, kept: usize) -> bool
+    requires { count ≤ 300 }
+{
+    let mut bytes = [b'x'; 342];
+    bytes[..38].copy_from_slice(&HOST[..38]);
+    bytes[38..42].copy_from_slice(&count.to_be_bytes());
+    let sent = &bytes[..42 + count as usize];
+    host_fault(sent) == 0 && is_joined_with_name(sent, kept)
 }
 
 #[test]
-fn long_names(rt: HostRuntime) -> Result<(), Fail> {
-    let alloc = rt.alloc();
-    for (count, kept) in [(0, 0), (255, 255), (256, 255), (300, 255)] {
-        let mut bytes = host_bytes(alloc, b"RFB 003.008\n", &[0, 2, 0, 1])?;
-        bytes.truncate(38);
-        push_text(alloc, &mut bytes, count)?;
-        assert_eq!(rt; host_fault(bytes.as_slice()), 0);
-        let mut hello = HostHello::new();
-        let used = hello.feed(bytes.as_slice()).ok().ok_or("a fault")?;
-        assert_eq!(rt; used, bytes.len());
-        let joined = hello.done().ok_or("not joined")?;
-        assert_eq!(rt; (joined.w, joined.h), (2, 1));
-        assert_eq!(rt; joined.name.len(), kept);
-    }
-    Ok(())
+fn long_names(rt: HostRuntime) {
+    assert!(rt; is_named(0, 0) && is_named(255, 255));
+    assert!(rt; is_named(256, 255) && is_named(300, 255));
 }
 
 // Whether the viewer is to be sent exactly this, all of which is then sent.
@@ -137,54 +173,65 @@ fn says(hello: &mut ViewerHello, wanted: &[u8]) -> bool {
     says
 }
 
-// Whether all of a piece is used, and no fault shown.
-fn takes(hello: &mut ViewerHello, piece: &[u8]) -> bool {
+// Whether so much of a piece is used, and no fault shown.
+fn uses(hello: &mut ViewerHello, piece: &[u8], count: usize) -> bool {
     match hello.feed(piece) {
-        Ok(used) => used == piece.len(),
+        Ok(used) => used == count,
         Err(_) => false,
     }
+}
+
+// Whether this fault is shown.
+fn shows(hello: &mut ViewerHello, piece: &[u8], number: u64) -> bool {
+    match hello.feed(piece) {
+        Ok(_) => false,
+        Err(fault) => fault.number() == number,
+    }
+}
+
+fn tells(hello: &mut ViewerHello) -> bool {
+    let init = b"\0\x02\0\x01\x20\x18\0\x01\0\xFF\0\xFF\0\xFF\x10\x08\0\0\0\0\0\0\0\x01T";
+    says(hello, b"RFB 003.008\n")
+        && uses(hello, b"RFB 003.008\n", 12)
+        && says(hello, b"\x01\x01")
+        && uses(hello, b"\x01", 1)
+        && says(hello, b"\0\0\0\0")
+        && !hello.done()
+        && uses(hello, b"\x01", 1)
+        && hello.done()
+        && uses(hello, b"\x03", 0)
+        && says(hello, init)
 }
 
 #[test]
 fn a_viewer_is_told(rt: HostRuntime) {
     let mut hello = ViewerHello::new(2, 1, b"T");
-    assert!(rt; says(&mut hello, b"RFB 003.008\n"));
-    assert!(rt; takes(&mut hello, b"RFB 003.008\n"));
-    assert!(rt; says(&mut hello, b"\x01\x01"));
-    assert!(rt; takes(&mut hello, b"\x01"));
-    assert!(rt; says(&mut hello, b"\0\0\0\0"));
-    assert!(rt; !hello.done());
-    assert!(rt; takes(&mut hello, b"\x01"));
-    assert!(rt; hello.done());
-    assert_eq!(rt; hello.feed(b"\x03").ok(), Some(0));
-    let init = b"\0\x02\0\x01\x20\x18\0\x01\0\xFF\0\xFF\0\xFF\x10\x08\0\0\0\0\0\0\0\x01T";
-    assert!(rt; says(&mut hello, init));
+    assert!(rt; tells(&mut hello));
+}
+
+fn refuses_a_version(hello: &mut ViewerHello) -> bool {
+    uses(hello, b"RFB 003.003", 11)
+        && shows(hello, b"\n", 1)
+        && shows(hello, b"\x01", 1)
+        && hello.out().is_empty()
+}
+
+fn refuses_a_choice(hello: &mut ViewerHello) -> bool {
+    shows(hello, b"RFB 003.008\n\x02\x01", 13) && hello.out().is_empty()
 }
 
 #[test]
 fn a_viewer_is_refused(rt: HostRuntime) {
     let mut old = ViewerHello::new(2, 1, b"T");
-    assert_eq!(rt; old.feed(b"RFB 003.003").ok(), Some(11));
-    assert_eq!(rt; old.feed(b"\n").err().map(|fault| fault.number()), Some(1));
-    assert_eq!(rt;
-        old.feed(b"\x01").err().map(|fault| fault.number()),
-        Some(1)
-    );
-    assert!(rt; old.out().is_empty());
+    assert!(rt; refuses_a_version(&mut old));
     let mut other = ViewerHello::new(2, 1, b"T");
-    assert_eq!(rt;
-        other
-            .feed(b"RFB 003.008\n\x02\x01")
-            .err()
-            .map(|fault| fault.number()),
-        Some(13)
-    );
-    assert!(rt; other.out().is_empty());
+    assert!(rt; refuses_a_choice(&mut other));
 }
 
 // The viewer's side of a handshake: its version, the choice of None, and a shared-flag.
 const VIEWER: [u8; 14] = *b"RFB 003.008\n\x01\x01";
 
+// That with one byte changed.
 fn changed(position: usize, value: u8) -> [u8; 14] {
     let mut bytes = VIEWER;
     if position < 14 {
@@ -193,76 +240,88 @@ fn changed(position: usize, value: u8) -> [u8; 14] {
     bytes
 }
 
-// The number of the fault that a viewer's bytes, up to so many and then the rest, come to, and 0 where the handshake is done.
+// The fault that such a change comes to. The shared-flag isn't looked at.
+fn fault_of_change(position: usize, value: u8) -> u64 {
+    match position {
+        12 if value != 1 => 13,
+        0..=11 if changed(position, value) != VIEWER => 1,
+        _ => 0,
+    }
+}
+
+// The number of the fault that is shown, and 0 where there is none.
+fn feed_viewer(hello: &mut ViewerHello, piece: &[u8]) -> u64 {
+    match hello.feed(piece) {
+        Ok(_) => 0,
+        Err(fault) => fault.number(),
+    }
+}
+
+// The number of the fault that a viewer's bytes, up to so many and then the rest, come to, 0 where the handshake is done, and
+// 99 where it is neither.
 fn viewer_fault(bytes: &[u8; 14], cut: usize) -> u64 {
     let mut hello = ViewerHello::new(2, 1, b"T");
     let (front, back) = bytes.split_at(cut.min(14));
-    for piece in [front, back] {
-        match hello.feed(piece) {
-            Ok(_) => {}
-            Err(fault) => return fault.number(),
-        }
+    let first = feed_viewer(&mut hello, front);
+    if first != 0 {
+        return first;
     }
-    if hello.done() { 0 } else { 99 }
+    let second = feed_viewer(&mut hello, back);
+    if second == 0 && !hello.done() {
+        99
+    } else {
+        second
+    }
 }
 
 #[test]
 fn a_viewer_is_read_in_pieces(rt: HostRuntime) {
     for cut in 0..=14 {
-        assert_eq!(rt; viewer_fault(&VIEWER, cut), 0, "cut at {cut}");
+        assert!(rt; viewer_fault(&VIEWER, cut) == 0, "cut at {cut}");
     }
 }
 
-// Each other version is refused, and each other choice; the shared-flag isn't looked at.
+// Each other version is refused, and each other choice.
 #[test]
 fn every_byte_of_a_viewer(rt: HostRuntime) {
     for position in 0..14 {
         for value in 0..=255 {
-            let wanted = match position {
-                0..=11 if value != VIEWER[position] => 1,
-                12 if value != 1 => 13,
-                _ => 0,
-            };
-            let bytes = changed(position, value);
-            assert_eq!(rt; viewer_fault(&bytes, 7), wanted, "byte {position}: {value}");
+            let fault = viewer_fault(&changed(position, value), 7);
+            assert!(rt;
+                fault == fault_of_change(position, value),
+                "byte {position}: {value}"
+            );
         }
     }
 }
 
-// What is used of a host's bytes in which one byte more stands behind a fault, and the fault's number.
-fn used_before_a_fault(bytes: &[u8]) -> (usize, u64) {
-    let mut hello = HostHello::new();
-    let mut used = 0;
-    for piece in bytes.chunks(1) {
+// What is used of a host's bytes, one at a time, and the number of the fault at which it ends: 0 where there is none, and 99
+// where a byte isn't used.
+fn feed_until_a_fault(hello: &mut HostHello, bytes: &[u8]) -> (usize, u64) {
+    for (used, piece) in bytes.chunks(1).enumerate() {
         match hello.feed(piece) {
-            Ok(count) => used = count.saturating_add(used),
+            Ok(1) => {}
+            Ok(_) => return (used, 99),
             Err(fault) => return (used, fault.number()),
         }
     }
-    (used, 0)
+    (bytes.len(), 0)
 }
 
-// A fault comes with the last byte of its field, and no sooner.
+// Whether the last byte but one of these is the one that shows the fault: it comes with the last byte of its field, and no sooner.
+fn is_judged_at_its_end(bytes: &[u8], used: usize, number: u64) -> bool {
+    let mut hello = HostHello::new();
+    feed_until_a_fault(&mut hello, bytes) == (used, number)
+}
+
 #[test]
 fn a_host_is_judged_at_the_end_of_a_field(rt: HostRuntime) {
-    assert_eq!(rt; used_before_a_fault(b"XXX 003.008\n\x01"), (11, 1));
-    assert_eq!(rt;
-        used_before_a_fault(b"RFB 003.008\n\x02\x02\x05\0"),
-        (14, 3)
-    );
-    assert_eq!(rt;
-        used_before_a_fault(b"RFB 003.008\n\x01\x01\x01\0\0\0\0"),
-        (17, 4)
-    );
-    assert_eq!(rt;
-        used_before_a_fault(b"RFB 003.008\n\x01\x01\0\0\0\0\0\0\0\x01\0"),
-        (21, 5)
-    );
-    assert_eq!(rt;
-        used_before_a_fault(b"RFB 003.008\n\0\0\0\0\x02no\0"),
-        (18, 2)
-    );
-    assert_eq!(rt; used_before_a_fault(b"RFB 003.008\n\0\0\0\0\0\0"), (16, 2));
+    assert!(rt; is_judged_at_its_end(b"XXX 003.008\n\x01", 11, 1));
+    assert!(rt; is_judged_at_its_end(b"RFB 003.008\n\x02\x02\x05\0", 14, 3));
+    assert!(rt; is_judged_at_its_end(b"RFB 003.008\n\x01\x01\x01\0\0\0\0", 17, 4));
+    assert!(rt; is_judged_at_its_end(b"RFB 003.008\n\x01\x01\0\0\0\0\0\0\0\x01\0", 21, 5));
+    assert!(rt; is_judged_at_its_end(b"RFB 003.008\n\0\0\0\0\x02no\0", 18, 2));
+    assert!(rt; is_judged_at_its_end(b"RFB 003.008\n\0\0\0\0\0\0", 16, 2));
 }
 
 // Whether so many bytes are these, and stand at the front.

@@ -6,6 +6,7 @@ use link::{Gave, Link, MemoryLink, Took, join_host};
 use pixel_format::Fault;
 use rfb_wire::Joined;
 use std::alloc::Global;
+use std::sync::Wait;
 use std::test::Fail;
 
 // What the host sends: its version, the type None, OK, and ServerInit. Two bytes of a first update lie behind it.
@@ -23,63 +24,71 @@ const GIVES: [u8; 64] = [
     0x00, 0x02, 0x00, 0x00, 0x00, 0x00, 0x03, 0x00, 0x00, 0x00, 0x00, 0x00, 0x00, 0x02, 0x00, 0x01,
 ];
 
+// Whether so many of these were taken.
+fn has_taken(link: &MemoryLink, count: usize) -> bool
+    requires { count ≤ 45 }
+{
+    link.taken() == &SENDS[..count]
+}
+
+// Whether the link was given so many of these.
+fn has_given(link: &MemoryLink, count: usize) -> bool
+    requires { count ≤ 64 }
+{
+    link.given() == &GIVES[..count]
+}
+
 // A link that answers a call to take `count` times with the first, and then with the last; so for calls to give.
 fn link_to(
     alloc: Global,
     takes: (Took, usize, Took),
     gives: (Gave, usize, Gave),
 ) -> Result<MemoryLink, Fail> {
+    let sends = SENDS.to_vec(alloc)?;
     let mut answers_to_take = Vec::from_elem(alloc, takes.0, takes.1)?;
     answers_to_take.push(takes.2)?;
     let mut answers_to_give = Vec::from_elem(alloc, gives.0, gives.1)?;
     answers_to_give.push(gives.2)?;
-    let sends = SENDS.to_vec(alloc)?;
     Ok(MemoryLink::new(alloc, sends, answers_to_take, answers_to_give)?)
 }
 
-fn is_joined(answer: &Result<Joined, Fault>) -> bool {
+fn is_host(answer: &Result<Joined, Fault>) -> bool {
     match answer {
         Ok(joined) => joined.w == 2 && joined.h == 1 && joined.name.as_slice() == b"T".as_slice(),
         Err(_) => false,
     }
 }
 
-// The number of the fault, or 0.
-fn fault(answer: &Result<Joined, Fault>) -> u64 {
-    match answer {
-        Ok(_) => 0,
-        Err(fault) => fault.number(),
-    }
+// Whether the host is joined over the link, which never fails.
+fn joins<R: Wait>(rt: &R, link: &mut MemoryLink) -> bool {
+    is_host(&join_host(rt, link))
+        && has_given(link, 64)
+        && has_taken(link, HANDSHAKE)
+        && link.failures() == 0
 }
 
 #[test]
 fn joins_a_host(rt: HostRuntime) -> Result<(), Fail> {
-    let alloc = rt.alloc();
-    let mut link = link_to(
-        alloc,
-        (Took::Nothing, 3, Took::Bytes(45)),
-        (Gave::Bytes(20), 6, Gave::Failed),
-    )?;
-    assert!(rt; is_joined(&join_host(&rt, &mut link)));
-    assert!(rt; link.given() == GIVES.as_slice());
-    assert!(rt; link.taken() == &SENDS[..HANDSHAKE]);
-    assert_eq!(rt; link.failures(), 0);
+    let takes = (Took::Nothing, 3, Took::Bytes(45));
+    let mut link = link_to(rt.alloc(), takes, (Gave::Bytes(20), 6, Gave::Failed))?;
+    assert!(rt; joins(&rt, &mut link));
     Ok(())
 }
 
 #[test]
 fn joins_a_host_byte_by_byte(rt: HostRuntime) -> Result<(), Fail> {
-    let alloc = rt.alloc();
-    let mut link = link_to(
-        alloc,
-        (Took::Bytes(1), 43, Took::Failed),
-        (Gave::Bytes(1), 64, Gave::Failed),
-    )?;
-    assert!(rt; is_joined(&join_host(&rt, &mut link)));
-    assert!(rt; link.given() == GIVES.as_slice());
-    assert!(rt; link.taken() == &SENDS[..HANDSHAKE]);
-    assert_eq!(rt; link.failures(), 0);
+    let takes = (Took::Bytes(1), 43, Took::Failed);
+    let mut link = link_to(rt.alloc(), takes, (Gave::Bytes(1), 64, Gave::Failed))?;
+    assert!(rt; joins(&rt, &mut link));
     Ok(())
+}
+
+// Whether joining fails with this number.
+fn fails<R: Wait>(rt: &R, link: &mut MemoryLink, number: u64) -> bool {
+    match join_host(rt, link) {
+        Ok(_) => false,
+        Err(fault) => fault.number() == number,
+    }
 }
 
 // What was given before byte `count` of the handshake came.
@@ -97,35 +106,54 @@ fn answered(count: usize) -> usize
     }
 }
 
+fn fails_at_byte_taken<R: Wait>(
+    rt: &R,
+    link: &mut MemoryLink,
+    count: usize,
+    number: u64,
+    failures: u64,
+) -> bool
+    requires { count ≤ 43 }
+{
+    fails(rt, link, number)
+        && has_taken(link, count)
+        && has_given(link, answered(count))
+        && link.failures() == failures
+}
+
 #[test]
 fn fails_at_each_byte_taken(rt: HostRuntime) -> Result<(), Fail> {
-    let alloc = rt.alloc();
     for (last, number, failures) in [(Took::Failed, 21, 1), (Took::End, 22, 0)] {
         for count in 0..HANDSHAKE {
             let gives = (Gave::Bytes(20), 6, Gave::Failed);
-            let mut link = link_to(alloc, (Took::Bytes(1), count, last), gives)?;
-            assert_eq!(rt; fault(&join_host(&rt, &mut link)), number);
-            assert!(rt; link.taken() == &SENDS[..count], "taken at {count}");
-            assert!(rt;
-                link.given() == &GIVES[..answered(count)],
-                "given at {count}"
-            );
-            assert_eq!(rt; link.failures(), failures);
+            let mut link = link_to(rt.alloc(), (Took::Bytes(1), count, last), gives)?;
+            let fails = fails_at_byte_taken(&rt, &mut link, count, number, failures);
+            assert!(rt; fails, "{number} at {count}");
         }
     }
     Ok(())
 }
 
+fn fails_at_byte_given<R: Wait>(
+    rt: &R,
+    link: &mut MemoryLink,
+    count: usize,
+    number: u64,
+    failures: u64,
+) -> bool
+    requires { count ≤ 64 }
+{
+    fails(rt, link, number) && has_given(link, count) && link.failures() == failures
+}
+
 #[test]
 fn fails_at_each_byte_given(rt: HostRuntime) -> Result<(), Fail> {
-    let alloc = rt.alloc();
     for (last, number, failures) in [(Gave::Failed, 21, 1), (Gave::End, 22, 0)] {
         for count in 0..64 {
             let takes = (Took::Bytes(1), HANDSHAKE, Took::Failed);
-            let mut link = link_to(alloc, takes, (Gave::Bytes(1), count, last))?;
-            assert_eq!(rt; fault(&join_host(&rt, &mut link)), number);
-            assert!(rt; link.given() == &GIVES[..count], "given at {count}");
-            assert_eq!(rt; link.failures(), failures);
+            let mut link = link_to(rt.alloc(), takes, (Gave::Bytes(1), count, last))?;
+            let fails = fails_at_byte_given(&rt, &mut link, count, number, failures);
+            assert!(rt; fails, "{number} at {count}");
         }
     }
     Ok(())
@@ -134,39 +162,39 @@ fn fails_at_each_byte_given(rt: HostRuntime) -> Result<(), Fail> {
 // Where each call gives a whole answer or message, and the link fails or ends at one of them.
 #[test]
 fn fails_at_each_message_given(rt: HostRuntime) -> Result<(), Fail> {
-    let alloc = rt.alloc();
-    for (last, number) in [(Gave::Failed, 21), (Gave::End, 22)] {
+    for (last, number, failures) in [(Gave::Failed, 21, 1), (Gave::End, 22, 0)] {
         for (count, given) in [0, 12, 13, 14, 34, 54].iter().enumerate() {
             let takes = (Took::Bytes(45), 1, Took::Failed);
-            let mut link = link_to(alloc, takes, (Gave::Bytes(20), count, last))?;
-            assert_eq!(rt; fault(&join_host(&rt, &mut link)), number);
-            assert!(rt;
-                link.given() == GIVES.split_at(*given).0,
-                "given at {count}"
-            );
+            let mut link = link_to(rt.alloc(), takes, (Gave::Bytes(20), count, last))?;
+            let fails = fails_at_byte_given(&rt, &mut link, (*given).min(64), number, failures);
+            assert!(rt; fails, "{number} at {count}");
         }
     }
     Ok(())
 }
 
+// Whether a call to take answers so, with these in front of the slice.
+fn takes(link: &mut MemoryLink, into: &mut [u8; 2], answer: Took, bytes: &[u8; 2]) -> bool {
+    link.take(into) == answer && *into == *bytes
+}
+
+fn is_used_up(link: &mut MemoryLink) -> bool {
+    let mut into = [0; 2];
+    takes(link, &mut into, Took::Bytes(2), b"RF")
+        && takes(link, &mut into, Took::Bytes(1), b"BF")
+        && takes(link, &mut into, Took::Nothing, b"BF")
+        && takes(link, &mut into, Took::End, b"BF")
+        && link.give(&[1]) == Gave::Bytes(1)
+        && link.give(&[2]) == Gave::Failed
+        && link.give(&[3]) == Gave::End
+        && link.given() == [1].as_slice()
+        && link.failures() == 1
+}
+
 #[test]
 fn a_list_that_is_used_up_ends(rt: HostRuntime) -> Result<(), Fail> {
-    let mut link = link_to(
-        rt.alloc(),
-        (Took::Bytes(3), 1, Took::Nothing),
-        (Gave::Bytes(2), 1, Gave::Failed),
-    )?;
-    let mut into = [0; 2];
-    assert_eq!(rt; link.take(&mut into), Took::Bytes(2));
-    assert_eq!(rt; into, *b"RF");
-    assert_eq!(rt; link.take(&mut into), Took::Bytes(1));
-    assert_eq!(rt; into, *b"BF");
-    assert_eq!(rt; link.take(&mut into), Took::Nothing);
-    assert_eq!(rt; link.take(&mut into), Took::End);
-    assert_eq!(rt; link.give(&[1]), Gave::Bytes(1));
-    assert_eq!(rt; link.give(&[2]), Gave::Failed);
-    assert_eq!(rt; link.give(&[3]), Gave::End);
-    assert!(rt; link.given() == [1].as_slice());
-    assert_eq!(rt; link.failures(), 1);
+    let takes = (Took::Bytes(3), 1, Took::Nothing);
+    let mut link = link_to(rt.alloc(), takes, (Gave::Bytes(2), 1, Gave::Failed))?;
+    assert!(rt; is_used_up(&mut link));
     Ok(())
 }

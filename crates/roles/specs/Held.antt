@@ -21,6 +21,7 @@ pub record Kept : Type 0 where
   pub x : ℕ
   pub y : ℕ
 
+-- Before the first message.
 abbrev pub nothing_kept : Kept
 nothing_kept = record { keys = []; mask = 0; x = 0; y = 0 }
 
@@ -44,12 +45,13 @@ abbrev pub passes_if : List ℕ → Option Input → Bool
 passes_if keys None = false
 passes_if keys (Some input) = passes keys input
 
--- What is kept after it.
+-- What is kept after an input that passes.
 abbrev pub kept_with : Kept → Input → Kept
 kept_with kept (Key down key) = record kept { keys = keys_after kept.keys (Key down key) }
 kept_with kept (Pointer mask x y) = record kept { mask = mask; x = x; y = y }
 kept_with kept (Cut text) = kept
 
+-- What is kept after an input, if there is one, that may pass or not.
 abbrev pub kept_after : Kept → Option Input → Kept
 kept_after kept None = kept
 kept_after kept (Some input) = if passes kept.keys input then kept_with kept input else kept
@@ -59,9 +61,10 @@ abbrev pub passed_if : Bool → Option Input → List Input
 passed_if pass None = []
 passed_if pass (Some input) = if pass then input ∷ [] else []
 
--- What is still to be released where the viewer leaves: the keys by rising number, then mask 0 at the last position if the last mask wasn't 0.
+-- What is still to be released where the viewer leaves: mask 0 at the last position if the last mask wasn't 0.
 abbrev pub pointer_left : ℕ × ℕ × ℕ → List Input
 pointer_left last = if last.0 == 0 then [] else Pointer 0 last.1 last.2 ∷ []
 
+-- All of it, the keys first.
 abbrev pub left_in : Kept → List Input
 left_in kept = map (λ key. Key false key) kept.keys ++ pointer_left (kept.mask, kept.x, kept.y)

@@ -66,6 +66,10 @@ not_whole format w h Outside sofar begun ok lt = ap (λ (r : Reading Drawing). i
 pub goes_on : (format : PixelFormat) (w h : ℕ) (stage : Stage) (sofar : Drawing) (begun more joined : List ℕ) → joined ≡ begun ++ more → after (next_form format w h stage sofar) joined ≡ after (after (next_form format w h stage sofar) begun) more
 goes_on format w h stage sofar begun more joined e = ap (after (next_form format w h stage sofar)) e ∙ after-append (next_form format w h stage sofar) begun more
 
+-- Where none has come, it stands as it stood.
+pub nothing_begun : {A : Type 0} (form : Reading A) (begun : List ℕ) → begun ≡ [] → after form begun ≡ form
+nothing_begun form begun none = ap (λ bs. after form bs) none
+
 pub all_taken : (format : PixelFormat) (w h : ℕ) (stage : Stage) (sofar : Drawing) (begun more : List ℕ) → is_open stage ≡ true → length begun + length more ≤ needed format stage
     → taken (after (next_form format w h stage sofar) begun) more ≡ length more
 all_taken format w h stage sofar begun more e le =

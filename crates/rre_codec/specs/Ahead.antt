@@ -40,6 +40,7 @@ IsDrawn w h Head canvas sofar = Unit {0}
 IsDrawn w h (Subrects count) canvas sofar = LooksLike w h canvas (drawn sofar)
 IsDrawn w h Outside canvas sofar = Unit {0}
 
+-- A canvas shows what a reader has read so far.
 abbrev pub Stands : Progress → Canvas → Drawing → Type 0
 Stands p canvas sofar = IsDrawn p.width p.height p.stage canvas sofar
 
@@ -68,6 +69,7 @@ pub record Led (format : PixelFormat) (w h : ℕ) (stage next : Stage) (bytes : 
   pub reads : after (next_form format w h stage sofar) bytes ≡ next_form format w h next drawing
   pub shows : IsDrawn w h next now drawing
 
+-- That, wherever the canvas before showed what was drawn so far.
 abbrev pub Leads : PixelFormat → ℕ → ℕ → Stage → Stage → List ℕ → Canvas → Canvas → Drawing → Type 0
 Leads format w h stage next bytes before now sofar = IsDrawn w h stage before sofar → Led format w h stage next bytes now sofar
 

@@ -92,7 +92,7 @@ fn draw<C: Canvas>(
 }
 
 /// A reader of one rectangle in RRE (RFC 6143, section 7.7.3), which paints as it reads. It holds no more than the
-/// bytes of one subrectangle.
+/// bytes of one subrectangle, and those only where a piece ends inside it.
 #[derive(Drop)]
 pub struct Reader {
     format: Format,
@@ -150,7 +150,8 @@ impl Reader {
         is_open(self.stage)
     }
 
-    /// Takes the front of some bytes, as far as they are looked at together, and answers how many.
+    /// Takes the front of some bytes, as far as they are looked at together, and answers how many. Only where they end
+    /// too early, they are kept.
     fn step<C: Canvas>(&mut self, canvas: &mut C, bytes: &[u8]) -> usize
         requires open { is_open self.old.stage ≡ true }
         requires some { 0 < length bytes.now }
@@ -164,6 +165,17 @@ impl Reader {
         ensures drawn { (sofar : Drawing) → Stands self.old (C.shows canvas.old) sofar → Steps self.old self.new (C.shows canvas.new) (take result bytes.now) sofar }
     {
         let needed = needed(&self.format, self.stage);
+        if self.filled == 0 && needed <= bytes.len() {
+            self.stage = draw(
+                &self.format,
+                self.width,
+                self.height,
+                self.stage,
+                &bytes[..needed],
+                canvas,
+            );
+            return needed;
+        }
         let count = bytes.len().min(needed - self.filled);
         self.buffer[self.filled..self.filled + count].copy_from_slice(&bytes[..count]);
         self.filled += count;

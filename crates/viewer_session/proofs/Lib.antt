@@ -9,3 +9,4 @@ pub mod Accepted
 pub mod Streams
 pub mod TurnLaws
 pub mod Vectors
+pub mod Parts

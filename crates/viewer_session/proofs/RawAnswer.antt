@@ -1,14 +1,16 @@
 -- The bytes of an answer of one rectangle that is sent Raw.
-use Rattle.std.proofs.Common.{◌≡◌, ℕ, zero, suc, ◌+◌, ◌-◌, ◌*◌, ◌/◌, ◌%◌, ◌<◌, ◌≤◌, Bool, false, List, [], ◌∷◌, ◌++◌, length, take, drop, refl, sym, ap, ◌∙◌, arith, append_assoc, zero-add}
+use Rattle.std.proofs.Common.{◌≡◌, ℕ, zero, suc, ◌+◌, ◌-◌, ◌*◌, ◌/◌, ◌%◌, ◌<◌, ◌≤◌, Bool, false, List, [], ◌∷◌, ◌++◌, length, take, drop, refl, sym, ap, ◌∙◌, arith, append_assoc, length-append, zero-add}
 use Rattle.std.specs.Prelude.{map, nat_lt, if◌then◌else◌}
 use Rattle.std.proofs.lemmas.Bool.Decides.{nat_tests}
 use Rattle.std.specs.List.{range_with_len}
-use Rattle.std.proofs.lemmas.List.{append-nil, map-append}
+use Rattle.std.proofs.lemmas.List.{append-nil, map-append, drop-drop, drop_all, take-take}
+use Rattle.std.proofs.Math.Seq.{take-append_seam}
 use Rattle.std.proofs.lemmas.Grind.{flat_map-append}
 use Rattle.std.proofs.lemmas.Slice.{take-put_mid}
 use borrow.Rule.Slice.PartMut.{put_mid}
 use Rattle.std.proofs.lemmas.List.Folds.{flat_map-map}
 use Rattle.std.proofs.lemmas.Nat.{div-mul-add, mod-mul-add}
+use Rattle.std.proofs.Math.Nat.{mul-le-mul_right, mul_comm}
 use Rattle.pixel_format.specs.PixelFormat.{PixelFormat, tint, pixel_bytes, row_bytes}
 use Rattle.raster.specs.declared.rect.Rect.{Rect}
 use Rattle.raster.specs.declared.encoding.Encoding.TheVariants.{Raw}
@@ -17,7 +19,7 @@ use Rattle.raster.proofs.Values.{column_in, row_in, map_range_is}
 use Rattle.raster.proofs.Rows.{part_row, part_at, part_len}
 use Rattle.rfb_wire.specs.ClientMessage.{Choice}
 use Rattle.raster.specs.Encoding.{raw_bytes, saves_bytes}
-use Rattle.rfb_wire.specs.Writing.{update_head_bytes, rectangle_head_bytes, rectangle_bytes, update_bytes}
+use Rattle.rfb_wire.specs.Writing.{update_head_bytes, rectangle_head_bytes, rectangle_bytes, update_bytes, Writes}
 use Rattle.update_encoder.specs.Answer.{answer_bytes, colours_in}
 use Rattle.viewer_session.specs.RawUpdate.{raw_update}
 
@@ -131,3 +133,58 @@ rows_more format values w h area m start size k out new len on lt le sofar this 
     ∙ (ap (λ t. row_bytes format (values_of area.w m canvas) ++ t) here
     ∙ (sym (flat_map-append (λ colour. pixel_bytes format (tint format colour)) (values_of area.w m canvas) row)
     ∙ ap (row_bytes format) (sym (values_more area.w m canvas)))))
+
+-- ---- the room for it
+
+-- A screen of at most 4096 by 4096 has less than 2^24 positions.
+pub few_positions : (w h : ℕ) → w ≤ 4096 → h ≤ 4096 → w * h ≤ 16777216
+few_positions w h lw lh =
+    let wide : w * h ≤ 4096 * h = mul-le-mul_right h lw in
+    omega (arith, wide, lh)
+
+-- A part of a row lies within the values.
+pub row_within : (x y m across w h n : ℕ) → n ≡ w * h → x + across ≤ w → y + m < h → (y + m) * w + x + across ≤ n
+row_within x y m across w h n size in_row in_rows =
+    let up_to : (y + m + 1) * w ≤ h * w = mul-le-mul_right w (omega arith) in
+    let more : (y + m + 1) * w ≡ (y + m) * w + w = omega arith in
+    omega (arith, size, in_row, up_to, more, mul_comm w h)
+
+-- And its pixels within the bytes.
+pub bytes_within : (m len h : ℕ) → m < h → m * len + len ≤ h * len
+bytes_within m len h lt =
+    let up_to : (m + 1) * len ≤ h * len = mul-le-mul_right len (omega arith) in
+    let more : (m + 1) * len ≡ m * len + len = omega arith in
+    omega (arith, up_to, more)
+
+-- What fills a part of its length is all of that part.
+pub written_whole : (spelling old new : List ℕ) (count : ℕ) → Writes spelling old new count → length old ≡ length spelling → new ≡ spelling
+written_whole spelling old new count k len =
+    let nothing : drop (length spelling) old ≡ [] = drop_all (length spelling) old (omega (arith, len)) in
+    k.written ∙ (ap (λ t. spelling ++ t) nothing ∙ append-nil spelling)
+
+-- Two heads and the pixels were written one behind the other.
+pub raw_writes : (head place rows out h p r behind : List ℕ) (size : ℕ) → length head ≡ 4 → length place ≡ 12 → length r ≡ size → h ≡ head → p ≡ place → r ≡ rows → behind ≡ drop size (drop 12 (drop 4 out))
+    → Writes ((head ++ place) ++ rows) out (h ++ (p ++ (r ++ behind))) (16 + size)
+raw_writes head place rows out h p r behind size four twelve len eh ep er eb =
+    let spelling : List ℕ = (head ++ place) ++ rows in
+    let all : length spelling ≡ 16 + size = omega (arith, four, twelve, len, ap length er, length-append (head ++ place) rows, length-append head place) in
+    let left : behind ≡ drop (length spelling) out = eb ∙ (ap (drop size) (drop-drop 12 4 out) ∙ (drop-drop size 16 out ∙ ap (λ n. drop n out) (sym all))) in
+    record {
+      written = ap (λ t. t ++ (p ++ (r ++ behind))) eh
+          ∙ (ap (λ t. head ++ (t ++ (r ++ behind))) ep
+          ∙ (ap (λ t. head ++ (place ++ (t ++ behind))) er
+          ∙ (ap (λ t. head ++ (place ++ (rows ++ t))) left ∙ sym (append_assoc (head ++ place) rows (drop (length spelling) out) ∙ append_assoc head place (rows ++ drop (length spelling) out)))));
+      count_is = sym all;
+    }
+
+-- The spelling is what is taken of the front.
+pub front_written : (spelling old new behind : List ℕ) (count len : ℕ) → Writes spelling old new count → count ≤ len → take count (take len (new ++ behind)) ≡ spelling
+front_written spelling old new behind count len k le =
+    let rest : List ℕ = drop (length spelling) old in
+    take-take count len (new ++ behind) le
+    ∙ (ap (λ t. take count (t ++ behind)) k.written
+    ∙ (ap (take count) (append_assoc spelling rest behind)
+    ∙ (ap (λ n. take n (spelling ++ (rest ++ behind))) k.count_is ∙ take-append_seam spelling (rest ++ behind))))
+
+pub written_within : (spelling old new : List ℕ) (count : ℕ) → Writes spelling old new count → count ≤ length new
+written_within spelling old new count k = omega (arith, k.count_is, ap length k.written, length-append spelling (drop (length spelling) old))

@@ -4,6 +4,7 @@ use Rattle.std.proofs.lemmas.Bool.Decides.{nat_tests}
 use Rattle.std.specs.Prelude.{◌&&◌, ◌||◌, if◌then◌else◌, nat_lt, unwrap_or, is_some, IsTrue}
 use Rattle.std.proofs.lemmas.List.{length-drop, drop-drop}
 use Rattle.pixel_format.specs.declared.fault.Fault.{Fault}
+use Rattle.pixel_format.specs.PixelFormat.{PixelFormat}
 use Rattle.pixel_format.specs.Reading.{Reading, fault_of, whole_of}
 use Rattle.raster.specs.declared.rect.Rect.{Rect}
 use Rattle.raster.specs.declared.encoding.Encoding.TheVariants.{Raw}
@@ -16,7 +17,7 @@ use Rattle.rfb_wire.specs.Message.{IsOrLoses, viewer_form}
 use Rattle.rfb_wire.proofs.Beginnings.{nothing_lost}
 use Rattle.rfb_wire.proofs.Losing.{losing-fault}
 use Rattle.tiles.specs.Have.{SentTiles, HaveStands}
-use Rattle.tiles.specs.Touched.{Event, Requested, last_sent}
+use Rattle.tiles.specs.Touched.{Event, Requested, NewFormat, last_sent}
 use Rattle.reflect_core.specs.Asked.{Wanted, AskedStands, pending, has_asked}
 use Rattle.viewer_session.specs.Extent.{Extent}
 use Rattle.viewer_session.specs.FirstPath.{first_path}
@@ -67,6 +68,17 @@ stands_asked s st now p incremental area clipped asked have is stands e a h =
       format = k.keeps.format;
       choice = k.keeps.choice;
     })
+
+-- A pixel format.
+pub stands_format : (s : Setup) (st now : State) (p : Viewer) (format : PixelFormat) (asked : Wanted) (have : SentTiles) → st ≡ now → Stands s now p
+    → ((es : List Event) → AskedStands st.asked es → AskedStands asked (NewFormat ∷ es))
+    → ((es : List Event) → HaveStands st.have es → HaveStands have (NewFormat ∷ es))
+    → Stands s (record st { format = format; asked = asked; have = have }) (after_taking s (SetPixelFormat format) p)
+stands_format s st now p format asked have is stands a h =
+    let k : Stands s st p = subst (λ (t : State). Stands s t p) (sym is) stands in
+    let es : List Event = events s.w s.h p.entries in
+    stands_taking s (SetPixelFormat format) st (record st { format = format; asked = asked; have = have }) p k refl refl refl refl refl refl
+    (record { asked = a es k.keeps.asked; have = h es k.keeps.have; format = refl; choice = k.keeps.choice })
 
 none_by : (a b c d e f g k : ℕ) → is_empty (record { x = a; y = b; w = c; h = d }) ≡ true → meets (record { x = a; y = b; w = c; h = d }) (record { x = e; y = f; w = g; h = k }) ≡ false
 none_by a b c d e f g k z = grind (arith, nat_tests)

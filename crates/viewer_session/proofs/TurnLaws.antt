@@ -113,10 +113,10 @@ and_right : (a b : Bool) → (a && b) ≡ true → b ≡ true
 and_right true b e = e
 and_right false b e = absurd cc
 
-sent_all : (st : State) → is_ready st ≡ true → length st.unsent ≡ 0
+pub sent_all : (st : State) → is_ready st ≡ true → length st.unsent ≡ 0
 sent_all st e = eqb-true (length st.unsent) 0 (and_left (length st.unsent == 0) (is_greeted st && is_none (fault_in st)) e)
 
-greeted_ready : (st : State) → is_ready st ≡ true → is_greeted st ≡ true
+pub greeted_ready : (st : State) → is_ready st ≡ true → is_greeted st ≡ true
 greeted_ready st e = and_left (is_greeted st) (is_none (fault_in st)) (and_right (length st.unsent == 0) (is_greeted st && is_none (fault_in st)) e)
 
 stands_cut : (s : Setup) (st : State) (p : Viewer) (us : List Update) (wanted : Wanted) (have : SentTiles) (bytes : List ℕ) → Stands s st p → is_ready st ≡ true

@@ -50,11 +50,13 @@ pub record IsSaid (greeting : Greeting) (out : Waiting) : Type 0 where
   pub said : greeting.sent ≡ length (said_to_viewer greeting.w greeting.h greeting.name (length greeting.begun))
   pub filled : out.filled ≤ greeting.sent
 
+-- There is room for the longest hello.
 pub record HasRoom (greeting : Greeting) (out : Waiting) : Type 0 where
   pub short : length greeting.name ≤ 255
   pub room : 297 ≤ out.room
   pub said : wants_more (handshake.ahead greeting) ≡ true → IsSaid greeting out
 
+-- That, where there is a hello.
 abbrev pub IsGreeting : Option Greeting → Waiting → Type 0
 IsGreeting None out = Unit {0}
 IsGreeting (Some greeting) out = HasRoom greeting out
@@ -71,10 +73,11 @@ pub record IsSound (w h : ℕ) (greeting : Option Greeting) (reader : ClientRead
   pub room : 16 + 4 * (w * h) ≤ out.room
   pub greets : IsGreeting greeting out
 
--- The fault of the hello, and of all of the viewer's bytes, if there is one.
+-- The fault of the hello, if there is one.
 abbrev pub hello_fault : State → Option Fault
 hello_fault st = fault_of (hello_of st.greeting)
 
+-- The fault of all of the viewer's bytes.
 abbrev pub fault_in : State → Option Fault
 fault_in st = if is_some (hello_fault st) then hello_fault st else fault_of (ahead st.reader)
 
@@ -100,6 +103,7 @@ pub record GreetsAs (s : Setup) (greeting : Greeting) (greet : Bool) (hello : Re
   pub goes_on : hello ≡ handshake.ahead greeting
   pub taken : wants_more hello ≡ true → (said ≡ length greeting.begun) × (said_after ≡ [])
 
+-- That, or there is no hello, and the viewer has none.
 abbrev pub Greets : Setup → Option Greeting → Bool → Reading (Unit {0}) → ℕ → List ℕ → Type 0
 Greets s None greet hello said said_after = (greet ≡ false) × (hello ≡ Done tt)
 Greets s (Some greeting) greet hello said said_after = GreetsAs s greeting greet hello said said_after
@@ -150,6 +154,7 @@ pub record HasFed (s : Setup) (p : Viewer) (now : State) (piece left : List ℕ)
   pub stands : Stands s now viewer
   pub rest : after_bytes s p piece ≡ after_bytes s viewer left
 
+-- What stood for a viewer stands, after these bytes, for one that is to take what is left.
 abbrev pub IsFeeding : State → State → List ℕ → List ℕ → Type 0
 IsFeeding old now piece left = (s : Setup) (p : Viewer) → Stands s old p → HasFed s p now piece left
 
@@ -174,6 +179,7 @@ after_taking s message p = record p { entries = Took (served s message) ∷ p.en
 abbrev pub after_look : ℕ → Viewer → Viewer
 after_look number p = record p { looked = Some number; entries = Saw number ∷ p.entries }
 
+-- A viewer whose last step was no look.
 abbrev pub without_look : Viewer → Viewer
 without_look p = record p { looked = None }
 

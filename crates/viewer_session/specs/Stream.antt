@@ -52,6 +52,7 @@ after_step w h l (Done message) =
 after_step w h l (Faulty fault) = record l { reading = Faulty fault }
 after_step w h l (Want more) = record l { reading = Want more }
 
+-- Bytes are read, one after another.
 abbrev pub hears_bytes : ℕ → ℕ → Listener → List ℕ → Listener
 hears_bytes w h l [] = l
 hears_bytes w h l (b ∷ bs) = hears_bytes w h (after_step w h l (step l.reading b)) bs
@@ -61,6 +62,7 @@ abbrev pub hears : ℕ → ℕ → Listener → Heard → Listener
 hears w h l (Format format) = between w h (record { format = format; held = unknown }) l.messages
 hears w h l (Bytes bytes) = hears_bytes w h l bytes
 
+-- All of these are heard, in order.
 abbrev pub listener_from : ℕ → ℕ → Listener → List Heard → Listener
 listener_from w h l [] = l
 listener_from w h l (x ∷ xs) = listener_from w h (hears w h l x) xs
@@ -71,15 +73,17 @@ listener w h xs = listener_from w h (between w h (record { format = host_format;
 
 -- ---- what it reads
 
--- The Bell and the text of a cut, as messages.
+-- The Bell of a cut, as a message.
 abbrev pub bell_told : List Update → Option ℕ → List ServerMessage
 bell_told us None = []
 bell_told us (Some number) = if nat_lt (bells (take number us)) (bells us) then Bell ∷ [] else []
 
+-- A text, where it is newer than a cut of this number.
 abbrev pub newer_told : ℕ → Option NumberedText → List ServerMessage
 newer_told number None = []
 newer_told number (Some last) = if nat_lt number last.number then ServerCutText last.text ∷ [] else []
 
+-- The last text, where it is newer than the cut before.
 abbrev pub text_told : List Update → Option ℕ → List ServerMessage
 text_told us None = []
 text_told us (Some number) = newer_told number (last_text us)

@@ -39,9 +39,11 @@ pub record Viewer : Type 0 where
 
 -- ---- what a viewer's bytes make of it
 
+-- The fault of its bytes, in the hello or behind it.
 abbrev pub viewer_fault : Viewer → Option Fault
 viewer_fault p = if is_some (fault_of p.hello) then fault_of p.hello else fault_of p.reading
 
+-- Its hello is done.
 abbrev pub is_greeted : Viewer → Bool
 is_greeted p = is_some (whole_of p.hello)
 
@@ -57,11 +59,12 @@ with_input p (Some input) =
     then record p { keys = keys_after p.keys input; waiting = Some input }
     else p
 
+-- The input in a message of a viewer of this role.
 abbrev pub input_for : Role → ClientMessage → Option Input
 input_for View message = None
 input_for Full message = input_of message
 
--- And none where input isn't relayed.
+-- The same, and none where input isn't relayed.
 abbrev pub relayed : Setup → Role → ClientMessage → Option Input
 relayed s role message = if s.extent.relays_input then input_for role message else None
 
@@ -70,16 +73,18 @@ abbrev pub served : Setup → ClientMessage → ClientMessage
 served s (SetEncodings choice) = if s.extent.follows_choice then SetEncodings choice else SetEncodings (record { kind = Raw; copy = false })
 served s message = message
 
--- A whole message is taken. A text may be lost for want of memory.
+-- A whole message, with the marks of texts that are left behind it. A text is lost for want of memory where its mark says so.
 abbrev pub marked : List Bool → ClientMessage → ClientMessage × List Bool
 marked [] (CutText text) = (CutText text, [])
 marked (lost ∷ marks) (CutText text) = ((if lost then without_text (CutText text) else CutText text), marks)
 marked marks message = (message, marks)
 
+-- It goes into the record, its input waits where it passes, and the next message begins.
 abbrev pub with_message : Setup → Viewer → ClientMessage × List Bool → Viewer
 with_message s p taken =
     with_input (record p { entries = Took (served s taken.0) ∷ p.entries; lost = taken.1; reading = s.extent.from_viewer }) (relayed s p.role taken.0)
 
+-- Where reading of a message has come to: it is whole, at a fault, or goes on.
 abbrev pub after_reading : Setup → Viewer → Reading ClientMessage → Viewer
 after_reading s p (Done message) = with_message s p (marked p.lost message)
 after_reading s p (Faulty fault) = record p { reading = Faulty fault }

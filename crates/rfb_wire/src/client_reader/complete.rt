@@ -1,6 +1,7 @@
 //! What follows once all bytes of a part have come.
 
-ghost use Rattle.std.specs.Prelude.{◌≡◌, length, suc};
+ghost use Rattle.std.specs.Prelude.{◌≡◌, length, drop, suc};
+ghost use Rattle.std.specs.Int.{w32, from_be_bytes};
 ghost use Rattle.pixel_format.specs.Reading.{after};
 ghost use Rattle.rfb_wire.specs.ClientMessage.{CutText, LostText, ask, fields_of, key_event, pointer_event, set_encodings, set_pixel_format, text};
 ghost use Rattle.rfb_wire.specs.ClientReader.{ahead, form_of, numbers};
@@ -123,11 +124,19 @@ fn pointer(b: &[u8]) -> State
     })
 }
 
+// How many bytes a text has, behind three of padding.
+fn text_length(b: &[u8]) -> u32
+    requires { length b.now ≡ 7 }
+    ensures { result ≡ from_be_bytes w32 (drop 3 b.now) }
+{
+    u32::from_be_bytes([b[3], b[4], b[5], b[6]])
+}
+
 fn cut(alloc: Global, b: &[u8]) -> State
     requires { length b.now ≡ 7 }
     ensures { ahead result ≡ after (text CutText LostText) b.now }
 {
-    let len = u32::from_be_bytes([b[3], b[4], b[5], b[6]]);
+    let len = text_length(b);
     if len > LONGEST_TEXT {
         Past::begin(len, len)
     } else {

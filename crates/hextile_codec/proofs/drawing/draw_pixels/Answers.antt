@@ -5,8 +5,8 @@ use Rattle.pixel_format.specs.PixelFormat.{pixel_len}
 use Rattle.raster.specs.Screen.{value_at}
 use Rattle.hextile_codec.specs.declared.stage.Stage.TheVariants.{RawPixels}
 use Rattle.hextile_codec.specs.Ahead.{carried_by, pixels_in}
-use Rattle.hextile_codec.proofs.LedOn.{has_led_none, has_led_more}
-use Rattle.hextile_codec.proofs.RowRead.{pixel_some, next_is, still_inside, row_leads}
+use Rattle.hextile_codec.proofs.LedOn.{has_led_none, has_led_more, has_led_all}
+use Rattle.hextile_codec.proofs.RowRead.{pixel_some, next_is, row_part, still_inside, row_leads}
 use Rattle.hextile_codec.proofs.TileDrawn.{keeps_then, lay_keeps}
 use Rattle.hextile_codec.proofs.drawing.draw_pixels.Goals as goal
 
@@ -68,3 +68,43 @@ loop-count-preserved g c =
           (has_led_more format area carried carried carried (RawPixels c.args.come) (RawPixels count) (RawPixels (count + n)) c.args.bytes.now rest (n * size) before now part (i.drawn part was)
           (λ q stands. row_leads format area carried w h count n q before now bs c.requires.tile lt least len shows stands));
     }
+
+pub overflow_mul-now : goal.overflow_mul-now
+overflow_mul-now g c =
+    let p = row_part c.args.area.w c.args.area.h c.loop-count.count c.pixels_upto-now.result (length c.loop-count.rest.now) c.bytes-size.result (pixel_some c.args.format.now) c.bytes-size.ensures c.requires.tile.wide.0 c.loop-count-test.true c.if-size-rest.true c.pixels_upto-now.ensures in
+    omega (arith, p.upto, c.loop-count.invariant.within)
+
+pub returns-clause-drawn : goal.returns-clause-drawn
+returns-clause-drawn g c = λ part was.
+    has_led_all c.args.format.now c.args.area (carried_by c.args.carried) (carried_by c.args.carried) (RawPixels c.args.come) (RawPixels c.loop-count.count) c.args.bytes.now c.loop-count.rest.now (g.C.Canvas.shows c.loop-count.canvas) part (c.loop-count.invariant.drawn part was)
+
+pub draw_row-requires-clause-down : goal.draw_row-requires-clause-down
+draw_row-requires-clause-down g c =
+    let next = next_is c.args.area.w c.args.area.h c.loop-count.count c.requires.tile.wide.0 c.loop-count-test.true in
+    omega (arith, next.row, c.requires.tile.within, c.loop-count.invariant.height)
+
+pub loop-count-smaller : goal.loop-count-smaller
+loop-count-smaller g c =
+    let p = row_part c.args.area.w c.args.area.h c.loop-count.count c.pixels_upto-now.result (length c.loop-count.rest.now) c.bytes-size.result (pixel_some c.args.format.now) c.bytes-size.ensures c.requires.tile.wide.0 c.loop-count-test.true c.if-size-rest.true c.pixels_upto-now.ensures in
+    omega (arith, c.split_at.ensures.back_len, p.upto, p.fills, c.if-size-rest.true)
+
+pub draw_row-requires-clause-bytes : goal.draw_row-requires-clause-bytes
+draw_row-requires-clause-bytes g c =
+    omega (arith, c.split_at.ensures.front_len, ap (λ k. c.pixels_upto-now.result * k) c.bytes-size.ensures)
+
+pub split_at-requires : goal.split_at-requires
+split_at-requires g c =
+    let p = row_part c.args.area.w c.args.area.h c.loop-count.count c.pixels_upto-now.result (length c.loop-count.rest.now) c.bytes-size.result (pixel_some c.args.format.now) c.bytes-size.ensures c.requires.tile.wide.0 c.loop-count-test.true c.if-size-rest.true c.pixels_upto-now.ensures in
+    p.upto
+
+pub overflow_add-area-in-loop-count : goal.overflow_add-area-in-loop-count
+overflow_add-area-in-loop-count g c =
+    let next = next_is c.args.area.w c.args.area.h c.loop-count.count c.requires.tile.wide.0 c.loop-count-test.true in
+    omega (arith, next.row, c.requires.tile.small, c.requires.tile.high)
+
+pub overflow_add-count : goal.overflow_add-count
+overflow_add-count g c =
+    let p = row_part c.args.area.w c.args.area.h c.loop-count.count c.pixels_upto-now.result (length c.loop-count.rest.now) c.bytes-size.result (pixel_some c.args.format.now) c.bytes-size.ensures c.requires.tile.wide.0 c.loop-count-test.true c.if-size-rest.true c.pixels_upto-now.ensures in
+    let still = still_inside c.args.area.w c.args.area.h c.loop-count.count c.pixels_upto-now.result c.requires.tile.wide.0 c.loop-count-test.true p.least in
+    let few : c.args.area.w * c.args.area.h ≤ 16 * c.args.area.h = mul-le-mul_right {m = c.args.area.w} {n = 16} c.args.area.h c.requires.tile.wide.1 in
+    omega (arith, still, few, c.requires.tile.high)

@@ -2,7 +2,7 @@ use Rattle.std.proofs.Common.{◌≡◌, ◌∙◌, ap, take, drop, length, ◌-
 use Rattle.std.proofs.lemmas.List.{length-set}
 use Rattle.pixel_format.specs.PixelFormat.{pixel_len, pixel_of}
 use Rattle.hextile_codec.specs.Ahead.{pixels_in}
-use Rattle.hextile_codec.proofs.PixelsIn.{row_more}
+use Rattle.hextile_codec.proofs.PixelsIn.{row_more, row_done}
 use Rattle.hextile_codec.proofs.drawing.get_row.Goals as goal
 
 pub loop-value-preserved : goal.loop-value-preserved
@@ -22,3 +22,7 @@ loop-value-preserved c =
       written = rw behind (row_more format values rest (pixels_in format (length c.args.values.now) c.args.bytes.now) i c.get_pixel.result lt value c.loop-value.invariant.written);
       left = rw (length-set values i c.get_pixel.result) (omega (arith, c.split_at.ensures.back_len, size, c.loop-value.invariant.left, count));
     }
+
+pub returns : goal.returns
+returns c =
+    row_done c.args.format.now c.loop-value.values c.loop-value.rest.now (pixels_in c.args.format.now (length c.args.values.now) c.args.bytes.now) c.loop-value.value-index (omega (arith, c.loop-value-test.false, c.loop-value.auto.values)) c.loop-value.invariant.written

@@ -37,3 +37,8 @@ loop-run-preserved c =
           ∙ (flat_map_more f before (map subrect_of (take i runs)) s
           ∙ ap (λ t. before ++ flat_map f t) (sym (map_push subrect_of (take i runs) (get_or runs i none)) ∙ ap (map subrect_of) (sym (take_more runs i none c.loop-run-test.true)))))));
     }
+
+pub overflow_add-at : goal.overflow_add-at
+overflow_add-at c =
+    let next : (pixel_len c.args.format.now + 2) * (c.loop-run.run-index + 1) ≤ (pixel_len c.args.format.now + 2) * length c.args.runs.now = mul-le-mul_left (pixel_len c.args.format.now + 2) (omega arith) in
+    omega (arith, next, c.loop-run.invariant.at, c.requires.room, c.bytes.ensures)

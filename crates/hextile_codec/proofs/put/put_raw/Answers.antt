@@ -1,4 +1,5 @@
-use Rattle.std.proofs.Common.{◌≡◌, ◌+◌, ◌*◌, ◌++◌, ◌∷◌, ◌∙◌, ℕ, take, ap, arith}
+use Rattle.std.proofs.Common.{◌≡◌, ◌≤◌, ◌+◌, ◌*◌, ◌++◌, ◌∷◌, ◌∙◌, ℕ, take, ap, arith}
+use Rattle.std.proofs.Math.Nat.{mul-le-mul_left, mul-le-mul_right}
 use Rattle.pixel_format.specs.PixelFormat.{pixel_len}
 use Rattle.raster.specs.declared.rect.Rect.{Rect}
 use Rattle.raster.specs.Encoding.{raw_bytes}
@@ -25,3 +26,12 @@ returns c =
     let area : c.loop-y.y * tile.w ≡ tile.w * tile.h = ap (λ n. n * tile.w) over ∙ omega arith in
     let end : c.args.used + 1 + pixel_len c.args.format.now * (tile.w * tile.h) ≡ c.loop-y.at = omega (arith, ap (λ n. pixel_len c.args.format.now * n) area, c.loop-y.invariant.at) in
     ap (λ n. take n c.loop-y.out) end ∙ (c.loop-y.invariant.bytes ∙ ap (λ t. take c.args.used c.args.out.now ++ 1 ∷ raw_bytes c.args.format.now t) (all_rows c.args.values.now c.args.w tile c.loop-y.y over))
+
+pub put_row-at-requires : goal.put_row-at-requires
+put_row-at-requires c =
+    let tile : Rect = c.args.tile.now in
+    let p : ℕ = pixel_len c.args.format.now in
+    let size = tile_row_len c.args.values.now c.args.w tile c.loop-y.y c.requires.across c.requires.down c.loop-y-test.true in
+    let rows : (c.loop-y.y + 1) * tile.w ≤ tile.h * tile.w = mul-le-mul_right {m = c.loop-y.y + 1} {n = tile.h} tile.w (omega arith) in
+    let upto : p * ((c.loop-y.y + 1) * tile.w) ≤ p * (tile.w * tile.h) = mul-le-mul_left p (omega (arith, rows)) in
+    omega (arith, c.loop-y.invariant.at, ap (λ n. p * n) size, upto, c.requires.room)

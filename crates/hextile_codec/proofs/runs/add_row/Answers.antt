@@ -43,3 +43,21 @@ pub returns-then-is_all-clause-added : goal.returns-then-is_all-clause-added
 returns-then-is_all-clause-added c =
     let none = background_alone c.args.row.now c.args.background c.args.y (sym c.is_all.ensures ∙ c.if-is_all.true) in
     sym (ap (λ t. map subrect_of c.args.runs.now.items ++ t) none ∙ append-nil (map subrect_of c.args.runs.now.items))
+
+pub overflow_cast-len : goal.overflow_cast-len
+overflow_cast-len c =
+    let long = c.run_len-len.ensures ∙ run_at c.args.row.now c.args.y c.loop-x.x c.loop-x-test.true in
+    let fits = run_fits c.args.row.now c.args.y c.loop-x.x c.run_len-len.result c.loop-x-test.true long in
+    omega (arith, fits.0, fits.1, c.requires.wide)
+
+pub overflow_add-x : goal.overflow_add-x
+overflow_add-x c =
+    let long = c.run_len-len.ensures ∙ run_at c.args.row.now c.args.y c.loop-x.x c.loop-x-test.true in
+    let fits = run_fits c.args.row.now c.args.y c.loop-x.x c.run_len-len.result c.loop-x-test.true long in
+    omega (arith, fits.0, fits.1, c.requires.wide)
+
+pub loop-x-smaller : goal.loop-x-smaller
+loop-x-smaller c =
+    let long = c.run_len-len.ensures ∙ run_at c.args.row.now c.args.y c.loop-x.x c.loop-x-test.true in
+    let fits = run_fits c.args.row.now c.args.y c.loop-x.x c.run_len-len.result c.loop-x-test.true long in
+    omega (arith, fits.0, fits.1, c.loop-x-test.true)

@@ -28,29 +28,35 @@ turn_inside w h k a b p q lt = rw (count_is w h a b p q) at lt
 turn_over : (w h k a b : ℕ) → a ≡ div_ceil w 16 → b ≡ div_ceil h 16 → a * b ≤ k → tile_count w h ≤ k
 turn_over w h k a b p q le = rw (count_is w h a b p q) at le
 
+pub choose-choice-requires-clause-h_some : goal.choose-choice-requires-clause-h_some
+choose-choice-requires-clause-h_some c =
+    let inside = turn_inside c.args.w c.args.h c.loop-k.k c.div_ceil.result c.div_ceil-2.result c.div_ceil.ensures c.div_ceil-2.ensures c.loop-k-test.true in
+    let lies : IsTile c.args.w c.args.h c.tile_rect-tile.result = rw c.tile_rect-tile.ensures (tile_lies c.args.w c.args.h c.loop-k.k c.requires.wide.0 inside) in
+    lies.h_some
+
 pub choose-choice-requires-clause-down : goal.choose-choice-requires-clause-down
 choose-choice-requires-clause-down c =
     let inside = turn_inside c.args.w c.args.h c.loop-k.k c.div_ceil.result c.div_ceil-2.result c.div_ceil.ensures c.div_ceil-2.ensures c.loop-k-test.true in
-    let lies : IsTile c.args.w c.args.h c.tile_at-tile.result = rw c.tile_at-tile.ensures (tile_lies c.args.w c.args.h c.loop-k.k c.requires.wide.0 inside) in
-    tile_inside c.args.w c.args.h (length c.args.values.now) c.tile_at-tile.result lies c.requires.count
+    let lies : IsTile c.args.w c.args.h c.tile_rect-tile.result = rw c.tile_rect-tile.ensures (tile_lies c.args.w c.args.h c.loop-k.k c.requires.wide.0 inside) in
+    tile_inside c.args.w c.args.h (length c.args.values.now) c.tile_rect-tile.result lies c.requires.count
 
 pub returns-then-out-used : goal.returns-then-out-used
 returns-then-out-used c =
     let canvas : Canvas = value_at c.args.w c.args.values.now in
     let inside = turn_inside c.args.w c.args.h c.loop-k.k c.div_ceil.result c.div_ceil-2.result c.div_ceil.ensures c.div_ceil-2.ensures c.loop-k-test.true in
     let long =
-    too_long c.args.format.now c.args.w c.args.h canvas (carried_of c.loop-k.said) c.loop-k.k c.tile_at-tile.result c.loop-k.used c.loop-k.out (hextile_bytes c.args.format.now c.args.w c.args.h canvas) c.tile_at-tile.ensures inside (omega (arith, c.loop-k.invariant.room)) c.loop-k.invariant.bytes in
+    too_long c.args.format.now c.args.w c.args.h canvas (carried_of c.loop-k.said) c.loop-k.k c.tile_rect-tile.result c.loop-k.used c.loop-k.out (hextile_bytes c.args.format.now c.args.w c.args.h canvas) c.tile_rect-tile.ensures inside (omega (arith, c.loop-k.invariant.room)) c.loop-k.invariant.bytes in
     omega (arith, long, c.choose-choice.ensures.len, c.if-out-used.true, c.loop-k.auto.out)
 
 pub put_raw-requires-clause-down : goal.put_raw-requires-clause-down
 put_raw-requires-clause-down c =
     let inside = turn_inside c.args.w c.args.h c.loop-k.k c.div_ceil.result c.div_ceil-2.result c.div_ceil.ensures c.div_ceil-2.ensures c.loop-k-test.true in
-    let lies : IsTile c.args.w c.args.h c.tile_at-tile.result = rw c.tile_at-tile.ensures (tile_lies c.args.w c.args.h c.loop-k.k c.requires.wide.0 inside) in
-    tile_inside c.args.w c.args.h (length c.args.values.now) c.tile_at-tile.result lies c.requires.count
+    let lies : IsTile c.args.w c.args.h c.tile_rect-tile.result = rw c.tile_rect-tile.ensures (tile_lies c.args.w c.args.h c.loop-k.k c.requires.wide.0 inside) in
+    tile_inside c.args.w c.args.h (length c.args.values.now) c.tile_rect-tile.result lies c.requires.count
 
 pub put_raw-requires-clause-room : goal.put_raw-requires-clause-room
 put_raw-requires-clause-room c =
-    let tile : Rect = c.tile_at-tile.result in
+    let tile : Rect = c.tile_rect-tile.result in
     let canvas : Canvas = part_of tile (value_at c.args.w c.args.values.now) in
     let before : Carried = carried_of c.loop-k.said in
     let raw =
@@ -59,12 +65,12 @@ put_raw-requires-clause-room c =
 
 pub put_drawn-requires : goal.put_drawn-requires
 put_drawn-requires c =
-    let tile : Rect = c.tile_at-tile.result in
+    let tile : Rect = c.tile_rect-tile.result in
     let canvas : Canvas = part_of tile (value_at c.args.w c.args.values.now) in
     let before : Carried = carried_of c.loop-k.said in
     let found : List Run = c.choose-choice.new.runs.items in
     let inside = turn_inside c.args.w c.args.h c.loop-k.k c.div_ceil.result c.div_ceil-2.result c.div_ceil.ensures c.div_ceil-2.ensures c.loop-k-test.true in
-    let lies : IsTile c.args.w c.args.h tile = rw c.tile_at-tile.ensures (tile_lies c.args.w c.args.h c.loop-k.k c.requires.wide.0 inside) in
+    let lies : IsTile c.args.w c.args.h tile = rw c.tile_rect-tile.ensures (tile_lies c.args.w c.args.h c.loop-k.k c.requires.wide.0 inside) in
     let says =
     says_drawn c.args.format.now before tile.w tile.h canvas (map subrect_of found) c.choose-choice.result.background c.choose-choice.result.kind (tile_written c.args.format.now c.args.w c.args.h (value_at c.args.w c.args.values.now) before tile).0 c.in_default.not-Raw c.choose-choice.ensures.written in
     let count : length (map subrect_of found) ≡ length found = length-map found subrect_of in
@@ -85,7 +91,7 @@ returns c =
 
 pub loop-k-preserved : goal.loop-k-preserved
 loop-k-preserved c =
-    let tile : Rect = c.tile_at-tile.result in
+    let tile : Rect = c.tile_rect-tile.result in
     let format : PixelFormat = c.args.format.now in
     let canvas : Canvas = value_at c.args.w c.args.values.now in
     let before : Carried = carried_of c.loop-k.said in
@@ -109,6 +115,6 @@ loop-k-preserved c =
     record {
       room = omega (arith, c.match-choice.auto.out, c.loop-k.auto.out, c.if-out-used.false, c.loop-k.invariant.room);
       bytes =
-          tile_is_put format c.args.w c.args.h canvas before (carried_of c.leaves-said.result) c.loop-k.k tile c.loop-k.used (c.loop-k.used + c.choose-choice.result.len) c.loop-k.out c.match-choice.out (hextile_bytes format c.args.w c.args.h canvas) c.tile_at-tile.ensures inside put
+          tile_is_put format c.args.w c.args.h canvas before (carried_of c.leaves-said.result) c.loop-k.k tile c.loop-k.used (c.loop-k.used + c.choose-choice.result.len) c.loop-k.out c.match-choice.out (hextile_bytes format c.args.w c.args.h canvas) c.tile_rect-tile.ensures inside put
           (c.leaves-said.ensures ∙ c.choose-choice.ensures.leaves) c.loop-k.invariant.bytes;
     }

@@ -1,7 +1,7 @@
-use Rattle.std.proofs.Common.{◌≤◌, refl, take, length, arith}
+use Rattle.std.proofs.Common.{◌≤◌, ◌∙◌, Some, refl, sym, ap, take, length, arith}
 use Rattle.std.proofs.lemmas.List.{length-take}
 use Rattle.hextile_codec.specs.Ahead.{carried_by}
-use Rattle.hextile_codec.proofs.Standing.{fine_else, no_fault_there}
+use Rattle.hextile_codec.proofs.Standing.{fine_else, no_fault_there, fault_there}
 use Rattle.hextile_codec.proofs.reading.Reader.answer.Goals as goal
 
 pub returns-in_default : goal.returns-in_default
@@ -11,3 +11,10 @@ returns-in_default c sofar = (
       let len : length (take r.filled r.buffer) ≤ r.filled = omega (arith, length-take r.filled r.buffer) in
       rw (← c.self.view_is) (no_fault_there r.format r.width r.height r.tiles r.tile r.area r.stage r.filled (carried_by r.carried) sofar (take r.filled r.buffer) c.self.invariant len (fine_else r.stage c.in_default.not-Failed)),
 )
+
+pub returns-in-Failed : goal.returns-in-Failed
+returns-in-Failed c sofar =
+    let r = c.self.inside in
+    let place = rw c.in-Failed.is at c.self.invariant in
+    rw (← c.self.view_is)
+    (rw c.in-Failed.is (fault_there r.format r.width r.height r.tiles r.tile r.area c.in-Failed.flaw r.filled (carried_by r.carried) sofar (take r.filled r.buffer) place ∙ ap Some (sym c.fault.ensures)))

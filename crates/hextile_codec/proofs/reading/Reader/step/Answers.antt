@@ -1,8 +1,8 @@
-use Rattle.std.proofs.Common.{◌≡◌, ℕ, ◌+◌, ◌-◌, ◌<◌, ◌≤◌, ◌∙◌, ◌++◌, List, take, length, false, ap, sym, arith}
+use Rattle.std.proofs.Common.{◌≡◌, ℕ, ◌+◌, ◌-◌, ◌<◌, ◌≤◌, ◌∙◌, ◌++◌, List, take, drop, length, false, ap, sym, arith}
 use Rattle.std.specs.Prelude.{nat_lt, not}
-use Rattle.std.proofs.lemmas.List.{length-take}
+use Rattle.std.proofs.lemmas.List.{length-take, length-drop}
 use Rattle.std.proofs.lemmas.Slice.{take-put_mid}
-use borrow.Rule.Slice.PartMut.{put_mid}
+use borrow.Rule.Slice.PartMut.{put_mid, same_len_mid}
 use Rattle.pixel_format.specs.Reading.{Reading, after}
 use Rattle.pixel_format.proofs.ReadingLaws.{after-append}
 use Rattle.raster.specs.Encoding.{Tile}
@@ -12,6 +12,41 @@ use Rattle.hextile_codec.proofs.Needed.{begun_takes}
 use Rattle.hextile_codec.proofs.Standing.{needs_there}
 use Rattle.hextile_codec.proofs.Taking.{kept_first, wanting_lt, wanting_fine}
 use Rattle.hextile_codec.proofs.reading.Reader.step.Goals as goal
+
+pub copy_from_slice-requires : goal.copy_from_slice-requires
+copy_from_slice-requires g c =
+    let r = c.self.inside in
+    let count : ℕ = c.min-count.result in
+    omega (arith, length-take (r.filled + count - r.filled) (drop r.filled r.buffer), length-drop r.filled r.buffer, length-take count c.args.bytes.now, c.min-count.ensures, c.self.told, c.self.invariant.room, c.needed-needed.ensures.value, c.needed-needed.ensures.most)
+
+pub slice_bounds-field-end : goal.slice_bounds-field-end
+slice_bounds-field-end g c =
+    let r = c.self.inside in
+    let kept = same_len_mid r.filled (r.filled + c.min-count.result - r.filled) r.buffer c.copy_from_slice.new.self c.copy_from_slice.ensures.len in
+    omega (arith, kept, c.self.told, c.needed-needed.ensures.most)
+
+pub slice_bounds-take-end : goal.slice_bounds-take-end
+slice_bounds-take-end g c =
+    let r = c.self.inside in
+    let buffer : List ℕ = put_mid r.filled (r.filled + c.min-count.result - r.filled) r.buffer c.copy_from_slice.new.self in
+    let kept = same_len_mid r.filled (r.filled + c.min-count.result - r.filled) r.buffer c.copy_from_slice.new.self c.copy_from_slice.ensures.len in
+    omega (arith, length-take c.needed-needed.result buffer, kept, c.self.told, c.needed-needed.ensures.most)
+
+pub take-requires-then-self-needed-clause-count : goal.take-requires-then-self-needed-clause-count
+take-requires-then-self-needed-clause-count g c =
+    let r = c.self.inside in
+    let buffer : List ℕ = put_mid r.filled (r.filled + c.min-count.result - r.filled) r.buffer c.copy_from_slice.new.self in
+    let kept = same_len_mid r.filled (r.filled + c.min-count.result - r.filled) r.buffer c.copy_from_slice.new.self c.copy_from_slice.ensures.len in
+    omega (arith, length-take c.needed-needed.result buffer, kept, c.self.told, c.needed-needed.ensures.value, c.needed-needed.ensures.most)
+
+pub take-requires-then-self-needed-clause-width : goal.take-requires-then-self-needed-clause-width
+take-requires-then-self-needed-clause-width g c = c.requires.width ∙ ap (λ p. p.width) (sym c.self.view_is)
+
+pub returns-then-self-needed-clause-width : goal.returns-then-self-needed-clause-width
+returns-then-self-needed-clause-width g c = c.take-then-self-needed.ensures.width ∙ ap (λ p. p.width) c.self.view_is
+
+pub returns-then-self-needed-clause-height : goal.returns-then-self-needed-clause-height
+returns-then-self-needed-clause-height g c = c.take-then-self-needed.ensures.height ∙ ap (λ p. p.height) c.self.view_is
 
 pub returns-then-self-needed-clause-drawn : goal.returns-then-self-needed-clause-drawn
 returns-then-self-needed-clause-drawn g c sofar stands =

@@ -16,6 +16,13 @@ draw-drawn-requires-clause-tile g c =
     let height = c.requires.height ∙ ap (λ p. p.height) (sym c.self.view_is) in
     rw (c.self.invariant.lies before, width, height) (is_tile r.width r.height r.tile c.self.invariant.wide c.self.invariant.high lt)
 
+pub is_whole-requires : goal.is_whole-requires
+is_whole-requires g c =
+    let r = c.self.inside in
+    let lt : r.tile < tile_count r.width r.height = wanting_lt r.tile (tile_count r.width r.height) (not (is_failed r.stage)) (rw (← c.self.view_is) at c.requires.wanting) in
+    let t = is_tile r.width r.height r.tile c.self.invariant.wide c.self.invariant.high lt in
+    rw (c.self.invariant.lies (omega (arith, lt, c.self.invariant.count))) (t.wide.1, t.high.1)
+
 pub invariant_of-self : goal.invariant_of-self
 invariant_of-self g c =
     let r = c.self.inside in

@@ -1,8 +1,8 @@
-use Rattle.std.proofs.Common.{◌≡◌, ℕ, ◌+◌, ◌-◌, ◌≤◌, ◌∙◌, ◌++◌, List, take, length, ap, sym, arith}
+use Rattle.std.proofs.Common.{◌≡◌, ℕ, ◌+◌, ◌-◌, ◌≤◌, ◌∙◌, ◌++◌, List, [], take, length, ap, sym, arith}
 use Rattle.std.proofs.lemmas.List.{length-take}
 use Rattle.std.proofs.lemmas.Slice.{take-put_mid}
-use Rattle.rre_codec.specs.Ahead.{needed}
-use Rattle.rre_codec.proofs.Going.{goes_on, all_taken}
+use Rattle.rre_codec.specs.Ahead.{needed, next_form}
+use Rattle.rre_codec.proofs.Going.{goes_on, all_taken, nothing_begun}
 use Rattle.rre_codec.proofs.reading.Reader.step.Goals as goal
 
 pub returns-then-self-needed-clause-drawn : goal.returns-then-self-needed-clause-drawn
@@ -52,4 +52,22 @@ returns-else-self-needed-clause-drawn g c sofar stands =
       reads = goes_on format w h stage sofar begun more _ joined;
       takes = all_taken format w h stage sofar begun more wanted room;
       stands = before;
+    })
+
+pub returns-then-needed-bytes-clause-drawn : goal.returns-then-needed-bytes-clause-drawn
+returns-then-needed-bytes-clause-drawn g c sofar stands =
+    let r = c.self.inside in
+    let begun : List ℕ = take r.filled r.buffer in
+    let field : List ℕ = take c.needed-needed.result c.args.bytes.now in
+    let none : begun ≡ [] = ap (λ n. take n r.buffer) c.if-self-eq0.true in
+    let wanted = rw (← c.self.view_is) at c.requires.open in
+    let led = c.draw-self-inside.ensures.drawn sofar (rw (← c.self.view_is) at stands) in
+    let long : length field ≡ c.needed-needed.result = omega (arith, length-take c.needed-needed.result c.args.bytes.now, c.if-needed-bytes.true) in
+    let room : length begun + length field ≤ needed r.format r.stage = omega (arith, long, ap length none, c.needed-needed.ensures.value) in
+    rw (← c.self.view_is)
+    (record {
+      drawing = led.drawing;
+      reads = nothing_begun (next_form r.format r.width r.height c.draw-self-inside.result led.drawing) begun none ∙ (sym led.reads ∙ goes_on r.format r.width r.height r.stage sofar begun field field (ap (λ t. t ++ field) (sym none)));
+      takes = all_taken r.format r.width r.height r.stage sofar begun field wanted room;
+      stands = led.shows;
     })

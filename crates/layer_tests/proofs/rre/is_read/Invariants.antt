@@ -1,8 +1,8 @@
 use Rattle.std.proofs.Common.{◌≡◌}
-use Rattle.layer_tests.proofs.rre.byte_by_byte.Given as goal
+use Rattle.layer_tests.proofs.rre.is_read.Given as goal
 
-abbrev pub invariant-loop-byte : goal.invariant-loop-byte
-invariant-loop-byte g l = record {
+abbrev pub invariant-loop-piece : goal.invariant-loop-piece
+invariant-loop-piece l = record {
   wide : l.raster.width ≡ 3;
   high : l.raster.height ≡ 1;
   across : l.reader.width ≡ 3;

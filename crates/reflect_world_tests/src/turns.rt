@@ -1,0 +1,63 @@
+//! A session's whole turn: one look at its source, and a cut where there is reason for it.
+
+ghost use Rattle.std.specs.Prelude.{◌≡◌};
+
+use painter::Patch;
+use raster::{Paint, Rect};
+use reflect_core::{PlainScreen, Puts};
+use roles::Role;
+use std::process::Abort;
+use std::test::Fail;
+use viewer_session::Session;
+
+const ASK: [u8; 10] = [3, 0, 0, 0, 0, 0, 0, 2, 0, 1];
+
+const ASK_FOR_CHANGES: [u8; 10] = [3, 1, 0, 0, 0, 0, 0, 2, 0, 1];
+
+const BLACK: [u8; 24] = [
+    0, 0, 0, 1, 0, 0, 0, 0, 0, 2, 0, 1, 0, 0, 0, 0, 0, 0, 0, 0, 0, 0, 0, 0,
+];
+
+const RED_AND_BLUE: [u8; 24] = [
+    0, 0, 0, 1, 0, 0, 0, 0, 0, 2, 0, 1, 0, 0, 0, 0, 0, 0, 0xFF, 0, 0xFF, 0, 0, 0,
+];
+
+// A viewer asks twice. It is answered black, and what was put since only once it is raised, and not while bytes are unsent.
+fn answers_twice<R: Abort + AllocGlobal>(
+    rt: &R,
+    session: &mut Session,
+    screen: &mut PlainScreen,
+    patch: Patch,
+) -> Result<(), Fail>
+    requires session { (session.old.width ≡ 2) × (session.old.height ≡ 1) }
+    requires screen { (screen.old.width ≡ 2) × (screen.old.height ≡ 1) }
+    requires patch { (patch.width ≡ 2) × (patch.height ≡ 1) }
+{
+    assert!(rt; !session.turn(screen)? && session.out().is_empty());
+    session.feed(&ASK)?;
+    assert!(rt; session.turn(screen)? && session.out() == BLACK.as_slice());
+    session.feed(&ASK_FOR_CHANGES)?;
+    assert!(rt; screen.put(patch).is_ok());
+    screen.raise();
+    assert!(rt; !session.turn(screen)? && session.out() == BLACK.as_slice());
+    session.sent(24);
+    assert!(rt; session.turn(screen)? && session.out() == RED_AND_BLUE.as_slice());
+    Ok(())
+}
+
+#[test]
+fn black_then_what_was_put(rt: HostRuntime) -> Result<(), Fail> {
+    let alloc = rt.alloc();
+    let area = Rect {
+        x: 0,
+        y: 0,
+        w: 2,
+        h: 1,
+    };
+    let mut paints = Vec::new(alloc);
+    paints.push(Paint::Put(area, [0xFF0000, 0x0000FF].to_vec(alloc)?))?;
+    let patch = Patch::paints(2, 1, paints);
+    let mut session = Session::ready(alloc, 2, 1, Role::Full)?;
+    let mut screen = PlainScreen::new(alloc, 2, 1)?;
+    answers_twice(&rt, &mut session, &mut screen, patch)
+}
