@@ -1,8 +1,8 @@
 use Rattle.std.proofs.Common.{◌≡◌}
-use Rattle.codec_tests.proofs.hextile_reading.plain_screen.Given as goal
+use Rattle.codec_tests.proofs.hextile_reading.reads_plain_screen.Given as goal
 
 abbrev pub invariant-loop : goal.invariant-loop
-invariant-loop g l =
+invariant-loop l =
     record {
       wide : l.raster.width ≡ 4096;
       high : l.raster.height ≡ 4096;
