@@ -8,4 +8,5 @@ pub mod Stands
 pub mod Accepted
 pub mod Streams
 pub mod TurnLaws
+pub mod Vectors
 pub mod Parts

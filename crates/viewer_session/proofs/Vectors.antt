@@ -1,0 +1,203 @@
+-- The definitions compute what a turn makes of a session's record, in which the latest entry stands first, and what is read of it.
+use Rattle.std.proofs.Common.{◌≡◌, ℕ, Bool, true, false, List, [], ◌∷◌, ◌++◌, refl}
+use Rattle.std.specs.Prelude.{Some, None}
+use Rattle.pixel_format.specs.PixelFormat.{PixelFormat, host_format}
+use Rattle.raster.specs.declared.rect.Rect.{Rect}
+use Rattle.raster.specs.declared.encoding.Encoding.TheVariants.{Raw, Rre, Hextile}
+use Rattle.raster.specs.Update.{Update, Paints, Put}
+use Rattle.raster.specs.Update as update
+use Rattle.rfb_wire.specs.ClientMessage.{SetPixelFormat, SetEncodings, Ask, Key}
+use Rattle.rfb_wire.specs.ServerMessage.{FramebufferUpdate, ServerCutText}
+use Rattle.rfb_wire.specs.ServerMessage as server
+use Rattle.update_encoder.specs.Follower as follower
+use Rattle.viewer_session.specs.Record.{Entry, Took, Saw, MadeCut, Began, choice_of, format_of, messages_in, received}
+use Rattle.viewer_session.specs.Turn.{has_reason, all_were_sent, update_at, sent_at, record_after_cut}
+use Rattle.viewer_session.specs.Stream.{Format, Bytes, heard, stream_of, listener}
+
+abbrev rect : ℕ → ℕ → ℕ → ℕ → Rect
+rect x y w h = record { x = x; y = y; w = w; h = h }
+
+-- 8 bits a pixel, red lowest, then green and blue.
+abbrev bgr233 : PixelFormat
+bgr233 =
+    record {
+      bits_per_pixel = 8;
+      depth = 8;
+      big_endian = false;
+      red = record { max = 7; shift = 0 };
+      green = record { max = 7; shift = 3 };
+      blue = record { max = 3; shift = 6 };
+    }
+
+abbrev rre : Entry
+rre = Took (SetEncodings (record { kind = Rre; copy = false }))
+
+abbrev hextile_and_copies : Entry
+hextile_and_copies = Took (SetEncodings (record { kind = Hextile; copy = true }))
+
+abbrev asks : Bool → ℕ → ℕ → Entry
+asks incremental w h = Took (Ask incremental (rect 0 0 w h))
+
+-- ---- the latest list and the latest format
+
+pub latest_list_counts : choice_of (MadeCut 1 ∷ rre ∷ Saw 1 ∷ hextile_and_copies ∷ []) ≡ record { kind = Rre; copy = false }
+latest_list_counts = refl
+
+pub list_before_it : choice_of (MadeCut 1 ∷ hextile_and_copies ∷ rre ∷ []) ≡ record { kind = Hextile; copy = true }
+list_before_it = refl
+
+pub no_list_yet : choice_of (Took (Key true 0x61) ∷ Saw 0 ∷ []) ≡ record { kind = Raw; copy = false }
+no_list_yet = refl
+
+pub latest_format_counts : format_of (rre ∷ Took (SetPixelFormat bgr233) ∷ Took (SetPixelFormat host_format) ∷ []) ≡ bgr233
+latest_format_counts = refl
+
+pub no_format_yet : format_of (rre ∷ []) ≡ host_format
+no_format_yet = refl
+
+-- ---- when a turn cuts
+
+-- Before the first cut where the look is over 0; later where it is over the last cut's number.
+pub nothing_new : has_reason 2 1 [] 0 ≡ false
+nothing_new = refl
+
+pub first_update : has_reason 2 1 [] 1 ≡ true
+first_update = refl
+
+pub no_later_update : has_reason 2 1 (MadeCut 3 ∷ []) 3 ≡ false
+no_later_update = refl
+
+pub later_update : has_reason 2 1 (MadeCut 3 ∷ []) 4 ≡ true
+later_update = refl
+
+-- And where there is an area that was asked for since the last cut, by a request or a pixel format. A cut that sent nothing ends the asking.
+pub asked : has_reason 2 1 (asks true 2 1 ∷ []) 0 ≡ true
+asked = refl
+
+pub not_asked_again : has_reason 2 1 (MadeCut 1 ∷ asks true 2 1 ∷ []) 1 ≡ false
+not_asked_again = refl
+
+pub asked_by_a_format : has_reason 2 1 (Took (SetPixelFormat host_format) ∷ MadeCut 1 ∷ asks true 2 1 ∷ []) 1 ≡ true
+asked_by_a_format = refl
+
+pub no_area_to_ask_for : has_reason 2 1 (Took (SetPixelFormat host_format) ∷ []) 0 ≡ false
+no_area_to_ask_for = refl
+
+pub encodings_do_not_ask : has_reason 2 1 (rre ∷ MadeCut 1 ∷ asks true 2 1 ∷ []) 1 ≡ false
+encodings_do_not_ask = refl
+
+-- A request beside the screen is empty once it is clipped.
+pub request_beside_the_screen : has_reason 2 1 (Took (Ask false (rect 2 0 1 1)) ∷ []) 0 ≡ false
+request_beside_the_screen = refl
+
+-- ---- the update of a cut
+
+-- On 17 by 17 in RRE: a part of the first tile; then all, since that tile counts as never sent; then nothing is due.
+abbrev corner : List ℕ
+corner = 0 ∷ 0 ∷ 0 ∷ 1 ∷ 0 ∷ 0 ∷ 0 ∷ 0 ∷ 0 ∷ 8 ∷ 0 ∷ 8 ∷ 0 ∷ 0 ∷ 0 ∷ 2 ∷ 0 ∷ 0 ∷ 0 ∷ 0 ∷ 0 ∷ 0 ∷ 0 ∷ 0 ∷ []
+
+abbrev both_rows : List ℕ
+both_rows =
+    (0 ∷ 0 ∷ 0 ∷ 2 ∷ []) ++ (0 ∷ 0 ∷ 0 ∷ 0 ∷ 0 ∷ 17 ∷ 0 ∷ 16 ∷ 0 ∷ 0 ∷ 0 ∷ 2 ∷ 0 ∷ 0 ∷ 0 ∷ 0 ∷ 0 ∷ 0 ∷ 0 ∷ 0 ∷ [])
+    ++ 0 ∷ 0 ∷ 0 ∷ 16 ∷ 0 ∷ 17 ∷ 0 ∷ 1 ∷ 0 ∷ 0 ∷ 0 ∷ 2 ∷ 0 ∷ 0 ∷ 0 ∷ 0 ∷ 0 ∷ 0 ∷ 0 ∷ 0 ∷ []
+
+abbrev after_corner : List Entry
+after_corner = asks true 17 17 ∷ Began (rect 0 0 8 8) 0 corner ∷ MadeCut 0 ∷ Saw 0 ∷ asks false 8 8 ∷ rre ∷ []
+
+pub corner_is_sent : update_at 17 17 (Saw 0 ∷ asks false 8 8 ∷ rre ∷ []) [] ≡ Some (rect 0 0 8 8, corner)
+corner_is_sent = refl
+
+pub then_all_is_sent : update_at 17 17 after_corner [] ≡ Some (rect 0 0 17 17, both_rows)
+then_all_is_sent = refl
+
+pub then_nothing : update_at 17 17 (asks true 17 17 ∷ Began (rect 0 0 17 17) 0 both_rows ∷ MadeCut 0 ∷ after_corner) [] ≡ None
+then_nothing = refl
+
+-- On 33 by 1 an update touches the first tile and the last: two runs, the first in RRE, the second Raw.
+abbrev two_blues : Update
+two_blues = Paints (Put (rect 0 0 1 1) (0x0000FF ∷ []) ∷ Put (rect 32 0 1 1) (0x0000FF ∷ []) ∷ [])
+
+pub two_runs_are_sent : update_at 33 1 (asks true 33 1 ∷ Began (rect 0 0 33 1) 0 [] ∷ MadeCut 0 ∷ asks false 33 1 ∷ rre ∷ []) (two_blues ∷ [])
+    ≡ Some (
+      rect 0 0 33 1,
+      (0 ∷ 0 ∷ 0 ∷ 2 ∷ []) ++ (0 ∷ 0 ∷ 0 ∷ 0 ∷ 0 ∷ 16 ∷ 0 ∷ 1 ∷ 0 ∷ 0 ∷ 0 ∷ 2 ∷ 0 ∷ 0 ∷ 0 ∷ 1 ∷ 255 ∷ 0 ∷ 0 ∷ 0 ∷ [])
+          ++ (0 ∷ 0 ∷ 0 ∷ 0 ∷ 0 ∷ 1 ∷ 0 ∷ 0 ∷ 0 ∷ 15 ∷ 0 ∷ 1 ∷ []) ++ 0 ∷ 32 ∷ 0 ∷ 0 ∷ 0 ∷ 1 ∷ 0 ∷ 1 ∷ 0 ∷ 0 ∷ 0 ∷ 0 ∷ 255 ∷ 0 ∷ 0 ∷ 0 ∷ [],
+    )
+two_runs_are_sent = refl
+
+-- Whether each due tile was sent before, which a CopyRect asks: not at first, nor where one was sent in part.
+pub none_was_sent : all_were_sent 16 32 (asks false 16 32 ∷ []) [] (rect 0 0 16 32) ≡ false
+none_was_sent = refl
+
+pub one_was_sent_in_part : all_were_sent 16 32 (asks true 16 32 ∷ Began (rect 0 0 16 20) 0 [] ∷ []) (Paints (Put (rect 0 0 1 1) (1 ∷ []) ∷ []) ∷ []) (rect 0 0 16 32) ≡ false
+one_was_sent_in_part = refl
+
+pub both_were_sent : all_were_sent 16 32 (asks true 16 32 ∷ Began (rect 0 0 16 32) 0 [] ∷ []) (Paints (Put (rect 0 15 1 2) (1 ∷ 1 ∷ []) ∷ []) ∷ []) (rect 0 0 16 32) ≡ true
+both_were_sent = refl
+
+-- ---- all that a cut sends
+
+abbrev red_blue : Update
+red_blue = Paints (Put (rect 0 0 2 1) (0xFF0000 ∷ 0x0000FF ∷ []) ∷ [])
+
+abbrev red_blue_bytes : List ℕ
+red_blue_bytes = 0 ∷ 0 ∷ 0 ∷ 1 ∷ 0 ∷ 0 ∷ 0 ∷ 0 ∷ 0 ∷ 2 ∷ 0 ∷ 1 ∷ 0 ∷ 0 ∷ 0 ∷ 0 ∷ 0 ∷ 0 ∷ 255 ∷ 0 ∷ 255 ∷ 0 ∷ 0 ∷ 0 ∷ []
+
+abbrev hi : List ℕ
+hi = 3 ∷ 0 ∷ 0 ∷ 0 ∷ 0 ∷ 0 ∷ 0 ∷ 2 ∷ 0x48 ∷ 0x69 ∷ []
+
+abbrev four : List Update
+four = update.Bell ∷ update.Cut (0x48 ∷ 0x69 ∷ []) ∷ update.Bell ∷ red_blue ∷ []
+
+-- The first cut sends neither Bell nor text; a later one sends one Bell, then the text, then the update; where they aren't newer, the update alone.
+pub first_cut : sent_at true 2 1 (asks false 2 1 ∷ []) four ≡ red_blue_bytes
+first_cut = refl
+
+pub later_cut : sent_at true 2 1 (asks true 2 1 ∷ MadeCut 0 ∷ []) four ≡ (2 ∷ []) ++ hi ++ red_blue_bytes
+later_cut = refl
+
+pub text_was_told : sent_at true 2 1 (asks true 2 1 ∷ MadeCut 2 ∷ []) four ≡ (2 ∷ []) ++ red_blue_bytes
+text_was_told = refl
+
+pub all_was_told : sent_at true 2 1 (asks true 2 1 ∷ MadeCut 3 ∷ []) four ≡ red_blue_bytes
+all_was_told = refl
+
+-- They need no area; and none comes where none are told.
+pub news_alone : sent_at true 2 1 (MadeCut 1 ∷ []) four ≡ (2 ∷ []) ++ hi
+news_alone = refl
+
+pub no_news_are_told : sent_at false 2 1 (asks true 2 1 ∷ MadeCut 0 ∷ []) four ≡ red_blue_bytes
+no_news_are_told = refl
+
+-- What is written down of it: the cut, and an answer where there is one.
+abbrev answered : List Entry
+answered = Began (rect 0 0 2 1) 4 red_blue_bytes ∷ MadeCut 4 ∷ asks true 2 1 ∷ MadeCut 0 ∷ Took (Key true 0x61) ∷ []
+
+pub answer_is_recorded : record_after_cut 2 1 (asks true 2 1 ∷ MadeCut 0 ∷ Took (Key true 0x61) ∷ []) four ≡ answered
+answer_is_recorded = refl
+
+pub cut_is_recorded : record_after_cut 2 1 (MadeCut 1 ∷ []) four ≡ MadeCut 4 ∷ MadeCut 1 ∷ []
+cut_is_recorded = refl
+
+pub messages_in_order : messages_in answered ≡ Key true 0x61 ∷ Ask true (rect 0 0 2 1) ∷ []
+messages_in_order = refl
+
+pub answers_in_order : received (Took (SetPixelFormat bgr233) ∷ rre ∷ answered) ≡ follower.Answer red_blue_bytes ∷ follower.Format bgr233 ∷ []
+answers_in_order = refl
+
+-- ---- a viewer that reads the stream
+
+pub stream_of_the_record : stream_of (heard true 2 1 four answered) ≡ (2 ∷ []) ++ hi ++ red_blue_bytes
+stream_of_the_record = refl
+
+pub messages_of_the_stream : (listener 2 1 (heard true 2 1 four answered)).messages
+    ≡ server.Bell ∷ ServerCutText (0x48 ∷ 0x69 ∷ []) ∷ FramebufferUpdate (Put (rect 0 0 2 1) (0xFF0000 ∷ 0x0000FF ∷ []) ∷ []) ∷ []
+messages_of_the_stream = refl
+
+-- A message of which a byte is missing isn't read; behind a format the pixels are read in it.
+pub message_begun : (listener 2 1 (Bytes (2 ∷ 3 ∷ 0 ∷ 0 ∷ 0 ∷ 0 ∷ 0 ∷ 0 ∷ 1 ∷ []) ∷ [])).messages ≡ server.Bell ∷ []
+message_begun = refl
+
+pub format_then_pixels : (listener 2 1 (Format bgr233 ∷ Bytes (0 ∷ 0 ∷ 0 ∷ 1 ∷ 0 ∷ 0 ∷ 0 ∷ 0 ∷ 0 ∷ 2 ∷ 0 ∷ 1 ∷ 0 ∷ 0 ∷ 0 ∷ 0 ∷ 0x07 ∷ 0xC0 ∷ []) ∷ [])).messages
+    ≡ FramebufferUpdate (Put (rect 0 0 2 1) (0x07 ∷ 0xC0 ∷ []) ∷ []) ∷ []
+format_then_pixels = refl
