@@ -4,7 +4,7 @@ use Rattle.std.proofs.lemmas.List.{length-take-le, take_more}
 use Rattle.std.specs.Prelude.{map}
 use Rattle.std.specs.List.{join_with_byte}
 use Rattle.hex.specs.Hex.{encode_upper, encode_with, upper_digits}
-use Rattle.reflect_world.specs.Script.{blank, words_of_four, bytes_text}
+use Rattle.replay_script.specs.Script.{blank, words_of_four, bytes_text}
 
 -- The two digits of a byte.
 abbrev pub digits_of : ℕ → List ℕ

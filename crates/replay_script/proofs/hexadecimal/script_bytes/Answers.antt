@@ -1,7 +1,7 @@
 use Rattle.std.proofs.Common.{inl, inr, subst}
 use Rattle.std.specs.Prelude.{◌≡◌, IfSome, Option, Some, None}
-use Rattle.reflect_world.proofs.Words.{is_hex, is_no_hex}
-use Rattle.reflect_world.proofs.hexadecimal.script_bytes.Goals as goal
+use Rattle.replay_script.proofs.Words.{is_hex, is_no_hex}
+use Rattle.replay_script.proofs.hexadecimal.script_bytes.Goals as goal
 
 at_some : {A : Type 0} (P : A → Type 0) {o : Option A} {x : A} → o ≡ Some x → IfSome o P → P x
 at_some P {o = None} e k = absurd cc

@@ -1,7 +1,7 @@
 -- The lines of a script.
 use Rattle.std.specs.Prelude.{◌≤◌, length}
-use Rattle.reflect_world.specs.declared.line.Line.{Line}
-use Rattle.reflect_world.specs.declared.line.Line.TheVariants.{Screen, Host, Raise, Open, Greet, Viewer, Turn}
+use Rattle.replay_script.specs.declared.line.Line.{Line}
+use Rattle.replay_script.specs.declared.line.Line.TheVariants.{Screen, Host, Raise, Open, Greet, Viewer, Turn}
 
 -- Its numbers are in range: a screen has from 1 to 4096 pixels each way and a name of 1 to 255 bytes, viewers are 1 to 64.
 abbrev pub IsInRange : Line → Type 0

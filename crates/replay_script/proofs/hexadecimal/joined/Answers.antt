@@ -1,5 +1,5 @@
-use Rattle.reflect_world.proofs.Words.{stops_at, stops_short, is_read}
-use Rattle.reflect_world.proofs.hexadecimal.joined.Goals as goal
+use Rattle.replay_script.proofs.Words.{stops_at, stops_short, is_read}
+use Rattle.replay_script.proofs.hexadecimal.joined.Goals as goal
 
 pub returns-then-begins-clause-none : goal.returns-then-begins-clause-none
 returns-then-begins-clause-none c = stops_at c.args.text.now c.loop-byte.digits.items c.loop-byte.begins c.loop-byte.byte-index c.loop-byte.invariant c.loop-byte-test.true c.if-byte-ne32.false c.if-begins.true

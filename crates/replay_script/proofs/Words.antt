@@ -8,7 +8,7 @@ use Rattle.std.proofs.lemmas.Bool.{eqb-true, eqb-false, ne_eqb}
 use Rattle.hex.specs.Hex.{decode_of, is_hex_digit}
 use Rattle.hex.specs.declared.error.FromHexError.{FromHexError}
 use Rattle.hex.proofs.HexLemmas.{decode_of-ok}
-use Rattle.reflect_world.specs.Script.{blank, IsWord, IsDivided, IsHex}
+use Rattle.replay_script.specs.Script.{blank, IsWord, IsDivided, IsHex}
 
 abbrev NoBlank : List ℕ → Type 0
 NoBlank word = All (λ b. b ≢ blank) word

@@ -1,9 +1,9 @@
 use Rattle.std.proofs.Common.{ap, sym, ◌∙◌, arith, lit<, slice_index, ◌++◌, [], ◌∷◌, List, ℕ, ◌<◌, ◌≢◌, ◌%◌}
 use Rattle.std.specs.String.{string_bytes}
-use Rattle.reflect_world.specs.Script.{blank}
-use Rattle.reflect_world.proofs.Spelled.{digits_of, text-more, text-more_word}
-use Rattle.reflect_world.proofs.hexadecimal.spelled.Goals as goal
-use Rattle.reflect_world.proofs.hexadecimal.spelled.Goals.{then-index-gt0+then-index-eq0+in_ok-push, else-index-gt0, else-index-gt0-via-then-index-gt0+else-index-eq0, else-index-gt0-via-else-index-gt0}
+use Rattle.replay_script.specs.Script.{blank}
+use Rattle.replay_script.proofs.Spelled.{digits_of, text-more, text-more_word}
+use Rattle.replay_script.proofs.hexadecimal.spelled.Goals as goal
+use Rattle.replay_script.proofs.hexadecimal.spelled.Goals.{then-index-gt0+then-index-eq0+in_ok-push, else-index-gt0, else-index-gt0-via-then-index-gt0+else-index-eq0, else-index-gt0-via-else-index-gt0}
 
 pub loop-index-preserved : goal.loop-index-preserved
 loop-index-preserved c =

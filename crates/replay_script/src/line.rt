@@ -2,7 +2,7 @@
 
 ghost use Rattle.std.specs.Prelude.{◌≤◌, IfOk, IfErr, IfSome, ◌≡◌};
 ghost use Rattle.pixel_format.specs.declared.fault.Fault.TheVariants.{Memory};
-ghost use Rattle.reflect_world.specs.Line.{IsInRange};
+ghost use Rattle.replay_script.specs.Line.{IsInRange};
 
 use crate::hexadecimal::script_bytes;
 use pixel_format::Fault;
@@ -51,14 +51,10 @@ impl<'a> Line<'a> {
     }
 }
 
-/// A number in decimal digits, without a sign and without leading zeros.
+/// A number in decimal digits, without a sign and without leading zeros. `parse` would take both.
 fn number(text: &str) -> Option<u64> {
-    let digits = text.as_bytes();
-    if !digits.iter().all(|digit| digit.is_ascii_digit()) {
-        return None;
-    }
-    match digits {
-        [b'0', _, ..] => None,
+    match text.as_bytes() {
+        [b'+', ..] | [b'0', _, ..] => None,
         _ => text.parse::<u64>().ok(),
     }
 }

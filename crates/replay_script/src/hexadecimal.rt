@@ -5,7 +5,7 @@ ghost use Rattle.std.specs.List.{concat};
 ghost use Rattle.std.specs.String.{string_bytes};
 ghost use Rattle.hex.specs.Hex.{encode_upper, upper_digits};
 ghost use Rattle.pixel_format.specs.declared.fault.Fault.TheVariants.{Memory};
-ghost use Rattle.reflect_world.specs.Script.{IsDivided, IsHex, bytes_text};
+ghost use Rattle.replay_script.specs.Script.{IsDivided, IsHex, bytes_text};
 
 use hex::FromHexError;
 use pixel_format::Fault;

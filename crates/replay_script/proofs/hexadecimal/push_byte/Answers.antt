@@ -1,6 +1,6 @@
 use Rattle.std.specs.String.{string_bytes}
-use Rattle.reflect_world.proofs.Spelled.{pushed}
-use Rattle.reflect_world.proofs.hexadecimal.push_byte.Goals as goal
+use Rattle.replay_script.proofs.Spelled.{pushed}
+use Rattle.replay_script.proofs.hexadecimal.push_byte.Goals as goal
 
 pub returns : goal.returns
 returns c =
