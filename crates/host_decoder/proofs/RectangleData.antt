@@ -59,7 +59,7 @@ pub data_open : (new : DataProgress) (bs : List ℕ) (r : Reading Paint) → Dat
 data_open new bs r stands e f = record { reading = after r bs; stands = stands; wants = wants_from (after r bs) e f }
 
 -- Where all is taken of the first thing, it is of both.
-taken_open : {A B : Type 0} (form : Reading A) (next : A → Reading B) (bs : List ℕ) → taken form bs ≡ length bs → taken (form >>= next) bs ≡ length bs
+pub taken_open : {A B : Type 0} (form : Reading A) (next : A → Reading B) (bs : List ℕ) → taken form bs ≡ length bs → taken (form >>= next) bs ≡ length bs
 taken_open (Done x) next [] e = taken-nil (next x)
 taken_open (Done x) next (b ∷ bs) e = absurd (omega arith)
 taken_open (Faulty f) next [] e = refl
@@ -68,7 +68,7 @@ taken_open (Want more) next [] e = refl
 taken_open (Want more) next (b ∷ bs) e = ap suc (taken_open (more b) next bs (omega (arith, e)))
 
 -- What wants more took all.
-taken_all : (r : Reading Paint) (bs : List ℕ) → wants_more (after r bs) ≡ true → taken r bs ≡ length bs
+pub taken_all : (r : Reading Paint) (bs : List ℕ) → wants_more (after r bs) ≡ true → taken r bs ≡ length bs
 taken_all r [] w = taken-nil r
 taken_all (Done x) (b ∷ bs) w = let e : false ≡ true = sym (ap wants_more (after-done x bs)) ∙ w in absurd cc
 taken_all (Faulty f) (b ∷ bs) w = let e : false ≡ true = sym (ap wants_more (after-faulty {A = Paint} f bs)) ∙ w in absurd cc

@@ -1,8 +1,8 @@
 //! The data of one rectangle of a host, in whatever pieces it comes (RFC 6143, section 7.7).
 
-ghost use Rattle.std.specs.Prelude.{◌≡◌, ℕ, ◌⊎◌, is_some, IfOk, IfErr};
+ghost use Rattle.std.specs.Prelude.{◌≡◌, ℕ, ◌⊎◌, true, is_some, IfOk, IfErr, IsTrue, IsFalse};
 ghost use Rattle.pixel_format.specs.PixelFormat.{host_format};
-ghost use Rattle.pixel_format.specs.Reading.{Reading, Done, Faulty, after, whole_of};
+ghost use Rattle.pixel_format.specs.Reading.{Reading, Done, Faulty, after, wants_more, whole_of};
 ghost use Rattle.pixel_format.specs.declared.fault.Fault.TheVariants.{Memory, UnknownEncoding};
 ghost use Rattle.raster.specs.Painted.{paint_of, Fits};
 ghost use Rattle.raster.specs.Screen.{IsWithin};
@@ -90,6 +90,18 @@ impl Data {
             Body::Copy(source) => source.feed(self.width, self.height, &self.area, piece),
             Body::Rre(rre) => rre.feed(piece),
             Body::Hextile(hextile) => hextile.feed(piece),
+        }
+    }
+
+    /// Takes a piece that ends inside the pixels of a Raw rectangle. Else it takes nothing, and answers false.
+    pub(crate) fn take_pixels(&mut self, piece: &[u8]) -> bool
+        ensures area { IsSameArea self.old self.new }
+        ensures taken { IsTrue result → (reading : Reading update.Paint) → DataStands self.old reading → DataStands self.new (after reading piece.now) × (wants_more (after reading piece.now) ≡ true) }
+        ensures other { IsFalse result → self.new ≡ self.old }
+    {
+        match &mut self.body {
+            Body::Raw(raw) => raw.take_inside(piece),
+            _ => false,
         }
     }
 

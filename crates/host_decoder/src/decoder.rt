@@ -1,13 +1,13 @@
 //! Reading what a host sends, in whatever pieces it comes.
 
-ghost use Rattle.std.specs.Prelude.{◌≡◌, true, [], Err, None, Some, Result, IfNone, IfOk, IfSome, ◌≤◌, length, option_map};
+ghost use Rattle.std.specs.Prelude.{◌≡◌, true, [], Ok, Err, None, Some, Result, IfNone, IfOk, IfSome, IsTrue, IsFalse, ◌≤◌, length, option_map};
 ghost use Rattle.pixel_format.specs.declared.fault.Fault.{Fault};
 ghost use Rattle.pixel_format.specs.declared.fault.Fault.TheVariants.{Memory};
 ghost use Rattle.pixel_format.specs.Reading.{Reading, Faulty, renewed, whole_of};
 ghost use Rattle.raster.specs.Size.{IsScreenSize};
 ghost use Rattle.painter.specs.Painter.{Painting};
 ghost use Rattle.rfb_wire.specs.ServerMessage.{ServerMessage};
-ghost use Rattle.host_decoder.specs.Decoder.{Decodes, Feeds, IsFor, Repaints, host_message, is_refused, start, waiting};
+ghost use Rattle.host_decoder.specs.Decoder.{Decodes, Feeds, IsFor, Repaints, host_message, is_open, is_refused, start, waiting};
 ghost use Rattle.host_decoder.specs.Events.{brought_by, event_of};
 
 use crate::advance::{advance, judge};
@@ -63,6 +63,20 @@ impl HostDecoder {
         (self.width, self.height)
     }
 
+    /// Takes a piece that ends inside the pixels of a Raw rectangle. Else it takes nothing, and answers false. Most of a
+    /// host's bytes are such pixels: what stands here stays in its place while they come.
+    fn take_pixels(&mut self, piece: &[u8]) -> bool
+        ensures size { (self.new.width ≡ self.old.width) × (self.new.height ≡ self.old.height) }
+        ensures open_ { IsTrue result → (is_open self.old.state ≡ true) × (is_open self.new.state ≡ true) }
+        ensures feeds { IsTrue result → (painter : Painting) (r : Reading ServerMessage) → Decodes self.old painter r → Feeds self.new painter r piece.now (Ok (length piece.now)) }
+        ensures other { IsFalse result → self.new ≡ self.old }
+    {
+        match &mut self.state {
+            State::Pixels(pending) => pending.take_pixels(piece),
+            _ => false,
+        }
+    }
+
     /// Takes the next piece, up to the end of a whole message, and answers how many bytes it used. It uses none while
     /// a message waits to be taken, and none after a fault, which it names again.
     ///
@@ -78,6 +92,9 @@ impl HostDecoder {
         ensures refused { is_refused self.old.state ≡ true → (result ≡ Err Memory) × (self.new ≡ self.old) × (painter.new ≡ painter.old) }
         ensures faulty { (fault : Fault) → Decodes self.old painter.old (Faulty fault) → (result ≡ Err fault) × Decodes self.new painter.new (Faulty fault) × (painter.new ≡ painter.old) }
     {
+        if self.take_pixels(piece) {
+            return Ok(piece.len());
+        }
         let mut state = mem::replace(&mut self.state, State::start());
         let mut used = 0;
         while used < piece.len() && state.is_open() {

@@ -1,6 +1,9 @@
 //! A rectangle of which data are missing.
 
-ghost use Rattle.std.specs.Prelude.{◌≡◌};
+ghost use Rattle.std.specs.Prelude.{◌≡◌, true, IsTrue, IsFalse};
+ghost use Rattle.pixel_format.specs.Reading.{Reading, after, wants_more};
+ghost use Rattle.raster.specs.Update.{Paint};
+ghost use Rattle.host_decoder.specs.Data.{DataStands, IsSameArea};
 ghost use Rattle.host_decoder.specs.Pendings.{IsOpen};
 
 use crate::data::Data;
@@ -40,5 +43,15 @@ impl Pending {
     {
         let Pending { left, reader } = self;
         (left, reader)
+    }
+
+    /// Takes a piece that ends inside the pixels of a Raw rectangle. Else it takes nothing, and answers false.
+    pub(crate) fn take_pixels(&mut self, piece: &[u8]) -> bool
+        ensures left { self.new.left ≡ self.old.left }
+        ensures area { IsSameArea self.old.reader self.new.reader }
+        ensures taken { IsTrue result → (reading : Reading Paint) → DataStands self.old.reader reading → DataStands self.new.reader (after reading piece.now) × (wants_more (after reading piece.now) ≡ true) }
+        ensures other { IsFalse result → self.new ≡ self.old }
+    {
+        self.reader.take_pixels(piece)
     }
 }

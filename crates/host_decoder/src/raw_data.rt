@@ -1,8 +1,8 @@
 //! The pixels of a Raw rectangle, in whatever pieces they come (RFC 6143, section 7.7.1).
 
-ghost use Rattle.std.specs.Prelude.{◌≡◌, ◌+◌, ◌*◌, ◌<◌, ◌≤◌, ◌^◌, ◌⊎◌, ◌++◌, [], length, map, is_some, IfOk, IfErr};
+ghost use Rattle.std.specs.Prelude.{◌≡◌, ◌+◌, ◌*◌, ◌<◌, ◌≤◌, ◌^◌, ◌⊎◌, ◌++◌, [], true, length, map, is_some, IfOk, IfErr, IsTrue, IsFalse};
 ghost use Rattle.pixel_format.specs.PixelFormat.{host_format};
-ghost use Rattle.pixel_format.specs.Reading.{Reading, Done, after, whole_of};
+ghost use Rattle.pixel_format.specs.Reading.{Reading, Done, after, wants_more, whole_of};
 ghost use Rattle.pixel_format.specs.declared.fault.Fault.TheVariants.{Memory};
 ghost use Rattle.raster.specs.declared.rect.Rect.{Rect};
 ghost use Rattle.raster.specs.declared.encoding.Encoding.TheVariants.{Raw};
@@ -15,7 +15,7 @@ use pixel_format::Fault;
 use std::alloc::Global;
 use std::marker::Model;
 
-/// How many colours are made at a time, before they are put behind the others.
+/// How many colours are made at a time: few, so that their places, which are cleared first, are still at hand.
 const BLOCK_LEN: usize = 256;
 
 /// A reader of so many pixels, which keeps their colours. Its memory is taken at the start.
@@ -94,19 +94,18 @@ impl RawPixels {
         }
     }
 
-    /// Takes one block of whole pixels, where none is begun. Their colours are made in `block`.
-    fn take_block(&mut self, pixels: &[[u8; PIXEL_LEN]], block: &mut [u32; BLOCK_LEN])
+    /// Takes one block of whole pixels, where none is begun.
+    fn take_block(&mut self, pixels: &[[u8; PIXEL_LEN]])
         requires begun { self.old.begun ≡ [] }
-        requires block { length pixels.now ≤ BLOCK_LEN }
         requires missing { length pixels.now + length self.old.colours ≤ self.old.count }
         ensures count { self.new.count ≡ self.old.count }
         ensures begun { self.new.begun ≡ [] }
         ensures colours { self.new.colours ≡ self.old.colours ++ map colour_in pixels.now }
     {
-        let colours = &mut block[..pixels.len()];
-        make_colours(pixels, colours);
+        let start = self.colours.len();
         // There is room, so it never fails.
-        let _ = self.colours.extend_from_slice(colours);
+        let _ = self.colours.resize(start + pixels.len(), 0);
+        make_colours(pixels, &mut self.colours[start..]);
     }
 
     /// Takes whole pixels, where none is begun.
@@ -117,11 +116,10 @@ impl RawPixels {
         ensures begun { self.new.begun ≡ [] }
         ensures colours { self.new.colours ≡ self.old.colours ++ map colour_in pixels.now }
     {
-        let mut block = [0; BLOCK_LEN];
         let mut left = pixels;
         while !left.is_empty() {
             let (front, rest) = left.split_at(left.len().min(BLOCK_LEN));
-            self.take_block(front, &mut block);
+            self.take_block(front);
             left = rest;
         }
     }
@@ -151,6 +149,18 @@ impl RawPixels {
         let used = piece.len().min(self.missing());
         self.take_all(&piece[..used]);
         Ok(used)
+    }
+
+    /// Takes a piece that ends before the pixels do. Else it takes nothing, and answers false.
+    pub(crate) fn take_inside(&mut self, piece: &[u8]) -> bool
+        ensures taken { IsTrue result → (area : Rect) (reading : Reading Paint) → RawStands area self.old reading → RawStands area self.new (after reading piece.now) × (wants_more (after reading piece.now) ≡ true) }
+        ensures other { IsFalse result → self.new ≡ self.old }
+    {
+        if piece.len() >= self.missing() {
+            return false;
+        }
+        self.take_all(piece);
+        true
     }
 
     /// Whether all pixels have come.

@@ -1,13 +1,13 @@
 //! What a host sends, decoded: examples worked by hand, whole and in pieces.
 
-ghost use Rattle.std.specs.Prelude.{◌≡◌};
+ghost use Rattle.std.specs.Prelude.{◌≡◌, ◌<◌};
 ghost use Rattle.host_decoder.specs.Decoder.{IsFor};
 
+use crate::lent::{Told, black, used, whole};
 use host_decoder::{HostDecoder, HostEvent};
 use painter::Painter;
-use std::alloc::Global;
+use std::panic::Expect;
 use std::process::Abort;
-use std::test::Fail;
 
 const BLACK: u32 = 0;
 
@@ -47,178 +47,170 @@ const EMPTY: [u8; 64] = [
     0, 0, 0, 0, 0, 3, 0, 0, 0, 0, 0, 2, 0, 0, 0, 0, 9, 9, 9, 9, 0, 3, 0, 1, 0, 0, 0, 0, 0, 0, 0, 0,
 ];
 
-// The event of a whole message.
-fn decode(decoder: &mut HostDecoder, painter: &mut Painter, bytes: &[u8]) -> Result<HostEvent, Fail>
-    requires { IsFor decoder.old painter.old }
-    ensures size { (painter.new.width ≡ painter.old.width) × (painter.new.height ≡ painter.old.height) }
-    ensures fits { IsFor decoder.new painter.new }
-{
-    let used = decoder.feed(painter, bytes)?;
-    if used != bytes.len() {
-        return Err(Fail::new("not all bytes were used"));
-    }
-    Ok(decoder.whole().ok_or("nothing is whole")?)
+// Whether it is a text of these bytes.
+fn whole_text_is(decoder: &mut HostDecoder, bytes: &[u8]) -> Option<bool> {
+    let event = decoder.whole()?;
+    Some(is_text(&event, bytes))
 }
 
-// The same, one byte at a time: nothing is whole before the last, and the screen stays as it was.
-fn decode_bytes(
-    rt: &impl Abort,
+fn is_text(event: &HostEvent, bytes: &[u8]) -> bool {
+    match event {
+        HostEvent::Cut(patch) => match patch.text_bytes() {
+            Some(text) => text == bytes,
+            None => false,
+        },
+        _ => false,
+    }
+}
+
+// Takes a message over a screen of 3 by 1 in pieces of so many bytes: nothing is whole before the last, and the screen stays
+// as it was.
+fn decode<R: Abort>(
+    rt: &R,
     decoder: &mut HostDecoder,
     painter: &mut Painter,
     bytes: &[u8],
-) -> Result<HostEvent, Fail>
+    step: usize,
+) -> Option<Told>
+    requires step { 0 < step }
     requires size { (painter.old.width ≡ 3) × (painter.old.height ≡ 1) }
     requires fits { IsFor decoder.old painter.old }
     ensures size { (painter.new.width ≡ 3) × (painter.new.height ≡ 1) }
     ensures fits { IsFor decoder.new painter.new }
 {
     let first = painter.row(0)[0];
-    let mut event = None;
-    for byte in bytes {
-        assert!(rt; event.is_none());
-        assert_eq!(rt; painter.row(0)[0], first);
-        let used = decoder.feed(painter, &[*byte])?;
-        assert_eq!(rt; used, 1);
-        event = decoder.whole();
+    let mut told = None;
+    for piece in bytes.chunks(step) {
+        assert!(rt; told.is_none() && painter.row(0)[0] == first);
+        assert!(rt; used(decoder, painter, piece) == Some(piece.len()));
+        told = whole(decoder);
     }
-    Ok(event.ok_or("nothing is whole")?)
+    told
 }
 
-// The number of its rectangles, if it is an update.
-fn rectangles(event: HostEvent) -> Option<usize> {
-    match event {
-        HostEvent::Paint(patch) => Some(patch.painted().len()),
-        _ => None,
-    }
+// The update in these bytes, in pieces of so many, has so many rectangles, and leaves this row on a black screen of 3 by 1.
+fn paints<R: Abort + AllocGlobal>(rt: &R, bytes: &[u8], step: usize, count: usize, row: [u32; 3])
+    requires { 0 < step }
+{
+    let mut painter = black(rt, 3, 1);
+    let mut decoder = HostDecoder::new(rt.alloc(), 3, 1);
+    is_painted(rt, &mut decoder, &mut painter, bytes, step, count, row);
 }
 
-// The type of its message (RFC 6143, section 7.6); 4 of a text that was read past.
-fn kind(event: HostEvent) -> u8 {
-    match event {
-        HostEvent::Paint(_) => 0,
-        HostEvent::Map => 1,
-        HostEvent::Bell(_) => 2,
-        HostEvent::Cut(_) => 3,
-        HostEvent::LongCut => 4,
-    }
-}
-
-// Whether it is a text of these bytes.
-fn is_text(event: HostEvent, bytes: &[u8]) -> bool {
-    match event {
-        HostEvent::Cut(patch) => patch.text_bytes() == Some(bytes),
-        _ => false,
-    }
-}
-
-// The update in these bytes has so many rectangles, and leaves this row on a black screen of 3 by 1.
-fn paints(
-    rt: &impl Abort,
-    alloc: Global,
+fn is_painted<R: Abort>(
+    rt: &R,
+    decoder: &mut HostDecoder,
+    painter: &mut Painter,
     bytes: &[u8],
+    step: usize,
     count: usize,
-    row: &[u32],
-) -> Result<(), Fail> {
-    let mut painter = Painter::new(alloc, 3, 1)?;
-    let mut decoder = HostDecoder::new(alloc, 3, 1);
-    let event = decode(&mut decoder, &mut painter, bytes)?;
-    assert_eq!(rt; rectangles(event), Some(count));
-    assert_eq!(rt; painter.row(0), row);
-    Ok(())
+    row: [u32; 3],
+)
+    requires step { 0 < step }
+    requires size { (painter.old.width ≡ 3) × (painter.old.height ≡ 1) }
+    requires fits { IsFor decoder.old painter.old }
+{
+    let told = decode(rt, decoder, painter, bytes, step);
+    assert!(rt; told == Some((0, count)));
+    assert!(rt; painter.row(0) == row.as_slice());
 }
 
-// The same, one byte at a time.
-fn paints_by_bytes(
-    rt: &impl Abort,
-    alloc: Global,
-    bytes: &[u8],
-    count: usize,
-    row: &[u32],
-) -> Result<(), Fail> {
-    let mut painter = Painter::new(alloc, 3, 1)?;
-    let mut decoder = HostDecoder::new(alloc, 3, 1);
-    let event = decode_bytes(rt, &mut decoder, &mut painter, bytes)?;
-    assert_eq!(rt; rectangles(event), Some(count));
-    assert_eq!(rt; painter.row(0), row);
-    Ok(())
+// Each of the updates in turn, in pieces of so many bytes.
+fn paints_all<R: Abort + AllocGlobal>(rt: &R, step: usize)
+    requires { 0 < step }
+{
+    paints(rt, &COPIED, step, 2, [RED, RED, GREEN]);
+    paints(rt, &IN_RRE, step, 1, [RED, BLUE, BLUE]);
+    paints(rt, &IN_HEXTILE, step, 1, [RED, BLUE, BLACK]);
+    paints(rt, &EMPTY, step, 4, [BLACK, BLACK, BLACK]);
+    paints(rt, &[0, 0, 0, 0], step, 0, [BLACK, BLACK, BLACK]);
 }
 
-// A message of this type, whose first bytes aren't whole.
-fn gives(rt: &impl Abort, alloc: Global, head: &[u8], rest: &[u8], wanted: u8) -> Result<(), Fail> {
-    let mut painter = Painter::new(alloc, 3, 1)?;
-    let mut decoder = HostDecoder::new(alloc, 3, 1);
-    assert_eq!(rt; decoder.feed(&mut painter, head)?, head.len());
-    assert!(rt; decoder.whole().is_none());
-    let event = decode(&mut decoder, &mut painter, rest)?;
-    assert_eq!(rt; kind(event), wanted);
-    Ok(())
+// A message in two pieces, the first of which isn't whole.
+fn gives<R: Abort + AllocGlobal>(rt: &R, head: &[u8], rest: &[u8], wanted: Told) {
+    let mut painter = black(rt, 3, 1);
+    let mut decoder = HostDecoder::new(rt.alloc(), 3, 1);
+    is_given(rt, &mut decoder, &mut painter, head, rest, wanted);
+}
+
+fn is_given<R: Abort>(
+    rt: &R,
+    decoder: &mut HostDecoder,
+    painter: &mut Painter,
+    head: &[u8],
+    rest: &[u8],
+    wanted: Told,
+)
+    requires { IsFor decoder.old painter.old }
+{
+    assert!(rt; used(decoder, painter, head) == Some(head.len()));
+    assert!(rt; whole(decoder).is_none());
+    assert!(rt; used(decoder, painter, rest) == Some(rest.len()));
+    assert!(rt; whole(decoder) == Some(wanted));
 }
 
 // The same, where the rest is so many bytes that are 0.
-fn gives_long(
-    rt: &impl Abort,
-    alloc: Global,
-    head: &[u8],
-    len: usize,
-    wanted: u8,
-) -> Result<(), Fail> {
-    let zeros = vec![in alloc; 0u8; len]?;
-    gives(rt, alloc, head, zeros.as_slice(), wanted)
+fn gives_long<R: Abort + AllocGlobal>(rt: &R, head: &[u8], len: usize, wanted: Told) {
+    let zeros = vec![in rt.alloc(); 0u8; len].expect(rt, "memory");
+    gives(rt, head, zeros.as_slice(), wanted);
 }
 
 #[test]
-fn updates(rt: HostRuntime) -> Result<(), Fail> {
-    paints(&rt, rt.alloc(), &COPIED, 2, &[RED, RED, GREEN])?;
-    paints(&rt, rt.alloc(), &IN_RRE, 1, &[RED, BLUE, BLUE])?;
-    paints(&rt, rt.alloc(), &IN_HEXTILE, 1, &[RED, BLUE, BLACK])?;
-    paints(&rt, rt.alloc(), &EMPTY, 4, &[BLACK, BLACK, BLACK])?;
-    paints(&rt, rt.alloc(), &[0, 0, 0, 0], 0, &[BLACK, BLACK, BLACK])
+fn updates(rt: HostRuntime) {
+    paints_all(&rt, usize::MAX);
 }
 
 #[test]
-fn updates_byte_by_byte(rt: HostRuntime) -> Result<(), Fail> {
-    paints_by_bytes(&rt, rt.alloc(), &COPIED, 2, &[RED, RED, GREEN])?;
-    paints_by_bytes(&rt, rt.alloc(), &IN_RRE, 1, &[RED, BLUE, BLUE])?;
-    paints_by_bytes(&rt, rt.alloc(), &IN_HEXTILE, 1, &[RED, BLUE, BLACK])?;
-    paints_by_bytes(&rt, rt.alloc(), &EMPTY, 4, &[BLACK, BLACK, BLACK])
+fn updates_byte_by_byte(rt: HostRuntime) {
+    paints_all(&rt, 1);
 }
 
 #[test]
-fn other_messages(rt: HostRuntime) -> Result<(), Fail> {
-    gives(&rt, rt.alloc(), &[], &[2], 2)?;
-    gives(&rt, rt.alloc(), &MAP[..5], &MAP[5..], 1)?;
-    gives(&rt, rt.alloc(), &HI[..9], &HI[9..], 3)?;
-    gives(&rt, rt.alloc(), &[3, 0], &[0, 0, 0, 0, 0, 0], 3)
+fn other_messages(rt: HostRuntime) {
+    gives(&rt, &[], &[2], (2, 0));
+    gives(&rt, &MAP[..5], &MAP[5..], (1, 0));
+    gives(&rt, &HI[..9], &HI[9..], (3, 2));
+    gives(&rt, &[3, 0], &[0, 0, 0, 0, 0, 0], (3, 0));
 }
 
 #[test]
-fn a_text(rt: HostRuntime) -> Result<(), Fail> {
-    let mut painter = Painter::new(rt.alloc(), 3, 1)?;
+fn a_text(rt: HostRuntime) {
+    let mut painter = black(&rt, 3, 1);
     let mut decoder = HostDecoder::new(rt.alloc(), 3, 1);
-    let event = decode(&mut decoder, &mut painter, &HI)?;
-    assert!(rt; is_text(event, &[0x48, 0x69]));
-    Ok(())
+    is_hi(&rt, &mut decoder, &mut painter);
+}
+
+fn is_hi<R: Abort>(rt: &R, decoder: &mut HostDecoder, painter: &mut Painter)
+    requires { IsFor decoder.old painter.old }
+{
+    assert!(rt; used(decoder, painter, &HI) == Some(HI.len()));
+    assert!(rt; whole_text_is(decoder, b"Hi") == Some(true));
 }
 
 // While a Bell waits, no byte of the next one is used.
 #[test]
-fn a_bell_waits(rt: HostRuntime) -> Result<(), Fail> {
-    let mut painter = Painter::new(rt.alloc(), 3, 1)?;
+fn a_bell_waits(rt: HostRuntime) {
+    let mut painter = black(&rt, 3, 1);
     let mut decoder = HostDecoder::new(rt.alloc(), 3, 1);
-    assert_eq!(rt; decoder.size(), (3, 1));
-    assert_eq!(rt; decoder.feed(&mut painter, &[2, 2])?, 1);
-    assert_eq!(rt; decoder.feed(&mut painter, &[2])?, 0);
-    let event = decode(&mut decoder, &mut painter, &[])?;
-    assert_eq!(rt; kind(event), 2);
-    Ok(())
+    waits(&rt, &mut decoder, &mut painter);
+}
+
+fn waits<R: Abort>(rt: &R, decoder: &mut HostDecoder, painter: &mut Painter)
+    requires { IsFor decoder.old painter.old }
+{
+    assert!(rt; decoder.size() == (3, 1));
+    assert!(rt; used(decoder, painter, &[2, 2]) == Some(1));
+    assert!(rt; used(decoder, painter, &[2]) == Some(0));
+    assert!(rt; used(decoder, painter, &[]) == Some(0));
+    assert!(rt; whole(decoder) == Some((2, 0)));
 }
 
 // The longest text that is kept, one that is longer by a byte, a colour map of 65,535 entries, and as many rectangles
 // without a pixel.
 #[test]
-fn long_messages(rt: HostRuntime) -> Result<(), Fail> {
-    gives_long(&rt, rt.alloc(), &[3, 0, 0, 0, 0, 1, 0, 0], 65536, 3)?;
-    gives_long(&rt, rt.alloc(), &[3, 0, 0, 0, 0, 1, 0, 1], 65537, 4)?;
-    gives_long(&rt, rt.alloc(), &[1, 0, 0, 0, 0xFF, 0xFF], 393210, 1)?;
-    gives_long(&rt, rt.alloc(), &[0, 0, 0xFF, 0xFF], 786420, 0)
+fn long_messages(rt: HostRuntime) {
+    gives_long(&rt, &[3, 0, 0, 0, 0, 1, 0, 0], 65536, (3, 65536));
+    gives_long(&rt, &[3, 0, 0, 0, 0, 1, 0, 1], 65537, (4, 0));
+    gives_long(&rt, &[1, 0, 0, 0, 0xFF, 0xFF], 393210, (1, 0));
+    gives_long(&rt, &[0, 0, 0xFF, 0xFF], 786420, (0, 65535));
 }

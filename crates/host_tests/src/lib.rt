@@ -6,4 +6,6 @@ mod decoding;
 #[cfg(test)]
 mod host_faults;
 #[cfg(test)]
+mod lent;
+#[cfg(test)]
 mod painting;

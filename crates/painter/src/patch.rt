@@ -15,7 +15,6 @@ use pixel_format::Fault;
 use raster::{Paint, Rect, paint_all};
 use std::alloc::{AllocError, Global};
 use std::marker::Model;
-use tiles::is_met;
 
 /// The paints of a FramebufferUpdate, a Bell, or a text that was cut (RFC 6143, 7.6).
 #[derive(Drop)]
@@ -62,7 +61,7 @@ fn any_meets(paints: &[Paint], width: u64, height: u64, r: &Rect) -> bool
     ensures { result ≡ list_any (λ p. meets (painted (paint_of p)) r.now) paints.now }
 {
     for paint in paints {
-        if is_met(&target(paint), r) {
+        if target(paint).meets(r) {
             return true;
         }
     }

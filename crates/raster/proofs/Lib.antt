@@ -4,6 +4,7 @@ pub mod RreLaws
 pub mod Screens
 pub mod Spellings
 pub mod Pixels
+pub mod Redrawn
 pub mod Runs
 pub mod Values
 pub mod RreSpelled

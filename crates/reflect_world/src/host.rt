@@ -41,9 +41,10 @@ impl Host {
         ensures stands { IfOk result (λ host. HostStands [] [] host) }
         ensures err { IfErr result (λ fault. fault ≡ Memory) }
     {
+        let painter = Painter::new(alloc, width, height)?;
         Ok(Host {
             decoder: HostDecoder::new(alloc, width, height),
-            painter: Painter::new(alloc, width, height)?,
+            painter,
             unread: Unread::new(alloc),
             waiting: None,
         })

@@ -2,15 +2,14 @@
 
 ghost use Rattle.std.specs.Prelude.{◌≡◌, ◌≤◌, ◌⊎◌};
 
-use crate::hexadecimal::shown;
-use crate::line::Line;
 use crate::step::Step;
 use crate::world::{World, play};
 use pixel_format::Fault;
+use replay_script::{Line, shown};
 use roles::Role;
 use std::alloc::{AllocError, Global};
-use std::io;
 use std::io::{BufRead, BufReader, BufWriter, ErrorKind, Read, Write};
+use std::{io, slice};
 
 /// A script is read up to so many lines.
 const LINES: u64 = 1 << 40;
@@ -25,9 +24,10 @@ const ROOM: u64 = 1 << 62;
 const ALL: u64 = u64::MAX;
 
 /// Why a script isn't played to its end.
+#[derive(Drop)]
 enum Stop {
-    /// A line of another form, or on a viewer that isn't open or is open already.
-    Line,
+    /// The line of this number has another form, or is on a viewer that isn't open or is open already.
+    Line(u64),
     /// The reader or the writer failed, there is no end, or the numbers of updates have run out.
     Failed,
     /// Memory was refused.
@@ -72,14 +72,31 @@ pub fn replay<R: Read + Drop, W: Write + Drop>(alloc: Global, reader: R, writer:
     };
     let status = match play_script(alloc, &mut input, &mut output) {
         Ok(host_failed) => { if host_failed { 3 } else { 0 } }
-        Err(Stop::Line) => 2,
-        Err(Stop::Failed) => 3,
-        Err(Stop::Memory) => 4,
+        Err(stop) => status_of(alloc, &mut output, stop),
     };
     match output.flush() {
         Ok(()) => status,
         Err(_) => 3,
     }
+}
+
+/// The exit status of a script that isn't played to its end. The number of a bad line is printed.
+fn status_of<W: Write>(alloc: Global, output: &mut W, stop: Stop) -> u8
+    ensures { (2 ≤ result) × (result ≤ 4) }
+{
+    match stop {
+        Stop::Line(number) => match print_bad_line(alloc, output, number) {
+            Ok(()) => 2,
+            Err(Stop::Memory) => 4,
+            Err(_) => 3,
+        },
+        Stop::Failed => 3,
+        Stop::Memory => 4,
+    }
+}
+
+fn print_bad_line<W: Write>(alloc: Global, output: &mut W, number: u64) -> Result<(), Stop> {
+    print(output, format!(in alloc; "line {number}\n")?)
 }
 
 /// Plays it, and answers whether the host's bytes were at fault.
@@ -92,10 +109,8 @@ fn play_script<B: BufRead, W: Write>(
     if !next_line(input, &mut line)? {
         return Ok(false);
     }
-    match opened(alloc, line.as_slice())? {
-        Some(mut world) => play_lines(alloc, &mut world, input, output),
-        None => Err(bad_line(alloc, output, 1)?),
-    }
+    let mut world = opened(alloc, line.as_slice())?;
+    play_lines(alloc, &mut world, input, output)
 }
 
 /// Plays the lines behind the first, and answers whether the host's bytes were at fault.
@@ -111,7 +126,7 @@ fn play_lines<B: BufRead, W: Write>(
             return Ok(world.host_fault().is_some());
         }
         if !play_line(alloc, world, output, line.as_slice())? {
-            return Err(bad_line(alloc, output, number)?);
+            return Err(Stop::Line(number));
         }
     }
     Err(Stop::Failed)
@@ -129,27 +144,22 @@ fn next_line<B: BufRead>(input: &mut B, line: &mut Vec<u8>) -> Result<bool, Stop
     Ok(true)
 }
 
-fn bad_line<W: Write>(alloc: Global, output: &mut W, number: u64) -> Result<Stop, Stop> {
-    print(output, format!(in alloc; "line {number}\n")?)?;
-    Ok(Stop::Line)
-}
-
 /// Writes a line that is complete.
 fn print<W: Write>(output: &mut W, line: String) -> Result<(), Stop> {
     output.write_all(line.as_bytes())?;
     Ok(())
 }
 
-/// The world that the first line opens, where it is one that opens one.
-fn opened(alloc: Global, line: &[u8]) -> Result<Option<World>, Stop> {
+/// The world that the first line opens.
+fn opened(alloc: Global, line: &[u8]) -> Result<World, Stop> {
     let Ok(text) = str::from_utf8(line) else {
-        return Ok(None);
+        return Err(Stop::Line(1));
     };
     match Line::read(alloc, text)? {
-        Some(Line::Screen(width, height, name)) if width <= LARGEST && height <= LARGEST => Ok(Some(
+        Some(Line::Screen(width, height, name)) if width <= LARGEST && height <= LARGEST => Ok(
             World::new(alloc, width, height, name.as_bytes(), ROOM)?,
-        )),
-        _ => Ok(None),
+        ),
+        _ => Err(Stop::Line(1)),
     }
 }
 
@@ -181,7 +191,7 @@ fn play_line<W: Write>(
 }
 
 fn play_one(world: &mut World, step: Step) -> Result<(), Stop> {
-    match play(world, &[step]) {
+    match play(world, slice::from_ref(&step)) {
         Ok(()) => Ok(()),
         Err((_, fault)) => Err(Stop::from(fault)),
     }
@@ -255,21 +265,25 @@ fn turn<W: Write>(
         return Ok(false);
     }
     let before = world.written(viewer).len();
-    let steps = [
-        Step::Written(viewer, ALL),
-        Step::Look(viewer),
-        Step::Cut(viewer),
-        Step::Written(viewer, ALL),
-    ];
-    if let Err((_, fault)) = play(world, &steps) {
-        return Err(Stop::from(fault));
-    }
-    match world.written(viewer).get(before..) {
-        Some(written) if !written.is_empty() => {
-            let bytes = shown(alloc, written)?;
-            print(output, format!(in alloc; "{viewer}: {bytes}\n")?)?;
-        }
-        _ => print(output, format!(in alloc; "{viewer}: -\n")?)?,
-    }
+    play_one(world, Step::Written(viewer, ALL))?;
+    play_one(world, Step::Look(viewer))?;
+    play_one(world, Step::Cut(viewer))?;
+    play_one(world, Step::Written(viewer, ALL))?;
+    let written = world.written(viewer).get(before..).unwrap_or(&[]);
+    print_written(alloc, output, viewer, written)?;
     Ok(true)
+}
+
+/// What was written to a viewer in its turn, or that it was nothing.
+fn print_written<W: Write>(
+    alloc: Global,
+    output: &mut W,
+    viewer: u64,
+    written: &[u8],
+) -> Result<(), Stop> {
+    if written.is_empty() {
+        return print(output, format!(in alloc; "{viewer}: -\n")?);
+    }
+    let bytes = shown(alloc, written)?;
+    print(output, format!(in alloc; "{viewer}: {bytes}\n")?)
 }

@@ -27,7 +27,7 @@ pub enum Step {
 }
 
 /// What a world keeps: a viewer joined, or a step was played.
-#[derive(Debug, Drop)]
+#[derive(Drop)]
 pub enum Entry {
     Joined(u64, Role, bool),
     Played(Step),

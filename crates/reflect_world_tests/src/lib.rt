@@ -1,22 +1,10 @@
-//! Tests of `reflect_world`, which stand in a crate of their own so that it is proved once.
+//! Tests of `reflect_world`, which stand in a crate of their own so that it is proved once. What scripts print is tried by `replay_trial`.
 #![tactic(auto)]
 
 #[cfg(test)]
-mod answers;
-#[cfg(test)]
-mod bad_lines;
-#[cfg(test)]
-mod faults;
-#[cfg(test)]
 mod hellos;
 #[cfg(test)]
-mod hosts;
-#[cfg(test)]
 mod links;
-#[cfg(test)]
-mod names;
-#[cfg(test)]
-mod played;
 #[cfg(test)]
 mod sessions;
 #[cfg(test)]

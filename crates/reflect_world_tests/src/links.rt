@@ -1,4 +1,4 @@
-//! Readers and writers that fail.
+//! Readers and writers that fail, and lines that are no text.
 
 use reflect_world::replay;
 use std::io;
@@ -50,4 +50,20 @@ fn reader_that_fails(rt: HostRuntime) -> Result<(), Fail> {
 #[test]
 fn writer_that_fails(rt: HostRuntime) {
     assert_eq!(rt; replay(rt.alloc(), SCRIPT, FullWriter), 3);
+}
+
+#[test]
+fn lines_that_are_no_text(rt: HostRuntime) {
+    let scripts: [(&[u8], &str); 2] = [
+        (b"screen 2 1 \xFF\n", "line 1\n"),
+        (
+            b"screen 2 1 T\nopen 1 full\nturn 1\nraise\xC3\nturn 1\n",
+            "1: -\nline 4\n",
+        ),
+    ];
+    for (script, printed) in scripts {
+        let mut output = Vec::new(rt.alloc());
+        assert_eq!(rt; replay(rt.alloc(), script, &mut output), 2);
+        assert!(rt; output.as_slice() == printed.as_bytes());
+    }
 }

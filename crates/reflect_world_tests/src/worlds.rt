@@ -1,22 +1,87 @@
-//! A world, step by step, and how a script spells bytes.
+//! Worlds of one pixel, step by step, and how a script spells bytes.
 
-use reflect_world::{Step, World, play, script_bytes, shown};
+use crate::hellos::{is_told_up_to_a_fault, is_told_whole};
+use reflect_world::{Step, World, play};
+use replay_script::{script_bytes, shown};
 use roles::Role;
 use std::alloc::Global;
 use std::process::Abort;
+use std::slice;
 use std::test::Fail;
 
 /// An update that paints one pixel red.
-const RED: [u8; 20] = [
+pub const RED: [u8; 20] = [
     0, 0, 0, 1, 0, 0, 0, 0, 0, 1, 0, 1, 0, 0, 0, 0, 0xFF, 0, 0, 0,
 ];
 
 /// An area of one pixel is asked for.
 const ASK: [u8; 10] = [3, 0, 0, 0, 0, 0, 0, 1, 0, 1];
 
-/// A world of one pixel.
-pub fn of_one_pixel(alloc: Global) -> Result<World, Fail> {
-    Ok(World::new(alloc, 1, 1, b"T", 0)?)
+/// A red pixel, a Bell, a colour map of one colour, a text and a Bell.
+const MESSAGES: [u8; 45] = [
+    0, 0, 0, 1, 0, 0, 0, 0, 0, 1, 0, 1, 0, 0, 0, 0, 0, 0, 0xFF, 0, 2, 1, 0, 0, 0, 0, 1, 0, 0, 0, 0,
+    0, 0, 3, 0, 0, 0, 0, 0, 0, 2, 0x48, 0x69, 2, 0,
+];
+
+/// What is tested of a world.
+#[derive(Drop)]
+enum Check {
+    WrittenAsSent,
+    StepsOfNobody,
+    CutWithoutALook,
+    CountedUpdates,
+    HelloCutAt(usize),
+    HelloUpToAFault,
+}
+
+// Every world is let go here: proofs of letting one go are long.
+fn in_new_world<R: Abort + AllocGlobal>(rt: &R, check: Check) -> Result<(), Fail> {
+    let mut world = World::new(rt.alloc(), 1, 1, b"T", 0)?;
+    holds(rt, &mut world, check)
+}
+
+fn holds<R: Abort + AllocGlobal>(rt: &R, world: &mut World, check: Check) -> Result<(), Fail> {
+    match check {
+        Check::WrittenAsSent => is_written_as_it_is_sent(rt, world),
+        Check::StepsOfNobody => steps_of_nobody(rt, world),
+        Check::CutWithoutALook => cut_only(rt, world),
+        Check::CountedUpdates => counts(rt, world),
+        Check::HelloCutAt(place) => is_told_whole(rt, world, place),
+        Check::HelloUpToAFault => is_told_up_to_a_fault(rt, world),
+    }
+}
+
+#[test]
+fn answer_is_written_as_it_is_sent(rt: HostRuntime) -> Result<(), Fail> {
+    in_new_world(&rt, Check::WrittenAsSent)
+}
+
+#[test]
+fn steps_of_a_viewer_that_is_not_there(rt: HostRuntime) -> Result<(), Fail> {
+    in_new_world(&rt, Check::StepsOfNobody)
+}
+
+#[test]
+fn cut_without_a_look(rt: HostRuntime) -> Result<(), Fail> {
+    in_new_world(&rt, Check::CutWithoutALook)
+}
+
+#[test]
+fn updates_are_counted_as_they_are_put(rt: HostRuntime) -> Result<(), Fail> {
+    in_new_world(&rt, Check::CountedUpdates)
+}
+
+#[test]
+fn hello_cut_at_each_place(rt: HostRuntime) -> Result<(), Fail> {
+    for place in 0..=24 {
+        in_new_world(&rt, Check::HelloCutAt(place))?;
+    }
+    Ok(())
+}
+
+#[test]
+fn bytes_due_before_a_fault(rt: HostRuntime) -> Result<(), Fail> {
+    in_new_world(&rt, Check::HelloUpToAFault)
 }
 
 /// The pixel becomes red, and viewer 1 has asked for it.
@@ -32,43 +97,34 @@ fn ask(alloc: Global, world: &mut World) -> Result<(), Fail> {
     Ok(())
 }
 
-// A world that is lent to what is tested is let go at one place: proofs of letting one go are long.
-#[test]
-fn answer_is_written_as_it_is_sent(rt: HostRuntime) -> Result<(), Fail> {
-    let mut world = of_one_pixel(rt.alloc())?;
-    is_written_as_it_is_sent(&rt, &mut world)
+/// Plays one step.
+pub fn play_one(world: &mut World, step: Step) -> Result<(), Fail> {
+    play(world, slice::from_ref(&step))?;
+    Ok(())
 }
 
 fn is_written_as_it_is_sent<R: Abort + AllocGlobal>(rt: &R, world: &mut World) -> Result<(), Fail> {
     ask(rt.alloc(), world)?;
-    play(world, &[Step::Look(1), Step::Cut(1)])?;
+    play_one(world, Step::Look(1))?;
+    play_one(world, Step::Cut(1))?;
     assert!(rt; world.written(1).is_empty());
-    play(world, &[Step::Written(1, 7)])?;
+    play_one(world, Step::Written(1, 7))?;
     assert!(rt; world.written(1) == &RED[..7]);
-    play(world, &[Step::Written(1, 100)])?;
+    play_one(world, Step::Written(1, 100))?;
     assert!(rt; world.written(1) == RED.as_slice());
     assert_eq!(rt; world.updates(), 1);
     assert!(rt; world.host_fault().is_none() && world.fault(1).is_none());
     Ok(())
 }
 
-#[test]
-fn steps_of_a_viewer_that_is_not_there(rt: HostRuntime) -> Result<(), Fail> {
-    let mut world = of_one_pixel(rt.alloc())?;
-    steps_of_nobody(&rt, &mut world)
-}
-
 fn steps_of_nobody<R: Abort + AllocGlobal>(rt: &R, world: &mut World) -> Result<(), Fail> {
     let alloc = rt.alloc();
     ask(alloc, world)?;
     for viewer in [0, 2, 64, 65, u64::MAX] {
-        let steps = [
-            Step::Bytes(viewer, Vec::from_slice(alloc, &[7])?),
-            Step::Look(viewer),
-            Step::Cut(viewer),
-            Step::Written(viewer, 100),
-        ];
-        play(world, &steps)?;
+        play_one(world, Step::Bytes(viewer, Vec::from_slice(alloc, &[7])?))?;
+        play_one(world, Step::Look(viewer))?;
+        play_one(world, Step::Cut(viewer))?;
+        play_one(world, Step::Written(viewer, 100))?;
         assert!(rt; !world.is_joined(viewer) && world.written(viewer).is_empty());
         assert!(rt; world.fault(viewer).is_none());
     }
@@ -76,16 +132,22 @@ fn steps_of_nobody<R: Abort + AllocGlobal>(rt: &R, world: &mut World) -> Result<
     Ok(())
 }
 
-#[test]
-fn cut_without_a_look(rt: HostRuntime) -> Result<(), Fail> {
-    let mut world = of_one_pixel(rt.alloc())?;
-    cut_only(&rt, &mut world)
-}
-
 fn cut_only<R: Abort + AllocGlobal>(rt: &R, world: &mut World) -> Result<(), Fail> {
     ask(rt.alloc(), world)?;
-    play(world, &[Step::Cut(1), Step::Written(1, 100)])?;
+    play_one(world, Step::Cut(1))?;
+    play_one(world, Step::Written(1, 100))?;
     assert!(rt; world.written(1).is_empty());
+    Ok(())
+}
+
+fn counts<R: Abort + AllocGlobal>(rt: &R, world: &mut World) -> Result<(), Fail> {
+    let bytes = Vec::from_slice(rt.alloc(), &MESSAGES)?;
+    play_one(world, Step::HostBytes(bytes))?;
+    for count in [1, 2, 3, 4, 4] {
+        play_one(world, Step::Put)?;
+        assert_eq!(rt; world.updates(), count);
+    }
+    assert!(rt; world.host_fault().is_none());
     Ok(())
 }
 

@@ -5,6 +5,7 @@ use Rattle.std.proofs.lemmas.List.{append-nil}
 use Rattle.pixel_format.specs.PixelFormat.{PixelFormat, pixel_len}
 use Rattle.raster.specs.Screen.{Canvas, value_at}
 use Rattle.raster.specs.Encoding.{Subrect, rre_subrect_bytes, run_from, runs, runs_of_row}
+use Rattle.raster.proofs.Runs.{run_some, run_within}
 use Rattle.raster.proofs.RowScan.{IsFresh, runs_behind, found_other, found_background}
 
 -- How many bytes a subrectangle has.
@@ -65,6 +66,13 @@ pub row_skips : (format : PixelFormat) (canvas : Canvas) (background w y x v len
     → HasPut format all (runs_behind canvas background w y x) before out used end → v ≡ background → HasPut format all (runs_behind canvas background w y (x + len)) before out used end
 row_skips format canvas background w y x v len all before out used end lx fresh is long h e =
     rw long (rw (found_background canvas background w y x lx fresh (sym is ∙ e)) at h)
+
+-- A run has a pixel, and ends in its row.
+pub run_fits : (canvas : Canvas) (w y x len : ℕ) → x < w → len ≡ (run_from canvas w y x).area.w → (0 < len) × (x + len ≤ w)
+run_fits canvas w y x len lx long =
+    let a = run_some canvas w y x lx in
+    let b = run_within canvas w y x lx in
+    (omega (arith, a, long), omega (arith, b, long))
 
 -- There is no room for the run at a fresh position.
 pub row_too_long : (format : PixelFormat) (canvas : Canvas) (background w y x v : ℕ) (all : List Subrect) (before out : List ℕ) (used end : ℕ) → x < w → IsFresh canvas y x → v ≡ canvas x y

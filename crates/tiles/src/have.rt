@@ -7,7 +7,7 @@ ghost use Rattle.tiles.specs.Have.{HaveStands, IsSameSize, sent_at};
 ghost use Rattle.tiles.specs.Touched.{Event, Requested, NewFormat, Answered};
 ghost use Rattle.pixel_format.specs.declared.fault.Fault.TheVariants.{Memory};
 
-use crate::place::{is_inside, is_met, rect_at};
+use crate::place::rect_at;
 use pixel_format::Fault;
 use raster::Rect;
 use std::alloc::Global;
@@ -86,7 +86,7 @@ impl Have {
         ensures stands { (es : List Event) → HaveStands self.old es → HaveStands self.new (Requested false area.now ∷ es) }
     {
         for t in 0..self.sent.len() {
-            if is_met(area, &rect_at(self.width, self.height, t as u64)) {
+            if area.meets(&rect_at(self.width, self.height, t as u64)) {
                 self.sent[t] = None;
             }
         }
@@ -99,7 +99,7 @@ impl Have {
         ensures stands { (es : List Event) → HaveStands self.old es → HaveStands self.new (Answered area.now number ∷ es) }
     {
         for t in 0..self.sent.len() {
-            if is_inside(&rect_at(self.width, self.height, t as u64), area) {
+            if rect_at(self.width, self.height, t as u64).lies_in(area) {
                 self.sent[t] = Some(number);
             }
         }

@@ -1,7 +1,7 @@
 //! Where tiles lie.
 
 ghost use Rattle.std.specs.Prelude.{◌≡◌, ℕ, ◌+◌, ◌<◌, ◌≤◌, ◌^◌};
-ghost use Rattle.raster.specs.Screen.{IsWithin, meets, lies_in, tile_rect};
+ghost use Rattle.raster.specs.Screen.{meets, tile_rect};
 ghost use Rattle.raster.specs.Size.{IsScreenSize};
 
 use raster::Rect;
@@ -23,20 +23,9 @@ pub fn rect_at(w: u64, h: u64, t: u64) -> Rect
     }
 }
 
-/// Whether two rectangles have a position in common.
+/// Whether two rectangles have a position in common: `Rect::meets`.
 pub fn is_met(r: &Rect, s: &Rect) -> bool
-    requires r { (r.now.x + r.now.w < 2 ^ 64) × (r.now.y + r.now.h < 2 ^ 64) }
-    requires s { (s.now.x + s.now.w < 2 ^ 64) × (s.now.y + s.now.h < 2 ^ 64) }
     ensures { result ≡ meets r.now s.now }
 {
-    r.x.max(s.x) < (r.x + r.w).min(s.x + s.w) && r.y.max(s.y) < (r.y + r.h).min(s.y + s.h)
-}
-
-/// Whether the first rectangle lies in the second.
-pub fn is_inside(r: &Rect, s: &Rect) -> bool
-    requires r { (r.now.x + r.now.w < 2 ^ 64) × (r.now.y + r.now.h < 2 ^ 64) }
-    requires s { (s.now.x + s.now.w < 2 ^ 64) × (s.now.y + s.now.h < 2 ^ 64) }
-    ensures { result ≡ lies_in r.now s.now }
-{
-    s.x <= r.x && r.x + r.w <= s.x + s.w && s.y <= r.y && r.y + r.h <= s.y + s.h
+    r.meets(s)
 }

@@ -4,7 +4,7 @@ use Rattle.raster.specs.Screen.{value_at}
 use Rattle.raster.specs.Encoding.{Subrect, runs_of_row, run_from}
 use Rattle.raster.proofs.Rows.{row_of, row_at}
 use Rattle.raster.proofs.RowScan.{run_in_row, fresh_behind, IsFresh}
-use Rattle.rre_codec.proofs.RunsPut.{row_puts, row_skips, row_too_long}
+use Rattle.rre_codec.proofs.RunsPut.{run_fits, row_puts, row_skips, row_too_long}
 use Rattle.rre_codec.proofs.writing.put_row.Goals as goal
 use Rattle.rre_codec.proofs.writing.put_row.Goals.{then-value-background+else-out-end, else-value-background}
 
@@ -41,3 +41,21 @@ loop-x-preserved c =
         put = rw (w.out-is, w.end-is) (row_skips c.args.format.now canvas c.args.background c.args.w c.args.y c.loop-x.x v c.run_len-len.result all c.args.out.now c.loop-x.out c.args.used c.loop-x.end c.loop-x-test.true fresh is len c.loop-x.invariant.put w.if-value-background.false);
       }
     ]
+
+pub put_run-requires-clause-len : goal.put_run-requires-clause-len
+put_run-requires-clause-len c =
+    let len = c.run_len-len.ensures ∙ run_in_row c.args.values.now c.args.w c.args.y c.loop-x.x c.requires.count c.loop-x-test.true in
+    let fits = run_fits (value_at c.args.w c.args.values.now) c.args.w c.args.y c.loop-x.x c.run_len-len.result c.loop-x-test.true len in
+    omega (arith, fits.1, c.requires.wide)
+
+pub overflow_add-x : goal.overflow_add-x
+overflow_add-x c =
+    let len = c.run_len-len.ensures ∙ run_in_row c.args.values.now c.args.w c.args.y c.loop-x.x c.requires.count c.loop-x-test.true in
+    let fits = run_fits (value_at c.args.w c.args.values.now) c.args.w c.args.y c.loop-x.x c.run_len-len.result c.loop-x-test.true len in
+    omega (arith, fits.1, c.requires.wide)
+
+pub loop-x-smaller : goal.loop-x-smaller
+loop-x-smaller c =
+    let len = c.run_len-len.ensures ∙ run_in_row c.args.values.now c.args.w c.args.y c.loop-x.x c.requires.count c.loop-x-test.true in
+    let fits = run_fits (value_at c.args.w c.args.values.now) c.args.w c.args.y c.loop-x.x c.run_len-len.result c.loop-x-test.true len in
+    omega (arith, fits.0, c.loop-x-test.true)

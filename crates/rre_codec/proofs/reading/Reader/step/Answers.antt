@@ -1,9 +1,42 @@
-use Rattle.std.proofs.Common.{◌≡◌, ℕ, ◌+◌, ◌-◌, ◌≤◌, ◌∙◌, ◌++◌, List, [], take, length, ap, sym, arith}
-use Rattle.std.proofs.lemmas.List.{length-take}
+use Rattle.std.proofs.Common.{◌≡◌, ℕ, ◌+◌, ◌-◌, ◌≤◌, ◌∙◌, ◌++◌, List, [], take, drop, length, ap, sym, arith}
+use Rattle.std.proofs.lemmas.List.{length-take, length-drop}
 use Rattle.std.proofs.lemmas.Slice.{take-put_mid}
 use Rattle.rre_codec.specs.Ahead.{needed, next_form}
 use Rattle.rre_codec.proofs.Going.{goes_on, all_taken, nothing_begun}
 use Rattle.rre_codec.proofs.reading.Reader.step.Goals as goal
+
+pub draw-self-inside-requires-clause-count : goal.draw-self-inside-requires-clause-count
+draw-self-inside-requires-clause-count g c = omega (arith, length-take c.needed-needed.result c.args.bytes.now, c.needed-needed.ensures.value, c.if-needed-bytes.true)
+
+pub draw-self-inside-requires-clause-width : goal.draw-self-inside-requires-clause-width
+draw-self-inside-requires-clause-width g c = c.requires.width ∙ ap (λ p. p.width) (sym c.self.view_is)
+
+pub draw-self-inside-requires-clause-height : goal.draw-self-inside-requires-clause-height
+draw-self-inside-requires-clause-height g c = c.requires.height ∙ ap (λ p. p.height) (sym c.self.view_is)
+
+pub returns-then-needed-bytes-clause-width : goal.returns-then-needed-bytes-clause-width
+returns-then-needed-bytes-clause-width g c = c.draw-self-inside.ensures.width ∙ ap (λ p. p.width) c.self.view_is
+
+pub returns-then-needed-bytes-clause-height : goal.returns-then-needed-bytes-clause-height
+returns-then-needed-bytes-clause-height g c = c.draw-self-inside.ensures.height ∙ ap (λ p. p.height) c.self.view_is
+
+pub copy_from_slice-requires : goal.copy_from_slice-requires
+copy_from_slice-requires g c =
+    let r = c.self.inside in
+    let count : ℕ = c.min-count.result in
+    omega (arith, length-take (r.filled + count - r.filled) (drop r.filled r.buffer), length-drop r.filled r.buffer, length-take count c.args.bytes.now, c.min-count.ensures, c.self.told, c.self.invariant, c.needed-needed.ensures.value, c.needed-needed.ensures.most)
+
+pub draw-next-requires-clause-width : goal.draw-next-requires-clause-width
+draw-next-requires-clause-width g c = c.requires.width ∙ ap (λ p. p.width) (sym c.self.view_is)
+
+pub draw-next-requires-clause-height : goal.draw-next-requires-clause-height
+draw-next-requires-clause-height g c = c.requires.height ∙ ap (λ p. p.height) (sym c.self.view_is)
+
+pub returns-then-self-needed-clause-width : goal.returns-then-self-needed-clause-width
+returns-then-self-needed-clause-width g c = c.draw-next.ensures.width ∙ ap (λ p. p.width) c.self.view_is
+
+pub returns-then-self-needed-clause-height : goal.returns-then-self-needed-clause-height
+returns-then-self-needed-clause-height g c = c.draw-next.ensures.height ∙ ap (λ p. p.height) c.self.view_is
 
 pub returns-then-self-needed-clause-drawn : goal.returns-then-self-needed-clause-drawn
 returns-then-self-needed-clause-drawn g c sofar stands =

@@ -1,6 +1,5 @@
-use Rattle.std.proofs.Common.{take, sym, ◌<◌, length, arith}
+use Rattle.std.proofs.Common.{take, sym, arith}
 use Rattle.std.proofs.lemmas.List.{length-take}
-use Rattle.rre_codec.specs.Ahead.{needed}
 use Rattle.rre_codec.proofs.Going.{whole_at, not_whole, whole_shows, never_whole}
 use Rattle.rre_codec.proofs.reading.Reader.whole.Goals as goal
 

@@ -5,23 +5,23 @@ use Rattle.tiles.specs.Touched.{Requested}
 use Rattle.tiles.proofs.Marks.{one_passes, one_stays}
 use Rattle.tiles.proofs.HaveLaws.{stands_marked}
 use Rattle.tiles.proofs.have.Have.forget.Goals as goal
-use Rattle.tiles.proofs.have.Have.forget.Goals.{then-is_met, else-is_met}
+use Rattle.tiles.proofs.have.Have.forget.Goals.{then-meets, else-meets}
 
 pub loop-t-preserved : goal.loop-t-preserved
 loop-t-preserved c =
-    let here : c.is_met.result ≡ meets c.args.area.now (tile_rect c.args.self.now.width c.args.self.now.height c.loop-t.t) =
-    c.is_met.ensures ∙ ap (λ r. meets c.args.area.now r) (c.rect_at.ensures ∙ (ap (λ v. tile_rect v c.loop-t.self-inside.height c.loop-t.t) c.loop-t.invariant.width ∙ ap (λ v. tile_rect c.args.self.now.width v c.loop-t.t) c.loop-t.invariant.height)) in
+    let here : c.meets.result ≡ meets c.args.area.now (tile_rect c.args.self.now.width c.args.self.now.height c.loop-t.t) =
+    c.meets.ensures ∙ ap (λ r. meets c.args.area.now r) (c.rect_at.ensures ∙ (ap (λ v. tile_rect v c.loop-t.self-inside.height c.loop-t.t) c.loop-t.invariant.width ∙ ap (λ v. tile_rect c.args.self.now.width v c.loop-t.t) c.loop-t.invariant.height)) in
     let same : length c.args.self.now.sent ≡ length c.self.inside.sent.items = ap (λ (v : SentTiles). length v.sent) (sym c.self.view_is) in
-    elim c.if-is_met.branch [
-      | then-is_met w ↦ rw w.self-inside-is (record {
+    elim c.if-meets.branch [
+      | then-meets w ↦ rw w.self-inside-is (record {
         width = c.loop-t.invariant.width;
         height = c.loop-t.invariant.height;
-        marked = one_passes (λ k. meets c.args.area.now (tile_rect c.args.self.now.width c.args.self.now.height k)) None c.loop-t.t c.args.self.now.sent c.loop-t.self-inside.sent.items (sym here ∙ w.if-is_met.true) (omega (arith, c.loop-t.invariant.marked.len)) c.loop-t.invariant.marked;
+        marked = one_passes (λ k. meets c.args.area.now (tile_rect c.args.self.now.width c.args.self.now.height k)) None c.loop-t.t c.args.self.now.sent c.loop-t.self-inside.sent.items (sym here ∙ w.if-meets.true) (omega (arith, c.loop-t.invariant.marked.len)) c.loop-t.invariant.marked;
       })
-      | else-is_met w ↦ rw w.self-inside-is (record {
+      | else-meets w ↦ rw w.self-inside-is (record {
         width = c.loop-t.invariant.width;
         height = c.loop-t.invariant.height;
-        marked = one_stays (λ k. meets c.args.area.now (tile_rect c.args.self.now.width c.args.self.now.height k)) None c.loop-t.t c.args.self.now.sent c.loop-t.self-inside.sent.items (sym here ∙ w.if-is_met.false) c.loop-t.invariant.marked;
+        marked = one_stays (λ k. meets c.args.area.now (tile_rect c.args.self.now.width c.args.self.now.height k)) None c.loop-t.t c.args.self.now.sent c.loop-t.self-inside.sent.items (sym here ∙ w.if-meets.false) c.loop-t.invariant.marked;
       })
     ]
 

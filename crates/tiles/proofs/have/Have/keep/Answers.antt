@@ -5,23 +5,23 @@ use Rattle.tiles.specs.Touched.{Answered}
 use Rattle.tiles.proofs.Marks.{one_passes, one_stays}
 use Rattle.tiles.proofs.HaveLaws.{stands_marked}
 use Rattle.tiles.proofs.have.Have.keep.Goals as goal
-use Rattle.tiles.proofs.have.Have.keep.Goals.{then-is_inside, else-is_inside}
+use Rattle.tiles.proofs.have.Have.keep.Goals.{then-lies_in, else-lies_in}
 
 pub loop-t-preserved : goal.loop-t-preserved
 loop-t-preserved c =
-    let here : c.is_inside.result ≡ lies_in (tile_rect c.args.self.now.width c.args.self.now.height c.loop-t.t) c.args.area.now =
-    c.is_inside.ensures ∙ ap (λ r. lies_in r c.args.area.now) (c.rect_at.ensures ∙ (ap (λ v. tile_rect v c.loop-t.self-inside.height c.loop-t.t) c.loop-t.invariant.width ∙ ap (λ v. tile_rect c.args.self.now.width v c.loop-t.t) c.loop-t.invariant.height)) in
+    let here : c.lies_in.result ≡ lies_in (tile_rect c.args.self.now.width c.args.self.now.height c.loop-t.t) c.args.area.now =
+    c.lies_in.ensures ∙ ap (λ r. lies_in r c.args.area.now) (c.rect_at.ensures ∙ (ap (λ v. tile_rect v c.loop-t.self-inside.height c.loop-t.t) c.loop-t.invariant.width ∙ ap (λ v. tile_rect c.args.self.now.width v c.loop-t.t) c.loop-t.invariant.height)) in
     let same : length c.args.self.now.sent ≡ length c.self.inside.sent.items = ap (λ (v : SentTiles). length v.sent) (sym c.self.view_is) in
-    elim c.if-is_inside.branch [
-      | then-is_inside w ↦ rw w.self-inside-is (record {
+    elim c.if-lies_in.branch [
+      | then-lies_in w ↦ rw w.self-inside-is (record {
         width = c.loop-t.invariant.width;
         height = c.loop-t.invariant.height;
-        marked = one_passes (λ k. lies_in (tile_rect c.args.self.now.width c.args.self.now.height k) c.args.area.now) (Some c.args.number) c.loop-t.t c.args.self.now.sent c.loop-t.self-inside.sent.items (sym here ∙ w.if-is_inside.true) (omega (arith, c.loop-t.invariant.marked.len)) c.loop-t.invariant.marked;
+        marked = one_passes (λ k. lies_in (tile_rect c.args.self.now.width c.args.self.now.height k) c.args.area.now) (Some c.args.number) c.loop-t.t c.args.self.now.sent c.loop-t.self-inside.sent.items (sym here ∙ w.if-lies_in.true) (omega (arith, c.loop-t.invariant.marked.len)) c.loop-t.invariant.marked;
       })
-      | else-is_inside w ↦ rw w.self-inside-is (record {
+      | else-lies_in w ↦ rw w.self-inside-is (record {
         width = c.loop-t.invariant.width;
         height = c.loop-t.invariant.height;
-        marked = one_stays (λ k. lies_in (tile_rect c.args.self.now.width c.args.self.now.height k) c.args.area.now) (Some c.args.number) c.loop-t.t c.args.self.now.sent c.loop-t.self-inside.sent.items (sym here ∙ w.if-is_inside.false) c.loop-t.invariant.marked;
+        marked = one_stays (λ k. lies_in (tile_rect c.args.self.now.width c.args.self.now.height k) c.args.area.now) (Some c.args.number) c.loop-t.t c.args.self.now.sent c.loop-t.self-inside.sent.items (sym here ∙ w.if-lies_in.false) c.loop-t.invariant.marked;
       })
     ]
 

@@ -1,0 +1,47 @@
+//! Plays scripts, and counts those that do as they are told.
+//!
+//! `scripts` has whole scripts, `bad_lines` lines that no script may have, and `first_lines` lines that none may begin with.
+#![tactic(auto)]
+
+mod case;
+
+use case::{Case, FIRST, LATER, Place};
+use std::fs;
+use std::test::Fail;
+
+fn main(rt: HostRuntime) -> Result<(), Fail> {
+    let scripts = fs::read_to_string(&rt, "scripts")?;
+    play_scripts(&rt, scripts.as_str())?;
+    refuse_lines(&rt, "bad_lines", &LATER)?;
+    refuse_lines(&rt, "first_lines", &FIRST)
+}
+
+/// Plays the scripts of a text, names those that do otherwise than told, and says how many there are.
+fn play_scripts(rt: &HostRuntime, text: &str) -> Result<(), Fail> {
+    let mut count: u64 = 0;
+    for case in text.split("= ").skip(1) {
+        let Some(case) = Case::read(case) else {
+            return Err(Fail::new("no case"));
+        };
+        count = count.saturating_add(1);
+        if !case.holds(rt.alloc()) {
+            println!(rt; "otherwise: {}", case.name)?;
+        }
+    }
+    println!(rt; "scripts: {count} played")?;
+    Ok(())
+}
+
+/// Plays a script for each line of a file, names those lines that aren't refused, and says how many there are.
+fn refuse_lines(rt: &HostRuntime, file: &str, place: &Place) -> Result<(), Fail> {
+    let text = fs::read_to_string(rt, file)?;
+    let mut count: u64 = 0;
+    for row in text.lines() {
+        count = count.saturating_add(1);
+        if !place.refuses(rt.alloc(), row)? {
+            println!(rt; "not refused: {row}")?;
+        }
+    }
+    println!(rt; "{file}: {count} refused")?;
+    Ok(())
+}
