@@ -4,7 +4,10 @@ use Rattle.std.proofs.lemmas.List.{append-nil, length-take, drop_all, take_all, 
 use Rattle.std.proofs.lemmas.List.Elements.{filter_map-append}
 use Rattle.std.proofs.lemmas.Bool.{cases_lt}
 use Rattle.std.proofs.Math.Seq.{take-add}
-use Rattle.std.specs.Prelude.{min, option_map}
+use Rattle.std.specs.Prelude.{min, option_map, Option, Result, OnOk, IfErr}
+use Rattle.link.specs.Links.{TakesAs, TookCounts, TookEnds}
+use Rattle.link.specs.declared.link.Took.{Took}
+use Rattle.link.specs.declared.link.Took.TheVariants as took
 use Rattle.std.specs.List.{filter_map}
 use Rattle.pixel_format.specs.Reading.{Reading, Done, Faulty, Want, after, taken, whole_of, fault_of, wants_more, renewed, messages, rest, messages_from, rest_from}
 use Rattle.pixel_format.specs.declared.fault.Fault.{Fault}
@@ -19,7 +22,7 @@ use Rattle.host_decoder.specs.Updates.{update_of, updates}
 use Rattle.host_decoder.specs.declared.event.HostEvent.{HostEvent}
 use Rattle.reflect_core.specs.Plain.{IsPutRefusal}
 use Rattle.reflect_core.specs.Sequential.{Begins}
-use Rattle.host_reader.specs.Running.{AtFault, CanRead, EndsAt, EndsBetween, EndsWith, IsEventFor, IsInside, HasRead, Stops}
+use Rattle.host_reader.specs.Running.{AtFault, CanRead, EndsAt, EndsBetween, EndsWith, IsEventFor, IsInside, HasRead, Stops, outcome}
 
 -- ---- one message
 
@@ -345,3 +348,55 @@ pub running_ends_inside : (w h : ℕ) (decoder : Decoding) (painter : Painting) 
 running_ends_inside w h decoder painter is_between taken_old taken_now taken_next old now failed_old failed_new ended_old ended_now ended_new inside running took same next =
     let rises = rises_by (2 ^ 62) ended_old ended_now ended_new same next (cases_lt ended_old (2 ^ 62)) in
     record { stream = running.stream; taken = took ∙ running.taken; stops = inl (running.read.put, (rises, subst (λ b. EndsAt b w h running.stream) inside running.read.ends)) }
+
+-- ---- one answer of the link
+
+-- What ends nothing and brings no bytes changes nothing.
+pub waits_on : (answer : Took) (is_between : Bool) (ends : Option (Result (Unit {0}) Fault)) (taken_old taken_new into : List ℕ) (failed_old failed_new ended_old ended_new : ℕ)
+    → ends ≡ outcome answer is_between → ends ≡ None → ((count : ℕ) → answer ≡ took.Bytes count → ⊥)
+    → TakesAs answer taken_old taken_new into → TookCounts answer failed_old failed_new → TookEnds answer ended_old ended_new
+    → (taken_new ≡ taken_old) × (failed_new ≡ failed_old) × (ended_new ≡ ended_old)
+waits_on (took.Bytes count) is_between ends taken_old taken_new into failed_old failed_new ended_old ended_new is none never takes counts rises = absurd (never count refl)
+waits_on took.Nothing is_between ends taken_old taken_new into failed_old failed_new ended_old ended_new is none never takes counts rises = (takes, counts, rises)
+waits_on took.End true ends taken_old taken_new into failed_old failed_new ended_old ended_new is none never takes counts rises = absurd cc
+waits_on took.End false ends taken_old taken_new into failed_old failed_new ended_old ended_new is none never takes counts rises = absurd cc
+waits_on took.Failed is_between ends taken_old taken_new into failed_old failed_new ended_old ended_new is none never takes counts rises = absurd cc
+
+-- What the run then answers, and what was put.
+pub record EndsSo (w h : ℕ) (taken_old taken_new : List ℕ) (old new : List Update) (failed_old failed_new ended_old ended_new : ℕ) (answer : Result (Unit {0}) Fault) : Type 0 where
+  pub ok : OnOk answer (EndsBetween w h taken_old taken_new ended_old ended_new old new)
+  pub failed : OnOk answer (failed_new ≡ failed_old)
+  pub err : IfErr answer (λ fault. EndsWith w h fault taken_old taken_new failed_old failed_new ended_old ended_new old new)
+
+-- The link's answer ends the run.
+pub run_ends : (w h : ℕ) (decoder : Decoding) (painter : Painting) (said : Took) (is_between : Bool) (ends : Option (Result (Unit {0}) Fault)) (answer : Result (Unit {0}) Fault)
+    (taken_old taken_now taken_next into : List ℕ) (old now : List Update) (failed_old failed_now failed_new ended_old ended_now ended_new : ℕ)
+    → ends ≡ outcome said is_between → ends ≡ Some answer → IsRunning w h decoder painter is_between taken_old taken_now old now → failed_now ≡ failed_old → ended_now ≡ ended_old
+    → TakesAs said taken_now taken_next into → TookCounts said failed_now failed_new → TookEnds said ended_now ended_new
+    → EndsSo w h taken_old taken_next old now failed_old failed_new ended_old ended_new answer
+run_ends w h decoder painter (took.Bytes count) is_between ends answer taken_old taken_now taken_next into old now failed_old failed_now failed_new ended_old ended_now ended_new is ended running f e takes counts rises = absurd cc
+run_ends w h decoder painter took.Nothing is_between ends answer taken_old taken_now taken_next into old now failed_old failed_now failed_new ended_old ended_now ended_new is ended running f e takes counts rises = absurd cc
+run_ends w h decoder painter took.End true ends answer taken_old taken_now taken_next into old now failed_old failed_now failed_new ended_old ended_now ended_new is ended running f e takes counts rises =
+    let same : Ok tt ≡ answer = cc in
+    subst (EndsSo w h taken_old taken_next old now failed_old failed_new ended_old ended_new) same
+    (record {
+      ok = running_ends w h decoder painter true taken_old taken_now taken_next old now ended_old ended_now ended_new refl running takes e rises;
+      failed = counts ∙ f;
+      err = tt;
+    })
+run_ends w h decoder painter took.End false ends answer taken_old taken_now taken_next into old now failed_old failed_now failed_new ended_old ended_now ended_new is ended running f e takes counts rises =
+    let same : Err LinkEnded ≡ answer = cc in
+    subst (EndsSo w h taken_old taken_next old now failed_old failed_new ended_old ended_new) same
+    (record {
+      ok = tt;
+      failed = tt;
+      err = running_ends_inside w h decoder painter false taken_old taken_now taken_next old now failed_old failed_new ended_old ended_now ended_new refl running takes e rises;
+    })
+run_ends w h decoder painter took.Failed is_between ends answer taken_old taken_now taken_next into old now failed_old failed_now failed_new ended_old ended_now ended_new is ended running f e takes counts rises =
+    let same : Err LinkFailed ≡ answer = cc in
+    subst (EndsSo w h taken_old taken_next old now failed_old failed_new ended_old ended_new) same
+    (record {
+      ok = tt;
+      failed = tt;
+      err = running_fails w h decoder painter is_between taken_old taken_now taken_next old now failed_old failed_now failed_new ended_old ended_new running takes f counts;
+    })

@@ -1,11 +1,13 @@
 -- Reading a host's bytes from a link, and putting their updates (RFC 6143, 7.6).
-use Rattle.std.specs.Prelude.{◌≡◌, ℕ, ◌^◌, ◌<◌, ◌⊎◌, Bool, true, false, List, ◌++◌, length}
+use Rattle.std.specs.Prelude.{◌≡◌, ℕ, ◌^◌, ◌<◌, ◌⊎◌, Bool, true, false, Option, Some, None, Result, Ok, Err, List, ◌++◌, length}
 use Rattle.pixel_format.specs.Reading.{Reading, Faulty, after, rest, wants_more}
 use Rattle.pixel_format.specs.declared.fault.Fault.{Fault}
 use Rattle.pixel_format.specs.declared.fault.Fault.TheVariants.{LinkEnded, LinkFailed, Memory, NumbersOut}
 use Rattle.raster.specs.Update.{Update}
 use Rattle.painter.specs.Painter.{Painting}
 use Rattle.link.specs.Links.{HasRisen}
+use Rattle.link.specs.declared.link.Took.{Took}
+use Rattle.link.specs.declared.link.Took.TheVariants as took
 use Rattle.rfb_wire.specs.ServerMessage.{ServerMessage}
 use Rattle.host_decoder.specs.declared.event.HostEvent.{HostEvent}
 use Rattle.host_decoder.specs.declared.event.HostEvent.TheVariants as event
@@ -76,6 +78,14 @@ pub record EndsWith (w h : ℕ) (fault : Fault) (taken_old taken_new : List ℕ)
   pub stream : List ℕ
   pub taken : taken_new ≡ taken_old ++ stream
   pub stops : (ArePut w h stream old new × LinkStops w h fault stream failed_old failed_new ended_old ended_new) ⊎ Stops w h fault stream old new
+
+-- What is answered where an answer of the link ends the run: the host's bytes so far end between two messages, or inside one.
+abbrev pub outcome : Took → Bool → Option (Result (Unit {0}) Fault)
+outcome (took.Bytes count) is_between = None
+outcome took.Nothing is_between = None
+outcome took.End true = Some (Ok tt)
+outcome took.End false = Some (Err LinkEnded)
+outcome took.Failed is_between = Some (Err LinkFailed)
 
 -- ---- on the way
 

@@ -2,7 +2,7 @@
 
 ghost use Rattle.std.specs.Prelude.{◌≡◌, ℕ, ◌++◌, IfErr, OnOk};
 ghost use Rattle.host_decoder.specs.Decoder.{Decodes, IsFor, host_message};
-ghost use Rattle.host_reader.specs.Running.{EndsBetween, EndsWith};
+ghost use Rattle.host_reader.specs.Running.{EndsBetween, EndsWith, outcome};
 
 use crate::events::put_piece;
 use host_decoder::HostDecoder;
@@ -15,6 +15,19 @@ use std::sync::Wait;
 
 /// How many bytes are taken from the link at a time, at most.
 const PIECE: usize = 65536;
+
+// What the run answers where the link's answer ends it.
+fn outcome(took: Took, is_between: bool) -> Option<Result<(), Fault>>
+    ensures { result ≡ outcome took is_between }
+{
+    match took {
+        Took::Bytes(_) => None,
+        Took::Nothing => None,
+        Took::End if is_between => Some(Ok(())),
+        Took::End => Some(Err(Fault::LinkEnded)),
+        Took::Failed => Some(Err(Fault::LinkFailed)),
+    }
+}
 
 /// Takes the host's bytes from a link that has done its handshake, and puts the update of each whole message, in order,
 /// until the link ends. It is `Ok` where that is between two messages. The room for the bytes is taken once, at the start.
@@ -48,15 +61,13 @@ pub fn run_host<L: Link, P: Puts, R: Wait>(
     };
     let mut is_between = true;
     for _ in rt.forever() {
-        match link.take(buffer.as_mut_slice()) {
-            Took::Bytes(count) => {
-                let (piece, _) = buffer.as_slice().split_at(count);
-                is_between = put_piece(decoder, painter, publisher, piece, is_between)?;
-            }
-            Took::Nothing => {}
-            Took::End if is_between => return Ok(()),
-            Took::End => return Err(Fault::LinkEnded),
-            Took::Failed => return Err(Fault::LinkFailed),
+        let took = link.take(buffer.as_mut_slice());
+        if let Some(answer) = outcome(took, is_between) {
+            return answer;
+        }
+        if let Took::Bytes(count) = took {
+            let (piece, _) = buffer.as_slice().split_at(count);
+            is_between = put_piece(decoder, painter, publisher, piece, is_between)?;
         }
     }
     unreachable!()

@@ -8,6 +8,7 @@ use Rattle.raster.specs.Screen.{Canvas, LooksLike, opening, value_at}
 use Rattle.raster.specs.Update.{Paint, Update, Paints, Bell, Cut, NumberedText, after_paints, bells, last_text, last_text_from, paints_of, screen}
 use Rattle.tiles.proofs.Due.{after_updates-more}
 use Rattle.painter.specs.Board.{BoardStands, Posted}
+pub use Rattle.painter.specs.Kept.{newer}
 use Rattle.painter.specs.Patch.{SizedUpdate, is_bell, text_of}
 use Rattle.painter.proofs.PatchLaws.{shows_over}
 
@@ -19,11 +20,6 @@ bells-push [] (Cut text) = refl
 bells-push (Paints ps ∷ us) u = bells-push us u
 bells-push (Bell ∷ us) u = ap (λ n. 1 + n) (bells-push us u) ∙ sym (add_assoc 1 (bells us) (if is_bell u then 1 else 0))
 bells-push (Cut text ∷ us) u = bells-push us u
-
--- The text of an update that has this number, or the one before it.
-abbrev pub newer : Option NumberedText → ℕ → Option (List ℕ) → Option NumberedText
-newer last number None = last
-newer last number (Some text) = Some (record { text = text; number = number })
 
 newer_here : (last : Option NumberedText) (n : ℕ) (u : Update) → last_text_from last n (u ∷ []) ≡ newer last (n + 0) (text_of u)
 newer_here last n (Paints ps) = refl

@@ -110,8 +110,6 @@ impl Board {
             patch.painted(),
         );
         self.bells += u64::from(patch.is_bell());
-        if let Some(bytes) = patch.text_bytes() {
-            self.text.set(bytes, self.number);
-        }
+        self.text.follow(patch.text_bytes(), self.number);
     }
 }

@@ -1,8 +1,9 @@
 //! The last text of the host's cut buffer.
 
-ghost use Rattle.std.specs.Prelude.{◌≡◌, ℕ, ◌≤◌, length, IfOk, IfErr, Some, None};
+ghost use Rattle.std.specs.Prelude.{◌≡◌, ℕ, ◌≤◌, length, IfOk, IfErr, IfSome, Some, None};
 ghost use Rattle.pixel_format.specs.declared.fault.Fault.TheVariants.{Memory};
-ghost use Rattle.painter.specs.Kept.{number_of, bytes_of};
+ghost use Rattle.painter.specs.Kept.{number_of, bytes_of, newer};
+ghost use Rattle.std.specs.Option.{option_copied};
 
 use pixel_format::Fault;
 use std::alloc::Global;
@@ -75,5 +76,15 @@ impl Text {
         self.bytes.clear();
         let _ = self.bytes.extend_from_slice(bytes);
         self.number = Some(number);
+    }
+
+    /// The update of this number brings these bytes, or no text: then the last one stays.
+    pub fn follow(&mut self, bytes: Option<&[u8]>, number: u64)
+        requires { IfSome bytes (λ text. length text.now ≤ 65536) }
+        ensures { self.new ≡ newer self.old number (option_copied bytes.entry) }
+    {
+        if let Some(bytes) = bytes {
+            self.set(bytes, number);
+        }
     }
 }

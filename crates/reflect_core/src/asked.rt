@@ -2,7 +2,7 @@
 
 ghost use Rattle.std.specs.Prelude.{◌≡◌, ℕ, ◌+◌, ◌<◌, ◌≤◌, [], ◌∷◌, List, Bool, false, Some, None};
 ghost use Rattle.raster.specs.declared.rect.Rect.{Rect};
-ghost use Rattle.raster.specs.Screen.{IsWithin, is_empty, cover};
+ghost use Rattle.raster.specs.Screen.{IsWithin, is_empty};
 ghost use Rattle.raster.specs.Size.{IsScreenSize};
 ghost use Rattle.reflect_core.specs.Asked.{AskedStands, IsSameScreen, LiesOn};
 ghost use Rattle.tiles.specs.Touched.{Event, Requested, NewFormat, WasCut, Answered};
@@ -31,24 +31,6 @@ impl Model for Asked {
     ghost invariant = { λ a. IsScreenSize a.width a.height × LiesOn a.width a.height a.area };
 }
 
-/// The least rectangle that holds two that aren't empty.
-fn joined(r: &Rect, s: &Rect, w: u64, h: u64) -> Rect
-    requires size { IsScreenSize w h }
-    requires r { IsWithin r.now w h }
-    requires s { IsWithin s.now w h }
-    ensures value { result ≡ cover r.now s.now }
-    ensures within { IsWithin result w h }
-{
-    let x = r.x.min(s.x);
-    let y = r.y.min(s.y);
-    Rect {
-        x,
-        y,
-        w: (r.x + r.w).max(s.x + s.w) - x,
-        h: (r.y + r.h).max(s.y + s.h) - y,
-    }
-}
-
 impl Asked {
     /// Nothing was asked for of a screen of `width` by `height` pixels.
     pub fn new(width: u64, height: u64) -> Self
@@ -71,12 +53,12 @@ impl Asked {
         ensures size { IsSameScreen self.old self.new }
         ensures stands { (incremental : Bool) (es : List Event) → AskedStands self.old es → AskedStands self.new (Requested incremental clipped.now ∷ es) }
     {
-        if clipped.w == 0 || clipped.h == 0 {
+        if clipped.is_empty() {
             return;
         }
         let area = match self.area {
             None => *clipped,
-            Some(before) => joined(clipped, &before, self.width, self.height),
+            Some(before) => clipped.cover(&before),
         };
         self.area = Some(area);
         self.asked = true;

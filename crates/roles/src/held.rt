@@ -53,7 +53,7 @@ fn place_of(keys: &[u32], key: u32) -> usize
 fn is_among(keys: &[u32], key: u32) -> bool
     ensures { result ≡ is_down key keys.now }
 {
-    keys.iter().any(|held| *held == key)
+    keys.contains(&key)
 }
 
 impl Held {

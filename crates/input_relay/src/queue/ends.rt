@@ -1,12 +1,15 @@
 //! What the ends of the relay do.
 
-ghost use Rattle.std.specs.Prelude.{◌≡◌, ◌<◌, ◌≤◌, [], ◌∷◌, ◌++◌, map, length, vec_len, List, IfOk, OnOk, IfErr, IfSome, IfNone, All};
+ghost use Rattle.std.specs.Prelude.{◌≡◌, ◌+◌, ◌<◌, ◌≤◌, [], ◌∷◌, ◌++◌, map, length, vec_len, List, IfOk, OnOk, IfErr, IfSome, IfNone, All};
 ghost use Rattle.pixel_format.specs.declared.fault.Fault.TheVariants.{Memory};
-ghost use Rattle.input_relay.specs.Relay.{message, Accounted};
+ghost use Rattle.std.specs.Arc.{arc_value};
+ghost use Rattle.crossbeam_queue.specs.Passes.{view, IsPassOf};
+ghost use Rattle.input_relay.specs.Relay.{message, strand, taker, Accounted};
 ghost use Rattle.input_relay.specs.declared.queue.Message.{Message};
 ghost use Rattle.input_relay.specs.Ends.{place_of, sent_of, relay_of, taken_of, host_of, IsRefusal, strand_of, fresh, taken_at_end, known_at_end, relay_at_end};
 
-use super::{Back, Line, MOST, Message, ROOM, Seats, Sender, Sent, Settled, Taken, Taker};
+use super::{Back, Line, MOST, Message, ROOM, Seats, Sender, Sent, Settled, Taken, Taker, View};
+use crossbeam_queue::Pass;
 use pixel_format::Fault;
 use roles::Input;
 use std::alloc::{AllocError, Global};
@@ -103,6 +106,33 @@ pub fn relay<R: Wait + Drop + Clone>(
     ends(rt, alloc, places).map_err(|_| Fault::Memory)
 }
 
+// The sender of the next place, made of the taker's pass.
+fn seat<R: Wait + Drop + Clone>(
+    line: &Arc<Line, Global>,
+    pass: &mut Pass<Message, View>,
+    rt: &R,
+    place: u64,
+) -> Result<Sender<R>, AllocError>
+    requires seated { IsPassOf (arc_value line.now) pass.old }
+    requires knows { view pass.old ≡ taker place [] [] }
+    ensures seated { IsPassOf (arc_value line.now) pass.new }
+    ensures same { pass.new.table_id ≡ pass.old.table_id }
+    ensures made { IfOk result (λ sender. strand_of sender ≡ strand place []) }
+    ensures own { IfOk result (λ sender. relay_of sender ≡ pass.old.table_id) }
+    ensures knows { OnOk result (view pass.new ≡ taker (place + 1) [] []) }
+{
+    let line_too = Arc::try_clone(line)?;
+    let rt = rt.clone()?;
+    let own = line.another::<Seats>(pass);
+    Ok(Sender {
+        line: line_too,
+        pass: own,
+        place,
+        count: 0,
+        rt,
+    })
+}
+
 fn ends<R: Wait + Drop + Clone>(
     rt: R,
     alloc: Global,
@@ -118,14 +148,7 @@ fn ends<R: Wait + Drop + Clone>(
     let line = Arc::new(alloc, line)?;
     let mut senders = Vec::with_capacity(alloc, places as usize)?;
     for place in 0..places {
-        let own = line.another::<Seats>(&mut pass);
-        let sender = Sender {
-            line: Arc::try_clone(&line)?,
-            pass: own,
-            place,
-            count: 0,
-            rt: rt.clone()?,
-        };
+        let sender = seat(&line, &mut pass, &rt, place)?;
         senders.push_reserved(sender);
     }
     Ok((senders, Taker { line, pass, rt }))
