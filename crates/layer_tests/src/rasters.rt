@@ -1,6 +1,7 @@
 //! Rectangles, and rasters that are painted and copied.
 
 ghost use Rattle.std.specs.Prelude.{◌≡◌, ◌<◌};
+ghost use Rattle.raster.specs.Painted.{Fits, paint_of};
 
 use raster::{Canvas, Paint, Raster, Rect, paint_one};
 use std::alloc::Global;
@@ -22,20 +23,26 @@ fn rectangles(rt: HostRuntime) {
     assert!(rt; area.within(8, 2) && !area.within(7, 2) && !area.is_empty());
 }
 
-// Puts red, green and blue on a row of three.
-fn put_three(alloc: Global, values: &mut [u32; 3]) -> Result<(), Fail> {
-    let colours = [0xFF0000, 0x00FF00, 0x0000FF].to_vec(alloc)?;
-    paint_one(alloc, values, 3, 1, &Paint::Put(rect(0, 0, 3, 1), colours))?;
-    Ok(())
+// Paints on a row of three values. It fails where memory is refused, which it never is.
+fn paints_row(alloc: Global, values: &mut [u32; 3], paint: Paint) -> bool
+    requires { Fits 3 1 (paint_of paint) }
+{
+    paint_one(alloc, values, 3, 1, &paint).is_ok()
 }
 
-// Then the first two are copied one to the right.
+// Red, green and blue, and then the first two copied one to the right.
 #[test]
 fn copies_what_stood_there(rt: HostRuntime) -> Result<(), Fail> {
     let mut values = [0; 3];
-    put_three(rt.alloc(), &mut values)?;
-    let right = Paint::Copy(rect(1, 0, 2, 1), 0, 0);
-    paint_one(rt.alloc(), &mut values, 3, 1, &right)?;
+    let colours = [0xFF0000, 0x00FF00, 0x0000FF].to_vec(rt.alloc())?;
+    assert!(rt;
+        paints_row(
+            rt.alloc(),
+            &mut values,
+            Paint::Put(rect(0, 0, 3, 1), colours)
+        )
+    );
+    assert!(rt; paints_row(rt.alloc(), &mut values, Paint::Copy(rect(1, 0, 2, 1), 0, 0)));
     assert!(rt; values == [0xFF0000, 0xFF0000, 0x00FF00]);
     Ok(())
 }
@@ -85,21 +92,65 @@ fn shows(raster: &Raster, rows: &[[u32; 4]; 3]) -> bool
     true
 }
 
-// To the lower right, to the upper left, and along a row both ways.
+// An area to copy to, the top left of its source, and the rows behind it.
+#[derive(Clone, Copy)]
+struct Copied {
+    area: Rect,
+    x: u64,
+    y: u64,
+    rows: [[u32; 4]; 3],
+}
+
+// To the lower right, to the upper left, and along the last row both ways.
+fn overlapping() -> [Copied; 4] {
+    [
+        Copied {
+            area: rect(1, 1, 3, 2),
+            x: 0,
+            y: 0,
+            rows: [[1, 2, 3, 4], [5, 1, 2, 3], [9, 5, 6, 7]],
+        },
+        Copied {
+            area: rect(0, 0, 3, 2),
+            x: 1,
+            y: 1,
+            rows: [[1, 2, 3, 4], [5, 6, 7, 3], [9, 5, 6, 7]],
+        },
+        Copied {
+            area: rect(1, 2, 3, 1),
+            x: 0,
+            y: 2,
+            rows: [[1, 2, 3, 4], [5, 6, 7, 3], [9, 9, 5, 6]],
+        },
+        Copied {
+            area: rect(0, 2, 3, 1),
+            x: 1,
+            y: 2,
+            rows: [[1, 2, 3, 4], [5, 6, 7, 3], [9, 5, 6, 6]],
+        },
+    ]
+}
+
+// The first of these copies behind which a raster of 4 by 3 doesn't show the rows.
+fn first_wrong(raster: &mut Raster, copies: &[Copied; 4]) -> Option<usize>
+    requires { raster.old.height ≡ 3 }
+{
+    for (i, copied) in copies.iter().enumerate() {
+        copy(raster, copied.area, copied.x, copied.y);
+        if !shows(raster, &copied.rows) {
+            return Some(i);
+        }
+    }
+    None
+}
+
 #[test]
 fn copies_where_the_two_overlap(rt: HostRuntime) -> Result<(), Fail> {
     let mut raster = Raster::new(rt.alloc(), 4, 3)?;
     draw_row(&mut raster, 0, &[1, 2, 3, 4]);
     draw_row(&mut raster, 1, &[5, 6, 7, 8]);
     draw_last_row(&mut raster);
-    copy(&mut raster, rect(1, 1, 3, 2), 0, 0);
-    assert!(rt; shows(&raster, &[[1, 2, 3, 4], [5, 1, 2, 3], [9, 5, 6, 7]]));
-    copy(&mut raster, rect(0, 0, 3, 2), 1, 1);
-    assert!(rt; shows(&raster, &[[1, 2, 3, 4], [5, 6, 7, 3], [9, 5, 6, 7]]));
-    copy(&mut raster, rect(1, 2, 3, 1), 0, 2);
-    assert!(rt; shows(&raster, &[[1, 2, 3, 4], [5, 6, 7, 3], [9, 9, 5, 6]]));
-    copy(&mut raster, rect(0, 2, 3, 1), 1, 2);
-    assert!(rt; shows(&raster, &[[1, 2, 3, 4], [5, 6, 7, 3], [9, 5, 6, 6]]));
+    assert_eq!(rt; first_wrong(&mut raster, &overlapping()), None);
     Ok(())
 }
 

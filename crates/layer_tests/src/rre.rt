@@ -1,5 +1,7 @@
 //! RRE, read and written: bytes worked by hand.
 
+ghost use Rattle.std.specs.Prelude.{◌≡◌};
+
 use pixel_format::{Fault, Format};
 use raster::Raster;
 use rre_codec::{Reader, encode};
@@ -15,6 +17,24 @@ const DATA: [u8; 20] = [
     0, 0, 0, 1, 0, 0, 0xFF, 0, 0xFF, 0, 0, 0, 0, 1, 0, 0, 0, 2, 0, 1,
 ];
 
+// Whether a reader that isn't whole uses all of a piece.
+fn uses(reader: &mut Reader, raster: &mut Raster, piece: &[u8]) -> bool
+    requires across { reader.old.width ≡ raster.old.width }
+    requires down { reader.old.height ≡ raster.old.height }
+    ensures across { reader.new.width ≡ reader.old.width }
+    ensures down { reader.new.height ≡ reader.old.height }
+    ensures wide { raster.new.width ≡ raster.old.width }
+    ensures high { raster.new.height ≡ raster.old.height }
+{
+    if reader.whole() {
+        return false;
+    }
+    match reader.feed(raster, piece) {
+        Ok(used) => used == piece.len(),
+        Err(_) => false,
+    }
+}
+
 // Whether the data, fed in pieces of so many bytes, are whole behind the last of them alone, each piece was used, and they show red
 // and blue.
 fn is_read(alloc: Global, size: usize) -> Result<bool, Fail> {
@@ -22,9 +42,7 @@ fn is_read(alloc: Global, size: usize) -> Result<bool, Fail> {
     let mut reader = Reader::new(3, 1, Format::HOST);
     let mut each_used = true;
     for piece in DATA.chunks(size.max(1)) {
-        let begun = !reader.whole();
-        let used = reader.feed(&mut raster, piece)?;
-        each_used = each_used && begun && used == piece.len();
+        each_used = uses(&mut reader, &mut raster, piece) && each_used;
     }
     Ok(each_used && reader.whole() && raster.row(0) == [RED, BLUE, BLUE].as_slice())
 }
@@ -40,9 +58,9 @@ fn red_blue_blue(rt: HostRuntime) -> Result<(), Fail> {
 fn fails_at_last(alloc: Global, data: &[u8; 20]) -> Result<bool, Fail> {
     let mut raster = Raster::new(alloc, 3, 1)?;
     let mut reader = Reader::new(3, 1, Format::HOST);
-    let used = reader.feed(&mut raster, &data[..19])?;
+    let used = uses(&mut reader, &mut raster, &data[..19]);
     let refused = reader.feed(&mut raster, &data[19..]);
-    Ok(used == 19 && matches!(refused, Err(Fault::SubrectOutside)) && !reader.whole())
+    Ok(used && matches!(refused, Err(Fault::SubrectOutside)) && !reader.whole())
 }
 
 // The width of the subrectangle is one too many, which its last byte shows.
