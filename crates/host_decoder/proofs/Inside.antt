@@ -1,5 +1,5 @@
 -- A piece that ends inside the data of a rectangle.
-use Rattle.std.proofs.Common.{◌≡◌, ℕ, Bool, true, false, List, [], length, None, refl, sym, ap, subst, ◌∙◌}
+use Rattle.std.proofs.Common.{◌≡◌, ℕ, Bool, true, false, List, length, None, refl, sym, ap, subst, ◌∙◌}
 use Rattle.std.specs.Prelude.{IsTrue, IsFalse}
 use Rattle.pixel_format.specs.Reading.{Reading, ◌>>=◌, after, taken, wants_more, fault_of}
 use Rattle.pixel_format.proofs.InOrder.{then_wants}
