@@ -1,12 +1,13 @@
 -- A piece that ends inside the data of a rectangle.
-use Rattle.std.proofs.Common.{◌≡◌, ℕ, true, List, [], length, None, refl, sym, ap, ◌∙◌}
-use Rattle.pixel_format.specs.Reading.{Reading, Faulty, ◌>>=◌, after, taken, wants_more, fault_of}
+use Rattle.std.proofs.Common.{◌≡◌, ℕ, Bool, true, false, List, length, None, refl, sym, ap, subst, ◌∙◌}
+use Rattle.std.specs.Prelude.{IsTrue, IsFalse}
+use Rattle.pixel_format.specs.Reading.{Reading, ◌>>=◌, after, taken, wants_more, fault_of}
 use Rattle.pixel_format.proofs.InOrder.{then_wants}
 use Rattle.pixel_format.proofs.ReadingLaws.{after_bind_open}
 use Rattle.raster.specs.Update.{Paint}
 use Rattle.rfb_wire.specs.ServerMessage.{ServerMessage}
-use Rattle.host_decoder.specs.Data.{DataStands}
-use Rattle.host_decoder.specs.Pendings.{Unread}
+use Rattle.host_decoder.specs.Data.{DataProgress, DataStands}
+use Rattle.host_decoder.specs.Pendings.{Unread, IsOpen}
 use Rattle.host_decoder.specs.Decoder.{InData, behind}
 use Rattle.host_decoder.proofs.Copies.{open_no_fault}
 use Rattle.host_decoder.proofs.RectangleData.{taken_all, taken_open}
@@ -26,3 +27,9 @@ fed_inside w h old new paints r piece left fed s =
       sym (ap (λ (t : Reading ServerMessage). taken t piece) s.reads ∙ taken_open s.reading b piece all),
       open_no_fault (after r piece) wants,
     )
+
+-- The data want another byte then, as they do where nothing is taken.
+pub stays_open : (old new : DataProgress) (piece : List ℕ) (is_taken : Bool) → (IsTrue is_taken → (reading : Reading Paint) → DataStands old reading → DataStands new (after reading piece) × (wants_more (after reading piece) ≡ true)) → (IsFalse is_taken → new ≡ old)
+    → IsOpen old → IsOpen new
+stays_open old new piece true taken other o = let t = taken refl o.reading o.stands in record { reading = after o.reading piece; stands = t.0; wants = t.1 }
+stays_open old new piece false taken other o = subst (λ (d : DataProgress). IsOpen d) (sym (other refl)) o

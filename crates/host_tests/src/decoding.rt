@@ -1,11 +1,8 @@
 //! What a host sends, decoded: examples worked by hand, whole and in pieces.
 
 ghost use Rattle.std.specs.Prelude.{◌≡◌, ◌<◌};
-ghost use Rattle.host_decoder.specs.Decoder.{IsFor};
 
-use crate::lent::{Told, black, used, whole};
-use host_decoder::{HostDecoder, HostEvent};
-use painter::Painter;
+use crate::lent::{Host, Told};
 use std::panic::Expect;
 use std::process::Abort;
 
@@ -47,106 +44,67 @@ const EMPTY: [u8; 64] = [
     0, 0, 0, 0, 0, 3, 0, 0, 0, 0, 0, 2, 0, 0, 0, 0, 9, 9, 9, 9, 0, 3, 0, 1, 0, 0, 0, 0, 0, 0, 0, 0,
 ];
 
-// Whether it is a text of these bytes.
-fn whole_text_is(decoder: &mut HostDecoder, bytes: &[u8]) -> Option<bool> {
-    let event = decoder.whole()?;
-    Some(is_text(&event, bytes))
-}
-
-fn is_text(event: &HostEvent, bytes: &[u8]) -> bool {
-    match event {
-        HostEvent::Cut(patch) => match patch.text_bytes() {
-            Some(text) => text == bytes,
-            None => false,
-        },
-        _ => false,
-    }
-}
-
-// Takes a message over a screen of 3 by 1 in pieces of so many bytes: nothing is whole before the last, and the screen stays
-// as it was.
-fn decode<R: Abort>(
-    rt: &R,
-    decoder: &mut HostDecoder,
-    painter: &mut Painter,
-    bytes: &[u8],
-    step: usize,
-) -> Option<Told>
+// Takes a message in pieces of so many bytes: nothing is whole before the last, and the screen stays as it was.
+fn decode<R: Abort>(rt: &R, host: &mut Host, bytes: &[u8], step: usize) -> Option<Told>
     requires step { 0 < step }
-    requires size { (painter.old.width ≡ 3) × (painter.old.height ≡ 1) }
-    requires fits { IsFor decoder.old painter.old }
-    ensures size { (painter.new.width ≡ 3) × (painter.new.height ≡ 1) }
-    ensures fits { IsFor decoder.new painter.new }
+    requires size { host.old ≡ (3, 1) }
+    ensures { host.new ≡ (3, 1) }
 {
-    let first = painter.row(0)[0];
+    let first = host.row()[0];
     let mut told = None;
     for piece in bytes.chunks(step) {
-        assert!(rt; told.is_none() && painter.row(0)[0] == first);
-        assert!(rt; used(decoder, painter, piece) == Some(piece.len()));
-        told = whole(decoder);
+        assert!(rt; told.is_none() && host.row()[0] == first);
+        assert!(rt; host.feed(piece) == Ok(piece.len()));
+        told = host.whole();
     }
     told
 }
 
 // The update in these bytes, in pieces of so many, has so many rectangles, and leaves this row on a black screen of 3 by 1.
-fn paints<R: Abort + AllocGlobal>(rt: &R, bytes: &[u8], step: usize, count: usize, row: [u32; 3])
+fn paints<R: Abort + AllocGlobal>(rt: &R, bytes: &[u8], step: usize, count: usize, row: &[u32])
     requires { 0 < step }
 {
-    let mut painter = black(rt, 3, 1);
-    let mut decoder = HostDecoder::new(rt.alloc(), 3, 1);
-    is_painted(rt, &mut decoder, &mut painter, bytes, step, count, row);
+    let mut host = Host::new(rt, 3, 1);
+    is_painted(rt, &mut host, bytes, step, count, row);
 }
 
 fn is_painted<R: Abort>(
     rt: &R,
-    decoder: &mut HostDecoder,
-    painter: &mut Painter,
+    host: &mut Host,
     bytes: &[u8],
     step: usize,
     count: usize,
-    row: [u32; 3],
+    row: &[u32],
 )
     requires step { 0 < step }
-    requires size { (painter.old.width ≡ 3) × (painter.old.height ≡ 1) }
-    requires fits { IsFor decoder.old painter.old }
+    requires size { host.old ≡ (3, 1) }
 {
-    let told = decode(rt, decoder, painter, bytes, step);
-    assert!(rt; told == Some((0, count)));
-    assert!(rt; painter.row(0) == row.as_slice());
+    assert!(rt; decode(rt, host, bytes, step) == Some((0, count)));
+    assert!(rt; host.row() == row);
 }
 
 // Each of the updates in turn, in pieces of so many bytes.
 fn paints_all<R: Abort + AllocGlobal>(rt: &R, step: usize)
     requires { 0 < step }
 {
-    paints(rt, &COPIED, step, 2, [RED, RED, GREEN]);
-    paints(rt, &IN_RRE, step, 1, [RED, BLUE, BLUE]);
-    paints(rt, &IN_HEXTILE, step, 1, [RED, BLUE, BLACK]);
-    paints(rt, &EMPTY, step, 4, [BLACK, BLACK, BLACK]);
-    paints(rt, &[0, 0, 0, 0], step, 0, [BLACK, BLACK, BLACK]);
+    paints(rt, &COPIED, step, 2, &[RED, RED, GREEN]);
+    paints(rt, &IN_RRE, step, 1, &[RED, BLUE, BLUE]);
+    paints(rt, &IN_HEXTILE, step, 1, &[RED, BLUE, BLACK]);
+    paints(rt, &EMPTY, step, 4, &[BLACK, BLACK, BLACK]);
+    paints(rt, &[0, 0, 0, 0], step, 0, &[BLACK, BLACK, BLACK]);
 }
 
 // A message in two pieces, the first of which isn't whole.
 fn gives<R: Abort + AllocGlobal>(rt: &R, head: &[u8], rest: &[u8], wanted: Told) {
-    let mut painter = black(rt, 3, 1);
-    let mut decoder = HostDecoder::new(rt.alloc(), 3, 1);
-    is_given(rt, &mut decoder, &mut painter, head, rest, wanted);
+    let mut host = Host::new(rt, 3, 1);
+    is_given(rt, &mut host, head, rest, wanted);
 }
 
-fn is_given<R: Abort>(
-    rt: &R,
-    decoder: &mut HostDecoder,
-    painter: &mut Painter,
-    head: &[u8],
-    rest: &[u8],
-    wanted: Told,
-)
-    requires { IsFor decoder.old painter.old }
-{
-    assert!(rt; used(decoder, painter, head) == Some(head.len()));
-    assert!(rt; whole(decoder).is_none());
-    assert!(rt; used(decoder, painter, rest) == Some(rest.len()));
-    assert!(rt; whole(decoder) == Some(wanted));
+fn is_given<R: Abort>(rt: &R, host: &mut Host, head: &[u8], rest: &[u8], wanted: Told) {
+    assert!(rt; host.feed(head) == Ok(head.len()));
+    assert!(rt; host.whole().is_none());
+    assert!(rt; host.feed(rest) == Ok(rest.len()));
+    assert!(rt; host.whole() == Some(wanted));
 }
 
 // The same, where the rest is so many bytes that are 0.
@@ -175,34 +133,28 @@ fn other_messages(rt: HostRuntime) {
 
 #[test]
 fn a_text(rt: HostRuntime) {
-    let mut painter = black(&rt, 3, 1);
-    let mut decoder = HostDecoder::new(rt.alloc(), 3, 1);
-    is_hi(&rt, &mut decoder, &mut painter);
+    let mut host = Host::new(&rt, 3, 1);
+    is_hi(&rt, &mut host);
 }
 
-fn is_hi<R: Abort>(rt: &R, decoder: &mut HostDecoder, painter: &mut Painter)
-    requires { IsFor decoder.old painter.old }
-{
-    assert!(rt; used(decoder, painter, &HI) == Some(HI.len()));
-    assert!(rt; whole_text_is(decoder, b"Hi") == Some(true));
+fn is_hi<R: Abort>(rt: &R, host: &mut Host) {
+    assert!(rt; host.feed(&HI) == Ok(HI.len()));
+    assert!(rt; host.whole_text_is(b"Hi") == Some(true));
 }
 
 // While a Bell waits, no byte of the next one is used.
 #[test]
 fn a_bell_waits(rt: HostRuntime) {
-    let mut painter = black(&rt, 3, 1);
-    let mut decoder = HostDecoder::new(rt.alloc(), 3, 1);
-    waits(&rt, &mut decoder, &mut painter);
+    let mut host = Host::new(&rt, 3, 1);
+    waits(&rt, &mut host);
 }
 
-fn waits<R: Abort>(rt: &R, decoder: &mut HostDecoder, painter: &mut Painter)
-    requires { IsFor decoder.old painter.old }
-{
-    assert!(rt; decoder.size() == (3, 1));
-    assert!(rt; used(decoder, painter, &[2, 2]) == Some(1));
-    assert!(rt; used(decoder, painter, &[2]) == Some(0));
-    assert!(rt; used(decoder, painter, &[]) == Some(0));
-    assert!(rt; whole(decoder) == Some((2, 0)));
+fn waits<R: Abort>(rt: &R, host: &mut Host) {
+    assert!(rt; host.size() == (3, 1));
+    assert!(rt; host.feed(&[2, 2]) == Ok(1));
+    assert!(rt; host.feed(&[2]) == Ok(0));
+    assert!(rt; host.feed(&[]) == Ok(0));
+    assert!(rt; host.whole() == Some((2, 0)));
 }
 
 // The longest text that is kept, one that is longer by a byte, a colour map of 65,535 entries, and as many rectangles

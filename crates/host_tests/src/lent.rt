@@ -1,21 +1,13 @@
 //! What is lent to tests, and what they are told.
 
-ghost use Rattle.std.specs.Prelude.{◌≡◌};
-ghost use Rattle.host_decoder.specs.Decoder.{IsFor};
+ghost use Rattle.std.specs.Prelude.{◌≡◌, ◌<◌, length};
 ghost use Rattle.raster.specs.Size.{IsScreenSize};
 
 use host_decoder::{HostDecoder, HostEvent};
 use painter::Painter;
+use std::marker::Model;
 use std::panic::Expect;
 use std::process::Abort;
-
-/// A black screen of `width` by `height`.
-pub fn black<R: Abort + AllocGlobal>(rt: &R, width: u64, height: u64) -> Painter
-    requires { IsScreenSize width height }
-    ensures { (result.width ≡ width) × (result.height ≡ height) }
-{
-    Painter::new(rt.alloc(), width, height).expect(rt, "no screen")
-}
 
 /// The type of a message (RFC 6143, section 7.6), with 4 for a text that was read past; and how many rectangles an update
 /// has, or how many bytes a text that is kept.
@@ -34,23 +26,97 @@ fn told(event: &HostEvent) -> Told {
     }
 }
 
-/// What is told of the message that is whole, if there is one. Events, decoders and painters are lent, and let go at
-/// one place each: proofs of letting one go are long.
-pub fn whole(decoder: &mut HostDecoder) -> Option<Told>
-    ensures { (decoder.new.width ≡ decoder.old.width) × (decoder.new.height ≡ decoder.old.height) }
-{
-    let event = decoder.whole()?;
-    Some(told(&event))
+/// The bytes of a text.
+fn text_of(event: &HostEvent) -> Option<&[u8]> {
+    match event {
+        HostEvent::Cut(patch) => patch.text_bytes(),
+        _ => None,
+    }
 }
 
-/// How many bytes are used; none where there is a fault.
-pub fn used(decoder: &mut HostDecoder, painter: &mut Painter, piece: &[u8]) -> Option<usize>
-    requires { IsFor decoder.old painter.old }
-    ensures size { (painter.new.width ≡ painter.old.width) × (painter.new.height ≡ painter.old.height) }
-    ensures fits { IsFor decoder.new painter.new }
+/// A black screen of `width` by `height`.
+pub fn black<R: Abort + AllocGlobal>(rt: &R, width: u64, height: u64) -> Painter
+    requires { IsScreenSize width height }
+    ensures { (result.width ≡ width) × (result.height ≡ height) }
 {
-    match decoder.feed(painter, piece) {
-        Ok(used) => Some(used),
-        Err(_) => None,
+    Painter::new(rt.alloc(), width, height).expect(rt, "no screen")
+}
+
+/// A decoder and its painter. It is lent to what is tested, and let go at one place: proofs of letting it go are long. Contracts
+/// see the width and the height of the screen in pixels.
+#[derive(Drop)]
+pub struct Host {
+    decoder: HostDecoder,
+    painter: Painter,
+}
+
+impl Model for Host {
+    ghost use Rattle.std.specs.Prelude.{ℕ};
+    ghost use Rattle.host_decoder.specs.Decoder.{IsFor};
+
+    ghost Value = { ℕ × ℕ };
+
+    ghost view = { λ h. (h.decoder.width, h.decoder.height) };
+
+    ghost invariant = { λ h. IsFor h.decoder h.painter };
+}
+
+impl Host {
+    /// A host of which no byte has come, and a black screen.
+    pub fn new<R: Abort + AllocGlobal>(rt: &R, width: u64, height: u64) -> Host
+        requires { IsScreenSize width height }
+        ensures { result ≡ (width, height) }
+    {
+        Host {
+            decoder: HostDecoder::new(rt.alloc(), width, height),
+            painter: black(rt, width, height),
+        }
+    }
+
+    /// Another host, over the same screen.
+    pub fn again<R: Abort + AllocGlobal>(&mut self, rt: &R)
+        requires { IsScreenSize self.old.0 self.old.1 }
+        ensures { self.new ≡ self.old }
+    {
+        let (width, height) = self.decoder.size();
+        self.decoder = HostDecoder::new(rt.alloc(), width, height);
+    }
+
+    pub fn size(&self) -> (u64, u64) {
+        self.decoder.size()
+    }
+
+    /// Takes the next piece, and answers how many bytes were used, or the number of the fault.
+    pub fn feed(&mut self, piece: &[u8]) -> Result<usize, u64>
+        ensures { self.new ≡ self.old }
+    {
+        match self.decoder.feed(&mut self.painter, piece) {
+            Ok(used) => Ok(used),
+            Err(fault) => Err(fault.number()),
+        }
+    }
+
+    /// What is told of the message that is whole, if there is one.
+    pub fn whole(&mut self) -> Option<Told>
+        ensures { self.new ≡ self.old }
+    {
+        let event = self.decoder.whole()?;
+        Some(told(&event))
+    }
+
+    /// Whether it is a text of these bytes.
+    pub fn whole_text_is(&mut self, bytes: &[u8]) -> Option<bool>
+        ensures { self.new ≡ self.old }
+    {
+        let event = self.decoder.whole()?;
+        Some(text_of(&event) == Some(bytes))
+    }
+
+    /// The first row of the screen.
+    pub fn row(&self) -> &[u32]
+        requires { 0 < self.now.1 }
+        ensures { length result.now ≡ self.now.0 }
+    {
+        self.painter.row(0)
     }
 }
