@@ -6,7 +6,6 @@ use Rattle.std.proofs.lemmas.List.{append-nil, take-append-drop}
 use Rattle.pixel_format.specs.declared.fault.Fault.{Fault}
 use Rattle.pixel_format.specs.declared.fault.Fault.TheVariants.{Memory}
 use Rattle.pixel_format.specs.Reading.{Reading, Done, Faulty, Want, after, taken, fault_of, renewed, rest, whole_of}
-use Rattle.pixel_format.proofs.ReadingLaws.{taken-le}
 use Rattle.raster.specs.Update.{Update}
 use Rattle.rfb_wire.specs.ServerMessage.{ServerMessage, FramebufferUpdate, SetColorMapEntries, Bell, ServerCutText, LostText}
 use Rattle.painter.specs.Patch.{SizedUpdate}
@@ -249,12 +248,6 @@ message_fails host fed painter fault none stays to_fed was bytes us (inr r) = el
 ]
 
 -- ---- the same, as the fields say it
-
-pub used_there : (host : HostSide) (fed : Decoding) (painter : Painting) (used : ℕ) → CanRead host → (is_refused host.decoder.state ≡ true → ⊥) → WasFed host fed painter (Ok used) → used ≤ length host.unread
-used_there host fed painter used can fine was = elim can.2 [
-  | inl refused ↦ absurd (fine refused.0)
-  | inr r ↦ (let now = rest (form_of host) r.read in let f = was now r.decodes in omega (arith, f.1, taken-le now host.unread))
-]
 
 stands_so : (host : HostSide) (decoder : Decoding) (painter : Painting) (used : ℕ) (unread : List ℕ) (waiting : Option SizedUpdate) → unread ≡ drop used host.unread → waiting ≡ None
     → read_host host decoder painter used ≡ record { decoder = decoder; painter = painter; unread = unread; waiting = waiting }

@@ -1,6 +1,7 @@
 //! Scripts, played over a world.
 
-ghost use Rattle.std.specs.Prelude.{◌≡◌, ◌≤◌, ◌⊎◌};
+ghost use Rattle.std.specs.Prelude.{◌≡◌, ◌≤◌, ◌⊎◌, length, IfOk};
+ghost use Rattle.viewer_session.specs.Session.{IsOneTile};
 
 use crate::step::Step;
 use crate::world::{World, play};
@@ -109,7 +110,8 @@ fn play_script<B: BufRead, W: Write>(
     if !next_line(input, &mut line)? {
         return Ok(false);
     }
-    let mut world = opened(alloc, line.as_slice())?;
+    let (width, height, name) = screen_line(alloc, line.as_slice())?;
+    let mut world = World::new(alloc, width, height, name.as_bytes(), ROOM)?;
     play_lines(alloc, &mut world, input, output)
 }
 
@@ -150,15 +152,18 @@ fn print<W: Write>(output: &mut W, line: String) -> Result<(), Stop> {
     Ok(())
 }
 
-/// The world that the first line opens.
-fn opened(alloc: Global, line: &[u8]) -> Result<World, Stop> {
+/// The width, the height and the name of the screen that the first line opens.
+fn screen_line(alloc: Global, line: &[u8]) -> Result<(u64, u64, &str), Stop>
+    ensures size { IfOk result (λ screen. IsOneTile screen.0 screen.1) }
+    ensures name { IfOk result (λ screen. (1 ≤ length screen.2.now) × (length screen.2.now ≤ 255)) }
+{
     let Ok(text) = str::from_utf8(line) else {
         return Err(Stop::Line(1));
     };
     match Line::read(alloc, text)? {
-        Some(Line::Screen(width, height, name)) if width <= LARGEST && height <= LARGEST => Ok(
-            World::new(alloc, width, height, name.as_bytes(), ROOM)?,
-        ),
+        Some(Line::Screen(width, height, name)) if width <= LARGEST && height <= LARGEST => {
+            Ok((width, height, name))
+        }
         _ => Err(Stop::Line(1)),
     }
 }

@@ -87,14 +87,9 @@ fn bytes_due_before_a_fault(rt: HostRuntime) -> Result<(), Fail> {
 /// The pixel becomes red, and viewer 1 has asked for it.
 fn ask(alloc: Global, world: &mut World) -> Result<(), Fail> {
     world.join(1, Role::Full, false)?;
-    let steps = [
-        Step::HostBytes(Vec::from_slice(alloc, &RED)?),
-        Step::Put,
-        Step::Raise,
-        Step::Bytes(1, Vec::from_slice(alloc, &ASK)?),
-    ];
-    play(world, &steps)?;
-    Ok(())
+    play_one(world, Step::HostBytes(Vec::from_slice(alloc, &RED)?))?;
+    play(world, &[Step::Put, Step::Raise])?;
+    play_one(world, Step::Bytes(1, Vec::from_slice(alloc, &ASK)?))
 }
 
 /// Plays one step.

@@ -1,16 +1,10 @@
-use Rattle.std.proofs.Common.{refl, subst, sym}
-use Rattle.std.specs.Prelude.{Ok}
-use Rattle.host_decoder.specs.Decoder.{Feeds}
-use Rattle.reflect_world.specs.Host.{CanRead}
+use Rattle.std.proofs.Common.{refl}
 use Rattle.reflect_world.specs.contracts.host.Host.{the_view}
-use Rattle.reflect_world.proofs.Hosts.{HasReadOne, one_fails, one_is_read, used_there}
+use Rattle.reflect_world.proofs.Hosts.{HasReadOne, one_fails, one_is_read}
 use Rattle.reflect_world.proofs.host.Host.read_one.Goals as goal
 
 pub take-requires : goal.take-requires
-take-requires c =
-    used_there (the_view c.self.inside) c.feed.new.self c.feed.new.painter c.in-Ok.used (subst CanRead (sym c.self.view_is) c.requires.stands)
-    (λ e. let no = (c.in-Ok.ensures.refused e).0 in absurd cc)
-    (λ r d. subst (λ bs. Feeds c.feed.new.self c.feed.new.painter r bs (Ok c.in-Ok.used)) c.bytes.ensures (c.in-Ok.ensures.feeds r d))
+take-requires c = rw c.bytes.ensures at c.in-Ok.ensures.within
 
 read : (c : goal.After-whole) → HasReadOne c.args.self.now (record { decoder = c.whole.new.self; painter = c.feed.new.painter; unread = c.take.new.self; waiting = c.self.inside.waiting }) c.whole.result
 read c =
