@@ -30,16 +30,10 @@ const MAP_BELL_TEXT: [u8; 23] = [
 ];
 
 // A link that answers a call to take so many times with the first, and then with the last.
-fn link_to(
-    alloc: Global,
-    sends: &[u8],
-    first: Took,
-    times: usize,
-    last: Took,
-) -> Result<MemoryLink, Fail> {
+fn link_to(alloc: Global, sends: &[u8], answers: (Took, usize, Took)) -> Result<MemoryLink, Fail> {
     let sends = sends.to_vec(alloc)?;
-    let mut takes = Vec::from_elem(alloc, first, times)?;
-    takes.push(last)?;
+    let mut takes = Vec::from_elem(alloc, answers.0, answers.1)?;
+    takes.push(answers.2)?;
     Ok(MemoryLink::new(alloc, sends, takes, Vec::new(alloc))?)
 }
 
@@ -61,62 +55,78 @@ fn read<R: Wait, P: Puts>(
     requires { (P.width publisher.old ≡ 2) × (P.height publisher.old ≡ 1) }
     ensures { (P.width publisher.new ≡ 2) × (P.height publisher.new ≡ 1) }
 {
-    let mut decoder = HostDecoder::new(alloc, 2, 1);
     let mut painter = Painter::new(alloc, 2, 1)?;
+    let mut decoder = HostDecoder::new(alloc, 2, 1);
     Ok(number(run_host(rt, alloc, link, &mut decoder, &mut painter, publisher)))
 }
 
-// The same, and whether it is so, and the screen then has so many updates.
+// Whether reading what a host sends over a link that answers so comes to this fault, or to 0, and leaves so many updates.
 fn comes_to<R: Wait>(
     rt: &R,
-    mut link: MemoryLink,
     alloc: Global,
+    sends: &[u8],
+    answers: (Took, usize, Took),
     screen: &mut PlainScreen,
-    fault: u64,
-    updates: u64,
+    wanted: (u64, u64),
 ) -> Result<bool, Fail>
     requires { (screen.old.width ≡ 2) × (screen.old.height ≡ 1) }
     ensures { (screen.new.width ≡ 2) × (screen.new.height ≡ 1) }
 {
+    let mut link = link_to(alloc, sends, answers)?;
     let found = read(rt, alloc, &mut link, screen)?;
-    Ok(found == fault && screen.updates() == updates)
+    Ok(found == wanted.0 && screen.updates() == wanted.1)
+}
+
+// The same of a screen to which nothing was put.
+fn begins_with<R: Wait>(
+    rt: &R,
+    alloc: Global,
+    sends: &[u8],
+    answers: (Took, usize, Took),
+    wanted: (u64, u64),
+) -> Result<bool, Fail> {
+    let mut screen = PlainScreen::new(alloc, 2, 1)?;
+    comes_to(rt, alloc, sends, answers, &mut screen, wanted)
 }
 
 #[test]
 fn ends_inside_a_message(rt: HostRuntime) -> Result<(), Fail> {
-    let mut screen = PlainScreen::new(rt.alloc(), 2, 1)?;
-    let link = link_to(rt.alloc(), &UPDATE[..23], Took::Nothing, 3, Took::Bytes(23))?;
-    assert!(rt; comes_to(&rt, link, rt.alloc(), &mut screen, 22, 0)?);
+    let answers = (Took::Nothing, 3, Took::Bytes(23));
+    assert!(rt; begins_with(&rt, rt.alloc(), &UPDATE[..23], answers, (22, 0))?);
     Ok(())
+}
+
+fn ends_behind_two<R: Wait>(rt: &R, alloc: Global, screen: &mut PlainScreen) -> Result<bool, Fail>
+    requires { (screen.old.width ≡ 2) × (screen.old.height ≡ 1) }
+{
+    let whole = (Took::Nothing, 3, Took::Bytes(24));
+    let is_whole = comes_to(rt, alloc, &UPDATE, whole, screen, (0, 1))?;
+    let byte_by_byte = (Took::Bytes(1), 23, Took::Bytes(1));
+    Ok(is_whole && comes_to(rt, alloc, &UPDATE, byte_by_byte, screen, (0, 2))?)
 }
 
 #[test]
 fn ends_behind_a_message(rt: HostRuntime) -> Result<(), Fail> {
     let mut screen = PlainScreen::new(rt.alloc(), 2, 1)?;
-    let link = link_to(rt.alloc(), &UPDATE, Took::Nothing, 3, Took::Bytes(24))?;
-    let whole = comes_to(&rt, link, rt.alloc(), &mut screen, 0, 1)?;
-    let link = link_to(rt.alloc(), &UPDATE, Took::Bytes(1), 23, Took::Bytes(1))?;
-    let byte_by_byte = comes_to(&rt, link, rt.alloc(), &mut screen, 0, 2)?;
-    assert!(rt; whole && byte_by_byte);
+    let ends = ends_behind_two(&rt, rt.alloc(), &mut screen)?;
+    assert!(rt; ends);
     Ok(())
 }
 
 #[test]
 fn ends_at_once(rt: HostRuntime) -> Result<(), Fail> {
-    let mut screen = PlainScreen::new(rt.alloc(), 2, 1)?;
-    let link = link_to(rt.alloc(), &UPDATE, Took::Nothing, 1, Took::End)?;
-    assert!(rt; comes_to(&rt, link, rt.alloc(), &mut screen, 0, 0)?);
+    let answers = (Took::Nothing, 1, Took::End);
+    assert!(rt; begins_with(&rt, rt.alloc(), &UPDATE, answers, (0, 0))?);
     Ok(())
 }
 
 #[test]
 fn fails_at_each_call(rt: HostRuntime) -> Result<(), Fail> {
     for count in 0..25 {
-        let mut screen = PlainScreen::new(rt.alloc(), 2, 1)?;
-        let link = link_to(rt.alloc(), &UPDATE, Took::Bytes(1), count, Took::Failed)?;
-        let updates = u64::from(count == 24);
+        let answers = (Took::Bytes(1), count, Took::Failed);
+        let wanted = (21, u64::from(count == 24));
         assert!(rt;
-            comes_to(&rt, link, rt.alloc(), &mut screen, 21, updates)?,
+            begins_with(&rt, rt.alloc(), &UPDATE, answers, wanted)?,
             "call {count}"
         );
     }
@@ -142,43 +152,51 @@ fn cut_of(alloc: Global, screen: &mut PlainScreen, updates: u64) -> Result<Cut, 
     }
 }
 
-fn is_red_and_blue(cut: &Cut) -> bool {
-    cut.colours.as_slice() == [0xFF0000, 0x0000FF].as_slice()
+fn shows_red_and_blue(alloc: Global, screen: &mut PlainScreen) -> Result<bool, Fail>
+    requires { (screen.old.width ≡ 2) × (screen.old.height ≡ 1) }
+{
+    let cut = cut_of(alloc, screen, 1)?;
+    Ok(cut.colours.as_slice() == [0xFF0000, 0x0000FF].as_slice())
 }
 
 #[test]
 fn what_was_whole_before_a_fault_stays(rt: HostRuntime) -> Result<(), Fail> {
+    let answers = (Took::Nothing, 0, Took::Bytes(26));
     let mut screen = PlainScreen::new(rt.alloc(), 2, 1)?;
-    let link = link_to(
+    let ends = comes_to(
+        &rt,
         rt.alloc(),
         &UPDATE_AND_FAULT,
-        Took::Nothing,
-        0,
-        Took::Bytes(26),
+        answers,
+        &mut screen,
+        (6, 1),
     )?;
-    assert!(rt; comes_to(&rt, link, rt.alloc(), &mut screen, 6, 1)?);
-    let cut = cut_of(rt.alloc(), &mut screen, 1)?;
-    assert!(rt; is_red_and_blue(&cut));
+    let shows = shows_red_and_blue(rt.alloc(), &mut screen)?;
+    assert!(rt; ends && shows);
     Ok(())
 }
 
-fn is_rung_and_told(cut: &Cut) -> bool {
-    cut.bells == 1 && cut.text.number() == Some(2) && cut.text.bytes() == b"Hi".as_slice()
+fn tells_bell_and_text(alloc: Global, screen: &mut PlainScreen) -> Result<bool, Fail>
+    requires { (screen.old.width ≡ 2) × (screen.old.height ≡ 1) }
+{
+    let cut = cut_of(alloc, screen, 2)?;
+    Ok(cut.bells == 1 && cut.text.number() == Some(2) && cut.text.bytes() == b"Hi".as_slice())
 }
 
 #[test]
 fn bells_and_texts_are_put_and_maps_are_not(rt: HostRuntime) -> Result<(), Fail> {
+    let answers = (Took::Bytes(5), 4, Took::Bytes(3));
     let mut screen = PlainScreen::new(rt.alloc(), 2, 1)?;
-    let link = link_to(
+    let ends = comes_to(
+        &rt,
         rt.alloc(),
         &MAP_BELL_TEXT,
-        Took::Bytes(5),
-        4,
-        Took::Bytes(3),
+        answers,
+        &mut screen,
+        (0, 2),
     )?;
-    assert!(rt; comes_to(&rt, link, rt.alloc(), &mut screen, 0, 2)?);
-    let cut = cut_of(rt.alloc(), &mut screen, 2)?;
-    assert!(rt; is_rung_and_told(&cut));
+    let tells = tells_bell_and_text(rt.alloc(), &mut screen)?;
+    assert!(rt; ends && tells);
     Ok(())
 }
 
@@ -205,22 +223,20 @@ impl Puts for Limited {
     }
 }
 
-// A Bell and a text, where there is memory for so many updates.
+// Whether a Bell and a text, where there is memory for so many updates, come to this fault, or to 0.
+fn is_put_with_room<R: Wait>(rt: &R, alloc: Global, room: u64, fault: u64) -> Result<bool, Fail> {
+    let mut link = link_to(alloc, &MAP_BELL_TEXT, (Took::Bytes(5), 4, Took::Bytes(3)))?;
+    let screen = PlainScreen::new(alloc, 2, 1)?;
+    let mut publisher = Limited { screen, room };
+    let found = read(rt, alloc, &mut link, &mut publisher)?;
+    Ok(found == fault && publisher.screen.updates() == room)
+}
+
 #[test]
 fn what_was_put_before_memory_was_refused_stays(rt: HostRuntime) -> Result<(), Fail> {
     for (room, fault) in [(0, 20), (1, 20), (2, 0)] {
-        let screen = PlainScreen::new(rt.alloc(), 2, 1)?;
-        let mut publisher = Limited { screen, room };
-        let mut link = link_to(
-            rt.alloc(),
-            &MAP_BELL_TEXT,
-            Took::Bytes(5),
-            4,
-            Took::Bytes(3),
-        )?;
-        let found = read(&rt, rt.alloc(), &mut link, &mut publisher)?;
         assert!(rt;
-            found == fault && publisher.screen.updates() == room,
+            is_put_with_room(&rt, rt.alloc(), room, fault)?,
             "room for {room}"
         );
     }

@@ -1,56 +1,20 @@
 -- How a text goes on, kept or read past.
-use Rattle.std.proofs.Common.{◌≡◌, ℕ, zero, suc, ◌+◌, ◌-◌, ◌<◌, ◌≤◌, true, List, [], ◌∷◌, ◌++◌, length, take, min, ◌⊎◌, inl, inr, refl, sym, ap, subst, ◌∙◌, append_assoc, slice_index, arith}
+use Rattle.std.proofs.Common.{◌≡◌, ℕ, zero, suc, ◌+◌, ◌-◌, ◌<◌, ◌≤◌, true, List, [], ◌∷◌, ◌++◌, length, take, min, ◌⊎◌, inl, inr, refl, sym, ap, subst, ◌∙◌, slice_index, arith}
 use mathlib.Core.Path.{fun_ext}
-use Rattle.std.proofs.lemmas.List.{append-nil, length-append, length-take}
-use Rattle.pixel_format.specs.Reading.{Reading, Done, Want, ◌>>=◌, step, after, taken, bytes, padding, wants_more}
-use Rattle.pixel_format.proofs.ReadingLaws.{bind_assoc, taken-cons, taken-nil}
+use Rattle.std.proofs.lemmas.List.{length-append, length-take}
+use Rattle.pixel_format.specs.Reading.{Reading, Done, Want, step, taken, padding, wants_more}
+use Rattle.pixel_format.proofs.ReadingLaws.{taken-cons, taken-nil}
 use Rattle.rfb_wire.specs.ClientMessage.{ClientMessage, CutText, LostText}
 use Rattle.rfb_wire.specs.Message.{losing}
 use Rattle.rfb_wire.specs.ClientReader.{keeping, passing, Uses, UsesOrLoses}
-
-less_none : (n : ℕ) → n - 0 ≡ n
-less_none n = omega arith
-
--- One byte of a text.
-keeping_step : (kept : List ℕ) (left b : ℕ) → step (keeping kept (suc left)) b ≡ keeping (kept ++ b ∷ []) left
-keeping_step kept left b =
-    bind_assoc (bytes left) (λ others. Done (b ∷ others)) (λ others. Done (CutText (kept ++ others)))
-    ∙ ap (λ (f : List ℕ → Reading ClientMessage). bytes left >>= f) (fun_ext (λ others. ap (λ t. Done (CutText t)) (sym (append_assoc kept (b ∷ []) others))))
-
--- Several.
-keeping_after : (kept xs : List ℕ) (left : ℕ) → length xs ≤ left → after (keeping kept left) xs ≡ keeping (kept ++ xs) (left - length xs)
-keeping_after kept [] left le = ap (λ t. keeping t left) (sym (append-nil kept)) ∙ ap (λ n. keeping (kept ++ []) n) (sym (less_none left))
-keeping_after kept (b ∷ xs) zero le = absurd (omega arith)
-keeping_after kept (b ∷ xs) (suc left) le =
-    let e : suc left - length (b ∷ xs) ≡ left - length xs = omega arith in
-    ap (λ r. after r xs) (keeping_step kept left b) ∙ (keeping_after (kept ++ b ∷ []) xs left (omega arith) ∙ rw (e, append_assoc kept (b ∷ []) xs) refl)
-
-keeping_taken : (kept xs : List ℕ) (left : ℕ) → length xs ≤ left → taken (keeping kept left) xs ≡ length xs
-keeping_taken kept [] zero le = refl
-keeping_taken kept [] (suc left) le = refl
-keeping_taken kept (b ∷ xs) zero le = absurd (omega arith)
-keeping_taken kept (b ∷ xs) (suc left) le = ap suc (ap (λ r. taken r xs) (keeping_step kept left b) ∙ keeping_taken (kept ++ b ∷ []) xs left (omega arith))
-
--- The same of bytes that aren't looked at.
-passing_after : (left : ℕ) (r : Reading ClientMessage) (xs : List ℕ) → length xs ≤ left → after (padding left r) xs ≡ padding (left - length xs) r
-passing_after left r [] le = ap (λ n. padding n r) (sym (less_none left))
-passing_after zero r (b ∷ xs) le = absurd (omega arith)
-passing_after (suc left) r (b ∷ xs) le =
-    let e : suc left - length (b ∷ xs) ≡ left - length xs = omega arith in
-    passing_after left r xs (omega arith) ∙ ap (λ n. padding n r) (sym e)
-
-passing_taken : (left : ℕ) (m : ClientMessage) (xs : List ℕ) → length xs ≤ left → taken (padding left (Done m)) xs ≡ length xs
-passing_taken zero m [] le = refl
-passing_taken (suc left) m [] le = refl
-passing_taken zero m (b ∷ xs) le = absurd (omega arith)
-passing_taken (suc left) m (b ∷ xs) le = ap suc (passing_taken left m xs (omega arith))
+use Rattle.rfb_wire.proofs.TextForms.{text_step, text_after, text_taken, past_after, past_taken}
 
 -- A text that is lost is read past.
 pub losing_keeping : (kept : List ℕ) (left : ℕ) → losing (keeping kept left) ≡ padding left (Done (LostText (length kept + left)))
 losing_keeping kept zero = ap (λ n. Done (LostText n)) (length-append kept [])
 losing_keeping kept (suc left) =
     ap Want (fun_ext (λ b.
-    ap losing (keeping_step kept left b) ∙ (losing_keeping (kept ++ b ∷ []) left ∙ ap (λ n. padding left (Done (LostText n))) (omega (arith, length-append kept (b ∷ []))))))
+    ap losing (text_step CutText kept left b) ∙ (losing_keeping (kept ++ b ∷ []) left ∙ ap (λ n. padding left (Done (LostText n))) (omega (arith, length-append kept (b ∷ []))))))
 
 -- ---- what is used of a piece
 
@@ -69,8 +33,8 @@ passing_uses left m new piece n some few fits e =
     record {
       some = some;
       fits = fits;
-      goes_on = e ∙ (ap (λ k. padding (left - k) (Done m)) (sym same) ∙ sym (passing_after left (Done m) (take n piece) within));
-      all = passing_taken left m (take n piece) within ∙ same;
+      goes_on = e ∙ (ap (λ k. padding (left - k) (Done m)) (sym same) ∙ sym (past_after left (Done m) (take n piece) within));
+      all = past_taken left m (take n piece) within ∙ same;
     }
 
 pub keeping_uses : (kept : List ℕ) (left : ℕ) (new : Reading ClientMessage) (piece : List ℕ) (n : ℕ) → 0 < n → n ≤ left → n ≤ length piece → new ≡ keeping (kept ++ take n piece) (left - n) → Uses (keeping kept left) new piece n
@@ -80,8 +44,8 @@ keeping_uses kept left new piece n some few fits e =
     record {
       some = some;
       fits = fits;
-      goes_on = e ∙ (ap (λ k. keeping (kept ++ take n piece) (left - k)) (sym same) ∙ sym (keeping_after kept (take n piece) left within));
-      all = keeping_taken kept (take n piece) left within ∙ same;
+      goes_on = e ∙ (ap (λ k. keeping (kept ++ take n piece) (left - k)) (sym same) ∙ sym (text_after CutText kept (take n piece) left within));
+      all = text_taken CutText kept (take n piece) left within ∙ same;
     }
 
 pub text_uses : (kept : List ℕ) (left : ℕ) (new : Reading ClientMessage) (piece next : List ℕ) (n : ℕ) → 0 < left → 0 < length piece → n ≡ min (length piece) left → next ≡ take n piece

@@ -1,0 +1,47 @@
+-- How a text goes on, kept or read past, in a message of either direction.
+use Rattle.std.proofs.Common.{◌≡◌, ℕ, zero, suc, ◌-◌, ◌≤◌, List, [], ◌∷◌, ◌++◌, length, refl, sym, ap, ◌∙◌, append_assoc, arith}
+use mathlib.Core.Path.{fun_ext}
+use Rattle.std.proofs.lemmas.List.{append-nil}
+use Rattle.pixel_format.specs.Reading.{Reading, Done, ◌>>=◌, step, after, taken, bytes, padding}
+use Rattle.pixel_format.proofs.ReadingLaws.{bind_assoc}
+
+-- These bytes of a text have come, and so many are left.
+abbrev pub kept_text : {A : Type 0} → (List ℕ → A) → List ℕ → ℕ → Reading A
+kept_text make kept left = bytes left >>= λ others. Done (make (kept ++ others))
+
+less_none : (n : ℕ) → n - 0 ≡ n
+less_none n = omega arith
+
+-- One byte of it.
+pub text_step : {A : Type 0} (make : List ℕ → A) (kept : List ℕ) (left b : ℕ) → step (kept_text make kept (suc left)) b ≡ kept_text make (kept ++ b ∷ []) left
+text_step {A = A} make kept left b =
+    bind_assoc (bytes left) (λ others. Done (b ∷ others)) (λ others. Done (make (kept ++ others)))
+    ∙ ap (λ (f : List ℕ → Reading A). bytes left >>= f) (fun_ext (λ others. ap (λ t. Done (make t)) (sym (append_assoc kept (b ∷ []) others))))
+
+-- Several.
+pub text_after : {A : Type 0} (make : List ℕ → A) (kept xs : List ℕ) (left : ℕ) → length xs ≤ left → after (kept_text make kept left) xs ≡ kept_text make (kept ++ xs) (left - length xs)
+text_after make kept [] left le = ap (λ t. kept_text make t left) (sym (append-nil kept)) ∙ ap (λ n. kept_text make (kept ++ []) n) (sym (less_none left))
+text_after make kept (b ∷ xs) zero le = absurd (omega arith)
+text_after make kept (b ∷ xs) (suc left) le =
+    let e : suc left - length (b ∷ xs) ≡ left - length xs = omega arith in
+    ap (λ r. after r xs) (text_step make kept left b) ∙ (text_after make (kept ++ b ∷ []) xs left (omega arith) ∙ rw (e, append_assoc kept (b ∷ []) xs) refl)
+
+pub text_taken : {A : Type 0} (make : List ℕ → A) (kept xs : List ℕ) (left : ℕ) → length xs ≤ left → taken (kept_text make kept left) xs ≡ length xs
+text_taken make kept [] zero le = refl
+text_taken make kept [] (suc left) le = refl
+text_taken make kept (b ∷ xs) zero le = absurd (omega arith)
+text_taken make kept (b ∷ xs) (suc left) le = ap suc (ap (λ r. taken r xs) (text_step make kept left b) ∙ text_taken make (kept ++ b ∷ []) xs left (omega arith))
+
+-- The same of bytes that aren't looked at.
+pub past_after : {A : Type 0} (left : ℕ) (r : Reading A) (xs : List ℕ) → length xs ≤ left → after (padding left r) xs ≡ padding (left - length xs) r
+past_after left r [] le = ap (λ n. padding n r) (sym (less_none left))
+past_after zero r (b ∷ xs) le = absurd (omega arith)
+past_after (suc left) r (b ∷ xs) le =
+    let e : suc left - length (b ∷ xs) ≡ left - length xs = omega arith in
+    past_after left r xs (omega arith) ∙ ap (λ n. padding n r) (sym e)
+
+pub past_taken : {A : Type 0} (left : ℕ) (x : A) (xs : List ℕ) → length xs ≤ left → taken (padding left (Done x)) xs ≡ length xs
+past_taken zero x [] le = refl
+past_taken (suc left) x [] le = refl
+past_taken zero x (b ∷ xs) le = absurd (omega arith)
+past_taken (suc left) x (b ∷ xs) le = ap suc (past_taken left x xs (omega arith))
