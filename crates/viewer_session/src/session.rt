@@ -1,6 +1,6 @@
 //! One viewer's session.
 
-ghost use Rattle.std.specs.Prelude.{◌≡◌, ℕ, ◌+◌, ◌*◌, ◌<◌, ◌≤◌, ◌↔◌, Bool, IsTrue, not, ◌==◌, ◌++◌, true, false, [], ◌∷◌, List, All, drop, length, take, IfOk, IfErr, OnOk, Ok, Err, None, Some, option_map};
+ghost use Rattle.std.specs.Prelude.{◌≡◌, ℕ, ◌+◌, ◌*◌, ◌<◌, ◌≤◌, ◌↔◌, Bool, IsTrue, not, ◌==◌, ◌++◌, true, false, [], ◌∷◌, List, All, drop, length, get_or, take, IfOk, IfErr, OnOk, Ok, Err, None, Some, option_map};
 ghost use Rattle.pixel_format.specs.declared.fault.Fault.TheVariants.{Memory};
 ghost use Rattle.pixel_format.specs.Reading.{wants_more, fault_of};
 ghost use Rattle.raster.specs.Screen.{IsWithin, common, whole_screen};
@@ -361,7 +361,7 @@ impl Session {
         let number = source.cut(&area.unwrap_or(NOWHERE), &self.have, &mut self.cut)?;
         self.asked.was_cut(number);
         match area {
-            Some(area) if self.cut.due[0] => {
+            Some(area) if is_due(&self.cut) => {
                 self.out.put_update(&self.cut, &area, &self.format);
                 self.asked.answered();
                 self.have.keep(&area, number);
@@ -389,6 +389,14 @@ impl Session {
         let looked = source.look();
         self.turn_at(source, looked)
     }
+}
+
+// Whether the one tile of a screen is due at a cut.
+fn is_due(cut: &Cut) -> bool
+    requires { 0 < length cut.now.due.items }
+    ensures { result ≡ get_or cut.now.due.items 0 result }
+{
+    cut.due[0]
 }
 
 // Room for the bytes of a hello, or of an update of a screen of this size.

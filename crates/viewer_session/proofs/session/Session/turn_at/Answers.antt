@@ -5,7 +5,7 @@ use Rattle.viewer_session.proofs.FeedLaws.{same_session}
 use Rattle.viewer_session.proofs.TurnLaws.{answers_at, quiet_at, unasked_at, cut_for, lies_on, tile_marked, greeted_ready}
 use Rattle.viewer_session.proofs.Parts.{sound_on, same_screen, screen_on, same_size, greeting_done, same_at, none_begun, some_begun, begins_same, cut_within, update_fits}
 use Rattle.viewer_session.proofs.session.Session.turn_at.Goals as goal
-use Rattle.viewer_session.proofs.session.Session.turn_at.Goals.{in_default-via-in-Some+else-index, in_default-via-in_default}
+use Rattle.viewer_session.proofs.session.Session.turn_at.Goals.{in_default-via-in-Some+else-is_due, in_default-via-in_default}
 
 -- ---- where there is no reason
 
@@ -69,8 +69,8 @@ put_update-requires-clause-room g c =
     let i = c.self.invariant in
     update_fits c.in-Some.area c.self.inside.width c.self.inside.height c.self.inside.out.room (lies_on c.in-Some.area _ _ _ _ i.asked_size.0 i.asked_size.1 c.in-Some.ensures.within) i.room
 
-pub invariant_of-self-then-index : goal.invariant_of-self-then-index
-invariant_of-self-then-index g c =
+pub invariant_of-self-then-is_due : goal.invariant_of-self-then-is_due
+invariant_of-self-then-is_due g c =
     let i = c.self.invariant in
     sound_on _ _ _ _ _ _ _ _ _ _ _ _ i (screen_on _ _ _ c.was_cut.ensures.size c.answered.ensures.size) c.keep.ensures.size c.cut.ensures.room c.put_update.ensures.room
     (greeting_done c.self.inside.hello c.self.inside.out _ (ap is_greeted c.self.view_is ∙ greeted_ready c.args.self.now c.requires.ready) c.put_update.ensures.room i.greets)
@@ -91,13 +91,13 @@ returns-in-Some-clause-cuts g c = λ reason.
     let is = cut_for _ _ c.area-area.result _ c.in-Some.area _ _ _ c.unwrap_or.ensures c.in-Some.is ok.0 in
     answers_at (the_view c.self.inside) c.args.self.now (g.S.ScreenSource.known c.cut.new.self) (g.S.ScreenSource.answered c.args.source.now) c.in_ok-number.number c.in-Some.area c.cut.new.into c.answered.new.self c.keep.new.self c.put_update.new.self.unsent
     c.self.view_is c.requires.ready i.one i.have_size.0 i.have_size.1 (sym c.area-area.ensures.value ∙ c.in-Some.is) (lies_on c.in-Some.area _ _ _ _ i.asked_size.0 i.asked_size.1 c.in-Some.ensures.within) is ok.1
-    (tile_marked _ _ _ _ _ _ _ c.index.result.now _ is i.one i.have_size.0 i.have_size.1 c.index.ensures c.if-index.true)
+    (tile_marked _ _ _ _ _ _ _ c.is_due.result _ is i.one i.have_size.0 i.have_size.1 c.is_due.ensures c.if-is_due.true)
     (λ es a. c.answered.ensures.stands c.in-Some.area c.in_ok-number.number _ (c.was_cut.ensures.stands es a)) c.keep.ensures.stands c.put_update.ensures.unsent
 
 -- ---- where none is begun
 
-pub invariant_of-self-else-index : goal.invariant_of-self-else-index
-invariant_of-self-else-index g c = sound_on _ _ _ _ _ _ _ _ _ _ _ _ c.self.invariant c.was_cut.ensures.size (same_size _) c.cut.ensures.room refl c.self.invariant.greets
+pub invariant_of-self-else-is_due : goal.invariant_of-self-else-is_due
+invariant_of-self-else-is_due g c = sound_on _ _ _ _ _ _ _ _ _ _ _ _ c.self.invariant c.was_cut.ensures.size (same_size _) c.cut.ensures.room refl c.self.invariant.greets
 
 pub invariant_of-self-in_default : goal.invariant_of-self-in_default
 invariant_of-self-in_default g c = sound_on _ _ _ _ _ _ _ _ _ _ _ _ c.self.invariant c.was_cut.ensures.size (same_size _) c.cut.ensures.room refl c.self.invariant.greets
@@ -105,7 +105,7 @@ invariant_of-self-in_default g c = sound_on _ _ _ _ _ _ _ _ _ _ _ _ c.self.invar
 pub returns-in_default-clause-same : goal.returns-in_default-clause-same
 returns-in_default-clause-same g c =
     elim c.in_default.branch [
-      | in_default-via-in-Some+else-index w ↦ subst (λ (t : State). IsSameSession c.args.self.now t) (sym w.self-is) (same_at (the_view c.self.inside) c.args.self.now _ c.self.view_is refl refl refl)
+      | in_default-via-in-Some+else-is_due w ↦ subst (λ (t : State). IsSameSession c.args.self.now t) (sym w.self-is) (same_at (the_view c.self.inside) c.args.self.now _ c.self.view_is refl refl refl)
       | in_default-via-in_default w ↦ subst (λ (t : State). IsSameSession c.args.self.now t) (sym w.self-is) (same_at (the_view c.self.inside) c.args.self.now _ c.self.view_is refl refl refl)
     ]
 
@@ -116,7 +116,7 @@ pub returns-in_default-clause-begun : goal.returns-in_default-clause-begun
 returns-in_default-clause-begun g c =
     let st = the_view c.self.inside in
     elim c.in_default.branch [
-      | in_default-via-in-Some+else-index w ↦ none_begun st c.args.self.now c.in_default.self.unsent c.self.view_is c.requires.ready (ap (λ (t : State). t.unsent) w.self-is)
+      | in_default-via-in-Some+else-is_due w ↦ none_begun st c.args.self.now c.in_default.self.unsent c.self.view_is c.requires.ready (ap (λ (t : State). t.unsent) w.self-is)
       | in_default-via-in_default w ↦ none_begun st c.args.self.now c.in_default.self.unsent c.self.view_is c.requires.ready (ap (λ (t : State). t.unsent) w.self-is)
     ]
 
@@ -126,11 +126,11 @@ returns-in_default-clause-cuts g c =
     let ok = c.in_ok-number.ensures.ok in
     let P : State → Type 0 = λ st. CutsAt c.args.self.now st (g.S.ScreenSource.known c.cut.new.self) (g.S.ScreenSource.answered c.args.source.now) in
     elim c.in_default.branch [
-      | in_default-via-in-Some+else-index w ↦ λ reason. subst P (sym w.self-is)
+      | in_default-via-in-Some+else-is_due w ↦ λ reason. subst P (sym w.self-is)
           (let is = cut_for _ _ c.area-area.result _ w.in-Some.area _ _ _ c.unwrap_or.ensures w.in-Some.is ok.0 in
           quiet_at (the_view c.self.inside) c.args.self.now (g.S.ScreenSource.known c.cut.new.self) (g.S.ScreenSource.answered c.args.source.now) c.in_ok-number.number w.in-Some.area c.cut.new.into c.was_cut.new.self
           c.self.view_is c.requires.ready i.one i.have_size.0 i.have_size.1 (sym c.area-area.ensures.value ∙ w.in-Some.is) is ok.1
-          (tile_marked _ _ _ _ _ _ _ w.index.result.now _ is i.one i.have_size.0 i.have_size.1 w.index.ensures w.if-index.false) c.was_cut.ensures.stands)
+          (tile_marked _ _ _ _ _ _ _ w.is_due.result _ is i.one i.have_size.0 i.have_size.1 w.is_due.ensures w.if-is_due.false) c.was_cut.ensures.stands)
       | in_default-via-in_default w ↦ λ reason. subst P (sym w.self-is)
           (unasked_at (the_view c.self.inside) c.args.self.now (g.S.ScreenSource.known c.cut.new.self) (g.S.ScreenSource.answered c.args.source.now) c.in_ok-number.number c.was_cut.new.self
           c.self.view_is c.requires.ready (sym c.area-area.ensures.value ∙ w.in_default.is) ok.0.known ok.1 c.was_cut.ensures.stands)
