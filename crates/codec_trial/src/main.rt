@@ -17,7 +17,7 @@ use std::{env, fs};
 use timing::{reading_micros, writing_micros};
 
 /// How many rectangles there are, how many are read as told, of how many the writer is asked, and how often it answers as told.
-#[derive(Drop)]
+#[derive(Clone, Copy)]
 struct Tally {
     rectangles: u64,
     read: u64,
@@ -63,11 +63,16 @@ fn count_all(alloc: Global, bytes: &[u8]) -> Result<Tally, Fail> {
     Ok(tally)
 }
 
-/// How many rectangles of the two files are read and written as told.
+/// Runs the codecs over all rectangles of the file of this name.
+fn count_file(rt: &HostRuntime, name: &str) -> Result<Tally, Fail> {
+    let bytes = fs::read(rt, name)?;
+    count_all(rt.alloc(), bytes.as_slice())
+}
+
+/// Prints how many rectangles of the two files are read and written as told.
 fn check(rt: &HostRuntime) -> Result<(), Fail> {
     for name in ["rectangles", "libvncserver"] {
-        let bytes = fs::read(rt, name)?;
-        let tally = count_all(rt.alloc(), bytes.as_slice())?;
+        let tally = count_file(rt, name)?;
         println!(rt;
             "{name}: {} rectangles, {} read as told; {} to write, {} written as told",
             tally.rectangles, tally.read, tally.asked, tally.written

@@ -1,6 +1,6 @@
 //! Rectangles as they lie in a file.
 
-ghost use Rattle.std.specs.Prelude.{◌≤◌, IfSome};
+ghost use Rattle.std.specs.Prelude.{◌≡◌, length};
 
 use pixel_format::Format;
 
@@ -16,7 +16,7 @@ pub enum Answer {
 }
 
 /// A rectangle: its encoding's number, its pixel format, its size in pixels, what a writer has to answer, its data, and its pixels in Raw.
-#[derive(Drop)]
+#[derive(Clone, Copy)]
 pub struct Record<'a> {
     pub encoding: u8,
     pub format: Format,
@@ -30,26 +30,52 @@ pub struct Record<'a> {
 /// How many bytes stand before the data.
 const HEAD_LEN: usize = 26;
 
-/// The record at the front of some bytes, and the bytes behind it; `None` where no whole one stands there.
-pub fn read_record(bytes: &[u8]) -> Option<(Record<'_>, &[u8])> {
-    let (head, rest) = bytes.split_at_checked(HEAD_LEN)?;
-    let format = Format::read(head[1..17].try_into().ok()?).ok()?;
-    let width = u16::from_be_bytes([head[17], head[18]]);
-    let height = u16::from_be_bytes([head[19], head[20]]);
+/// What stands before the data: all but the data and the pixels, and how many bytes the data has.
+#[derive(Clone, Copy)]
+struct Head {
+    encoding: u8,
+    format: Format,
+    width: u16,
+    height: u16,
+    answer: Answer,
+    data_len: usize,
+}
+
+/// What these bytes say in front of a record's data; `None` where that is no pixel format.
+fn read_head(head: &[u8]) -> Option<Head>
+    requires { length head.now ≡ HEAD_LEN }
+{
+    let mut format = [0; 16];
+    format.copy_from_slice(&head[1..17]);
+    let format = Format::read(&format).ok()?;
     let answer = match head[21] {
         0 => Answer::Unasked,
         1 => Answer::Data,
         _ => Answer::Nothing,
     };
-    let count = u32::from_be_bytes([head[22], head[23], head[24], head[25]]);
-    let (data, rest) = rest.split_at_checked(count as usize)?;
-    let (pixels, rest) = rest.split_at_checked(width as usize * height as usize * format.bytes())?;
-    let record = Record {
+    Some(Head {
         encoding: head[0],
         format,
-        width,
-        height,
+        width: u16::from_be_bytes([head[17], head[18]]),
+        height: u16::from_be_bytes([head[19], head[20]]),
         answer,
+        data_len: u32::from_be_bytes([head[22], head[23], head[24], head[25]]) as usize,
+    })
+}
+
+/// The record at the front of some bytes, and the bytes behind it; `None` where no whole one stands there.
+pub fn read_record(bytes: &[u8]) -> Option<(Record<'_>, &[u8])> {
+    let (front, rest) = bytes.split_at_checked(HEAD_LEN)?;
+    let head = read_head(front)?;
+    let (data, rest) = rest.split_at_checked(head.data_len)?;
+    let pixels_len = head.width as usize * head.height as usize * head.format.bytes();
+    let (pixels, rest) = rest.split_at_checked(pixels_len)?;
+    let record = Record {
+        encoding: head.encoding,
+        format: head.format,
+        width: head.width,
+        height: head.height,
+        answer: head.answer,
         data,
         pixels,
     };
