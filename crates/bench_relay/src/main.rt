@@ -4,62 +4,98 @@
 
 use input_relay::{Sender, Taker, relay};
 use roles::Input;
+use std::alloc::Global;
 use std::sync::Wait;
 use std::test::Fail;
-use std::time::Instant;
+use std::thread::{JoinHandle, Threads};
+use std::time::{Clock, Instant};
 use std::{env, thread};
 
-// Sends so many pointer events, each until there is room.
+// Sends an input as soon as there is room.
+fn send<R: Wait + Drop>(rt: &R, sender: &mut Sender<R>, mut input: Input) {
+    for _ in rt.forever() {
+        match sender.send(input) {
+            Ok(()) => return,
+            Err((_, back)) => input = back,
+        }
+        thread::yield_now();
+    }
+}
+
+// Sends so many pointer events.
 fn send_all<R: Wait + Drop>(rt: &R, sender: &mut Sender<R>, count: u64) {
     for number in 0..count {
-        let mut input = Input::Pointer {
-            mask: 0,
-            x: (number % 4096) as u16,
-            y: 0,
-        };
-        for _ in rt.forever() {
-            match sender.send(input) {
-                Ok(()) => break,
-                Err((_, back)) => input = back,
-            }
-            thread::yield_now();
+        let x = (number % 4096) as u16;
+        send(rt, sender, Input::Pointer { mask: 0, x, y: 0 });
+    }
+}
+
+// Takes an input as soon as there is one.
+fn take<R: Wait + Drop>(rt: &R, taker: &mut Taker<R>) {
+    for _ in rt.forever() {
+        if taker.take().is_some() {
+            return;
         }
+        thread::yield_now();
     }
 }
 
 fn take_all<R: Wait + Drop>(rt: &R, taker: &mut Taker<R>, count: u64) {
     for _ in 0..count {
-        for _ in rt.forever() {
-            if taker.take().is_some() {
-                break;
-            }
-            thread::yield_now();
-        }
+        take(rt, taker);
+    }
+}
+
+// A thread for each sender, which sends so many.
+fn start<R: Threads + Wait + Copy + Drop + Send + 'static>(
+    rt: R,
+    alloc: Global,
+    senders: Vec<Sender<R>>,
+    each: u64,
+) -> Result<Vec<JoinHandle<()>>, Fail> {
+    let mut threads = Vec::new(alloc);
+    for mut sender in senders {
+        threads.push(thread::spawn(&rt, move || send_all(&rt, &mut sender, each))?)?;
+    }
+    Ok(threads)
+}
+
+// The time that the inputs of all senders take, so many each.
+fn micros<R: Threads + Wait + Clock + Copy + Drop + Send + 'static>(
+    rt: R,
+    alloc: Global,
+    senders: Vec<Sender<R>>,
+    taker: &mut Taker<R>,
+    each: u64,
+) -> Result<u128, Fail> {
+    let start_time = Instant::now(&rt)?;
+    let inputs = each.saturating_mul(senders.len() as u64);
+    let threads = start(rt, alloc, senders, each)?;
+    take_all(&rt, taker, inputs);
+    for thread in threads {
+        thread.join(&rt);
+    }
+    Ok(start_time.elapsed(&rt)?.as_micros())
+}
+
+// The numbers of senders and inputs that were asked for.
+fn asked(rt: &HostRuntime) -> Result<Option<(u64, u64)>, Fail> {
+    let mut words = env::args(rt)?;
+    words.next();
+    match (words.next(), words.next()) {
+        (Some(senders), Some(inputs)) => Ok(Some((senders.parse()?, inputs.parse()?))),
+        _ => Ok(None),
     }
 }
 
 fn main(rt: HostRuntime) -> Result<(), Fail> {
-    let mut words = env::args(&rt)?;
-    words.next();
-    let (Some(senders), Some(inputs)) = (words.next(), words.next()) else {
-        return Ok(());
-    };
-    let (senders, inputs) = (senders.parse::<u64>()?, inputs.parse::<u64>()?);
-    if senders == 0 || senders > 64 {
-        return Ok(());
+    match asked(&rt)? {
+        Some((senders, inputs)) if 0 < senders && senders <= 64 => {
+            let (ends, mut taker) = relay(rt, rt.alloc(), senders)?;
+            let taken = micros(rt, rt.alloc(), ends, &mut taker, inputs / senders)?;
+            println!(rt; "{taken}")?;
+        }
+        _ => {}
     }
-    let each = inputs / senders;
-    let (ends, mut taker) = relay(rt, rt.alloc(), senders)?;
-    let start = Instant::now(&rt)?;
-    let mut threads = Vec::new(rt.alloc());
-    for mut sender in ends {
-        threads.push(thread::spawn(&rt, move || send_all(&rt, &mut sender, each))?)?;
-    }
-    take_all(&rt, &mut taker, each.saturating_mul(senders));
-    for thread in threads {
-        thread.join(&rt);
-    }
-    let micros = start.elapsed(&rt)?.as_micros();
-    println!(rt; "{micros}")?;
     Ok(())
 }

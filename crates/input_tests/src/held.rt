@@ -2,6 +2,7 @@
 
 use rfb_wire::{ClientMessage, Text};
 use roles::{Held, Input, Role};
+use std::process::Abort;
 
 fn press(held: &mut Held, key: u32) -> bool {
     held.passes(Role::Full, &ClientMessage::Key { down: true, key })
@@ -11,17 +12,46 @@ fn lift(held: &mut Held, key: u32) -> bool {
     held.passes(Role::Full, &ClientMessage::Key { down: false, key })
 }
 
-fn is_release_of(input: &Option<Input>, wanted: u32) -> bool {
-    match input {
-        Some(Input::Key { down: false, key }) => *key == wanted,
+// Whether the next release is of this key.
+fn releases_key(held: &mut Held, wanted: u32) -> bool {
+    match held.release() {
+        Some(Input::Key { down: false, key }) => key == wanted,
         _ => false,
     }
 }
 
-fn is_buttons_up_at(input: &Option<Input>, left: u16, top: u16) -> bool {
-    match input {
-        Some(Input::Pointer { mask: 0, x, y }) => *x == left && *y == top,
+// Whether the next release is of all buttons, at this position.
+fn releases_buttons(held: &mut Held, left: u16, top: u16) -> bool {
+    match held.release() {
+        Some(Input::Pointer { mask: 0, x, y }) => x == left && y == top,
         _ => false,
+    }
+}
+
+fn check_passes<R: Abort>(rt: &R, held: &mut Held, role: Role, message: &ClientMessage) {
+    assert!(rt; held.passes(role, message));
+}
+
+fn check_stays<R: Abort>(rt: &R, held: &mut Held, role: Role, message: &ClientMessage) {
+    assert!(rt; !held.passes(role, message));
+}
+
+fn check_nothing_left<R: Abort>(rt: &R, held: &mut Held) {
+    assert!(rt; held.release().is_none());
+}
+
+fn check_presses<R: Abort>(rt: &R, held: &mut Held) {
+    for key in 1..65 {
+        assert!(rt; press(held, 65 - key));
+    }
+    assert!(rt; !press(held, 65));
+    assert!(rt; !lift(held, 65));
+    assert!(rt; press(held, 1));
+}
+
+fn check_releases<R: Abort>(rt: &R, held: &mut Held) {
+    for key in 1..65 {
+        assert!(rt; releases_key(held, key));
     }
 }
 
@@ -29,30 +59,28 @@ fn is_buttons_up_at(input: &Option<Input>, left: u16, top: u16) -> bool {
 #[test]
 fn sixty_four_keys(rt: HostRuntime) {
     let mut held = Held::new();
-    for key in 1..65 {
-        assert!(rt; press(&mut held, 65 - key));
-    }
-    assert!(rt; !press(&mut held, 65));
-    assert!(rt; !lift(&mut held, 65));
-    assert!(rt; press(&mut held, 1));
-    for key in 1..65 {
-        assert!(rt; is_release_of(&held.release(), key));
-    }
-    assert!(rt; held.release().is_none());
+    check_presses(&rt, &mut held);
+    check_releases(&rt, &mut held);
+    check_nothing_left(&rt, &mut held);
+}
+
+fn check_buttons<R: Abort>(rt: &R, held: &mut Held) {
+    assert!(rt; releases_buttons(held, 1, 0));
 }
 
 // A button that is down is released where the pointer was last.
 #[test]
 fn buttons_are_released(rt: HostRuntime) {
     let mut held = Held::new();
-    let dragged = ClientMessage::Pointer {
-        mask: 1,
-        x: 1,
-        y: 0,
-    };
-    assert!(rt; held.passes(Role::Full, &dragged));
-    assert!(rt; is_buttons_up_at(&held.release(), 1, 0));
-    assert!(rt; held.release().is_none());
+    let (mask, x, y) = (1, 1, 0);
+    check_passes(
+        &rt,
+        &mut held,
+        Role::Full,
+        &ClientMessage::Pointer { mask, x, y },
+    );
+    check_buttons(&rt, &mut held);
+    check_nothing_left(&rt, &mut held);
 }
 
 // A text passes of a viewer in full control, and leaves nothing to release.
@@ -60,26 +88,29 @@ fn buttons_are_released(rt: HostRuntime) {
 fn texts_pass(rt: HostRuntime) {
     let mut held = Held::new();
     let text = ClientMessage::Cut(Text::from_vec(Vec::new(rt.alloc())));
-    assert!(rt; held.passes(Role::Full, &text));
-    assert!(rt; held.release().is_none());
+    check_passes(&rt, &mut held, Role::Full, &text);
+    check_nothing_left(&rt, &mut held);
 }
 
 // A view-only viewer's pointer, keys and texts don't pass, and nothing is released.
 #[test]
 fn view_only(rt: HostRuntime) {
     let mut held = Held::new();
-    let pointer = ClientMessage::Pointer {
-        mask: 1,
-        x: 1,
-        y: 0,
-    };
-    assert!(rt; !held.passes(Role::View, &pointer));
-    let key = ClientMessage::Key {
-        down: true,
-        key: 97,
-    };
-    assert!(rt; !held.passes(Role::View, &key));
+    let (mask, x, y) = (1, 1, 0);
+    check_stays(
+        &rt,
+        &mut held,
+        Role::View,
+        &ClientMessage::Pointer { mask, x, y },
+    );
+    let (down, key) = (true, 97);
+    check_stays(
+        &rt,
+        &mut held,
+        Role::View,
+        &ClientMessage::Key { down, key },
+    );
     let text = ClientMessage::Cut(Text::from_vec(Vec::new(rt.alloc())));
-    assert!(rt; !held.passes(Role::View, &text));
-    assert!(rt; held.release().is_none());
+    check_stays(&rt, &mut held, Role::View, &text);
+    check_nothing_left(&rt, &mut held);
 }

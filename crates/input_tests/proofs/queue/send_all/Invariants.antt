@@ -4,6 +4,3 @@ use Rattle.input_tests.proofs.queue.send_all.Given as goal
 
 abbrev pub invariant-loop-key : goal.invariant-loop-key
 invariant-loop-key g l = relay_of l.sender ≡ relay_of l.initial.sender
-
-abbrev pub invariant-loop : goal.invariant-loop
-invariant-loop g l = relay_of l.sender ≡ relay_of l.initial.sender
