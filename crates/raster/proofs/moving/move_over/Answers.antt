@@ -1,5 +1,5 @@
 use Rattle.std.proofs.Common.{◌≡◌, ℕ, ◌+◌, ◌-◌, ◌∙◌, ap, get_or, arith}
-use Rattle.raster.proofs.painting.move_part.Goals as goal
+use Rattle.raster.proofs.moving.move_over.Goals as goal
 
 pub returns-clause-inside : goal.returns-clause-inside
 returns-clause-inside c = λ k lt.
