@@ -13,7 +13,7 @@ use crate::cut::Cut;
 use painter::{Patch, Text};
 use raster::Rect;
 use std::alloc::{AllocError, Global};
-use tiles::{Have, is_met, rect_at};
+use tiles::{Have, rect_at};
 
 /// Paints all patches over black.
 pub(crate) fn repaint(
@@ -95,7 +95,7 @@ fn is_due_in(patches: &[Patch], area: &Rect, have: &Have, t: u64) -> bool
 {
     let (width, height) = have.size();
     let tile = rect_at(width, height, t);
-    is_met(area, &tile) && is_due(patches, &tile, have.sent(t))
+    area.meets(&tile) && is_due(patches, &tile, have.sent(t))
 }
 
 /// Marks the tiles that meet the area and are due, and answers whether each of them was sent before.

@@ -22,10 +22,3 @@ pub fn rect_at(w: u64, h: u64, t: u64) -> Rect
         h: h.saturating_sub(y).min(16),
     }
 }
-
-/// Whether two rectangles have a position in common: `Rect::meets`.
-pub fn is_met(r: &Rect, s: &Rect) -> bool
-    ensures { result ≡ meets r.now s.now }
-{
-    r.meets(s)
-}
