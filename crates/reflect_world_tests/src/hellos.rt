@@ -1,6 +1,6 @@
 //! Viewers that begin with their hello (RFC 6143, 7.1 to 7.3), over a world of one pixel.
 
-use crate::worlds::{RED, play_one};
+use crate::worlds::{BLUE, play_one};
 use pixel_format::Fault;
 use reflect_world::{Step, World};
 use roles::Role;
@@ -15,10 +15,10 @@ const HELLO_AND_ASK: &[u8] = b"RFB 003.008\n\x01\x01\x03\0\0\0\0\0\0\x01\0\x01";
 const TOLD: &[u8] =
     b"RFB 003.008\n\x01\x01\0\0\0\0\0\x01\0\x01\x20\x18\0\x01\0\xFF\0\xFF\0\xFF\x10\x08\0\0\0\0\0\0\0\x01T";
 
-/// The pixel becomes red, and viewer 1 begins with its hello.
+/// The pixel becomes blue, and viewer 1 begins with its hello.
 fn greet(alloc: Global, world: &mut World) -> Result<(), Fail> {
     world.join(1, Role::Full, true)?;
-    play_one(world, Step::HostBytes(Vec::from_slice(alloc, &RED)?))?;
+    play_one(world, Step::HostBytes(Vec::from_slice(alloc, &BLUE)?))?;
     play_one(world, Step::Put)?;
     play_one(world, Step::Raise)
 }
@@ -51,7 +51,7 @@ pub fn is_told_whole<R: Abort + AllocGlobal>(
     assert!(rt; world.written(1) == TOLD);
     turn(world)?;
     let written = world.written(1);
-    assert!(rt; written.starts_with(TOLD) && &written[43..] == RED.as_slice());
+    assert!(rt; written.starts_with(TOLD) && &written[43..] == BLUE.as_slice());
     Ok(())
 }
 

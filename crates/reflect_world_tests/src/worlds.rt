@@ -9,8 +9,8 @@ use std::process::Abort;
 use std::slice;
 use std::test::Fail;
 
-/// An update that paints one pixel red.
-pub const RED: [u8; 20] = [
+/// An update that paints one pixel blue.
+pub const BLUE: [u8; 20] = [
     0, 0, 0, 1, 0, 0, 0, 0, 0, 1, 0, 1, 0, 0, 0, 0, 0xFF, 0, 0, 0,
 ];
 
@@ -84,10 +84,10 @@ fn bytes_due_before_a_fault(rt: HostRuntime) -> Result<(), Fail> {
     in_new_world(&rt, Check::HelloUpToAFault)
 }
 
-/// The pixel becomes red, and viewer 1 has asked for it.
+/// The pixel becomes blue, and viewer 1 has asked for it.
 fn ask(alloc: Global, world: &mut World) -> Result<(), Fail> {
     world.join(1, Role::Full, false)?;
-    play_one(world, Step::HostBytes(Vec::from_slice(alloc, &RED)?))?;
+    play_one(world, Step::HostBytes(Vec::from_slice(alloc, &BLUE)?))?;
     play(world, &[Step::Put, Step::Raise])?;
     play_one(world, Step::Bytes(1, Vec::from_slice(alloc, &ASK)?))
 }
@@ -104,9 +104,9 @@ fn is_written_as_it_is_sent<R: Abort + AllocGlobal>(rt: &R, world: &mut World) -
     play_one(world, Step::Cut(1))?;
     assert!(rt; world.written(1).is_empty());
     play_one(world, Step::Written(1, 7))?;
-    assert!(rt; world.written(1) == &RED[..7]);
+    assert!(rt; world.written(1) == &BLUE[..7]);
     play_one(world, Step::Written(1, 100))?;
-    assert!(rt; world.written(1) == RED.as_slice());
+    assert!(rt; world.written(1) == BLUE.as_slice());
     assert_eq!(rt; world.updates(), 1);
     assert!(rt; world.host_fault().is_none() && world.fault(1).is_none());
     Ok(())
