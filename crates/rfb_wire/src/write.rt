@@ -3,7 +3,7 @@
 //! Each writer spells one message, or the head of one, at the front of `out`, leaves what lies behind it, and answers
 //! how many bytes it wrote. Padding is written as 0, a flag as 0 or 1.
 
-ghost use Rattle.std.specs.Prelude.{◌≡◌, ◌≤◌, ◌<◌, ◌+◌, ◌*◌, ◌^◌, ◌++◌, length};
+ghost use Rattle.std.specs.Prelude.{◌≡◌, ◌≤◌, ◌<◌, ◌+◌, ◌*◌, ◌^◌, [], ◌∷◌, ◌++◌, length};
 ghost use Rattle.std.specs.Int.{w32, to_be_bytes};
 ghost use Rattle.pixel_format.specs.PixelFormat.{host_format, format_bytes};
 ghost use Rattle.rfb_wire.specs.Handshake.{server_init, said_to_viewer};
@@ -13,6 +13,7 @@ use crate::message_type::{
     BELL, CLIENT_CUT_TEXT, FRAMEBUFFER_UPDATE, FRAMEBUFFER_UPDATE_REQUEST, KEY_EVENT,
     POINTER_EVENT, SERVER_CUT_TEXT, SET_ENCODINGS, SET_PIXEL_FORMAT,
 };
+use crate::version::{SAID_TO_HOST, VERSION_LEN};
 use byteorder::{BigEndian, ByteOrder};
 use pixel_format::Format;
 use raster::Rect;
@@ -191,20 +192,35 @@ pub fn write_server_init(w: u16, h: u16, name: &[u8], out: &mut [u8]) -> usize
     4 + put_format_and_name(name, back)
 }
 
-/// The only version that is spoken.
-pub(crate) const VERSION: [u8; 12] = *b"RFB 003.008\n";
+/// What is said behind the version and before ServerInit: one security type, which is 1, None, and SecurityResult 0 (RFC
+/// 6143, 7.1.2 and 7.1.3).
+const SECURITY: [u8; 6] = [1, 1, 0, 0, 0, 0];
 
-// The version, the one security type, which is None, and the result of choosing it.
-const BEFORE_INIT: [u8; 18] = *b"RFB 003.008\n\x01\x01\0\0\0\0";
+/// How many bytes of a handshake are said before ServerInit: the version and what is said of security.
+pub(crate) const BEFORE_INIT_LEN: usize = 18;
+
+/// How many are said before the name: those before ServerInit, and 24 of it.
+pub(crate) const BEFORE_NAME_LEN: usize = 42;
+
+/// What a server says behind its version.
+fn put_security_and_init(w: u16, h: u16, name: &[u8], out: &mut [u8]) -> usize
+    requires few { length name.now < 2 ^ 32 }
+    requires room { 30 + length name.now ≤ length out.old }
+    ensures { Writes ((1 ∷ 1 ∷ 0 ∷ 0 ∷ 0 ∷ 0 ∷ []) ++ server_init w h name.now) out.old out.new result }
+{
+    let (front, back) = out.split_at_mut(SECURITY.len());
+    front.copy_from_slice(&SECURITY);
+    SECURITY.len() + write_server_init(w, h, name, back)
+}
 
 /// All that a server says in a handshake, one answer behind the other: the version, the security types, the
 /// SecurityResult and ServerInit, 42 bytes and the name.
 pub(crate) fn write_handshake(w: u16, h: u16, name: &[u8], out: &mut [u8]) -> usize
     requires few { length name.now < 2 ^ 32 }
-    requires room { 42 + length name.now ≤ length out.old }
+    requires room { BEFORE_NAME_LEN + length name.now ≤ length out.old }
     ensures { Writes (said_to_viewer w h name.now 14) out.old out.new result }
 {
-    let (front, back) = out.split_at_mut(18);
-    front.copy_from_slice(&BEFORE_INIT);
-    18 + write_server_init(w, h, name, back)
+    let (front, back) = out.split_at_mut(VERSION_LEN);
+    front.copy_from_slice(&SAID_TO_HOST[..VERSION_LEN]);
+    VERSION_LEN + put_security_and_init(w, h, name, back)
 }
