@@ -5,15 +5,12 @@ use Rattle.std.proofs.lemmas.Option.{slice_get-get_or, get_or_from_slice_get}
 use Rattle.raster.specs.Screen.{tile_count, tile_rect}
 use Rattle.raster.specs.declared.rect.Rect.{Rect}
 use Rattle.tiles.specs.Have.{SentTiles, HaveStands, sent_at}
-use Rattle.tiles.specs.Touched.{Event, Requested, WasCut, last_sent}
+use Rattle.tiles.specs.Touched.{Event, Requested, last_sent}
 use Rattle.tiles.proofs.Marks.{IsMarked}
 
--- An incremental request and a cut change nothing of it.
+-- An incremental request changes nothing of it.
 pub stands_incremental : (have : SentTiles) (area : Rect) (es : List Event) → HaveStands have es → HaveStands have (Requested true area ∷ es)
 stands_incremental have area es s = record { each = s.each }
-
-pub stands_was_cut : (have : SentTiles) (n : ℕ) (es : List Event) → HaveStands have es → HaveStands have (WasCut n ∷ es)
-stands_was_cut have n es s = record { each = s.each }
 
 -- The number of a tile is the one that the events say.
 pub sent_at_stands : (have : SentTiles) (es : List Event) (t : ℕ) → HaveStands have es → t < tile_count have.width have.height

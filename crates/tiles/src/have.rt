@@ -43,9 +43,8 @@ impl Have {
     {
         let across = (width + 15) / 16;
         let down = (height + 15) / 16;
-        let mut sent = Vec::new(alloc);
-        match sent.resize((across * down) as usize, None) {
-            Ok(()) => Ok(Have {
+        match vec![in alloc; None; (across * down) as usize] {
+            Ok(sent) => Ok(Have {
                 width,
                 height,
                 sent,
@@ -74,9 +73,7 @@ impl Have {
         ensures size { IsSameSize self.old self.new }
         ensures stands { (es : List Event) → HaveStands self.old es → HaveStands self.new (NewFormat ∷ es) }
     {
-        for t in 0..self.sent.len() {
-            self.sent[t] = None;
-        }
+        self.sent.as_mut_slice().fill(None);
     }
 
     /// No tile that meets the area counts as sent any longer: it was asked for, and not incrementally (RFC 6143, 7.5.3).
