@@ -21,9 +21,6 @@ pub either : (b : Bool) → (b ≡ true) ⊎ (b ≡ false)
 either true = inl refl
 either false = inr refl
 
-mask_is_fine : (stage : Stage) → stage ≡ Mask → is_failed stage ≡ false
-mask_is_fine stage e = ap (λ s. is_failed s) e
-
 -- In front of the last tile's end.
 pub ready_there : (format : PixelFormat) (w h tiles k : ℕ) (area : Rect) (stage : Stage) (filled : ℕ) → IsPlace format w h tiles k area stage filled → k < tiles → IsReady format (tile_rect w h k) stage
 ready_there format w h tiles k area stage filled p lt = rw (p.lies lt) at (p.ready lt)

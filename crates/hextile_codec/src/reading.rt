@@ -6,8 +6,9 @@ ghost use Rattle.raster.specs.Encoding.{Tile, hextile, tiled};
 ghost use Rattle.raster.specs.Screen.{Map, LooksLike};
 ghost use Rattle.hextile_codec.specs.Ahead.{Part, Sofar, nothing_read, ahead, Stands, Steps, Draws, IsSameSize, is_wanting, needed};
 
+use crate::colours::Colours;
 use crate::drawing::{draw, is_whole};
-use crate::stage::{Colours, MOST_NEEDED, Stage, needed};
+use crate::stage::{MOST_NEEDED, Stage, needed};
 use crate::tile::tile_rect;
 use pixel_format::{Fault, Format};
 use raster::{Canvas, Rect};
@@ -33,7 +34,8 @@ pub struct Reader {
 
 impl Model for Reader {
     ghost use Rattle.std.specs.Prelude.{take};
-    ghost use Rattle.hextile_codec.specs.Ahead.{Progress, IsPlace, carried_by};
+    ghost use Rattle.hextile_codec.specs.Carried.{carried_by};
+    ghost use Rattle.hextile_codec.specs.Ahead.{Progress, IsPlace};
 
     ghost Value = { Progress };
 
@@ -72,10 +74,7 @@ impl Reader {
                 w: w.min(16),
                 h: h.min(16),
             },
-            carried: Colours {
-                background: None,
-                foreground: None,
-            },
+            carried: Colours::NOTHING,
             stage: Stage::Mask,
             buffer: [0; MOST_NEEDED],
             filled: 0,

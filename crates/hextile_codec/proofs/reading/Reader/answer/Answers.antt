@@ -1,6 +1,6 @@
 use Rattle.std.proofs.Common.{◌≤◌, ◌∙◌, Some, refl, sym, ap, take, length, arith}
 use Rattle.std.proofs.lemmas.List.{length-take}
-use Rattle.hextile_codec.specs.Ahead.{carried_by}
+use Rattle.hextile_codec.specs.Carried.{carried_by}
 use Rattle.hextile_codec.proofs.Standing.{fine_else, no_fault_there, fault_there}
 use Rattle.hextile_codec.proofs.reading.Reader.answer.Goals as goal
 

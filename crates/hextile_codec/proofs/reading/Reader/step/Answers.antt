@@ -7,7 +7,8 @@ use Rattle.pixel_format.specs.Reading.{Reading, after}
 use Rattle.pixel_format.proofs.ReadingLaws.{after-append}
 use Rattle.raster.specs.Encoding.{Tile}
 use Rattle.raster.specs.Screen.{tile_count}
-use Rattle.hextile_codec.specs.Ahead.{carried_by, is_failed, needed, next_form}
+use Rattle.hextile_codec.specs.Carried.{carried_by}
+use Rattle.hextile_codec.specs.Ahead.{is_failed, needed, next_form}
 use Rattle.hextile_codec.proofs.Needed.{begun_takes}
 use Rattle.hextile_codec.proofs.Standing.{needs_there}
 use Rattle.hextile_codec.proofs.Taking.{kept_first, wanting_lt, wanting_fine}

@@ -1,7 +1,8 @@
 use Rattle.std.proofs.Common.{◌≡◌, ◌∙◌, ◌<◌, take, [], sym, ap, arith}
 use Rattle.std.specs.Prelude.{not}
 use Rattle.raster.specs.Screen.{tile_count}
-use Rattle.hextile_codec.specs.Ahead.{carried_by, is_failed}
+use Rattle.hextile_codec.specs.Carried.{carried_by}
+use Rattle.hextile_codec.specs.Ahead.{is_failed}
 use Rattle.hextile_codec.proofs.Needed.{needs_few}
 use Rattle.hextile_codec.proofs.Taking.{wanting_lt, none_filled, stays_in_tile, leaves_tile, place_stays, place_moves}
 use Rattle.hextile_codec.proofs.TilesShown.{is_tile}
@@ -51,7 +52,7 @@ invariant_of-self-else-is_whole g c =
     let none : take r.filled r.buffer ≡ [] = rw (← c.self.view_is) at c.requires.fresh in
     let zero : r.filled ≡ 0 = none_filled r.filled r.buffer (omega (arith, c.self.told, needs_few r.format r.stage, c.self.invariant.room)) none in
     let place = rw zero at c.self.invariant in
-    rw zero (place_stays r.format r.width r.height r.tiles r.tile r.area r.stage c.draw-drawn.result.stage place before c.draw-drawn.ensures.later (sym c.is_whole.ensures ∙ c.if-is_whole.false))
+    rw zero (place_stays r.format r.width r.height r.tiles r.tile r.area r.stage c.draw-drawn.result.stage place before c.draw-drawn.ensures.drawn.later (sym c.is_whole.ensures ∙ c.if-is_whole.false))
 
 pub returns-then-self-clause-drawn : goal.returns-then-self-clause-drawn
 returns-then-self-clause-drawn g c sofar stands =
@@ -63,7 +64,7 @@ returns-then-self-clause-drawn g c sofar stands =
     let height = c.requires.height ∙ ap (λ p. p.height) (sym c.self.view_is) in
     rw (← c.self.view_is)
     (leaves_tile r.format r.width r.height r.tile r.area (carried_by r.carried) (carried_by c.draw-drawn.result.carried) r.stage c.draw-drawn.result.stage (take r.filled r.buffer) (take c.draw-drawn.result.used c.args.bytes.now) (g.C.Canvas.shows c.args.canvas.now) (g.C.Canvas.shows c.draw-drawn.new.canvas) sofar
-    lt (c.self.invariant.lies before) none (rw (width, height) at c.draw-drawn.ensures.keeps) c.draw-drawn.ensures.drawn (sym c.is_whole.ensures ∙ c.if-is_whole.true) (rw (← c.self.view_is) at stands))
+    lt (c.self.invariant.lies before) none (rw (width, height) at c.draw-drawn.ensures.canvas.keeps) c.draw-drawn.ensures.drawn.leads (sym c.is_whole.ensures ∙ c.if-is_whole.true) (rw (← c.self.view_is) at stands))
 
 pub returns-else-self-clause-drawn : goal.returns-else-self-clause-drawn
 returns-else-self-clause-drawn g c sofar stands =
@@ -75,7 +76,7 @@ returns-else-self-clause-drawn g c sofar stands =
     let height = c.requires.height ∙ ap (λ p. p.height) (sym c.self.view_is) in
     rw (← c.self.view_is)
     (leaves_tile r.format r.width r.height r.tile r.area (carried_by r.carried) (carried_by c.draw-drawn.result.carried) r.stage c.draw-drawn.result.stage (take r.filled r.buffer) (take c.draw-drawn.result.used c.args.bytes.now) (g.C.Canvas.shows c.args.canvas.now) (g.C.Canvas.shows c.draw-drawn.new.canvas) sofar
-    lt (c.self.invariant.lies before) none (rw (width, height) at c.draw-drawn.ensures.keeps) c.draw-drawn.ensures.drawn (sym c.is_whole.ensures ∙ c.if-is_whole.true) (rw (← c.self.view_is) at stands))
+    lt (c.self.invariant.lies before) none (rw (width, height) at c.draw-drawn.ensures.canvas.keeps) c.draw-drawn.ensures.drawn.leads (sym c.is_whole.ensures ∙ c.if-is_whole.true) (rw (← c.self.view_is) at stands))
 
 pub returns-else-is_whole-clause-drawn : goal.returns-else-is_whole-clause-drawn
 returns-else-is_whole-clause-drawn g c sofar stands =
@@ -87,4 +88,4 @@ returns-else-is_whole-clause-drawn g c sofar stands =
     let height = c.requires.height ∙ ap (λ p. p.height) (sym c.self.view_is) in
     rw (← c.self.view_is)
     (stays_in_tile r.format r.width r.height r.tile r.area (carried_by r.carried) (carried_by c.draw-drawn.result.carried) r.stage c.draw-drawn.result.stage (take r.filled r.buffer) (take c.draw-drawn.result.used c.args.bytes.now) (g.C.Canvas.shows c.args.canvas.now) (g.C.Canvas.shows c.draw-drawn.new.canvas) sofar
-    lt (c.self.invariant.lies before) none (rw (width, height) at c.draw-drawn.ensures.keeps) c.draw-drawn.ensures.drawn (rw (← c.self.view_is) at stands))
+    lt (c.self.invariant.lies before) none (rw (width, height) at c.draw-drawn.ensures.canvas.keeps) c.draw-drawn.ensures.drawn.leads (rw (← c.self.view_is) at stands))

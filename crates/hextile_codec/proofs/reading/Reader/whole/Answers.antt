@@ -1,6 +1,6 @@
 use Rattle.std.proofs.Common.{◌≤◌, take, length, arith}
 use Rattle.std.proofs.lemmas.List.{length-take}
-use Rattle.hextile_codec.specs.Ahead.{carried_by}
+use Rattle.hextile_codec.specs.Carried.{carried_by}
 use Rattle.hextile_codec.proofs.Standing.{whole_there, shown_there}
 use Rattle.hextile_codec.proofs.reading.Reader.whole.Goals as goal
 

@@ -1,7 +1,7 @@
 use Rattle.std.proofs.Common.{◌≡◌, ◌-◌, ◌*◌, ◌++◌, take, length}
 use Rattle.pixel_format.specs.PixelFormat.{pixel_len}
 use Rattle.hextile_codec.specs.Ahead.{pixels_in}
-use Rattle.hextile_codec.proofs.drawing.get_row.Given as goal
+use Rattle.hextile_codec.proofs.pixels.get_row.Given as goal
 
 abbrev pub invariant-loop-value : goal.invariant-loop-value
 invariant-loop-value l =

@@ -6,8 +6,8 @@ use Rattle.raster.specs.Encoding.{has_bit}
 use Rattle.hextile_codec.specs.Ahead.{colour_in, colour_len, head_len}
 use Rattle.hextile_codec.proofs.HeadRead.{head_goes, only_background, count_in}
 use Rattle.hextile_codec.proofs.TileDrawn.{background_drawn}
-use Rattle.hextile_codec.proofs.drawing.draw_head.Goals as goal
-use Rattle.hextile_codec.proofs.drawing.draw_head.Goals.{then-has, else-has}
+use Rattle.hextile_codec.proofs.head.draw_head.Goals as goal
+use Rattle.hextile_codec.proofs.head.draw_head.Goals.{then-has, else-has}
 
 -- A number of subrectangles stands behind the colours.
 rest_len : (format : PixelFormat) (mask : ℕ) (b f s : Bool) (head behind last : List ℕ) → b ≡ has_bit mask 1 → f ≡ has_bit mask 2 → s ≡ has_bit mask 3 → behind ≡ drop (colour_len format b) head → last ≡ drop (colour_len format f) behind
@@ -21,7 +21,7 @@ rest_len format mask b f s head behind last is_b is_f is_s rest_b rest_f size so
     omega (arith, told, one, size, ap length rest_b, ap length rest_f, length-drop (colour_len format b) head, length-drop (colour_len format f) behind)
 
 pub returns-clause-drawn : goal.returns-clause-drawn
-returns-clause-drawn g c part stands =
+returns-clause-drawn g c =
     let format = c.args.format.now in
     let mask : ℕ = c.args.mask in
     let bs : List ℕ = c.split_at.result.0.now in
@@ -41,14 +41,18 @@ returns-clause-drawn g c part stands =
       | else-has w ↦ w.left-is ∙ sym (ap (λ b. count_in b last) (sym c.has-3.ensures ∙ w.if-has.false))
     ] in
     let front : take (length bs) c.args.bytes.now ≡ bs = ap (λ k. take k c.args.bytes.now) c.split_at.ensures.front_len ∙ sym c.split_at.ensures.front in
-    rw (front, b_told, f_told, c.has-4.ensures, count)
-    (record {
-      grown = only_background (colour_in format (has_bit mask 1) c.args.carried.background bs);
-      goes = head_goes format c.args.area.w c.args.area.h mask (record { background = c.args.carried.background; foreground = c.args.carried.foreground }) part bs (omega (arith, c.split_at.ensures.front_len, c.head_len.ensures.value, c.requires.count));
-      shows =
-          background_drawn c.args.area (g.C.Canvas.width c.args.canvas.now) (g.C.Canvas.height c.args.canvas.now) (unwrap_or (colour_in format (has_bit mask 1) c.args.carried.background bs) 0) (g.C.Canvas.shows c.args.canvas.now) (g.C.Canvas.shows c.fill.new.self) c.requires.tile
-          (rw (c.unwrap_or.ensures, b_told) at c.fill.ensures.shows);
-    })
+    record {
+      later = tt;
+      leads = λ part stands.
+          rw (front, b_told, f_told, c.has-4.ensures, count)
+          (record {
+            grown = only_background (colour_in format (has_bit mask 1) c.args.carried.background bs);
+            goes = head_goes format c.args.area.w c.args.area.h mask (record { background = c.args.carried.background; foreground = c.args.carried.foreground }) part bs (omega (arith, c.split_at.ensures.front_len, c.head_len.ensures.value, c.requires.count));
+            shows =
+                background_drawn c.args.area (g.C.Canvas.width c.args.canvas.now) (g.C.Canvas.height c.args.canvas.now) (unwrap_or (colour_in format (has_bit mask 1) c.args.carried.background bs) 0) (g.C.Canvas.shows c.args.canvas.now) (g.C.Canvas.shows c.fill.new.self) c.requires.tile
+                (rw (c.unwrap_or.ensures, b_told) at c.fill.ensures.shows);
+          });
+    }
 
 pub bounds-rest-0 : goal.bounds-rest-0
 bounds-rest-0 g c =

@@ -4,11 +4,12 @@ use Rattle.std.proofs.Math.Nat.{le-div_iff_mul-le, mul-le-mul_right}
 use Rattle.pixel_format.specs.PixelFormat.{pixel_len}
 use Rattle.raster.specs.Screen.{value_at}
 use Rattle.hextile_codec.specs.declared.stage.Stage.TheVariants.{RawPixels}
-use Rattle.hextile_codec.specs.Ahead.{carried_by, pixels_in}
+use Rattle.hextile_codec.specs.Carried.{carried_by}
+use Rattle.hextile_codec.specs.Ahead.{pixels_in}
 use Rattle.hextile_codec.proofs.LedOn.{has_led_none, has_led_more, has_led_all}
 use Rattle.hextile_codec.proofs.RowRead.{pixel_some, next_is, row_part, still_inside, row_leads}
 use Rattle.hextile_codec.proofs.TileDrawn.{keeps_then, lay_keeps}
-use Rattle.hextile_codec.proofs.drawing.draw_pixels.Goals as goal
+use Rattle.hextile_codec.proofs.pixels.draw_pixels.Goals as goal
 
 pub loop-count-init : goal.loop-count-init
 loop-count-init g c =
@@ -18,9 +19,7 @@ loop-count-init g c =
       most = omega (arith, c.requires.some);
       first = λ _. refl;
       later = λ lt. absurd (omega arith);
-      width = refl;
-      height = refl;
-      keeps = λ x y lx ly e. refl;
+      canvas = record { width = refl; height = refl; keeps = λ x y lx ly e. refl };
       drawn = λ part shows. has_led_none c.args.format.now c.args.area (carried_by c.args.carried) (RawPixels c.args.come) c.args.bytes.now (g.C.Canvas.shows c.args.canvas.now) part shows;
     }
 
@@ -51,18 +50,20 @@ loop-count-preserved g c =
     let bs : List ℕ = take (n * size) rest in
     let upto : n * size ≤ length rest = (le-div_iff_mul-le {k = size} {x = n} {y = length rest} size_some).0 (omega (arith, c.pixels_upto-now.ensures)) in
     let len : length bs ≡ n * p = omega (arith, length-take (n * size) rest, upto, ap (λ k. n * k) is_size) in
-    let shows = rw (i.width, i.height, c.split_at.ensures.front) at c.draw_row.ensures.shows in
+    let shows = rw (i.canvas.width, i.canvas.height, c.split_at.ensures.front) at c.draw_row.ensures.shows in
     record {
       within = omega (arith, c.split_at.ensures.back_len, i.within);
       more = omega (arith, i.more);
       most = still_inside area.w area.h count n c.requires.tile.wide.0 lt least;
       first = λ e. absurd (omega (arith, i.more, some, e));
       later = λ _. omega (arith, c.split_at.ensures.back_len, i.within, is_size, fills);
-      width = c.draw_row.ensures.width ∙ i.width;
-      height = c.draw_row.ensures.height ∙ i.height;
-      keeps =
-          keeps_then area w h (g.C.Canvas.shows c.args.canvas.now) before now i.keeps
-          (lay_keeps area (record { x = count % area.w; y = count / area.w; w = n; h = 1 }) (value_at n (pixels_in format n bs)) w h before now (record { across = omega (arith, least, next.column); down = omega (arith, next.row) }) shows);
+      canvas = record {
+        width = c.draw_row.ensures.width ∙ i.canvas.width;
+        height = c.draw_row.ensures.height ∙ i.canvas.height;
+        keeps =
+            keeps_then area w h (g.C.Canvas.shows c.args.canvas.now) before now i.canvas.keeps
+            (lay_keeps area (record { x = count % area.w; y = count / area.w; w = n; h = 1 }) (value_at n (pixels_in format n bs)) w h before now (record { across = omega (arith, least, next.column); down = omega (arith, next.row) }) shows);
+      };
       drawn = λ part was.
           rw c.split_at.ensures.back
           (has_led_more format area carried carried carried (RawPixels c.args.come) (RawPixels count) (RawPixels (count + n)) c.args.bytes.now rest (n * size) before now part (i.drawn part was)
@@ -75,13 +76,17 @@ overflow_mul-now g c =
     omega (arith, p.upto, c.loop-count.invariant.within)
 
 pub returns-clause-drawn : goal.returns-clause-drawn
-returns-clause-drawn g c = λ part was.
-    has_led_all c.args.format.now c.args.area (carried_by c.args.carried) (carried_by c.args.carried) (RawPixels c.args.come) (RawPixels c.loop-count.count) c.args.bytes.now c.loop-count.rest.now (g.C.Canvas.shows c.loop-count.canvas) part (c.loop-count.invariant.drawn part was)
+returns-clause-drawn g c =
+    record {
+      leads = λ part was.
+          has_led_all c.args.format.now c.args.area (carried_by c.args.carried) (carried_by c.args.carried) (RawPixels c.args.come) (RawPixels c.loop-count.count) c.args.bytes.now c.loop-count.rest.now (g.C.Canvas.shows c.loop-count.canvas) part (c.loop-count.invariant.drawn part was);
+      later = c.loop-count.invariant.most;
+    }
 
 pub draw_row-requires-clause-down : goal.draw_row-requires-clause-down
 draw_row-requires-clause-down g c =
     let next = next_is c.args.area.w c.args.area.h c.loop-count.count c.requires.tile.wide.0 c.loop-count-test.true in
-    omega (arith, next.row, c.requires.tile.within, c.loop-count.invariant.height)
+    omega (arith, next.row, c.requires.tile.within, c.loop-count.invariant.canvas.height)
 
 pub loop-count-smaller : goal.loop-count-smaller
 loop-count-smaller g c =

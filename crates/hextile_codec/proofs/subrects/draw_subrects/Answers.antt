@@ -4,11 +4,12 @@ use Rattle.std.proofs.lemmas.List.{length-take}
 use Rattle.raster.specs.Screen.{is_within}
 use Rattle.hextile_codec.specs.declared.stage.Flaw.TheVariants as flaw
 use Rattle.hextile_codec.specs.declared.stage.Stage.TheVariants.{Subrects, Failed}
-use Rattle.hextile_codec.specs.Ahead.{carried_by, colour_in, colour_len, place_in}
+use Rattle.hextile_codec.specs.Carried.{carried_by}
+use Rattle.hextile_codec.specs.Ahead.{colour_in, colour_len, place_in}
 use Rattle.hextile_codec.proofs.LedOn.{has_led_none, has_led_more, has_led_all}
 use Rattle.hextile_codec.proofs.SubrectRead.{subrect_in, subrect_leads, subrect_fails}
 use Rattle.hextile_codec.proofs.TileDrawn.{keeps_then}
-use Rattle.hextile_codec.proofs.drawing.draw_subrects.Goals as goal
+use Rattle.hextile_codec.proofs.subrects.draw_subrects.Goals as goal
 
 pub loop-left-init : goal.loop-left-init
 loop-left-init g c =
@@ -17,9 +18,7 @@ loop-left-init g c =
       less = omega arith;
       first = λ _. refl;
       later = λ lt. absurd (omega arith);
-      width = refl;
-      height = refl;
-      keeps = λ x y lx ly e. refl;
+      canvas = record { width = refl; height = refl; keeps = λ x y lx ly e. refl };
       drawn = λ part shows. has_led_none c.args.format.now c.args.area (carried_by c.args.carried) (Subrects c.args.coloured c.args.left) c.args.bytes.now (g.C.Canvas.shows c.args.canvas.now) part shows;
     }
 
@@ -50,9 +49,11 @@ loop-left-preserved g c =
       less = omega (arith, i.less);
       first = λ e. absurd (omega (arith, i.less, e));
       later = λ lt. omega (arith, c.split_at.ensures.back_len, i.within, size, c.if-needed-rest.true);
-      width = c.draw_subrect.ensures.width ∙ i.width;
-      height = c.draw_subrect.ensures.height ∙ i.height;
-      keeps = keeps_then area (g.C.Canvas.width c.args.canvas.now) (g.C.Canvas.height c.args.canvas.now) (g.C.Canvas.shows c.args.canvas.now) before now i.keeps (rw (i.width, i.height) at c.draw_subrect.ensures.keeps);
+      canvas = record {
+        width = c.draw_subrect.ensures.canvas.width ∙ i.canvas.width;
+        height = c.draw_subrect.ensures.canvas.height ∙ i.canvas.height;
+        keeps = keeps_then area (g.C.Canvas.width c.args.canvas.now) (g.C.Canvas.height c.args.canvas.now) (g.C.Canvas.shows c.args.canvas.now) before now i.canvas.keeps (rw (i.canvas.width, i.canvas.height) at c.draw_subrect.ensures.canvas.keeps);
+      };
       drawn = λ part was.
           rw c.split_at.ensures.back
           (has_led_more format area carried carried carried (Subrects coloured c.args.left) (Subrects coloured left) (Subrects coloured (left - 1)) c.args.bytes.now rest n before now part (i.drawn part was)
@@ -60,7 +61,7 @@ loop-left-preserved g c =
     }
 
 pub returns-then-not-draw_subrect-clause-drawn : goal.returns-then-not-draw_subrect-clause-drawn
-returns-then-not-draw_subrect-clause-drawn g c part was =
+returns-then-not-draw_subrect-clause-drawn g c =
     let format = c.args.format.now in
     let area = c.args.area in
     let carried = carried_by c.args.carried in
@@ -77,12 +78,20 @@ returns-then-not-draw_subrect-clause-drawn g c part was =
     let place = c.specified-value.ensures.rest ∙ ap (λ t. drop (colour_len format coloured) t) c.split_at.ensures.front in
     let out : is_within (subrect_in format coloured carried bs).area area.w area.h ≡ false =
     sym (ap (λ t. is_within (place_in (slice_index t 0) (slice_index t 1)) area.w area.h) place) ∙ (sym c.draw_subrect.ensures.inside ∙ c.if-not-draw_subrect.true) in
-    rw c.split_at.ensures.back
-    (has_led_all format area carried carried (Subrects coloured c.args.left) (Failed flaw.SubrectOutside) c.args.bytes.now (drop n rest) now part
-    (has_led_more format area carried carried carried (Subrects coloured c.args.left) (Subrects coloured left) (Failed flaw.SubrectOutside) c.args.bytes.now rest n before now part (i.drawn part was)
-    (λ p stands. subrect_fails format area coloured carried left p now bs c.loop-left-test.true count out)))
+    record {
+      later = tt;
+      leads = λ part was.
+          rw c.split_at.ensures.back
+          (has_led_all format area carried carried (Subrects coloured c.args.left) (Failed flaw.SubrectOutside) c.args.bytes.now (drop n rest) now part
+          (has_led_more format area carried carried carried (Subrects coloured c.args.left) (Subrects coloured left) (Failed flaw.SubrectOutside) c.args.bytes.now rest n before now part (i.drawn part was)
+          (λ p stands. subrect_fails format area coloured carried left p now bs c.loop-left-test.true count out)));
+    }
 
 pub returns-clause-drawn : goal.returns-clause-drawn
-returns-clause-drawn g c part was =
-    has_led_all c.args.format.now c.args.area (carried_by c.args.carried) (carried_by c.args.carried) (Subrects c.args.coloured c.args.left) (Subrects c.args.coloured c.loop-left.left) c.args.bytes.now c.loop-left.rest.now (g.C.Canvas.shows c.loop-left.canvas) part
-    (c.loop-left.invariant.drawn part was)
+returns-clause-drawn g c =
+    record {
+      later = tt;
+      leads = λ part was.
+          has_led_all c.args.format.now c.args.area (carried_by c.args.carried) (carried_by c.args.carried) (Subrects c.args.coloured c.args.left) (Subrects c.args.coloured c.loop-left.left) c.args.bytes.now c.loop-left.rest.now (g.C.Canvas.shows c.loop-left.canvas) part
+          (c.loop-left.invariant.drawn part was);
+    }

@@ -1,8 +1,8 @@
 use Rattle.std.proofs.Common.{◌≡◌, ◌∙◌, ℕ, Bool, true, false, Option, Some, None, is_some, refl, sym}
 use Rattle.std.specs.Prelude.{not, ◌&&◌, is_none}
 use Rattle.raster.specs.Encoding.{has_bit, lacks_background}
-use Rattle.hextile_codec.specs.Ahead.{carried_by}
-use Rattle.hextile_codec.proofs.drawing.after_mask.Goals as goal
+use Rattle.hextile_codec.specs.Carried.{carried_by}
+use Rattle.hextile_codec.proofs.head.after_mask.Goals as goal
 
 both_lack : (said : Bool) (carried : Option ℕ) → said ≡ false → is_some carried ≡ false → (not said && is_none carried) ≡ true
 both_lack said None unsaid none = rw unsaid refl

@@ -1,8 +1,9 @@
 use Rattle.std.proofs.Common.{◌≡◌, ◌+◌, ◌<◌, ◌≤◌, length}
 use Rattle.hextile_codec.specs.declared.stage.Stage.TheVariants.{Subrects}
-use Rattle.hextile_codec.specs.Ahead.{Part, Keeps, IsDrawn, colour_len, carried_by}
+use Rattle.hextile_codec.specs.Carried.{carried_by}
+use Rattle.hextile_codec.specs.Ahead.{Part, DrawsIn, IsDrawn, colour_len}
 use Rattle.hextile_codec.proofs.LedOn.{HasLed}
-use Rattle.hextile_codec.proofs.drawing.draw_subrects.Given as goal
+use Rattle.hextile_codec.proofs.subrects.draw_subrects.Given as goal
 
 abbrev pub invariant-loop-left : goal.invariant-loop-left
 invariant-loop-left g l =
@@ -11,9 +12,7 @@ invariant-loop-left g l =
       less : l.left ≤ l.fn.left;
       first : l.left ≡ l.fn.left → l.rest ≡ l.bytes;
       later : l.left < l.fn.left → colour_len l.fn.format l.fn.coloured + 2 + length l.rest ≤ length l.bytes;
-      width : g.C.Canvas.width l.canvas ≡ g.C.Canvas.width l.fn.canvas;
-      height : g.C.Canvas.height l.canvas ≡ g.C.Canvas.height l.fn.canvas;
-      keeps : Keeps l.fn.area (g.C.Canvas.width l.fn.canvas) (g.C.Canvas.height l.fn.canvas) (g.C.Canvas.shows l.fn.canvas) (g.C.Canvas.shows l.canvas);
+      canvas : DrawsIn l.fn.area (g.C.Canvas.width l.fn.canvas) (g.C.Canvas.height l.fn.canvas) (g.C.Canvas.shows l.fn.canvas) (g.C.Canvas.width l.canvas) (g.C.Canvas.height l.canvas) (g.C.Canvas.shows l.canvas);
       drawn : (part : Part) → IsDrawn l.fn.area (Subrects l.fn.coloured l.fn.left) (g.C.Canvas.shows l.fn.canvas) part
           → HasLed l.fn.format l.fn.area (carried_by l.fn.carried) (carried_by l.fn.carried) (Subrects l.fn.coloured l.fn.left) (Subrects l.fn.coloured l.left) l.bytes l.rest (g.C.Canvas.shows l.canvas) part;
     }

@@ -3,7 +3,7 @@ use Rattle.std.proofs.lemmas.List.{length-set}
 use Rattle.pixel_format.specs.PixelFormat.{pixel_len, pixel_of}
 use Rattle.hextile_codec.specs.Ahead.{pixels_in}
 use Rattle.hextile_codec.proofs.PixelsIn.{row_more, row_done}
-use Rattle.hextile_codec.proofs.drawing.get_row.Goals as goal
+use Rattle.hextile_codec.proofs.pixels.get_row.Goals as goal
 
 pub loop-value-preserved : goal.loop-value-preserved
 loop-value-preserved c =

@@ -3,7 +3,7 @@ use Rattle.raster.specs.declared.rect.Rect.{Rect}
 use Rattle.raster.specs.Screen.{is_within, fill, part_of}
 use Rattle.hextile_codec.specs.Ahead.{place_in}
 use Rattle.hextile_codec.proofs.TileDrawn.{lies_within, moved_within, fill_keeps, fill_in_tile}
-use Rattle.hextile_codec.proofs.drawing.draw_subrect.Goals as goal
+use Rattle.hextile_codec.proofs.subrects.draw_subrect.Goals as goal
 
 -- A place by its column, its row, and its width and height less 1.
 abbrev place : ℕ → ℕ → ℕ → ℕ → Rect
@@ -18,11 +18,16 @@ fill-requires g c =
     moved_within c.args.area r (g.C.Canvas.width c.args.canvas.now) (g.C.Canvas.height c.args.canvas.now) c.requires.tile
     (lies_within r c.args.area.w c.args.area.h (sym c.within.ensures ∙ c.if-not-within.false))
 
-pub returns-clause-keeps : goal.returns-clause-keeps
-returns-clause-keeps g c =
+pub returns-clause-canvas : goal.returns-clause-canvas
+returns-clause-canvas g c =
     let r : Rect = place c.from.result c.from-2.result c.from-3.result c.from-4.result in
-    fill_keeps c.args.area r c.args.value (g.C.Canvas.width c.args.canvas.now) (g.C.Canvas.height c.args.canvas.now) (g.C.Canvas.shows c.args.canvas.now) (g.C.Canvas.shows c.fill.new.self)
-    (lies_within r c.args.area.w c.args.area.h (sym c.within.ensures ∙ c.if-not-within.false)) c.fill.ensures.shows
+    record {
+      width = c.fill.ensures.width;
+      height = c.fill.ensures.height;
+      keeps =
+          fill_keeps c.args.area r c.args.value (g.C.Canvas.width c.args.canvas.now) (g.C.Canvas.height c.args.canvas.now) (g.C.Canvas.shows c.args.canvas.now) (g.C.Canvas.shows c.fill.new.self)
+          (lies_within r c.args.area.w c.args.area.h (sym c.within.ensures ∙ c.if-not-within.false)) c.fill.ensures.shows;
+    }
 
 pub returns-clause-inside : goal.returns-clause-inside
 returns-clause-inside g c =

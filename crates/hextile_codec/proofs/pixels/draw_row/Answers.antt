@@ -3,7 +3,7 @@ use Rattle.std.proofs.lemmas.List.{length-take}
 use Rattle.raster.specs.Screen.{lay, value_at}
 use Rattle.hextile_codec.specs.Ahead.{pixels_in}
 use Rattle.hextile_codec.proofs.PixelsIn.{pixels_count}
-use Rattle.hextile_codec.proofs.drawing.draw_row.Goals as goal
+use Rattle.hextile_codec.proofs.pixels.draw_row.Goals as goal
 
 pub returns-clause-shows : goal.returns-clause-shows
 returns-clause-shows g c x y lx ly =
