@@ -9,7 +9,7 @@ use crate::pixels::draw_pixels;
 use crate::stage::Stage;
 use crate::subrects::draw_subrects;
 use pixel_format::Format;
-use raster::{Canvas, Rect};
+use raster::{Canvas, Rect, TILE_SIDE};
 
 /// What was drawn of a tile: how many bytes it took, and where that leads.
 #[derive(Clone, Copy)]
@@ -54,7 +54,7 @@ pub fn draw<C: Canvas>(
 
 /// Whether a tile of this size is whole at a stage.
 pub fn is_whole(area: &Rect, stage: Stage) -> bool
-    requires { (area.now.w ≤ 16) × (area.now.h ≤ 16) }
+    requires { (area.now.w ≤ TILE_SIDE) × (area.now.h ≤ TILE_SIDE) }
     ensures { result ≡ is_whole area.now.w area.now.h stage }
 {
     match stage {

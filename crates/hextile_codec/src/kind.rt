@@ -9,9 +9,9 @@ ghost use Rattle.hextile_codec.specs.Carried.{carried_by};
 ghost use Rattle.hextile_codec.specs.Kinds.{subrect_of, kind_of, leaves_of, drawn_len, IsChosen};
 
 use crate::colours::{Colours, is_said};
-use crate::runs::{Run, Runs, TILE_SIDE, find_runs, has_one_value};
+use crate::runs::{Run, Runs, find_runs, has_one_value};
 use pixel_format::Format;
-use raster::Rect;
+use raster::{Rect, TILE_SIDE};
 
 /// What a tile is written as (RFC 6143, section 7.7.4).
 #[derive(Clone, Copy)]

@@ -17,7 +17,6 @@ mod reading;
 mod runs;
 mod stage;
 mod subrects;
-mod tile;
 mod writing;
 
 pub use reading::Reader;

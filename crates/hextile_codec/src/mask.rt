@@ -18,6 +18,7 @@ pub const ANY_SUBRECTS: u8 = 8;
 pub const SUBRECTS_COLOURED: u8 = 16;
 
 /// Whether a mask has a bit, which is a power of 2.
+#[inline]
 pub fn has(mask: u8, bit: u8) -> bool
     requires { 0 < bit }
     ensures { result ≡ (mask / bit % 2 == 1) }

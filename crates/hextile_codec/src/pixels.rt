@@ -9,7 +9,7 @@ use crate::colours::Colours;
 use crate::drawing::Drawn;
 use crate::stage::Stage;
 use pixel_format::Format;
-use raster::{Canvas, Rect};
+use raster::{Canvas, Rect, TILE_SIDE};
 
 /// The pixel values in some bytes, one for each.
 fn get_row(format: &Format, bytes: &[u8], values: &mut [u32])
@@ -28,7 +28,7 @@ fn get_row(format: &Format, bytes: &[u8], values: &mut [u32])
 
 /// Draws so many pixels of a row, from a position on.
 fn draw_row<C: Canvas>(format: &Format, x: u64, y: u64, count: usize, bytes: &[u8], canvas: &mut C)
-    requires few { count ≤ 16 }
+    requires few { count ≤ TILE_SIDE }
     requires bytes { length bytes.now ≡ count * pixel_len format.now }
     requires across { x + count ≤ C.width canvas.old }
     requires small { x + count < 2 ^ 64 }
@@ -37,7 +37,7 @@ fn draw_row<C: Canvas>(format: &Format, x: u64, y: u64, count: usize, bytes: &[u
     ensures height { C.height canvas.new ≡ C.height canvas.old }
     ensures shows { LooksLike (C.width canvas.old) (C.height canvas.old) (C.shows canvas.new) (lay (record { x = x; y = y; w = count; h = 1 }) (value_at count (pixels_in format.now count bytes.now)) (C.shows canvas.old)) }
 {
-    let mut values = [0; 16];
+    let mut values = [0; TILE_SIDE as usize];
     let row = &mut values[..count];
     get_row(format, bytes, row);
     canvas.put_row(x, y, row);
@@ -45,7 +45,7 @@ fn draw_row<C: Canvas>(format: &Format, x: u64, y: u64, count: usize, bytes: &[u
 
 /// How many pixels of `size` bytes lie in `len` bytes, up to a number of them.
 fn pixels_upto(most: u64, len: usize, size: usize) -> u64
-    requires few { most ≤ 16 }
+    requires few { most ≤ TILE_SIDE }
     requires some { 0 < size }
     requires small { size ≤ 4 }
     ensures { result ≡ min most (len / size) }

@@ -13,9 +13,9 @@ use crate::kind::{Choice, Kind};
 use crate::mask::{
     ANY_SUBRECTS, BACKGROUND_SPECIFIED, FOREGROUND_SPECIFIED, RAW, SUBRECTS_COLOURED,
 };
-use crate::runs::{Run, TILE_SIDE};
+use crate::runs::Run;
 use pixel_format::Format;
-use raster::Rect;
+use raster::{Rect, TILE_SIDE};
 
 /// How many bytes the place of a run has.
 const PLACE_LEN: usize = 2;
