@@ -1,5 +1,5 @@
 use Rattle.std.proofs.Common.{◌≡◌}
-use Rattle.layer_tests.proofs.rre.is_read.Given as goal
+use Rattle.codec_tests.proofs.rre_reading.is_read.Given as goal
 
 abbrev pub invariant-loop-piece : goal.invariant-loop-piece
 invariant-loop-piece l = record {
