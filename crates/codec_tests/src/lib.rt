@@ -11,3 +11,5 @@ mod hextile_reading;
 mod hextile_writing;
 #[cfg(test)]
 mod rre_reading;
+#[cfg(test)]
+mod rre_writing;

@@ -1,14 +1,13 @@
 -- A reader that takes a piece step by step.
-use Rattle.std.proofs.Common.{◌≡◌, ℕ, ◌+◌, ◌-◌, ◌≤◌, false, List, [], ◌∷◌, ◌++◌, length, take, drop, Result, None, Some, refl, sym, ap, ◌∙◌, arith}
+use Rattle.std.proofs.Common.{◌≡◌, ℕ, ◌+◌, ◌-◌, ◌≤◌, List, ◌++◌, length, take, drop, Result, None, Some, refl, sym, ap, ◌∙◌, arith}
 use Rattle.std.specs.Prelude.{MatchResult}
 use Rattle.std.proofs.lemmas.List.{take-append-drop, length-take, length-drop}
 use Rattle.pixel_format.specs.declared.fault.Fault.{Fault}
-use Rattle.pixel_format.specs.Reading.{Reading, after, taken, wants_more, fault_of}
-use Rattle.pixel_format.proofs.ReadingLaws.{after-append, after-stays, taken-stays, taken-nil, feeds_ok}
+use Rattle.pixel_format.specs.Reading.{Reading, after, taken, fault_of}
+use Rattle.pixel_format.proofs.ReadingLaws.{after-append, taken-append, feeds_ok}
 use Rattle.raster.specs.Screen.{Canvas}
 use Rattle.raster.specs.Encoding.{Tile}
 use Rattle.hextile_codec.specs.Ahead.{Progress, Sofar, ahead, Stands, Steps, Draws, IsSameSize}
-use Rattle.hextile_codec.proofs.Goes.{taken-append}
 
 pub same_size : (old mid new : Progress) → IsSameSize old mid → IsSameSize mid new → IsSameSize old new
 same_size old mid new a b = record { format = b.format ∙ a.format; width = b.width ∙ a.width; height = b.height ∙ a.height }
@@ -53,10 +52,3 @@ drawn_stops start now canvas piece left answer sofar h none e =
       feeds = feeds_ok (ahead start sofar) (ahead now h.drawing) piece (length piece - length left) answer (sym (h.goes_on ∙ stays.0), omega (arith, h.count, stays.1)) (e h.drawing);
       stands = h.stands;
     }
-
-pub none_left : {A : Type 0} (r : Reading A) (left : List ℕ) → length left ≡ 0 → (after r left ≡ r) × (taken r left ≡ 0)
-none_left r [] e = (refl, taken-nil r)
-none_left r (b ∷ bs) e = absurd (omega (arith, e))
-
-pub none_wanted : {A : Type 0} (r : Reading A) (left : List ℕ) → wants_more r ≡ false → (after r left ≡ r) × (taken r left ≡ 0)
-none_wanted r left e = (after-stays r left e, taken-stays r left e)

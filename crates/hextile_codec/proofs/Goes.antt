@@ -4,7 +4,7 @@ use mathlib.Core.Path.{fun_ext}
 use Rattle.std.proofs.lemmas.List.{take-append-drop, length-take}
 use Rattle.pixel_format.specs.PixelFormat.{PixelFormat, pixel_len, pixel_of}
 use Rattle.pixel_format.specs.Reading.{Reading, Done, Faulty, Want, ◌>>=◌, after, taken, times, Spells}
-use Rattle.pixel_format.proofs.ReadingLaws.{after-append, taken-nil, bind_assoc}
+use Rattle.pixel_format.proofs.ReadingLaws.{after-append, taken-append, taken-nil, bind_assoc}
 use Rattle.raster.specs.Encoding.{pixel, specified}
 use Rattle.raster.proofs.FixedLength.{pixel_says}
 use Rattle.raster.proofs.Spellings.{spells_done}
@@ -12,13 +12,6 @@ use Rattle.hextile_codec.specs.Ahead.{Goes, colour_in, colour_len}
 
 pub goes_none : {A : Type 0} (form : Reading A) → Goes form [] form
 goes_none form = record { all = taken-nil form; leads = refl }
-
--- Where the first bytes are all taken, those behind them are taken after them.
-pub taken-append : {A : Type 0} (form : Reading A) (xs ys : List ℕ) → taken form xs ≡ length xs → taken form (xs ++ ys) ≡ length xs + taken (after form xs) ys
-taken-append form [] ys e = omega arith
-taken-append (Done x) (b ∷ xs) ys e = absurd (omega arith)
-taken-append (Faulty f) (b ∷ xs) ys e = absurd (omega arith)
-taken-append (Want more) (b ∷ xs) ys e = let h = taken-append (more b) xs ys (omega (arith, e)) in omega (arith, h)
 
 pub goes_then : {A : Type 0} (a b c : Reading A) (xs ys : List ℕ) → Goes a xs b → Goes b ys c → Goes a (xs ++ ys) c
 goes_then a b c xs ys f g =

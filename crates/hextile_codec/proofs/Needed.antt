@@ -1,9 +1,9 @@
 -- Bytes that are wanted.
-use Rattle.std.proofs.Common.{◌≡◌, ℕ, zero, suc, ◌+◌, ◌-◌, ◌*◌, ◌<◌, ◌≤◌, Bool, true, false, cond, List, ◌∷◌, length, Option, None, is_some, refl, arith}
+use Rattle.std.proofs.Common.{◌≡◌, ℕ, zero, suc, ◌+◌, ◌-◌, ◌*◌, ◌<◌, ◌≤◌, Bool, true, false, cond, List, ◌∷◌, length, Option, arith}
 use Rattle.std.specs.Prelude.{if◌then◌else◌, ◌==◌, unwrap_or}
 use Rattle.std.specs.Int.{w8, w16, w32, byte_len}
 use Rattle.pixel_format.specs.PixelFormat.{PixelFormat, pixel_len}
-use Rattle.pixel_format.specs.Reading.{Reading, Done, Faulty, Want, ◌>>=◌, byte, times, after, taken, wants_more, whole_of, fault_of}
+use Rattle.pixel_format.specs.Reading.{Reading, Done, ◌>>=◌, byte, times, after, taken, wants_more}
 use Rattle.raster.specs.declared.rect.Rect.{Rect}
 use Rattle.raster.specs.Screen.{tile_count, tile_rect}
 use Rattle.raster.specs.Encoding.{Carried, Tile, Drawn, has_bit, pixel, specified, subrect_value, hextile_subrect, drawn_tile}
@@ -95,13 +95,3 @@ begun_wants n form begun needs lt = needs_wants (n - length begun) (after form b
 
 pub begun_takes : {A : Type 0} (n : ℕ) (form : Reading A) (begun more : List ℕ) → Needs n form → length begun + length more ≤ n → taken (after form begun) more ≡ length more
 begun_takes n form begun more needs le = needs_takes (n - length begun) (after form begun) more (needs_after n (n - length begun) form begun needs (omega arith)) (omega arith)
-
-pub wants_no_fault : {A : Type 0} (r : Reading A) → wants_more r ≡ true → fault_of r ≡ None
-wants_no_fault (Done x) e = refl
-wants_no_fault (Faulty f) e = absurd cc
-wants_no_fault (Want more) e = refl
-
-pub wants_not_whole : {A : Type 0} (r : Reading A) → wants_more r ≡ true → is_some (whole_of r) ≡ false
-wants_not_whole (Done x) e = absurd cc
-wants_not_whole (Faulty f) e = refl
-wants_not_whole (Want more) e = refl

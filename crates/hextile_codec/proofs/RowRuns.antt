@@ -3,12 +3,12 @@ use Rattle.std.proofs.Common.{◌≡◌, ℕ, zero, suc, Bool, true, false, cond
 use Rattle.std.specs.Prelude.{filter, ◌==◌, take_while}
 use Rattle.std.specs.List.{list_all, range_with_len}
 use Rattle.std.proofs.lemmas.Bool.{and_parts}
-use Rattle.std.proofs.lemmas.List.{length-drop, get_or-drop, take_all, append-nil, map-append}
+use Rattle.std.proofs.lemmas.List.{length-drop, get_or-drop, take_all, map-append}
 use Rattle.std.proofs.lemmas.List.Sums.{take_while-cons}
 use Rattle.raster.specs.Screen.{Canvas}
 use Rattle.raster.specs.Encoding.{Subrect, begins_run, run_from, runs_of_row}
 use Rattle.raster.proofs.Runs.{run_some, run_within}
-use Rattle.raster.proofs.RowScan.{IsFresh, runs_behind, runs_behind_none, runs_behind_all, front_of_list, fresh_behind, found_other, found_background}
+use Rattle.raster.proofs.RowScan.{IsFresh, runs_behind, front_of_list, fresh_behind, found_other, found_background}
 use Rattle.hextile_codec.specs.declared.runs.Run.{Run}
 use Rattle.hextile_codec.specs.Kinds.{subrect_of, row_shows}
 
@@ -27,14 +27,6 @@ run_at row y x lx =
 abbrev pub AreSoFar : List Run → List Run → List ℕ → ℕ → ℕ → ℕ → Type 0
 AreSoFar before now row background y x =
     map subrect_of now ++ runs_behind (row_shows row) background (length row) y x ≡ map subrect_of before ++ runs_of_row (row_shows row) background (length row) y
-
-pub none_added : (before : List Run) (row : List ℕ) (background y : ℕ) → AreSoFar before before row background y 0
-none_added before row background y = ap (λ t. map subrect_of before ++ t) (sym (runs_behind_none (row_shows row) background (length row) y))
-
-pub all_added : (before now : List Run) (row : List ℕ) (background y x : ℕ) → length row ≤ x → AreSoFar before now row background y x
-    → map subrect_of now ≡ map subrect_of before ++ runs_of_row (row_shows row) background (length row) y
-all_added before now row background y x le so =
-    sym (append-nil (map subrect_of now)) ∙ (ap (λ t. map subrect_of now ++ t) (sym (runs_behind_all (row_shows row) background (length row) y x le)) ∙ so)
 
 subrect_same : (canvas : Canvas) (w y x v len : ℕ) → v ≡ canvas x y → len ≡ (run_from canvas w y x).area.w → subrect_of (record { value = v; x = x; y = y; len = len }) ≡ run_from canvas w y x
 subrect_same canvas w y x v len a b = rw (a, b) refl

@@ -4,7 +4,7 @@ use Rattle.std.specs.Prelude.{◌⊎◌, ◌==◌, nat_lt, not, ◌&&◌}
 use Rattle.std.proofs.lemmas.Bool.{cases_lt, ne_eqb, eq-eqb, lt-ltb}
 use Rattle.pixel_format.specs.PixelFormat.{PixelFormat}
 use Rattle.pixel_format.specs.Reading.{Reading, Done, Faulty, after, wants_more, whole_of, fault_of}
-use Rattle.pixel_format.proofs.ReadingLaws.{after-done, after-faulty}
+use Rattle.pixel_format.proofs.ReadingLaws.{after-done, after-faulty, done_is, wants_no_fault, wants_not_whole}
 use Rattle.raster.specs.declared.rect.Rect.{Rect}
 use Rattle.raster.specs.Screen.{Canvas, LooksLike, tile_count, tile_rect}
 use Rattle.raster.specs.Encoding.{Carried, Tile, tiled}
@@ -14,15 +14,12 @@ use Rattle.hextile_codec.specs.declared.stage.Stage.{Stage}
 use Rattle.hextile_codec.specs.declared.stage.Stage.TheVariants.{Mask, RawPixels, Head, Subrects, Failed}
 use Rattle.hextile_codec.specs.Ahead.{Sofar, IsPlace, IsReady, fault_for, is_failed, needed, next_form}
 use Rattle.hextile_codec.proofs.Behind.{in_tile, behind_all}
-use Rattle.hextile_codec.proofs.Needed.{form_needs, begun_wants, wants_no_fault, wants_not_whole}
+use Rattle.hextile_codec.proofs.Needed.{form_needs, begun_wants}
 use Rattle.hextile_codec.proofs.TilesShown.{ShowsBefore, all_shown}
 
 pub either : (b : Bool) → (b ≡ true) ⊎ (b ≡ false)
 either true = inl refl
 either false = inr refl
-
-mask_is_fine : (stage : Stage) → stage ≡ Mask → is_failed stage ≡ false
-mask_is_fine stage e = ap (λ s. is_failed s) e
 
 -- In front of the last tile's end.
 pub ready_there : (format : PixelFormat) (w h tiles k : ℕ) (area : Rect) (stage : Stage) (filled : ℕ) → IsPlace format w h tiles k area stage filled → k < tiles → IsReady format (tile_rect w h k) stage
@@ -69,12 +66,6 @@ whole_there format w h tiles k area stage filled carried sofar begun p len = eli
   | inl lt ↦ ne_eqb k tiles (λ e. absurd (omega (arith, lt, e))) ∙ sym (open_not_whole format w h tiles k area stage filled carried sofar begun p len lt)
   | inr le ↦ eq-eqb k tiles (omega (arith, le, p.within)) ∙ sym (ap (λ (r : Reading (List Tile)). is_some (whole_of r)) (over_there format w h tiles k area stage filled carried sofar begun p le))
 ]
-
-abbrev done_with : List Tile → Reading (List Tile)
-done_with ts = Done ts
-
-done_is : (x y : List Tile) → done_with x ≡ done_with y → x ≡ y
-done_is x y e = cc
 
 -- And then a canvas shows all tiles.
 pub shown_there : (format : PixelFormat) (w h tiles k : ℕ) (area : Rect) (stage : Stage) (filled : ℕ) (carried : Carried) (sofar : Sofar) (begun : List ℕ) (canvas : Canvas) (all : List Tile)

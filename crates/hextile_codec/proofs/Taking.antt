@@ -3,7 +3,7 @@ use Rattle.std.proofs.Common.{◌≡◌, ℕ, ◌+◌, ◌*◌, ◌<◌, ◌≤�
 use Rattle.std.specs.Prelude.{◌&&◌, nat_lt}
 use Rattle.std.proofs.lemmas.Bool.{cases_lt, eq-eqb}
 use Rattle.std.proofs.lemmas.Bool.Decides.{nat_tests}
-use Rattle.std.proofs.lemmas.List.{length-take, take_all}
+use Rattle.std.proofs.lemmas.List.{take_all}
 use Rattle.pixel_format.specs.PixelFormat.{PixelFormat}
 use Rattle.pixel_format.specs.Reading.{Reading, after, ◌>>=◌}
 use Rattle.raster.specs.declared.rect.Rect.{Rect}
@@ -78,9 +78,6 @@ pub wanting_fine : (a b : Bool) → (a && not b) ≡ true → b ≡ false
 wanting_fine true false e = refl
 wanting_fine true true e = absurd cc
 wanting_fine false b e = absurd cc
-
-pub none_filled : (n : ℕ) (buffer : List ℕ) → n ≤ length buffer → take n buffer ≡ [] → n ≡ 0
-none_filled n buffer le e = omega (arith, length-take n buffer, ap (λ t. length t) e)
 
 later_ready : (format : PixelFormat) (area : Rect) (next : Stage) → IsLater format area next → is_whole area.w area.h next ≡ false → IsReady format area next
 later_ready format area Mask l e = tt

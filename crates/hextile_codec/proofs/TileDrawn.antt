@@ -98,6 +98,3 @@ pub background_drawn : (area : Rect) (w h v : ℕ) (old new : Canvas) → IsTile
 background_drawn area w h v old new t shows x y lx ly =
     shows (area.x + x) (area.y + y) (omega (arith, t.within.across)) (omega (arith, t.within.down))
     ∙ fill_inside area.x area.y area.w area.h v old (area.x + x) (area.y + y) (omega arith) (omega arith) (omega arith) (omega arith)
-
-pub background_keeps : (area : Rect) (w h v : ℕ) (old new : Canvas) → LooksLike w h new (fill area v old) → Keeps area w h old new
-background_keeps area w h v old new shows x y lx ly e = shows x y lx ly ∙ ap (λ (b : Bool). if b then v else old x y) e

@@ -49,9 +49,6 @@ runs_from canvas w h y = flat_map (runs_of_row canvas (canvas 0 0) w) (range_wit
 pub record AreAbove (canvas : Canvas) (w h y : ℕ) (found : List Run) : Type 0 where
   pub all : map subrect_of found ++ runs_from canvas w h y ≡ runs canvas w h
 
-pub none_above : (canvas : Canvas) (w h : ℕ) → AreAbove canvas w h 0 []
-none_above canvas w h = record { all = let e : h - 0 ≡ h = omega arith in rw e refl }
-
 pub all_above : (canvas : Canvas) (w h y : ℕ) (found : List Run) → h ≤ y → AreAbove canvas w h y found → map subrect_of found ≡ runs canvas w h
 all_above canvas w h y found le a =
     let none : h - y ≡ 0 = omega arith in

@@ -7,7 +7,9 @@ use Rattle.pixel_format.specs.declared.fault.Fault.TheVariants.{SubrectOutside, 
 use Rattle.raster.specs.declared.rect.Rect.{Rect}
 use Rattle.raster.specs.Screen.{Canvas, LooksLike, IsWithin, holds, part_of, value_at, tiles_across, tile_count, tile_rect}
 use Rattle.raster.specs.Encoding.{Drawing, drawn, Carried, Tile, Pixels, Drawn, has_bit, pixel, tile, drawn_tile, hextile_subrect, tiles_from, tiled}
-use Rattle.hextile_codec.specs.declared.stage.Colours.{Colours}
+use Rattle.hextile_codec.specs.Carried.{carried_by}
+use Rattle.hextile_codec.specs.declared.colours.Colours.{Colours}
+use Rattle.hextile_codec.specs.declared.drawing.Drawn as outcome
 use Rattle.hextile_codec.specs.declared.stage.Flaw.{Flaw}
 use Rattle.hextile_codec.specs.declared.stage.Flaw.TheVariants as flaw
 use Rattle.hextile_codec.specs.declared.stage.Stage.{Stage}
@@ -41,10 +43,6 @@ blank = record { pixels = []; drawing = record { background = 0; subrects = [] }
 -- No tile is whole.
 abbrev pub nothing_read : Part → Sofar
 nothing_read part = record { tiles = []; part = part }
-
--- The colours that those in the code stand for.
-abbrev pub carried_by : Colours → Carried
-carried_by colours = record { background = colours.background; foreground = colours.foreground }
 
 -- The fault that one in the code stands for.
 abbrev pub fault_for : Flaw → Fault
@@ -141,6 +139,12 @@ Leads format area carried later stage next bytes before now part = IsDrawn area 
 abbrev pub Keeps : Rect → ℕ → ℕ → Canvas → Canvas → Type 0
 Keeps area w h old new = (x y : ℕ) → x < w → y < h → holds area x y ≡ false → new x y ≡ old x y
 
+-- A canvas of w by h was drawn on in an area alone, and has its size still.
+pub record DrawsIn (area : Rect) (w h : ℕ) (old : Canvas) (w_new h_new : ℕ) (new : Canvas) : Type 0 where
+  pub width : w_new ≡ w
+  pub height : h_new ≡ h
+  pub keeps : Keeps area w h old new
+
 -- A colour that the bytes give, or the carried one.
 abbrev pub colour_in : PixelFormat → Bool → Option ℕ → List ℕ → Option ℕ
 colour_in format given carried bytes = if given then Some (pixel_of format (take (pixel_len format) bytes)) else carried
@@ -189,6 +193,11 @@ IsLater format area (RawPixels count) = count ≤ area.w * area.h
 IsLater format area (Head mask) = 0 < head_len format mask
 IsLater format area (Subrects coloured left) = Unit {0}
 IsLater format area (Failed flaw) = Unit {0}
+
+-- What was drawn of a tile at an area leads over these bytes from a stage, with these colours, to a later one.
+pub record DrawsTo (format : PixelFormat) (area : Rect) (carried : Colours) (stage : Stage) (bytes : List ℕ) (before now : Canvas) (drawn : outcome.Drawn) : Type 0 where
+  pub leads : (part : Part) → Leads format area (carried_by carried) (carried_by drawn.carried) stage drawn.stage bytes before now part
+  pub later : IsLater format area drawn.stage
 
 -- A tile of w by h is whole at a stage.
 abbrev pub is_whole : ℕ → ℕ → Stage → Bool

@@ -7,7 +7,6 @@ use Rattle.raster.specs.Encoding.{Subrect, Carried, nothing_carried, runs, raw_b
 use Rattle.hextile_codec.specs.declared.runs.Run.{Run}
 use Rattle.hextile_codec.specs.declared.kind.Kind.{Kind}
 use Rattle.hextile_codec.specs.declared.kind.Kind.TheVariants.{Raw, Plain, TwoColours, Coloured}
-use Rattle.hextile_codec.specs.declared.kind.Said.{Said}
 use Rattle.hextile_codec.specs.declared.kind.Choice.{Choice}
 
 -- A run is a subrectangle of one row.
@@ -42,10 +41,6 @@ drawn_len format before background Plain count = 1 + length (unless_said format 
 drawn_len format before background (TwoColours foreground) count =
     1 + length (unless_said format before.background background) + length (unless_said format before.foreground foreground) + 1 + 2 * count
 drawn_len format before background Coloured count = 1 + length (unless_said format before.background background) + 1 + (pixel_len format + 2) * count
-
--- What the tile before said.
-abbrev pub carried_of : Said → Carried
-carried_of said = record { background = said.background; foreground = said.foreground }
 
 -- What a tile of a kind leaves for the next.
 abbrev pub leaves_of : Kind → ℕ → Carried

@@ -4,12 +4,14 @@ ghost use Rattle.std.specs.Prelude.{◌≡◌, ℕ, ◌+◌, ◌*◌, ◌<◌, �
 ghost use Rattle.arrayvec.specs.ArrayVec.{array_vec_len};
 ghost use Rattle.pixel_format.specs.PixelFormat.{pixel_len};
 ghost use Rattle.raster.specs.Screen.{value_at, part_of};
-ghost use Rattle.raster.specs.Encoding.{runs, drawn_bytes, drawn_leaves, tile_bytes, is_said, unless_said};
-ghost use Rattle.hextile_codec.specs.Kinds.{subrect_of, kind_of, carried_of, leaves_of, drawn_len, IsChosen};
+ghost use Rattle.raster.specs.Encoding.{runs, drawn_bytes, drawn_leaves, tile_bytes, unless_said};
+ghost use Rattle.hextile_codec.specs.Carried.{carried_by};
+ghost use Rattle.hextile_codec.specs.Kinds.{subrect_of, kind_of, leaves_of, drawn_len, IsChosen};
 
-use crate::runs::{Run, Runs, TILE_SIDE, find_runs, has_one_value};
+use crate::colours::{Colours, is_said};
+use crate::runs::{Run, Runs, find_runs, has_one_value};
 use pixel_format::Format;
-use raster::Rect;
+use raster::{Rect, TILE_SIDE};
 
 /// What a tile is written as (RFC 6143, section 7.7.4).
 #[derive(Clone, Copy)]
@@ -24,37 +26,12 @@ pub enum Kind {
     Coloured,
 }
 
-/// The colours that a tile may leave off, since the tile directly before has them.
-#[derive(Clone, Copy)]
-pub struct Said {
-    pub background: Option<u32>,
-    pub foreground: Option<u32>,
-}
-
-impl Said {
-    /// Nothing, as before the first tile and after one that is Raw.
-    pub const NOTHING: Said = Said {
-        background: None,
-        foreground: None,
-    };
-}
-
 /// What is known of a tile before it is written: its kind, its first pixel's value, and how many bytes it has.
 #[derive(Clone, Copy)]
 pub struct Choice {
     pub kind: Kind,
     pub background: u32,
     pub len: usize,
-}
-
-/// Whether the tile before has this value.
-pub fn is_said(before: Option<u32>, value: u32) -> bool
-    ensures { result ≡ is_said before value }
-{
-    match before {
-        Some(before) => before == value,
-        None => false,
-    }
 }
 
 /// The kind of a tile of these runs that isn't Raw.
@@ -80,9 +57,9 @@ fn colour_len(format: &Format, before: Option<u32>, value: u32) -> usize
 }
 
 /// How many bytes a tile of so many runs has that isn't Raw.
-fn drawn_len(format: &Format, said: &Said, background: u32, kind: Kind, count: usize) -> usize
+fn drawn_len(format: &Format, said: &Colours, background: u32, kind: Kind, count: usize) -> usize
     requires { count ≤ 256 }
-    ensures { result ≡ drawn_len format.now (carried_of said.now) background kind count }
+    ensures { result ≡ drawn_len format.now (carried_by said.now) background kind count }
 {
     let head = 1 + colour_len(format, said.background, background);
     match kind {
@@ -101,7 +78,7 @@ pub fn choose(
     values: &[u32],
     w: usize,
     tile: &Rect,
-    said: &Said,
+    said: &Colours,
     runs: &mut Runs,
 ) -> Choice
     requires w_some { 0 < tile.now.w }
@@ -110,7 +87,7 @@ pub fn choose(
     requires h_most { tile.now.h ≤ TILE_SIDE }
     requires across { tile.now.x + tile.now.w ≤ w }
     requires down { (tile.now.y + tile.now.h) * w ≤ length values.now }
-    ensures { IsChosen format.now (carried_of said.now) tile.now.w tile.now.h (part_of tile.now (value_at w values.now)) (map subrect_of runs.new.items) result }
+    ensures { IsChosen format.now (carried_by said.now) tile.now.w tile.now.h (part_of tile.now (value_at w values.now)) (map subrect_of runs.new.items) result }
 {
     let pixel = format.bytes();
     let background = values[tile.y as usize * w + tile.x as usize];
@@ -138,8 +115,8 @@ pub fn choose(
 
 impl Choice {
     /// What the next tile may leave off.
-    pub fn leaves(&self) -> Said
-        ensures { carried_of result ≡ leaves_of self.now.kind self.now.background }
+    pub fn leaves(&self) -> Colours
+        ensures { carried_by result ≡ leaves_of self.now.kind self.now.background }
     {
         let background = match self.kind {
             Kind::Raw => None,
@@ -149,7 +126,7 @@ impl Choice {
             Kind::TwoColours(foreground) => Some(foreground),
             _ => None,
         };
-        Said {
+        Colours {
             background,
             foreground,
         }

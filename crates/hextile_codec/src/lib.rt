@@ -6,13 +6,17 @@
 //! each row, and Raw where that has no more bytes. Nothing here takes memory or a handle.
 #![tactic(auto)]
 
+mod colours;
 mod drawing;
+mod head;
 mod kind;
+mod mask;
+mod pixels;
 mod put;
 mod reading;
 mod runs;
 mod stage;
-mod tile;
+mod subrects;
 mod writing;
 
 pub use reading::Reader;

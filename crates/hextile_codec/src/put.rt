@@ -5,24 +5,17 @@ ghost use Rattle.std.specs.List.{All, flat_map};
 ghost use Rattle.pixel_format.specs.PixelFormat.{pixel_len};
 ghost use Rattle.raster.specs.Screen.{value_at, part_of, values_of};
 ghost use Rattle.raster.specs.Encoding.{drawn_bytes, unless_said, place_bytes, coloured_bytes, raw_bytes, is_said};
-ghost use Rattle.hextile_codec.specs.Kinds.{IsSmall, subrect_of, kind_of, carried_of, drawn_len};
+ghost use Rattle.hextile_codec.specs.Carried.{carried_by};
+ghost use Rattle.hextile_codec.specs.Kinds.{IsSmall, subrect_of, kind_of, drawn_len};
 
-use crate::kind::{Choice, Kind, Said, is_said};
-use crate::runs::{Run, TILE_SIDE};
-use crate::stage;
+use crate::colours::{Colours, is_said};
+use crate::kind::{Choice, Kind};
+use crate::mask::{
+    ANY_SUBRECTS, BACKGROUND_SPECIFIED, FOREGROUND_SPECIFIED, RAW, SUBRECTS_COLOURED,
+};
+use crate::runs::Run;
 use pixel_format::Format;
-use raster::Rect;
-
-/// The bits of a tile's mask, as they are written.
-const RAW: u8 = 1 << stage::RAW;
-
-const BACKGROUND_SPECIFIED: u8 = 1 << stage::BACKGROUND_SPECIFIED;
-
-const FOREGROUND_SPECIFIED: u8 = 1 << stage::FOREGROUND_SPECIFIED;
-
-const ANY_SUBRECTS: u8 = 1 << stage::ANY_SUBRECTS;
-
-const SUBRECTS_COLOURED: u8 = 1 << stage::SUBRECTS_COLOURED;
+use raster::{Rect, TILE_SIDE};
 
 /// How many bytes the place of a run has.
 const PLACE_LEN: usize = 2;
@@ -93,7 +86,7 @@ fn put_coloured_runs(format: &Format, runs: &[Run], out: &mut [u8], used: usize)
 }
 
 /// The bit that says that a background is written, unless the tile before has it.
-fn background_bit(said: &Said, background: u32) -> u8
+fn background_bit(said: &Colours, background: u32) -> u8
     ensures { result ≡ (if is_said said.now.background background then 0 else 2) }
 {
     if is_said(said.background, background) {
@@ -106,7 +99,7 @@ fn background_bit(said: &Said, background: u32) -> u8
 /// Puts a tile of runs of one value.
 fn put_two_colours(
     format: &Format,
-    said: &Said,
+    said: &Colours,
     background: u32,
     foreground: u32,
     runs: &[Run],
@@ -116,8 +109,8 @@ fn put_two_colours(
     requires small { All IsSmall runs.now }
     requires few { length runs.now ≤ 255 }
     requires is { kind_of (map subrect_of runs.now) ≡ Kind.TwoColours foreground }
-    requires room { used + drawn_len format.now (carried_of said.now) background (Kind.TwoColours foreground) (length runs.now) ≤ length out.old }
-    ensures { take (used + drawn_len format.now (carried_of said.now) background (Kind.TwoColours foreground) (length runs.now)) out.new ≡ take used out.old ++ drawn_bytes format.now (carried_of said.now) background (map subrect_of runs.now) }
+    requires room { used + drawn_len format.now (carried_by said.now) background (Kind.TwoColours foreground) (length runs.now) ≤ length out.old }
+    ensures { take (used + drawn_len format.now (carried_by said.now) background (Kind.TwoColours foreground) (length runs.now)) out.new ≡ take used out.old ++ drawn_bytes format.now (carried_by said.now) background (map subrect_of runs.now) }
 {
     let subrects = if is_said(said.foreground, foreground) {
         ANY_SUBRECTS
@@ -135,7 +128,7 @@ fn put_two_colours(
 /// Puts a tile of runs with their values.
 fn put_coloured(
     format: &Format,
-    said: &Said,
+    said: &Colours,
     background: u32,
     runs: &[Run],
     out: &mut [u8],
@@ -144,8 +137,8 @@ fn put_coloured(
     requires small { All IsSmall runs.now }
     requires few { length runs.now ≤ 255 }
     requires is { kind_of (map subrect_of runs.now) ≡ Kind.Coloured }
-    requires room { used + drawn_len format.now (carried_of said.now) background Kind.Coloured (length runs.now) ≤ length out.old }
-    ensures { take (used + drawn_len format.now (carried_of said.now) background Kind.Coloured (length runs.now)) out.new ≡ take used out.old ++ drawn_bytes format.now (carried_of said.now) background (map subrect_of runs.now) }
+    requires room { used + drawn_len format.now (carried_by said.now) background Kind.Coloured (length runs.now) ≤ length out.old }
+    ensures { take (used + drawn_len format.now (carried_by said.now) background Kind.Coloured (length runs.now)) out.new ≡ take used out.old ++ drawn_bytes format.now (carried_by said.now) background (map subrect_of runs.now) }
 {
     let mask = background_bit(said, background) + ANY_SUBRECTS + SUBRECTS_COLOURED;
     let at = put_byte(mask, out, used);
@@ -157,7 +150,7 @@ fn put_coloured(
 /// Puts a tile that isn't Raw, of a kind that its runs have, from index `used` of `out` on.
 pub fn put_drawn(
     format: &Format,
-    said: &Said,
+    said: &Colours,
     choice: &Choice,
     runs: &[Run],
     out: &mut [u8],
@@ -166,8 +159,8 @@ pub fn put_drawn(
     requires small { All IsSmall runs.now }
     requires few { length runs.now ≤ 255 }
     requires is { choice.now.kind ≡ kind_of (map subrect_of runs.now) }
-    requires room { used + drawn_len format.now (carried_of said.now) choice.now.background choice.now.kind (length runs.now) ≤ length out.old }
-    ensures { take (used + drawn_len format.now (carried_of said.now) choice.now.background choice.now.kind (length runs.now)) out.new ≡ take used out.old ++ drawn_bytes format.now (carried_of said.now) choice.now.background (map subrect_of runs.now) }
+    requires room { used + drawn_len format.now (carried_by said.now) choice.now.background choice.now.kind (length runs.now) ≤ length out.old }
+    ensures { take (used + drawn_len format.now (carried_by said.now) choice.now.background choice.now.kind (length runs.now)) out.new ≡ take used out.old ++ drawn_bytes format.now (carried_by said.now) choice.now.background (map subrect_of runs.now) }
 {
     let background = choice.background;
     match choice.kind {

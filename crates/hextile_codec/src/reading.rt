@@ -6,12 +6,14 @@ ghost use Rattle.raster.specs.Encoding.{Tile, hextile, tiled};
 ghost use Rattle.raster.specs.Screen.{Map, LooksLike};
 ghost use Rattle.hextile_codec.specs.Ahead.{Part, Sofar, nothing_read, ahead, Stands, Steps, Draws, IsSameSize, is_wanting, needed};
 
+use crate::colours::Colours;
 use crate::drawing::{draw, is_whole};
-use crate::stage::{Colours, MOST_NEEDED, Stage, needed};
-use crate::tile::tile_rect;
+use crate::stage::{MOST_NEEDED, Stage, needed};
+use arrayvec::ArrayVec;
 use pixel_format::{Fault, Format};
-use raster::{Canvas, Rect};
+use raster::{Canvas, Rect, TILE_SIDE, tile_count, tile_rect};
 use std::marker::Model;
+use std::mem;
 
 /// A reader of one rectangle in Hextile (RFC 6143, section 7.7.4), which paints as it reads. It holds no more than
 /// the bytes that follow a mask up to the first subrectangle, and where it stands.
@@ -27,13 +29,13 @@ pub struct Reader {
     area: Rect,
     carried: Colours,
     stage: Stage,
-    buffer: [u8; MOST_NEEDED],
-    filled: usize,
+    begun: ArrayVec<u8, MOST_NEEDED>,
 }
 
 impl Model for Reader {
-    ghost use Rattle.std.specs.Prelude.{take};
-    ghost use Rattle.hextile_codec.specs.Ahead.{Progress, IsPlace, carried_by};
+    ghost use Rattle.std.specs.Prelude.{length};
+    ghost use Rattle.hextile_codec.specs.Carried.{carried_by};
+    ghost use Rattle.hextile_codec.specs.Ahead.{Progress, IsPlace};
 
     ghost Value = { Progress };
 
@@ -44,10 +46,10 @@ impl Model for Reader {
       tile = r.tile;
       carried = carried_by r.carried;
       stage = r.stage;
-      begun = take r.filled r.buffer;
+      begun = r.begun.items;
     } };
 
-    ghost invariant = { λ r. IsPlace r.format r.width r.height r.tiles r.tile r.area r.stage r.filled };
+    ghost invariant = { λ r. IsPlace r.format r.width r.height r.tiles r.tile r.area r.stage (length r.begun.items) };
 }
 
 impl Reader {
@@ -64,21 +66,17 @@ impl Reader {
             format,
             width: w,
             height: h,
-            tiles: w.div_ceil(16) * h.div_ceil(16),
+            tiles: tile_count(w, h),
             tile: 0,
             area: Rect {
                 x: 0,
                 y: 0,
-                w: w.min(16),
-                h: h.min(16),
+                w: w.min(TILE_SIDE),
+                h: h.min(TILE_SIDE),
             },
-            carried: Colours {
-                background: None,
-                foreground: None,
-            },
+            carried: Colours::NOTHING,
             stage: Stage::Mask,
-            buffer: [0; MOST_NEEDED],
-            filled: 0,
+            begun: ArrayVec::new(),
         }
     }
 
@@ -146,16 +144,14 @@ impl Reader {
         ensures drawn { (sofar : Sofar) → Stands self.old (C.shows canvas.old) sofar → Steps self.old self.new (C.shows canvas.new) (take result bytes.now) sofar }
     {
         let needed = needed(&self.format, self.stage);
-        if self.filled == 0 && needed <= bytes.len() {
+        if self.begun.is_empty() && needed <= bytes.len() {
             return self.take(canvas, bytes);
         }
-        let count = bytes.len().min(needed - self.filled);
-        self.buffer[self.filled..self.filled + count].copy_from_slice(&bytes[..count]);
-        self.filled += count;
-        if self.filled == needed {
-            self.filled = 0;
-            let field = self.buffer;
-            self.take(canvas, &field[..needed]);
+        let count = bytes.len().min(needed - self.begun.len());
+        let _ = self.begun.try_extend_from_slice(&bytes[..count]);
+        if self.begun.len() == needed {
+            let field = mem::replace(&mut self.begun, ArrayVec::new());
+            self.take(canvas, field.as_slice());
         }
         count
     }

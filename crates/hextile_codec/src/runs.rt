@@ -8,12 +8,9 @@ ghost use Rattle.raster.specs.Encoding.{runs, runs_of_row};
 ghost use Rattle.hextile_codec.specs.Kinds.{subrect_of, has_one_value, row_shows};
 
 use arrayvec::ArrayVec;
-use raster::Rect;
+use raster::{Rect, TILE_SIDE};
 use std::simd::cmp::SimdPartialEq;
 use std::simd::u32x16;
-
-/// How many pixels a tile has across and down, where it isn't cut.
-pub const TILE_SIDE: usize = 16;
 
 /// How many pixels a tile has at most.
 pub const TILE_AREA: usize = 256;
@@ -51,7 +48,7 @@ pub fn has_one_value(runs: &[Run]) -> bool
 fn is_all(row: &[u32], value: u32) -> bool
     ensures { result ≡ list_all (λ v. v == value) row.now }
 {
-    if row.len() == TILE_SIDE {
+    if row.len() == TILE_SIDE as usize {
         return u32x16::from_slice(row).simd_eq(u32x16::splat(value)).all();
     }
     row.iter().all(|v| *v == value)

@@ -1,32 +1,10 @@
 //! What is read together of a rectangle in Hextile.
 
-ghost use Rattle.std.specs.Prelude.{◌≡◌, ℕ, ◌<◌, ◌≤◌};
-ghost use Rattle.raster.specs.Encoding.{has_bit};
+ghost use Rattle.std.specs.Prelude.{◌≡◌, ◌≤◌};
 ghost use Rattle.hextile_codec.specs.Ahead.{needed, head_len, fault_for};
 
+use crate::mask::{ANY_SUBRECTS, BACKGROUND_SPECIFIED, FOREGROUND_SPECIFIED, has};
 use pixel_format::{Fault, Format};
-
-/// Bit of a mask: the pixels follow as in Raw, and no other bit means anything.
-pub const RAW: u8 = 0;
-
-/// Bit of a mask: the background follows.
-pub const BACKGROUND_SPECIFIED: u8 = 1;
-
-/// Bit of a mask: the foreground follows, the colour of all plain subrectangles.
-pub const FOREGROUND_SPECIFIED: u8 = 2;
-
-/// Bit of a mask: the number of subrectangles follows.
-pub const ANY_SUBRECTS: u8 = 3;
-
-/// Bit of a mask: each subrectangle begins with a pixel of its own.
-pub const SUBRECTS_COLOURED: u8 = 4;
-
-/// The colours that a tile may leave unsaid: the last of each that the rectangle specified.
-#[derive(Clone, Copy)]
-pub struct Colours {
-    pub background: Option<u32>,
-    pub foreground: Option<u32>,
-}
 
 /// What can be wrong with a tile.
 #[derive(Clone, Copy)]
@@ -66,14 +44,6 @@ pub enum Stage {
 
 /// The most bytes that are looked at together: two colours of 4, and a number of subrectangles.
 pub const MOST_NEEDED: usize = 9;
-
-/// Whether a mask has a bit, by the bit's number.
-pub fn has(mask: u8, bit: u8) -> bool
-    requires { bit < 8 }
-    ensures { result ≡ has_bit mask bit }
-{
-    (mask >> bit) & 1 == 1
-}
 
 /// How many bytes tell what a mask announces.
 pub fn head_len(format: &Format, mask: u8) -> usize

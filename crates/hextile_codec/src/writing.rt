@@ -7,11 +7,12 @@ ghost use Rattle.raster.specs.Screen.{value_at};
 ghost use Rattle.raster.specs.Encoding.{hextile_bytes};
 ghost use Rattle.raster.specs.Encoded.{IsEncoded};
 
-use crate::kind::{Kind, Said, choose};
+use crate::colours::Colours;
+use crate::kind::{Kind, choose};
 use crate::put::{put_drawn, put_raw};
 use crate::runs::Runs;
-use crate::tile::tile_rect;
 use pixel_format::Format;
+use raster::{tile_count, tile_rect};
 
 /// Writes all tiles, and answers where they end; `None` where that isn't inside `out`.
 fn put_tiles(values: &[u32], w: u64, h: u64, format: &Format, out: &mut [u8]) -> Option<usize>
@@ -22,9 +23,9 @@ fn put_tiles(values: &[u32], w: u64, h: u64, format: &Format, out: &mut [u8]) ->
     ensures { let bytes = hextile_bytes format.now w h (value_at w values.now) in MatchOption result (length out.old ≤ length bytes) (λ n. (n ≡ length bytes) × (n < length out.old) × (take n out.new ≡ bytes)) }
 {
     let mut runs = Runs::new();
-    let mut said = Said::NOTHING;
+    let mut said = Colours::NOTHING;
     let mut used = 0;
-    for k in 0..w.div_ceil(16) * h.div_ceil(16) {
+    for k in 0..tile_count(w, h) {
         let tile = tile_rect(w, h, k);
         let choice = choose(format, values, w as usize, &tile, &said, &mut runs);
         if out.len() - used <= choice.len {

@@ -1,10 +1,10 @@
 -- A reader that takes a piece step by step.
-use Rattle.std.proofs.Common.{◌≡◌, ℕ, ◌+◌, ◌-◌, ◌≤◌, false, List, [], ◌∷◌, ◌++◌, length, take, drop, Result, None, Some, refl, sym, ap, ◌∙◌, arith}
+use Rattle.std.proofs.Common.{◌≡◌, ℕ, ◌+◌, ◌-◌, ◌≤◌, List, ◌++◌, length, take, drop, Result, None, Some, refl, sym, ap, ◌∙◌, arith}
 use Rattle.std.specs.Prelude.{MatchResult}
 use Rattle.std.proofs.lemmas.List.{take-append-drop, length-take, length-drop}
 use Rattle.pixel_format.specs.declared.fault.Fault.{Fault}
-use Rattle.pixel_format.specs.Reading.{Reading, Done, Faulty, Want, after, taken, wants_more, fault_of}
-use Rattle.pixel_format.proofs.ReadingLaws.{after-append, after-stays, taken-stays, taken-nil, feeds_ok}
+use Rattle.pixel_format.specs.Reading.{Reading, after, taken, fault_of}
+use Rattle.pixel_format.proofs.ReadingLaws.{after-append, taken-append, feeds_ok}
 use Rattle.raster.specs.Screen.{Canvas}
 use Rattle.raster.specs.Encoding.{Drawing}
 use Rattle.rre_codec.specs.Ahead.{Progress, ahead, Stands, Steps, Draws, IsSameSize}
@@ -21,13 +21,6 @@ pub record HasDrawn (start now : Progress) (canvas : Canvas) (piece left : List 
 
 pub drawn_none : (start : Progress) (canvas : Canvas) (piece : List ℕ) (sofar : Drawing) → Stands start canvas sofar → HasDrawn start start canvas piece piece sofar
 drawn_none start canvas piece sofar stands = record { drawing = sofar; goes_on = refl; count = omega arith; stands = stands }
-
--- Where the first bytes are all taken, those behind them are taken after them.
-taken-append : {A : Type 0} (form : Reading A) (xs ys : List ℕ) → taken form xs ≡ length xs → taken form (xs ++ ys) ≡ length xs + taken (after form xs) ys
-taken-append form [] ys e = omega arith
-taken-append (Done x) (b ∷ xs) ys e = absurd (omega arith)
-taken-append (Faulty f) (b ∷ xs) ys e = absurd (omega arith)
-taken-append (Want more) (b ∷ xs) ys e = let h = taken-append (more b) xs ys (omega (arith, e)) in omega (arith, h)
 
 -- A step further.
 pub drawn_more : (start now next : Progress) (canvas after_it : Canvas) (piece left : List ℕ) (n : ℕ) (sofar : Drawing) → n ≤ length left → HasDrawn start now canvas piece left sofar
@@ -59,10 +52,3 @@ drawn_stops start now canvas piece left answer sofar h none e =
       feeds = feeds_ok (ahead start sofar) (ahead now h.drawing) piece (length piece - length left) answer (sym (h.goes_on ∙ stays.0), omega (arith, h.count, stays.1)) (e h.drawing);
       stands = h.stands;
     }
-
-pub none_left : {A : Type 0} (r : Reading A) (left : List ℕ) → length left ≡ 0 → (after r left ≡ r) × (taken r left ≡ 0)
-none_left r [] e = (refl, taken-nil r)
-none_left r (b ∷ bs) e = absurd (omega arith)
-
-pub none_wanted : {A : Type 0} (r : Reading A) (left : List ℕ) → wants_more r ≡ false → (after r left ≡ r) × (taken r left ≡ 0)
-none_wanted r left e = (after-stays r left e, taken-stays r left e)

@@ -6,7 +6,7 @@ use Rattle.std.proofs.lemmas.List.{append-nil}
 use Rattle.pixel_format.specs.PixelFormat.{PixelFormat}
 use Rattle.pixel_format.specs.Reading.{Reading, Done, Faulty, Want, after, taken, wants_more, whole_of, fault_of}
 use Rattle.pixel_format.specs.declared.fault.Fault.TheVariants.{SubrectOutside}
-use Rattle.pixel_format.proofs.ReadingLaws.{after-append, after-done, after-faulty}
+use Rattle.pixel_format.proofs.ReadingLaws.{after-append, after-done, after-faulty, done, done_is, wants_no_fault, wants_not_whole}
 use Rattle.raster.specs.Encoding.{Drawing, Subrect, drawn}
 use Rattle.raster.specs.Screen.{Canvas, LooksLike}
 use Rattle.raster.proofs.FixedLength.{Needs, needs_takes, needs_after, needs_wants}
@@ -24,16 +24,6 @@ left_needs format w h stage sofar begun e le =
 pub open_wants : (format : PixelFormat) (w h : ℕ) (stage : Stage) (sofar : Drawing) (begun : List ℕ) → is_open stage ≡ true → length begun < needed format stage
     → wants_more (after (next_form format w h stage sofar) begun) ≡ true
 open_wants format w h stage sofar begun e lt = needs_wants (needed format stage - length begun) (after (next_form format w h stage sofar) begun) (left_needs format w h stage sofar begun e (omega arith)) (omega arith)
-
-wants_no_fault : {A : Type 0} (r : Reading A) → wants_more r ≡ true → fault_of r ≡ None
-wants_no_fault (Done x) e = refl
-wants_no_fault (Faulty f) e = absurd cc
-wants_no_fault (Want more) e = refl
-
-wants_not_whole : {A : Type 0} (r : Reading A) → wants_more r ≡ true → is_some (whole_of r) ≡ false
-wants_not_whole (Done x) e = absurd cc
-wants_not_whole (Faulty f) e = refl
-wants_not_whole (Want more) e = refl
 
 -- Where no subrectangle left the rectangle there is no fault.
 pub no_fault : (format : PixelFormat) (w h : ℕ) (stage : Stage) (sofar : Drawing) (begun : List ℕ) → (stage ≡ Outside → ⊥) → length begun < needed format stage → fault_of (after (next_form format w h stage sofar) begun) ≡ None
@@ -83,19 +73,13 @@ never_whole (Want more) x none e = cc
 wants_not_done : {A : Type 0} (r : Reading A) (x : A) → wants_more r ≡ true → r ≡ Done x → ⊥
 wants_not_done r x w e = never_whole r x (wants_not_whole r w) e
 
-abbrev done_drawing : Drawing → Reading Drawing
-done_drawing d = Done d
-
-drawing_is : (a b : Drawing) → done_drawing a ≡ done_drawing b → a ≡ b
-drawing_is a b e = cc
-
 -- Then the canvas shows what was read.
 pub whole_shows : (format : PixelFormat) (w h n : ℕ) (canvas : Canvas) (sofar drawing : Drawing) (begun : List ℕ) → length begun < needed format (Subrects n)
     → LooksLike w h canvas (drawn sofar) → after (next_form format w h (Subrects n) sofar) begun ≡ Done drawing → LooksLike w h canvas (drawn drawing)
 whole_shows format w h zero canvas sofar drawing begun lt shows e =
-    let read : done_drawing (record { background = sofar.background; subrects = sofar.subrects ++ [] }) ≡ done_drawing drawing =
+    let read : done (record { background = sofar.background; subrects = sofar.subrects ++ [] }) ≡ done drawing =
     sym (after-done (record { background = sofar.background; subrects = sofar.subrects ++ [] }) begun) ∙ e in
-    let same : sofar ≡ drawing = ap (λ (ss : List Subrect). record { background = sofar.background; subrects = ss }) (sym (append-nil sofar.subrects)) ∙ drawing_is _ drawing read in
+    let same : sofar ≡ drawing = ap (λ (ss : List Subrect). record { background = sofar.background; subrects = ss }) (sym (append-nil sofar.subrects)) ∙ done_is _ drawing read in
     rw (← same) shows
 whole_shows format w h (suc n) canvas sofar drawing begun lt shows e =
     absurd (wants_not_done (after (next_form format w h (Subrects (suc n)) sofar) begun) drawing (open_wants format w h (Subrects (suc n)) sofar begun (lt-ltb 0 (suc n) (omega arith)) lt) e)

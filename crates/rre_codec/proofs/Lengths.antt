@@ -36,6 +36,16 @@ all_len format (s ∷ ss) =
     let rest : length (flat_map (rre_subrect_bytes format) ss) ≡ n * length ss = all_len format ss in
     omega (arith, length-append (rre_subrect_bytes format s) (flat_map (rre_subrect_bytes format) ss), one_len format s, rest)
 
+-- Behind what stands in front.
+pub behind_len : (format : PixelFormat) (front : List ℕ) (ss : List Subrect) → length (front ++ flat_map (rre_subrect_bytes format) ss) ≡ length front + subrect_len format * length ss
+behind_len format front ss = omega (arith, length-append front (flat_map (rre_subrect_bytes format) ss), all_len format ss)
+
+-- And behind a number's place and the background.
+pub head_len : (format : PixelFormat) (out : List ℕ) (v : ℕ) (ss : List Subrect) → 4 ≤ length out → length (take 4 out ++ pixel_bytes format v ++ flat_map (rre_subrect_bytes format) ss) ≡ 4 + pixel_len format + subrect_len format * length ss
+head_len format out v ss le =
+    let p : List ℕ = pixel_bytes format v in
+    omega (arith, behind_len format (take 4 out ++ p) ss, length-append (take 4 out) p, length-take 4 out, pixel_size format v)
+
 pub rre_len : (format : PixelFormat) (w h : ℕ) (values : List ℕ) → length (form Rre format w h values) ≡ 4 + pixel_len format + subrect_len format * length (runs (value_at w values) w h)
 rre_len format w h values =
     let ss : List Subrect = runs (value_at w values) w h in

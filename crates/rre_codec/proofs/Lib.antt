@@ -1,4 +1,3 @@
-pub mod Puts
 pub mod RunsPut
 pub mod Lengths
 pub mod Steps

@@ -9,10 +9,10 @@ use Rattle.pixel_format.specs.declared.fault.Fault.TheVariants.{SubrectOutside}
 use Rattle.pixel_format.proofs.ReadingLaws.{after-append, after_bind, after_bind_open}
 use Rattle.raster.specs.declared.rect.Rect.{Rect}
 use Rattle.raster.specs.Screen.{Canvas, LooksLike, fill, is_within}
-use Rattle.raster.specs.Encoding.{Subrect, Drawing, drawn, after_subrects, pixel, rect, rre, rre_subrect}
+use Rattle.raster.specs.Encoding.{Subrect, Drawing, drawn, after_subrects, pixel, rect, rect_in, rre, rre_subrect}
 use Rattle.raster.proofs.Rows.{fill_inside}
 use Rattle.raster.proofs.RreLaws.{rre_goes_on, with_subrect}
-use Rattle.raster.proofs.FixedLength.{Needs, needs_first, needs_both, exactly_needs, needs_takes, exactly_pixel, exactly_u32, exactly_rect, pixel_says, u32_says, rect_in, rect_says}
+use Rattle.raster.proofs.FixedLength.{Needs, needs_first, needs_both, exactly_needs, needs_takes, exactly_pixel, exactly_u32, exactly_rect, pixel_says, u32_says, rect_says}
 use Rattle.rre_codec.specs.declared.stage.Stage.{Stage}
 use Rattle.rre_codec.specs.declared.stage.Stage.TheVariants.{Head, Subrects, Outside}
 use Rattle.rre_codec.specs.Ahead.{to_come, next_form, needed, is_open}

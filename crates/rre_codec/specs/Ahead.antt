@@ -1,11 +1,9 @@
 -- How reading RRE goes on (RFC 6143, 7.7.3).
-use Rattle.std.specs.Prelude.{◌≡◌, ℕ, ◌+◌, List, [], ◌∷◌, ◌++◌, slice_index, length, Result, Bool, true, false, nat_lt}
-use Rattle.std.specs.Int.{w16, from_be_bytes}
+use Rattle.std.specs.Prelude.{◌≡◌, ℕ, ◌+◌, List, ◌++◌, length, Result, Bool, true, false, nat_lt}
 use Rattle.pixel_format.specs.PixelFormat.{PixelFormat, pixel_len}
 use Rattle.pixel_format.specs.Reading.{Reading, Done, Faulty, ◌>>=◌, after, taken, times, Feeds}
 use Rattle.pixel_format.specs.declared.fault.Fault.{Fault}
 use Rattle.pixel_format.specs.declared.fault.Fault.TheVariants.{SubrectOutside}
-use Rattle.raster.specs.declared.rect.Rect.{Rect}
 use Rattle.raster.specs.Screen.{Canvas, LooksLike}
 use Rattle.raster.specs.Encoding.{Drawing, drawn, rre, rre_subrect}
 use Rattle.rre_codec.specs.declared.stage.Stage.{Stage}
@@ -72,16 +70,6 @@ pub record Led (format : PixelFormat) (w h : ℕ) (stage next : Stage) (bytes : 
 -- That, wherever the canvas before showed what was drawn so far.
 abbrev pub Leads : PixelFormat → ℕ → ℕ → Stage → Stage → List ℕ → Canvas → Canvas → Drawing → Type 0
 Leads format w h stage next bytes before now sofar = IsDrawn w h stage before sofar → Led format w h stage next bytes now sofar
-
--- The rectangle in eight bytes.
-abbrev pub rect_in : List ℕ → Rect
-rect_in bytes =
-    record {
-      x = from_be_bytes w16 (slice_index bytes 0 ∷ slice_index bytes 1 ∷ []);
-      y = from_be_bytes w16 (slice_index bytes 2 ∷ slice_index bytes 3 ∷ []);
-      w = from_be_bytes w16 (slice_index bytes 4 ∷ slice_index bytes 5 ∷ []);
-      h = from_be_bytes w16 (slice_index bytes 6 ∷ slice_index bytes 7 ∷ []);
-    }
 
 -- How many bytes are looked at together.
 abbrev pub needed : PixelFormat → Stage → ℕ

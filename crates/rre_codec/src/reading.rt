@@ -5,26 +5,14 @@ ghost use Rattle.pixel_format.specs.PixelFormat.{pixel_len};
 ghost use Rattle.pixel_format.specs.Reading.{Done, whole_of, fault_of};
 ghost use Rattle.raster.specs.Encoding.{Drawing, drawn, rre};
 ghost use Rattle.raster.specs.Screen.{Map, LooksLike};
-ghost use Rattle.rre_codec.specs.Ahead.{Leads, rect_in, needed, is_open, ahead, Stands, Steps, Draws, IsSameSize};
+ghost use Rattle.rre_codec.specs.Ahead.{Leads, needed, is_open, ahead, Stands, Steps, Draws, IsSameSize};
 
-use crate::run::{COUNT_LEN, PLACE_LEN};
+use crate::run::COUNT_LEN;
 use crate::stage::{MOST_NEEDED, Stage, is_open, needed};
+use arrayvec::ArrayVec;
 use pixel_format::{Fault, Format};
-use raster::{Canvas, Rect};
+use raster::{Canvas, RECT_LEN, Rect};
 use std::marker::Model;
-
-/// The rectangle in eight bytes: x, y, width and height.
-fn area_of(place: &[u8]) -> Rect
-    requires { length place.now ≡ PLACE_LEN }
-    ensures { result ≡ rect_in place.now }
-{
-    Rect {
-        x: u64::from(u16::from_be_bytes([place[0], place[1]])),
-        y: u64::from(u16::from_be_bytes([place[2], place[3]])),
-        w: u64::from(u16::from_be_bytes([place[4], place[5]])),
-        h: u64::from(u16::from_be_bytes([place[6], place[7]])),
-    }
-}
 
 /// Draws the background in the bytes of a head, and answers that its subrectangles are next.
 fn draw_head<C: Canvas>(format: &Format, w: u64, h: u64, bytes: &[u8], canvas: &mut C) -> Stage
@@ -51,7 +39,7 @@ fn draw_subrect<C: Canvas>(
     canvas: &mut C,
 ) -> Stage
     requires some { 0 < left }
-    requires count { length bytes.now ≡ pixel_len format.now + PLACE_LEN }
+    requires count { length bytes.now ≡ pixel_len format.now + RECT_LEN }
     requires width { C.width canvas.old ≡ w }
     requires height { C.height canvas.old ≡ h }
     ensures width { C.width canvas.new ≡ w }
@@ -59,7 +47,7 @@ fn draw_subrect<C: Canvas>(
     ensures drawn { (sofar : Drawing) → Leads format.now w h (Stage.Subrects left) result bytes.now (C.shows canvas.old) (C.shows canvas.new) sofar }
 {
     let (value, place) = bytes.split_at(format.bytes());
-    let area = area_of(place);
+    let area = Rect::read(place);
     if !area.within(w, h) {
         return Stage::Outside;
     }
@@ -99,19 +87,18 @@ pub struct Reader {
     width: u64,
     height: u64,
     stage: Stage,
-    buffer: [u8; MOST_NEEDED],
-    filled: usize,
+    begun: ArrayVec<u8, MOST_NEEDED>,
 }
 
 impl Model for Reader {
-    ghost use Rattle.std.specs.Prelude.{take, ◌<◌};
+    ghost use Rattle.std.specs.Prelude.{◌<◌, length};
     ghost use Rattle.rre_codec.specs.Ahead.{Progress, needed};
 
     ghost Value = { Progress };
 
-    ghost view = { λ r. record { format = r.format; width = r.width; height = r.height; stage = r.stage; begun = take r.filled r.buffer } };
+    ghost view = { λ r. record { format = r.format; width = r.width; height = r.height; stage = r.stage; begun = r.begun.items } };
 
-    ghost invariant = { λ r. r.filled < needed r.format r.stage };
+    ghost invariant = { λ r. length r.begun.items < needed r.format r.stage };
 }
 
 impl Reader {
@@ -127,8 +114,7 @@ impl Reader {
             width: w,
             height: h,
             stage: Stage::Head,
-            buffer: [0; MOST_NEEDED],
-            filled: 0,
+            begun: ArrayVec::new(),
         }
     }
 
@@ -165,7 +151,7 @@ impl Reader {
         ensures drawn { (sofar : Drawing) → Stands self.old (C.shows canvas.old) sofar → Steps self.old self.new (C.shows canvas.new) (take result bytes.now) sofar }
     {
         let needed = needed(&self.format, self.stage);
-        if self.filled == 0 && needed <= bytes.len() {
+        if self.begun.is_empty() && needed <= bytes.len() {
             self.stage = draw(
                 &self.format,
                 self.width,
@@ -176,20 +162,18 @@ impl Reader {
             );
             return needed;
         }
-        let count = bytes.len().min(needed - self.filled);
-        self.buffer[self.filled..self.filled + count].copy_from_slice(&bytes[..count]);
-        self.filled += count;
-        if self.filled == needed {
-            self.filled = 0;
-            let next = draw(
+        let count = bytes.len().min(needed - self.begun.len());
+        let _ = self.begun.try_extend_from_slice(&bytes[..count]);
+        if self.begun.len() == needed {
+            self.stage = draw(
                 &self.format,
                 self.width,
                 self.height,
                 self.stage,
-                &self.buffer[..needed],
+                self.begun.as_slice(),
                 canvas,
             );
-            self.stage = next;
+            self.begun.clear();
         }
         count
     }

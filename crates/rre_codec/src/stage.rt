@@ -3,8 +3,9 @@
 ghost use Rattle.std.specs.Prelude.{◌≡◌, ◌≤◌};
 ghost use Rattle.rre_codec.specs.Ahead.{needed, is_open};
 
-use crate::run::{COUNT_LEN, PLACE_LEN};
+use crate::run::COUNT_LEN;
 use pixel_format::Format;
+use raster::RECT_LEN;
 
 /// What the next bytes of a rectangle are.
 #[derive(Clone, Copy)]
@@ -27,7 +28,7 @@ pub fn needed(format: &Format, stage: Stage) -> usize
 {
     match stage {
         Stage::Head => COUNT_LEN + format.bytes(),
-        _ => format.bytes() + PLACE_LEN,
+        _ => format.bytes() + RECT_LEN,
     }
 }
 

@@ -1,15 +1,17 @@
 //! Writing RRE.
 
-ghost use Rattle.std.specs.Prelude.{◌≡◌, ℕ, ◌+◌, ◌*◌, ◌<◌, ◌≤◌, ◌^◌, ◌++◌, length, take, MatchOption};
+ghost use Rattle.std.specs.Prelude.{◌≡◌, ℕ, ◌+◌, ◌*◌, ◌<◌, ◌≤◌, ◌^◌, ◌++◌, length, take};
 ghost use Rattle.std.specs.List.{flat_map};
 ghost use Rattle.pixel_format.specs.PixelFormat.{pixel_len, pixel_bytes};
 ghost use Rattle.raster.specs.declared.encoding.Encoding.TheVariants.{Rre};
 ghost use Rattle.raster.specs.Screen.{value_at};
 ghost use Rattle.raster.specs.Encoding.{runs, runs_of_row, rre_subrect_bytes};
 ghost use Rattle.raster.specs.Encoded.{IsEncoded};
+ghost use Rattle.rre_codec.specs.Putting.{Puts};
 
-use crate::run::{COUNT_LEN, PLACE_LEN, Run, put_run, run_len};
+use crate::run::{COUNT_LEN, Run, put_run, run_len};
 use pixel_format::Format;
+use raster::RECT_LEN;
 
 /// Writes the runs of row `y` other than the background from index `used` of `out` on, and answers where they end;
 /// `None` where that isn't inside `out`.
@@ -26,10 +28,10 @@ fn put_row(
     requires high { y < 2 ^ 16 }
     requires count { y * w + w ≤ length values.now }
     requires room { used < length out.old }
-    ensures { let subrects = runs_of_row (value_at w values.now) background w y in let end = used + (pixel_len format.now + PLACE_LEN) * length subrects in MatchOption result (length out.old ≤ end) (λ n. (n ≡ end) × (n < length out.old) × (take n out.new ≡ take used out.old ++ flat_map (rre_subrect_bytes format.now) subrects)) }
+    ensures { Puts (take used out.old ++ flat_map (rre_subrect_bytes format.now) (runs_of_row (value_at w values.now) background w y)) out.old out.new result }
 {
     let row = &values[y * w..y * w + w];
-    let size = format.bytes() + PLACE_LEN;
+    let size = format.bytes() + RECT_LEN;
     let mut end = used;
     let mut x = 0;
     while x < w {
@@ -55,7 +57,7 @@ fn put_runs(format: &Format, values: &[u32], w: usize, h: usize, out: &mut [u8])
     requires count { length values.now ≡ w * h }
     requires some { 0 < length values.now }
     requires room { COUNT_LEN + pixel_len format.now < length out.old }
-    ensures { let canvas = value_at w values.now in let subrects = runs canvas w h in let end = COUNT_LEN + pixel_len format.now + (pixel_len format.now + PLACE_LEN) * length subrects in MatchOption result (length out.old ≤ end) (λ n. (n ≡ end) × (n < length out.old) × (take n out.new ≡ take COUNT_LEN out.old ++ pixel_bytes format.now (canvas 0 0) ++ flat_map (rre_subrect_bytes format.now) subrects)) }
+    ensures { let canvas = value_at w values.now in Puts (take COUNT_LEN out.old ++ pixel_bytes format.now (canvas 0 0) ++ flat_map (rre_subrect_bytes format.now) (runs canvas w h)) out.old out.new result }
 {
     let background = values[0];
     format.put_pixel(background, &mut out[COUNT_LEN..]);
@@ -85,7 +87,7 @@ pub fn encode(values: &[u32], w: u64, h: u64, format: &Format, out: &mut [u8]) -
     }
     let end = put_runs(format, values, w as usize, h as usize, &mut out[..raw])?;
     // The subrectangles have one length, so their number follows from where they end.
-    let count = ((end - head) / (pixel + PLACE_LEN)) as u32;
+    let count = ((end - head) / (pixel + RECT_LEN)) as u32;
     out[..COUNT_LEN].copy_from_slice(&count.to_be_bytes());
     Some(end)
 }

@@ -11,9 +11,9 @@ pub draw_mask-requires : goal.draw_mask-requires
 draw_mask-requires g c = record { tile = c.requires.tile }
 
 pub returns-in-Mask-clause-drawn : goal.returns-in-Mask-clause-drawn
-returns-in-Mask-clause-drawn g c part =
+returns-in-Mask-clause-drawn g c =
     let some : 1 ≤ length c.args.bytes.now = rw c.in-Mask.is at c.requires.count in
-    rw (c.in-Mask.is, take_one c.args.bytes.now c.draw_mask.result.used c.draw_mask.ensures.used some) (c.draw_mask.ensures.drawn part)
+    rw (c.in-Mask.is, take_one c.args.bytes.now c.draw_mask.result.used c.draw_mask.ensures.used some) c.draw_mask.ensures.drawn
 
 pub draw_pixels-requires-clause-some : goal.draw_pixels-requires-clause-some
 draw_pixels-requires-clause-some g c = rw c.in-RawPixels.is at c.requires.ready

@@ -6,7 +6,8 @@ use Rattle.raster.specs.declared.rect.Rect.{Rect}
 use Rattle.raster.specs.Screen.{Canvas, value_at, part_of}
 use Rattle.raster.specs.Encoding.{Subrect, Carried, runs, drawn_bytes}
 use Rattle.hextile_codec.specs.declared.runs.Run.{Run}
-use Rattle.hextile_codec.specs.Kinds.{subrect_of, kind_of, carried_of, drawn_len}
+use Rattle.hextile_codec.specs.Carried.{carried_by}
+use Rattle.hextile_codec.specs.Kinds.{subrect_of, kind_of, drawn_len}
 use Rattle.hextile_codec.proofs.TileRuns.{tile_first}
 use Rattle.hextile_codec.proofs.Drawings.{chosen_raw, chosen_drawn, drawn_has, mixed_least}
 use Rattle.hextile_codec.proofs.kind.choose.Goals as goal
@@ -26,7 +27,7 @@ returns-then-not-find_runs c =
     let format : PixelFormat = c.args.format.now in
     let tile : Rect = c.args.tile.now in
     let canvas : Canvas = part_of tile (value_at c.args.w c.args.values.now) in
-    let before : Carried = carried_of c.args.said.now in
+    let before : Carried = carried_by c.args.said.now in
     let p : ℕ = pixel_len format in
     let len : ℕ = 1 + c.bytes-pixel.result * (tile.w * tile.h) in
     let size : len ≡ 1 + p * (tile.w * tile.h) = ap (λ n. 1 + n * (tile.w * tile.h)) c.bytes-pixel.ensures in
@@ -41,7 +42,7 @@ returns-then-raw-len c =
     let format : PixelFormat = c.args.format.now in
     let tile : Rect = c.args.tile.now in
     let canvas : Canvas = part_of tile (value_at c.args.w c.args.values.now) in
-    let before : Carried = carried_of c.args.said.now in
+    let before : Carried = carried_by c.args.said.now in
     let found : List Run = c.find_runs.new.found.items in
     let background : ℕ = get_or c.args.values.now (tile.y * c.args.w + tile.x) 0 in
     let first : background ≡ canvas 0 0 = tile_first c.args.values.now c.args.w tile in
@@ -59,7 +60,7 @@ returns c =
     let format : PixelFormat = c.args.format.now in
     let tile : Rect = c.args.tile.now in
     let canvas : Canvas = part_of tile (value_at c.args.w c.args.values.now) in
-    let before : Carried = carried_of c.args.said.now in
+    let before : Carried = carried_by c.args.said.now in
     let found : List Run = c.find_runs.new.found.items in
     let background : ℕ = get_or c.args.values.now (tile.y * c.args.w + tile.x) 0 in
     let first : background ≡ canvas 0 0 = tile_first c.args.values.now c.args.w tile in

@@ -2,7 +2,7 @@ use Rattle.std.proofs.Common.{◌≡◌, ◌+◌, ◌-◌, ◌++◌, ◌∙◌, 
 use Rattle.pixel_format.specs.PixelFormat.{pixel_len, pixel_bytes}
 use Rattle.pixel_format.proofs.Pixels.{pixel_size}
 use Rattle.raster.specs.Encoding.{is_said}
-use Rattle.hextile_codec.proofs.Puts.{first_part}
+use Rattle.raster.proofs.Puts.{first_part}
 use Rattle.hextile_codec.proofs.put.put_colour.Goals as goal
 use borrow.Rule.Slice.PartMut.{put_mid}
 

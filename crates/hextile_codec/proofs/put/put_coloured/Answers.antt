@@ -3,7 +3,8 @@ use Rattle.std.specs.List.{flat_map}
 use Rattle.std.proofs.lemmas.List.{length-map}
 use Rattle.pixel_format.specs.PixelFormat.{PixelFormat, pixel_len}
 use Rattle.raster.specs.Encoding.{Subrect, Carried, unless_said, coloured_bytes}
-use Rattle.hextile_codec.specs.Kinds.{subrect_of, carried_of}
+use Rattle.hextile_codec.specs.Carried.{carried_by}
+use Rattle.hextile_codec.specs.Kinds.{subrect_of}
 use Rattle.hextile_codec.proofs.Puts.{then_put}
 use Rattle.hextile_codec.proofs.Drawings.{background_bit, many_bytes, drawn_many}
 use Rattle.hextile_codec.proofs.put.put_coloured.Goals as goal
@@ -11,7 +12,7 @@ use Rattle.hextile_codec.proofs.put.put_coloured.Goals as goal
 pub returns : goal.returns
 returns c =
     let format : PixelFormat = c.args.format.now in
-    let before : Carried = carried_of c.args.said.now in
+    let before : Carried = carried_by c.args.said.now in
     let ss : List Subrect = map subrect_of c.args.runs.now in
     let front : List ℕ = take c.args.used c.args.out.now in
     let mask : ℕ = c.background_bit.result + 8 + 16 in

@@ -4,7 +4,7 @@ use Rattle.std.proofs.Math.Nat.{mul-le-mul_left}
 use Rattle.pixel_format.specs.PixelFormat.{pixel_len, pixel_bytes}
 use Rattle.pixel_format.proofs.Pixels.{pixel_size}
 use Rattle.raster.specs.Encoding.{raw_bytes}
-use Rattle.hextile_codec.proofs.Puts.{first_part}
+use Rattle.raster.proofs.Puts.{first_part}
 use Rattle.hextile_codec.proofs.put.put_row.Goals as goal
 use borrow.Rule.Slice.PartMut.{put_mid}
 

@@ -3,7 +3,8 @@ use Rattle.std.specs.List.{flat_map}
 use Rattle.std.proofs.lemmas.List.{length-map}
 use Rattle.pixel_format.specs.PixelFormat.{PixelFormat}
 use Rattle.raster.specs.Encoding.{Subrect, Carried, is_said, unless_said, place_bytes}
-use Rattle.hextile_codec.specs.Kinds.{subrect_of, carried_of}
+use Rattle.hextile_codec.specs.Carried.{carried_by}
+use Rattle.hextile_codec.specs.Kinds.{subrect_of}
 use Rattle.hextile_codec.proofs.Puts.{then_put}
 use Rattle.hextile_codec.proofs.Drawings.{background_bit, two_bytes, drawn_two}
 use Rattle.hextile_codec.proofs.put.put_two_colours.Goals as goal
@@ -12,7 +13,7 @@ use Rattle.hextile_codec.proofs.put.put_two_colours.Goals.{then-is_said, else-is
 pub returns : goal.returns
 returns c =
     let format : PixelFormat = c.args.format.now in
-    let before : Carried = carried_of c.args.said.now in
+    let before : Carried = carried_by c.args.said.now in
     let ss : List Subrect = map subrect_of c.args.runs.now in
     let front : List ℕ = take c.args.used c.args.out.now in
     let bits : ℕ = cond (is_said before.foreground c.args.foreground) 8 12 in

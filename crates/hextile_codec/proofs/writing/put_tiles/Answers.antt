@@ -1,56 +1,43 @@
-use Rattle.std.proofs.Common.{◌≡◌, ◌+◌, ◌*◌, ◌<◌, ◌≤◌, ◌++◌, ◌∙◌, ℕ, List, length, map, take, refl, sym, ap, arith}
+use Rattle.std.proofs.Common.{◌≡◌, ◌+◌, ◌*◌, ◌<◌, ◌≤◌, ◌++◌, ◌∙◌, ℕ, List, length, map, take, sym, ap, arith}
 use Rattle.std.specs.List.{All}
-use Rattle.std.specs.Int.{div_ceil}
 use Rattle.std.proofs.lemmas.List.{length-map, length-take}
 use Rattle.pixel_format.specs.PixelFormat.{PixelFormat, pixel_len}
 use Rattle.raster.specs.declared.rect.Rect.{Rect}
-use Rattle.raster.specs.Screen.{Canvas, value_at, part_of, tiles_across, tile_count}
+use Rattle.raster.specs.Screen.{Canvas, value_at, part_of, tile_count}
 use Rattle.raster.specs.Encoding.{Carried, drawn_bytes, hextile_bytes}
 use Rattle.raster.proofs.HextileSpelled.{IsTile, tile_lies}
 use Rattle.raster.proofs.TileSpelled.{few_runs}
 use Rattle.hextile_codec.specs.declared.runs.Run.{Run}
-use Rattle.hextile_codec.specs.Kinds.{IsSmall, subrect_of, carried_of, drawn_len}
+use Rattle.hextile_codec.specs.Carried.{carried_by}
+use Rattle.hextile_codec.specs.Kinds.{IsSmall, subrect_of, drawn_len}
 use Rattle.hextile_codec.proofs.Drawings.{as_raw_len, drawn_has, small_runs}
 use Rattle.hextile_codec.proofs.Tiles.{tile_inside, tile_written, tile_is_put, too_long, all_put, says_drawn, says_raw}
 use Rattle.hextile_codec.proofs.writing.put_tiles.Goals as goal
 use Rattle.hextile_codec.proofs.writing.put_tiles.Goals.{in-Raw, in_default}
 
--- How many tiles there are.
-across_is : (n : ℕ) → div_ceil n 16 ≡ tiles_across n
-across_is n = omega arith
-
-count_is : (w h a b : ℕ) → a ≡ div_ceil w 16 → b ≡ div_ceil h 16 → a * b ≡ tile_count w h
-count_is w h a b p q = rw (p, q, across_is w, across_is h) refl
-
-turn_inside : (w h k a b : ℕ) → a ≡ div_ceil w 16 → b ≡ div_ceil h 16 → k < a * b → k < tile_count w h
-turn_inside w h k a b p q lt = rw (count_is w h a b p q) at lt
-
-turn_over : (w h k a b : ℕ) → a ≡ div_ceil w 16 → b ≡ div_ceil h 16 → a * b ≤ k → tile_count w h ≤ k
-turn_over w h k a b p q le = rw (count_is w h a b p q) at le
-
 pub choose-choice-requires-clause-h_some : goal.choose-choice-requires-clause-h_some
 choose-choice-requires-clause-h_some c =
-    let inside = turn_inside c.args.w c.args.h c.loop-k.k c.div_ceil.result c.div_ceil-2.result c.div_ceil.ensures c.div_ceil-2.ensures c.loop-k-test.true in
+    let inside : c.loop-k.k < tile_count c.args.w c.args.h = rw c.tile_count-k-end.ensures.value at c.loop-k-test.true in
     let lies : IsTile c.args.w c.args.h c.tile_rect-tile.result = rw c.tile_rect-tile.ensures (tile_lies c.args.w c.args.h c.loop-k.k c.requires.wide.0 inside) in
     lies.h_some
 
 pub choose-choice-requires-clause-down : goal.choose-choice-requires-clause-down
 choose-choice-requires-clause-down c =
-    let inside = turn_inside c.args.w c.args.h c.loop-k.k c.div_ceil.result c.div_ceil-2.result c.div_ceil.ensures c.div_ceil-2.ensures c.loop-k-test.true in
+    let inside : c.loop-k.k < tile_count c.args.w c.args.h = rw c.tile_count-k-end.ensures.value at c.loop-k-test.true in
     let lies : IsTile c.args.w c.args.h c.tile_rect-tile.result = rw c.tile_rect-tile.ensures (tile_lies c.args.w c.args.h c.loop-k.k c.requires.wide.0 inside) in
     tile_inside c.args.w c.args.h (length c.args.values.now) c.tile_rect-tile.result lies c.requires.count
 
 pub returns-then-out-used : goal.returns-then-out-used
 returns-then-out-used c =
     let canvas : Canvas = value_at c.args.w c.args.values.now in
-    let inside = turn_inside c.args.w c.args.h c.loop-k.k c.div_ceil.result c.div_ceil-2.result c.div_ceil.ensures c.div_ceil-2.ensures c.loop-k-test.true in
+    let inside : c.loop-k.k < tile_count c.args.w c.args.h = rw c.tile_count-k-end.ensures.value at c.loop-k-test.true in
     let long =
-    too_long c.args.format.now c.args.w c.args.h canvas (carried_of c.loop-k.said) c.loop-k.k c.tile_rect-tile.result c.loop-k.used c.loop-k.out (hextile_bytes c.args.format.now c.args.w c.args.h canvas) c.tile_rect-tile.ensures inside (omega (arith, c.loop-k.invariant.room)) c.loop-k.invariant.bytes in
+    too_long c.args.format.now c.args.w c.args.h canvas (carried_by c.loop-k.said) c.loop-k.k c.tile_rect-tile.result c.loop-k.used c.loop-k.out (hextile_bytes c.args.format.now c.args.w c.args.h canvas) c.tile_rect-tile.ensures inside (omega (arith, c.loop-k.invariant.room)) c.loop-k.invariant.bytes in
     omega (arith, long, c.choose-choice.ensures.len, c.if-out-used.true, c.loop-k.auto.out)
 
 pub put_raw-requires-clause-down : goal.put_raw-requires-clause-down
 put_raw-requires-clause-down c =
-    let inside = turn_inside c.args.w c.args.h c.loop-k.k c.div_ceil.result c.div_ceil-2.result c.div_ceil.ensures c.div_ceil-2.ensures c.loop-k-test.true in
+    let inside : c.loop-k.k < tile_count c.args.w c.args.h = rw c.tile_count-k-end.ensures.value at c.loop-k-test.true in
     let lies : IsTile c.args.w c.args.h c.tile_rect-tile.result = rw c.tile_rect-tile.ensures (tile_lies c.args.w c.args.h c.loop-k.k c.requires.wide.0 inside) in
     tile_inside c.args.w c.args.h (length c.args.values.now) c.tile_rect-tile.result lies c.requires.count
 
@@ -58,7 +45,7 @@ pub put_raw-requires-clause-room : goal.put_raw-requires-clause-room
 put_raw-requires-clause-room c =
     let tile : Rect = c.tile_rect-tile.result in
     let canvas : Canvas = part_of tile (value_at c.args.w c.args.values.now) in
-    let before : Carried = carried_of c.loop-k.said in
+    let before : Carried = carried_by c.loop-k.said in
     let raw =
     says_raw c.args.format.now before tile.w tile.h canvas (map subrect_of c.choose-choice.new.runs.items) c.choose-choice.result.background c.choose-choice.result.kind (tile_written c.args.format.now c.args.w c.args.h (value_at c.args.w c.args.values.now) before tile).0 c.in-Raw.is c.choose-choice.ensures.written in
     omega (arith, ap length raw, as_raw_len c.args.format.now before tile.w tile.h canvas, c.choose-choice.ensures.len, c.if-out-used.false)
@@ -67,9 +54,9 @@ pub put_drawn-requires : goal.put_drawn-requires
 put_drawn-requires c =
     let tile : Rect = c.tile_rect-tile.result in
     let canvas : Canvas = part_of tile (value_at c.args.w c.args.values.now) in
-    let before : Carried = carried_of c.loop-k.said in
+    let before : Carried = carried_by c.loop-k.said in
     let found : List Run = c.choose-choice.new.runs.items in
-    let inside = turn_inside c.args.w c.args.h c.loop-k.k c.div_ceil.result c.div_ceil-2.result c.div_ceil.ensures c.div_ceil-2.ensures c.loop-k-test.true in
+    let inside : c.loop-k.k < tile_count c.args.w c.args.h = rw c.tile_count-k-end.ensures.value at c.loop-k-test.true in
     let lies : IsTile c.args.w c.args.h tile = rw c.tile_rect-tile.ensures (tile_lies c.args.w c.args.h c.loop-k.k c.requires.wide.0 inside) in
     let says =
     says_drawn c.args.format.now before tile.w tile.h canvas (map subrect_of found) c.choose-choice.result.background c.choose-choice.result.kind (tile_written c.args.format.now c.args.w c.args.h (value_at c.args.w c.args.values.now) before tile).0 c.in_default.not-Raw c.choose-choice.ensures.written in
@@ -84,8 +71,8 @@ put_drawn-requires c =
 pub returns : goal.returns
 returns c =
     let whole : List ℕ = hextile_bytes c.args.format.now c.args.w c.args.h (value_at c.args.w c.args.values.now) in
-    let over : tile_count c.args.w c.args.h ≤ c.loop-k.k = turn_over c.args.w c.args.h c.loop-k.k c.div_ceil.result c.div_ceil-2.result c.div_ceil.ensures c.div_ceil-2.ensures c.loop-k-test.false in
-    let all : take c.loop-k.used c.loop-k.out ≡ whole = all_put c.args.format.now c.args.w c.args.h (value_at c.args.w c.args.values.now) (carried_of c.loop-k.said) c.loop-k.k c.loop-k.used c.loop-k.out whole over c.loop-k.invariant.bytes in
+    let over : tile_count c.args.w c.args.h ≤ c.loop-k.k = rw c.tile_count-k-end.ensures.value at c.loop-k-test.false in
+    let all : take c.loop-k.used c.loop-k.out ≡ whole = all_put c.args.format.now c.args.w c.args.h (value_at c.args.w c.args.values.now) (carried_by c.loop-k.said) c.loop-k.k c.loop-k.used c.loop-k.out whole over c.loop-k.invariant.bytes in
     let size : c.loop-k.used ≡ length whole = omega (arith, ap length all, length-take c.loop-k.used c.loop-k.out, c.loop-k.invariant.room) in
     (size, omega (arith, c.loop-k.invariant.room, c.loop-k.auto.out), all)
 
@@ -94,10 +81,10 @@ loop-k-preserved c =
     let tile : Rect = c.tile_rect-tile.result in
     let format : PixelFormat = c.args.format.now in
     let canvas : Canvas = value_at c.args.w c.args.values.now in
-    let before : Carried = carried_of c.loop-k.said in
+    let before : Carried = carried_by c.loop-k.said in
     let found : List Run = c.choose-choice.new.runs.items in
     let bytes : List ℕ = (tile_written format c.args.w c.args.h canvas before tile).0 in
-    let inside = turn_inside c.args.w c.args.h c.loop-k.k c.div_ceil.result c.div_ceil-2.result c.div_ceil.ensures c.div_ceil-2.ensures c.loop-k-test.true in
+    let inside : c.loop-k.k < tile_count c.args.w c.args.h = rw c.tile_count-k-end.ensures.value at c.loop-k-test.true in
     let put : take (c.loop-k.used + c.choose-choice.result.len) c.match-choice.out ≡ take c.loop-k.used c.loop-k.out ++ bytes = elim c.match-choice.branch [
       | in-Raw w ↦
           let raw = says_raw format before tile.w tile.h (part_of tile canvas) (map subrect_of found) c.choose-choice.result.background c.choose-choice.result.kind bytes w.in-Raw.is c.choose-choice.ensures.written in
@@ -115,6 +102,6 @@ loop-k-preserved c =
     record {
       room = omega (arith, c.match-choice.auto.out, c.loop-k.auto.out, c.if-out-used.false, c.loop-k.invariant.room);
       bytes =
-          tile_is_put format c.args.w c.args.h canvas before (carried_of c.leaves-said.result) c.loop-k.k tile c.loop-k.used (c.loop-k.used + c.choose-choice.result.len) c.loop-k.out c.match-choice.out (hextile_bytes format c.args.w c.args.h canvas) c.tile_rect-tile.ensures inside put
+          tile_is_put format c.args.w c.args.h canvas before (carried_by c.leaves-said.result) c.loop-k.k tile c.loop-k.used (c.loop-k.used + c.choose-choice.result.len) c.loop-k.out c.match-choice.out (hextile_bytes format c.args.w c.args.h canvas) c.tile_rect-tile.ensures inside put
           (c.leaves-said.ensures ∙ c.choose-choice.ensures.leaves) c.loop-k.invariant.bytes;
     }

@@ -1,12 +1,12 @@
 use Rattle.std.proofs.Common.{◌≡◌, ◌-◌, ◌++◌, ◌<◌, take, length}
 use Rattle.raster.specs.Screen.{value_at, tile_count}
 use Rattle.raster.specs.Encoding.{tile_bytes_from, hextile_bytes}
-use Rattle.hextile_codec.specs.Kinds.{carried_of}
+use Rattle.hextile_codec.specs.Carried.{carried_by}
 use Rattle.hextile_codec.proofs.writing.put_tiles.Given as goal
 
 abbrev pub invariant-loop-k : goal.invariant-loop-k
 invariant-loop-k l =
     record {
       room : l.used < length l.out;
-      bytes : take l.used l.out ++ tile_bytes_from l.format l.w l.h (value_at l.w l.values) (carried_of l.said) l.k (tile_count l.w l.h - l.k) ≡ hextile_bytes l.format l.w l.h (value_at l.w l.values);
+      bytes : take l.used l.out ++ tile_bytes_from l.format l.w l.h (value_at l.w l.values) (carried_by l.said) l.k (tile_count l.w l.h - l.k) ≡ hextile_bytes l.format l.w l.h (value_at l.w l.values);
     }

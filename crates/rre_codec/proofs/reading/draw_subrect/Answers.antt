@@ -2,23 +2,22 @@ use Rattle.std.proofs.Common.{◌≡◌, ◌∙◌, take, drop, ap, arith, sym, 
 use Rattle.pixel_format.specs.PixelFormat.{pixel_of}
 use Rattle.raster.specs.declared.rect.Rect.{Rect}
 use Rattle.raster.specs.Screen.{is_within, fill}
-use Rattle.raster.specs.Encoding.{Subrect}
+use Rattle.raster.specs.Encoding.{Subrect, rect_in}
 use Rattle.raster.proofs.RreLaws.{with_subrect}
-use Rattle.raster.proofs.FixedLength.{rect_in}
 use Rattle.rre_codec.proofs.Steps.{subrect_in, inside_read, outside_read, subrect_drawn}
 use Rattle.rre_codec.proofs.reading.draw_subrect.Goals as goal
 
 pub returns-then-not-within-clause-drawn : goal.returns-then-not-within-clause-drawn
 returns-then-not-within-clause-drawn g c sofar stands =
     let s : Subrect = subrect_in c.args.format.now c.args.bytes.now in
-    let area : c.area_of-area.result ≡ s.area = c.area_of-area.ensures ∙ ap rect_in (c.split_at.ensures.back ∙ ap (λ p. drop p c.args.bytes.now) c.bytes.ensures) in
+    let area : c.read-area.result ≡ s.area = c.read-area.ensures.value ∙ ap rect_in (c.split_at.ensures.back ∙ ap (λ p. drop p c.args.bytes.now) c.bytes.ensures) in
     let out : is_within s.area c.args.w c.args.h ≡ false = sym (ap (λ (r : Rect). is_within r c.args.w c.args.h) area) ∙ (sym c.within.ensures ∙ c.if-not-within.true) in
     record { drawing = sofar; reads = outside_read c.args.format.now c.args.w c.args.h sofar c.args.left c.args.bytes.now c.requires.some c.requires.count out; shows = tt }
 
 pub returns-clause-drawn : goal.returns-clause-drawn
 returns-clause-drawn g c sofar stands =
     let s : Subrect = subrect_in c.args.format.now c.args.bytes.now in
-    let area : c.area_of-area.result ≡ s.area = c.area_of-area.ensures ∙ ap rect_in (c.split_at.ensures.back ∙ ap (λ p. drop p c.args.bytes.now) c.bytes.ensures) in
+    let area : c.read-area.result ≡ s.area = c.read-area.ensures.value ∙ ap rect_in (c.split_at.ensures.back ∙ ap (λ p. drop p c.args.bytes.now) c.bytes.ensures) in
     let value : c.get_pixel.result ≡ s.value = c.get_pixel.ensures ∙ ap (pixel_of c.args.format.now) (c.split_at.ensures.front ∙ ap (λ p. take p c.args.bytes.now) c.bytes.ensures) in
     let inside : is_within s.area c.args.w c.args.h ≡ true = sym (ap (λ (r : Rect). is_within r c.args.w c.args.h) area) ∙ (sym c.within.ensures ∙ c.if-not-within.false) in
     record {

@@ -5,7 +5,7 @@ use Rattle.std.proofs.lemmas.List.{length-take}
 use Rattle.pixel_format.specs.PixelFormat.{pixel_len, pixel_bytes}
 use Rattle.raster.specs.Screen.{Canvas, value_at}
 use Rattle.raster.specs.Encoding.{runs, rre_subrect_bytes}
-use Rattle.rre_codec.proofs.Lengths.{rre_len, rre_saves, rre_saves_nothing, count_by_len, number_in_front}
+use Rattle.rre_codec.proofs.Lengths.{head_len, rre_len, rre_saves, rre_saves_nothing, count_by_len, number_in_front}
 use Rattle.rre_codec.proofs.writing.encode.Goals as goal
 
 pub returns-then-raw-head : goal.returns-then-raw-head
@@ -17,8 +17,12 @@ pub returns-in_err-end : goal.returns-in_err-end
 returns-in_err-end c =
     let same : length c.args.values.now * c.bytes-pixel.result ≡ length c.args.values.now * pixel_len c.args.format.now = ap (λ p. length c.args.values.now * p) c.bytes-pixel.ensures in
     let long = c.in_err-end.ensures in
+    let canvas : Canvas = value_at c.args.w c.args.values.now in
+    let room : List ℕ = take (length c.args.values.now * c.bytes-pixel.result) c.args.out.now in
+    let given : length room ≡ length c.args.values.now * c.bytes-pixel.result = omega (arith, same, c.requires.room, length-take (length c.args.values.now * c.bytes-pixel.result) c.args.out.now) in
+    let size = head_len c.args.format.now room (canvas 0 0) (runs canvas c.args.w c.args.h) (omega (arith, given, c.if-raw-head.false)) in
     rw c.from_residual.ensures
-    (rre_saves_nothing c.args.format.now c.args.w c.args.h c.args.values.now (omega (arith, same, long, c.requires.room, length-take (length c.args.values.now * c.bytes-pixel.result) c.args.out.now)))
+    (rre_saves_nothing c.args.format.now c.args.w c.args.h c.args.values.now (omega (arith, same, long, size, given)))
 
 pub copy_from_slice-requires : goal.copy_from_slice-requires
 copy_from_slice-requires c =
@@ -37,12 +41,14 @@ returns c =
     let same : raw ≡ length c.args.values.now * pixel_len format = ap (λ p. length c.args.values.now * p) c.bytes-pixel.ensures in
     let room : length (take raw c.args.out.now) ≡ raw = omega (arith, length-take raw c.args.out.now, same, c.requires.room) in
     let said = c.in_ok-end.ensures in
+    let end : c.in_ok-end.end ≡ 4 + pixel_len format + (pixel_len format + 8) * length (runs canvas c.args.w c.args.h) =
+    said.end ∙ head_len format (take raw c.args.out.now) (canvas 0 0) (runs canvas c.args.w c.args.h) (omega (arith, room, c.if-raw-head.false)) in
     let count : (c.in_ok-end.end - (4 + c.bytes-pixel.result)) / (c.bytes-pixel.result + 8) ≡ length (runs canvas c.args.w c.args.h) =
-    rw (said.0, c.bytes-pixel.ensures) (count_by_len format (4 + pixel_len format) (length (runs canvas c.args.w c.args.h))) in
+    rw (end, c.bytes-pixel.ensures) (count_by_len format (4 + pixel_len format) (length (runs canvas c.args.w c.args.h))) in
     let number : c.copy_from_slice.new.self ≡ to_be_bytes w32 (length (runs canvas c.args.w c.args.h)) = c.copy_from_slice.ensures.after ∙ (c.to_be_bytes.ensures ∙ ap (to_be_bytes w32) count) in (
-      rre_saves format c.args.w c.args.h c.in_ok-end.end c.args.values.now said.0 (omega (arith, same, said.1, room)),
-      said.0 ∙ sym (rre_len format c.args.w c.args.h c.args.values.now),
-      number_in_front c.copy_from_slice.new.self (pixel ++ places) c.put_runs.new.out old (drop raw c.args.out.now) c.in_ok-end.end (ap length number) (omega (arith, length-take 4 (take raw c.args.out.now), room, c.if-raw-head.false)) (omega (arith, said.1, c.put_runs.auto.out))
-          (said.2 ∙ append_assoc old pixel places)
+      rre_saves format c.args.w c.args.h c.in_ok-end.end c.args.values.now end (omega (arith, same, said.inside, room)),
+      end ∙ sym (rre_len format c.args.w c.args.h c.args.values.now),
+      number_in_front c.copy_from_slice.new.self (pixel ++ places) c.put_runs.new.out old (drop raw c.args.out.now) c.in_ok-end.end (ap length number) (omega (arith, length-take 4 (take raw c.args.out.now), room, c.if-raw-head.false)) (omega (arith, said.inside, c.put_runs.auto.out))
+          (said.front ∙ append_assoc old pixel places)
           ∙ ap (λ t. t ++ (pixel ++ places)) number,
     )

@@ -1,10 +1,12 @@
-use Rattle.std.proofs.Common.{◌≡◌, ◌+◌, ◌<◌, ◌∙◌, List, arith, get_or, ℕ}
+use Rattle.std.proofs.Common.{◌≡◌, ◌+◌, ◌<◌, ◌∙◌, List, arith, get_or, take, ℕ}
+use Rattle.std.proofs.lemmas.List.{length-take}
 use Rattle.pixel_format.specs.PixelFormat.{pixel_len}
 use Rattle.raster.specs.Screen.{value_at}
 use Rattle.raster.specs.Encoding.{Subrect, runs_of_row, run_from}
 use Rattle.raster.proofs.Rows.{row_of, row_at}
-use Rattle.raster.proofs.RowScan.{run_in_row, fresh_behind, IsFresh}
-use Rattle.rre_codec.proofs.RunsPut.{run_fits, row_puts, row_skips, row_too_long}
+use Rattle.raster.proofs.RowScan.{run_in_row, runs_behind_all, fresh_behind, IsFresh}
+use Rattle.rre_codec.proofs.RunsPut.{run_fits, row_puts, row_skips, row_too_long, put_all}
+use Rattle.rre_codec.proofs.Lengths.{behind_len}
 use Rattle.rre_codec.proofs.writing.put_row.Goals as goal
 use Rattle.rre_codec.proofs.writing.put_row.Goals.{then-value-background+else-out-end, else-value-background}
 
@@ -12,7 +14,20 @@ pub returns-then-out-end : goal.returns-then-out-end
 returns-then-out-end c =
     let long = row_too_long c.args.format.now (value_at c.args.w c.args.values.now) c.args.background c.args.w c.args.y c.loop-x.x (get_or (row_of c.args.values.now c.args.w c.args.y) c.loop-x.x 0) (runs_of_row (value_at c.args.w c.args.values.now) c.args.background c.args.w c.args.y) c.args.out.now c.loop-x.out c.args.used c.loop-x.end
     c.loop-x-test.true (c.loop-x.invariant.fresh c.loop-x-test.true) (row_at c.args.values.now c.args.w c.args.y c.loop-x.x c.loop-x-test.true) c.loop-x.invariant.put c.if-value-background.true in
-    omega (arith, long, c.bytes-size.ensures, c.if-out-end.true, c.loop-x.invariant.whole)
+    let size = behind_len c.args.format.now (take c.args.used c.args.out.now) (runs_of_row (value_at c.args.w c.args.values.now) c.args.background c.args.w c.args.y) in
+    omega (arith, long, size, length-take c.args.used c.args.out.now, c.requires.room, c.bytes-size.ensures, c.if-out-end.true, c.loop-x.invariant.whole)
+
+pub returns : goal.returns
+returns c =
+    let canvas = value_at c.args.w c.args.values.now in
+    let all : List Subrect = runs_of_row canvas c.args.background c.args.w c.args.y in
+    let over = rw (runs_behind_all canvas c.args.background c.args.w c.args.y c.loop-x.x c.loop-x-test.false) at c.loop-x.invariant.put in
+    let put = put_all c.args.format.now all c.args.out.now c.loop-x.out c.args.used c.loop-x.end over in
+    record {
+      end = omega (arith, put.0, behind_len c.args.format.now (take c.args.used c.args.out.now) all, length-take c.args.used c.args.out.now, c.requires.room);
+      inside = omega (arith, c.loop-x.invariant.room, c.loop-x.invariant.whole);
+      front = put.1;
+    }
 
 pub loop-x-preserved : goal.loop-x-preserved
 loop-x-preserved c =

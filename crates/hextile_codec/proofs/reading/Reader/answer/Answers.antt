@@ -1,6 +1,5 @@
-use Rattle.std.proofs.Common.{◌≤◌, ◌∙◌, Some, refl, sym, ap, take, length, arith}
-use Rattle.std.proofs.lemmas.List.{length-take}
-use Rattle.hextile_codec.specs.Ahead.{carried_by}
+use Rattle.std.proofs.Common.{◌≤◌, ◌∙◌, Some, refl, sym, ap, length, arith}
+use Rattle.hextile_codec.specs.Carried.{carried_by}
 use Rattle.hextile_codec.proofs.Standing.{fine_else, no_fault_there, fault_there}
 use Rattle.hextile_codec.proofs.reading.Reader.answer.Goals as goal
 
@@ -8,8 +7,8 @@ pub returns-in_default : goal.returns-in_default
 returns-in_default c sofar = (
   refl,
   let r = c.self.inside in
-      let len : length (take r.filled r.buffer) ≤ r.filled = omega (arith, length-take r.filled r.buffer) in
-      rw (← c.self.view_is) (no_fault_there r.format r.width r.height r.tiles r.tile r.area r.stage r.filled (carried_by r.carried) sofar (take r.filled r.buffer) c.self.invariant len (fine_else r.stage c.in_default.not-Failed)),
+      let len : length r.begun.items ≤ length r.begun.items = omega arith in
+      rw (← c.self.view_is) (no_fault_there r.format r.width r.height r.tiles r.tile r.area r.stage (length r.begun.items) (carried_by r.carried) sofar r.begun.items c.self.invariant len (fine_else r.stage c.in_default.not-Failed)),
 )
 
 pub returns-in-Failed : goal.returns-in-Failed
@@ -17,4 +16,4 @@ returns-in-Failed c sofar =
     let r = c.self.inside in
     let place = rw c.in-Failed.is at c.self.invariant in
     rw (← c.self.view_is)
-    (rw c.in-Failed.is (fault_there r.format r.width r.height r.tiles r.tile r.area c.in-Failed.flaw r.filled (carried_by r.carried) sofar (take r.filled r.buffer) place ∙ ap Some (sym c.fault.ensures)))
+    (rw c.in-Failed.is (fault_there r.format r.width r.height r.tiles r.tile r.area c.in-Failed.flaw (length r.begun.items) (carried_by r.carried) sofar r.begun.items place ∙ ap Some (sym c.fault.ensures)))

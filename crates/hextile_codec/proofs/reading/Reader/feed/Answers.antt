@@ -1,8 +1,9 @@
 use Rattle.std.proofs.Common.{◌≡◌, ◌∙◌, length, sym, arith}
 use Rattle.std.proofs.lemmas.Bool.{eqb-true}
 use Rattle.pixel_format.specs.Reading.{after, taken}
+use Rattle.pixel_format.proofs.ReadingLaws.{none_left, none_wanted}
 use Rattle.hextile_codec.specs.Ahead.{Sofar, ahead}
-use Rattle.hextile_codec.proofs.Fed.{same_size, drawn_more, drawn_stops, none_left, none_wanted}
+use Rattle.hextile_codec.proofs.Fed.{same_size, drawn_more, drawn_stops}
 use Rattle.hextile_codec.proofs.Standing.{closed_there}
 use Rattle.hextile_codec.proofs.reading.Reader.feed.Goals as goal
 use Rattle.hextile_codec.proofs.reading.Reader.feed.Goals.{then-loop-self-test+else-wants_more, else-loop-self-test}

@@ -1,9 +1,9 @@
 use Rattle.std.proofs.Common.{◌≡◌, ◌∙◌, ◌<◌, take, [], sym, ap, arith}
 use Rattle.std.specs.Prelude.{not}
 use Rattle.raster.specs.Screen.{tile_count}
-use Rattle.hextile_codec.specs.Ahead.{carried_by, is_failed}
-use Rattle.hextile_codec.proofs.Needed.{needs_few}
-use Rattle.hextile_codec.proofs.Taking.{wanting_lt, none_filled, stays_in_tile, leaves_tile, place_stays, place_moves}
+use Rattle.hextile_codec.specs.Carried.{carried_by}
+use Rattle.hextile_codec.specs.Ahead.{is_failed}
+use Rattle.hextile_codec.proofs.Taking.{wanting_lt, stays_in_tile, leaves_tile, place_stays, place_moves}
 use Rattle.hextile_codec.proofs.TilesShown.{is_tile}
 use Rattle.hextile_codec.proofs.reading.Reader.take.Goals as goal
 
@@ -28,63 +28,60 @@ invariant_of-self g c =
     let r = c.self.inside in
     let lt : r.tile < tile_count r.width r.height = wanting_lt r.tile (tile_count r.width r.height) (not (is_failed r.stage)) (rw (← c.self.view_is) at c.requires.wanting) in
     let before : r.tile < r.tiles = omega (arith, lt, c.self.invariant.count) in
-    let none : take r.filled r.buffer ≡ [] = rw (← c.self.view_is) at c.requires.fresh in
-    let zero : r.filled ≡ 0 = none_filled r.filled r.buffer (omega (arith, c.self.told, needs_few r.format r.stage, c.self.invariant.room)) none in
-    let place = rw zero at c.self.invariant in
-    rw zero (place_moves r.format r.width r.height r.tiles r.tile r.area c.tile_rect-self-inside.result r.stage place before (λ _. c.tile_rect-self-inside.ensures))
+    let none : r.begun.items ≡ [] = rw (← c.self.view_is) at c.requires.fresh in
+    let place = rw none at c.self.invariant in
+    rw none (place_moves r.format r.width r.height r.tiles r.tile r.area c.tile_rect-self-inside.result r.stage place before (λ _. c.tile_rect-self-inside.ensures))
 
 pub invariant_of-self-else-self : goal.invariant_of-self-else-self
 invariant_of-self-else-self g c =
     let r = c.self.inside in
     let lt : r.tile < tile_count r.width r.height = wanting_lt r.tile (tile_count r.width r.height) (not (is_failed r.stage)) (rw (← c.self.view_is) at c.requires.wanting) in
     let before : r.tile < r.tiles = omega (arith, lt, c.self.invariant.count) in
-    let none : take r.filled r.buffer ≡ [] = rw (← c.self.view_is) at c.requires.fresh in
-    let zero : r.filled ≡ 0 = none_filled r.filled r.buffer (omega (arith, c.self.told, needs_few r.format r.stage, c.self.invariant.room)) none in
-    let place = rw zero at c.self.invariant in
-    rw zero (place_moves r.format r.width r.height r.tiles r.tile r.area r.area r.stage place before (λ more. absurd (omega (arith, more, c.if-self.false))))
+    let none : r.begun.items ≡ [] = rw (← c.self.view_is) at c.requires.fresh in
+    let place = rw none at c.self.invariant in
+    rw none (place_moves r.format r.width r.height r.tiles r.tile r.area r.area r.stage place before (λ more. absurd (omega (arith, more, c.if-self.false))))
 
 pub invariant_of-self-else-is_whole : goal.invariant_of-self-else-is_whole
 invariant_of-self-else-is_whole g c =
     let r = c.self.inside in
     let lt : r.tile < tile_count r.width r.height = wanting_lt r.tile (tile_count r.width r.height) (not (is_failed r.stage)) (rw (← c.self.view_is) at c.requires.wanting) in
     let before : r.tile < r.tiles = omega (arith, lt, c.self.invariant.count) in
-    let none : take r.filled r.buffer ≡ [] = rw (← c.self.view_is) at c.requires.fresh in
-    let zero : r.filled ≡ 0 = none_filled r.filled r.buffer (omega (arith, c.self.told, needs_few r.format r.stage, c.self.invariant.room)) none in
-    let place = rw zero at c.self.invariant in
-    rw zero (place_stays r.format r.width r.height r.tiles r.tile r.area r.stage c.draw-drawn.result.stage place before c.draw-drawn.ensures.later (sym c.is_whole.ensures ∙ c.if-is_whole.false))
+    let none : r.begun.items ≡ [] = rw (← c.self.view_is) at c.requires.fresh in
+    let place = rw none at c.self.invariant in
+    rw none (place_stays r.format r.width r.height r.tiles r.tile r.area r.stage c.draw-drawn.result.stage place before c.draw-drawn.ensures.drawn.later (sym c.is_whole.ensures ∙ c.if-is_whole.false))
 
 pub returns-then-self-clause-drawn : goal.returns-then-self-clause-drawn
 returns-then-self-clause-drawn g c sofar stands =
     let r = c.self.inside in
     let lt : r.tile < tile_count r.width r.height = wanting_lt r.tile (tile_count r.width r.height) (not (is_failed r.stage)) (rw (← c.self.view_is) at c.requires.wanting) in
     let before : r.tile < r.tiles = omega (arith, lt, c.self.invariant.count) in
-    let none : take r.filled r.buffer ≡ [] = rw (← c.self.view_is) at c.requires.fresh in
+    let none : r.begun.items ≡ [] = rw (← c.self.view_is) at c.requires.fresh in
     let width = c.requires.width ∙ ap (λ p. p.width) (sym c.self.view_is) in
     let height = c.requires.height ∙ ap (λ p. p.height) (sym c.self.view_is) in
     rw (← c.self.view_is)
-    (leaves_tile r.format r.width r.height r.tile r.area (carried_by r.carried) (carried_by c.draw-drawn.result.carried) r.stage c.draw-drawn.result.stage (take r.filled r.buffer) (take c.draw-drawn.result.used c.args.bytes.now) (g.C.Canvas.shows c.args.canvas.now) (g.C.Canvas.shows c.draw-drawn.new.canvas) sofar
-    lt (c.self.invariant.lies before) none (rw (width, height) at c.draw-drawn.ensures.keeps) c.draw-drawn.ensures.drawn (sym c.is_whole.ensures ∙ c.if-is_whole.true) (rw (← c.self.view_is) at stands))
+    (leaves_tile r.format r.width r.height r.tile r.area (carried_by r.carried) (carried_by c.draw-drawn.result.carried) r.stage c.draw-drawn.result.stage r.begun.items (take c.draw-drawn.result.used c.args.bytes.now) (g.C.Canvas.shows c.args.canvas.now) (g.C.Canvas.shows c.draw-drawn.new.canvas) sofar
+    lt (c.self.invariant.lies before) none (rw (width, height) at c.draw-drawn.ensures.canvas.keeps) c.draw-drawn.ensures.drawn.leads (sym c.is_whole.ensures ∙ c.if-is_whole.true) (rw (← c.self.view_is) at stands))
 
 pub returns-else-self-clause-drawn : goal.returns-else-self-clause-drawn
 returns-else-self-clause-drawn g c sofar stands =
     let r = c.self.inside in
     let lt : r.tile < tile_count r.width r.height = wanting_lt r.tile (tile_count r.width r.height) (not (is_failed r.stage)) (rw (← c.self.view_is) at c.requires.wanting) in
     let before : r.tile < r.tiles = omega (arith, lt, c.self.invariant.count) in
-    let none : take r.filled r.buffer ≡ [] = rw (← c.self.view_is) at c.requires.fresh in
+    let none : r.begun.items ≡ [] = rw (← c.self.view_is) at c.requires.fresh in
     let width = c.requires.width ∙ ap (λ p. p.width) (sym c.self.view_is) in
     let height = c.requires.height ∙ ap (λ p. p.height) (sym c.self.view_is) in
     rw (← c.self.view_is)
-    (leaves_tile r.format r.width r.height r.tile r.area (carried_by r.carried) (carried_by c.draw-drawn.result.carried) r.stage c.draw-drawn.result.stage (take r.filled r.buffer) (take c.draw-drawn.result.used c.args.bytes.now) (g.C.Canvas.shows c.args.canvas.now) (g.C.Canvas.shows c.draw-drawn.new.canvas) sofar
-    lt (c.self.invariant.lies before) none (rw (width, height) at c.draw-drawn.ensures.keeps) c.draw-drawn.ensures.drawn (sym c.is_whole.ensures ∙ c.if-is_whole.true) (rw (← c.self.view_is) at stands))
+    (leaves_tile r.format r.width r.height r.tile r.area (carried_by r.carried) (carried_by c.draw-drawn.result.carried) r.stage c.draw-drawn.result.stage r.begun.items (take c.draw-drawn.result.used c.args.bytes.now) (g.C.Canvas.shows c.args.canvas.now) (g.C.Canvas.shows c.draw-drawn.new.canvas) sofar
+    lt (c.self.invariant.lies before) none (rw (width, height) at c.draw-drawn.ensures.canvas.keeps) c.draw-drawn.ensures.drawn.leads (sym c.is_whole.ensures ∙ c.if-is_whole.true) (rw (← c.self.view_is) at stands))
 
 pub returns-else-is_whole-clause-drawn : goal.returns-else-is_whole-clause-drawn
 returns-else-is_whole-clause-drawn g c sofar stands =
     let r = c.self.inside in
     let lt : r.tile < tile_count r.width r.height = wanting_lt r.tile (tile_count r.width r.height) (not (is_failed r.stage)) (rw (← c.self.view_is) at c.requires.wanting) in
     let before : r.tile < r.tiles = omega (arith, lt, c.self.invariant.count) in
-    let none : take r.filled r.buffer ≡ [] = rw (← c.self.view_is) at c.requires.fresh in
+    let none : r.begun.items ≡ [] = rw (← c.self.view_is) at c.requires.fresh in
     let width = c.requires.width ∙ ap (λ p. p.width) (sym c.self.view_is) in
     let height = c.requires.height ∙ ap (λ p. p.height) (sym c.self.view_is) in
     rw (← c.self.view_is)
-    (stays_in_tile r.format r.width r.height r.tile r.area (carried_by r.carried) (carried_by c.draw-drawn.result.carried) r.stage c.draw-drawn.result.stage (take r.filled r.buffer) (take c.draw-drawn.result.used c.args.bytes.now) (g.C.Canvas.shows c.args.canvas.now) (g.C.Canvas.shows c.draw-drawn.new.canvas) sofar
-    lt (c.self.invariant.lies before) none (rw (width, height) at c.draw-drawn.ensures.keeps) c.draw-drawn.ensures.drawn (rw (← c.self.view_is) at stands))
+    (stays_in_tile r.format r.width r.height r.tile r.area (carried_by r.carried) (carried_by c.draw-drawn.result.carried) r.stage c.draw-drawn.result.stage r.begun.items (take c.draw-drawn.result.used c.args.bytes.now) (g.C.Canvas.shows c.args.canvas.now) (g.C.Canvas.shows c.draw-drawn.new.canvas) sofar
+    lt (c.self.invariant.lies before) none (rw (width, height) at c.draw-drawn.ensures.canvas.keeps) c.draw-drawn.ensures.drawn.leads (rw (← c.self.view_is) at stands))

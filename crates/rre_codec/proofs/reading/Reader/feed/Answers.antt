@@ -4,7 +4,8 @@ use Rattle.pixel_format.specs.Reading.{after, taken}
 use Rattle.raster.specs.Encoding.{Drawing}
 use Rattle.rre_codec.specs.Ahead.{ahead}
 use Rattle.rre_codec.proofs.Going.{closed_wants}
-use Rattle.rre_codec.proofs.Fed.{same_size, drawn_more, drawn_stops, none_left, none_wanted}
+use Rattle.rre_codec.proofs.Fed.{same_size, drawn_more, drawn_stops}
+use Rattle.pixel_format.proofs.ReadingLaws.{none_left, none_wanted}
 use Rattle.rre_codec.proofs.reading.Reader.feed.Goals as goal
 use Rattle.rre_codec.proofs.reading.Reader.feed.Goals.{then-loop-self-test+else-wants_more, else-loop-self-test}
 

@@ -1,5 +1,4 @@
-use Rattle.std.proofs.Common.{take, sym, arith}
-use Rattle.std.proofs.lemmas.List.{length-take}
+use Rattle.std.proofs.Common.{sym}
 use Rattle.rre_codec.proofs.Going.{whole_at, not_whole, whole_shows, never_whole}
 use Rattle.rre_codec.proofs.reading.Reader.whole.Goals as goal
 
@@ -8,7 +7,7 @@ returns-in-Subrects-clause-whole c sofar =
     let room = rw c.in-Subrects.is at c.self.invariant in
     rw (← c.self.view_is)
     (rw c.in-Subrects.is
-    (whole_at c.self.inside.format c.self.inside.width c.self.inside.height c.in-Subrects.left sofar (take c.self.inside.filled c.self.inside.buffer) (omega (arith, length-take c.self.inside.filled c.self.inside.buffer, room))))
+    (whole_at c.self.inside.format c.self.inside.width c.self.inside.height c.in-Subrects.left sofar c.self.inside.begun.items room))
 
 pub returns-in-Subrects-clause-shows : goal.returns-in-Subrects-clause-shows
 returns-in-Subrects-clause-shows c canvas sofar drawing stands done =
@@ -16,15 +15,15 @@ returns-in-Subrects-clause-shows c canvas sofar drawing stands done =
     let drawn = rw c.in-Subrects.is at (rw (← c.self.view_is) at stands) in
     let read = rw c.in-Subrects.is at (rw (← c.self.view_is) at done) in
     rw (← c.self.view_is)
-    (whole_shows c.self.inside.format c.self.inside.width c.self.inside.height c.in-Subrects.left canvas sofar drawing (take c.self.inside.filled c.self.inside.buffer)
-    (omega (arith, length-take c.self.inside.filled c.self.inside.buffer, room)) drawn read)
+    (whole_shows c.self.inside.format c.self.inside.width c.self.inside.height c.in-Subrects.left canvas sofar drawing c.self.inside.begun.items
+    room drawn read)
 
 pub returns-in_default-clause-whole : goal.returns-in_default-clause-whole
 returns-in_default-clause-whole c sofar =
     rw (← c.self.view_is)
-    (sym (not_whole c.self.inside.format c.self.inside.width c.self.inside.height c.self.inside.stage sofar (take c.self.inside.filled c.self.inside.buffer) c.in_default.not-Subrects (omega (arith, length-take c.self.inside.filled c.self.inside.buffer, c.self.invariant))))
+    (sym (not_whole c.self.inside.format c.self.inside.width c.self.inside.height c.self.inside.stage sofar c.self.inside.begun.items c.in_default.not-Subrects (c.self.invariant)))
 
 pub returns-in_default-clause-shows : goal.returns-in_default-clause-shows
 returns-in_default-clause-shows c canvas sofar drawing stands done =
-    let none = not_whole c.self.inside.format c.self.inside.width c.self.inside.height c.self.inside.stage sofar (take c.self.inside.filled c.self.inside.buffer) c.in_default.not-Subrects (omega (arith, length-take c.self.inside.filled c.self.inside.buffer, c.self.invariant)) in
+    let none = not_whole c.self.inside.format c.self.inside.width c.self.inside.height c.self.inside.stage sofar c.self.inside.begun.items c.in_default.not-Subrects (c.self.invariant) in
     absurd (never_whole _ drawing none (rw (← c.self.view_is) at done))
