@@ -2,7 +2,6 @@
 use Rattle.std.proofs.Common.{◌≡◌, ℕ, zero, suc, true, false, List, [], ◌∷◌, ◌++◌, length, map, drop, All, None, is_some, inr, refl, sym, ap, subst, ◌∙◌, arith}
 use Rattle.std.proofs.lemmas.List.{drop_all, map-append}
 use Rattle.std.proofs.lemmas.List.Elements.{All-append}
-use Rattle.std.proofs.Math.Seq.{drop-nil}
 use Rattle.pixel_format.specs.declared.fault.Fault.{Fault}
 use Rattle.pixel_format.specs.Reading.{Reading, Done, Faulty, Want, ◌>>=◌, after, taken, wants_more, whole_of, fault_of}
 use Rattle.pixel_format.proofs.InOrder.{then_done, then_taken, then_faulty}
@@ -122,9 +121,3 @@ uses_spoiled painter new left bs sofar r fault e stands =
       behind_ = record { says = then_faulty r b bs fault e ∙ sym (after-faulty fault (drop (length bs) bs)); count = λ f. absurd cc };
       goes_on = record { stands = inr (record { fault = fault; stands = subst (λ s. DataStands new s) e stands; reads = refl }); repaints = λ canvas same. same };
     }
-
--- Where there are no bytes reading goes on as it did.
-pub uses_none : (old new : Painting) (state : State) (r : Reading ServerMessage) (n : ℕ) → Uses old new state r [] n → GoesOn old new state r
-uses_none old new state r n u =
-    let same : r ≡ u.next = u.behind_.says ∙ ap (after u.next) (drop-nil n) in
-    subst (λ (s : Reading ServerMessage). GoesOn old new state s) (sym same) u.goes_on

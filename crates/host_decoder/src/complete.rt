@@ -7,7 +7,7 @@ ghost use Rattle.raster.specs.Size.{IsScreenSize};
 ghost use Rattle.raster.specs.Update as update;
 ghost use Rattle.rfb_wire.specs.ClientMessage.{text};
 ghost use Rattle.rfb_wire.specs.ServerMessage.{LostText, ServerCutText, fields_of, set_color_map_entries};
-ghost use Rattle.host_decoder.specs.Decoder.{GoesOn, Holds, IsSuited, PaintsNothing, Stands, Stays, Suits, SuitsPart, form_of, rect_in};
+ghost use Rattle.host_decoder.specs.Decoder.{GoesOn, Holds, IsSuited, PaintsNothing, Stands, Stays, Suits, SuitsPart, form_of};
 ghost use Rattle.host_decoder.specs.declared.part.Part.TheVariants.{Area};
 ghost use Rattle.host_decoder.specs.Parts.{len_of};
 
@@ -19,21 +19,8 @@ use crate::past::{Passed, Past};
 use crate::state::{State, Wrong};
 use crate::update_data::{begin_data, next_rectangle};
 use painter::{Painter, Patch};
-use raster::Rect;
+use rfb_wire::{read_colour_map_head, read_encoding, read_rect, read_text_head, read_update_head};
 use std::alloc::Global;
-
-/// The rectangle in eight bytes: x, y, width and height.
-fn area_of(b: &[u8]) -> Rect
-    requires { length b.now ≡ 8 }
-    ensures { result ≡ rect_in b.now }
-{
-    Rect {
-        x: u64::from(u16::from_be_bytes([b[0], b[1]])),
-        y: u64::from(u16::from_be_bytes([b[2], b[3]])),
-        w: u64::from(u16::from_be_bytes([b[4], b[5]])),
-        h: u64::from(u16::from_be_bytes([b[6], b[7]])),
-    }
-}
 
 /// What follows the type of a message.
 fn behind_kind(painter: &Painter, kind: u8) -> State
@@ -63,7 +50,7 @@ fn behind_area(painter: &Painter, left: u16, b: &[u8]) -> State
         → Stands painter.now.width painter.now.height result painter.now.paints (after (form_of painter.now.width painter.now.height sofar (Area left)) b.now) }
     ensures still { PaintsNothing result }
 {
-    let area = area_of(b);
+    let area = read_rect(b);
     let (width, height) = painter.size();
     if area.within(width, height) {
         State::Fields(Fields::of(Part::Encoding(left, area)))
@@ -79,7 +66,7 @@ fn behind_colours(b: &[u8]) -> State
     ensures suits { (w h : ℕ) → Suits w h result }
     ensures still { PaintsNothing result }
 {
-    let count = u16::from_be_bytes([b[3], b[4]]);
+    let count = read_colour_map_head(b);
     Past::begin(u32::from(count) * 6, Passed::Colours)
 }
 
@@ -91,7 +78,7 @@ fn behind_length(alloc: Global, painter: &Painter, b: &[u8]) -> State
     ensures stands { Stands painter.now.width painter.now.height result [] (after (text ServerCutText LostText) b.now) }
     ensures still { PaintsNothing result }
 {
-    let len = u32::from_be_bytes([b[3], b[4], b[5], b[6]]);
+    let len = read_text_head(b);
     if len > LONGEST_TEXT {
         return Past::begin(len, Passed::Text(len));
     }
@@ -110,12 +97,9 @@ pub(crate) fn complete(alloc: Global, painter: &mut Painter, part: Part, b: &[u8
 {
     match part {
         Part::Kind => behind_kind(painter, b[0]),
-        Part::Count => next_rectangle(painter, u16::from_be_bytes([b[1], b[2]])),
+        Part::Count => next_rectangle(painter, read_update_head(b)),
         Part::Area(left) => behind_area(painter, left, b),
-        Part::Encoding(left, area) => {
-            let encoding = u32::from_be_bytes([b[0], b[1], b[2], b[3]]);
-            begin_data(alloc, painter, left, area, encoding)
-        }
+        Part::Encoding(left, area) => { begin_data(alloc, painter, left, area, read_encoding(b)) }
         Part::Colours => behind_colours(b),
         Part::Length => behind_length(alloc, painter, b),
     }

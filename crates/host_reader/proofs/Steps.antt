@@ -5,7 +5,7 @@ use Rattle.std.proofs.lemmas.List.Elements.{filter_map-append}
 use Rattle.std.proofs.lemmas.Bool.{cases_lt}
 use Rattle.std.proofs.Math.Seq.{take-add}
 use Rattle.std.specs.Prelude.{min, option_map, Option, Result, OnOk, IfErr}
-use Rattle.link.specs.Links.{TakesAs, TookCounts, TookEnds}
+use Rattle.link.specs.Links.{LinkState, HasRisen, TakesAs, with_end, with_failure}
 use Rattle.link.specs.declared.link.Took.{Took}
 use Rattle.link.specs.declared.link.Took.TheVariants as took
 use Rattle.std.specs.List.{filter_map}
@@ -257,16 +257,20 @@ put_stops w h decoder painter is_between stream left whole old now next fault e 
 
 -- ---- the loop over pieces
 
--- Since the link had taken some bytes and the publisher had the updates old, these bytes more were taken, and all was read and put.
-pub record IsRunning (w h : ℕ) (decoder : Decoding) (painter : Painting) (is_between : Bool) (taken_old taken_now : List ℕ) (old now : List Update) : Type 0 where
+-- Since the link stood as old and the publisher had the updates old, these bytes more were taken, and all was read and put. The link was given nothing, and neither failed nor ended.
+pub record IsRunning (w h : ℕ) (decoder : Decoding) (painter : Painting) (is_between : Bool) (link_old link_now : LinkState) (old now : List Update) : Type 0 where
   pub stream : List ℕ
-  pub taken : taken_now ≡ taken_old ++ stream
+  pub took : link_now ≡ record link_old { taken = link_old.taken ++ stream }
   pub read : HasRead w h decoder painter is_between stream old now
 
-pub running_begins : (decoder : Decoding) (painter : Painting) (taken_old : List ℕ) (old : List Update) → Decodes decoder painter (host_message decoder.width decoder.height)
-    → IsRunning decoder.width decoder.height decoder painter true taken_old taken_old old old
-running_begins decoder painter taken_old old decodes =
-    record { stream = []; taken = sym (append-nil taken_old); read = record { reads = decodes; wants = refl; ends = refl; put = sym (append-nil old) } }
+pub running_begins : (decoder : Decoding) (painter : Painting) (link : LinkState) (old : List Update) → Decodes decoder painter (host_message decoder.width decoder.height)
+    → IsRunning decoder.width decoder.height decoder painter true link link old old
+running_begins decoder painter link old decodes =
+    record {
+      stream = [];
+      took = ap (λ (bs : List ℕ). record link { taken = bs }) (sym (append-nil link.taken));
+      read = record { reads = decodes; wants = refl; ends = refl; put = sym (append-nil old) };
+    }
 
 -- ---- more is wanted
 
@@ -286,117 +290,120 @@ can_open fed new other now gives fine decodes =
     record { reading = now; reads = subst (λ (q : Reading ServerMessage). Decodes new other q) (renewed_open (host_message fed.width fed.height) now none) decodes; wants = wants_from now none fine }
 
 -- What stands at the front of the buffer was taken.
-pub took_piece : (taken_old taken_new into seen piece : List ℕ) (count : ℕ) → piece ≡ take count seen → seen ≡ into → taken_new ≡ taken_old ++ take count into → taken_new ≡ taken_old ++ piece
-took_piece taken_old taken_new into seen piece count front same took = took ∙ ap (λ (xs : List ℕ). taken_old ++ xs) (sym (front ∙ ap (take count) same))
+pub took_piece : (old new : LinkState) (into seen piece : List ℕ) (count : ℕ) → piece ≡ take count seen → seen ≡ into → new ≡ record old { taken = old.taken ++ take count into } → new ≡ record old { taken = old.taken ++ piece }
+took_piece old new into seen piece count front same took = took ∙ ap (λ (xs : List ℕ). record old { taken = old.taken ++ xs }) (sym (front ∙ ap (take count) same))
+
+-- One piece and then another.
+took_more : (old now next : LinkState) (stream piece : List ℕ) → now ≡ record old { taken = old.taken ++ stream } → next ≡ record now { taken = now.taken ++ piece } → next ≡ record old { taken = old.taken ++ (stream ++ piece) }
+took_more old now next stream piece first took =
+    took ∙ (ap (λ (l : LinkState). record l { taken = l.taken ++ piece }) first ∙ ap (λ (bs : List ℕ). record old { taken = bs }) (append_assoc old.taken stream piece))
 
 -- A piece more was taken, and read to its end.
-pub running_goes_on : (w h : ℕ) (decoder new : Decoding) (painter other : Painting) (is_between goes_between : Bool) (taken_old taken_now taken_next piece : List ℕ) (old now next : List Update)
-    → decoder.width ≡ w → decoder.height ≡ h → IsRunning w h decoder painter is_between taken_old taken_now old now → taken_next ≡ taken_now ++ piece
+pub running_goes_on : (w h : ℕ) (decoder new : Decoding) (painter other : Painting) (is_between goes_between : Bool) (link_old link_now link_next : LinkState) (piece : List ℕ) (old now next : List Update)
+    → decoder.width ≡ w → decoder.height ≡ h → IsRunning w h decoder painter is_between link_old link_now old now → link_next ≡ record link_now { taken = link_now.taken ++ piece }
     → ((stream : List ℕ) → (since : List Update) → HasRead decoder.width decoder.height decoder painter is_between stream since now → HasRead decoder.width decoder.height new other goes_between (stream ++ piece) since next)
-    → IsRunning w h new other goes_between taken_old taken_next old next
-running_goes_on w h decoder new painter other is_between goes_between taken_old taken_now taken_next piece old now next wide high running took puts =
+    → IsRunning w h new other goes_between link_old link_next old next
+running_goes_on w h decoder new painter other is_between goes_between link_old link_now link_next piece old now next wide high running took puts =
     let read = subst (λ a. HasRead a decoder.height decoder painter is_between running.stream old now) (sym wide) (subst (λ b. HasRead w b decoder painter is_between running.stream old now) (sym high) running.read) in
     let more = puts running.stream old read in
     record {
       stream = running.stream ++ piece;
-      taken = took ∙ (ap (λ (xs : List ℕ). xs ++ piece) running.taken ∙ append_assoc taken_old running.stream piece);
+      took = took_more link_old link_now link_next running.stream piece running.took took;
       read = subst (λ a. HasRead a h new other goes_between (running.stream ++ piece) old next) wide (subst (λ b. HasRead decoder.width b new other goes_between (running.stream ++ piece) old next) high more);
     }
 
 -- Or it wasn't.
-pub running_stops : (w h : ℕ) (decoder : Decoding) (painter : Painting) (is_between : Bool) (taken_old taken_now taken_next piece : List ℕ) (old now next : List Update) (fault : Fault) (failed_old failed_new : ℕ) (ended_old ended_new : ℕ)
-    → decoder.width ≡ w → decoder.height ≡ h → IsRunning w h decoder painter is_between taken_old taken_now old now → taken_next ≡ taken_now ++ piece
+pub running_stops : (w h : ℕ) (decoder : Decoding) (painter : Painting) (is_between : Bool) (link_old link_now link_next : LinkState) (piece : List ℕ) (old now next : List Update) (fault : Fault)
+    → decoder.width ≡ w → decoder.height ≡ h → IsRunning w h decoder painter is_between link_old link_now old now → link_next ≡ record link_now { taken = link_now.taken ++ piece }
     → ((stream : List ℕ) → (since : List Update) → HasRead decoder.width decoder.height decoder painter is_between stream since now → Stops decoder.width decoder.height fault (stream ++ piece) since next)
-    → EndsWith w h fault taken_old taken_next failed_old failed_new ended_old ended_new old next
-running_stops w h decoder painter is_between taken_old taken_now taken_next piece old now next fault failed_old failed_new ended_old ended_new wide high running took stops =
+    → EndsWith w h fault link_old link_next old next
+running_stops w h decoder painter is_between link_old link_now link_next piece old now next fault wide high running took stops =
     let read = subst (λ a. HasRead a decoder.height decoder painter is_between running.stream old now) (sym wide) (subst (λ b. HasRead w b decoder painter is_between running.stream old now) (sym high) running.read) in
     let stopped = stops running.stream old read in
     record {
       stream = running.stream ++ piece;
-      taken = took ∙ (ap (λ (xs : List ℕ). xs ++ piece) running.taken ∙ append_assoc taken_old running.stream piece);
+      taken = ap (λ (l : LinkState). l.taken) (took_more link_old link_now link_next running.stream piece running.took took);
       stops = inr (subst (λ a. Stops a h fault (running.stream ++ piece) old next) wide (subst (λ b. Stops decoder.width b fault (running.stream ++ piece) old next) high stopped));
     }
 
-rises_by : (limit old now new : ℕ) → now ≡ old → new ≡ min limit (now + 1) → (old < limit) ⊎ (limit ≤ old) → (old < new) ⊎ (new ≡ limit)
-rises_by limit old now new same next (inl lt) = inl (omega (arith, same, next, lt))
-rises_by limit old now new same next (inr le) = inr (omega (arith, same, next, le))
+rises_by : (limit old new : ℕ) → new ≡ min limit (old + 1) → (old < limit) ⊎ (limit ≤ old) → (old < new) ⊎ (new ≡ limit)
+rises_by limit old new next (inl lt) = inl (omega (arith, next, lt))
+rises_by limit old new next (inr le) = inr (omega (arith, next, le))
+
+rises : (old new : ℕ) → new ≡ min (2 ^ 62) (old + 1) → HasRisen old new
+rises old new next = rises_by (2 ^ 62) old new next (cases_lt old (2 ^ 62))
 
 -- The link failed.
-pub running_fails : (w h : ℕ) (decoder : Decoding) (painter : Painting) (is_between : Bool) (taken_old taken_now taken_next : List ℕ) (old now : List Update) (failed_old failed_now failed_new : ℕ) (ended_old ended_new : ℕ)
-    → IsRunning w h decoder painter is_between taken_old taken_now old now → taken_next ≡ taken_now → failed_now ≡ failed_old → failed_new ≡ min (2 ^ 62) (failed_now + 1)
-    → EndsWith w h LinkFailed taken_old taken_next failed_old failed_new ended_old ended_new old now
-running_fails w h decoder painter is_between taken_old taken_now taken_next old now failed_old failed_now failed_new ended_old ended_new running took same next =
-    record { stream = running.stream; taken = took ∙ running.taken; stops = inl (running.read.put, rises_by (2 ^ 62) failed_old failed_now failed_new same next (cases_lt failed_old (2 ^ 62))) }
+running_fails : (w h : ℕ) (decoder : Decoding) (painter : Painting) (is_between : Bool) (link_old link_now link_next : LinkState) (old now : List Update)
+    → IsRunning w h decoder painter is_between link_old link_now old now → link_next ≡ with_failure link_now → EndsWith w h LinkFailed link_old link_next old now
+running_fails w h decoder painter is_between link_old link_now link_next old now running failed =
+    let last : link_next ≡ with_failure (record link_old { taken = link_old.taken ++ running.stream }) = failed ∙ ap with_failure running.took in
+    record { stream = running.stream; taken = ap (λ (l : LinkState). l.taken) last; stops = inl (running.read.put, rises link_old.failed link_next.failed (ap (λ (l : LinkState). l.failed) last)) }
 
 -- The link said that it ended, between two messages.
-pub running_ends : (w h : ℕ) (decoder : Decoding) (painter : Painting) (is_between : Bool) (taken_old taken_now taken_next : List ℕ) (old now : List Update) (ended_old ended_now ended_new : ℕ)
-    → is_between ≡ true → IsRunning w h decoder painter is_between taken_old taken_now old now → taken_next ≡ taken_now → ended_now ≡ ended_old → ended_new ≡ min (2 ^ 62) (ended_now + 1)
-    → EndsBetween w h taken_old taken_next ended_old ended_new old now
-running_ends w h decoder painter is_between taken_old taken_now taken_next old now ended_old ended_now ended_new between running took same next =
+running_ends : (w h : ℕ) (decoder : Decoding) (painter : Painting) (link_old link_now link_next : LinkState) (old now : List Update)
+    → IsRunning w h decoder painter true link_old link_now old now → link_next ≡ with_end link_now → EndsBetween w h link_old link_next old now
+running_ends w h decoder painter link_old link_now link_next old now running ended =
+    let last : link_next ≡ with_end (record link_old { taken = link_old.taken ++ running.stream }) = ended ∙ ap with_end running.took in
     record {
       stream = running.stream;
-      taken = took ∙ running.taken;
+      taken = ap (λ (l : LinkState). l.taken) last;
       put = running.read.put;
-      between = subst (λ b. EndsAt b w h running.stream) between running.read.ends;
-      ended = rises_by (2 ^ 62) ended_old ended_now ended_new same next (cases_lt ended_old (2 ^ 62));
+      between = running.read.ends;
+      ended = rises link_old.ended link_next.ended (ap (λ (l : LinkState). l.ended) last);
+      failed = ap (λ (l : LinkState). l.failed) last;
     }
 
 -- Or inside one.
-pub running_ends_inside : (w h : ℕ) (decoder : Decoding) (painter : Painting) (is_between : Bool) (taken_old taken_now taken_next : List ℕ) (old now : List Update) (failed_old failed_new : ℕ) (ended_old ended_now ended_new : ℕ)
-    → is_between ≡ false → IsRunning w h decoder painter is_between taken_old taken_now old now → taken_next ≡ taken_now → ended_now ≡ ended_old → ended_new ≡ min (2 ^ 62) (ended_now + 1)
-    → EndsWith w h LinkEnded taken_old taken_next failed_old failed_new ended_old ended_new old now
-running_ends_inside w h decoder painter is_between taken_old taken_now taken_next old now failed_old failed_new ended_old ended_now ended_new inside running took same next =
-    let rises = rises_by (2 ^ 62) ended_old ended_now ended_new same next (cases_lt ended_old (2 ^ 62)) in
-    record { stream = running.stream; taken = took ∙ running.taken; stops = inl (running.read.put, (rises, subst (λ b. EndsAt b w h running.stream) inside running.read.ends)) }
+running_ends_inside : (w h : ℕ) (decoder : Decoding) (painter : Painting) (link_old link_now link_next : LinkState) (old now : List Update)
+    → IsRunning w h decoder painter false link_old link_now old now → link_next ≡ with_end link_now → EndsWith w h LinkEnded link_old link_next old now
+running_ends_inside w h decoder painter link_old link_now link_next old now running ended =
+    let last : link_next ≡ with_end (record link_old { taken = link_old.taken ++ running.stream }) = ended ∙ ap with_end running.took in
+    record {
+      stream = running.stream;
+      taken = ap (λ (l : LinkState). l.taken) last;
+      stops = inl (running.read.put, (rises link_old.ended link_next.ended (ap (λ (l : LinkState). l.ended) last), running.read.ends));
+    }
 
 -- ---- one answer of the link
 
 -- What ends nothing and brings no bytes changes nothing.
-pub waits_on : (answer : Took) (is_between : Bool) (ends : Option (Result (Unit {0}) Fault)) (taken_old taken_new into : List ℕ) (failed_old failed_new ended_old ended_new : ℕ)
-    → ends ≡ outcome answer is_between → ends ≡ None → ((count : ℕ) → answer ≡ took.Bytes count → ⊥)
-    → TakesAs answer taken_old taken_new into → TookCounts answer failed_old failed_new → TookEnds answer ended_old ended_new
-    → (taken_new ≡ taken_old) × (failed_new ≡ failed_old) × (ended_new ≡ ended_old)
-waits_on (took.Bytes count) is_between ends taken_old taken_new into failed_old failed_new ended_old ended_new is none never takes counts rises = absurd (never count refl)
-waits_on took.Nothing is_between ends taken_old taken_new into failed_old failed_new ended_old ended_new is none never takes counts rises = (takes, counts, rises)
-waits_on took.End true ends taken_old taken_new into failed_old failed_new ended_old ended_new is none never takes counts rises = absurd cc
-waits_on took.End false ends taken_old taken_new into failed_old failed_new ended_old ended_new is none never takes counts rises = absurd cc
-waits_on took.Failed is_between ends taken_old taken_new into failed_old failed_new ended_old ended_new is none never takes counts rises = absurd cc
+pub waits_on : (answer : Took) (is_between : Bool) (ends : Option (Result (Unit {0}) Fault)) (old new : LinkState) (into : List ℕ)
+    → ends ≡ outcome answer is_between → ends ≡ None → ((count : ℕ) → answer ≡ took.Bytes count → ⊥) → TakesAs answer old new into → new ≡ old
+waits_on (took.Bytes count) is_between ends old new into is none never takes = absurd (never count refl)
+waits_on took.Nothing is_between ends old new into is none never takes = takes
+waits_on took.End true ends old new into is none never takes = absurd cc
+waits_on took.End false ends old new into is none never takes = absurd cc
+waits_on took.Failed is_between ends old new into is none never takes = absurd cc
+
+-- Whatever it answers, a link that takes is given nothing.
+pub gives_nothing : (said : Took) (old new : LinkState) (into : List ℕ) → TakesAs said old new into → new.given ≡ old.given
+gives_nothing (took.Bytes count) old new into takes = ap (λ (l : LinkState). l.given) takes.2
+gives_nothing took.Nothing old new into takes = ap (λ (l : LinkState). l.given) takes
+gives_nothing took.End old new into takes = ap (λ (l : LinkState). l.given) takes
+gives_nothing took.Failed old new into takes = ap (λ (l : LinkState). l.given) takes
+
+-- Nor was it so far.
+pub running_given : (w h : ℕ) (decoder : Decoding) (painter : Painting) (is_between : Bool) (link_old link_now : LinkState) (old now : List Update) → IsRunning w h decoder painter is_between link_old link_now old now → link_now.given ≡ link_old.given
+running_given w h decoder painter is_between link_old link_now old now running = ap (λ (l : LinkState). l.given) running.took
 
 -- What the run then answers, and what was put.
-pub record EndsSo (w h : ℕ) (taken_old taken_new : List ℕ) (old new : List Update) (failed_old failed_new ended_old ended_new : ℕ) (answer : Result (Unit {0}) Fault) : Type 0 where
-  pub ok : OnOk answer (EndsBetween w h taken_old taken_new ended_old ended_new old new)
-  pub failed : OnOk answer (failed_new ≡ failed_old)
-  pub err : IfErr answer (λ fault. EndsWith w h fault taken_old taken_new failed_old failed_new ended_old ended_new old new)
+pub record EndsSo (w h : ℕ) (link_old link_new : LinkState) (old new : List Update) (answer : Result (Unit {0}) Fault) : Type 0 where
+  pub ok : OnOk answer (EndsBetween w h link_old link_new old new)
+  pub err : IfErr answer (λ fault. EndsWith w h fault link_old link_new old new)
 
 -- The link's answer ends the run.
 pub run_ends : (w h : ℕ) (decoder : Decoding) (painter : Painting) (said : Took) (is_between : Bool) (ends : Option (Result (Unit {0}) Fault)) (answer : Result (Unit {0}) Fault)
-    (taken_old taken_now taken_next into : List ℕ) (old now : List Update) (failed_old failed_now failed_new ended_old ended_now ended_new : ℕ)
-    → ends ≡ outcome said is_between → ends ≡ Some answer → IsRunning w h decoder painter is_between taken_old taken_now old now → failed_now ≡ failed_old → ended_now ≡ ended_old
-    → TakesAs said taken_now taken_next into → TookCounts said failed_now failed_new → TookEnds said ended_now ended_new
-    → EndsSo w h taken_old taken_next old now failed_old failed_new ended_old ended_new answer
-run_ends w h decoder painter (took.Bytes count) is_between ends answer taken_old taken_now taken_next into old now failed_old failed_now failed_new ended_old ended_now ended_new is ended running f e takes counts rises = absurd cc
-run_ends w h decoder painter took.Nothing is_between ends answer taken_old taken_now taken_next into old now failed_old failed_now failed_new ended_old ended_now ended_new is ended running f e takes counts rises = absurd cc
-run_ends w h decoder painter took.End true ends answer taken_old taken_now taken_next into old now failed_old failed_now failed_new ended_old ended_now ended_new is ended running f e takes counts rises =
+    (link_old link_now link_next : LinkState) (into : List ℕ) (old now : List Update)
+    → ends ≡ outcome said is_between → ends ≡ Some answer → IsRunning w h decoder painter is_between link_old link_now old now → TakesAs said link_now link_next into → EndsSo w h link_old link_next old now answer
+run_ends w h decoder painter (took.Bytes count) is_between ends answer link_old link_now link_next into old now is ended running takes = absurd cc
+run_ends w h decoder painter took.Nothing is_between ends answer link_old link_now link_next into old now is ended running takes = absurd cc
+run_ends w h decoder painter took.End true ends answer link_old link_now link_next into old now is ended running takes =
     let same : Ok tt ≡ answer = cc in
-    subst (EndsSo w h taken_old taken_next old now failed_old failed_new ended_old ended_new) same
-    (record {
-      ok = running_ends w h decoder painter true taken_old taken_now taken_next old now ended_old ended_now ended_new refl running takes e rises;
-      failed = counts ∙ f;
-      err = tt;
-    })
-run_ends w h decoder painter took.End false ends answer taken_old taken_now taken_next into old now failed_old failed_now failed_new ended_old ended_now ended_new is ended running f e takes counts rises =
+    subst (EndsSo w h link_old link_next old now) same (record { ok = running_ends w h decoder painter link_old link_now link_next old now running takes; err = tt })
+run_ends w h decoder painter took.End false ends answer link_old link_now link_next into old now is ended running takes =
     let same : Err LinkEnded ≡ answer = cc in
-    subst (EndsSo w h taken_old taken_next old now failed_old failed_new ended_old ended_new) same
-    (record {
-      ok = tt;
-      failed = tt;
-      err = running_ends_inside w h decoder painter false taken_old taken_now taken_next old now failed_old failed_new ended_old ended_now ended_new refl running takes e rises;
-    })
-run_ends w h decoder painter took.Failed is_between ends answer taken_old taken_now taken_next into old now failed_old failed_now failed_new ended_old ended_now ended_new is ended running f e takes counts rises =
+    subst (EndsSo w h link_old link_next old now) same (record { ok = tt; err = running_ends_inside w h decoder painter link_old link_now link_next old now running takes })
+run_ends w h decoder painter took.Failed is_between ends answer link_old link_now link_next into old now is ended running takes =
     let same : Err LinkFailed ≡ answer = cc in
-    subst (EndsSo w h taken_old taken_next old now failed_old failed_new ended_old ended_new) same
-    (record {
-      ok = tt;
-      failed = tt;
-      err = running_fails w h decoder painter is_between taken_old taken_now taken_next old now failed_old failed_now failed_new ended_old ended_new running takes f counts;
-    })
+    subst (EndsSo w h link_old link_next old now) same (record { ok = tt; err = running_fails w h decoder painter is_between link_old link_now link_next old now running takes })

@@ -4,6 +4,6 @@ use Rattle.link.proofs.join.join_host.Goals as goal
 
 pub returns-clause-joined : goal.returns-clause-joined
 returns-clause-joined g c =
-    joins_then _ _ _ _ _ _ _ _ c.write_set_pixel_format.new.out c.write_set_encodings.new.out c.write_request.new.out c.in_ok-joined.joined c.in_ok-joined.ensures.joined
-    (c.give_all-3.ensures.taken ∙ (c.give_all-2.ensures.taken ∙ c.give_all.ensures.taken)) c.in_ok-give_all.ensures.given c.in_ok-give_all-2.ensures.given c.in_ok-give_all-3.ensures.given
+    joins_then _ _ _ _ _ c.write_set_pixel_format.new.out c.write_set_encodings.new.out c.write_request.new.out c.in_ok-joined.joined c.in_ok-joined.ensures.joined
+    c.in_ok-give_all.ensures.given c.in_ok-give_all-2.ensures.given c.in_ok-give_all-3.ensures.given
     (writes_whole _ _ _ _ c.write_set_pixel_format.ensures refl) (writes_whole _ _ _ _ c.write_set_encodings.ensures refl) (writes_whole _ _ _ _ c.write_request.ensures refl ∙ ap whole_screen c.joined.view_is)
