@@ -1,10 +1,10 @@
 -- Forms of a length that is known before they are read.
-use Rattle.std.proofs.Common.{◌≡◌, ℕ, zero, suc, ◌+◌, ◌<◌, ◌≤◌, true, List, [], ◌∷◌, length, get_or, refl, ap, arith}
-use Rattle.std.specs.Int.{w16, w32, from_be_bytes}
+use Rattle.std.proofs.Common.{◌≡◌, ℕ, zero, suc, ◌+◌, ◌<◌, ◌≤◌, true, List, [], ◌∷◌, length, refl, ap, arith}
+use Rattle.std.specs.Int.{w32, from_be_bytes}
 use Rattle.pixel_format.specs.PixelFormat.{PixelFormat, pixel_len, pixel_of}
 use Rattle.pixel_format.specs.Reading.{Reading, Done, Faulty, Want, ◌>>=◌, after, taken, wants_more, bytes, u32, Spells}
-use Rattle.raster.specs.declared.rect.Rect.{Rect}
 use Rattle.raster.specs.Encoding.{pixel, rect}
+pub use Rattle.raster.specs.Encoding.{rect_in}
 use Rattle.raster.proofs.Spellings.{spells_bytes_of, spells_then}
 
 -- It is done after so many bytes, whatever they are.
@@ -96,16 +96,6 @@ pixel_says format bs e = spells_then (bytes (pixel_len format)) (λ field. Done 
 
 pub u32_says : (bs : List ℕ) → length bs ≡ 4 → Spells u32 bs (from_be_bytes w32 bs)
 u32_says bs e = spells_then (bytes 4) (λ field. Done (from_be_bytes w32 field)) bs bs (from_be_bytes w32 bs) (spells_bytes_of 4 bs e) refl
-
--- The rectangle in eight bytes.
-abbrev pub rect_in : List ℕ → Rect
-rect_in bs =
-    record {
-      x = from_be_bytes w16 (get_or bs 0 0 ∷ get_or bs 1 0 ∷ []);
-      y = from_be_bytes w16 (get_or bs 2 0 ∷ get_or bs 3 0 ∷ []);
-      w = from_be_bytes w16 (get_or bs 4 0 ∷ get_or bs 5 0 ∷ []);
-      h = from_be_bytes w16 (get_or bs 6 0 ∷ get_or bs 7 0 ∷ []);
-    }
 
 pub rect_says : (bs : List ℕ) → length bs ≡ 8 → Spells rect bs (rect_in bs)
 rect_says [] e = absurd (omega arith)

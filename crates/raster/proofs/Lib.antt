@@ -15,3 +15,5 @@ pub mod Bytes
 pub mod Places
 pub mod RowScan
 pub mod FixedLength
+pub mod Tiles
+pub mod Puts

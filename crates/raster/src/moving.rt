@@ -1,14 +1,13 @@
 //! Values that are moved inside one slice.
 
-ghost use Rattle.std.specs.Prelude.{◌≡◌, ℕ, ◌+◌, ◌<◌, ◌≤◌, length, slice_index};
+ghost use Rattle.std.specs.Prelude.{◌+◌, ◌≤◌, length};
+ghost use Rattle.raster.specs.Moved.{IsMoved};
 
 /// Moves values to an earlier place, where the two places have none in common.
 fn move_apart_down(values: &mut [u32], from: usize, to: usize, count: usize)
     requires apart { to + count ≤ from }
     requires source { from + count ≤ length values.old }
-    ensures inside { (k : ℕ) → k < count → slice_index values.new (to + k) ≡ slice_index values.old (from + k) }
-    ensures below { (k : ℕ) → k < to → slice_index values.new k ≡ slice_index values.old k }
-    ensures past { (k : ℕ) → to + count ≤ k → slice_index values.new k ≡ slice_index values.old k }
+    ensures { IsMoved values.old values.new from to count }
 {
     let (before, after) = values.split_at_mut(from);
     before[to..to + count].copy_from_slice(&after[..count]);
@@ -18,9 +17,7 @@ fn move_apart_down(values: &mut [u32], from: usize, to: usize, count: usize)
 fn move_apart_up(values: &mut [u32], from: usize, to: usize, count: usize)
     requires apart { from + count ≤ to }
     requires target { to + count ≤ length values.old }
-    ensures inside { (k : ℕ) → k < count → slice_index values.new (to + k) ≡ slice_index values.old (from + k) }
-    ensures below { (k : ℕ) → k < to → slice_index values.new k ≡ slice_index values.old k }
-    ensures past { (k : ℕ) → to + count ≤ k → slice_index values.new k ≡ slice_index values.old k }
+    ensures { IsMoved values.old values.new from to count }
 {
     let (before, after) = values.split_at_mut(to);
     after[..count].copy_from_slice(&before[from..from + count]);
@@ -30,9 +27,7 @@ fn move_apart_up(values: &mut [u32], from: usize, to: usize, count: usize)
 fn move_over(values: &mut [u32], from: usize, to: usize, count: usize)
     requires source { from + count ≤ length values.old }
     requires target { to + count ≤ length values.old }
-    ensures inside { (k : ℕ) → k < count → slice_index values.new (to + k) ≡ slice_index values.old (from + k) }
-    ensures below { (k : ℕ) → k < to → slice_index values.new k ≡ slice_index values.old k }
-    ensures past { (k : ℕ) → to + count ≤ k → slice_index values.new k ≡ slice_index values.old k }
+    ensures { IsMoved values.old values.new from to count }
 {
     values.copy_within(from..from + count, to);
 }
@@ -42,9 +37,7 @@ fn move_over(values: &mut [u32], from: usize, to: usize, count: usize)
 pub fn move_part(values: &mut [u32], from: usize, to: usize, count: usize)
     requires source { from + count ≤ length values.old }
     requires target { to + count ≤ length values.old }
-    ensures inside { (k : ℕ) → k < count → slice_index values.new (to + k) ≡ slice_index values.old (from + k) }
-    ensures below { (k : ℕ) → k < to → slice_index values.new k ≡ slice_index values.old k }
-    ensures past { (k : ℕ) → to + count ≤ k → slice_index values.new k ≡ slice_index values.old k }
+    ensures { IsMoved values.old values.new from to count }
 {
     if to + count <= from {
         move_apart_down(values, from, to, count);

@@ -5,7 +5,7 @@ use Rattle.std.proofs.lemmas.List.{take-append-drop, length-drop, length-take}
 use Rattle.std.proofs.Math.Seq.{drop-nil}
 use Rattle.pixel_format.specs.declared.fault.Fault.{Fault}
 use Rattle.pixel_format.specs.Reading.{Reading, Done, Faulty, Want, after, taken, wants_more, fault_of}
-use Rattle.pixel_format.proofs.ReadingLaws.{IsFed, after-append, fed_none, fed_stops, fed_all, feeds_ok}
+use Rattle.pixel_format.proofs.ReadingLaws.{IsFed, after-append, fed_stops, fed_all, feeds_ok}
 use Rattle.rfb_wire.specs.ClientMessage.{ClientMessage}
 use Rattle.rfb_wire.specs.Message.{losing, FeedsOrLoses}
 use Rattle.rfb_wire.specs.ClientReader.{Uses, UsesOrLoses}
@@ -14,9 +14,6 @@ use Rattle.rfb_wire.proofs.Losing.{losing-twice, losing-after, losing-taken}
 -- So many bytes of the piece were fed to a reading, or to the same that loses its text.
 abbrev pub IsFedOrLoses : Reading ClientMessage → Reading ClientMessage → List ℕ → ℕ → Type 0
 IsFedOrLoses start now piece i = IsFed start now piece i ⊎ IsFed (losing start) now piece i
-
-pub begins_fed : (start : Reading ClientMessage) (piece : List ℕ) → IsFedOrLoses start start piece 0
-begins_fed start piece = inl (fed_none start piece)
 
 losing_fed : (start now : Reading ClientMessage) (piece : List ℕ) (i : ℕ) → IsFed start now piece i → IsFed (losing start) (losing now) piece i
 losing_fed start now piece i h =

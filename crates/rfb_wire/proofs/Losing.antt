@@ -1,10 +1,9 @@
 -- A reading of which the text is lost goes on as the reading does.
-use Rattle.std.proofs.Common.{true, false, length, Some, ◌≡◌, ℕ, suc, List, [], ◌∷◌, Option, None, ◌⊎◌, inl, inr, Ok, Err, refl, sym, ap, subst, ◌∙◌}
+use Rattle.std.proofs.Common.{Some, ◌≡◌, ℕ, suc, List, [], ◌∷◌, Option, None, ◌⊎◌, inl, inr, Ok, Err, refl, sym, ap, subst, ◌∙◌}
 use Rattle.std.specs.Prelude.{option_map}
 use mathlib.Core.Path.{fun_ext}
 use Rattle.pixel_format.specs.declared.fault.Fault.{Fault}
-use Rattle.pixel_format.specs.Reading.{Reading, Done, Faulty, Want, step, after, taken, renewed, whole_of, fault_of, wants_more, Feeds, GivesWhole}
-use Rattle.pixel_format.proofs.ReadingLaws.{after-done, after-faulty, taken-nil}
+use Rattle.pixel_format.specs.Reading.{Reading, Done, Faulty, Want, step, after, taken, renewed, whole_of, fault_of, Feeds, GivesWhole}
 use Rattle.rfb_wire.specs.ClientMessage.{ClientMessage, SetPixelFormat, SetEncodings, Ask, Key, Pointer, CutText, LostText, without_text}
 use Rattle.rfb_wire.specs.Message.{losing, FeedsOrLoses, IsOrLoses}
 
@@ -41,11 +40,6 @@ pub losing-fault : (r : Reading ClientMessage) → fault_of (losing r) ≡ fault
 losing-fault (Done m) = refl
 losing-fault (Faulty fault) = refl
 losing-fault (Want more) = refl
-
-pub losing-wants : (r : Reading ClientMessage) → wants_more (losing r) ≡ wants_more r
-losing-wants (Done m) = refl
-losing-wants (Faulty fault) = refl
-losing-wants (Want more) = refl
 
 pub losing-whole : (r : Reading ClientMessage) → whole_of (losing r) ≡ option_map without_text (whole_of r)
 losing-whole (Done m) = refl
@@ -132,43 +126,3 @@ pub message_read : (form r now mid new : Reading ClientMessage) (piece : List �
 message_read form r now mid new piece used given e h g =
     let fed = goes_on_fed r now mid piece used e h in
     read_whole form r mid new piece used given fed.0 fed.1 g
-
--- None was: all bytes were used, and reading goes on after them.
-pub record IsOpen (r new : Reading ClientMessage) (piece : List ℕ) (used : ℕ) : Type 0 where
-  pub goes_on : IsOrLoses new (after r piece)
-  pub wants : wants_more (after r piece) ≡ true
-  pub count : used ≡ taken r piece
-  pub all : used ≡ length piece
-
-wants_from : (s : Reading ClientMessage) → whole_of s ≡ None → fault_of s ≡ None → wants_more s ≡ true
-wants_from (Done m) w f = absurd cc
-wants_from (Faulty fault) w f = absurd cc
-wants_from (Want more) w f = refl
-
-renewed_from : (form s : Reading ClientMessage) → whole_of s ≡ None → renewed form s ≡ s
-renewed_from form (Done m) e = absurd cc
-renewed_from form (Faulty fault) e = refl
-renewed_from form (Want more) e = refl
-
-taken_all : (s : Reading ClientMessage) (bs : List ℕ) → wants_more (after s bs) ≡ true → taken s bs ≡ length bs
-taken_all s [] w = taken-nil s
-taken_all (Done m) (b ∷ bs) w = let e : false ≡ true = sym (ap wants_more (after-done m bs)) ∙ w in absurd cc
-taken_all (Faulty fault) (b ∷ bs) w = let e : false ≡ true = sym (ap wants_more (after-faulty {A = ClientMessage} fault bs)) ∙ w in absurd cc
-taken_all (Want more) (b ∷ bs) w = ap suc (taken_all (more b) bs w)
-
-none_of : (s : Reading ClientMessage) → None ≡ option_map without_text (whole_of s) → whole_of s ≡ None
-none_of (Done m) e = absurd cc
-none_of (Faulty fault) e = refl
-none_of (Want more) e = refl
-
-open_whole : (form r mid new : Reading ClientMessage) (piece : List ℕ) → IsOrLoses mid (after r piece) → GivesWhole form mid new None → (whole_of (after r piece) ≡ None) × (new ≡ mid)
-open_whole form r mid new piece (inl e) g = (sym (g.given ∙ ap whole_of e), g.begins_anew ∙ renewed_from form mid (sym g.given))
-open_whole form r mid new piece (inr e) g = (none_of (after r piece) (g.given ∙ (ap whole_of e ∙ losing-whole (after r piece))), g.begins_anew ∙ renewed_from form mid (sym g.given))
-
-pub message_open : (form r now mid new : Reading ClientMessage) (piece : List ℕ) (used : ℕ) → IsOrLoses now r → FeedsOrLoses now mid piece (Ok used) → GivesWhole form mid new None → IsOpen r new piece used
-message_open form r now mid new piece used e h g =
-    let fed = goes_on_fed r now mid piece used e h in
-    let whole = open_whole form r mid new piece fed.0 g in
-    let wants : wants_more (after r piece) ≡ true = wants_from (after r piece) whole.0 fed.2 in
-    let P : Reading ClientMessage → Type 0 = λ s. IsOrLoses s (after r piece) in
-    record { goes_on = subst P (sym whole.1) fed.0; wants = wants; count = fed.1; all = fed.1 ∙ taken_all r piece wants }

@@ -1,5 +1,5 @@
 -- Every message that is written is read back.
-use Rattle.std.proofs.Common.{◌≡◌, ℕ, suc, ◌^◌, ◌<◌, ◌≤◌, Bool, true, false, not, List, [], ◌∷◌, ◌++◌, length, subst, refl, sym, ap, ◌∙◌, arith}
+use Rattle.std.proofs.Common.{◌≡◌, ℕ, suc, ◌^◌, ◌<◌, ◌≤◌, true, false, not, List, [], ◌∷◌, ◌++◌, length, subst, refl, sym, ap, ◌∙◌, arith}
 use Rattle.std.specs.Prelude.{nat_le, if◌then◌else◌}
 use Rattle.std.specs.List.{All, flat_map}
 use Rattle.std.specs.Int.{w16, w32, to_be_bytes}
@@ -8,8 +8,8 @@ use Rattle.std.proofs.lemmas.List.{append-nil}
 use Rattle.pixel_format.specs.Reading.{Reading, Done, Want, ◌>>=◌, bytes, padding, times, u16, u32, unless, Spells}
 use Rattle.raster.proofs.Spellings.{Each, spells_done, spells_bind, spells_then, spells_bytes, spells_times}
 use Rattle.raster.proofs.Pixels.{spells_u16, spells_u32}
-use Rattle.rfb_wire.specs.ClientMessage.{ClientMessage, client_message, choice_of, flag, text, longest_text, SetPixelFormat, SetEncodings}
-use Rattle.pixel_format.specs.PixelFormat.{PixelFormat, IsAccepted, flag_byte, accepts, format_at, format_bytes}
+use Rattle.rfb_wire.specs.ClientMessage.{ClientMessage, client_message, choice_of, text, longest_text, SetPixelFormat, SetEncodings}
+use Rattle.pixel_format.specs.PixelFormat.{PixelFormat, IsAccepted, accepts, format_at, format_bytes}
 use Rattle.pixel_format.specs.declared.fault.Fault.TheVariants.{BadFormat}
 use Rattle.pixel_format.proofs.FormatsBack.{format_back, written_is_accepted}
 use Rattle.rfb_wire.specs.Writing.{set_encodings_bytes, set_pixel_format_bytes}
@@ -22,10 +22,6 @@ spells_want more b bs x h = record { whole = ap suc h.whole; says = h.says }
 pub spells_padding : {A : Type 0} (front bs : List ℕ) (rest : Reading A) (x : A) → Spells rest bs x → Spells (padding (length front) rest) (front ++ bs) x
 spells_padding [] bs rest x h = h
 spells_padding (b ∷ front) bs rest x h = spells_want (λ _. padding (length front) rest) b (front ++ bs) x (spells_padding front bs rest x h)
-
-pub spells_flag : (b : Bool) → Spells flag (flag_byte b ∷ []) b
-spells_flag true = record { whole = refl; says = refl }
-spells_flag false = record { whole = refl; says = refl }
 
 each_of_all : (P : ℕ → Type 0) (xs : List ℕ) → All P xs → Each P xs
 each_of_all P [] h = tt

@@ -1,9 +1,8 @@
 -- How a text goes on, kept or read past.
-use Rattle.std.proofs.Common.{◌≡◌, ℕ, zero, suc, ◌+◌, ◌-◌, ◌<◌, ◌≤◌, true, List, [], ◌∷◌, ◌++◌, length, take, min, ◌⊎◌, inl, inr, refl, sym, ap, subst, ◌∙◌, slice_index, arith}
+use Rattle.std.proofs.Common.{◌≡◌, ℕ, zero, suc, ◌+◌, ◌-◌, ◌<◌, ◌≤◌, true, List, [], ◌∷◌, ◌++◌, length, take, min, ◌⊎◌, inl, inr, refl, sym, ap, subst, ◌∙◌, arith}
 use mathlib.Core.Path.{fun_ext}
 use Rattle.std.proofs.lemmas.List.{length-append, length-take}
-use Rattle.pixel_format.specs.Reading.{Reading, Done, Want, step, taken, padding, wants_more}
-use Rattle.pixel_format.proofs.ReadingLaws.{taken-cons, taken-nil}
+use Rattle.pixel_format.specs.Reading.{Reading, Done, Want, padding, wants_more}
 use Rattle.rfb_wire.specs.ClientMessage.{ClientMessage, CutText, LostText}
 use Rattle.rfb_wire.specs.Message.{losing}
 use Rattle.rfb_wire.specs.ClientReader.{keeping, passing, Uses, UsesOrLoses}
@@ -60,17 +59,3 @@ text_uses kept left new piece next n more some e f (inr p) =
 
 pub past_uses : (left len : ℕ) (new : Reading ClientMessage) (piece : List ℕ) (n : ℕ) → 0 < left → 0 < length piece → n ≡ min (length piece) left → new ≡ passing (left - n) len → UsesOrLoses (passing left len) new piece n
 past_uses left len new piece n more some e p = inl (passing_uses left (LostText len) new piece n (omega arith) (omega arith) (omega arith) p)
-
-one_taken : (old : Reading ClientMessage) (b : ℕ) → wants_more old ≡ true → taken old (b ∷ []) ≡ 1
-one_taken old b w = taken-cons old b [] w ∙ ap suc (taken-nil (step old b))
-
--- One byte of fields.
-pub byte_uses : (old new : Reading ClientMessage) (piece : List ℕ) → wants_more old ≡ true → 0 < length piece → new ≡ step old (slice_index piece 0) → Uses old new piece 1
-byte_uses old new [] w some goes = absurd (omega arith)
-byte_uses old new (b ∷ bs) w some goes =
-    record {
-      some = omega arith;
-      fits = omega arith;
-      goes_on = goes;
-      all = one_taken old b w;
-    }

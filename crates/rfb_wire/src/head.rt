@@ -7,7 +7,7 @@ ghost use Rattle.pixel_format.specs.Reading.{Spells, u32};
 ghost use Rattle.raster.specs.Encoding.{rect};
 ghost use Rattle.rfb_wire.specs.ServerHeads.{colour_map_head, copy_source, rectangle_head, text_head, update_head};
 
-use raster::Rect;
+use raster::{RECT_LEN, Rect};
 
 /// The head of a rectangle of an update (RFC 6143, 7.6.1).
 #[derive(Clone, Copy, Debug, PartialEq, Eq)]
@@ -45,18 +45,12 @@ pub fn read_text_head(bytes: &[u8]) -> u32
     u32::from_be_bytes([b[3], b[4], b[5], b[6]])
 }
 
-/// The place of a rectangle: 8 bytes (RFC 6143, 7.6.1).
+/// The place of a rectangle, in pixels: 8 bytes (RFC 6143, 7.6.1).
 pub fn read_rect(bytes: &[u8]) -> Rect
     requires { 8 ≤ length bytes.now }
     ensures { Spells rect (take 8 bytes.now) result }
 {
-    let (b, _) = bytes.split_at(8);
-    Rect {
-        x: u64::from(u16::from_be_bytes([b[0], b[1]])),
-        y: u64::from(u16::from_be_bytes([b[2], b[3]])),
-        w: u64::from(u16::from_be_bytes([b[4], b[5]])),
-        h: u64::from(u16::from_be_bytes([b[6], b[7]])),
-    }
+    Rect::read(bytes)
 }
 
 /// The number of an encoding: 4 bytes (RFC 6143, 7.6.1).
@@ -73,7 +67,7 @@ pub fn read_rectangle_head(bytes: &[u8]) -> RectangleHead
     requires { 12 ≤ length bytes.now }
     ensures { Spells rectangle_head (take 12 bytes.now) result }
 {
-    let (area, rest) = bytes.split_at(8);
+    let (area, rest) = bytes.split_at(RECT_LEN);
     RectangleHead {
         area: read_rect(area),
         encoding: read_encoding(rest),

@@ -2,11 +2,9 @@
 
 use crate::host_talk::HostTalk;
 use crate::joined::Joined;
+use crate::version::SAID_TO_HOST;
 use pixel_format::Fault;
 use std::marker::Model;
-
-// All that is said in a handshake: the version, the choice of type 1, and shared-flag 1.
-const SAID: [u8; 14] = *b"RFB 003.008\n\x01\x01";
 
 /// A host's handshake in mid-course: what has come of it, and what is to be said to it. It takes no memory.
 ///
@@ -82,7 +80,7 @@ impl HostHello {
         if self.talk.fault().is_some() {
             return &[];
         }
-        &SAID[self.talk.sent..self.talk.stage.said()]
+        &SAID_TO_HOST[self.talk.sent..self.talk.stage.said()]
     }
 
     /// So many bytes of `out` have been sent.

@@ -21,7 +21,7 @@ pub(crate) enum Stage {
     Format,
     NameLength,
     Name,
-    // What is left of a name that is too long to be kept.
+    /// What is left of a name that is too long to be kept.
     Rest,
     Joined,
     BadVersion,
@@ -35,7 +35,7 @@ impl Stage {
     ghost use Rattle.std.specs.Prelude.{◌≡◌};
     ghost use Rattle.rfb_wire.specs.Joining.{is_open};
 
-    // Whether a byte is wanted.
+    /// Whether a byte is wanted.
     fn is_open(&self) -> bool
         ensures { result ≡ is_open self.now }
     {
@@ -55,7 +55,7 @@ impl Stage {
     ghost use Rattle.std.specs.Prelude.{◌≡◌, ◌≤◌, length};
     ghost use Rattle.rfb_wire.specs.Joining.{said};
 
-    // How many bytes must have been said by now.
+    /// How many bytes must have been said by now.
     pub(crate) fn said(&self) -> usize
         ensures value { result ≡ length (said self.now) }
         ensures most { result ≤ 14 }
@@ -78,7 +78,7 @@ impl Stage {
 #[derive(Drop)]
 pub(crate) struct HostTalk {
     pub(crate) stage: Stage,
-    // The bytes of the field that have come, and how many it has.
+    /// The bytes of the field that have come, and how many it has.
     pub(crate) field: ArrayVec<u8, 255>,
     pub(crate) wanted: usize,
     pub(crate) w: u64,
@@ -87,7 +87,7 @@ pub(crate) struct HostTalk {
     pub(crate) sent: usize,
 }
 
-// The number that three digits spell.
+/// The number that three digits spell.
 fn number_at(version: &[u8], i: usize) -> u32
     requires { i + 3 ≤ length version.now }
     ensures { result ≡ number_at version.now i }
@@ -112,7 +112,7 @@ fn is_from_3_8(major: u32, minor: u32) -> bool
     major > 3 || major == 3 && minor >= 8
 }
 
-// Whether these 12 bytes are a version from 3.8 on.
+/// Whether these 12 bytes are a version from 3.8 on.
 fn is_accepted(version: &[u8]) -> bool
     requires { length version.now ≡ 12 }
     ensures { result ≡ is_host_version version.now }
@@ -125,7 +125,7 @@ fn is_accepted(version: &[u8]) -> bool
         && is_from_3_8(number_at(version, 4), number_at(version, 8))
 }
 
-// The number in the four bytes of a field.
+/// The number in the four bytes of a field.
 fn number_in(field: &[u8]) -> u32
     requires { length field.now ≡ 4 }
     ensures { result ≡ from_be_bytes w32 field.now }
@@ -133,7 +133,7 @@ fn number_in(field: &[u8]) -> u32
     u32::from_be_bytes([field[0], field[1], field[2], field[3]])
 }
 
-// A width or a height in two bytes of a field.
+/// A width or a height in two bytes of a field.
 fn size_at(field: &[u8], i: usize) -> u16
     requires { i + 2 ≤ length field.now }
     ensures { result ≡ from_be_bytes w16 (slice_index field.now i ∷ slice_index field.now (i + 1) ∷ []) }
@@ -147,7 +147,7 @@ fn is_size(n: u16) -> bool
     1 <= n && n <= 4096
 }
 
-// The bytes as a vector of at most 255.
+/// The bytes as a vector of at most 255.
 fn kept(bytes: &[u8]) -> ArrayVec<u8, 255>
     requires { length bytes.now ≤ 255 }
     ensures { result.items ≡ bytes.now }
@@ -176,7 +176,7 @@ impl HostTalk {
         }
     }
 
-    // Whether a byte is wanted.
+    /// Whether a byte is wanted.
     pub(crate) fn wants_more(&self) -> bool
         requires { IsSound self.now }
         ensures { result ≡ wants_more (ahead self.now) }
@@ -198,7 +198,7 @@ impl HostTalk {
         }
     }
 
-    // What the host told, where its handshake is whole.
+    /// What the host told, where its handshake is whole.
     pub(crate) fn joined(&self) -> Option<Joined>
         requires { IsSound self.now }
         ensures { result ≡ whole_of (ahead self.now) }
@@ -213,7 +213,7 @@ impl HostTalk {
         }
     }
 
-    // Goes on to a field of so many bytes.
+    /// Goes on to a field of so many bytes.
     fn begin(&mut self, stage: Stage, wanted: usize)
         ensures { self.new ≡ record self.old { stage = stage; wanted = wanted; field = record { items = [] } } }
     {
@@ -318,7 +318,7 @@ impl HostTalk {
         }
     }
 
-    // Judges the field that is whole, and goes on to the next.
+    /// Judges the field that is whole, and goes on to the next.
     fn judge(&mut self)
         requires field { is_field self.old.stage ≡ true }
         requires fits { FitsStage self.old.stage self.old.wanted self.old.rest (length self.old.field.items) }
@@ -342,7 +342,7 @@ impl HostTalk {
         }
     }
 
-    // Passes over a byte of a name that is too long to be kept.
+    /// Passes over a byte of a name that is too long to be kept.
     fn pass(&mut self)
         requires stage { self.old.stage ≡ Stage.Rest }
         requires sound { IsSound self.old }
@@ -354,7 +354,7 @@ impl HostTalk {
         }
     }
 
-    // Takes a byte of a field, and judges the field where it is whole.
+    /// Takes a byte of a field, and judges the field where it is whole.
     fn take(&mut self, byte: u8)
         requires field { is_field self.old.stage ≡ true }
         requires sound { IsSound self.old }
@@ -368,7 +368,7 @@ impl HostTalk {
         }
     }
 
-    // Takes a byte.
+    /// Takes a byte.
     pub(crate) fn step(&mut self, byte: u8)
         requires sound { IsSound self.old }
         requires wants { wants_more (ahead self.old) ≡ true }

@@ -1,8 +1,38 @@
 //! A viewer's handshake, of which the reflector is the server (RFC 6143, 7.1 to 7.3).
 
-use crate::write::{VERSION, write_handshake};
+ghost use Rattle.std.specs.Prelude.{◌≡◌, ◌≤◌, ◌+◌, [], ◌++◌, length, take, drop, ◌∷◌, true, is_some, MatchResult};
+ghost use Rattle.pixel_format.specs.Reading.{Feeds, step, taken, wants_more, fault_of, whole_of};
+ghost use Rattle.rfb_wire.specs.declared.viewer_hello.TheConstants.{LONGEST_HANDSHAKE, VIEWER_LEN};
+ghost use Rattle.rfb_wire.specs.declared.write.TheConstants.{BEFORE_NAME_LEN};
+ghost use Rattle.rfb_wire.specs.Greeting.{Greeting, IsPrepared, due, ahead, to_send};
+
+use crate::version::{SAID_TO_HOST, VERSION_LEN};
+use crate::write::{BEFORE_INIT_LEN, BEFORE_NAME_LEN, write_handshake};
 use pixel_format::Fault;
 use std::marker::Model;
+
+/// How many bytes a viewer says: its version, its choice of a security type, and the shared-flag (RFC 6143, 7.1.1, 7.1.2
+/// and 7.3.1).
+const VIEWER_LEN: usize = 14;
+
+/// How many bytes are said to a viewer before it chooses a security type: the version, and the one type behind their
+/// number (RFC 6143, 7.1.1 and 7.1.2).
+const BEFORE_CHOICE_LEN: usize = 14;
+
+/// How many bytes are said to a viewer at most: all before the name, and a name of 255.
+const LONGEST_HANDSHAKE: usize = 297;
+
+/// How many bytes must have been said once so many have come, of `all` that are said in a handshake.
+fn due(all: usize, taken: usize) -> usize
+    ensures { result ≡ due all taken }
+{
+    match taken {
+        0..=11 => VERSION_LEN,
+        12 => BEFORE_CHOICE_LEN,
+        13 => BEFORE_INIT_LEN,
+        _ => all,
+    }
+}
 
 /// A viewer's handshake in mid-course: what has come of it, and what is to be said to it. It takes no memory.
 ///
@@ -12,37 +42,30 @@ use std::marker::Model;
 pub struct ViewerHello {
     w: u16,
     h: u16,
-    // What is said in a whole handshake, one answer behind the other: `length` bytes.
-    said: [u8; 297],
+    /// What is said in a whole handshake, one answer behind the other: `length` bytes.
+    said: [u8; LONGEST_HANDSHAKE],
     length: usize,
-    // What has come.
-    begun: [u8; 14],
+    /// What has come.
+    begun: [u8; VIEWER_LEN],
     taken: usize,
     sent: usize,
 }
 
 impl Model for ViewerHello {
-    ghost use Rattle.std.specs.Prelude.{◌≤◌, take, drop};
-    ghost use Rattle.rfb_wire.specs.Greeting.{Greeting, IsPrepared, due};
-
     ghost Value = { Greeting };
 
     ghost view = { λ r. record {
       w = r.w;
       h = r.h;
-      name = drop 42 (take r.length r.said);
+      name = drop BEFORE_NAME_LEN (take r.length r.said);
       begun = take r.taken r.begun;
       sent = r.sent;
     } };
 
-    ghost invariant = { λ r. IsPrepared r.w r.h (take r.length r.said) × (r.length ≤ 297) × (r.taken ≤ 14) × (r.sent ≤ due r.length r.taken) };
+    ghost invariant = { λ r. IsPrepared r.w r.h (take r.length r.said) × (r.length ≤ LONGEST_HANDSHAKE) × (r.taken ≤ VIEWER_LEN) × (r.sent ≤ due r.length r.taken) };
 }
 
 impl ViewerHello {
-    ghost use Rattle.std.specs.Prelude.{◌≡◌, ◌≤◌, ◌+◌, [], ◌++◌, length, take, ◌∷◌, true, is_some, MatchResult};
-    ghost use Rattle.pixel_format.specs.Reading.{Feeds, step, taken, wants_more, fault_of, whole_of};
-    ghost use Rattle.rfb_wire.specs.Greeting.{ahead, to_send};
-
     /// A handshake that is to tell of a screen of this size in pixels, 1 to 4096 each way, under this name of 1 to 255
     /// bytes.
     pub fn new(w: u64, h: u64, name: &[u8]) -> ViewerHello
@@ -54,14 +77,14 @@ impl ViewerHello {
         requires short { length name.now ≤ 255 }
         ensures { result ≡ record { w = w; h = h; name = name.now; begun = []; sent = 0 } }
     {
-        let mut said = [0; 297];
+        let mut said = [0; LONGEST_HANDSHAKE];
         let length = write_handshake(w as u16, h as u16, name, &mut said);
         ViewerHello {
             w: w as u16,
             h: h as u16,
             said,
             length,
-            begun: [0; 14],
+            begun: [0; VIEWER_LEN],
             taken: 0,
             sent: 0,
         }
@@ -71,9 +94,9 @@ impl ViewerHello {
     pub fn fault(&self) -> Option<Fault>
         ensures { result ≡ fault_of (ahead self.now) }
     {
-        if self.taken >= 12 && !self.begun.starts_with(&VERSION) {
+        if self.taken >= VERSION_LEN && !self.begun.starts_with(&SAID_TO_HOST[..VERSION_LEN]) {
             Some(Fault::BadVersion)
-        } else if self.taken >= 13 && self.begun[12] != 1 {
+        } else if self.taken > VERSION_LEN && self.begun[VERSION_LEN] != 1 {
             Some(Fault::BadChoice)
         } else {
             None
@@ -84,7 +107,7 @@ impl ViewerHello {
     pub fn wants_more(&self) -> bool
         ensures { result ≡ wants_more (ahead self.now) }
     {
-        self.taken < 14 && self.fault().is_none()
+        self.taken < VIEWER_LEN && self.fault().is_none()
     }
 
     fn so_far(&self, used: usize) -> Result<usize, Fault>
@@ -127,13 +150,7 @@ impl ViewerHello {
         if self.fault().is_some() {
             return &[];
         }
-        let due = match self.taken {
-            0..=11 => 12,
-            12 => 14,
-            13 => 18,
-            _ => self.length,
-        };
-        &self.said[self.sent..due]
+        &self.said[self.sent..due(self.length, self.taken)]
     }
 
     /// So many bytes of `out` have been sent.
@@ -148,6 +165,6 @@ impl ViewerHello {
     pub fn done(&self) -> bool
         ensures { result ≡ is_some (whole_of (ahead self.now)) }
     {
-        self.taken == 14 && self.fault().is_none()
+        self.taken == VIEWER_LEN && self.fault().is_none()
     }
 }

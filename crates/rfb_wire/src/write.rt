@@ -3,16 +3,22 @@
 //! Each writer spells one message, or the head of one, at the front of `out`, leaves what lies behind it, and answers
 //! how many bytes it wrote. Padding is written as 0, a flag as 0 or 1.
 
-ghost use Rattle.std.specs.Prelude.{◌≡◌, ◌≤◌, ◌<◌, ◌+◌, ◌*◌, ◌^◌, ◌++◌, length};
+ghost use Rattle.std.specs.Prelude.{◌≡◌, ◌≤◌, ◌<◌, ◌+◌, ◌*◌, ◌^◌, [], ◌∷◌, ◌++◌, length};
 ghost use Rattle.std.specs.Int.{w32, to_be_bytes};
 ghost use Rattle.pixel_format.specs.PixelFormat.{host_format, format_bytes};
 ghost use Rattle.rfb_wire.specs.Handshake.{server_init, said_to_viewer};
-ghost use Rattle.rfb_wire.specs.Writing.{Writes, update_head_bytes, rectangle_head_bytes, set_encodings_bytes, request_bytes, key_bytes, pointer_bytes, client_text_bytes, bell_bytes, server_text_bytes, text_bytes, rect_bytes, set_pixel_format_bytes};
+ghost use Rattle.rfb_wire.specs.Writing.{Writes, update_head_bytes, rectangle_head_bytes, set_encodings_bytes, request_bytes, key_bytes, pointer_bytes, client_text_bytes, bell_bytes, server_text_bytes, text_bytes, set_pixel_format_bytes};
 
+use crate::message_type::{
+    BELL, CLIENT_CUT_TEXT, FRAMEBUFFER_UPDATE, FRAMEBUFFER_UPDATE_REQUEST, KEY_EVENT,
+    POINTER_EVENT, SERVER_CUT_TEXT, SET_ENCODINGS, SET_PIXEL_FORMAT,
+};
+use crate::version::{SAID_TO_HOST, VERSION_LEN};
 use byteorder::{BigEndian, ByteOrder};
 use pixel_format::Format;
 use raster::Rect;
 
+/// Copies these bytes to the front.
 fn put(bytes: &[u8], out: &mut [u8]) -> usize
     requires { length bytes.now ≤ length out.old }
     ensures { Writes bytes.now out.old out.new result }
@@ -22,26 +28,13 @@ fn put(bytes: &[u8], out: &mut [u8]) -> usize
     bytes.len()
 }
 
-// The four numbers of a rectangle that lies on some screen.
-fn rectangle_bytes(area: &Rect) -> [u8; 8]
-    requires across { area.now.x + area.now.w < 2 ^ 16 }
-    requires down { area.now.y + area.now.h < 2 ^ 16 }
-    ensures { result ≡ rect_bytes area.now }
-{
-    let [x1, x0] = (area.x as u16).to_be_bytes();
-    let [y1, y0] = (area.y as u16).to_be_bytes();
-    let [w1, w0] = (area.w as u16).to_be_bytes();
-    let [h1, h0] = (area.h as u16).to_be_bytes();
-    [x1, x0, y1, y0, w1, w0, h1, h0]
-}
-
 /// The head of a FramebufferUpdate of so many rectangles: 4 bytes (RFC 6143, 7.6.1).
 pub fn write_update_head(count: u16, out: &mut [u8]) -> usize
     requires { 4 ≤ length out.old }
     ensures { Writes (update_head_bytes count) out.old out.new result }
 {
     let [high, low] = count.to_be_bytes();
-    put(&[0, 0, high, low], out)
+    put(&[FRAMEBUFFER_UPDATE, 0, high, low], out)
 }
 
 /// The head of a rectangle, behind which its data come: where it lies, in pixels, and the number of its encoding, 12
@@ -52,7 +45,7 @@ pub fn write_rectangle_head(area: &Rect, encoding: u32, out: &mut [u8]) -> usize
     requires down { area.now.y + area.now.h < 2 ^ 16 }
     ensures { Writes (rectangle_head_bytes area.now encoding) out.old out.new result }
 {
-    let [x1, x0, y1, y0, w1, w0, h1, h0] = rectangle_bytes(area);
+    let [x1, x0, y1, y0, w1, w0, h1, h0] = area.write();
     let [e3, e2, e1, e0] = encoding.to_be_bytes();
     put(&[x1, x0, y1, y0, w1, w0, h1, h0, e3, e2, e1, e0], out)
 }
@@ -65,7 +58,7 @@ pub fn write_set_pixel_format(format: &Format, out: &mut [u8]) -> usize
     let mut bytes = [0; 16];
     format.write(&mut bytes);
     let (front, back) = out.split_at_mut(4);
-    front.copy_from_slice(&[0, 0, 0, 0]);
+    front.copy_from_slice(&[SET_PIXEL_FORMAT, 0, 0, 0]);
     4 + put(&bytes, back)
 }
 
@@ -76,7 +69,7 @@ pub fn write_set_encodings(encodings: &[u32], out: &mut [u8]) -> usize
     ensures { Writes (set_encodings_bytes encodings.now) out.old out.new result }
 {
     let [high, low] = (encodings.len() as u16).to_be_bytes();
-    put(&[2, 0, high, low], out);
+    put(&[SET_ENCODINGS, 0, high, low], out);
     let end = 4 + 4 * encodings.len();
     BigEndian::write_u32_into(encodings, &mut out[4..end]);
     end
@@ -89,9 +82,20 @@ pub fn write_request(incremental: bool, area: &Rect, out: &mut [u8]) -> usize
     requires down { area.now.y + area.now.h < 2 ^ 16 }
     ensures { Writes (request_bytes incremental area.now) out.old out.new result }
 {
-    let [x1, x0, y1, y0, w1, w0, h1, h0] = rectangle_bytes(area);
+    let [x1, x0, y1, y0, w1, w0, h1, h0] = area.write();
     put(
-        &[3, u8::from(incremental), x1, x0, y1, y0, w1, w0, h1, h0],
+        &[
+            FRAMEBUFFER_UPDATE_REQUEST,
+            u8::from(incremental),
+            x1,
+            x0,
+            y1,
+            y0,
+            w1,
+            w0,
+            h1,
+            h0,
+        ],
         out,
     )
 }
@@ -102,7 +106,7 @@ pub fn write_key(down: bool, key: u32, out: &mut [u8]) -> usize
     ensures { Writes (key_bytes down key) out.old out.new result }
 {
     let [k3, k2, k1, k0] = key.to_be_bytes();
-    put(&[4, u8::from(down), 0, 0, k3, k2, k1, k0], out)
+    put(&[KEY_EVENT, u8::from(down), 0, 0, k3, k2, k1, k0], out)
 }
 
 /// A PointerEvent with the buttons that are down as the bits of `mask`: 6 bytes (RFC 6143, 7.5.5).
@@ -112,10 +116,10 @@ pub fn write_pointer(mask: u8, x: u16, y: u16, out: &mut [u8]) -> usize
 {
     let [x1, x0] = x.to_be_bytes();
     let [y1, y0] = y.to_be_bytes();
-    put(&[5, mask, x1, x0, y1, y0], out)
+    put(&[POINTER_EVENT, mask, x1, x0, y1, y0], out)
 }
 
-// A text or a name behind the number of its bytes.
+/// A text or a name behind the number of its bytes.
 fn put_counted(text: &[u8], out: &mut [u8]) -> usize
     requires few { length text.now < 2 ^ 32 }
     requires room { 4 + length text.now ≤ length out.old }
@@ -125,7 +129,7 @@ fn put_counted(text: &[u8], out: &mut [u8]) -> usize
     4 + put(text, &mut out[4..])
 }
 
-// A text behind the type of its message.
+/// A text behind the type of its message.
 fn put_text(kind: u8, text: &[u8], out: &mut [u8]) -> usize
     requires few { length text.now < 2 ^ 32 }
     requires room { 8 + length text.now ≤ length out.old }
@@ -141,7 +145,7 @@ pub fn write_client_text(text: &[u8], out: &mut [u8]) -> usize
     requires room { 8 + length text.now ≤ length out.old }
     ensures { Writes (client_text_bytes text.now) out.old out.new result }
 {
-    put_text(6, text, out)
+    put_text(CLIENT_CUT_TEXT, text, out)
 }
 
 /// A Bell: one byte (RFC 6143, 7.6.3).
@@ -149,7 +153,7 @@ pub fn write_bell(out: &mut [u8]) -> usize
     requires { 1 ≤ length out.old }
     ensures { Writes bell_bytes out.old out.new result }
 {
-    put(&[2], out)
+    put(&[BELL], out)
 }
 
 /// A ServerCutText: 8 bytes and the Latin-1 text, unchanged (RFC 6143, 7.6.4).
@@ -158,10 +162,10 @@ pub fn write_server_text(text: &[u8], out: &mut [u8]) -> usize
     requires room { 8 + length text.now ≤ length out.old }
     ensures { Writes (server_text_bytes text.now) out.old out.new result }
 {
-    put_text(3, text, out)
+    put_text(SERVER_CUT_TEXT, text, out)
 }
 
-// The format that viewers are told, and the name behind it.
+/// The format that viewers are told, and the name behind it.
 fn put_format_and_name(name: &[u8], out: &mut [u8]) -> usize
     requires few { length name.now < 2 ^ 32 }
     requires room { 20 + length name.now ≤ length out.old }
@@ -188,20 +192,35 @@ pub fn write_server_init(w: u16, h: u16, name: &[u8], out: &mut [u8]) -> usize
     4 + put_format_and_name(name, back)
 }
 
-/// The only version that is spoken.
-pub(crate) const VERSION: [u8; 12] = *b"RFB 003.008\n";
+/// What is said behind the version and before ServerInit: one security type, which is 1, None, and SecurityResult 0 (RFC
+/// 6143, 7.1.2 and 7.1.3).
+const SECURITY: [u8; 6] = [1, 1, 0, 0, 0, 0];
 
-// The version, the one security type, which is None, and the result of choosing it.
-const BEFORE_INIT: [u8; 18] = *b"RFB 003.008\n\x01\x01\0\0\0\0";
+/// How many bytes of a handshake are said before ServerInit: the version and what is said of security.
+pub(crate) const BEFORE_INIT_LEN: usize = 18;
+
+/// How many are said before the name: those before ServerInit, and 24 of it.
+pub(crate) const BEFORE_NAME_LEN: usize = 42;
+
+/// What a server says behind its version.
+fn put_security_and_init(w: u16, h: u16, name: &[u8], out: &mut [u8]) -> usize
+    requires few { length name.now < 2 ^ 32 }
+    requires room { 30 + length name.now ≤ length out.old }
+    ensures { Writes ((1 ∷ 1 ∷ 0 ∷ 0 ∷ 0 ∷ 0 ∷ []) ++ server_init w h name.now) out.old out.new result }
+{
+    let (front, back) = out.split_at_mut(SECURITY.len());
+    front.copy_from_slice(&SECURITY);
+    SECURITY.len() + write_server_init(w, h, name, back)
+}
 
 /// All that a server says in a handshake, one answer behind the other: the version, the security types, the
 /// SecurityResult and ServerInit, 42 bytes and the name.
 pub(crate) fn write_handshake(w: u16, h: u16, name: &[u8], out: &mut [u8]) -> usize
     requires few { length name.now < 2 ^ 32 }
-    requires room { 42 + length name.now ≤ length out.old }
+    requires room { BEFORE_NAME_LEN + length name.now ≤ length out.old }
     ensures { Writes (said_to_viewer w h name.now 14) out.old out.new result }
 {
-    let (front, back) = out.split_at_mut(18);
-    front.copy_from_slice(&BEFORE_INIT);
-    18 + write_server_init(w, h, name, back)
+    let (front, back) = out.split_at_mut(VERSION_LEN);
+    front.copy_from_slice(&SAID_TO_HOST[..VERSION_LEN]);
+    VERSION_LEN + put_security_and_init(w, h, name, back)
 }

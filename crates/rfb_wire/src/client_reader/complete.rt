@@ -13,9 +13,13 @@ use crate::client_reader::kept::{Kept, LONGEST_TEXT};
 use crate::client_reader::part::Part;
 use crate::client_reader::past::Past;
 use crate::client_reader::state::{State, Wrong};
-use crate::head::read_rect;
 use crate::message::ClientMessage;
+use crate::message_type::{
+    CLIENT_CUT_TEXT, FRAMEBUFFER_UPDATE_REQUEST, KEY_EVENT, POINTER_EVENT, SET_ENCODINGS,
+    SET_PIXEL_FORMAT,
+};
 use pixel_format::Format;
+use raster::Rect;
 use std::alloc::Global;
 
 /// How reading goes on behind a part that has these bytes.
@@ -35,21 +39,23 @@ pub fn complete(alloc: Global, part: Part, b: &[u8]) -> State
     }
 }
 
+/// What follows the type of a message.
 fn behind_kind(kind: u8) -> State
     ensures { ahead result ≡ fields_of kind }
 {
     let part = match kind {
-        0 => Part::Format,
-        2 => Part::Count,
-        3 => Part::Ask,
-        4 => Part::Key,
-        5 => Part::Pointer,
-        6 => Part::Length,
+        SET_PIXEL_FORMAT => Part::Format,
+        SET_ENCODINGS => Part::Count,
+        FRAMEBUFFER_UPDATE_REQUEST => Part::Ask,
+        KEY_EVENT => Part::Key,
+        POINTER_EVENT => Part::Pointer,
+        CLIENT_CUT_TEXT => Part::Length,
         _ => return State::Failed(Wrong::Kind(kind)),
     };
     State::Fields(Fields::of(part))
 }
 
+/// What follows the fields of SetPixelFormat (RFC 6143, 7.5.1).
 fn format(b: &[u8]) -> State
     requires { length b.now ≡ 19 }
     ensures { ahead result ≡ after set_pixel_format b.now }
@@ -64,6 +70,7 @@ fn format(b: &[u8]) -> State
     }
 }
 
+/// What follows the count of SetEncodings (RFC 6143, 7.5.2).
 fn encodings(b: &[u8]) -> State
     requires { length b.now ≡ 3 }
     ensures { ahead result ≡ after set_encodings b.now }
@@ -77,6 +84,7 @@ fn encodings(b: &[u8]) -> State
     }
 }
 
+/// What follows a number of SetEncodings, behind which so many more are left (RFC 6143, 7.5.2).
 fn number(left: u16, found: Found, b: &[u8]) -> State
     requires { length b.now ≡ 4 }
     ensures { ahead result ≡ after (numbers (suc left) found) b.now }
@@ -92,6 +100,7 @@ fn number(left: u16, found: Found, b: &[u8]) -> State
     }
 }
 
+/// What follows the fields of FramebufferUpdateRequest (RFC 6143, 7.5.3).
 fn request(b: &[u8]) -> State
     requires { length b.now ≡ 9 }
     ensures { ahead result ≡ after ask b.now }
@@ -99,10 +108,11 @@ fn request(b: &[u8]) -> State
     let (flag, rect) = b.split_at(1);
     State::Whole(ClientMessage::Ask {
         incremental: flag[0] != 0,
-        rect: read_rect(rect),
+        rect: Rect::read(rect),
     })
 }
 
+/// What follows the fields of KeyEvent (RFC 6143, 7.5.4).
 fn key(b: &[u8]) -> State
     requires { length b.now ≡ 7 }
     ensures { ahead result ≡ after key_event b.now }
@@ -113,6 +123,7 @@ fn key(b: &[u8]) -> State
     })
 }
 
+/// What follows the fields of PointerEvent (RFC 6143, 7.5.5).
 fn pointer(b: &[u8]) -> State
     requires { length b.now ≡ 5 }
     ensures { ahead result ≡ after pointer_event b.now }
@@ -124,7 +135,7 @@ fn pointer(b: &[u8]) -> State
     })
 }
 
-// How many bytes a text has, behind three of padding.
+/// How many bytes a text has, behind three of padding.
 fn text_length(b: &[u8]) -> u32
     requires { length b.now ≡ 7 }
     ensures { result ≡ from_be_bytes w32 (drop 3 b.now) }
@@ -132,6 +143,7 @@ fn text_length(b: &[u8]) -> u32
     u32::from_be_bytes([b[3], b[4], b[5], b[6]])
 }
 
+/// What follows the length of ClientCutText: its text, which is kept or read past (RFC 6143, 7.5.6).
 fn cut(alloc: Global, b: &[u8]) -> State
     requires { length b.now ≡ 7 }
     ensures { ahead result ≡ after (text CutText LostText) b.now }

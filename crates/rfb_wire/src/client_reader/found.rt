@@ -5,7 +5,7 @@ ghost use Rattle.rfb_wire.specs.ClientReader.{choice_with};
 ghost use Rattle.rfb_wire.specs.Message.{choice_in};
 
 use crate::choice::Choice;
-use raster::Encoding;
+use raster::{COPY_RECT, Encoding};
 
 /// What the numbers so far say (RFC 6143, 7.5.2 and 7.7): the first encoding of pixels that the reflector writes, and
 /// whether CopyRect is among them. The list itself is not kept.
@@ -26,15 +26,10 @@ impl Found {
     pub fn note(self, number: u32) -> Found
         ensures { (others : List ℕ) → choice_with result others ≡ choice_with self (number ∷ others) }
     {
-        let kind = match number {
-            0 => Some(Encoding::Raw),
-            2 => Some(Encoding::Rre),
-            5 => Some(Encoding::Hextile),
-            _ => None,
-        };
+        let kind = Encoding::of_number(number);
         Found {
             kind: self.kind.or(kind),
-            copy: self.copy || number == 1,
+            copy: self.copy || number == COPY_RECT,
         }
     }
 

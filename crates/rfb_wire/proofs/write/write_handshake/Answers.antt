@@ -6,4 +6,4 @@ use Rattle.rfb_wire.proofs.write.write_handshake.Goals as goal
 pub returns : goal.returns
 returns c =
     rw c.copy_from_slice.ensures.after
-    (writes_behind (version ++ 1 ∷ 1 ∷ 0 ∷ 0 ∷ 0 ∷ 0 ∷ []) (server_init c.args.w c.args.h c.args.name.now) c.args.out.now c.write_server_init.new.out c.write_server_init.result (rw (← c.split_at_mut-front.ensures.back) c.write_server_init.ensures))
+    (writes_behind version ((1 ∷ 1 ∷ 0 ∷ 0 ∷ 0 ∷ 0 ∷ []) ++ server_init c.args.w c.args.h c.args.name.now) c.args.out.now c.put_security_and_init.new.out c.put_security_and_init.result (rw (← c.split_at_mut-front.ensures.back) c.put_security_and_init.ensures))
