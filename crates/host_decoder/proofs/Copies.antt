@@ -1,13 +1,13 @@
 -- The source of a CopyRect, in pieces.
-use Rattle.std.proofs.Common.{◌≡◌, ℕ, ◌+◌, ◌-◌, ◌<◌, ◌≤◌, min, not, Bool, true, false, List, [], ◌∷◌, ◌++◌, take, drop, length, None, is_some, inl, inr, refl, sym, ap, subst, ◌∙◌, arith}
+use Rattle.std.proofs.Common.{◌≡◌, ℕ, ◌+◌, ◌-◌, ◌<◌, ◌≤◌, min, not, Bool, true, false, List, [], ◌∷◌, ◌++◌, take, drop, length, inl, inr, refl, sym, ap, subst, ◌∙◌, arith}
 use Rattle.std.specs.Prelude.{nat_le}
 use Rattle.std.proofs.lemmas.Bool.{and_parts, cases_lt}
 use Rattle.std.proofs.lemmas.Bool.Decides.{nat_tests}
 use Rattle.std.specs.Int.{w16, from_be_bytes}
 use Rattle.std.proofs.lemmas.List.{take-append-drop, length-take, length-drop, length-append}
-use Rattle.pixel_format.specs.Reading.{Reading, Done, Faulty, Want, after, taken, wants_more, whole_of, fault_of, unless}
+use Rattle.pixel_format.specs.Reading.{Reading, Done, Faulty, after, taken, wants_more, unless}
 use Rattle.pixel_format.specs.declared.fault.Fault.TheVariants.{CopyOutside}
-use Rattle.pixel_format.proofs.ReadingLaws.{after-append, after_bind, after-stays, taken-stays, taken-nil}
+use Rattle.pixel_format.proofs.ReadingLaws.{after-append, after_bind, after-stays, done, done_is, taken-append, taken-nil, taken-stays}
 use Rattle.raster.specs.declared.rect.Rect.{Rect}
 use Rattle.raster.specs.Screen.{IsWithin, is_within}
 use Rattle.raster.specs.Update.{Paint, Copy}
@@ -20,12 +20,6 @@ use Rattle.host_decoder.specs.Data.{IsSource}
 
 abbrev pub Closes : {A : Type 0} → ℕ → Reading A → Type 0
 Closes k form = (bs : List ℕ) → length bs ≡ k → wants_more (after form bs) ≡ false
-
-pub taken-append : {A : Type 0} (form : Reading A) (xs ys : List ℕ) → taken form xs ≡ length xs → taken form (xs ++ ys) ≡ length xs + taken (after form xs) ys
-taken-append form [] ys e = omega arith
-taken-append (Done x) (b ∷ xs) ys e = absurd (omega arith)
-taken-append (Faulty f) (b ∷ xs) ys e = absurd (omega arith)
-taken-append (Want more) (b ∷ xs) ys e = let h = taken-append (more b) xs ys (omega (arith, e)) in omega (arith, h)
 
 pub stays_behind : {A : Type 0} (r : Reading A) (ys : List ℕ) (missing : ℕ) → (missing ≡ 0 → wants_more r ≡ false) → (0 < length ys → missing ≡ 0) → (after r ys ≡ r) × (taken r ys ≡ 0)
 stays_behind r [] missing closed none = (refl, taken-nil r)
@@ -89,23 +83,10 @@ copy_inside w h area source bs is e = copy_judged w h area source bs is ∙ judg
 pub copy_outside : (w h : ℕ) (area source : Rect) (bs : List ℕ) → IsSource area bs source → is_within source w h ≡ false → after (copy_rect w h area) bs ≡ Faulty CopyOutside
 copy_outside w h area source bs is e = copy_judged w h area source bs is ∙ judged_by false w h area source e
 
-pub open_no_fault : {A : Type 0} (r : Reading A) → wants_more r ≡ true → fault_of r ≡ None
-open_no_fault (Done x) e = refl
-open_no_fault (Faulty f) e = absurd cc
-open_no_fault (Want more) e = refl
-
-pub open_not_whole : {A : Type 0} (r : Reading A) → wants_more r ≡ true → is_some (whole_of r) ≡ false
-open_not_whole (Done x) e = absurd cc
-open_not_whole (Faulty f) e = refl
-open_not_whole (Want more) e = refl
-
 -- ---- the paint of a source that has come
 
-abbrev done : Paint → Reading Paint
-done painted = Done painted
-
 judged_done : (b : Bool) (painted other : Paint) → done painted ≡ unless (not b) CopyOutside (Done other) → (painted ≡ other) × (b ≡ true)
-judged_done true painted other e = (cc, refl)
+judged_done true painted other e = (done_is painted other e, refl)
 judged_done false painted other e = absurd cc
 
 done_within : (w h : ℕ) (source : Rect) → is_within source w h ≡ true → IsWithin source w h

@@ -1,12 +1,12 @@
 -- A step of a decoder over some bytes.
-use Rattle.std.proofs.Common.{◌≡◌, ℕ, ◌+◌, ◌-◌, ◌<◌, ◌≤◌, true, List, [], ◌∷◌, ◌++◌, min, length, take, drop, ◌⊎◌, inl, inr, sym, ap, subst, ◌∙◌, arith}
+use Rattle.std.proofs.Common.{◌≡◌, ℕ, ◌+◌, ◌-◌, ◌<◌, ◌≤◌, true, List, [], ◌++◌, min, length, take, drop, ◌⊎◌, inl, inr, sym, ap, subst, ◌∙◌, arith}
 use Rattle.std.proofs.lemmas.List.{length-append, length-take, take-append-drop}
-use Rattle.pixel_format.specs.Reading.{Reading, Done, Faulty, Want, after, taken, padding}
-use Rattle.pixel_format.proofs.ReadingLaws.{after-append}
+use Rattle.pixel_format.specs.Reading.{Reading, Done, after, taken, padding}
+use Rattle.pixel_format.proofs.ReadingLaws.{after-append, padding-after, padding-taken, taken-append}
 use Rattle.raster.specs.Screen.{Canvas}
 use Rattle.raster.specs.Update.{Paint}
 use Rattle.painter.specs.Painter.{Painting}
-use Rattle.rfb_wire.proofs.TextForms.{text_after, text_taken, past_after, past_taken}
+use Rattle.rfb_wire.proofs.TextForms.{text_after, text_taken}
 use Rattle.rfb_wire.specs.ServerMessage.{ServerMessage, ServerCutText}
 use Rattle.host_decoder.specs.Parts.{Passed, len_of, message_of}
 use Rattle.host_decoder.specs.declared.part.Part.{Part}
@@ -14,13 +14,6 @@ use Rattle.host_decoder.specs.declared.state.State.{State}
 use Rattle.host_decoder.specs.declared.state.State.TheVariants as state
 use Rattle.host_decoder.specs.Decoder.{GoesOn, Holds, InPart, IsBehind, IsSuited, PaintsNothing, Stands, Uses, form_of, is_refused, keeping, passing}
 use Rattle.host_decoder.proofs.HostParts.{part_takes}
-
--- Where the first bytes are all taken, those behind them are taken after them.
-taken-append : {A : Type 0} (form : Reading A) (xs ys : List ℕ) → taken form xs ≡ length xs → taken form (xs ++ ys) ≡ length xs + taken (after form xs) ys
-taken-append form [] ys e = omega arith
-taken-append (Done x) (b ∷ xs) ys e = absurd (omega arith)
-taken-append (Faulty f) (b ∷ xs) ys e = absurd (omega arith)
-taken-append (Want more) (b ∷ xs) ys e = let h = taken-append (more b) xs ys (omega (arith, e)) in omega (arith, h)
 
 pub behind_first : (r : Reading ServerMessage) (bs : List ℕ) (n : ℕ) → n ≤ length bs → taken r (take n bs) ≡ n → IsBehind r (after r (take n bs)) bs n
 behind_first r bs n le all =
@@ -92,7 +85,7 @@ pub past_uses : (painter : Painting) (left : ℕ) (what : Passed) (state : State
     → Stands painter.width painter.height state [] (passing (left - n) what) → PaintsNothing state → Uses painter painter state r bs n
 past_uses painter left what state bs n r none reads e stands still =
     let few : length (take n bs) ≡ n = omega (arith, length-take n bs) in
-    let same : passing (left - n) what ≡ after r (take n bs) = rw reads (ap (λ k. padding (left - k) (Done (message_of what))) (sym few) ∙ sym (past_after left (Done (message_of what)) (take n bs) (omega arith))) in
-    let all : taken r (take n bs) ≡ n = rw reads (past_taken left (message_of what) (take n bs) (omega arith) ∙ few) in
+    let same : passing (left - n) what ≡ after r (take n bs) = rw reads (ap (λ k. padding (left - k) (Done (message_of what))) (sym few) ∙ sym (padding-after left (Done (message_of what)) (take n bs) (omega arith))) in
+    let all : taken r (take n bs) ≡ n = rw reads (padding-taken left (Done (message_of what)) (take n bs) (omega arith) ∙ few) in
     let there = with_paints_of painter.width painter.height state painter.paints (after r (take n bs)) none (inr (subst (λ q. Stands painter.width painter.height state [] q) same stands)) in
     record { next = after r (take n bs); behind_ = behind_first r bs n (omega arith) all; goes_on = unpainted painter state (after r (take n bs)) there still }

@@ -19,7 +19,11 @@ use crate::past::{Passed, Past};
 use crate::state::{State, Wrong};
 use crate::update_data::{begin_data, next_rectangle};
 use painter::{Painter, Patch};
-use rfb_wire::{read_colour_map_head, read_encoding, read_rect, read_text_head, read_update_head};
+use raster::Rect;
+use rfb_wire::{
+    BELL, FRAMEBUFFER_UPDATE, SERVER_CUT_TEXT, SET_COLOUR_MAP_ENTRIES, read_colour_map_head,
+    read_encoding, read_text_head, read_update_head,
+};
 use std::alloc::Global;
 
 /// What follows the type of a message.
@@ -30,13 +34,13 @@ fn behind_kind(painter: &Painter, kind: u8) -> State
     ensures still { PaintsNothing result }
 {
     let part = match kind {
-        0 => Part::Count,
-        1 => Part::Colours,
-        2 => {
+        FRAMEBUFFER_UPDATE => Part::Count,
+        SET_COLOUR_MAP_ENTRIES => Part::Colours,
+        BELL => {
             let (width, height) = painter.size();
             return State::Whole(HostEvent::Bell(Patch::bell(width, height)));
         }
-        3 => Part::Length,
+        SERVER_CUT_TEXT => Part::Length,
         _ => return State::Failed(Wrong::Kind(kind)),
     };
     State::Fields(Fields::of(part))
@@ -50,7 +54,7 @@ fn behind_area(painter: &Painter, left: u16, b: &[u8]) -> State
         → Stands painter.now.width painter.now.height result painter.now.paints (after (form_of painter.now.width painter.now.height sofar (Area left)) b.now) }
     ensures still { PaintsNothing result }
 {
-    let area = read_rect(b);
+    let area = Rect::read(b);
     let (width, height) = painter.size();
     if area.within(width, height) {
         State::Fields(Fields::of(Part::Encoding(left, area)))

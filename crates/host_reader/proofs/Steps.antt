@@ -1,6 +1,6 @@
 -- Reading a host's bytes message by message.
-use Rattle.std.proofs.Common.{◌≡◌, ℕ, suc, ◌+◌, ◌<◌, ◌≤◌, Bool, true, false, List, [], ◌∷◌, ◌++◌, length, take, drop, Some, None, Ok, Err, ◌^◌, ◌⊎◌, length-append, inl, inr, refl, sym, ap, subst, ◌∙◌, arith, append_assoc}
-use Rattle.std.proofs.lemmas.List.{append-nil, length-take, drop_all, take_all, take-append-drop}
+use Rattle.std.proofs.Common.{◌≡◌, ℕ, ◌+◌, ◌<◌, ◌≤◌, Bool, true, false, List, [], ◌∷◌, ◌++◌, length, take, drop, Some, None, Ok, Err, ◌^◌, ◌⊎◌, length-append, inl, inr, refl, sym, ap, subst, ◌∙◌, arith, append_assoc}
+use Rattle.std.proofs.lemmas.List.{append-nil, take_all, take-append-drop}
 use Rattle.std.proofs.lemmas.List.Elements.{filter_map-append}
 use Rattle.std.proofs.lemmas.Bool.{cases_lt}
 use Rattle.std.proofs.Math.Seq.{take-add}
@@ -9,10 +9,10 @@ use Rattle.link.specs.Links.{LinkState, HasRisen, TakesAs, with_end, with_failur
 use Rattle.link.specs.declared.link.Took.{Took}
 use Rattle.link.specs.declared.link.Took.TheVariants as took
 use Rattle.std.specs.List.{filter_map}
-use Rattle.pixel_format.specs.Reading.{Reading, Done, Faulty, Want, after, taken, whole_of, fault_of, wants_more, renewed, messages, rest, messages_from, rest_from}
+use Rattle.pixel_format.specs.Reading.{Reading, after, taken, whole_of, fault_of, wants_more, renewed, messages, rest, messages_from, rest_from}
 use Rattle.pixel_format.specs.declared.fault.Fault.{Fault}
 use Rattle.pixel_format.specs.declared.fault.Fault.TheVariants.{LinkEnded, LinkFailed, Memory, NumbersOut}
-use Rattle.pixel_format.proofs.ReadingLaws.{after-append, after-done, after-faulty, messages-append, rest-append, messages-open, messages-whole, rest-whole, taken-le, taken-nil, taken-some}
+use Rattle.pixel_format.proofs.ReadingLaws.{after-append, found_is, found_none, messages-append, messages-open, messages-taken, none_whole, renewed_from, rest-append, rest-further, rest-taken, taken-le, taken-open, taken-some, wants_from}
 use Rattle.raster.specs.Update.{Update}
 use Rattle.rfb_wire.specs.ServerMessage.{ServerMessage, FramebufferUpdate, SetColorMapEntries, Bell, ServerCutText, LostText}
 use Rattle.painter.specs.Painter.{Painting}
@@ -23,67 +23,6 @@ use Rattle.host_decoder.specs.declared.event.HostEvent.{HostEvent}
 use Rattle.reflect_core.specs.Plain.{IsPutRefusal}
 use Rattle.reflect_core.specs.Sequential.{Begins}
 use Rattle.host_reader.specs.Running.{AtFault, CanRead, EndsAt, EndsBetween, EndsWith, IsEventFor, IsInside, HasRead, Stops, outcome}
-
--- ---- one message
-
--- Where more is wanted after these bytes, all of them were taken.
-taken_open : {A : Type 0} (now : Reading A) (bs : List ℕ) → wants_more (after now bs) ≡ true → taken now bs ≡ length bs
-taken_open now [] w = taken-nil now
-taken_open (Done x) (b ∷ bs) w = let e : false ≡ true = sym (ap wants_more (after-done x bs)) ∙ w in absurd cc
-taken_open {A} (Faulty f) (b ∷ bs) w = let e : false ≡ true = sym (ap wants_more (after-faulty {A = A} f bs)) ∙ w in absurd cc
-taken_open (Want more) (b ∷ bs) w = ap suc (taken_open (more b) bs w)
-
--- The bytes that are taken are all that matters.
-after_taken : {A : Type 0} (now : Reading A) (bs : List ℕ) → after now (take (taken now bs) bs) ≡ after now bs
-after_taken (Done x) bs = sym (after-done x bs)
-after_taken (Faulty f) bs = sym (after-faulty f bs)
-after_taken (Want more) [] = refl
-after_taken (Want more) (b ∷ bs) = after_taken (more b) bs
-
-taken_taken : {A : Type 0} (now : Reading A) (bs : List ℕ) → taken now (take (taken now bs) bs) ≡ taken now bs
-taken_taken (Done x) bs = refl
-taken_taken (Faulty f) bs = refl
-taken_taken (Want more) [] = refl
-taken_taken (Want more) (b ∷ bs) = ap suc (taken_taken (more b) bs)
-
-taken_over : {A : Type 0} (now : Reading A) (bs : List ℕ) → drop (taken now (take (taken now bs) bs)) (take (taken now bs) bs) ≡ []
-taken_over now bs = let n = taken_taken now bs in let l = length-take (taken now bs) bs in drop_all (taken now (take (taken now bs) bs)) (take (taken now bs) bs) (omega (arith, n, l))
-
--- A message that is whole is the only one in the bytes that it takes, and the next begins behind them.
-whole_message : {A : Type 0} (form now : Reading A) (bs : List ℕ) (x : A) → wants_more now ≡ true → after now bs ≡ Done x → messages_from form now (take (taken now bs) bs) ≡ x ∷ []
-whole_message form now bs x w e =
-    messages-whole form now (take (taken now bs) bs) x w (after_taken now bs ∙ e) ∙ ap (λ (ys : List ℕ). x ∷ messages_from form form ys) (taken_over now bs)
-
-whole_rest : {A : Type 0} (form now : Reading A) (bs : List ℕ) (x : A) → wants_more now ≡ true → after now bs ≡ Done x → rest_from form now (take (taken now bs) bs) ≡ form
-whole_rest form now bs x w e =
-    rest-whole form now (take (taken now bs) bs) x w (after_taken now bs ∙ e) ∙ ap (λ (ys : List ℕ). rest_from form form ys) (taken_over now bs)
-
-open_is : {A : Type 0} (now : Reading A) → wants_more now ≡ true → whole_of now ≡ None
-open_is (Done x) w = absurd cc
-open_is (Faulty f) w = absurd cc
-open_is (Want more) w = refl
-
-wants_from : {A : Type 0} (now : Reading A) → whole_of now ≡ None → fault_of now ≡ None → wants_more now ≡ true
-wants_from (Done x) w f = absurd cc
-wants_from (Faulty g) w f = absurd cc
-wants_from (Want more) w f = refl
-
-renewed_open : {A : Type 0} (form now : Reading A) → whole_of now ≡ None → renewed form now ≡ now
-renewed_open form (Done x) w = absurd cc
-renewed_open form (Faulty f) w = refl
-renewed_open form (Want more) w = refl
-
--- What was found is of a whole message.
-pub found : {A B : Type 0} (f : A → B) (event : B) (now : Reading A) → Some event ≡ option_map f (whole_of now) → (x : A) × (now ≡ Done x) × (event ≡ f x)
-found f event (Done x) e = (x, refl, cc)
-found f event (Faulty g) e = absurd cc
-found f event (Want more) e = absurd cc
-
--- Where nothing is found no message is whole.
-pub found_none : {A B : Type 0} (f : A → B) (now : Reading A) → None ≡ option_map f (whole_of now) → whole_of now ≡ None
-found_none f (Done x) e = absurd cc
-found_none f (Faulty g) e = refl
-found_none f (Want more) e = refl
 
 -- ---- what a message brings
 
@@ -104,7 +43,7 @@ suited w h (LostText len) = tt
 -- An event is for the publisher's screen, which is the decoder's.
 pub event_suits : (w h dw dh pw ph : ℕ) (event : HostEvent) (now : Reading ServerMessage) → dw ≡ w → dh ≡ h → pw ≡ w → ph ≡ h → Some event ≡ option_map (event_of dw dh) (whole_of now) → IsEventFor pw ph event
 event_suits w h dw dh pw ph event now a b c d e =
-    let f = found (event_of dw dh) event now e in
+    let f = found_is (event_of dw dh) event now e in
     rw (c ∙ sym a, d ∙ sym b) (subst (λ (v : HostEvent). IsEventFor dw dh v) (sym f.2) (suited dw dh f.0))
 
 -- ---- the updates of more bytes
@@ -124,18 +63,13 @@ updates_same w h xs ys n =
     let open_ = messages-open (host_message w h) (rest (host_message w h) xs) ys n in
     updates_more w h xs ys ∙ (ap (λ (ms : List ServerMessage). updates w h xs ++ filter_map update_of ms) open_.0 ∙ append-nil (updates w h xs))
 
-rest_open : (w h : ℕ) (xs ys : List ℕ) → whole_of (after (rest (host_message w h) xs) ys) ≡ None → rest (host_message w h) (xs ++ ys) ≡ after (rest (host_message w h) xs) ys
-rest_open w h xs ys n =
-    let form = host_message w h in
-    rest-append form form xs ys ∙ (messages-open form (rest form xs) ys n).1
-
 -- ---- in the middle of a message
 
 -- Reading the bytes that begin a message is how the stream goes on.
 inside_rest : (w h : ℕ) (stream : List ℕ) (i : IsInside w h stream) → rest (host_message w h) stream ≡ after (host_message w h) i.begun
 inside_rest w h stream i =
     let form = host_message w h in
-    ap (rest form) i.bytes ∙ (rest-append form form i.whole i.begun ∙ (ap (λ (r : Reading ServerMessage). rest_from form r i.begun) i.between ∙ (messages-open form form i.begun (open_is (after form i.begun) i.wants)).1))
+    ap (rest form) i.bytes ∙ (rest-append form form i.whole i.begun ∙ (ap (λ (r : Reading ServerMessage). rest_from form r i.begun) i.between ∙ (messages-open form form i.begun (none_whole (after form i.begun) i.wants)).1))
 
 goes_inside : (w h : ℕ) (is_between : Bool) (stream more : List ℕ) → EndsAt is_between w h stream → 0 < length more → wants_more (after (rest (host_message w h) stream) more) ≡ true → IsInside w h (stream ++ more)
 goes_inside w h true stream more e some wants =
@@ -187,11 +121,11 @@ pub read_whole : (w h : ℕ) (decoder fed new : Decoding) (painter other : Paint
 read_whole w h decoder fed new painter other is_between stream left old now next count event wide high read feeds gives decodes put =
     let form = host_message w h in
     let r = rest form stream in
-    let f = found (event_of fed.width fed.height) event (after r left) gives in
+    let f = found_is (event_of fed.width fed.height) event (after r left) gives in
     let n : take count left ≡ take (taken r left) left = ap (λ k. take k left) feeds.1 in
     let ends : rest form (stream ++ take count left) ≡ form =
-    rest-append form form stream (take count left) ∙ (ap (λ (xs : List ℕ). rest_from form r xs) n ∙ whole_rest form r left f.0 read.wants f.1) in
-    let one : messages_from form r (take count left) ≡ f.0 ∷ [] = ap (λ (xs : List ℕ). messages_from form r xs) n ∙ whole_message form r left f.0 read.wants f.1 in
+    rest-append form form stream (take count left) ∙ (ap (λ (xs : List ℕ). rest_from form r xs) n ∙ rest-taken form r left f.0 read.wants f.1) in
+    let one : messages_from form r (take count left) ≡ f.0 ∷ [] = ap (λ (xs : List ℕ). messages_from form r xs) n ∙ messages-taken form r left f.0 read.wants f.1 in
     let more : updates w h (stream ++ take count left) ≡ updates w h stream ++ brought_by event =
     updates_more w h stream (take count left)
     ∙ (ap (λ (ms : List ServerMessage). updates w h stream ++ filter_map update_of ms) one ∙ ap (λ (us : List Update). updates w h stream ++ us) (sym (ap brought_by f.2 ∙ brings fed.width fed.height f.0))) in
@@ -214,12 +148,12 @@ read_open w h decoder fed new painter other is_between stream left old now count
     let r = rest form stream in
     let none : whole_of (after r left) ≡ None = found_none (event_of fed.width fed.height) (after r left) gives in
     let wants : wants_more (after r left) ≡ true = wants_from (after r left) none feeds.2 in
-    let all : count ≡ length left = feeds.1 ∙ taken_open r left wants in
+    let all : count ≡ length left = feeds.1 ∙ taken-open r left wants in
     let whole : take count left ≡ left = take_all count left (omega (arith, all)) in
-    let goes : rest form (stream ++ left) ≡ after r left = rest_open w h stream left none in
+    let goes : rest form (stream ++ left) ≡ after r left = rest-further (host_message w h) (host_message w h) stream left none in
     let inside : HasRead w h new other false (stream ++ left) old now =
     record {
-      reads = subst (λ (q : Reading ServerMessage). Decodes new other q) (renewed_open (host_message fed.width fed.height) (after r left) none ∙ sym goes) decodes;
+      reads = subst (λ (q : Reading ServerMessage). Decodes new other q) (renewed_from (host_message fed.width fed.height) (after r left) none ∙ sym goes) decodes;
       wants = ap wants_more goes ∙ wants;
       ends = goes_inside w h is_between stream left read.ends some wants;
       put = read.put ∙ ap (λ (us : List Update). old ++ us) (sym (updates_same w h stream left none));
@@ -235,7 +169,7 @@ read_stops w h decoder fed painter other is_between stream left whole old now fa
     let r = rest (host_message w h) stream in
     let none : whole_of (after r left) ≡ None = ap whole_of faulty.0 in
     let at : AtFault w h fault (stream ++ left) old now =
-    record { put = read.put ∙ ap (λ (us : List Update). old ++ us) (sym (updates_same w h stream left none)); rest = rest_open w h stream left none ∙ faulty.0 } in
+    record { put = read.put ∙ ap (λ (us : List Update). old ++ us) (sym (updates_same w h stream left none)); rest = rest-further (host_message w h) (host_message w h) stream left none ∙ faulty.0 } in
     inr (subst (λ (xs : List ℕ). AtFault w h fault xs old now) e at)
 
 why_refused : (count : ℕ) (fault : Fault) → IsPutRefusal count fault → (fault ≡ Memory) ⊎ ((fault ≡ NumbersOut) × (count ≡ 2 ^ 62))
@@ -279,7 +213,7 @@ pub can_whole : (fed new : Decoding) (other : Painting) (now : Reading ServerMes
     → Decodes new other (renewed (host_message fed.width fed.height) now) → CanRead new other
 can_whole fed new other now event gives decodes =
     let form = host_message fed.width fed.height in
-    let f = found (event_of fed.width fed.height) event now gives in
+    let f = found_is (event_of fed.width fed.height) event now gives in
     record { reading = form; reads = subst (λ (q : Reading ServerMessage). Decodes new other q) (ap (λ (q : Reading ServerMessage). renewed form q) f.1) decodes; wants = refl }
 
 -- And inside one more of it.
@@ -287,7 +221,7 @@ pub can_open : (fed new : Decoding) (other : Painting) (now : Reading ServerMess
     → Decodes new other (renewed (host_message fed.width fed.height) now) → CanRead new other
 can_open fed new other now gives fine decodes =
     let none = found_none (event_of fed.width fed.height) now gives in
-    record { reading = now; reads = subst (λ (q : Reading ServerMessage). Decodes new other q) (renewed_open (host_message fed.width fed.height) now none) decodes; wants = wants_from now none fine }
+    record { reading = now; reads = subst (λ (q : Reading ServerMessage). Decodes new other q) (renewed_from (host_message fed.width fed.height) now none) decodes; wants = wants_from now none fine }
 
 -- What stands at the front of the buffer was taken.
 pub took_piece : (old new : LinkState) (into seen piece : List ℕ) (count : ℕ) → piece ≡ take count seen → seen ≡ into → new ≡ record old { taken = old.taken ++ take count into } → new ≡ record old { taken = old.taken ++ piece }

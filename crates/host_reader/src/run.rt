@@ -54,10 +54,7 @@ pub fn run_host<L: Link, P: Puts, R: Wait>(
     ensures ok { OnOk result (EndsBetween decoder.old.width decoder.old.height (L.state link.old) (L.state link.new) (P.updates publisher.old) (P.updates publisher.new)) }
     ensures err { IfErr result (λ fault. EndsWith decoder.old.width decoder.old.height fault (L.state link.old) (L.state link.new) (P.updates publisher.old) (P.updates publisher.new)) }
 {
-    let mut buffer = match vec![in alloc; 0u8; PIECE] {
-        Ok(buffer) => buffer,
-        Err(_) => return Err(Fault::Memory),
-    };
+    let mut buffer = vec![in alloc; 0u8; PIECE]?;
     let mut is_between = true;
     for _ in rt.forever() {
         let took = link.take(buffer.as_mut_slice());

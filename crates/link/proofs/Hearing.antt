@@ -1,8 +1,8 @@
 -- Hearing a host's handshake byte by byte.
-use Rattle.std.proofs.Common.{◌≡◌, ℕ, suc, ◌+◌, ◌≤◌, true, List, [], ◌∷◌, ◌++◌, length, take, drop, None, Some, refl, sym, ap, subst, ◌∙◌, arith, append_assoc, length-drop}
+use Rattle.std.proofs.Common.{◌≡◌, ℕ, ◌+◌, ◌≤◌, true, List, [], ◌∷◌, ◌++◌, length, take, drop, None, Some, sym, ap, subst, ◌∙◌, arith, append_assoc, length-append, length-drop}
 use Rattle.std.proofs.lemmas.List.{length-take, take-take, drop-take, take-append-drop}
-use Rattle.pixel_format.specs.Reading.{Reading, Done, Faulty, Want, after, taken, whole_of, fault_of, wants_more}
-use Rattle.pixel_format.proofs.ReadingLaws.{taken-nil}
+use Rattle.pixel_format.specs.Reading.{Reading, Done, Faulty, after, taken, whole_of, fault_of, wants_more}
+use Rattle.pixel_format.proofs.ReadingLaws.{done_from, taken-append, taken-one, wants_from}
 use Rattle.rfb_wire.specs.Handshake.{Joined, version, host_hello, said_to_host}
 use Rattle.rfb_wire.specs.Joining.{ahead, to_send, HasHeard}
 use Rattle.rfb_wire.specs.declared.host_talk.HostTalk.{HostTalk}
@@ -55,21 +55,9 @@ hearing_says old now hello h =
       most = let e = ap length (to_send_is hello) in let t = length-take (length (to_send hello)) (drop hello.sent all_said) in omega (arith, e, t, length-drop hello.sent all_said, h.most);
     }
 
-wants_from : (r : Reading Joined) → whole_of r ≡ None → fault_of r ≡ None → wants_more r ≡ true
-wants_from (Done x) w f = absurd cc
-wants_from (Faulty g) w f = absurd cc
-wants_from (Want more) w f = refl
-
-taken_one : (r : Reading Joined) (b : ℕ) → wants_more r ≡ true → taken r (b ∷ []) ≡ 1
-taken_one (Done x) b w = absurd cc
-taken_one (Faulty f) b w = absurd cc
-taken_one (Want more) b w = ap suc (taken-nil (more b))
-
+-- A byte more is taken where one is wanted.
 taken_more : (r : Reading Joined) (bs : List ℕ) (b : ℕ) → taken r bs ≡ length bs → wants_more (after r bs) ≡ true → taken r (bs ++ b ∷ []) ≡ length (bs ++ b ∷ [])
-taken_more r [] b e w = taken_one r b w
-taken_more (Done x) (a ∷ bs) b e w = absurd (omega (arith, e))
-taken_more (Faulty f) (a ∷ bs) b e w = absurd (omega (arith, e))
-taken_more (Want more) (a ∷ bs) b e w = ap suc (taken_more (more a) bs b (omega (arith, e)) w)
+taken_more r bs b e w = taken-append r bs (b ∷ []) e ∙ (ap (λ n. length bs + n) (taken-one (after r bs) b w) ∙ sym (length-append bs (b ∷ [])))
 
 -- One byte more was taken and heard.
 hearing_hears : (old now next : LinkState) (hello heard_by : HostTalk) (b : ℕ) → IsHearing old now hello → whole_of (ahead hello) ≡ None → next ≡ with_taken now b
@@ -77,7 +65,7 @@ hearing_hears : (old now next : LinkState) (hello heard_by : HostTalk) (b : ℕ)
     → IsHearing old next heard_by
 hearing_hears old now next hello heard_by b h open_ t heard s fine =
     let wants = wants_from (ahead hello) open_ h.fine in
-    let one : take (taken (ahead hello) (b ∷ [])) (b ∷ []) ≡ b ∷ [] = ap (λ n. take n (b ∷ [])) (taken_one (ahead hello) b wants) in
+    let one : take (taken (ahead hello) (b ∷ [])) (b ∷ []) ≡ b ∷ [] = ap (λ n. take n (b ∷ [])) (taken-one (ahead hello) b wants) in
     record {
       heard = h.heard ++ b ∷ [];
       took = ap (λ (l : LinkState). l.taken) t ∙ (ap (λ l. l ++ b ∷ []) h.took ∙ append_assoc old.taken h.heard (b ∷ []));
@@ -115,21 +103,16 @@ pub hearing_fails : (old now given next : LinkState) (out : List ℕ) (hello sai
 hearing_fails old now given next out hello said heard_by count b fault before g o c n open_ t heard f =
     let h = hearing_gives old now given out hello said count before g o c n in
     let wants = wants_from (ahead said) open_ h.fine in
-    let one : take (taken (ahead said) (b ∷ [])) (b ∷ []) ≡ b ∷ [] = ap (λ n. take n (b ∷ [])) (taken_one (ahead said) b wants) in
+    let one : take (taken (ahead said) (b ∷ [])) (b ∷ []) ≡ b ∷ [] = ap (λ n. take n (b ∷ [])) (taken-one (ahead said) b wants) in
     let all : HasHeard heard_by (h.heard ++ b ∷ []) = subst (λ (bs : List ℕ). HasHeard heard_by (h.heard ++ bs)) one (heard h.heard h.talk) in
     (h.heard ++ b ∷ [], ap (λ (l : LinkState). l.taken) t ∙ (ap (λ l. l ++ b ∷ []) h.took ∙ append_assoc old.taken h.heard (b ∷ [])), all.whole ∙ f)
-
-done_from : (r : Reading Joined) (x : Joined) → whole_of r ≡ Some x → r ≡ Done x
-done_from (Done y) x e = cc
-done_from (Faulty g) x e = absurd cc
-done_from (Want more) x e = absurd cc
 
 -- The handshake is whole, and all was given.
 pub hearing_ends : (old now given : LinkState) (out : List ℕ) (hello said : HostTalk) (joined : Joined) (count : ℕ) → IsHearing old now hello
     → given ≡ with_given now out → ((stream : List ℕ) → HasHeard hello stream → fault_of (ahead hello) ≡ None → out ≡ drop hello.sent (said_to_host stream))
     → said ≡ record hello { sent = hello.sent + count } → whole_of (ahead said) ≡ Some joined → Hears old given joined
 hearing_ends old now given out hello said joined count h g o n e =
-    let done : ahead hello ≡ Done joined = done_from (ahead hello) joined (ap (λ t. whole_of (ahead t)) (sym n) ∙ e) in
+    let done : ahead hello ≡ Done joined = done_from (ahead hello) joined (sym (ap (λ t. whole_of (ahead t)) (sym n) ∙ e)) in
     let says : after host_hello h.heard ≡ Done joined = h.talk.whole ∙ done in
     let rest : out ≡ drop hello.sent all_said = o h.heard h.talk h.fine ∙ ap (drop hello.sent) (all_is_said h.heard joined says) in
     let size = joined_size h.heard joined says in

@@ -75,21 +75,19 @@ impl MemoryLink {
         ensures ok { IfOk result (λ link. link ≡ record { taken = []; given = []; failed = 0; ended = 0 }) }
         ensures err { IfErr result (λ fault. fault ≡ Memory) }
     {
-        match vec![in alloc; 0u8; most(gives.as_slice())] {
-            Ok(room) => Ok(MemoryLink {
-                sends,
-                taken: 0,
-                takes,
-                next_take: 0,
-                room,
-                given: 0,
-                gives,
-                next_give: 0,
-                failures: 0,
-                ends: 0,
-            }),
-            Err(_) => Err(Fault::Memory),
-        }
+        let room = vec![in alloc; 0u8; most(gives.as_slice())]?;
+        Ok(MemoryLink {
+            sends,
+            taken: 0,
+            takes,
+            next_take: 0,
+            room,
+            given: 0,
+            gives,
+            next_give: 0,
+            failures: 0,
+            ends: 0,
+        })
     }
 
     /// The bytes that were taken from the peer.

@@ -9,7 +9,7 @@ loop-init g c = (
   tt,
   tt,
   record {
-    room = omega (arith, c.in-Ok.ensures.len, c.in-Ok.buffer.ok.0);
+    room = omega (arith, c.in_ok-buffer.ensures.len, c.in_ok-buffer.buffer.ok.0);
     wide = refl;
     high = refl;
     painter = c.requires.painter;
@@ -21,7 +21,7 @@ loop-init g c = (
 
 pub returns-in_err-is_between-clause-err : goal.returns-in_err-is_between-clause-err
 returns-in_err-is_between-clause-err g c =
-    let p = err_from_is_err_and c.from_residual.result c.from_residual.ensures.1 in
+    let p = err_from_is_err_and c.from_residual-in_err-is_between.result c.from_residual-in_err-is_between.ensures.1 in
     let inv = c.loop.invariant.2 in
     let filled : c.as_slice.result.now ≡ c.take-took.new.into = c.as_slice.ensures.value ∙ with_items_is c.loop.buffer c.take-took.new.into (omega arith) in
     rw (p.1, p.2)
