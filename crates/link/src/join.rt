@@ -5,7 +5,7 @@ ghost use Rattle.link.specs.Joins.{Hears, Joins, LinkFails, FailsAs};
 
 use crate::link::{Gave, Link, Took};
 use pixel_format::{Fault, Format};
-use raster::Rect;
+use raster::{COPY_RECT, Encoding, Rect};
 use rfb_wire::{HostHello, Joined, write_request, write_set_encodings, write_set_pixel_format};
 use std::sync::Wait;
 
@@ -85,7 +85,13 @@ pub fn join_host<L: Link, R: Wait>(rt: &R, link: &mut L) -> Result<Joined, Fault
     write_set_pixel_format(&Format::HOST, &mut format);
     give_all(rt, link, &format)?;
     let mut encodings = [0; 20];
-    write_set_encodings(&[1, 5, 2, 0], &mut encodings);
+    let numbers = [
+        COPY_RECT,
+        Encoding::Hextile.number(),
+        Encoding::Rre.number(),
+        Encoding::Raw.number(),
+    ];
+    write_set_encodings(&numbers, &mut encodings);
     give_all(rt, link, &encodings)?;
     let screen = Rect {
         x: 0,
