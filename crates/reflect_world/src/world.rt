@@ -1,7 +1,6 @@
 //! A reflector on one thread, step by step.
 
 ghost use Rattle.std.specs.Prelude.{◌≡◌, ℕ, ◌<◌, ◌≤◌, ◌^◌, ◌↔◌, [], ◌∷◌, ◌++◌, false, length, map, take, IfOk, IfErr, OnOk, OnErr, IsTrue, IsSome};
-ghost use Rattle.std.specs.Option.{option_copied};
 ghost use Rattle.pixel_format.specs.declared.fault.Fault.TheVariants.{Memory};
 ghost use Rattle.viewer_session.specs.Session.{IsOneTile};
 ghost use Rattle.reflect_world.specs.Schedule.{Join, fault_at, written_of};
@@ -130,10 +129,12 @@ impl World {
     }
 
     /// The fault of the host's bytes, from the first `Put` on that finds no update left before it.
-    pub fn host_fault(&self) -> Option<&Fault>
-        ensures { option_copied result ≡ (world_of self.now).host_fault }
+    pub fn host_fault(&self) -> Option<Fault>
+        ensures { result ≡ (world_of self.now).host_fault }
     {
-        self.scene.host_fault()
+        let fault = self.scene.host_fault()?;
+        // A fault's clone takes no memory.
+        fault.clone().ok()
     }
 
     /// How many updates were put.
