@@ -1,20 +1,21 @@
 -- What follows once all bytes of a part have come.
-use Rattle.std.proofs.Common.{◌≡◌, ℕ, ◌<◌, ◌≤◌, Bool, true, false, List, [], length, map, inr, sym, ap, subst, ◌∙◌}
+use Rattle.std.proofs.Common.{◌≡◌, ℕ, ◌*◌, ◌<◌, ◌≤◌, Bool, true, false, List, [], length, map, take, inr, sym, ap, subst, ◌∙◌}
 use Rattle.std.specs.Prelude.{if◌then◌else◌, nat_le}
 use Rattle.std.proofs.lemmas.Bool.{lt-leb, le-leb}
 use Rattle.pixel_format.specs.PixelFormat.{host_format}
-use Rattle.pixel_format.specs.Reading.{Reading, Done, ◌>>=◌, after, bytes, padding}
+use Rattle.pixel_format.specs.Reading.{Reading, Done, ◌>>=◌, after, bytes, padding, u32, Spells}
 use Rattle.raster.specs.declared.rect.Rect.{Rect}
 use Rattle.raster.specs.Screen.{Canvas}
 use Rattle.raster.specs.Update.{Paint}
 use Rattle.painter.specs.Painter.{Painting}
-use Rattle.rfb_wire.specs.ServerMessage.{ServerMessage, ServerCutText, LostText, data_of}
+use Rattle.rfb_wire.specs.ServerHeads.{colour_map_head, text_head, update_head}
+use Rattle.rfb_wire.specs.ServerMessage.{ServerMessage, SetColorMapEntries, ServerCutText, LostText, data_of, set_color_map_entries}
 use Rattle.host_decoder.specs.declared.part.Part.TheVariants as part
 use Rattle.host_decoder.specs.declared.past.Passed.TheVariants as passed
 use Rattle.host_decoder.specs.declared.state.State.{State}
 use Rattle.host_decoder.specs.Updates.{in_colours}
 use Rattle.host_decoder.specs.Decoder.{GoesOn, Holds, PaintsNothing, Stands, form_of, keeping, passing, rectangles, with_others}
-use Rattle.host_decoder.proofs.HostParts.{part_full, short_at, long_at, text_of}
+use Rattle.host_decoder.proofs.HostParts.{head_read}
 
 -- Where nothing is painted the working raster shows what it did.
 pub nothing_painted : (painter : Painting) (state : State) (r : Reading ServerMessage) → Stands painter.width painter.height state painter.paints r → PaintsNothing state → GoesOn painter painter state r
@@ -35,18 +36,25 @@ outside_update painter sofar state r holds none stands still =
 
 -- ---- what is read behind a part
 
-pub behind_count : (w h : ℕ) (sofar : List Paint) (bs : List ℕ) (count : ℕ) → length bs ≡ 3 → sofar ≡ [] → count ≡ short_at bs 1 → after (form_of w h sofar part.Count) bs ≡ rectangles w h sofar count
-behind_count w h sofar bs count e none same = part_full w h sofar part.Count bs e ∙ (ap (λ n. rectangles w h [] n) (sym same) ∙ ap (λ ps. rectangles w h ps count) (sym none))
+pub behind_count : (w h : ℕ) (sofar : List Paint) (bs : List ℕ) (count : ℕ) → length bs ≡ 3 → sofar ≡ [] → Spells update_head (take 3 bs) count → after (form_of w h sofar part.Count) bs ≡ rectangles w h sofar count
+behind_count w h sofar bs count e none spells = head_read 3 update_head (λ n. rectangles w h [] n) bs count e spells ∙ ap (λ ps. rectangles w h ps count) (sym none)
 
-pub behind_encoding : (w h : ℕ) (sofar : List Paint) (left : ℕ) (area : Rect) (bs : List ℕ) (encoding : ℕ) → length bs ≡ 4 → encoding ≡ long_at bs 0
+pub behind_encoding : (w h : ℕ) (sofar : List Paint) (left : ℕ) (area : Rect) (bs : List ℕ) (encoding : ℕ) → length bs ≡ 4 → Spells u32 (take 4 bs) encoding
     → after (form_of w h sofar (part.Encoding left area)) bs ≡ with_others w h sofar left (data_of host_format w h area encoding)
-behind_encoding w h sofar left area bs encoding e same = part_full w h sofar (part.Encoding left area) bs e ∙ ap (λ n. with_others w h sofar left (data_of host_format w h area n)) (sym same)
+behind_encoding w h sofar left area bs encoding e spells = head_read 4 u32 (λ n. with_others w h sofar left (data_of host_format w h area n)) bs encoding e spells
+
+pub behind_colours : (bs : List ℕ) (count : ℕ) → length bs ≡ 5 → Spells colour_map_head (take 5 bs) count → passing (count * 6) passed.Colours ≡ after set_color_map_entries bs
+behind_colours bs count e spells = sym (head_read 5 colour_map_head (λ n. padding (n * 6) (Done SetColorMapEntries)) bs count e spells)
+
+-- What follows the length of a text.
+abbrev text_of : ℕ → Reading ServerMessage
+text_of len = if nat_le len 65536 then (bytes len >>= λ text. Done (ServerCutText text)) else padding len (Done (LostText len))
 
 chosen : (b : Bool) (len : ℕ) → nat_le len 65536 ≡ b → text_of len ≡ (if b then (bytes len >>= λ text. Done (ServerCutText text)) else padding len (Done (LostText len)))
 chosen b len e = ap (λ t. if t then (bytes len >>= λ text. Done (ServerCutText text)) else padding len (Done (LostText len))) e
 
-pub long_text : (w h : ℕ) (bs : List ℕ) (len : ℕ) → length bs ≡ 7 → len ≡ long_at bs 3 → 65536 < len → passing len (passed.Text len) ≡ after (form_of w h [] part.Length) bs
-long_text w h bs len e same lt = sym (part_full w h [] part.Length bs e ∙ (ap text_of (sym same) ∙ chosen false len (lt-leb len 65536 lt)))
+pub long_text : (w h : ℕ) (bs : List ℕ) (len : ℕ) → length bs ≡ 7 → Spells text_head (take 7 bs) len → 65536 < len → passing len (passed.Text len) ≡ after (form_of w h [] part.Length) bs
+long_text w h bs len e spells lt = sym (head_read 7 text_head text_of bs len e spells ∙ chosen false len (lt-leb len 65536 lt))
 
-pub short_text : (w h : ℕ) (bs : List ℕ) (len : ℕ) → length bs ≡ 7 → len ≡ long_at bs 3 → len ≤ 65536 → keeping [] len ≡ after (form_of w h [] part.Length) bs
-short_text w h bs len e same le = sym (part_full w h [] part.Length bs e ∙ (ap text_of (sym same) ∙ chosen true len (le-leb len 65536 le)))
+pub short_text : (w h : ℕ) (bs : List ℕ) (len : ℕ) → length bs ≡ 7 → Spells text_head (take 7 bs) len → len ≤ 65536 → keeping [] len ≡ after (form_of w h [] part.Length) bs
+short_text w h bs len e spells le = sym (head_read 7 text_head text_of bs len e spells ∙ chosen true len (le-leb len 65536 le))

@@ -1,26 +1,25 @@
 -- The source of a CopyRect, in pieces.
-use Rattle.std.proofs.Common.{◌≡◌, ℕ, ◌+◌, ◌-◌, ◌<◌, ◌≤◌, min, not, Bool, true, false, List, [], ◌∷◌, ◌++◌, take, drop, length, None, is_some, refl, sym, ap, ◌∙◌, arith}
+use Rattle.std.proofs.Common.{◌≡◌, ℕ, ◌+◌, ◌-◌, ◌<◌, ◌≤◌, min, not, Bool, true, false, List, [], ◌∷◌, ◌++◌, take, drop, length, inl, inr, refl, sym, ap, subst, ◌∙◌, arith}
+use Rattle.std.specs.Prelude.{nat_le}
+use Rattle.std.proofs.lemmas.Bool.{and_parts, cases_lt}
+use Rattle.std.proofs.lemmas.Bool.Decides.{nat_tests}
+use Rattle.std.specs.Int.{w16, from_be_bytes}
 use Rattle.std.proofs.lemmas.List.{take-append-drop, length-take, length-drop, length-append}
-use Rattle.pixel_format.specs.Reading.{Reading, Done, Faulty, Want, after, taken, wants_more, whole_of, fault_of, unless}
+use Rattle.pixel_format.specs.Reading.{Reading, Done, Faulty, after, taken, wants_more, unless}
 use Rattle.pixel_format.specs.declared.fault.Fault.TheVariants.{CopyOutside}
-use Rattle.pixel_format.proofs.ReadingLaws.{after-append, after-stays, taken-stays, taken-nil}
+use Rattle.pixel_format.proofs.ReadingLaws.{after-append, after_bind, after-stays, done, done_is, taken-append, taken-nil, taken-stays}
 use Rattle.raster.specs.declared.rect.Rect.{Rect}
-use Rattle.raster.specs.Screen.{is_within}
+use Rattle.raster.specs.Screen.{IsWithin, is_within}
 use Rattle.raster.specs.Update.{Paint, Copy}
 use Rattle.raster.proofs.FixedLength.{Needs, needs_takes, needs_after, needs_wants}
 use Rattle.rfb_wire.specs.ServerMessage.{copy_rect}
-use Rattle.host_decoder.specs.Data.{source_in}
+use Rattle.rfb_wire.specs.ServerHeads.{copy_source}
+use Rattle.host_decoder.specs.Data.{IsSource}
 
 -- ---- a form that needs so many bytes and then wants no more
 
 abbrev pub Closes : {A : Type 0} → ℕ → Reading A → Type 0
 Closes k form = (bs : List ℕ) → length bs ≡ k → wants_more (after form bs) ≡ false
-
-pub taken-append : {A : Type 0} (form : Reading A) (xs ys : List ℕ) → taken form xs ≡ length xs → taken form (xs ++ ys) ≡ length xs + taken (after form xs) ys
-taken-append form [] ys e = omega arith
-taken-append (Done x) (b ∷ xs) ys e = absurd (omega arith)
-taken-append (Faulty f) (b ∷ xs) ys e = absurd (omega arith)
-taken-append (Want more) (b ∷ xs) ys e = let h = taken-append (more b) xs ys (omega (arith, e)) in omega (arith, h)
 
 pub stays_behind : {A : Type 0} (r : Reading A) (ys : List ℕ) (missing : ℕ) → (missing ≡ 0 → wants_more r ≡ false) → (0 < length ys → missing ≡ 0) → (after r ys ≡ r) × (taken r ys ≡ 0)
 stays_behind r [] missing closed none = (refl, taken-nil r)
@@ -62,32 +61,55 @@ judged_closed w h area source = closed_by (is_within source w h) (Copy area sour
 judged_by : (b : Bool) (w h : ℕ) (area source : Rect) → is_within source w h ≡ b → judged w h area source ≡ unless (not b) CopyOutside (Done (Copy area source.x source.y))
 judged_by b w h area source e = ap (λ t. unless (not t) CopyOutside (Done (Copy area source.x source.y))) e
 
-copy_judged : (w h : ℕ) (area : Rect) (bs : List ℕ) → 4 ≤ length bs → after (copy_rect w h area) bs ≡ judged w h area (source_in area bs)
-copy_judged w h area [] le = absurd (omega arith)
-copy_judged w h area (a ∷ []) le = absurd (omega arith)
-copy_judged w h area (a ∷ b ∷ []) le = absurd (omega arith)
-copy_judged w h area (a ∷ b ∷ c ∷ []) le = absurd (omega arith)
-copy_judged w h area (a ∷ b ∷ c ∷ d ∷ bs) le =
-    after-stays (judged w h area (source_in area (a ∷ b ∷ c ∷ d ∷ bs))) bs (judged_closed w h area (source_in area (a ∷ b ∷ c ∷ d ∷ bs)))
+copy_judged : (w h : ℕ) (area source : Rect) (bs : List ℕ) → IsSource area bs source → after (copy_rect w h area) bs ≡ judged w h area source
+copy_judged w h area source bs is =
+    after_bind copy_source (λ place. judged w h area (record { x = place.0; y = place.1; w = area.w; h = area.h })) bs (source.x, source.y) is.0.whole is.0.says
+    ∙ (ap (λ n. judged w h area (record { x = source.x; y = source.y; w = n; h = area.h })) (sym is.1) ∙ ap (λ n. judged w h area (record { x = source.x; y = source.y; w = source.w; h = n })) (sym is.2))
 
 pub copy_closes : (w h : ℕ) (area : Rect) → Closes 4 (copy_rect w h area)
-copy_closes w h area bs e = rw (copy_judged w h area bs (omega (arith, e))) (judged_closed w h area (source_in area bs))
+copy_closes w h area [] e = absurd (omega arith)
+copy_closes w h area (a ∷ []) e = absurd (omega arith)
+copy_closes w h area (a ∷ b ∷ []) e = absurd (omega arith)
+copy_closes w h area (a ∷ b ∷ c ∷ []) e = absurd (omega arith)
+copy_closes w h area (a ∷ b ∷ c ∷ d ∷ []) e = judged_closed w h area (record { x = from_be_bytes w16 (a ∷ b ∷ []); y = from_be_bytes w16 (c ∷ d ∷ []); w = area.w; h = area.h })
+copy_closes w h area (a ∷ b ∷ c ∷ d ∷ f ∷ bs) e = absurd (omega arith)
 
 pub copy_open : (w h : ℕ) (area : Rect) (bs : List ℕ) → length bs < 4 → wants_more (after (copy_rect w h area) bs) ≡ true
 copy_open w h area bs lt = needs_wants (4 - length bs) (after (copy_rect w h area) bs) (needs_after 4 (4 - length bs) (copy_rect w h area) bs (copy_needs w h area) (omega arith)) (omega arith)
 
-pub copy_inside : (w h : ℕ) (area : Rect) (bs : List ℕ) → 4 ≤ length bs → is_within (source_in area bs) w h ≡ true → after (copy_rect w h area) bs ≡ Done (Copy area (source_in area bs).x (source_in area bs).y)
-copy_inside w h area bs le e = copy_judged w h area bs le ∙ judged_by true w h area (source_in area bs) e
+pub copy_inside : (w h : ℕ) (area source : Rect) (bs : List ℕ) → IsSource area bs source → is_within source w h ≡ true → after (copy_rect w h area) bs ≡ Done (Copy area source.x source.y)
+copy_inside w h area source bs is e = copy_judged w h area source bs is ∙ judged_by true w h area source e
 
-pub copy_outside : (w h : ℕ) (area : Rect) (bs : List ℕ) → 4 ≤ length bs → is_within (source_in area bs) w h ≡ false → after (copy_rect w h area) bs ≡ Faulty CopyOutside
-copy_outside w h area bs le e = copy_judged w h area bs le ∙ judged_by false w h area (source_in area bs) e
+pub copy_outside : (w h : ℕ) (area source : Rect) (bs : List ℕ) → IsSource area bs source → is_within source w h ≡ false → after (copy_rect w h area) bs ≡ Faulty CopyOutside
+copy_outside w h area source bs is e = copy_judged w h area source bs is ∙ judged_by false w h area source e
 
-pub open_no_fault : {A : Type 0} (r : Reading A) → wants_more r ≡ true → fault_of r ≡ None
-open_no_fault (Done x) e = refl
-open_no_fault (Faulty f) e = absurd cc
-open_no_fault (Want more) e = refl
+-- ---- the paint of a source that has come
 
-pub open_not_whole : {A : Type 0} (r : Reading A) → wants_more r ≡ true → is_some (whole_of r) ≡ false
-open_not_whole (Done x) e = absurd cc
-open_not_whole (Faulty f) e = refl
-open_not_whole (Want more) e = refl
+judged_done : (b : Bool) (painted other : Paint) → done painted ≡ unless (not b) CopyOutside (Done other) → (painted ≡ other) × (b ≡ true)
+judged_done true painted other e = (done_is painted other e, refl)
+judged_done false painted other e = absurd cc
+
+done_within : (w h : ℕ) (source : Rect) → is_within source w h ≡ true → IsWithin source w h
+done_within w h source e =
+    let both = and_parts (nat_le (source.x + source.w) w) (nat_le (source.y + source.h) h) e in
+    let across = both.0 in
+    let down = both.1 in
+    record { across = grind (arith, nat_tests, across); down = grind (arith, nat_tests, down) }
+
+-- Where it is known at four bytes, of at most four that have come, it lies on the screen.
+pub record IsCopy (w h : ℕ) (area source : Rect) (painted : Paint) : Type 0 where
+  pub paint : painted ≡ Copy area source.x source.y
+  pub inside : IsWithin (record { x = source.x; y = source.y; w = area.w; h = area.h }) w h
+
+pub copy_done : (w h : ℕ) (area source : Rect) (bs : List ℕ) (painted : Paint) → length bs ≤ 4 → (length bs ≡ 4 → IsSource area bs source) → Done painted ≡ after (copy_rect w h area) bs → IsCopy w h area source painted
+copy_done w h area source bs painted most known e =
+    elim (cases_lt (length bs) 4) [
+      | inl lt ↦ (let f : false ≡ true = ap wants_more e ∙ copy_open w h area bs lt in absurd cc)
+      | inr le ↦ (let is = known (omega (arith, most, le)) in
+          let found = judged_done (is_within source w h) painted (Copy area source.x source.y) (e ∙ copy_judged w h area source bs is) in
+          record {
+            paint = found.0;
+            inside = subst (λ n. IsWithin (record { x = source.x; y = source.y; w = n; h = area.h }) w h) is.1
+                (subst (λ n. IsWithin (record { x = source.x; y = source.y; w = source.w; h = n }) w h) is.2 (done_within w h source found.1));
+          })
+    ]

@@ -1,10 +1,10 @@
 -- A loop that feeds a piece to a decoder, step by step.
 use Rattle.std.proofs.Common.{◌≡◌, ℕ, ◌+◌, ◌≤◌, Bool, true, false, List, [], length, drop, ◌⊎◌, inl, inr, None, Result, Ok, Err, refl, sym, ap, subst, ◌∙◌, arith}
-use Rattle.std.proofs.lemmas.List.{drop_all, drop-drop}
+use Rattle.std.proofs.lemmas.List.{drop-drop, length-drop}
 use Rattle.pixel_format.specs.declared.fault.Fault.{Fault}
 use Rattle.pixel_format.specs.declared.fault.Fault.TheVariants.{Memory}
-use Rattle.pixel_format.specs.Reading.{Reading, Done, Faulty, Want, after, taken, wants_more, fault_of}
-use Rattle.pixel_format.proofs.ReadingLaws.{after-stays, taken-stays, taken-nil}
+use Rattle.pixel_format.specs.Reading.{Reading, Faulty, after, taken, fault_of}
+use Rattle.pixel_format.proofs.ReadingLaws.{faulty_is, faulty_is_not, none_left, none_wanted, wants_no_fault}
 use Rattle.raster.specs.Screen.{LooksLike}
 use Rattle.raster.specs.Update.{Paint, Update, after_updates}
 use Rattle.painter.specs.Painter.{Painting, shows}
@@ -31,11 +31,6 @@ open_waits (Passing past) e = refl
 open_waits (Whole event) e = absurd cc
 open_waits (Failed what) e = refl
 open_waits Refused e = refl
-
-wants_fine : (r : Reading ServerMessage) → wants_more r ≡ true → fault_of r ≡ None
-wants_fine (Done m) e = refl
-wants_fine (Faulty fault) e = absurd cc
-wants_fine (Want more) e = refl
 
 behind_more : (r mid next : Reading ServerMessage) (piece : List ℕ) (m n : ℕ) → fault_of mid ≡ None → IsBehind r mid piece m → IsBehind mid next (drop m piece) n → IsBehind r next piece (m + n)
 behind_more r mid next piece m n fine g h =
@@ -71,7 +66,7 @@ stands_more old now new before state next r piece used n ew eh o (inr s) painted
     let q : Reading ServerMessage = s.0 in
     let here : Stands now.width now.height state now.paints q = rw (ew, eh) (s.2) in
     let u = step q here in
-    let fine : fault_of q ≡ None = wants_fine q (open_wants old.width old.height state now.paints q o s.2) in
+    let fine : fault_of q ≡ None = wants_no_fault q (open_wants old.width old.height state now.paints q o s.2) in
     record {
       stands = stands_behind old now new next r q u.next piece used n ew eh (behind_more r q u.next piece used n fine s.1 u.behind_) u.goes_on.stands;
       repaints = painted_more old now new before state next o painted u.goes_on.repaints;
@@ -88,12 +83,9 @@ fed_more old now new before state next r piece used n ew eh o h step = stands_mo
 abbrev pub IsOver : State → List ℕ → ℕ → Type 0
 IsOver state piece used = (is_open state ≡ false) ⊎ (length piece ≤ used)
 
-none_left : (r : Reading ServerMessage) (bs : List ℕ) → bs ≡ [] → (after r bs ≡ r) × (taken r bs ≡ 0)
-none_left r bs e = (ap (after r) e, ap (taken r) e ∙ taken-nil r)
-
 is_over : (w h : ℕ) (state : State) (paints : List Paint) (next : Reading ServerMessage) (piece : List ℕ) (used : ℕ) → Stands w h state paints next → IsOver state piece used → (after next (drop used piece) ≡ next) × (taken next (drop used piece) ≡ 0)
-is_over w h state paints next piece used s (inl e) = let none = closed_wants w h state paints next e s in (after-stays next (drop used piece) none, taken-stays next (drop used piece) none)
-is_over w h state paints next piece used s (inr le) = none_left next (drop used piece) (drop_all used piece le)
+is_over w h state paints next piece used s (inl e) = none_wanted next (drop used piece) (closed_wants w h state paints next e s)
+is_over w h state paints next piece used s (inr le) = none_left next (drop used piece) (omega (arith, length-drop used piece, le))
 
 -- The decoder with this in it.
 abbrev pub decoding : ℕ → ℕ → State → Decoding
@@ -109,14 +101,14 @@ faulty_answer w h painter new r piece fault answer says s e = rw (e, says) (inr 
 
 answered : (w h : ℕ) (painter : Painting) (state new : State) (r next : Reading ServerMessage) (piece : List ℕ) (used : ℕ) (answer : Result ℕ Fault) → after r piece ≡ next → (fault_of next ≡ None → taken r piece ≡ used) → Stands w h state painter.paints next
     → Judges state new used answer → Feeds (decoding w h new) painter r piece answer
-answered w h painter (Fields fields) new r next piece used answer says count s j = fine_answer w h painter (Fields fields) new r next piece used answer says count (wants_fine next (open_wants w h (Fields fields) painter.paints next refl s)) s j.0 j.1
-answered w h painter (Pixels pending) new r next piece used answer says count s j = fine_answer w h painter (Pixels pending) new r next piece used answer says count (wants_fine next (open_wants w h (Pixels pending) painter.paints next refl s)) s j.0 j.1
+answered w h painter (Fields fields) new r next piece used answer says count s j = fine_answer w h painter (Fields fields) new r next piece used answer says count (wants_no_fault next (open_wants w h (Fields fields) painter.paints next refl s)) s j.0 j.1
+answered w h painter (Pixels pending) new r next piece used answer says count s j = fine_answer w h painter (Pixels pending) new r next piece used answer says count (wants_no_fault next (open_wants w h (Pixels pending) painter.paints next refl s)) s j.0 j.1
 answered w h painter (Spoiled reader) new r next piece used answer says count s j =
     let named = j.2 s.fault s.stands in
     let there : Stands w h (Spoiled j.0) painter.paints (Faulty s.fault) = record { fault = s.fault; stands = named.1; reads = refl } in
     faulty_answer w h painter new r piece s.fault answer (says ∙ s.reads) (subst (λ t. Stands w h t painter.paints (Faulty s.fault)) (sym j.1) there) named.0
-answered w h painter (Keeping kept) new r next piece used answer says count s j = fine_answer w h painter (Keeping kept) new r next piece used answer says count (wants_fine next (open_wants w h (Keeping kept) painter.paints next refl s)) s j.0 j.1
-answered w h painter (Passing past) new r next piece used answer says count s j = fine_answer w h painter (Passing past) new r next piece used answer says count (wants_fine next (open_wants w h (Passing past) painter.paints next refl s)) s j.0 j.1
+answered w h painter (Keeping kept) new r next piece used answer says count s j = fine_answer w h painter (Keeping kept) new r next piece used answer says count (wants_no_fault next (open_wants w h (Keeping kept) painter.paints next refl s)) s j.0 j.1
+answered w h painter (Passing past) new r next piece used answer says count s j = fine_answer w h painter (Passing past) new r next piece used answer says count (wants_no_fault next (open_wants w h (Passing past) painter.paints next refl s)) s j.0 j.1
 answered w h painter (Whole event) new r next piece used answer says count s j = fine_answer w h painter (Whole event) new r next piece used answer says count (ap fault_of s.reads) s j.0 j.1
 answered w h painter (Failed what) new r next piece used answer says count s j =
     let there : Stands w h (Failed what) painter.paints (Faulty (at_fault what)) = refl in
@@ -177,12 +169,6 @@ judged_refused (Whole event) new used answer e j = absurd cc
 judged_refused (Failed what) new used answer e j = absurd cc
 judged_refused Refused new used answer e j = (j.1, j.0)
 
-abbrev faulty : Fault → Reading ServerMessage
-faulty fault = Faulty fault
-
-abbrev done : ServerMessage → Reading ServerMessage
-done m = Done m
-
 open_or_closed : (b : Bool) → (b ≡ true → ⊥) → b ≡ false
 open_or_closed true n = absurd (n refl)
 open_or_closed false n = refl
@@ -190,23 +176,17 @@ open_or_closed false n = refl
 pub faulty_closed : (w h : ℕ) (state : State) (paints : List Paint) (fault : Fault) → Stands w h state paints (Faulty fault) → is_open state ≡ false
 faulty_closed w h state paints fault s = open_or_closed (is_open state) (λ o. let e : false ≡ true = open_wants w h state paints (Faulty fault) o s in absurd cc)
 
-fault_is : (fault found : Fault) → faulty fault ≡ faulty found → fault ≡ found
-fault_is fault found e = cc
-
-fault_is_not : (fault : Fault) (m : ServerMessage) → faulty fault ≡ done m → ⊥
-fault_is_not fault m e = cc
-
 pub judged_faulty : (w h : ℕ) (state new : State) (paints : List Paint) (used : ℕ) (answer : Result ℕ Fault) (fault : Fault) → is_open state ≡ false → Stands w h state paints (Faulty fault) → Judges state new used answer
     → (answer ≡ Err fault) × Stands w h new paints (Faulty fault)
 judged_faulty w h (Fields fields) new paints used answer fault o s j = absurd cc
 judged_faulty w h (Pixels pending) new paints used answer fault o s j = absurd cc
 judged_faulty w h (Spoiled reader) new paints used answer fault o s j =
     let named = j.2 s.fault s.stands in
-    let same : fault ≡ s.fault = fault_is fault s.fault s.reads in
+    let same : fault ≡ s.fault = faulty_is fault s.fault s.reads in
     let there : Stands w h (Spoiled j.0) paints (Faulty fault) = record { fault = s.fault; stands = named.1; reads = s.reads } in
     (named.0 ∙ ap (λ f. Err f) (sym same), subst (λ t. Stands w h t paints (Faulty fault)) (sym j.1) there)
 judged_faulty w h (Keeping kept) new paints used answer fault o s j = absurd cc
 judged_faulty w h (Passing past) new paints used answer fault o s j = absurd cc
-judged_faulty w h (Whole event) new paints used answer fault o s j = absurd (fault_is_not fault s.message s.reads)
-judged_faulty w h (Failed what) new paints used answer fault o s j = (j.1 ∙ ap (λ f. Err f) (sym (fault_is fault (at_fault what) s)), subst (λ t. Stands w h t paints (Faulty fault)) (sym j.0) s)
+judged_faulty w h (Whole event) new paints used answer fault o s j = absurd (faulty_is_not fault s.message s.reads)
+judged_faulty w h (Failed what) new paints used answer fault o s j = (j.1 ∙ ap (λ f. Err f) (sym (faulty_is fault (at_fault what) s)), subst (λ t. Stands w h t paints (Faulty fault)) (sym j.0) s)
 judged_faulty w h Refused new paints used answer fault o s j = absurd s

@@ -3,14 +3,13 @@ use Rattle.std.proofs.Common.{◌≡◌, ℕ, Bool, true, false, List, length, N
 use Rattle.std.specs.Prelude.{IsTrue, IsFalse}
 use Rattle.pixel_format.specs.Reading.{Reading, ◌>>=◌, after, taken, wants_more, fault_of}
 use Rattle.pixel_format.proofs.InOrder.{then_wants}
-use Rattle.pixel_format.proofs.ReadingLaws.{after_bind_open}
+use Rattle.pixel_format.proofs.ReadingLaws.{after_bind_open, taken-open, wants_no_fault}
 use Rattle.raster.specs.Update.{Paint}
 use Rattle.rfb_wire.specs.ServerMessage.{ServerMessage}
 use Rattle.host_decoder.specs.Data.{DataProgress, DataStands}
 use Rattle.host_decoder.specs.Pendings.{Unread, IsOpen}
 use Rattle.host_decoder.specs.Decoder.{InData, behind}
-use Rattle.host_decoder.proofs.Copies.{open_no_fault}
-use Rattle.host_decoder.proofs.RectangleData.{taken_all, taken_open}
+use Rattle.host_decoder.proofs.RectangleData.{taken_open}
 
 -- All of it is taken, and the message goes on.
 pub fed_inside : (w h : ℕ) (old new : Unread) (paints : List Paint) (r : Reading ServerMessage) (piece : List ℕ) → new.left ≡ old.left
@@ -19,13 +18,13 @@ pub fed_inside : (w h : ℕ) (old new : Unread) (paints : List Paint) (r : Readi
 fed_inside w h old new paints r piece left fed s =
     let b : Paint → Reading ServerMessage = behind w h s.sofar old.left in
     let next = fed s.reading s.stands in
-    let all : taken s.reading piece ≡ length piece = taken_all s.reading piece next.1 in
+    let all : taken s.reading piece ≡ length piece = taken-open s.reading piece next.1 in
     let goes : after r piece ≡ (after s.reading piece >>= b) = ap (λ (t : Reading ServerMessage). after t piece) s.reads ∙ after_bind_open s.reading b piece all in
     let wants : wants_more (after r piece) ≡ true = ap (λ (t : Reading ServerMessage). wants_more (after t piece)) s.reads ∙ then_wants s.reading b piece next.1 in
     let reads : after r piece ≡ (after s.reading piece >>= behind w h s.sofar new.left) = goes ∙ ap (λ (n : ℕ). after s.reading piece >>= behind w h s.sofar n) (sym left) in (
       record { sofar = s.sofar; holds = s.holds; reading = after s.reading piece; stands = next.0; wants = next.1; reads = reads },
       sym (ap (λ (t : Reading ServerMessage). taken t piece) s.reads ∙ taken_open s.reading b piece all),
-      open_no_fault (after r piece) wants,
+      wants_no_fault (after r piece) wants,
     )
 
 -- The data want another byte then, as they do where nothing is taken.

@@ -1,8 +1,8 @@
 -- Reading a thing, and telling it in another way.
-use Rattle.std.proofs.Common.{◌≡◌, ℕ, suc, List, [], ◌∷◌, Result, Ok, Err, refl, sym, ap, ◌∙◌, is_some}
+use Rattle.std.proofs.Common.{◌≡◌, ℕ, suc, List, [], ◌∷◌, Result, Ok, Err, refl, sym, ap, ◌∙◌}
 use Rattle.pixel_format.specs.declared.fault.Fault.{Fault}
-use Rattle.pixel_format.specs.Reading.{Reading, Done, Faulty, Want, ◌>>=◌, after, taken, whole_of, fault_of, Feeds}
-use Rattle.pixel_format.proofs.ReadingLaws.{after-done, after-faulty}
+use Rattle.pixel_format.specs.Reading.{Reading, Done, Faulty, Want, ◌>>=◌, after, taken, fault_of, Feeds}
+use Rattle.pixel_format.proofs.ReadingLaws.{after-done, after-faulty, done_is}
 use Rattle.raster.specs.declared.rect.Rect.{Rect}
 use Rattle.raster.specs.Update.{Paint, Put}
 use Rattle.host_decoder.specs.Data.{putting, FedAs}
@@ -26,17 +26,6 @@ pub told_fault : {A B : Type 0} (f : A → B) (r : Reading A) → fault_of (told
 told_fault f (Done x) = refl
 told_fault f (Faulty fault) = refl
 told_fault f (Want more) = refl
-
-pub told_whole : {A B : Type 0} (f : A → B) (r : Reading A) → is_some (whole_of (told f r)) ≡ is_some (whole_of r)
-told_whole f (Done x) = refl
-told_whole f (Faulty fault) = refl
-told_whole f (Want more) = refl
-
-abbrev done : {A : Type 0} → A → Reading A
-done x = Done x
-
-done_is : {A : Type 0} (x y : A) → done x ≡ done y → x ≡ y
-done_is x y e = cc
 
 pub told_done : {A B : Type 0} (f : A → B) (r : Reading A) (y : B) → told f r ≡ Done y → (x : A) × (r ≡ Done x) × (f x ≡ y)
 told_done f (Done x) y e = (x, refl, done_is (f x) y e)

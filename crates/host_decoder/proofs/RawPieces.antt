@@ -11,7 +11,7 @@ use Rattle.std.specs.Simd.{first_chunks}
 use Rattle.std.specs.Int.{w32, from_le_bytes}
 use Rattle.pixel_format.specs.PixelFormat.{host_format}
 use Rattle.pixel_format.specs.Reading.{Reading, Done, ◌>>=◌, after, taken, times, wants_more, whole_of, fault_of}
-use Rattle.pixel_format.proofs.ReadingLaws.{after-append, after-done, bind_assoc, bind_done}
+use Rattle.pixel_format.proofs.ReadingLaws.{after-append, after-done, bind_assoc, bind_done, done_is, none_whole, taken-append, wants_no_fault, wants_not_whole}
 use Rattle.pixel_format.proofs.InOrder.{then_wants}
 use Rattle.raster.specs.declared.rect.Rect.{Rect}
 use Rattle.raster.specs.Encoding.{pixel, raw}
@@ -20,7 +20,7 @@ use Rattle.raster.proofs.FixedLength.{Needs, exactly_pixel, needs_both, needs_fi
 use Rattle.host_decoder.specs.Updates.{colour_of, in_colours}
 use Rattle.host_decoder.specs.Data.{colour_in, putting, RawStands, RawTakes, IsPaintOf, FedAs}
 use Rattle.host_decoder.specs.DataParts.{RawProgress}
-use Rattle.host_decoder.proofs.Copies.{taken-append, stays_behind, open_no_fault, open_not_whole}
+use Rattle.host_decoder.proofs.Copies.{stays_behind}
 use Rattle.host_decoder.proofs.Mapping.{told_after, told_taken}
 
 -- The pixels that are still to come, behind those of some values.
@@ -208,7 +208,7 @@ pub no_fault : (area : Rect) (p : RawProgress) (reading : Reading Paint) → len
 no_fault area p reading short le s =
     elim (eq-or-lt_of_le le) [
       | inl e ↦ ap (λ (r : Reading Paint). fault_of r) (is_count area p reading s e)
-      | inr lt ↦ open_no_fault reading (wants_pixels area p reading short lt s)
+      | inr lt ↦ wants_no_fault reading (wants_pixels area p reading short lt s)
     ]
 
 pub closes : (area : Rect) (p : RawProgress) (reading : Reading Paint) → length p.colours ≡ p.count → RawStands area p reading → wants_more reading ≡ false
@@ -218,17 +218,8 @@ pub whole_at_count : (area : Rect) (p : RawProgress) (reading : Reading Paint) �
 whole_at_count area p reading short le s =
     elim (eq-or-lt_of_le le) [
       | inl e ↦ eq-eqb (length p.colours) p.count e ∙ sym (ap (λ (r : Reading Paint). is_some (whole_of r)) (is_count area p reading s e))
-      | inr lt ↦ ne_eqb (length p.colours) p.count (λ e. absurd (omega (arith, lt, e))) ∙ sym (open_not_whole reading (wants_pixels area p reading short lt s))
+      | inr lt ↦ ne_eqb (length p.colours) p.count (λ e. absurd (omega (arith, lt, e))) ∙ sym (wants_not_whole reading (wants_pixels area p reading short lt s))
     ]
-
-abbrev done : Paint → Reading Paint
-done painted = Done painted
-
-done_is : (a b : Paint) → done a ≡ done b → a ≡ b
-done_is a b e = cc
-
-done_wants_none : (painted : Paint) → wants_more (done painted) ≡ true → ⊥
-done_wants_none painted e = cc
 
 pub paint_at_count : (area : Rect) (p : RawProgress) (painted : Paint) → length p.begun < 4 → length p.colours ≤ p.count → RawStands area p (Done painted) → IsPaintOf area p.colours painted
 paint_at_count area p painted short le s =
@@ -238,7 +229,7 @@ paint_at_count area p painted short le s =
             same = ap (λ vs. Put area vs) (s.colours ∙ ap (map colour_of) (sym (append-nil s.values))) ∙ sym (ap in_colours same);
             count = e ∙ s.count;
           })
-      | inr lt ↦ absurd (done_wants_none painted (wants_pixels area p (Done painted) short lt s))
+      | inr lt ↦ (let none = none_whole (Done painted) (wants_pixels area p (Done painted) short lt s) in absurd cc)
     ]
 
 -- A slice that was written to its end.

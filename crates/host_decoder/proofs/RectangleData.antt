@@ -2,11 +2,10 @@
 use Rattle.std.proofs.Common.{◌≡◌, ℕ, zero, suc, true, false, List, [], ◌∷◌, ◌++◌, length, map, drop, All, None, is_some, inr, refl, sym, ap, subst, ◌∙◌, arith}
 use Rattle.std.proofs.lemmas.List.{drop_all, map-append}
 use Rattle.std.proofs.lemmas.List.Elements.{All-append}
-use Rattle.std.proofs.Math.Seq.{drop-nil}
 use Rattle.pixel_format.specs.declared.fault.Fault.{Fault}
 use Rattle.pixel_format.specs.Reading.{Reading, Done, Faulty, Want, ◌>>=◌, after, taken, wants_more, whole_of, fault_of}
 use Rattle.pixel_format.proofs.InOrder.{then_done, then_taken, then_faulty}
-use Rattle.pixel_format.proofs.ReadingLaws.{after_bind_open, after-faulty, after-done, taken-nil}
+use Rattle.pixel_format.proofs.ReadingLaws.{after_bind_open, after-faulty, none_from, taken-nil, taken-open, wants_from, whole_from}
 use Rattle.raster.specs.Painted.{Fits}
 use Rattle.raster.specs.Update.{Paint}
 use Rattle.painter.specs.Painter.{Painting, with_paints}
@@ -40,23 +39,13 @@ paint_added old new paint painted state sofar left is fits holds next =
 
 -- ---- what was fed to a rectangle's data
 
-whole_from : (r : Reading Paint) → is_some (whole_of r) ≡ true → (p : Paint) × (r ≡ Done p)
-whole_from (Done p) e = (p, refl)
-whole_from (Faulty fault) e = absurd cc
-whole_from (Want more) e = absurd cc
-
-wants_from : (r : Reading Paint) → is_some (whole_of r) ≡ false → fault_of r ≡ None → wants_more r ≡ true
-wants_from (Done p) e f = absurd cc
-wants_from (Faulty fault) e f = absurd cc
-wants_from (Want more) e f = refl
-
 -- They are whole.
 pub data_whole : (new : DataProgress) (bs : List ℕ) (r : Reading Paint) → DataStands new (after r bs) → is_some (whole_of (after r bs)) ≡ true → (p : Paint) × DataStands new (Done p)
 data_whole new bs r stands e = let whole = whole_from (after r bs) e in (whole.0, subst (λ s. DataStands new s) whole.1 stands)
 
 -- They want more.
 pub data_open : (new : DataProgress) (bs : List ℕ) (r : Reading Paint) → DataStands new (after r bs) → is_some (whole_of (after r bs)) ≡ false → fault_of (after r bs) ≡ None → IsOpen new
-data_open new bs r stands e f = record { reading = after r bs; stands = stands; wants = wants_from (after r bs) e f }
+data_open new bs r stands e f = record { reading = after r bs; stands = stands; wants = wants_from (after r bs) (none_from (after r bs) e) f }
 
 -- Where all is taken of the first thing, it is of both.
 pub taken_open : {A B : Type 0} (form : Reading A) (next : A → Reading B) (bs : List ℕ) → taken form bs ≡ length bs → taken (form >>= next) bs ≡ length bs
@@ -66,13 +55,6 @@ taken_open (Faulty f) next [] e = refl
 taken_open (Faulty f) next (b ∷ bs) e = absurd (omega arith)
 taken_open (Want more) next [] e = refl
 taken_open (Want more) next (b ∷ bs) e = ap suc (taken_open (more b) next bs (omega (arith, e)))
-
--- What wants more took all.
-pub taken_all : (r : Reading Paint) (bs : List ℕ) → wants_more (after r bs) ≡ true → taken r bs ≡ length bs
-taken_all r [] w = taken-nil r
-taken_all (Done x) (b ∷ bs) w = let e : false ≡ true = sym (ap wants_more (after-done x bs)) ∙ w in absurd cc
-taken_all (Faulty f) (b ∷ bs) w = let e : false ≡ true = sym (ap wants_more (after-faulty {A = Paint} f bs)) ∙ w in absurd cc
-taken_all (Want more) (b ∷ bs) w = ap suc (taken_all (more b) bs w)
 
 -- ---- a step over them
 
@@ -97,8 +79,8 @@ uses_open painter pending new left used bs sofar r count fine e is stands holds 
     let w : ℕ = painter.width in
     let h : ℕ = painter.height in
     let b : Paint → Reading ServerMessage = behind w h sofar left in
-    let wants : wants_more (after r bs) ≡ true = wants_from (after r bs) e fine in
-    let all : taken r bs ≡ length bs = taken_all r bs wants in
+    let wants : wants_more (after r bs) ≡ true = wants_from (after r bs) (none_from (after r bs) e) fine in
+    let all : taken r bs ≡ length bs = taken-open r bs wants in
     let over : drop used bs ≡ [] = drop_all used bs (omega (arith, count, all)) in
     let none : taken (after r bs >>= b) (drop used bs) ≡ 0 = ap (taken (after r bs >>= b)) over ∙ taken-nil (after r bs >>= b) in
     record {
@@ -122,9 +104,3 @@ uses_spoiled painter new left bs sofar r fault e stands =
       behind_ = record { says = then_faulty r b bs fault e ∙ sym (after-faulty fault (drop (length bs) bs)); count = λ f. absurd cc };
       goes_on = record { stands = inr (record { fault = fault; stands = subst (λ s. DataStands new s) e stands; reads = refl }); repaints = λ canvas same. same };
     }
-
--- Where there are no bytes reading goes on as it did.
-pub uses_none : (old new : Painting) (state : State) (r : Reading ServerMessage) (n : ℕ) → Uses old new state r [] n → GoesOn old new state r
-uses_none old new state r n u =
-    let same : r ≡ u.next = u.behind_.says ∙ ap (after u.next) (drop-nil n) in
-    subst (λ (s : Reading ServerMessage). GoesOn old new state s) (sym same) u.goes_on

@@ -1,14 +1,15 @@
 -- The rectangles of an update, one after another.
-use Rattle.std.proofs.Common.{◌≡◌, ℕ, suc, ◌-◌, ◌<◌, true, false, not, List, [], ◌∷◌, ◌++◌, length, All, inr, sym, ap, subst, ◌∙◌, append_assoc, arith}
+use Rattle.std.proofs.Common.{◌≡◌, ℕ, suc, ◌-◌, ◌<◌, true, false, not, List, [], ◌∷◌, ◌++◌, length, take, All, inr, sym, ap, subst, ◌∙◌, append_assoc, arith}
 use mathlib.Core.Path.{fun_ext}
 use Rattle.std.proofs.lemmas.List.{append-nil}
 use Rattle.pixel_format.proofs.InOrder.{unless_passes, unless_fails}
 use Rattle.pixel_format.proofs.ReadingLaws.{bind_assoc}
 use Rattle.pixel_format.specs.PixelFormat.{host_format}
 use Rattle.pixel_format.specs.declared.fault.Fault.TheVariants.{RectOutside}
-use Rattle.pixel_format.specs.Reading.{Reading, Done, Faulty, ◌>>=◌, after, times, u32}
+use Rattle.pixel_format.specs.Reading.{Reading, Done, Faulty, ◌>>=◌, after, times, u32, unless, Spells}
 use Rattle.raster.proofs.Screens.{looks_after}
 use Rattle.raster.specs.declared.rect.Rect.{Rect}
+use Rattle.raster.specs.Encoding.{rect}
 use Rattle.raster.specs.Painted.{Fits}
 use Rattle.raster.specs.Screen.{Canvas, LooksLike, is_within}
 use Rattle.raster.specs.Update.{Paint, Paints, after_paint, after_paints}
@@ -20,8 +21,8 @@ use Rattle.host_decoder.specs.declared.part.Part.{Part}
 use Rattle.host_decoder.specs.declared.part.Part.TheVariants as part
 use Rattle.host_decoder.specs.declared.state.State.TheVariants as state
 use Rattle.host_decoder.specs.Events.{sized}
-use Rattle.host_decoder.specs.Decoder.{GoesOn, Holds, InPart, form_of, rectangles, with_others, rect_in}
-use Rattle.host_decoder.proofs.HostParts.{part_full}
+use Rattle.host_decoder.specs.Decoder.{GoesOn, Holds, InPart, form_of, rectangles, with_others}
+use Rattle.host_decoder.proofs.HostParts.{head_read}
 
 -- One of them, and then the others.
 pub one_and_others : (w h : ℕ) (sofar : List Paint) (left : ℕ) → rectangles w h sofar (suc left) ≡ with_others w h sofar left (rectangle host_format w h)
@@ -77,22 +78,22 @@ to_end old new left patch sofar none is painted holds =
 
 -- ---- the place of a rectangle
 
-pub area_inside : (w h : ℕ) (sofar : List Paint) (left : ℕ) (bs : List ℕ) → length bs ≡ 8 → is_within (rect_in bs) w h ≡ true → after (form_of w h sofar (part.Area left)) bs ≡ form_of w h sofar (part.Encoding left (rect_in bs))
-area_inside w h sofar left bs e ok =
-    part_full w h sofar (part.Area left) bs e ∙ ap (with_others w h sofar left) (unless_passes (not (is_within (rect_in bs) w h)) RectOutside (u32 >>= data_of host_format w h (rect_in bs)) (ap not ok))
+-- What follows it.
+abbrev judged : ℕ → ℕ → Rect → Reading Paint
+judged w h area = unless (not (is_within area w h)) RectOutside (u32 >>= data_of host_format w h area)
 
-pub area_outside : (w h : ℕ) (sofar : List Paint) (left : ℕ) (bs : List ℕ) → length bs ≡ 8 → is_within (rect_in bs) w h ≡ false → after (form_of w h sofar (part.Area left)) bs ≡ Faulty RectOutside
-area_outside w h sofar left bs e out =
-    part_full w h sofar (part.Area left) bs e ∙ ap (with_others w h sofar left) (unless_fails (not (is_within (rect_in bs) w h)) RectOutside (u32 >>= data_of host_format w h (rect_in bs)) (ap not out))
+area_read : (w h : ℕ) (sofar : List Paint) (left : ℕ) (bs : List ℕ) (area : Rect) → length bs ≡ 8 → Spells rect (take 8 bs) area → after (form_of w h sofar (part.Area left)) bs ≡ with_others w h sofar left (judged w h area)
+area_read w h sofar left bs area e spells = head_read 8 rect (λ place. with_others w h sofar left (judged w h place)) bs area e spells
 
 pub encoding_next : (w h : ℕ) (paints sofar : List Paint) (left : ℕ) (bs : List ℕ) (area : Rect) (fields : Part × List ℕ)
-    → length bs ≡ 8 → area ≡ rect_in bs → is_within area w h ≡ true → fields ≡ (part.Encoding left area, []) → Holds w h paints sofar → InPart w h fields.0 fields.1 paints (after (form_of w h sofar (part.Area left)) bs)
-encoding_next w h paints sofar left bs area fields e same ok is holds =
+    → length bs ≡ 8 → Spells rect (take 8 bs) area → is_within area w h ≡ true → fields ≡ (part.Encoding left area, []) → Holds w h paints sofar → InPart w h fields.0 fields.1 paints (after (form_of w h sofar (part.Area left)) bs)
+encoding_next w h paints sofar left bs area fields e spells ok is holds =
     let r : Reading ServerMessage = after (form_of w h sofar (part.Area left)) bs in
-    let inside : is_within (rect_in bs) w h ≡ true = ap (λ a. is_within a w h) (sym same) ∙ ok in
-    let reads : r ≡ after (form_of w h sofar (part.Encoding left area)) [] = area_inside w h sofar left bs e inside ∙ ap (λ a. form_of w h sofar (part.Encoding left a)) (sym same) in
+    let reads : r ≡ after (form_of w h sofar (part.Encoding left area)) [] =
+    area_read w h sofar left bs area e spells ∙ ap (with_others w h sofar left) (unless_passes (not (is_within area w h)) RectOutside (u32 >>= data_of host_format w h area) (ap not ok)) in
     let here : InPart w h (part.Encoding left area) [] paints r = record { sofar = sofar; holds = holds; suited = tt; missing = omega arith; reads = reads } in
     subst (λ (f : Part × List ℕ). InPart w h f.0 f.1 paints r) (sym is) here
 
-pub area_fault : (w h : ℕ) (sofar : List Paint) (left : ℕ) (bs : List ℕ) (area : Rect) → length bs ≡ 8 → area ≡ rect_in bs → is_within area w h ≡ false → after (form_of w h sofar (part.Area left)) bs ≡ Faulty RectOutside
-area_fault w h sofar left bs area e same out = area_outside w h sofar left bs e (ap (λ a. is_within a w h) (sym same) ∙ out)
+pub area_fault : (w h : ℕ) (sofar : List Paint) (left : ℕ) (bs : List ℕ) (area : Rect) → length bs ≡ 8 → Spells rect (take 8 bs) area → is_within area w h ≡ false → after (form_of w h sofar (part.Area left)) bs ≡ Faulty RectOutside
+area_fault w h sofar left bs area e spells out =
+    area_read w h sofar left bs area e spells ∙ ap (with_others w h sofar left) (unless_fails (not (is_within area w h)) RectOutside (u32 >>= data_of host_format w h area) (ap not out))

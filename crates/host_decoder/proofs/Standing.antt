@@ -1,8 +1,9 @@
 -- What stands in a decoder tells whether it wants more.
 use Rattle.std.proofs.Common.{◌≡◌, ℕ, zero, suc, ◌<◌, true, false, List, [], None, refl, sym, ap, subst, ◌∙◌, arith}
 use Rattle.std.specs.Prelude.{option_map}
-use Rattle.pixel_format.specs.Reading.{Reading, Done, Faulty, Want, wants_more, whole_of, renewed}
+use Rattle.pixel_format.specs.Reading.{Reading, wants_more, whole_of, renewed}
 use Rattle.pixel_format.proofs.InOrder.{then_wants}
+use Rattle.pixel_format.proofs.ReadingLaws.{none_whole, renewed_from}
 use Rattle.raster.specs.Update.{Paint}
 use Rattle.rfb_wire.specs.ServerMessage.{ServerMessage}
 use Rattle.host_decoder.specs.declared.past.Passed.{Passed}
@@ -43,26 +44,16 @@ closed_wants w h (Whole event) paints r e s = ap wants_more s.reads
 closed_wants w h (Failed what) paints r e s = ap wants_more s
 closed_wants w h Refused paints r e s = absurd s
 
-wants_whole : (r : Reading ServerMessage) → wants_more r ≡ true → whole_of r ≡ None
-wants_whole (Done m) e = absurd cc
-wants_whole (Faulty fault) e = absurd cc
-wants_whole (Want more) e = refl
-
 -- A message is whole only where its event waits.
 pub not_whole : (w h : ℕ) (state : State) (paints : List Paint) (r : Reading ServerMessage) → ((event : HostEvent) → state ≡ Whole event → ⊥) → Stands w h state paints r → whole_of r ≡ None
-not_whole w h (Fields fields) paints r other s = wants_whole r (open_wants w h (Fields fields) paints r refl s)
-not_whole w h (Pixels pending) paints r other s = wants_whole r (open_wants w h (Pixels pending) paints r refl s)
+not_whole w h (Fields fields) paints r other s = none_whole r (open_wants w h (Fields fields) paints r refl s)
+not_whole w h (Pixels pending) paints r other s = none_whole r (open_wants w h (Pixels pending) paints r refl s)
 not_whole w h (Spoiled reader) paints r other s = ap whole_of s.reads
-not_whole w h (Keeping kept) paints r other s = wants_whole r (open_wants w h (Keeping kept) paints r refl s)
-not_whole w h (Passing past) paints r other s = wants_whole r (open_wants w h (Passing past) paints r refl s)
+not_whole w h (Keeping kept) paints r other s = none_whole r (open_wants w h (Keeping kept) paints r refl s)
+not_whole w h (Passing past) paints r other s = none_whole r (open_wants w h (Passing past) paints r refl s)
 not_whole w h (Whole event) paints r other s = absurd (other event refl)
 not_whole w h (Failed what) paints r other s = ap whole_of s
 not_whole w h Refused paints r other s = absurd s
-
-renewed_from : (form r : Reading ServerMessage) → whole_of r ≡ None → renewed form r ≡ r
-renewed_from form (Done m) e = absurd cc
-renewed_from form (Faulty fault) e = refl
-renewed_from form (Want more) e = refl
 
 -- Then nothing is given, and it goes on as it did.
 pub nothing_given : (w h : ℕ) (state : State) (paints : List Paint) (r : Reading ServerMessage) → ((event : HostEvent) → state ≡ Whole event → ⊥) → Stands w h state paints r

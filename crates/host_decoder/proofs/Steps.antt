@@ -1,12 +1,12 @@
 -- A step of a decoder over some bytes.
-use Rattle.std.proofs.Common.{◌≡◌, ℕ, zero, suc, ◌+◌, ◌-◌, ◌<◌, ◌≤◌, true, List, [], ◌∷◌, ◌++◌, min, length, take, drop, ◌⊎◌, inl, inr, refl, sym, ap, subst, ◌∙◌, append_assoc, arith}
-use mathlib.Core.Path.{fun_ext}
-use Rattle.std.proofs.lemmas.List.{append-nil, length-append, length-take, take-append-drop}
-use Rattle.pixel_format.specs.Reading.{Reading, Done, Faulty, Want, ◌>>=◌, step, after, taken, bytes, padding}
-use Rattle.pixel_format.proofs.ReadingLaws.{after-append, bind_assoc}
+use Rattle.std.proofs.Common.{◌≡◌, ℕ, ◌+◌, ◌-◌, ◌<◌, ◌≤◌, true, List, [], ◌++◌, min, length, take, drop, ◌⊎◌, inl, inr, sym, ap, subst, ◌∙◌, arith}
+use Rattle.std.proofs.lemmas.List.{length-append, length-take, take-append-drop}
+use Rattle.pixel_format.specs.Reading.{Reading, Done, after, taken, padding}
+use Rattle.pixel_format.proofs.ReadingLaws.{after-append, padding-after, padding-taken, taken-append}
 use Rattle.raster.specs.Screen.{Canvas}
 use Rattle.raster.specs.Update.{Paint}
 use Rattle.painter.specs.Painter.{Painting}
+use Rattle.rfb_wire.proofs.TextForms.{text_after, text_taken}
 use Rattle.rfb_wire.specs.ServerMessage.{ServerMessage, ServerCutText}
 use Rattle.host_decoder.specs.Parts.{Passed, len_of, message_of}
 use Rattle.host_decoder.specs.declared.part.Part.{Part}
@@ -14,13 +14,6 @@ use Rattle.host_decoder.specs.declared.state.State.{State}
 use Rattle.host_decoder.specs.declared.state.State.TheVariants as state
 use Rattle.host_decoder.specs.Decoder.{GoesOn, Holds, InPart, IsBehind, IsSuited, PaintsNothing, Stands, Uses, form_of, is_refused, keeping, passing}
 use Rattle.host_decoder.proofs.HostParts.{part_takes}
-
--- Where the first bytes are all taken, those behind them are taken after them.
-taken-append : {A : Type 0} (form : Reading A) (xs ys : List ℕ) → taken form xs ≡ length xs → taken form (xs ++ ys) ≡ length xs + taken (after form xs) ys
-taken-append form [] ys e = omega arith
-taken-append (Done x) (b ∷ xs) ys e = absurd (omega arith)
-taken-append (Faulty f) (b ∷ xs) ys e = absurd (omega arith)
-taken-append (Want more) (b ∷ xs) ys e = let h = taken-append (more b) xs ys (omega (arith, e)) in omega (arith, h)
 
 pub behind_first : (r : Reading ServerMessage) (bs : List ℕ) (n : ℕ) → n ≤ length bs → taken r (take n bs) ≡ n → IsBehind r (after r (take n bs)) bs n
 behind_first r bs n le all =
@@ -71,40 +64,6 @@ fields_end old new state p begun bs next all left n r len e le f is here then_ =
 
 -- ---- texts
 
-less_none : (n : ℕ) → n - 0 ≡ n
-less_none n = omega arith
-
-keeping_step : (kept : List ℕ) (left b : ℕ) → step (keeping kept (suc left)) b ≡ keeping (kept ++ b ∷ []) left
-keeping_step kept left b =
-    bind_assoc (bytes left) (λ others. Done (b ∷ others)) (λ others. Done (ServerCutText (kept ++ others)))
-    ∙ ap (λ (f : List ℕ → Reading ServerMessage). bytes left >>= f) (fun_ext (λ others. ap (λ t. Done (ServerCutText t)) (sym (append_assoc kept (b ∷ []) others))))
-
-keeping_after : (kept xs : List ℕ) (left : ℕ) → length xs ≤ left → after (keeping kept left) xs ≡ keeping (kept ++ xs) (left - length xs)
-keeping_after kept [] left le = ap (λ t. keeping t left) (sym (append-nil kept)) ∙ ap (λ n. keeping (kept ++ []) n) (sym (less_none left))
-keeping_after kept (b ∷ xs) zero le = absurd (omega arith)
-keeping_after kept (b ∷ xs) (suc left) le =
-    let e : suc left - length (b ∷ xs) ≡ left - length xs = omega arith in
-    ap (λ r. after r xs) (keeping_step kept left b) ∙ (keeping_after (kept ++ b ∷ []) xs left (omega arith) ∙ rw (e, append_assoc kept (b ∷ []) xs) refl)
-
-keeping_taken : (kept xs : List ℕ) (left : ℕ) → length xs ≤ left → taken (keeping kept left) xs ≡ length xs
-keeping_taken kept [] zero le = refl
-keeping_taken kept [] (suc left) le = refl
-keeping_taken kept (b ∷ xs) zero le = absurd (omega arith)
-keeping_taken kept (b ∷ xs) (suc left) le = ap suc (ap (λ r. taken r xs) (keeping_step kept left b) ∙ keeping_taken (kept ++ b ∷ []) xs left (omega arith))
-
-passing_after : (left : ℕ) (r : Reading ServerMessage) (xs : List ℕ) → length xs ≤ left → after (padding left r) xs ≡ padding (left - length xs) r
-passing_after left r [] le = ap (λ n. padding n r) (sym (less_none left))
-passing_after zero r (b ∷ xs) le = absurd (omega arith)
-passing_after (suc left) r (b ∷ xs) le =
-    let e : suc left - length (b ∷ xs) ≡ left - length xs = omega arith in
-    passing_after left r xs (omega arith) ∙ ap (λ n. padding n r) (sym e)
-
-passing_taken : (left : ℕ) (m : ServerMessage) (xs : List ℕ) → length xs ≤ left → taken (padding left (Done m)) xs ≡ length xs
-passing_taken zero m [] le = refl
-passing_taken (suc left) m [] le = refl
-passing_taken zero m (b ∷ xs) le = absurd (omega arith)
-passing_taken (suc left) m (b ∷ xs) le = ap suc (passing_taken left m xs (omega arith))
-
 -- Where nothing is painted.
 unpainted : (painter : Painting) (state : State) (r : Reading ServerMessage) → (is_refused state ≡ true) ⊎ Stands painter.width painter.height state painter.paints r → PaintsNothing state → GoesOn painter painter state r
 unpainted painter state r stands still = record { stands = stands; repaints = λ canvas same x y lx ly. same x y lx ly ∙ ap (λ (c : Canvas). c x y) (sym (still canvas)) }
@@ -117,8 +76,8 @@ pub text_uses : (painter : Painting) (kept : List ℕ) (left : ℕ) (state : Sta
     → (is_refused state ≡ true) ⊎ Stands painter.width painter.height state [] (keeping (kept ++ next) (left - length next)) → PaintsNothing state → Uses painter painter state r bs n
 text_uses painter kept left state bs next n r none reads e f stands still =
     let few : length (take n bs) ≡ n = omega (arith, length-take n bs) in
-    let same : keeping (kept ++ next) (left - length next) ≡ after r (take n bs) = rw (f, reads) (sym (keeping_after kept (take n bs) left (omega arith))) in
-    let all : taken r (take n bs) ≡ n = rw reads (keeping_taken kept (take n bs) left (omega arith) ∙ few) in
+    let same : keeping (kept ++ next) (left - length next) ≡ after r (take n bs) = rw (f, reads) (sym (text_after ServerCutText kept (take n bs) left (omega arith))) in
+    let all : taken r (take n bs) ≡ n = rw reads (text_taken ServerCutText kept (take n bs) left (omega arith) ∙ few) in
     let there = with_paints_of painter.width painter.height state painter.paints (after r (take n bs)) none (subst (λ q. (is_refused state ≡ true) ⊎ Stands painter.width painter.height state [] q) same stands) in
     record { next = after r (take n bs); behind_ = behind_first r bs n (omega arith) all; goes_on = unpainted painter state (after r (take n bs)) there still }
 
@@ -126,7 +85,7 @@ pub past_uses : (painter : Painting) (left : ℕ) (what : Passed) (state : State
     → Stands painter.width painter.height state [] (passing (left - n) what) → PaintsNothing state → Uses painter painter state r bs n
 past_uses painter left what state bs n r none reads e stands still =
     let few : length (take n bs) ≡ n = omega (arith, length-take n bs) in
-    let same : passing (left - n) what ≡ after r (take n bs) = rw reads (ap (λ k. padding (left - k) (Done (message_of what))) (sym few) ∙ sym (passing_after left (Done (message_of what)) (take n bs) (omega arith))) in
-    let all : taken r (take n bs) ≡ n = rw reads (passing_taken left (message_of what) (take n bs) (omega arith) ∙ few) in
+    let same : passing (left - n) what ≡ after r (take n bs) = rw reads (ap (λ k. padding (left - k) (Done (message_of what))) (sym few) ∙ sym (padding-after left (Done (message_of what)) (take n bs) (omega arith))) in
+    let all : taken r (take n bs) ≡ n = rw reads (padding-taken left (Done (message_of what)) (take n bs) (omega arith) ∙ few) in
     let there = with_paints_of painter.width painter.height state painter.paints (after r (take n bs)) none (inr (subst (λ q. Stands painter.width painter.height state [] q) same stands)) in
     record { next = after r (take n bs); behind_ = behind_first r bs n (omega arith) all; goes_on = unpainted painter state (after r (take n bs)) there still }

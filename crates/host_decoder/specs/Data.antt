@@ -1,14 +1,15 @@
 -- How reading the data of one rectangle of a host goes on (RFC 6143, 7.7).
-use Rattle.std.specs.Prelude.{◌≡◌, ℕ, ◌*◌, ◌-◌, List, [], ◌∷◌, ◌++◌, length, slice_index, map, Result, Ok, Err, None}
-use Rattle.std.specs.Int.{w16, w32, from_be_bytes, from_le_bytes}
+use Rattle.std.specs.Prelude.{◌≡◌, ℕ, ◌*◌, ◌-◌, List, ◌++◌, length, map, Result, Ok, Err, None}
+use Rattle.std.specs.Int.{w32, from_le_bytes}
 use Rattle.pixel_format.specs.PixelFormat.{host_format}
-use Rattle.pixel_format.specs.Reading.{Reading, Done, Faulty, ◌>>=◌, after, taken, times, fault_of}
+use Rattle.pixel_format.specs.Reading.{Reading, Done, Faulty, ◌>>=◌, after, taken, times, fault_of, Spells}
 use Rattle.pixel_format.specs.declared.fault.Fault.{Fault}
 use Rattle.raster.specs.declared.rect.Rect.{Rect}
 use Rattle.raster.specs.Encoding.{pixel, Drawing, drawn, tiled}
 use Rattle.raster.specs.Picture.{shown}
 use Rattle.raster.specs.Screen.{values_of}
 use Rattle.raster.specs.Update.{Paint, Put}
+use Rattle.rfb_wire.specs.ServerHeads.{copy_source}
 use Rattle.rfb_wire.specs.ServerMessage.{copy_rect}
 use Rattle.hextile_codec.specs.Ahead as hextile
 use Rattle.rre_codec.specs.Ahead as rre
@@ -54,15 +55,9 @@ pub record RawTakes (area : Rect) (new : RawProgress) (reading : Reading Paint) 
 abbrev pub CopyStands : ℕ → ℕ → Rect → List ℕ → Reading Paint → Type 0
 CopyStands w h area begun reading = reading ≡ after (copy_rect w h area) begun
 
--- The source of a rectangle in four bytes.
-abbrev pub source_in : Rect → List ℕ → Rect
-source_in area bytes =
-    record {
-      x = from_be_bytes w16 (slice_index bytes 0 ∷ slice_index bytes 1 ∷ []);
-      y = from_be_bytes w16 (slice_index bytes 2 ∷ slice_index bytes 3 ∷ []);
-      w = area.w;
-      h = area.h;
-    }
+-- The source of a rectangle that these bytes spell: the place that they name, of the rectangle's size.
+abbrev pub IsSource : Rect → List ℕ → Rect → Type 0
+IsSource area begun source = Spells copy_source begun (source.x, source.y) × (source.w ≡ area.w) × (source.h ≡ area.h)
 
 -- ---- RRE
 

@@ -1,11 +1,9 @@
 -- How reading a host's message goes on, by what its decoder and its painter hold (RFC 6143, 7.6).
-use Rattle.std.specs.Int.{w16, from_be_bytes}
-use Rattle.std.specs.Prelude.{◌≡◌, ℕ, ◌+◌, ◌<◌, drop, length, slice_index, Bool, true, false, List, [], ◌∷◌, ◌++◌, map, All, None, Result, Ok, Err, ◌⊎◌}
+use Rattle.std.specs.Prelude.{◌≡◌, ℕ, ◌+◌, ◌<◌, drop, length, Bool, true, false, List, [], ◌∷◌, ◌++◌, map, All, None, Result, Ok, Err, ◌⊎◌}
 use Rattle.pixel_format.specs.PixelFormat.{host_format}
 use Rattle.pixel_format.specs.declared.fault.Fault.{Fault}
 use Rattle.pixel_format.specs.declared.fault.Fault.TheVariants.{UnknownMessage, RectOutside, UnknownEncoding, Memory}
 use Rattle.pixel_format.specs.Reading.{Reading, Done, Faulty, ◌>>=◌, after, taken, bytes, padding, times, u32, wants_more, fault_of}
-use Rattle.raster.specs.declared.rect.Rect.{Rect}
 use Rattle.raster.specs.Painted.{Fits}
 use Rattle.raster.specs.Screen.{Canvas, IsWithin, LooksLike}
 use Rattle.raster.specs.Size.{IsScreenSize}
@@ -252,13 +250,3 @@ Judges (Passing past) new used answer = (new ≡ Passing past) × (answer ≡ Ok
 Judges (Whole event) new used answer = (new ≡ Whole event) × (answer ≡ Ok used)
 Judges (Failed what) new used answer = (new ≡ Failed what) × (answer ≡ Err (at_fault what))
 Judges Refused new used answer = (new ≡ Refused) × (answer ≡ Err Memory)
-
--- The rectangle in eight bytes.
-abbrev pub rect_in : List ℕ → Rect
-rect_in bytes =
-    record {
-      x = from_be_bytes w16 (slice_index bytes 0 ∷ slice_index bytes 1 ∷ []);
-      y = from_be_bytes w16 (slice_index bytes 2 ∷ slice_index bytes 3 ∷ []);
-      w = from_be_bytes w16 (slice_index bytes 4 ∷ slice_index bytes 5 ∷ []);
-      h = from_be_bytes w16 (slice_index bytes 6 ∷ slice_index bytes 7 ∷ []);
-    }

@@ -7,7 +7,7 @@ ghost use Rattle.raster.specs.Size.{IsScreenSize};
 ghost use Rattle.raster.specs.Update as update;
 ghost use Rattle.rfb_wire.specs.ClientMessage.{text};
 ghost use Rattle.rfb_wire.specs.ServerMessage.{LostText, ServerCutText, fields_of, set_color_map_entries};
-ghost use Rattle.host_decoder.specs.Decoder.{GoesOn, Holds, IsSuited, PaintsNothing, Stands, Stays, Suits, SuitsPart, form_of, rect_in};
+ghost use Rattle.host_decoder.specs.Decoder.{GoesOn, Holds, IsSuited, PaintsNothing, Stands, Stays, Suits, SuitsPart, form_of};
 ghost use Rattle.host_decoder.specs.declared.part.Part.TheVariants.{Area};
 ghost use Rattle.host_decoder.specs.Parts.{len_of};
 
@@ -20,20 +20,11 @@ use crate::state::{State, Wrong};
 use crate::update_data::{begin_data, next_rectangle};
 use painter::{Painter, Patch};
 use raster::Rect;
+use rfb_wire::{
+    BELL, FRAMEBUFFER_UPDATE, SERVER_CUT_TEXT, SET_COLOUR_MAP_ENTRIES, read_colour_map_head,
+    read_encoding, read_text_head, read_update_head,
+};
 use std::alloc::Global;
-
-/// The rectangle in eight bytes: x, y, width and height.
-fn area_of(b: &[u8]) -> Rect
-    requires { length b.now ≡ 8 }
-    ensures { result ≡ rect_in b.now }
-{
-    Rect {
-        x: u64::from(u16::from_be_bytes([b[0], b[1]])),
-        y: u64::from(u16::from_be_bytes([b[2], b[3]])),
-        w: u64::from(u16::from_be_bytes([b[4], b[5]])),
-        h: u64::from(u16::from_be_bytes([b[6], b[7]])),
-    }
-}
 
 /// What follows the type of a message.
 fn behind_kind(painter: &Painter, kind: u8) -> State
@@ -43,13 +34,13 @@ fn behind_kind(painter: &Painter, kind: u8) -> State
     ensures still { PaintsNothing result }
 {
     let part = match kind {
-        0 => Part::Count,
-        1 => Part::Colours,
-        2 => {
+        FRAMEBUFFER_UPDATE => Part::Count,
+        SET_COLOUR_MAP_ENTRIES => Part::Colours,
+        BELL => {
             let (width, height) = painter.size();
             return State::Whole(HostEvent::Bell(Patch::bell(width, height)));
         }
-        3 => Part::Length,
+        SERVER_CUT_TEXT => Part::Length,
         _ => return State::Failed(Wrong::Kind(kind)),
     };
     State::Fields(Fields::of(part))
@@ -63,7 +54,7 @@ fn behind_area(painter: &Painter, left: u16, b: &[u8]) -> State
         → Stands painter.now.width painter.now.height result painter.now.paints (after (form_of painter.now.width painter.now.height sofar (Area left)) b.now) }
     ensures still { PaintsNothing result }
 {
-    let area = area_of(b);
+    let area = Rect::read(b);
     let (width, height) = painter.size();
     if area.within(width, height) {
         State::Fields(Fields::of(Part::Encoding(left, area)))
@@ -79,7 +70,7 @@ fn behind_colours(b: &[u8]) -> State
     ensures suits { (w h : ℕ) → Suits w h result }
     ensures still { PaintsNothing result }
 {
-    let count = u16::from_be_bytes([b[3], b[4]]);
+    let count = read_colour_map_head(b);
     Past::begin(u32::from(count) * 6, Passed::Colours)
 }
 
@@ -91,7 +82,7 @@ fn behind_length(alloc: Global, painter: &Painter, b: &[u8]) -> State
     ensures stands { Stands painter.now.width painter.now.height result [] (after (text ServerCutText LostText) b.now) }
     ensures still { PaintsNothing result }
 {
-    let len = u32::from_be_bytes([b[3], b[4], b[5], b[6]]);
+    let len = read_text_head(b);
     if len > LONGEST_TEXT {
         return Past::begin(len, Passed::Text(len));
     }
@@ -110,12 +101,9 @@ pub(crate) fn complete(alloc: Global, painter: &mut Painter, part: Part, b: &[u8
 {
     match part {
         Part::Kind => behind_kind(painter, b[0]),
-        Part::Count => next_rectangle(painter, u16::from_be_bytes([b[1], b[2]])),
+        Part::Count => next_rectangle(painter, read_update_head(b)),
         Part::Area(left) => behind_area(painter, left, b),
-        Part::Encoding(left, area) => {
-            let encoding = u32::from_be_bytes([b[0], b[1], b[2], b[3]]);
-            begin_data(alloc, painter, left, area, encoding)
-        }
+        Part::Encoding(left, area) => { begin_data(alloc, painter, left, area, read_encoding(b)) }
         Part::Colours => behind_colours(b),
         Part::Length => behind_length(alloc, painter, b),
     }

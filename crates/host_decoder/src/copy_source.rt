@@ -3,10 +3,11 @@
 ghost use Rattle.std.specs.Prelude.{◌≡◌, ◌-◌, ◌≤◌, ◌++◌, ◌==◌, [], length, min, take, is_some};
 ghost use Rattle.pixel_format.specs.Reading.{Reading, after, whole_of};
 ghost use Rattle.raster.specs.Update.{Paint};
-ghost use Rattle.host_decoder.specs.Data.{CopyStands, source_in, FedAs};
+ghost use Rattle.host_decoder.specs.Data.{CopyStands, FedAs, IsSource};
 
 use pixel_format::Fault;
 use raster::Rect;
+use rfb_wire::read_copy_source;
 use std::marker::Model;
 
 /// How many bytes a source has: x and y, in two bytes each.
@@ -63,11 +64,13 @@ impl CopySource {
 
     /// The source of a rectangle, once all of its bytes have come.
     pub(crate) fn source(&self, area: &Rect) -> Rect
-        ensures { 4 ≤ length self.now → result ≡ source_in area.now self.now }
+        ensures value { length self.now ≡ 4 → IsSource area.now self.now result }
+        ensures most { length self.now ≤ 4 }
     {
+        let (x, y) = read_copy_source(&self.bytes);
         Rect {
-            x: u64::from(u16::from_be_bytes([self.bytes[0], self.bytes[1]])),
-            y: u64::from(u16::from_be_bytes([self.bytes[2], self.bytes[3]])),
+            x: u64::from(x),
+            y: u64::from(y),
             w: area.w,
             h: area.h,
         }

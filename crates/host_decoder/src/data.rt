@@ -18,7 +18,7 @@ use crate::hextile_data::HextileData;
 use crate::raw_data::RawPixels;
 use crate::rre_data::RreData;
 use pixel_format::Fault;
-use raster::{Paint, Rect};
+use raster::{COPY_RECT, Encoding, Paint, Rect};
 use std::alloc::Global;
 use std::marker::Model;
 
@@ -62,12 +62,12 @@ impl Data {
         ensures area { IfOk result (λ d. d.area ≡ area) }
         ensures err { IfErr result (λ fault. (fault ≡ Memory) ⊎ ((fault ≡ UnknownEncoding) × (data_of host_format width height area encoding ≡ Faulty UnknownEncoding))) }
     {
-        let body = match encoding {
-            0 => Body::Raw(RawPixels::new(alloc, (area.w * area.h) as usize)?),
-            1 => Body::Copy(CopySource::new()),
-            2 => Body::Rre(RreData::new(alloc, area.w, area.h)?),
-            5 => Body::Hextile(HextileData::new(alloc, area.w, area.h)?),
-            _ => return Err(Fault::UnknownEncoding),
+        let body = match Encoding::of_number(encoding) {
+            Some(Encoding::Raw) => Body::Raw(RawPixels::new(alloc, (area.w * area.h) as usize)?),
+            Some(Encoding::Rre) => Body::Rre(RreData::new(alloc, area.w, area.h)?),
+            Some(Encoding::Hextile) => Body::Hextile(HextileData::new(alloc, area.w, area.h)?),
+            None if encoding == COPY_RECT => Body::Copy(CopySource::new()),
+            None => return Err(Fault::UnknownEncoding),
         };
         Ok(Data {
             width,

@@ -45,15 +45,12 @@ impl RawPixels {
         ensures ok { IfOk result (λ r. (area : Rect) → count ≡ area.w * area.h → RawStands area r (putting area (pixels Raw host_format area.w area.h))) }
         ensures err { IfErr result (λ fault. fault ≡ Memory) }
     {
-        match Vec::with_capacity(alloc, count) {
-            Ok(colours) => Ok(RawPixels {
-                count,
-                colours,
-                begun: [0; PIXEL_LEN],
-                filled: 0,
-            }),
-            Err(_) => Err(Fault::Memory),
-        }
+        Ok(RawPixels {
+            count,
+            colours: Vec::with_capacity(alloc, count)?,
+            begun: [0; PIXEL_LEN],
+            filled: 0,
+        })
     }
 
     /// How many bytes are still to come.

@@ -1,18 +1,18 @@
 -- Reading a host's bytes message by message.
-use Rattle.std.proofs.Common.{◌≡◌, ℕ, suc, ◌+◌, ◌<◌, ◌≤◌, Bool, true, false, List, [], ◌∷◌, ◌++◌, length, take, drop, Some, None, Ok, Err, ◌^◌, ◌⊎◌, length-append, inl, inr, refl, sym, ap, subst, ◌∙◌, arith, append_assoc}
-use Rattle.std.proofs.lemmas.List.{append-nil, length-take, drop_all, take_all, take-append-drop}
+use Rattle.std.proofs.Common.{◌≡◌, ℕ, ◌+◌, ◌<◌, ◌≤◌, Bool, true, false, List, [], ◌∷◌, ◌++◌, length, take, drop, Some, None, Ok, Err, ◌^◌, ◌⊎◌, length-append, inl, inr, refl, sym, ap, subst, ◌∙◌, arith, append_assoc}
+use Rattle.std.proofs.lemmas.List.{append-nil, take_all, take-append-drop}
 use Rattle.std.proofs.lemmas.List.Elements.{filter_map-append}
 use Rattle.std.proofs.lemmas.Bool.{cases_lt}
 use Rattle.std.proofs.Math.Seq.{take-add}
 use Rattle.std.specs.Prelude.{min, option_map, Option, Result, OnOk, IfErr}
-use Rattle.link.specs.Links.{TakesAs, TookCounts, TookEnds}
+use Rattle.link.specs.Links.{LinkState, HasRisen, TakesAs, with_end, with_failure}
 use Rattle.link.specs.declared.link.Took.{Took}
 use Rattle.link.specs.declared.link.Took.TheVariants as took
 use Rattle.std.specs.List.{filter_map}
-use Rattle.pixel_format.specs.Reading.{Reading, Done, Faulty, Want, after, taken, whole_of, fault_of, wants_more, renewed, messages, rest, messages_from, rest_from}
+use Rattle.pixel_format.specs.Reading.{Reading, after, taken, whole_of, fault_of, wants_more, renewed, messages, rest, messages_from, rest_from}
 use Rattle.pixel_format.specs.declared.fault.Fault.{Fault}
 use Rattle.pixel_format.specs.declared.fault.Fault.TheVariants.{LinkEnded, LinkFailed, Memory, NumbersOut}
-use Rattle.pixel_format.proofs.ReadingLaws.{after-append, after-done, after-faulty, messages-append, rest-append, messages-open, messages-whole, rest-whole, taken-le, taken-nil, taken-some}
+use Rattle.pixel_format.proofs.ReadingLaws.{after-append, found_is, found_none, messages-append, messages-open, messages-taken, none_whole, renewed_from, rest-append, rest-further, rest-taken, taken-le, taken-open, taken-some, wants_from}
 use Rattle.raster.specs.Update.{Update}
 use Rattle.rfb_wire.specs.ServerMessage.{ServerMessage, FramebufferUpdate, SetColorMapEntries, Bell, ServerCutText, LostText}
 use Rattle.painter.specs.Painter.{Painting}
@@ -23,67 +23,6 @@ use Rattle.host_decoder.specs.declared.event.HostEvent.{HostEvent}
 use Rattle.reflect_core.specs.Plain.{IsPutRefusal}
 use Rattle.reflect_core.specs.Sequential.{Begins}
 use Rattle.host_reader.specs.Running.{AtFault, CanRead, EndsAt, EndsBetween, EndsWith, IsEventFor, IsInside, HasRead, Stops, outcome}
-
--- ---- one message
-
--- Where more is wanted after these bytes, all of them were taken.
-taken_open : {A : Type 0} (now : Reading A) (bs : List ℕ) → wants_more (after now bs) ≡ true → taken now bs ≡ length bs
-taken_open now [] w = taken-nil now
-taken_open (Done x) (b ∷ bs) w = let e : false ≡ true = sym (ap wants_more (after-done x bs)) ∙ w in absurd cc
-taken_open {A} (Faulty f) (b ∷ bs) w = let e : false ≡ true = sym (ap wants_more (after-faulty {A = A} f bs)) ∙ w in absurd cc
-taken_open (Want more) (b ∷ bs) w = ap suc (taken_open (more b) bs w)
-
--- The bytes that are taken are all that matters.
-after_taken : {A : Type 0} (now : Reading A) (bs : List ℕ) → after now (take (taken now bs) bs) ≡ after now bs
-after_taken (Done x) bs = sym (after-done x bs)
-after_taken (Faulty f) bs = sym (after-faulty f bs)
-after_taken (Want more) [] = refl
-after_taken (Want more) (b ∷ bs) = after_taken (more b) bs
-
-taken_taken : {A : Type 0} (now : Reading A) (bs : List ℕ) → taken now (take (taken now bs) bs) ≡ taken now bs
-taken_taken (Done x) bs = refl
-taken_taken (Faulty f) bs = refl
-taken_taken (Want more) [] = refl
-taken_taken (Want more) (b ∷ bs) = ap suc (taken_taken (more b) bs)
-
-taken_over : {A : Type 0} (now : Reading A) (bs : List ℕ) → drop (taken now (take (taken now bs) bs)) (take (taken now bs) bs) ≡ []
-taken_over now bs = let n = taken_taken now bs in let l = length-take (taken now bs) bs in drop_all (taken now (take (taken now bs) bs)) (take (taken now bs) bs) (omega (arith, n, l))
-
--- A message that is whole is the only one in the bytes that it takes, and the next begins behind them.
-whole_message : {A : Type 0} (form now : Reading A) (bs : List ℕ) (x : A) → wants_more now ≡ true → after now bs ≡ Done x → messages_from form now (take (taken now bs) bs) ≡ x ∷ []
-whole_message form now bs x w e =
-    messages-whole form now (take (taken now bs) bs) x w (after_taken now bs ∙ e) ∙ ap (λ (ys : List ℕ). x ∷ messages_from form form ys) (taken_over now bs)
-
-whole_rest : {A : Type 0} (form now : Reading A) (bs : List ℕ) (x : A) → wants_more now ≡ true → after now bs ≡ Done x → rest_from form now (take (taken now bs) bs) ≡ form
-whole_rest form now bs x w e =
-    rest-whole form now (take (taken now bs) bs) x w (after_taken now bs ∙ e) ∙ ap (λ (ys : List ℕ). rest_from form form ys) (taken_over now bs)
-
-open_is : {A : Type 0} (now : Reading A) → wants_more now ≡ true → whole_of now ≡ None
-open_is (Done x) w = absurd cc
-open_is (Faulty f) w = absurd cc
-open_is (Want more) w = refl
-
-wants_from : {A : Type 0} (now : Reading A) → whole_of now ≡ None → fault_of now ≡ None → wants_more now ≡ true
-wants_from (Done x) w f = absurd cc
-wants_from (Faulty g) w f = absurd cc
-wants_from (Want more) w f = refl
-
-renewed_open : {A : Type 0} (form now : Reading A) → whole_of now ≡ None → renewed form now ≡ now
-renewed_open form (Done x) w = absurd cc
-renewed_open form (Faulty f) w = refl
-renewed_open form (Want more) w = refl
-
--- What was found is of a whole message.
-pub found : {A B : Type 0} (f : A → B) (event : B) (now : Reading A) → Some event ≡ option_map f (whole_of now) → (x : A) × (now ≡ Done x) × (event ≡ f x)
-found f event (Done x) e = (x, refl, cc)
-found f event (Faulty g) e = absurd cc
-found f event (Want more) e = absurd cc
-
--- Where nothing is found no message is whole.
-pub found_none : {A B : Type 0} (f : A → B) (now : Reading A) → None ≡ option_map f (whole_of now) → whole_of now ≡ None
-found_none f (Done x) e = absurd cc
-found_none f (Faulty g) e = refl
-found_none f (Want more) e = refl
 
 -- ---- what a message brings
 
@@ -104,7 +43,7 @@ suited w h (LostText len) = tt
 -- An event is for the publisher's screen, which is the decoder's.
 pub event_suits : (w h dw dh pw ph : ℕ) (event : HostEvent) (now : Reading ServerMessage) → dw ≡ w → dh ≡ h → pw ≡ w → ph ≡ h → Some event ≡ option_map (event_of dw dh) (whole_of now) → IsEventFor pw ph event
 event_suits w h dw dh pw ph event now a b c d e =
-    let f = found (event_of dw dh) event now e in
+    let f = found_is (event_of dw dh) event now e in
     rw (c ∙ sym a, d ∙ sym b) (subst (λ (v : HostEvent). IsEventFor dw dh v) (sym f.2) (suited dw dh f.0))
 
 -- ---- the updates of more bytes
@@ -124,18 +63,13 @@ updates_same w h xs ys n =
     let open_ = messages-open (host_message w h) (rest (host_message w h) xs) ys n in
     updates_more w h xs ys ∙ (ap (λ (ms : List ServerMessage). updates w h xs ++ filter_map update_of ms) open_.0 ∙ append-nil (updates w h xs))
 
-rest_open : (w h : ℕ) (xs ys : List ℕ) → whole_of (after (rest (host_message w h) xs) ys) ≡ None → rest (host_message w h) (xs ++ ys) ≡ after (rest (host_message w h) xs) ys
-rest_open w h xs ys n =
-    let form = host_message w h in
-    rest-append form form xs ys ∙ (messages-open form (rest form xs) ys n).1
-
 -- ---- in the middle of a message
 
 -- Reading the bytes that begin a message is how the stream goes on.
 inside_rest : (w h : ℕ) (stream : List ℕ) (i : IsInside w h stream) → rest (host_message w h) stream ≡ after (host_message w h) i.begun
 inside_rest w h stream i =
     let form = host_message w h in
-    ap (rest form) i.bytes ∙ (rest-append form form i.whole i.begun ∙ (ap (λ (r : Reading ServerMessage). rest_from form r i.begun) i.between ∙ (messages-open form form i.begun (open_is (after form i.begun) i.wants)).1))
+    ap (rest form) i.bytes ∙ (rest-append form form i.whole i.begun ∙ (ap (λ (r : Reading ServerMessage). rest_from form r i.begun) i.between ∙ (messages-open form form i.begun (none_whole (after form i.begun) i.wants)).1))
 
 goes_inside : (w h : ℕ) (is_between : Bool) (stream more : List ℕ) → EndsAt is_between w h stream → 0 < length more → wants_more (after (rest (host_message w h) stream) more) ≡ true → IsInside w h (stream ++ more)
 goes_inside w h true stream more e some wants =
@@ -187,11 +121,11 @@ pub read_whole : (w h : ℕ) (decoder fed new : Decoding) (painter other : Paint
 read_whole w h decoder fed new painter other is_between stream left old now next count event wide high read feeds gives decodes put =
     let form = host_message w h in
     let r = rest form stream in
-    let f = found (event_of fed.width fed.height) event (after r left) gives in
+    let f = found_is (event_of fed.width fed.height) event (after r left) gives in
     let n : take count left ≡ take (taken r left) left = ap (λ k. take k left) feeds.1 in
     let ends : rest form (stream ++ take count left) ≡ form =
-    rest-append form form stream (take count left) ∙ (ap (λ (xs : List ℕ). rest_from form r xs) n ∙ whole_rest form r left f.0 read.wants f.1) in
-    let one : messages_from form r (take count left) ≡ f.0 ∷ [] = ap (λ (xs : List ℕ). messages_from form r xs) n ∙ whole_message form r left f.0 read.wants f.1 in
+    rest-append form form stream (take count left) ∙ (ap (λ (xs : List ℕ). rest_from form r xs) n ∙ rest-taken form r left f.0 read.wants f.1) in
+    let one : messages_from form r (take count left) ≡ f.0 ∷ [] = ap (λ (xs : List ℕ). messages_from form r xs) n ∙ messages-taken form r left f.0 read.wants f.1 in
     let more : updates w h (stream ++ take count left) ≡ updates w h stream ++ brought_by event =
     updates_more w h stream (take count left)
     ∙ (ap (λ (ms : List ServerMessage). updates w h stream ++ filter_map update_of ms) one ∙ ap (λ (us : List Update). updates w h stream ++ us) (sym (ap brought_by f.2 ∙ brings fed.width fed.height f.0))) in
@@ -214,12 +148,12 @@ read_open w h decoder fed new painter other is_between stream left old now count
     let r = rest form stream in
     let none : whole_of (after r left) ≡ None = found_none (event_of fed.width fed.height) (after r left) gives in
     let wants : wants_more (after r left) ≡ true = wants_from (after r left) none feeds.2 in
-    let all : count ≡ length left = feeds.1 ∙ taken_open r left wants in
+    let all : count ≡ length left = feeds.1 ∙ taken-open r left wants in
     let whole : take count left ≡ left = take_all count left (omega (arith, all)) in
-    let goes : rest form (stream ++ left) ≡ after r left = rest_open w h stream left none in
+    let goes : rest form (stream ++ left) ≡ after r left = rest-further (host_message w h) (host_message w h) stream left none in
     let inside : HasRead w h new other false (stream ++ left) old now =
     record {
-      reads = subst (λ (q : Reading ServerMessage). Decodes new other q) (renewed_open (host_message fed.width fed.height) (after r left) none ∙ sym goes) decodes;
+      reads = subst (λ (q : Reading ServerMessage). Decodes new other q) (renewed_from (host_message fed.width fed.height) (after r left) none ∙ sym goes) decodes;
       wants = ap wants_more goes ∙ wants;
       ends = goes_inside w h is_between stream left read.ends some wants;
       put = read.put ∙ ap (λ (us : List Update). old ++ us) (sym (updates_same w h stream left none));
@@ -235,7 +169,7 @@ read_stops w h decoder fed painter other is_between stream left whole old now fa
     let r = rest (host_message w h) stream in
     let none : whole_of (after r left) ≡ None = ap whole_of faulty.0 in
     let at : AtFault w h fault (stream ++ left) old now =
-    record { put = read.put ∙ ap (λ (us : List Update). old ++ us) (sym (updates_same w h stream left none)); rest = rest_open w h stream left none ∙ faulty.0 } in
+    record { put = read.put ∙ ap (λ (us : List Update). old ++ us) (sym (updates_same w h stream left none)); rest = rest-further (host_message w h) (host_message w h) stream left none ∙ faulty.0 } in
     inr (subst (λ (xs : List ℕ). AtFault w h fault xs old now) e at)
 
 why_refused : (count : ℕ) (fault : Fault) → IsPutRefusal count fault → (fault ≡ Memory) ⊎ ((fault ≡ NumbersOut) × (count ≡ 2 ^ 62))
@@ -257,16 +191,20 @@ put_stops w h decoder painter is_between stream left whole old now next fault e 
 
 -- ---- the loop over pieces
 
--- Since the link had taken some bytes and the publisher had the updates old, these bytes more were taken, and all was read and put.
-pub record IsRunning (w h : ℕ) (decoder : Decoding) (painter : Painting) (is_between : Bool) (taken_old taken_now : List ℕ) (old now : List Update) : Type 0 where
+-- Since the link stood as old and the publisher had the updates old, these bytes more were taken, and all was read and put. The link was given nothing, and neither failed nor ended.
+pub record IsRunning (w h : ℕ) (decoder : Decoding) (painter : Painting) (is_between : Bool) (link_old link_now : LinkState) (old now : List Update) : Type 0 where
   pub stream : List ℕ
-  pub taken : taken_now ≡ taken_old ++ stream
+  pub took : link_now ≡ record link_old { taken = link_old.taken ++ stream }
   pub read : HasRead w h decoder painter is_between stream old now
 
-pub running_begins : (decoder : Decoding) (painter : Painting) (taken_old : List ℕ) (old : List Update) → Decodes decoder painter (host_message decoder.width decoder.height)
-    → IsRunning decoder.width decoder.height decoder painter true taken_old taken_old old old
-running_begins decoder painter taken_old old decodes =
-    record { stream = []; taken = sym (append-nil taken_old); read = record { reads = decodes; wants = refl; ends = refl; put = sym (append-nil old) } }
+pub running_begins : (decoder : Decoding) (painter : Painting) (link : LinkState) (old : List Update) → Decodes decoder painter (host_message decoder.width decoder.height)
+    → IsRunning decoder.width decoder.height decoder painter true link link old old
+running_begins decoder painter link old decodes =
+    record {
+      stream = [];
+      took = ap (λ (bs : List ℕ). record link { taken = bs }) (sym (append-nil link.taken));
+      read = record { reads = decodes; wants = refl; ends = refl; put = sym (append-nil old) };
+    }
 
 -- ---- more is wanted
 
@@ -275,7 +213,7 @@ pub can_whole : (fed new : Decoding) (other : Painting) (now : Reading ServerMes
     → Decodes new other (renewed (host_message fed.width fed.height) now) → CanRead new other
 can_whole fed new other now event gives decodes =
     let form = host_message fed.width fed.height in
-    let f = found (event_of fed.width fed.height) event now gives in
+    let f = found_is (event_of fed.width fed.height) event now gives in
     record { reading = form; reads = subst (λ (q : Reading ServerMessage). Decodes new other q) (ap (λ (q : Reading ServerMessage). renewed form q) f.1) decodes; wants = refl }
 
 -- And inside one more of it.
@@ -283,120 +221,123 @@ pub can_open : (fed new : Decoding) (other : Painting) (now : Reading ServerMess
     → Decodes new other (renewed (host_message fed.width fed.height) now) → CanRead new other
 can_open fed new other now gives fine decodes =
     let none = found_none (event_of fed.width fed.height) now gives in
-    record { reading = now; reads = subst (λ (q : Reading ServerMessage). Decodes new other q) (renewed_open (host_message fed.width fed.height) now none) decodes; wants = wants_from now none fine }
+    record { reading = now; reads = subst (λ (q : Reading ServerMessage). Decodes new other q) (renewed_from (host_message fed.width fed.height) now none) decodes; wants = wants_from now none fine }
 
 -- What stands at the front of the buffer was taken.
-pub took_piece : (taken_old taken_new into seen piece : List ℕ) (count : ℕ) → piece ≡ take count seen → seen ≡ into → taken_new ≡ taken_old ++ take count into → taken_new ≡ taken_old ++ piece
-took_piece taken_old taken_new into seen piece count front same took = took ∙ ap (λ (xs : List ℕ). taken_old ++ xs) (sym (front ∙ ap (take count) same))
+pub took_piece : (old new : LinkState) (into seen piece : List ℕ) (count : ℕ) → piece ≡ take count seen → seen ≡ into → new ≡ record old { taken = old.taken ++ take count into } → new ≡ record old { taken = old.taken ++ piece }
+took_piece old new into seen piece count front same took = took ∙ ap (λ (xs : List ℕ). record old { taken = old.taken ++ xs }) (sym (front ∙ ap (take count) same))
+
+-- One piece and then another.
+took_more : (old now next : LinkState) (stream piece : List ℕ) → now ≡ record old { taken = old.taken ++ stream } → next ≡ record now { taken = now.taken ++ piece } → next ≡ record old { taken = old.taken ++ (stream ++ piece) }
+took_more old now next stream piece first took =
+    took ∙ (ap (λ (l : LinkState). record l { taken = l.taken ++ piece }) first ∙ ap (λ (bs : List ℕ). record old { taken = bs }) (append_assoc old.taken stream piece))
 
 -- A piece more was taken, and read to its end.
-pub running_goes_on : (w h : ℕ) (decoder new : Decoding) (painter other : Painting) (is_between goes_between : Bool) (taken_old taken_now taken_next piece : List ℕ) (old now next : List Update)
-    → decoder.width ≡ w → decoder.height ≡ h → IsRunning w h decoder painter is_between taken_old taken_now old now → taken_next ≡ taken_now ++ piece
+pub running_goes_on : (w h : ℕ) (decoder new : Decoding) (painter other : Painting) (is_between goes_between : Bool) (link_old link_now link_next : LinkState) (piece : List ℕ) (old now next : List Update)
+    → decoder.width ≡ w → decoder.height ≡ h → IsRunning w h decoder painter is_between link_old link_now old now → link_next ≡ record link_now { taken = link_now.taken ++ piece }
     → ((stream : List ℕ) → (since : List Update) → HasRead decoder.width decoder.height decoder painter is_between stream since now → HasRead decoder.width decoder.height new other goes_between (stream ++ piece) since next)
-    → IsRunning w h new other goes_between taken_old taken_next old next
-running_goes_on w h decoder new painter other is_between goes_between taken_old taken_now taken_next piece old now next wide high running took puts =
+    → IsRunning w h new other goes_between link_old link_next old next
+running_goes_on w h decoder new painter other is_between goes_between link_old link_now link_next piece old now next wide high running took puts =
     let read = subst (λ a. HasRead a decoder.height decoder painter is_between running.stream old now) (sym wide) (subst (λ b. HasRead w b decoder painter is_between running.stream old now) (sym high) running.read) in
     let more = puts running.stream old read in
     record {
       stream = running.stream ++ piece;
-      taken = took ∙ (ap (λ (xs : List ℕ). xs ++ piece) running.taken ∙ append_assoc taken_old running.stream piece);
+      took = took_more link_old link_now link_next running.stream piece running.took took;
       read = subst (λ a. HasRead a h new other goes_between (running.stream ++ piece) old next) wide (subst (λ b. HasRead decoder.width b new other goes_between (running.stream ++ piece) old next) high more);
     }
 
 -- Or it wasn't.
-pub running_stops : (w h : ℕ) (decoder : Decoding) (painter : Painting) (is_between : Bool) (taken_old taken_now taken_next piece : List ℕ) (old now next : List Update) (fault : Fault) (failed_old failed_new : ℕ) (ended_old ended_new : ℕ)
-    → decoder.width ≡ w → decoder.height ≡ h → IsRunning w h decoder painter is_between taken_old taken_now old now → taken_next ≡ taken_now ++ piece
+pub running_stops : (w h : ℕ) (decoder : Decoding) (painter : Painting) (is_between : Bool) (link_old link_now link_next : LinkState) (piece : List ℕ) (old now next : List Update) (fault : Fault)
+    → decoder.width ≡ w → decoder.height ≡ h → IsRunning w h decoder painter is_between link_old link_now old now → link_next ≡ record link_now { taken = link_now.taken ++ piece }
     → ((stream : List ℕ) → (since : List Update) → HasRead decoder.width decoder.height decoder painter is_between stream since now → Stops decoder.width decoder.height fault (stream ++ piece) since next)
-    → EndsWith w h fault taken_old taken_next failed_old failed_new ended_old ended_new old next
-running_stops w h decoder painter is_between taken_old taken_now taken_next piece old now next fault failed_old failed_new ended_old ended_new wide high running took stops =
+    → EndsWith w h fault link_old link_next old next
+running_stops w h decoder painter is_between link_old link_now link_next piece old now next fault wide high running took stops =
     let read = subst (λ a. HasRead a decoder.height decoder painter is_between running.stream old now) (sym wide) (subst (λ b. HasRead w b decoder painter is_between running.stream old now) (sym high) running.read) in
     let stopped = stops running.stream old read in
     record {
       stream = running.stream ++ piece;
-      taken = took ∙ (ap (λ (xs : List ℕ). xs ++ piece) running.taken ∙ append_assoc taken_old running.stream piece);
+      taken = ap (λ (l : LinkState). l.taken) (took_more link_old link_now link_next running.stream piece running.took took);
       stops = inr (subst (λ a. Stops a h fault (running.stream ++ piece) old next) wide (subst (λ b. Stops decoder.width b fault (running.stream ++ piece) old next) high stopped));
     }
 
-rises_by : (limit old now new : ℕ) → now ≡ old → new ≡ min limit (now + 1) → (old < limit) ⊎ (limit ≤ old) → (old < new) ⊎ (new ≡ limit)
-rises_by limit old now new same next (inl lt) = inl (omega (arith, same, next, lt))
-rises_by limit old now new same next (inr le) = inr (omega (arith, same, next, le))
+rises_by : (limit old new : ℕ) → new ≡ min limit (old + 1) → (old < limit) ⊎ (limit ≤ old) → (old < new) ⊎ (new ≡ limit)
+rises_by limit old new next (inl lt) = inl (omega (arith, next, lt))
+rises_by limit old new next (inr le) = inr (omega (arith, next, le))
+
+rises : (old new : ℕ) → new ≡ min (2 ^ 62) (old + 1) → HasRisen old new
+rises old new next = rises_by (2 ^ 62) old new next (cases_lt old (2 ^ 62))
 
 -- The link failed.
-pub running_fails : (w h : ℕ) (decoder : Decoding) (painter : Painting) (is_between : Bool) (taken_old taken_now taken_next : List ℕ) (old now : List Update) (failed_old failed_now failed_new : ℕ) (ended_old ended_new : ℕ)
-    → IsRunning w h decoder painter is_between taken_old taken_now old now → taken_next ≡ taken_now → failed_now ≡ failed_old → failed_new ≡ min (2 ^ 62) (failed_now + 1)
-    → EndsWith w h LinkFailed taken_old taken_next failed_old failed_new ended_old ended_new old now
-running_fails w h decoder painter is_between taken_old taken_now taken_next old now failed_old failed_now failed_new ended_old ended_new running took same next =
-    record { stream = running.stream; taken = took ∙ running.taken; stops = inl (running.read.put, rises_by (2 ^ 62) failed_old failed_now failed_new same next (cases_lt failed_old (2 ^ 62))) }
+running_fails : (w h : ℕ) (decoder : Decoding) (painter : Painting) (is_between : Bool) (link_old link_now link_next : LinkState) (old now : List Update)
+    → IsRunning w h decoder painter is_between link_old link_now old now → link_next ≡ with_failure link_now → EndsWith w h LinkFailed link_old link_next old now
+running_fails w h decoder painter is_between link_old link_now link_next old now running failed =
+    let last : link_next ≡ with_failure (record link_old { taken = link_old.taken ++ running.stream }) = failed ∙ ap with_failure running.took in
+    record { stream = running.stream; taken = ap (λ (l : LinkState). l.taken) last; stops = inl (running.read.put, rises link_old.failed link_next.failed (ap (λ (l : LinkState). l.failed) last)) }
 
 -- The link said that it ended, between two messages.
-pub running_ends : (w h : ℕ) (decoder : Decoding) (painter : Painting) (is_between : Bool) (taken_old taken_now taken_next : List ℕ) (old now : List Update) (ended_old ended_now ended_new : ℕ)
-    → is_between ≡ true → IsRunning w h decoder painter is_between taken_old taken_now old now → taken_next ≡ taken_now → ended_now ≡ ended_old → ended_new ≡ min (2 ^ 62) (ended_now + 1)
-    → EndsBetween w h taken_old taken_next ended_old ended_new old now
-running_ends w h decoder painter is_between taken_old taken_now taken_next old now ended_old ended_now ended_new between running took same next =
+running_ends : (w h : ℕ) (decoder : Decoding) (painter : Painting) (link_old link_now link_next : LinkState) (old now : List Update)
+    → IsRunning w h decoder painter true link_old link_now old now → link_next ≡ with_end link_now → EndsBetween w h link_old link_next old now
+running_ends w h decoder painter link_old link_now link_next old now running ended =
+    let last : link_next ≡ with_end (record link_old { taken = link_old.taken ++ running.stream }) = ended ∙ ap with_end running.took in
     record {
       stream = running.stream;
-      taken = took ∙ running.taken;
+      taken = ap (λ (l : LinkState). l.taken) last;
       put = running.read.put;
-      between = subst (λ b. EndsAt b w h running.stream) between running.read.ends;
-      ended = rises_by (2 ^ 62) ended_old ended_now ended_new same next (cases_lt ended_old (2 ^ 62));
+      between = running.read.ends;
+      ended = rises link_old.ended link_next.ended (ap (λ (l : LinkState). l.ended) last);
+      failed = ap (λ (l : LinkState). l.failed) last;
     }
 
 -- Or inside one.
-pub running_ends_inside : (w h : ℕ) (decoder : Decoding) (painter : Painting) (is_between : Bool) (taken_old taken_now taken_next : List ℕ) (old now : List Update) (failed_old failed_new : ℕ) (ended_old ended_now ended_new : ℕ)
-    → is_between ≡ false → IsRunning w h decoder painter is_between taken_old taken_now old now → taken_next ≡ taken_now → ended_now ≡ ended_old → ended_new ≡ min (2 ^ 62) (ended_now + 1)
-    → EndsWith w h LinkEnded taken_old taken_next failed_old failed_new ended_old ended_new old now
-running_ends_inside w h decoder painter is_between taken_old taken_now taken_next old now failed_old failed_new ended_old ended_now ended_new inside running took same next =
-    let rises = rises_by (2 ^ 62) ended_old ended_now ended_new same next (cases_lt ended_old (2 ^ 62)) in
-    record { stream = running.stream; taken = took ∙ running.taken; stops = inl (running.read.put, (rises, subst (λ b. EndsAt b w h running.stream) inside running.read.ends)) }
+running_ends_inside : (w h : ℕ) (decoder : Decoding) (painter : Painting) (link_old link_now link_next : LinkState) (old now : List Update)
+    → IsRunning w h decoder painter false link_old link_now old now → link_next ≡ with_end link_now → EndsWith w h LinkEnded link_old link_next old now
+running_ends_inside w h decoder painter link_old link_now link_next old now running ended =
+    let last : link_next ≡ with_end (record link_old { taken = link_old.taken ++ running.stream }) = ended ∙ ap with_end running.took in
+    record {
+      stream = running.stream;
+      taken = ap (λ (l : LinkState). l.taken) last;
+      stops = inl (running.read.put, (rises link_old.ended link_next.ended (ap (λ (l : LinkState). l.ended) last), running.read.ends));
+    }
 
 -- ---- one answer of the link
 
 -- What ends nothing and brings no bytes changes nothing.
-pub waits_on : (answer : Took) (is_between : Bool) (ends : Option (Result (Unit {0}) Fault)) (taken_old taken_new into : List ℕ) (failed_old failed_new ended_old ended_new : ℕ)
-    → ends ≡ outcome answer is_between → ends ≡ None → ((count : ℕ) → answer ≡ took.Bytes count → ⊥)
-    → TakesAs answer taken_old taken_new into → TookCounts answer failed_old failed_new → TookEnds answer ended_old ended_new
-    → (taken_new ≡ taken_old) × (failed_new ≡ failed_old) × (ended_new ≡ ended_old)
-waits_on (took.Bytes count) is_between ends taken_old taken_new into failed_old failed_new ended_old ended_new is none never takes counts rises = absurd (never count refl)
-waits_on took.Nothing is_between ends taken_old taken_new into failed_old failed_new ended_old ended_new is none never takes counts rises = (takes, counts, rises)
-waits_on took.End true ends taken_old taken_new into failed_old failed_new ended_old ended_new is none never takes counts rises = absurd cc
-waits_on took.End false ends taken_old taken_new into failed_old failed_new ended_old ended_new is none never takes counts rises = absurd cc
-waits_on took.Failed is_between ends taken_old taken_new into failed_old failed_new ended_old ended_new is none never takes counts rises = absurd cc
+pub waits_on : (answer : Took) (is_between : Bool) (ends : Option (Result (Unit {0}) Fault)) (old new : LinkState) (into : List ℕ)
+    → ends ≡ outcome answer is_between → ends ≡ None → ((count : ℕ) → answer ≡ took.Bytes count → ⊥) → TakesAs answer old new into → new ≡ old
+waits_on (took.Bytes count) is_between ends old new into is none never takes = absurd (never count refl)
+waits_on took.Nothing is_between ends old new into is none never takes = takes
+waits_on took.End true ends old new into is none never takes = absurd cc
+waits_on took.End false ends old new into is none never takes = absurd cc
+waits_on took.Failed is_between ends old new into is none never takes = absurd cc
+
+-- Whatever it answers, a link that takes is given nothing.
+pub gives_nothing : (said : Took) (old new : LinkState) (into : List ℕ) → TakesAs said old new into → new.given ≡ old.given
+gives_nothing (took.Bytes count) old new into takes = ap (λ (l : LinkState). l.given) takes.2
+gives_nothing took.Nothing old new into takes = ap (λ (l : LinkState). l.given) takes
+gives_nothing took.End old new into takes = ap (λ (l : LinkState). l.given) takes
+gives_nothing took.Failed old new into takes = ap (λ (l : LinkState). l.given) takes
+
+-- Nor was it so far.
+pub running_given : (w h : ℕ) (decoder : Decoding) (painter : Painting) (is_between : Bool) (link_old link_now : LinkState) (old now : List Update) → IsRunning w h decoder painter is_between link_old link_now old now → link_now.given ≡ link_old.given
+running_given w h decoder painter is_between link_old link_now old now running = ap (λ (l : LinkState). l.given) running.took
 
 -- What the run then answers, and what was put.
-pub record EndsSo (w h : ℕ) (taken_old taken_new : List ℕ) (old new : List Update) (failed_old failed_new ended_old ended_new : ℕ) (answer : Result (Unit {0}) Fault) : Type 0 where
-  pub ok : OnOk answer (EndsBetween w h taken_old taken_new ended_old ended_new old new)
-  pub failed : OnOk answer (failed_new ≡ failed_old)
-  pub err : IfErr answer (λ fault. EndsWith w h fault taken_old taken_new failed_old failed_new ended_old ended_new old new)
+pub record EndsSo (w h : ℕ) (link_old link_new : LinkState) (old new : List Update) (answer : Result (Unit {0}) Fault) : Type 0 where
+  pub ok : OnOk answer (EndsBetween w h link_old link_new old new)
+  pub err : IfErr answer (λ fault. EndsWith w h fault link_old link_new old new)
 
 -- The link's answer ends the run.
 pub run_ends : (w h : ℕ) (decoder : Decoding) (painter : Painting) (said : Took) (is_between : Bool) (ends : Option (Result (Unit {0}) Fault)) (answer : Result (Unit {0}) Fault)
-    (taken_old taken_now taken_next into : List ℕ) (old now : List Update) (failed_old failed_now failed_new ended_old ended_now ended_new : ℕ)
-    → ends ≡ outcome said is_between → ends ≡ Some answer → IsRunning w h decoder painter is_between taken_old taken_now old now → failed_now ≡ failed_old → ended_now ≡ ended_old
-    → TakesAs said taken_now taken_next into → TookCounts said failed_now failed_new → TookEnds said ended_now ended_new
-    → EndsSo w h taken_old taken_next old now failed_old failed_new ended_old ended_new answer
-run_ends w h decoder painter (took.Bytes count) is_between ends answer taken_old taken_now taken_next into old now failed_old failed_now failed_new ended_old ended_now ended_new is ended running f e takes counts rises = absurd cc
-run_ends w h decoder painter took.Nothing is_between ends answer taken_old taken_now taken_next into old now failed_old failed_now failed_new ended_old ended_now ended_new is ended running f e takes counts rises = absurd cc
-run_ends w h decoder painter took.End true ends answer taken_old taken_now taken_next into old now failed_old failed_now failed_new ended_old ended_now ended_new is ended running f e takes counts rises =
+    (link_old link_now link_next : LinkState) (into : List ℕ) (old now : List Update)
+    → ends ≡ outcome said is_between → ends ≡ Some answer → IsRunning w h decoder painter is_between link_old link_now old now → TakesAs said link_now link_next into → EndsSo w h link_old link_next old now answer
+run_ends w h decoder painter (took.Bytes count) is_between ends answer link_old link_now link_next into old now is ended running takes = absurd cc
+run_ends w h decoder painter took.Nothing is_between ends answer link_old link_now link_next into old now is ended running takes = absurd cc
+run_ends w h decoder painter took.End true ends answer link_old link_now link_next into old now is ended running takes =
     let same : Ok tt ≡ answer = cc in
-    subst (EndsSo w h taken_old taken_next old now failed_old failed_new ended_old ended_new) same
-    (record {
-      ok = running_ends w h decoder painter true taken_old taken_now taken_next old now ended_old ended_now ended_new refl running takes e rises;
-      failed = counts ∙ f;
-      err = tt;
-    })
-run_ends w h decoder painter took.End false ends answer taken_old taken_now taken_next into old now failed_old failed_now failed_new ended_old ended_now ended_new is ended running f e takes counts rises =
+    subst (EndsSo w h link_old link_next old now) same (record { ok = running_ends w h decoder painter link_old link_now link_next old now running takes; err = tt })
+run_ends w h decoder painter took.End false ends answer link_old link_now link_next into old now is ended running takes =
     let same : Err LinkEnded ≡ answer = cc in
-    subst (EndsSo w h taken_old taken_next old now failed_old failed_new ended_old ended_new) same
-    (record {
-      ok = tt;
-      failed = tt;
-      err = running_ends_inside w h decoder painter false taken_old taken_now taken_next old now failed_old failed_new ended_old ended_now ended_new refl running takes e rises;
-    })
-run_ends w h decoder painter took.Failed is_between ends answer taken_old taken_now taken_next into old now failed_old failed_now failed_new ended_old ended_now ended_new is ended running f e takes counts rises =
+    subst (EndsSo w h link_old link_next old now) same (record { ok = tt; err = running_ends_inside w h decoder painter link_old link_now link_next old now running takes })
+run_ends w h decoder painter took.Failed is_between ends answer link_old link_now link_next into old now is ended running takes =
     let same : Err LinkFailed ≡ answer = cc in
-    subst (EndsSo w h taken_old taken_next old now failed_old failed_new ended_old ended_new) same
-    (record {
-      ok = tt;
-      failed = tt;
-      err = running_fails w h decoder painter is_between taken_old taken_now taken_next old now failed_old failed_now failed_new ended_old ended_new running takes f counts;
-    })
+    subst (EndsSo w h link_old link_next old now) same (record { ok = tt; err = running_fails w h decoder painter is_between link_old link_now link_next old now running takes })

@@ -5,7 +5,7 @@ use Rattle.pixel_format.specs.declared.fault.Fault.{Fault}
 use Rattle.pixel_format.specs.declared.fault.Fault.TheVariants.{LinkEnded, LinkFailed, Memory, NumbersOut}
 use Rattle.raster.specs.Update.{Update}
 use Rattle.painter.specs.Painter.{Painting}
-use Rattle.link.specs.Links.{HasRisen}
+use Rattle.link.specs.Links.{LinkState, HasRisen}
 use Rattle.link.specs.declared.link.Took.{Took}
 use Rattle.link.specs.declared.link.Took.TheVariants as took
 use Rattle.rfb_wire.specs.ServerMessage.{ServerMessage}
@@ -59,25 +59,26 @@ pub record AtFault (w h : ℕ) (fault : Fault) (stream : List ℕ) (old new : Li
 abbrev pub Stops : ℕ → ℕ → Fault → (stream : List ℕ) → (old new : List Update) → Type 0
 Stops w h fault stream old new = AreCut w h fault stream old new ⊎ AtFault w h fault stream old new
 
--- The link said in the meantime that it ended, between two messages.
-pub record EndsBetween (w h : ℕ) (taken_old taken_new : List ℕ) (ended_old ended_new : ℕ) (old new : List Update) : Type 0 where
+-- The link said in the meantime that it ended, between two messages, and it didn't fail.
+pub record EndsBetween (w h : ℕ) (link_old link_new : LinkState) (old new : List Update) : Type 0 where
   pub stream : List ℕ
-  pub taken : taken_new ≡ taken_old ++ stream
+  pub taken : link_new.taken ≡ link_old.taken ++ stream
   pub put : ArePut w h stream old new
   pub between : EndsAt true w h stream
-  pub ended : HasRisen ended_old ended_new
+  pub ended : HasRisen link_old.ended link_new.ended
+  pub failed : link_new.failed ≡ link_old.failed
 
 -- The link failed in the meantime, or it said that it ended, inside a message.
-abbrev pub LinkStops : ℕ → ℕ → Fault → (stream : List ℕ) → (failed_old failed_new : ℕ) → (ended_old ended_new : ℕ) → Type 0
-LinkStops w h LinkFailed stream failed_old failed_new ended_old ended_new = HasRisen failed_old failed_new
-LinkStops w h LinkEnded stream failed_old failed_new ended_old ended_new = HasRisen ended_old ended_new × IsInside w h stream
-LinkStops w h _ stream failed_old failed_new ended_old ended_new = ⊥
+abbrev pub LinkStops : ℕ → ℕ → Fault → (stream : List ℕ) → (link_old link_new : LinkState) → Type 0
+LinkStops w h LinkFailed stream link_old link_new = HasRisen link_old.failed link_new.failed
+LinkStops w h LinkEnded stream link_old link_new = HasRisen link_old.ended link_new.ended × IsInside w h stream
+LinkStops w h _ stream link_old link_new = ⊥
 
 -- Why it ends otherwise. What was put stays.
-pub record EndsWith (w h : ℕ) (fault : Fault) (taken_old taken_new : List ℕ) (failed_old failed_new : ℕ) (ended_old ended_new : ℕ) (old new : List Update) : Type 0 where
+pub record EndsWith (w h : ℕ) (fault : Fault) (link_old link_new : LinkState) (old new : List Update) : Type 0 where
   pub stream : List ℕ
-  pub taken : taken_new ≡ taken_old ++ stream
-  pub stops : (ArePut w h stream old new × LinkStops w h fault stream failed_old failed_new ended_old ended_new) ⊎ Stops w h fault stream old new
+  pub taken : link_new.taken ≡ link_old.taken ++ stream
+  pub stops : (ArePut w h stream old new × LinkStops w h fault stream link_old link_new) ⊎ Stops w h fault stream old new
 
 -- What is answered where an answer of the link ends the run: the host's bytes so far end between two messages, or inside one.
 abbrev pub outcome : Took → Bool → Option (Result (Unit {0}) Fault)

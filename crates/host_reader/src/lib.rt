@@ -1,4 +1,7 @@
 //! Reads a host's messages from a link, and puts their updates (RFC 6143, section 7.6).
+//!
+//! `run_host` takes room for a piece of 65,536 bytes once; reading and putting may take more. It waits for the host, so
+//! it takes a handle that may wait.
 #![tactic(auto)]
 
 mod events;

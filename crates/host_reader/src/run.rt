@@ -1,6 +1,6 @@
 //! The host's side of the reflector.
 
-ghost use Rattle.std.specs.Prelude.{◌≡◌, ℕ, ◌++◌, IfErr, OnOk};
+ghost use Rattle.std.specs.Prelude.{◌≡◌, IfErr, OnOk};
 ghost use Rattle.host_decoder.specs.Decoder.{Decodes, IsFor, host_message};
 ghost use Rattle.host_reader.specs.Running.{EndsBetween, EndsWith, outcome};
 
@@ -50,15 +50,11 @@ pub fn run_host<L: Link, P: Puts, R: Wait>(
     ensures decoder { (decoder.new.width ≡ decoder.old.width) × (decoder.new.height ≡ decoder.old.height) }
     ensures painter { IsFor decoder.new painter.new }
     ensures publisher { (P.width publisher.new ≡ P.width publisher.old) × (P.height publisher.new ≡ P.height publisher.old) }
-    ensures given { L.given link.new ≡ L.given link.old }
-    ensures ok { OnOk result (EndsBetween decoder.old.width decoder.old.height (L.taken link.old) (L.taken link.new) (L.ended link.old) (L.ended link.new) (P.updates publisher.old) (P.updates publisher.new)) }
-    ensures failed { OnOk result (L.failed link.new ≡ L.failed link.old) }
-    ensures err { IfErr result (λ fault. EndsWith decoder.old.width decoder.old.height fault (L.taken link.old) (L.taken link.new) (L.failed link.old) (L.failed link.new) (L.ended link.old) (L.ended link.new) (P.updates publisher.old) (P.updates publisher.new)) }
+    ensures given { (L.state link.new).given ≡ (L.state link.old).given }
+    ensures ok { OnOk result (EndsBetween decoder.old.width decoder.old.height (L.state link.old) (L.state link.new) (P.updates publisher.old) (P.updates publisher.new)) }
+    ensures err { IfErr result (λ fault. EndsWith decoder.old.width decoder.old.height fault (L.state link.old) (L.state link.new) (P.updates publisher.old) (P.updates publisher.new)) }
 {
-    let mut buffer = match vec![in alloc; 0u8; PIECE] {
-        Ok(buffer) => buffer,
-        Err(_) => return Err(Fault::Memory),
-    };
+    let mut buffer = vec![in alloc; 0u8; PIECE]?;
     let mut is_between = true;
     for _ in rt.forever() {
         let took = link.take(buffer.as_mut_slice());

@@ -4,7 +4,9 @@ use Rattle.std.proofs.lemmas.List.{append-nil, drop_all}
 use Rattle.pixel_format.specs.PixelFormat.{host_format}
 use Rattle.rfb_wire.specs.Handshake.{Joined}
 use Rattle.rfb_wire.specs.Writing.{Writes, set_pixel_format_bytes, set_encodings_bytes, request_bytes}
+use Rattle.link.specs.Links.{LinkState}
 use Rattle.link.specs.Joins.{Hears, Joins, first_messages}
+use Rattle.link.proofs.Hearing.{with_given}
 
 -- A message that fills its slice is the slice.
 pub writes_whole : (spelling old new : List ℕ) (count : ℕ) → Writes spelling old new count → length spelling ≡ length old → new ≡ spelling
@@ -14,17 +16,20 @@ abbrev pub whole_screen : Joined → List ℕ
 whole_screen joined = request_bytes false (record { x = 0; y = 0; w = joined.w; h = joined.h })
 
 -- Behind the handshake the three messages were given in turn.
-pub joins_then : (taken_old taken_heard taken_new given_old given_heard given_1 given_2 given_new format encodings request : List ℕ) (joined : Joined) → Hears taken_old taken_heard given_old given_heard joined
-    → taken_new ≡ taken_heard → given_1 ≡ given_heard ++ format → given_2 ≡ given_1 ++ encodings → given_new ≡ given_2 ++ request
+pub joins_then : (old heard told_1 told_2 new : LinkState) (format encodings request : List ℕ) (joined : Joined) → Hears old heard joined
+    → told_1 ≡ with_given heard format → told_2 ≡ with_given told_1 encodings → new ≡ with_given told_2 request
     → format ≡ set_pixel_format_bytes host_format → encodings ≡ set_encodings_bytes (1 ∷ 5 ∷ 2 ∷ 0 ∷ []) → request ≡ whole_screen joined
-    → Joins taken_old taken_new given_old given_new joined
-joins_then taken_old taken_heard taken_new given_old given_heard given_1 given_2 given_new format encodings request joined h t g1 g2 g3 f e r =
+    → Joins old new joined
+joins_then old heard told_1 told_2 new format encodings request joined h g1 g2 g3 f e r =
     let all : (format ++ encodings) ++ request ≡ first_messages joined = ap (λ x. (x ++ encodings) ++ request) f ∙ (ap (λ x. (set_pixel_format_bytes host_format ++ x) ++ request) e ∙ ap (λ x. (set_pixel_format_bytes host_format ++ set_encodings_bytes (1 ∷ 5 ∷ 2 ∷ 0 ∷ [])) ++ x) r) in
-    let behind : given_new ≡ given_heard ++ ((format ++ encodings) ++ request) =
-    g3 ∙ (ap (λ x. x ++ request) (g2 ∙ (ap (λ x. x ++ encodings) g1 ∙ append_assoc given_heard format encodings)) ∙ append_assoc given_heard (format ++ encodings) request) in
+    let told : new ≡ with_given (with_given (with_given heard format) encodings) request = g3 ∙ ap (λ l. with_given l request) (g2 ∙ ap (λ l. with_given l encodings) g1) in
+    let joined_up : ((heard.given ++ format) ++ encodings) ++ request ≡ heard.given ++ ((format ++ encodings) ++ request) =
+    ap (λ x. x ++ request) (append_assoc heard.given format encodings) ∙ append_assoc heard.given (format ++ encodings) request in
     record {
       heard = h.heard;
-      taken = t ∙ h.taken;
+      taken = ap (λ (l : LinkState). l.taken) told ∙ h.taken;
       spells = h.spells;
-      given = behind ∙ (ap (λ x. given_heard ++ x) all ∙ ap (λ x. x ++ first_messages joined) h.given);
+      given = ap (λ (l : LinkState). l.given) told ∙ (joined_up ∙ (ap (λ x. heard.given ++ x) all ∙ ap (λ x. x ++ first_messages joined) h.given));
+      failed = ap (λ (l : LinkState). l.failed) told ∙ h.failed;
+      ended = ap (λ (l : LinkState). l.ended) told ∙ h.ended;
     }

@@ -6,7 +6,7 @@ use Rattle.pixel_format.specs.declared.fault.Fault.{Fault}
 use Rattle.pixel_format.specs.declared.fault.Fault.TheVariants.{LinkFailed, LinkEnded}
 use Rattle.rfb_wire.specs.Handshake.{Joined, version, host_hello}
 use Rattle.rfb_wire.specs.Writing.{set_pixel_format_bytes, set_encodings_bytes, request_bytes}
-use Rattle.link.specs.Links.{HasRisen}
+use Rattle.link.specs.Links.{LinkState, HasRisen}
 
 -- What a host is told before its first update: the pixel format, the encodings CopyRect, Hextile, RRE and Raw, and a
 -- request of the whole screen.
@@ -15,30 +15,36 @@ first_messages joined =
     set_pixel_format_bytes host_format ++ set_encodings_bytes (1 ∷ 5 ∷ 2 ∷ 0 ∷ []) ++ request_bytes false (record { x = 0; y = 0; w = joined.w; h = joined.h })
 
 -- One whole handshake of the host was taken, and the client's side was given.
-pub record Hears (taken_old taken_new given_old given_new : List ℕ) (joined : Joined) : Type 0 where
+pub record Hears (old new : LinkState) (joined : Joined) : Type 0 where
   pub heard : List ℕ
-  pub taken : taken_new ≡ taken_old ++ heard
+  pub taken : new.taken ≡ old.taken ++ heard
   pub spells : Spells host_hello heard joined
-  pub given : given_new ≡ given_old ++ version ++ 1 ∷ 1 ∷ []
+  pub given : new.given ≡ old.given ++ version ++ 1 ∷ 1 ∷ []
+  pub failed : new.failed ≡ old.failed
+  pub ended : new.ended ≡ old.ended
   pub across : 1 ≤ joined.w
   pub most_across : joined.w ≤ 4096
   pub down : 1 ≤ joined.h
   pub most_down : joined.h ≤ 4096
 
--- One whole handshake of the host was taken, and the client's side and the first messages were given.
-pub record Joins (taken_old taken_new given_old given_new : List ℕ) (joined : Joined) : Type 0 where
+-- One whole handshake of the host was taken, and the client's side and the first messages were given. The link neither failed nor ended.
+pub record Joins (old new : LinkState) (joined : Joined) : Type 0 where
   pub heard : List ℕ
-  pub taken : taken_new ≡ taken_old ++ heard
+  pub taken : new.taken ≡ old.taken ++ heard
   pub spells : Spells host_hello heard joined
-  pub given : given_new ≡ given_old ++ version ++ (1 ∷ 1 ∷ []) ++ first_messages joined
+  pub given : new.given ≡ old.given ++ version ++ (1 ∷ 1 ∷ []) ++ first_messages joined
+  pub failed : new.failed ≡ old.failed
+  pub ended : new.ended ≡ old.ended
 
--- The link failed in the meantime, or it said in the meantime that it ended.
-abbrev pub LinkFails : Fault → (failed_old failed_new : ℕ) → (ended_old ended_new : ℕ) → Type 0
-LinkFails LinkFailed failed_old failed_new ended_old ended_new = HasRisen failed_old failed_new
-LinkFails LinkEnded failed_old failed_new ended_old ended_new = HasRisen ended_old ended_new
-LinkFails _ failed_old failed_new ended_old ended_new = ⊥
+-- The link failed in the meantime, or it said in the meantime that it ended: that count has risen.
+abbrev pub Rises : Fault → (failed_old failed_new : ℕ) → (ended_old ended_new : ℕ) → Type 0
+Rises LinkFailed failed_old failed_new ended_old ended_new = HasRisen failed_old failed_new
+Rises LinkEnded failed_old failed_new ended_old ended_new = HasRisen ended_old ended_new
+Rises _ failed_old failed_new ended_old ended_new = ⊥
+
+abbrev pub LinkFails : Fault → (old new : LinkState) → Type 0
+LinkFails fault old new = Rises fault old.failed new.failed old.ended new.ended
 
 -- That, or the handshake that was taken is at fault.
-abbrev pub FailsAs : Fault → (failed_old failed_new : ℕ) → (ended_old ended_new : ℕ) → (taken_old taken_new : List ℕ) → Type 0
-FailsAs fault failed_old failed_new ended_old ended_new taken_old taken_new =
-    LinkFails fault failed_old failed_new ended_old ended_new ⊎ ((heard : List ℕ) × (taken_new ≡ taken_old ++ heard) × (after host_hello heard ≡ Faulty fault))
+abbrev pub FailsAs : Fault → (old new : LinkState) → Type 0
+FailsAs fault old new = LinkFails fault old new ⊎ ((heard : List ℕ) × (new.taken ≡ old.taken ++ heard) × (after host_hello heard ≡ Faulty fault))

@@ -5,17 +5,15 @@ ghost use Rattle.link.specs.Joins.{Hears, Joins, LinkFails, FailsAs};
 
 use crate::link::{Gave, Link, Took};
 use pixel_format::{Fault, Format};
-use raster::Rect;
+use raster::{COPY_RECT, Encoding, Rect};
 use rfb_wire::{HostHello, Joined, write_request, write_set_encodings, write_set_pixel_format};
 use std::sync::Wait;
 
 // Gives all of these bytes.
 fn give_all<L: Link, R: Wait>(rt: &R, link: &mut L, bytes: &[u8]) -> Result<(), Fault>
-    ensures given { OnOk result (L.given link.new ≡ L.given link.old ++ bytes.now) }
-    ensures taken { L.taken link.new ≡ L.taken link.old }
-    ensures failed { OnOk result (L.failed link.new ≡ L.failed link.old) }
-    ensures ended { OnOk result (L.ended link.new ≡ L.ended link.old) }
-    ensures err { IfErr result (λ fault. LinkFails fault (L.failed link.old) (L.failed link.new) (L.ended link.old) (L.ended link.new)) }
+    ensures given { OnOk result (L.state link.new ≡ record (L.state link.old) { given = (L.state link.old).given ++ bytes.now }) }
+    ensures taken { (L.state link.new).taken ≡ (L.state link.old).taken }
+    ensures err { IfErr result (λ fault. LinkFails fault (L.state link.old) (L.state link.new)) }
 {
     let mut left = bytes;
     for _ in rt.forever() {
@@ -37,11 +35,9 @@ fn give_all<L: Link, R: Wait>(rt: &R, link: &mut L, bytes: &[u8]) -> Result<(), 
 
 // Takes the next byte. A handshake is short, and what comes behind it is left to others.
 fn take_byte<L: Link, R: Wait>(rt: &R, link: &mut L) -> Result<u8, Fault>
-    ensures taken { IfOk result (λ byte. L.taken link.new ≡ L.taken link.old ++ byte ∷ []) }
-    ensures given { L.given link.new ≡ L.given link.old }
-    ensures failed { OnOk result (L.failed link.new ≡ L.failed link.old) }
-    ensures ended { OnOk result (L.ended link.new ≡ L.ended link.old) }
-    ensures err { IfErr result (λ fault. LinkFails fault (L.failed link.old) (L.failed link.new) (L.ended link.old) (L.ended link.new)) }
+    ensures taken { IfOk result (λ byte. L.state link.new ≡ record (L.state link.old) { taken = (L.state link.old).taken ++ byte ∷ [] }) }
+    ensures given { (L.state link.new).given ≡ (L.state link.old).given }
+    ensures err { IfErr result (λ fault. LinkFails fault (L.state link.old) (L.state link.new)) }
 {
     let mut byte = [0];
     for _ in rt.forever() {
@@ -57,10 +53,8 @@ fn take_byte<L: Link, R: Wait>(rt: &R, link: &mut L) -> Result<u8, Fault>
 
 // Hears the host's handshake, up to its end and no byte further, and gives the client's side.
 fn hear<L: Link, R: Wait>(rt: &R, link: &mut L) -> Result<Joined, Fault>
-    ensures joined { IfOk result (λ joined. Hears (L.taken link.old) (L.taken link.new) (L.given link.old) (L.given link.new) joined) }
-    ensures failed { OnOk result (L.failed link.new ≡ L.failed link.old) }
-    ensures ended { OnOk result (L.ended link.new ≡ L.ended link.old) }
-    ensures err { IfErr result (λ fault. FailsAs fault (L.failed link.old) (L.failed link.new) (L.ended link.old) (L.ended link.new) (L.taken link.old) (L.taken link.new)) }
+    ensures joined { IfOk result (λ joined. Hears (L.state link.old) (L.state link.new) joined) }
+    ensures err { IfErr result (λ fault. FailsAs fault (L.state link.old) (L.state link.new)) }
 {
     let mut hello = HostHello::new();
     for _ in rt.forever() {
@@ -83,17 +77,21 @@ fn hear<L: Link, R: Wait>(rt: &R, link: &mut L) -> Result<Joined, Fault>
 /// `LinkFailed` where the link failed in the meantime, `LinkEnded` where it ended before the last byte was given. Other
 /// faults are of the host's handshake.
 pub fn join_host<L: Link, R: Wait>(rt: &R, link: &mut L) -> Result<Joined, Fault>
-    ensures joined { IfOk result (λ joined. Joins (L.taken link.old) (L.taken link.new) (L.given link.old) (L.given link.new) joined) }
-    ensures failed { OnOk result (L.failed link.new ≡ L.failed link.old) }
-    ensures ended { OnOk result (L.ended link.new ≡ L.ended link.old) }
-    ensures err { IfErr result (λ fault. FailsAs fault (L.failed link.old) (L.failed link.new) (L.ended link.old) (L.ended link.new) (L.taken link.old) (L.taken link.new)) }
+    ensures joined { IfOk result (λ joined. Joins (L.state link.old) (L.state link.new) joined) }
+    ensures err { IfErr result (λ fault. FailsAs fault (L.state link.old) (L.state link.new)) }
 {
     let joined = hear(rt, link)?;
     let mut format = [0; 20];
     write_set_pixel_format(&Format::HOST, &mut format);
     give_all(rt, link, &format)?;
     let mut encodings = [0; 20];
-    write_set_encodings(&[1, 5, 2, 0], &mut encodings);
+    let numbers = [
+        COPY_RECT,
+        Encoding::Hextile.number(),
+        Encoding::Rre.number(),
+        Encoding::Raw.number(),
+    ];
+    write_set_encodings(&numbers, &mut encodings);
     give_all(rt, link, &encodings)?;
     let screen = Rect {
         x: 0,

@@ -4,11 +4,9 @@ ghost use Rattle.std.specs.Prelude.{◌≡◌, ℕ, ◌+◌, ◌≤◌, [], ◌+
 ghost use Rattle.pixel_format.specs.declared.fault.Fault.TheVariants.{Memory};
 
 use crate::link::{Gave, Link, Took};
-use pixel_format::Fault;
+use pixel_format::{Fault, LIMIT};
 use std::alloc::Global;
 use std::marker::Model;
-
-const LIMIT: u64 = 1 << 62;
 
 /// A link whose peer is a list of answers to `take` and a list of answers to `give`.
 ///
@@ -32,9 +30,9 @@ pub struct MemoryLink {
 
 impl Model for MemoryLink {
     ghost use Rattle.std.specs.Prelude.{◌≤◌, ◌^◌, length, take};
-    ghost use Rattle.link.specs.InMemory.{InMemory};
+    ghost use Rattle.link.specs.Links.{LinkState};
 
-    ghost Value = { InMemory };
+    ghost Value = { LinkState };
 
     ghost view = { λ l. record { taken = take l.taken l.sends.items; given = take l.given l.room.items; failed = l.failures; ended = l.ends } };
 
@@ -64,7 +62,8 @@ fn put_at(slice: &mut [u8], start: usize, bytes: &[u8])
 }
 
 impl MemoryLink {
-    ghost use Rattle.std.specs.Prelude.{◌≡◌, ℕ, ◌^◌, min, ◌+◌, [], IfOk, IfErr};
+    ghost use Rattle.std.specs.Prelude.{◌≡◌, [], IfOk, IfErr};
+    ghost use Rattle.link.specs.Links.{with_end, with_failure};
 
     /// A link to a peer that sends these bytes. `Memory` where there is no room for all that the peer may be given.
     pub fn new(
@@ -76,21 +75,19 @@ impl MemoryLink {
         ensures ok { IfOk result (λ link. link ≡ record { taken = []; given = []; failed = 0; ended = 0 }) }
         ensures err { IfErr result (λ fault. fault ≡ Memory) }
     {
-        match vec![in alloc; 0u8; most(gives.as_slice())] {
-            Ok(room) => Ok(MemoryLink {
-                sends,
-                taken: 0,
-                takes,
-                next_take: 0,
-                room,
-                given: 0,
-                gives,
-                next_give: 0,
-                failures: 0,
-                ends: 0,
-            }),
-            Err(_) => Err(Fault::Memory),
-        }
+        let room = vec![in alloc; 0u8; most(gives.as_slice())]?;
+        Ok(MemoryLink {
+            sends,
+            taken: 0,
+            takes,
+            next_take: 0,
+            room,
+            given: 0,
+            gives,
+            next_give: 0,
+            failures: 0,
+            ends: 0,
+        })
     }
 
     /// The bytes that were taken from the peer.
@@ -137,26 +134,20 @@ impl MemoryLink {
     }
 
     fn fail(&mut self)
-        ensures { self.new ≡ record self.old { failed = min (2 ^ 62) (self.old.failed + 1) } }
+        ensures { self.new ≡ with_failure self.old }
     {
         self.failures = LIMIT.min(self.failures + 1);
     }
 
     fn end(&mut self)
-        ensures { self.new ≡ record self.old { ended = min (2 ^ 62) (self.old.ended + 1) } }
+        ensures { self.new ≡ with_end self.old }
     {
         self.ends = LIMIT.min(self.ends + 1);
     }
 }
 
 impl Link for MemoryLink {
-    ghost taken = { λ l. l.taken };
-
-    ghost given = { λ l. l.given };
-
-    ghost failed = { λ l. l.failed };
-
-    ghost ended = { λ l. l.ended };
+    ghost state = { λ l. l };
 
     fn take(&mut self, into: &mut [u8]) -> Took {
         match self.answer_take(into.len()) {
@@ -194,15 +185,11 @@ impl Link for MemoryLink {
 }
 
 impl MemoryLink {
-    ghost use Rattle.std.specs.Prelude.{◌≡◌};
-    ghost use Rattle.link.specs.Links.{TakesAs, GivesAs, TookCounts, GaveCounts, TookEnds, GaveEnds};
+    ghost use Rattle.link.specs.Links.{TakesAs, GivesAs};
 
     // Brings so many of the bytes, or as many as there are and as fit.
     fn bring(&mut self, wanted: usize, into: &mut [u8]) -> Took
-        ensures bytes { TakesAs result self.old.taken self.new.taken into.new }
-        ensures given { self.new.given ≡ self.old.given }
-        ensures failed { TookCounts result self.old.failed self.new.failed }
-        ensures ended { TookEnds result self.old.ended self.new.ended }
+        ensures { TakesAs result self.old self.new into.new }
     {
         let (_, left) = self.sends.split_at(self.taken);
         let count = wanted.min(left.len()).min(into.len());
@@ -217,10 +204,7 @@ impl MemoryLink {
 
     // Keeps so many of the bytes, or as many as there are and as fit.
     fn keep(&mut self, wanted: usize, bytes: &[u8]) -> Gave
-        ensures bytes { GivesAs result self.old.given self.new.given bytes.now }
-        ensures taken { self.new.taken ≡ self.old.taken }
-        ensures failed { GaveCounts result self.old.failed self.new.failed }
-        ensures ended { GaveEnds result self.old.ended self.new.ended }
+        ensures { GivesAs result self.old self.new bytes.now }
     {
         let count = wanted.min(bytes.len()).min(self.room.len() - self.given);
         if count == 0 {

@@ -1,9 +1,19 @@
 //! A colour's pixel value, by three ways to scale its components: the quickest that a format allows is taken.
 
 ghost use Rattle.std.specs.Prelude.{◌≡◌, ◌^◌, ◌<◌};
-ghost use Rattle.pixel_format.specs.PixelFormat.{PixelFormat, HasByteChannels, IsNarrow, tint};
+ghost use Rattle.pixel_format.specs.PixelFormat.{PixelFormat, HasByteChannels, IsNarrow, red_of, green_of, blue_of, tint};
 
 use crate::format::Format;
+
+/// The red, green and blue of a colour, each 0 to 255.
+fn components(colour: u32) -> (u8, u8, u8)
+    ensures red { result.0 ≡ red_of colour }
+    ensures green { result.1 ≡ green_of colour }
+    ensures blue { result.2 ≡ blue_of colour }
+{
+    let [blue, green, red, _] = colour.to_le_bytes();
+    (red, green, blue)
+}
 
 /// A way to scale the components of a colour, and the formats that it serves.
 pub(crate) trait Scaling {
@@ -23,7 +33,7 @@ impl Scaling for Division {
     ghost serves = { λ _. Unit {0} };
 
     fn pixel(format: &Format, colour: u32) -> u32 {
-        let [blue, green, red, _] = colour.to_le_bytes();
+        let (red, green, blue) = components(colour);
         format.red.place(red) + format.green.place(green) + format.blue.place(blue)
     }
 }
@@ -35,7 +45,7 @@ impl Scaling for Multiplication {
     ghost serves = { IsNarrow };
 
     fn pixel(format: &Format, colour: u32) -> u32 {
-        let [blue, green, red, _] = colour.to_le_bytes();
+        let (red, green, blue) = components(colour);
         format.red.place_narrow(red)
             + format.green.place_narrow(green)
             + format.blue.place_narrow(blue)
@@ -49,7 +59,7 @@ impl Scaling for Shifts {
     ghost serves = { HasByteChannels };
 
     fn pixel(format: &Format, colour: u32) -> u32 {
-        let [blue, green, red, _] = colour.to_le_bytes();
+        let (red, green, blue) = components(colour);
         format.red.place_byte(red) + format.green.place_byte(green) + format.blue.place_byte(blue)
     }
 }

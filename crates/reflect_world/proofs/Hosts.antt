@@ -1,5 +1,5 @@
 -- What a host keeps, as its bytes come and are read.
-use Rattle.std.proofs.Common.{◌≡◌, ℕ, ◌<◌, ◌≤◌, true, List, [], ◌∷◌, ◌++◌, length, take, drop, Option, Some, None, Ok, Err, inl, inr, refl, ap, sym, ◌∙◌, subst, append_assoc, arith}
+use Rattle.std.proofs.Common.{◌≡◌, ℕ, ◌<◌, true, List, [], ◌∷◌, ◌++◌, length, take, drop, Option, Some, None, Ok, Err, inl, inr, refl, ap, sym, ◌∙◌, subst, append_assoc}
 use Rattle.std.specs.Prelude.{IfSome, Result, option_map, slice_get}
 use Rattle.std.specs.List.{filter_map}
 use Rattle.std.proofs.lemmas.List.{append-nil, take-append-drop}
@@ -25,9 +25,6 @@ next_of bytes us host u none r =
     ap (λ bs. slice_get (updates_by (form_of host) bs) (length us)) r.split ∙ next_update (form_of host) r.read host.unread us u so_far
 
 -- ---- before it is read
-
-pub host_begins : (host : HostSide) → host.unread ≡ [] → host.waiting ≡ None → Decodes host.decoder host.painter (form_of host) → HostStands [] [] host
-host_begins host unread waiting decodes = inr (record { read = []; split = sym unread; updates = ap waiting_list (sym waiting); decodes = decodes })
 
 -- More bytes come.
 pub host_grows : (host : HostSide) (more unread all : List ℕ) (us : List Update) → unread ≡ host.unread ++ more → HostStands all us host → HostStands (all ++ more) us (record host { unread = unread })
@@ -326,9 +323,6 @@ nothing_comes old mid new answer event is none stands reads bytes us k =
     let here : ReadsMessage mid new (patch_in event) = subst (λ o. IfSome o (λ e. ReadsMessage mid new (patch_in e))) is reads in
     let same : us ++ waiting_list (patch_in event) ≡ us = ap (λ o. us ++ waiting_list o) none ∙ append-nil us in
     inr (subst (λ updates. HasReadTo bytes updates new) same (here bytes us (stands bytes us k)))
-
-pub can_read_on : (old new : HostSide) → ((bytes : List ℕ) (us : List Update) → HostStands bytes us old → HostStands bytes us new) → CanRead old → CanRead new
-can_read_on old new stands can = (can.0, can.1, stands can.0 can.1 can.2)
 
 pub same_host_on : (old mid new : HostSide) → IsSameHost old mid → IsSameHost mid new → IsSameHost old new
 same_host_on old mid new to_mid to_new = record { width = to_new.width ∙ to_mid.width; height = to_new.height ∙ to_mid.height }

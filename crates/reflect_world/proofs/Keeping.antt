@@ -8,7 +8,7 @@ use Rattle.std.proofs.lemmas.Option.{slice_get-get_or}
 use Rattle.pixel_format.specs.declared.fault.Fault.{Fault}
 use Rattle.viewer_session.specs.Session.{IsOneTile}
 use Rattle.reflect_world.specs.Schedule.{Step}
-use Rattle.reflect_world.specs.World.{IsFaithful, IsKept, IsReachable, JoinsUnder, Kept, Reached, Standing, StopsAt, entry_of, setup_of, step_of, with_steps, world_of, StaysFor}
+use Rattle.reflect_world.specs.World.{IsFaithful, IsKept, JoinsUnder, Kept, Reached, Standing, StopsAt, entry_of, setup_of, step_of, with_steps, world_of, StaysFor}
 use Rattle.reflect_world.specs.declared.step.Entry.{Entry}
 use Rattle.reflect_world.specs.declared.step.Step as declared
 use Rattle.reflect_world.proofs.FirstForms.{host_short, viewer_accepted}
@@ -43,9 +43,6 @@ pub kept_stays : (k : Kept) (entries left : List Entry) (is_refused : Bool) (old
 kept_stays k entries left is_refused old new kept same stays =
     let as_before : IsKept (record k { steps = map entry_of entries; is_refused = is_refused }) new = record { named = kept.named; reached = stays (setup_of k) (world_of (record k { steps = map entry_of entries })) kept.reached } in
     subst (λ (es : List Entry). IsKept (record k { steps = map entry_of es; is_refused = is_refused }) new) (sym same) as_before
-
-pub kept_is_reachable : (k : Kept) (standing : Standing) → IsKept k standing → IsReachable standing
-kept_is_reachable k standing kept = (setup_of k, world_of k, kept.reached)
 
 -- ---- the headline
 

@@ -9,20 +9,20 @@ use Rattle.raster.specs.Update.{Update, view}
 use Rattle.roles.specs.declared.role.Role.{Role}
 use Rattle.pixel_format.specs.declared.fault.Fault.TheVariants.{Memory}
 use Rattle.host_decoder.specs.Updates.{updates_by}
-use Rattle.reflect_core.specs.Plain.{IsPutRefusal, Plain}
+use Rattle.reflect_core.specs.Plain.{Plain}
 use Rattle.viewer_session.specs.FirstPath.{first_path}
 use Rattle.viewer_session.specs.Extent.{Extent}
 use Rattle.viewer_session.specs.Turn.{has_reason}
 use Rattle.viewer_session.specs.Viewer.{Setup, Viewer, may_look, after_cut, after_bytes, new_viewer}
-use Rattle.viewer_session.specs.Session.{IsOneTile, State, Stands, after_look, without_look, after_writing, is_ready}
+use Rattle.viewer_session.specs.Session.{State, Stands, after_look, without_look, after_writing, is_ready}
 use Rattle.reflect_core.specs.Sequential as history
 use Rattle.reflect_world.specs.Host.{HasReadTo, HostSide, HostStands, IsReadOut, IsSameHost, ReadsOn, form_of, host_form}
-use Rattle.reflect_world.specs.Schedule.{set_viewer, World, Step, HostBytes, Put, Raise, Join, Bytes, Look, Cut, Written, beginning, happens, play, play_from, put_next, for_viewer, cut_at}
-use Rattle.reflect_world.specs.World.{Held, Standing, PlaceStands, PlaceIs, Reached, place_at, IsFed, HasLooked, IsWritten, GoesOn, IsPut, IsRefusal, JoinsUnder, TakesStep, IsUnread, StaysFor}
+use Rattle.reflect_world.specs.Schedule.{set_viewer, World, Step, Put, Join, Bytes, Look, Cut, Written, beginning, happens, play, play_from, put_next, for_viewer, cut_at}
+use Rattle.reflect_world.specs.World.{Held, Standing, PlaceStands, PlaceIs, Reached, place_at, IsFed, HasLooked, IsWritten, GoesOn, IsPut, JoinsUnder, TakesStep}
 use Rattle.painter.specs.Patch.{SizedUpdate}
 use Rattle.reflect_world.proofs.HostReading.{no_next}
 use Rattle.reflect_world.proofs.Hosts.{next_of}
-use Rattle.reflect_world.proofs.Places.{places_set, place_is_none, place_is_some, place_fed, place_looked, place_written, place_stays, place_cut}
+use Rattle.reflect_world.proofs.Places.{places_set, place_is_some, place_fed, place_looked, place_written, place_stays, place_cut}
 
 -- ---- the schedule grows
 
@@ -35,69 +35,9 @@ play-more s es e = play_from-more s beginning es e
 
 -- ---- the host and the screen
 
-pub reached_begins : (s : Setup) (standing : Standing) → IsOneTile s.w s.h → s.extent ≡ first_path host_form → standing.screen ≡ record { width = s.w; height = s.h; updates = []; tally = 0 }
-    → standing.host.decoder.width ≡ s.w → standing.host.decoder.height ≡ s.h → HostStands [] [] standing.host
-    → standing.host_fault ≡ None → length standing.places ≡ 65 → ((v : ℕ) → place_at standing.places v ≡ None) → Reached s standing beginning
-reached_begins s standing tile extent screen width height host fault room free =
-    record {
-      tile = tile;
-      extent = extent;
-      width = ap (λ (p : Plain). p.width) screen;
-      height = ap (λ (p : Plain). p.height) screen;
-      updates = ap (λ (p : Plain). p.updates) screen;
-      tally = ap (λ (p : Plain). p.tally) screen;
-      host_width = width;
-      host_height = height;
-      host = host;
-      fault = fault;
-      room = room;
-      places = λ v. rw (free v) tt;
-    }
-
 -- The host goes on, and the rest stays.
 abbrev pub with_host : Standing → HostSide → Standing
 with_host standing host = record standing { host = host }
-
--- Its bytes and the updates put are these from now on.
-reached_with_host : (s : Setup) (standing : Standing) (w : World) (bytes : List ℕ) (host : HostSide) → Reached s standing w → IsSameHost standing.host host → HostStands bytes w.shared.updates host
-    → Reached s (with_host standing host) (record w { host_bytes = bytes })
-reached_with_host s standing w bytes host r same stands =
-    record {
-      tile = r.tile;
-      extent = r.extent;
-      width = r.width;
-      height = r.height;
-      updates = r.updates;
-      tally = r.tally;
-      host_width = same.width ∙ r.host_width;
-      host_height = same.height ∙ r.host_height;
-      host = stands;
-      fault = r.fault;
-      room = r.room;
-      places = r.places;
-    }
-
-pub host_bytes_reach : (standing : Standing) (bytes : List ℕ) (host : HostSide) → IsSameHost standing.host host
-    → ((all : List ℕ) (us : List Update) → HostStands all us standing.host → HostStands (all ++ bytes) us host) → TakesStep (HostBytes bytes) standing (with_host standing host)
-host_bytes_reach standing bytes host same grows s w r = reached_with_host s standing w (w.host_bytes ++ bytes) host r same (grows w.host_bytes w.shared.updates r.host)
-
-pub reached_raise : (s : Setup) (standing : Standing) (w : World) (screen : Plain) → Reached s standing w → screen ≡ record standing.screen { tally = length standing.screen.updates }
-    → Reached s (record standing { screen = screen }) (happens s w Raise)
-reached_raise s standing w screen r is =
-    record {
-      tile = r.tile;
-      extent = r.extent;
-      width = ap (λ (p : Plain). p.width) is ∙ r.width;
-      height = ap (λ (p : Plain). p.height) is ∙ r.height;
-      updates = ap (λ (p : Plain). p.updates) is ∙ r.updates;
-      tally = ap (λ (p : Plain). p.tally) is ∙ ap length r.updates;
-      host_width = r.host_width;
-      host_height = r.host_height;
-      host = r.host;
-      fault = r.fault;
-      room = r.room;
-      places = r.places;
-    }
 
 -- The host's form that the schedule reads by.
 form_is : (s : Setup) (standing : Standing) (w : World) (host : HostSide) → Reached s standing w → IsSameHost standing.host host → s.extent.from_host s.w s.h ≡ form_of host
@@ -179,11 +119,6 @@ reached_set s standing w steps v place p r within good =
       room = length-set standing.places v (Some place) ∙ r.room;
       places = places_set s standing.places w.viewers v place p (omega (arith, r.room)) r.places good;
     }
-
--- A step of a viewer that isn't there.
-pub reached_absent : (s : Setup) (standing : Standing) (w : World) (v : ℕ) (make : Viewer → World) → Reached s standing w → place_at standing.places v ≡ None → Reached s standing (for_viewer w (w.viewers v) make)
-reached_absent s standing w v make r none =
-    subst (λ o. Reached s standing (for_viewer w o make)) (sym (place_is_none s (place_at standing.places v) (w.viewers v) (r.places v) none)) r
 
 -- A step of one that is there.
 reached_for : (s : Setup) (standing new : Standing) (w : World) (v : ℕ) (place : Held) (make : Viewer → World) → Reached s standing w → place_at standing.places v ≡ Some place
@@ -357,14 +292,6 @@ put_reaches old mid new patch is same none reads put s w r =
     (reached_put s old w mid.host new.screen patch.update r same none (reads w.host_bytes w.shared.updates r.host)
     (put.size.0 ∙ ap (λ (p : Plain). p.width) at) (put.size.1 ∙ ap (λ (p : Plain). p.height) at) (put.updates ∙ ap (λ (p : Plain). p.updates ++ patch.update ∷ []) at) (put.tally ∙ ap (λ (p : Plain). p.tally) at))
 
--- An update that isn't put is kept.
-pub unread_stays : (old mid new : Standing) (patch : SizedUpdate) → mid ≡ with_host old mid.host → IsSameHost old.host mid.host → ReadsOn old.host mid.host (Ok (Some patch))
-    → IsUnread mid new patch.update → StaysFor old new
-unread_stays old mid new patch is same reads kept s w r =
-    subst (λ n. Reached s n w) (sym (kept.others ∙ ap (λ standing. with_host standing new.host) is))
-    (reached_with_host s old w w.host_bytes new.host r (record { width = kept.size.width ∙ same.width; height = kept.size.height ∙ same.height })
-    (inr (kept.stands w.host_bytes w.shared.updates (reads w.host_bytes w.shared.updates r.host))))
-
 pub none_reaches : (standing : Standing) (host : HostSide) → IsSameHost standing.host host → ReadsOn standing.host host (Ok None) → TakesStep Put standing (record standing { host = host; host_fault = None })
 none_reaches standing host same reads s w r =
     let out = reads w.host_bytes w.shared.updates r.host in
@@ -378,12 +305,3 @@ err_reaches standing host fault same other reads s w r =
       | inl memory ↦ absurd (other memory)
       | inr read ↦ reached_no_put s standing w host (Some fault) r same out.0 read
     ]
-
--- Memory was refused: nothing is shown of it.
-pub memory_stays : (standing : Standing) (host : HostSide) (fault : Fault) → IsSameHost standing.host host → ReadsOn standing.host host (Err fault) → StaysFor standing (with_host standing host)
-memory_stays standing host fault same reads s w r = reached_with_host s standing w w.host_bytes host r same (reads w.host_bytes w.shared.updates r.host).0
-
--- Why a put is refused.
-pub put_refused : (standing : Standing) (fault : Fault) → IsPutRefusal (length standing.screen.updates) fault → IsRefusal Put standing fault
-put_refused standing fault (inl p) = inl p.1
-put_refused standing fault (inr p) = inr (p.1, refl, p.0)

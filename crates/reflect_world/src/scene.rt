@@ -11,7 +11,6 @@ ghost use Rattle.reflect_core.specs.Plain.{IsPutRefusal};
 ghost use Rattle.reflect_world.specs.World.{IsPut, IsReachable, IsRefusal, JoinsUnder, Reached, TakesStep, place_at, step_of, IsUnread, StaysFor};
 ghost use Rattle.reflect_world.specs.Host.{host_form};
 
-use crate::fault::same_fault;
 use crate::host::Host;
 use crate::place::Place;
 use crate::step::Step;
@@ -63,10 +62,10 @@ impl Scene {
     }
 
     /// The fault that the host's bytes showed, if there is one.
-    pub fn host_fault(&self) -> Option<Fault>
-        ensures { result ≡ self.now.host_fault }
+    pub fn host_fault(&self) -> Option<&Fault>
+        ensures { option_copied result ≡ self.now.host_fault }
     {
-        self.host_fault.as_ref().map(same_fault)
+        self.host_fault.as_ref()
     }
 
     /// How many updates were put.
@@ -127,6 +126,7 @@ impl Scene {
         }
     }
 
+    // Bytes of the host come, and are kept.
     fn host_bytes(&mut self, bytes: &[u8]) -> Result<(), Fault>
         ensures ok { OnOk result (TakesStep (HostBytes bytes.now) self.old self.new) }
         ensures err { IfErr result (λ fault. (fault ≡ Memory) × (self.new ≡ self.old)) }
@@ -134,6 +134,7 @@ impl Scene {
         self.host.add(bytes)
     }
 
+    // The next update in the host's bytes is put. Where there is none left, the fault at which they stand is noted.
     fn put_next(&mut self) -> Result<(), Fault>
         requires { IsReachable self.old }
         ensures ok { OnOk result (TakesStep Put self.old self.new) }
@@ -172,12 +173,14 @@ impl Scene {
         }
     }
 
+    // The tally becomes the number of updates.
     fn raise(&mut self)
         ensures { TakesStep Raise self.old self.new }
     {
         self.screen.raise();
     }
 
+    // Bytes of a viewer are read, if it is there.
     fn feed(&mut self, viewer: u64, bytes: &[u8])
         requires { IsReachable self.old }
         ensures { TakesStep (Bytes viewer bytes.now []) self.old self.new }
@@ -190,6 +193,7 @@ impl Scene {
         }
     }
 
+    // A viewer looks at the tally, if it is there and may look.
     fn look(&mut self, viewer: u64)
         requires { IsReachable self.old }
         ensures { TakesStep (Look viewer) self.old self.new }
@@ -203,6 +207,7 @@ impl Scene {
         }
     }
 
+    // A viewer that has just looked cuts and answers, where there is reason for it.
     fn cut(&mut self, viewer: u64) -> Result<(), Fault>
         requires { IsReachable self.old }
         ensures ok { OnOk result (TakesStep (Cut viewer) self.old self.new) }
@@ -217,6 +222,7 @@ impl Scene {
         Ok(())
     }
 
+    // So many of a viewer's unsent bytes are written, if it is there.
     fn write(&mut self, viewer: u64, count: u64) -> Result<(), Fault>
         requires { IsReachable self.old }
         ensures ok { OnOk result (TakesStep (Written viewer count) self.old self.new) }

@@ -29,12 +29,14 @@ pub enum Step {
 /// What a world keeps: a viewer joined, or a step was played.
 #[derive(Drop)]
 pub enum Entry {
+    /// A viewer of this number and role joined; with its hello where the last says so, else behind it.
     Joined(u64, Role, bool),
+    /// This step was played.
     Played(Step),
 }
 
 impl Step {
-    /// The same step, with bytes of its own.
+    /// The same step, with bytes of its own. It fails where memory is refused.
     pub fn copy(&self, alloc: Global) -> Result<Step, AllocError>
         ensures { IfOk result (λ same. step_of same ≡ step_of self.now) }
     {

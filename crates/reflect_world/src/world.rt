@@ -1,6 +1,7 @@
 //! A reflector on one thread, step by step.
 
 ghost use Rattle.std.specs.Prelude.{◌≡◌, ℕ, ◌<◌, ◌≤◌, ◌^◌, ◌↔◌, [], ◌∷◌, ◌++◌, false, length, map, take, IfOk, IfErr, OnOk, OnErr, IsTrue, IsSome};
+ghost use Rattle.std.specs.Option.{option_copied};
 ghost use Rattle.pixel_format.specs.declared.fault.Fault.TheVariants.{Memory};
 ghost use Rattle.viewer_session.specs.Session.{IsOneTile};
 ghost use Rattle.reflect_world.specs.Schedule.{Join, fault_at, written_of};
@@ -129,8 +130,8 @@ impl World {
     }
 
     /// The fault of the host's bytes, from the first `Put` on that finds no update left before it.
-    pub fn host_fault(&self) -> Option<Fault>
-        ensures { result ≡ (world_of self.now).host_fault }
+    pub fn host_fault(&self) -> Option<&Fault>
+        ensures { option_copied result ≡ (world_of self.now).host_fault }
     {
         self.scene.host_fault()
     }

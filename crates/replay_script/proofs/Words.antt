@@ -35,16 +35,9 @@ abbrev pub behind : List ℕ → Option (List ℕ) → Option (List ℕ)
 behind bytes None = None
 behind bytes (Some more) = Some (bytes ++ more)
 
-behind-with_first : (bytes : List ℕ) (b : ℕ) (o : Option (List ℕ)) → behind bytes (with_first b o) ≡ behind (bytes ++ b ∷ []) o
-behind-with_first bytes b None = refl
-behind-with_first bytes b (Some more) = ap Some (sym (append_assoc bytes (b ∷ []) more))
-
 left_of-byte : (begins : Bool) (b : ℕ) (bs : List ℕ) → (b == blank) ≡ false → left_of begins (b ∷ bs) ≡ with_first b (left_of false bs)
 left_of-byte true b bs e = rw e refl
 left_of-byte false b bs e = rw e refl
-
-pub left_of-takes : (begins : Bool) (bytes : List ℕ) (b : ℕ) (bs : List ℕ) → (b == blank) ≡ false → behind bytes (left_of begins (b ∷ bs)) ≡ behind (bytes ++ b ∷ []) (left_of false bs)
-left_of-takes begins bytes b bs e = rw (left_of-byte begins b bs e) (behind-with_first bytes b (left_of false bs))
 
 pub left_of-blank : (begins : Bool) (b : ℕ) (bs : List ℕ) → b ≡ blank → left_of begins (b ∷ bs) ≡ at_blank begins (left_of true bs)
 left_of-blank true b bs e = rw e refl
@@ -150,10 +143,6 @@ all_behind p (x ∷ xs) ys k = all_behind p xs ys (All-tail (λ x. p x ≡ true)
 pub all_of_words : (p : ℕ → Bool) (words : List (List ℕ)) → AllPass p (concat words) → All (AllPass p) words
 all_of_words p [] k = All-nil (AllPass p)
 all_of_words p (word ∷ words) k = All-cons (AllPass p) word words (all_front p word (concat words) k) (all_of_words p words (all_behind p word (concat words) k))
-
-pub behind-nothing : (o : Option (List ℕ)) → behind [] o ≡ o
-behind-nothing None = refl
-behind-nothing (Some more) = refl
 
 -- ---- a text that was read up to a place
 

@@ -1,6 +1,7 @@
 //! Plays scripts, and counts those that do as they are told.
 //!
-//! `scripts` has whole scripts, `bad_lines` lines that no script may have, and `first_lines` lines that none may begin with.
+//! `scripts` has whole scripts and `real_hosts` such with what real hosts sent, `bad_lines` lines that no script may have, and `first_lines` lines that none may
+//! begin with.
 #![tactic(auto)]
 
 mod case;
@@ -10,16 +11,17 @@ use std::fs;
 use std::test::Fail;
 
 fn main(rt: HostRuntime) -> Result<(), Fail> {
-    let scripts = fs::read_to_string(&rt, "scripts")?;
-    play_scripts(&rt, scripts.as_str())?;
+    play_scripts(&rt, "scripts")?;
+    play_scripts(&rt, "real_hosts")?;
     refuse_lines(&rt, "bad_lines", &LATER)?;
     refuse_lines(&rt, "first_lines", &FIRST)
 }
 
-/// Plays the scripts of a text, names those that do otherwise than told, and says how many there are.
-fn play_scripts(rt: &HostRuntime, text: &str) -> Result<(), Fail> {
+/// Plays the scripts of a file, names those that do otherwise than told, and says how many there are.
+fn play_scripts(rt: &HostRuntime, file: &str) -> Result<(), Fail> {
+    let text = fs::read_to_string(rt, file)?;
     let mut count: u64 = 0;
-    for case in text.split("= ").skip(1) {
+    for case in text.as_str().split("= ").skip(1) {
         let Some(case) = Case::read(case) else {
             return Err(Fail::new("no case"));
         };
@@ -28,7 +30,7 @@ fn play_scripts(rt: &HostRuntime, text: &str) -> Result<(), Fail> {
             println!(rt; "otherwise: {}", case.name)?;
         }
     }
-    println!(rt; "scripts: {count} played")?;
+    println!(rt; "{file}: {count} played")?;
     Ok(())
 }
 

@@ -4,8 +4,8 @@ use Rattle.std.specs.Prelude.{MatchResult}
 use Rattle.std.proofs.lemmas.List.{take-append-drop, length-drop, length-take}
 use Rattle.std.proofs.Math.Seq.{drop-nil}
 use Rattle.pixel_format.specs.declared.fault.Fault.{Fault}
-use Rattle.pixel_format.specs.Reading.{Reading, Done, Faulty, Want, after, taken, wants_more, fault_of}
-use Rattle.pixel_format.proofs.ReadingLaws.{IsFed, after-append, fed_stops, fed_all, feeds_ok}
+use Rattle.pixel_format.specs.Reading.{Reading, after, taken, wants_more, fault_of}
+use Rattle.pixel_format.proofs.ReadingLaws.{IsFed, after-append, fed_stops, fed_all, feeds_ok, taken-append}
 use Rattle.rfb_wire.specs.ClientMessage.{ClientMessage}
 use Rattle.rfb_wire.specs.Message.{losing, FeedsOrLoses}
 use Rattle.rfb_wire.specs.ClientReader.{Uses, UsesOrLoses}
@@ -22,13 +22,6 @@ losing_fed start now piece i h =
       count = losing-taken start piece ∙ (h.count ∙ ap (λ n. i + n) (sym (losing-taken now (drop i piece))));
     }
 
--- Where all of the first bytes are taken, those behind them are taken after them.
-taken_on : (r : Reading ClientMessage) (xs ys : List ℕ) → taken r xs ≡ length xs → taken r (xs ++ ys) ≡ length xs + taken (after r xs) ys
-taken_on r [] ys e = omega arith
-taken_on (Done m) (b ∷ xs) ys e = absurd (omega arith)
-taken_on (Faulty fault) (b ∷ xs) ys e = absurd (omega arith)
-taken_on (Want more) (b ∷ xs) ys e = let h = taken_on (more b) xs ys (omega arith) in omega arith
-
 drop_beyond : (n i : ℕ) (xs : List ℕ) → drop n (drop i xs) ≡ drop (i + n) xs
 drop_beyond n zero xs = ap (λ k. drop k xs) (sym (zero-add n))
 drop_beyond n (suc i) [] = drop-nil n ∙ sym (drop-nil (suc i + n))
@@ -43,7 +36,7 @@ fed_on start now new piece i n h u =
     let goes : after now left ≡ after new (drop (i + n) piece) =
     ap (after now) (sym parts) ∙ (after-append now (take n left) (drop n left) ∙ (ap (λ r. after r (drop n left)) (sym u.goes_on) ∙ ap (after new) beyond)) in
     let counts : taken now left ≡ n + taken new (drop (i + n) piece) =
-    ap (taken now) (sym parts) ∙ (taken_on now (take n left) (drop n left) (u.all ∙ sym few) ∙ cc (few, u.goes_on, beyond)) in
+    ap (taken now) (sym parts) ∙ (taken-append now (take n left) (drop n left) (u.all ∙ sym few) ∙ cc (few, u.goes_on, beyond)) in
     record { goes_on = h.goes_on ∙ goes; count = omega (arith, h.count, counts) }
 
 -- One more turn.

@@ -1,4 +1,5 @@
 -- How a viewer's handshake goes on after so many bytes of it.
+use Rattle.std.proofs.lemmas.Option.{none-some}
 use Rattle.std.proofs.Common.{◌≡◌, ℕ, ◌+◌, ◌<◌, ◌≤◌, ◌≢◌, Bool, true, false, not, List, [], ◌∷◌, ◌++◌, length, take, drop, get_or, Option, Some, None, inl, inr, eq-eqb, length-drop, append_assoc, refl, sym, ap, ◌∙◌, arith}
 use Rattle.std.specs.Prelude.{◌==◌, nat_eq, is_some, is_none}
 use Rattle.std.specs.List.{starts_with}
@@ -24,15 +25,12 @@ behind_choice = byte >>= λ shared. Done tt
 abbrev behind_version : Reading (Unit {0})
 behind_version = viewer_choice >>= λ _. behind_choice
 
-some_is_not : {A : Type 0} (x : A) → Some x ≡ None → ⊥
-some_is_not x e = cc
-
 unless_then : {A : Type 0} (b : Bool) (f : Fault) (next : Unit {0} → Reading A) → (unless b f (Done tt) >>= next) ≡ unless b f (next tt)
 unless_then true f next = refl
 unless_then false f next = refl
 
 choice_so_far : (b : Bool) (ys : List ℕ) → length ys ≤ 1 → fault_of (after (unless (not b) BadChoice behind_choice) ys) ≡ None → IsSoFar (after (unless (not b) BadChoice behind_choice) ys) (length ys) 1
-choice_so_far false ys le e = absurd (some_is_not BadChoice (sym (ap fault_of (after-faulty {A = Unit {0}} BadChoice ys)) ∙ e))
+choice_so_far false ys le e = absurd (none-some BadChoice (sym e ∙ ap fault_of (after-faulty {A = Unit {0}} BadChoice ys)))
 choice_so_far true [] le e = record { open_ = λ lt. (refl, refl); over = λ all. absurd (omega arith) }
 choice_so_far true (s ∷ []) le e = record { open_ = λ lt. absurd (omega arith); over = λ all. (refl, refl) }
 choice_so_far true (s ∷ t ∷ ys) le e = absurd (omega arith)
@@ -42,7 +40,7 @@ choice_is : (c : ℕ) (ys : List ℕ) → after behind_version (c ∷ ys) ≡ af
 choice_is c ys = ap (λ r. after r ys) (unless_then (not (c == 1)) BadChoice (λ _. behind_choice))
 
 version_so_far : (b : Bool) (ys : List ℕ) → length ys ≤ 2 → fault_of (after (unless (not b) BadVersion behind_version) ys) ≡ None → IsSoFar (after (unless (not b) BadVersion behind_version) ys) (length ys) 2
-version_so_far false ys le e = absurd (some_is_not BadVersion (sym (ap fault_of (after-faulty {A = Unit {0}} BadVersion ys)) ∙ e))
+version_so_far false ys le e = absurd (none-some BadVersion (sym e ∙ ap fault_of (after-faulty {A = Unit {0}} BadVersion ys)))
 version_so_far true [] le e = record { open_ = λ lt. (refl, refl); over = λ all. absurd (omega arith) }
 version_so_far true (c ∷ ys) le e =
     let s = choice_so_far (c == 1) ys (omega arith) (sym (ap fault_of (choice_is c ys)) ∙ e) in

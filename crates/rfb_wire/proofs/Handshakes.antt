@@ -5,9 +5,8 @@ use Rattle.std.specs.Int.{w16, w32, to_be_bytes}
 use Rattle.std.proofs.lemmas.Bool.{le-leb, and_from}
 use Rattle.pixel_format.specs.PixelFormat.{host_format}
 use Rattle.pixel_format.specs.Reading.{Reading, Done, Faulty, Want, ◌>>=◌, after, bytes, padding, u16, u32, unless, Spells}
-use Rattle.pixel_format.specs.declared.fault.Fault.{Fault}
 use Rattle.pixel_format.specs.declared.fault.Fault.TheVariants.{BadScreen}
-use Rattle.pixel_format.proofs.ReadingLaws.{after-done, after-faulty, bind_assoc}
+use Rattle.pixel_format.proofs.ReadingLaws.{after-done, after-faulty, bind_assoc, faulty_is_not, done}
 use Rattle.raster.proofs.Spellings.{spells_bind, spells_then, spells_bytes}
 use Rattle.raster.proofs.Pixels.{spells_u16, spells_u32}
 use Rattle.rfb_wire.specs.Handshake.{Joined, version, is_size, kept_name, host_init, host_version, security_types, security_result, host_hello, viewer_hello, server_init, said_to_viewer, said_to_host, is_past}
@@ -49,22 +48,13 @@ viewer_is_told w h name w1 w2 h1 h2 short =
 abbrev wanting : {A : Type 0} → (ℕ → Reading A) → Reading A
 wanting more = Want more
 
-abbrev done : {A : Type 0} → A → Reading A
-done x = Done x
-
-abbrev at_fault : {A : Type 0} → Fault → Reading A
-at_fault fault = Faulty fault
-
 wanting_is_not : {A : Type 0} (more : ℕ → Reading A) (x : A) → wanting more ≡ done x → ⊥
 wanting_is_not more x e = cc
-
-at_fault_is_not : {A : Type 0} (fault : Fault) (x : A) → at_fault fault ≡ done x → ⊥
-at_fault_is_not fault x e = cc
 
 -- Where the whole is read, its first part was.
 part_is_past : {A B : Type 0} (part : Reading A) (next : A → Reading B) (stream : List ℕ) (y : B) → after (part >>= next) stream ≡ Done y → is_past part stream ≡ true
 part_is_past (Done x) next stream y e = ap (λ r. is_past r []) (after-done x stream)
-part_is_past {B = B} (Faulty fault) next stream y e = absurd (at_fault_is_not fault y (sym (after-faulty {A = B} fault stream) ∙ e))
+part_is_past {B = B} (Faulty fault) next stream y e = absurd (faulty_is_not fault y (sym (after-faulty {A = B} fault stream) ∙ e))
 part_is_past (Want more) next [] y e = absurd (wanting_is_not (λ b. more b >>= next) y e)
 part_is_past (Want more) next (b ∷ stream) y e = part_is_past (more b) next stream y e
 

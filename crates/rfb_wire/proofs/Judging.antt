@@ -9,7 +9,7 @@ use Rattle.rfb_wire.specs.Joining.{said, IsJudged}
 use Rattle.rfb_wire.specs.declared.host_talk.Stage.{Stage}
 use Rattle.rfb_wire.specs.declared.host_talk.Stage.TheVariants as at
 use Rattle.rfb_wire.specs.declared.host_talk.HostTalk.{HostTalk}
-use Rattle.rfb_wire.proofs.Fields.{field_whole}
+use Rattle.rfb_wire.proofs.Heads.{head_full}
 use Rattle.rfb_wire.proofs.Joinings.{version_judged, types_judged, reason_judged, size_judged, name_judged, wide, high}
 
 -- It is enough to say it at the stage that it is.
@@ -24,7 +24,7 @@ good_version talk e whole within good =
     (record {
       sound = record { fits = (refl, omega arith); room = λ _. omega arith; within = omega (arith, none) };
       alike = record {
-        version = sym (field_whole 12 version_judged talk.field.items whole ∙ ap (λ b. unless (not b) fault.BadVersion (Done tt)) good);
+        version = sym (head_full 12 version_judged talk.field.items whole ∙ ap (λ b. unless (not b) fault.BadVersion (Done tt)) good);
         types = refl;
         result = refl;
         init = refl;
@@ -39,7 +39,7 @@ bad_version talk e whole within bad =
     (record {
       sound = record { fits = omega (arith, whole); room = λ f. absurd cc; within = none };
       alike = record {
-        version = sym (field_whole 12 version_judged talk.field.items whole ∙ ap (λ b. unless (not b) fault.BadVersion (Done tt)) bad);
+        version = sym (head_full 12 version_judged talk.field.items whole ∙ ap (λ b. unless (not b) fault.BadVersion (Done tt)) bad);
         types = refl;
         result = refl;
         init = refl;
@@ -56,7 +56,7 @@ good_types talk e whole within good =
       sound = record { fits = (refl, omega arith); room = λ _. omega arith; within = omega (arith, some) };
       alike = record {
         version = refl;
-        types = sym (field_whole talk.wanted types_judged talk.field.items whole ∙ ap (λ b. unless (not b) fault.NoNone (Done tt)) good);
+        types = sym (head_full talk.wanted types_judged talk.field.items whole ∙ ap (λ b. unless (not b) fault.NoNone (Done tt)) good);
         result = refl;
         init = refl;
       };
@@ -72,7 +72,7 @@ bad_types talk e whole short within bad =
       sound = record { fits = short; room = λ f. absurd cc; within = some };
       alike = record {
         version = refl;
-        types = sym (field_whole talk.wanted types_judged talk.field.items whole ∙ ap (λ b. unless (not b) fault.NoNone (Done tt)) bad);
+        types = sym (head_full talk.wanted types_judged talk.field.items whole ∙ ap (λ b. unless (not b) fault.NoNone (Done tt)) bad);
         result = refl;
         init = refl;
       };
@@ -92,7 +92,7 @@ good_size talk e whole within good =
         version = refl;
         types = refl;
         result = refl;
-        init = sym (field_whole 4 size_judged talk.field.items whole ∙ ap (λ b. unless (not b) fault.BadScreen (padding 16 (u32 >>= kept_name w h))) good);
+        init = sym (head_full 4 size_judged talk.field.items whole ∙ ap (λ b. unless (not b) fault.BadScreen (padding 16 (u32 >>= kept_name w h))) good);
       };
       sent = refl;
     })
@@ -103,7 +103,7 @@ whole_reason talk e whole short within =
     at_stage talk (record talk { stage = at.Refused }) at.Reason e
     (record {
       sound = record { fits = short; room = λ f. absurd cc; within = some };
-      alike = record { version = refl; types = sym (field_whole talk.wanted reason_judged talk.field.items whole); result = refl; init = refl };
+      alike = record { version = refl; types = sym (head_full talk.wanted reason_judged talk.field.items whole); result = refl; init = refl };
       sent = refl;
     })
 
@@ -113,7 +113,7 @@ whole_format talk e whole within =
     at_stage talk (record talk { stage = at.NameLength; wanted = 4; field = record { items = [] } }) at.Format e
     (record {
       sound = record { fits = (refl, omega arith); room = λ _. omega arith; within = all };
-      alike = record { version = refl; types = refl; result = refl; init = sym (field_whole 16 (λ _. u32 >>= kept_name talk.w talk.h) talk.field.items whole) };
+      alike = record { version = refl; types = refl; result = refl; init = sym (head_full 16 (λ _. u32 >>= kept_name talk.w talk.h) talk.field.items whole) };
       sent = refl;
     })
 
@@ -128,7 +128,7 @@ whole_name talk e whole short within none =
         version = refl;
         types = refl;
         result = refl;
-        init = sym (field_whole talk.wanted (name_judged talk.w talk.h talk.rest) talk.field.items whole ∙ ap (λ n. padding n (Done joined)) none);
+        init = sym (head_full talk.wanted (name_judged talk.w talk.h talk.rest) talk.field.items whole ∙ ap (λ n. padding n (Done joined)) none);
       };
       sent = refl;
     })
@@ -139,6 +139,6 @@ front_of_name talk e whole short within some =
     at_stage talk (record talk { stage = at.Rest }) at.Name e
     (record {
       sound = record { fits = (some, short); room = λ f. absurd cc; within = all };
-      alike = record { version = refl; types = refl; result = refl; init = sym (field_whole talk.wanted (name_judged talk.w talk.h talk.rest) talk.field.items whole) };
+      alike = record { version = refl; types = refl; result = refl; init = sym (head_full talk.wanted (name_judged talk.w talk.h talk.rest) talk.field.items whole) };
       sent = refl;
     })

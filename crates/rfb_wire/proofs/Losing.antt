@@ -4,6 +4,7 @@ use Rattle.std.specs.Prelude.{option_map}
 use mathlib.Core.Path.{fun_ext}
 use Rattle.pixel_format.specs.declared.fault.Fault.{Fault}
 use Rattle.pixel_format.specs.Reading.{Reading, Done, Faulty, Want, step, after, taken, renewed, whole_of, fault_of, Feeds, GivesWhole}
+use Rattle.pixel_format.proofs.ReadingLaws.{done_from, found_is}
 use Rattle.rfb_wire.specs.ClientMessage.{ClientMessage, SetPixelFormat, SetEncodings, Ask, Key, Pointer, CutText, LostText, without_text}
 use Rattle.rfb_wire.specs.Message.{losing, FeedsOrLoses, IsOrLoses}
 
@@ -103,22 +104,12 @@ pub record IsRead (form r new : Reading ClientMessage) (piece : List ℕ) (used 
   pub count : used ≡ taken r piece
   pub anew : new ≡ form
 
-some_of : (s : Reading ClientMessage) (given : ClientMessage) → Some given ≡ whole_of s → s ≡ Done given
-some_of (Done m) given e = let same : m ≡ given = cc in ap Done same
-some_of (Faulty fault) given e = absurd cc
-some_of (Want more) given e = absurd cc
-
-lost_of : (s : Reading ClientMessage) (given : ClientMessage) → Some given ≡ option_map without_text (whole_of s) → (m : ClientMessage) × (s ≡ Done m) × (given ≡ without_text m)
-lost_of (Done m) given e = let same : given ≡ without_text m = cc in (m, refl, same)
-lost_of (Faulty fault) given e = absurd cc
-lost_of (Want more) given e = absurd cc
-
 read_whole : (form r mid new : Reading ClientMessage) (piece : List ℕ) (used : ℕ) (given : ClientMessage) → IsOrLoses mid (after r piece) → used ≡ taken r piece → GivesWhole form mid new (Some given) → IsRead form r new piece used given
 read_whole form r mid new piece used given (inl e) count g =
-    let whole = some_of (after r piece) given (g.given ∙ ap whole_of e) in
+    let whole = done_from (after r piece) given (g.given ∙ ap whole_of e) in
     record { message = given; whole = whole; same = inl refl; count = count; anew = g.begins_anew ∙ ap (renewed form) (e ∙ whole) }
 read_whole form r mid new piece used given (inr e) count g =
-    let lost = lost_of (after r piece) given (g.given ∙ (ap whole_of e ∙ losing-whole (after r piece))) in
+    let lost = found_is without_text given (after r piece) (g.given ∙ (ap whole_of e ∙ losing-whole (after r piece))) in
     record { message = lost.0; whole = lost.1; same = inr lost.2; count = count; anew = g.begins_anew ∙ ap (renewed form) (e ∙ ap losing lost.1) }
 
 pub message_read : (form r now mid new : Reading ClientMessage) (piece : List ℕ) (used : ℕ) (given : ClientMessage) → IsOrLoses now r → FeedsOrLoses now mid piece (Ok used) → GivesWhole form mid new (Some given)

@@ -2,7 +2,7 @@
 use Rattle.std.proofs.Common.{◌≡◌, ℕ, zero, suc, ◌-◌, ◌≤◌, List, [], ◌∷◌, ◌++◌, length, refl, sym, ap, ◌∙◌, append_assoc, arith}
 use mathlib.Core.Path.{fun_ext}
 use Rattle.std.proofs.lemmas.List.{append-nil}
-use Rattle.pixel_format.specs.Reading.{Reading, Done, ◌>>=◌, step, after, taken, bytes, padding}
+use Rattle.pixel_format.specs.Reading.{Reading, Done, ◌>>=◌, step, after, taken, bytes}
 use Rattle.pixel_format.proofs.ReadingLaws.{bind_assoc}
 
 -- These bytes of a text have come, and so many are left.
@@ -31,17 +31,3 @@ text_taken make kept [] zero le = refl
 text_taken make kept [] (suc left) le = refl
 text_taken make kept (b ∷ xs) zero le = absurd (omega arith)
 text_taken make kept (b ∷ xs) (suc left) le = ap suc (ap (λ r. taken r xs) (text_step make kept left b) ∙ text_taken make (kept ++ b ∷ []) xs left (omega arith))
-
--- The same of bytes that aren't looked at.
-pub past_after : {A : Type 0} (left : ℕ) (r : Reading A) (xs : List ℕ) → length xs ≤ left → after (padding left r) xs ≡ padding (left - length xs) r
-past_after left r [] le = ap (λ n. padding n r) (sym (less_none left))
-past_after zero r (b ∷ xs) le = absurd (omega arith)
-past_after (suc left) r (b ∷ xs) le =
-    let e : suc left - length (b ∷ xs) ≡ left - length xs = omega arith in
-    past_after left r xs (omega arith) ∙ ap (λ n. padding n r) (sym e)
-
-pub past_taken : {A : Type 0} (left : ℕ) (x : A) (xs : List ℕ) → length xs ≤ left → taken (padding left (Done x)) xs ≡ length xs
-past_taken zero x [] le = refl
-past_taken (suc left) x [] le = refl
-past_taken zero x (b ∷ xs) le = absurd (omega arith)
-past_taken (suc left) x (b ∷ xs) le = ap suc (past_taken left x xs (omega arith))

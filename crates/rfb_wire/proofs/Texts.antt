@@ -3,10 +3,11 @@ use Rattle.std.proofs.Common.{◌≡◌, ℕ, zero, suc, ◌+◌, ◌-◌, ◌<�
 use mathlib.Core.Path.{fun_ext}
 use Rattle.std.proofs.lemmas.List.{length-append, length-take}
 use Rattle.pixel_format.specs.Reading.{Reading, Done, Want, padding, wants_more}
+use Rattle.pixel_format.proofs.ReadingLaws.{padding-after, padding-taken}
 use Rattle.rfb_wire.specs.ClientMessage.{ClientMessage, CutText, LostText}
 use Rattle.rfb_wire.specs.Message.{losing}
 use Rattle.rfb_wire.specs.ClientReader.{keeping, passing, Uses, UsesOrLoses}
-use Rattle.rfb_wire.proofs.TextForms.{text_step, text_after, text_taken, past_after, past_taken}
+use Rattle.rfb_wire.proofs.TextForms.{text_step, text_after, text_taken}
 
 -- A text that is lost is read past.
 pub losing_keeping : (kept : List ℕ) (left : ℕ) → losing (keeping kept left) ≡ padding left (Done (LostText (length kept + left)))
@@ -32,8 +33,8 @@ passing_uses left m new piece n some few fits e =
     record {
       some = some;
       fits = fits;
-      goes_on = e ∙ (ap (λ k. padding (left - k) (Done m)) (sym same) ∙ sym (past_after left (Done m) (take n piece) within));
-      all = past_taken left m (take n piece) within ∙ same;
+      goes_on = e ∙ (ap (λ k. padding (left - k) (Done m)) (sym same) ∙ sym (padding-after left (Done m) (take n piece) within));
+      all = padding-taken left (Done m) (take n piece) within ∙ same;
     }
 
 pub keeping_uses : (kept : List ℕ) (left : ℕ) (new : Reading ClientMessage) (piece : List ℕ) (n : ℕ) → 0 < n → n ≤ left → n ≤ length piece → new ≡ keeping (kept ++ take n piece) (left - n) → Uses (keeping kept left) new piece n

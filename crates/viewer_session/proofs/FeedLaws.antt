@@ -6,7 +6,6 @@ use Rattle.pixel_format.specs.declared.fault.Fault.{Fault}
 use Rattle.pixel_format.specs.Reading.{Reading, Done, Faulty, Want, after, taken, whole_of, fault_of, wants_more, renewed}
 use Rattle.pixel_format.proofs.ReadingLaws.{after-faulty}
 use Rattle.rfb_wire.specs.ClientMessage.{ClientMessage, without_text}
-use Rattle.rfb_wire.specs.declared.client_reader.ClientReader.{ClientReader}
 use Rattle.rfb_wire.specs.ClientReader.{ahead}
 use Rattle.rfb_wire.specs.Greeting.{Greeting}
 use Rattle.rfb_wire.specs.Message.{viewer_form, IsOrLoses, FeedsOrLoses}
@@ -174,10 +173,6 @@ feeding_faults old now new piece left fault h g e fed s p k =
     ∙ (ap (λ x. after_bytes s (past_hello (with_reading q x)) (drop (taken r left) left)) met.1
     ∙ (stays s q fault (drop (taken r left) left) ∙ sym (past s new (with_reading q (Faulty fault)) on (ap is_greeted e ∙ g)))))) in
     subst (λ (t : Viewer). Stands s new t) (sym same) on
-
-pub fault_met : (old new : ClientReader) (piece : List ℕ) (fault : Fault) → FeedsOrLoses (ahead old) (ahead new) piece (Err fault) → fault_of (ahead new) ≡ Some fault
-fault_met old new piece fault (inl h) = ap fault_of h.1
-fault_met old new piece fault (inr h) = ap fault_of h.1
 
 -- The screen's size and the role stay.
 pub same_session : (st : State) → IsSameSession st st

@@ -307,12 +307,6 @@ not_yet (Done x) w = absurd cc
 not_yet (Faulty f) w = refl
 not_yet (Want more) w = refl
 
--- Where no byte is wanted and there is no fault, it is done.
-pub done_then : (r : Reading (Unit {0})) → wants_more r ≡ false → fault_of r ≡ None → is_some (whole_of r) ≡ true
-done_then (Done x) w e = refl
-done_then (Faulty f) w e = absurd cc
-done_then (Want more) w e = absurd cc
-
 -- What is written of it leaves what was put out.
 pub greeting_on : (o : Option Greeting) (out new : Waiting) → new.room ≡ out.room → new.filled ≡ out.filled → IsGreeting o out → IsGreeting o new
 greeting_on None out new room filled k = tt

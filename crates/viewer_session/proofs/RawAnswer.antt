@@ -103,10 +103,6 @@ values_more zero m canvas =
     ap (λ n. map f (range_with_len 0 n)) none_more ∙ sym (ap (λ n. map f (range_with_len 0 n) ++ []) none)
 values_more (suc w) m canvas = values_more_by (suc w) m canvas (omega arith)
 
--- No row.
-pub values_none : (w : ℕ) (canvas : Canvas) → values_of w 0 canvas ≡ []
-values_none w canvas = let size : w * 0 ≡ 0 = omega arith in ap (λ n. map (λ k. canvas (k % w) (k / w)) (range_with_len 0 n)) size
-
 -- A part of a row of values is the row of the rectangle.
 pub part_is_row : (values : List ℕ) (w h : ℕ) (area : Rect) (m : ℕ) → length values ≡ w * h → IsWithin area w h → m < area.h
     → part_row values ((area.y + m) * w + area.x) area.w ≡ map (λ k. part_of area (value_at w values) k m) (range_with_len 0 area.w)

@@ -1,7 +1,7 @@
 -- What a session's state stands for, call by call.
 use Rattle.std.proofs.Common.{◌≡◌, ℕ, ◌-◌, ◌≤◌, Bool, true, false, cond, List, ◌∷◌, length, drop, Option, Some, None, refl, sym, ap, subst, ◌∙◌, arith, inl, inr}
 use Rattle.std.proofs.lemmas.Bool.Decides.{nat_tests}
-use Rattle.std.specs.Prelude.{◌&&◌, ◌||◌, if◌then◌else◌, nat_lt, unwrap_or, is_some, IsTrue}
+use Rattle.std.specs.Prelude.{if◌then◌else◌, is_some, IsTrue}
 use Rattle.std.proofs.lemmas.List.{length-drop, drop-drop}
 use Rattle.pixel_format.specs.declared.fault.Fault.{Fault}
 use Rattle.pixel_format.specs.PixelFormat.{PixelFormat}
@@ -18,13 +18,12 @@ use Rattle.rfb_wire.proofs.Beginnings.{nothing_lost}
 use Rattle.rfb_wire.proofs.Losing.{losing-fault}
 use Rattle.tiles.specs.Have.{SentTiles, HaveStands}
 use Rattle.tiles.specs.Touched.{Event, Requested, NewFormat, last_sent}
-use Rattle.reflect_core.specs.Asked.{Wanted, AskedStands, pending, has_asked}
+use Rattle.reflect_core.specs.Asked.{Wanted, AskedStands}
 use Rattle.viewer_session.specs.Extent.{Extent}
 use Rattle.viewer_session.specs.FirstPath.{first_path}
 use Rattle.viewer_session.specs.Record.{Took, events}
 use Rattle.viewer_session.specs.Viewer.{Setup, Viewer, served, viewer_fault, out_bytes}
-use Rattle.viewer_session.specs.Turn.{has_reason}
-use Rattle.viewer_session.specs.Session.{State, Stands, Greets, IsBetween, Keeps, at_rest, after_taking, after_look, after_writing, fault_in, is_greeted, wants_cut}
+use Rattle.viewer_session.specs.Session.{State, Stands, Greets, IsBetween, Keeps, at_rest, after_taking, after_look, after_writing, fault_in, is_greeted}
 use Rattle.viewer_session.proofs.HelloLaws.{hello_stands}
 
 -- ---- messages
@@ -236,12 +235,3 @@ between_stands s st p b greeted to from begins k =
       },
       λ t. from (subst (λ r. IsOrLoses (ahead st.reader) r) (t.begins ∙ form) k.reading),
     )
-
--- Reason to cut is reason by the record.
-pub reason_stands : (s : Setup) (st : State) (p : Viewer) (looked : ℕ) → Stands s st p → wants_cut st.asked looked ≡ has_reason s.w s.h p.entries looked
-reason_stands s st p looked k =
-    let es : List Event = events s.w s.h p.entries in
-    let reason : Option Rect → Bool → Option ℕ → Bool = λ area asked last. nat_lt (unwrap_or last 0) looked || (is_some area && asked) in
-    ap (λ a. reason a st.asked.asked st.asked.last) k.keeps.asked.area
-    ∙ (ap (λ b. reason (pending es) b st.asked.last) k.keeps.asked.asked
-    ∙ ap (reason (pending es) (has_asked es)) k.keeps.asked.last)

@@ -18,6 +18,7 @@ ghost use Rattle.viewer_session.specs.Turn.{has_reason};
 ghost use Rattle.viewer_session.specs.Viewer.{Setup, Viewer, new_viewer, after_byte, after_bytes, after_cut, may_look, served};
 
 use crate::outbox::Outbox;
+use crate::raw_update::{RECTANGLE_HEAD, UPDATE_HEAD};
 use pixel_format::{Fault, Format};
 use raster::Rect;
 use reflect_core::{Asked, Cut, ScreenSource};
@@ -27,8 +28,14 @@ use std::alloc::Global;
 use std::marker::Model;
 use tiles::Have;
 
-/// The most bytes that are said in a hello: 42, and a name of 255 bytes (RFC 6143, 7.1 to 7.3).
-const LONGEST_HELLO: usize = 297;
+/// What is said in a hello before the name, in bytes: the version, the security types, the SecurityResult, and ServerInit up to its name (RFC 6143, 7.1 to 7.3).
+const BEFORE_NAME: usize = 12 + 2 + 4 + 24;
+
+/// The most bytes of a name.
+const LONGEST_NAME: usize = 255;
+
+/// How many bytes a pixel of the widest format has (RFC 6143, 7.4).
+const WIDEST_PIXEL: usize = 4;
 
 // A rectangle with no position.
 const NOWHERE: Rect = Rect {
@@ -371,7 +378,8 @@ impl Session {
         }
     }
 
-    /// One turn. It does nothing and answers false while bytes are unsent, and after a fault. Otherwise it looks once and goes on as `turn_at`.
+    /// One turn. It does nothing and answers false while bytes are unsent, before the hello is done, and after a fault. Otherwise it looks once and goes on as
+    /// `turn_at`.
     pub fn turn<S: ScreenSource>(&mut self, source: &mut S) -> Result<bool, Fault>
         requires { (S.width source.old ≡ self.old.width) × (S.height source.old ≡ self.old.height) }
         ensures same { IsSameSession self.old self.new }
@@ -406,8 +414,8 @@ fn room_for(alloc: Global, w: u64, h: u64) -> Result<Outbox, Fault>
     ensures empty { IfOk result (λ out. (out.filled ≡ 0) × (out.unsent ≡ [])) }
     ensures err { IfErr result (λ fault. fault ≡ Memory) }
 {
-    let longest_update = (16 + 4 * w * h) as usize;
-    Outbox::new(alloc, longest_update.max(LONGEST_HELLO))
+    let longest_update = UPDATE_HEAD + RECTANGLE_HEAD + WIDEST_PIXEL * (w * h) as usize;
+    Outbox::new(alloc, longest_update.max(BEFORE_NAME + LONGEST_NAME))
 }
 
 // What is to be said in a hello by now waits to be sent.

@@ -12,7 +12,7 @@ use super::{Back, Line, MOST, Message, ROOM, Seats, Sender, Sent, Settled, Taken
 use crossbeam_queue::Pass;
 use pixel_format::Fault;
 use roles::Input;
-use std::alloc::{AllocError, Global};
+use std::alloc::Global;
 use std::sync::{Arc, Wait};
 
 impl<R: Wait + Drop> Sender<R> {
@@ -89,30 +89,13 @@ impl<R: Wait + Drop> Settled<R> {
     }
 }
 
-/// A relay for 1 to 64 places with room for 256 inputs: the senders of the places from 0 on, each at its number, and the taker.
-/// It fails where memory is refused (`Memory`).
-pub fn relay<R: Wait + Drop + Clone>(
-    rt: R,
-    alloc: Global,
-    places: u64,
-) -> Result<(Vec<Sender<R>>, Taker<R>), Fault>
-    requires { (0 < places) × (places ≤ 64) }
-    ensures count { IfOk result (λ r. vec_len r.0 ≡ places) }
-    ensures places { IfOk result (λ r. map strand_of r.0.items ≡ fresh places) }
-    ensures one { IfOk result (λ r. All (λ s. relay_of s ≡ host_of r.1) r.0.items) }
-    ensures taken { IfOk result (λ r. taken_of r.1 ≡ []) }
-    ensures err { IfErr result (λ fault. fault ≡ Memory) }
-{
-    ends(rt, alloc, places).map_err(|_| Fault::Memory)
-}
-
 // The sender of the next place, made of the taker's pass.
 fn seat<R: Wait + Drop + Clone>(
     line: &Arc<Line, Global>,
     pass: &mut Pass<Message, View>,
     rt: &R,
     place: u64,
-) -> Result<Sender<R>, AllocError>
+) -> Result<Sender<R>, Fault>
     requires seated { IsPassOf (arc_value line.now) pass.old }
     requires knows { view pass.old ≡ taker place [] [] }
     ensures seated { IsPassOf (arc_value line.now) pass.new }
@@ -120,6 +103,7 @@ fn seat<R: Wait + Drop + Clone>(
     ensures made { IfOk result (λ sender. strand_of sender ≡ strand place []) }
     ensures own { IfOk result (λ sender. relay_of sender ≡ pass.old.table_id) }
     ensures knows { OnOk result (view pass.new ≡ taker (place + 1) [] []) }
+    ensures err { IfErr result (λ fault. fault ≡ Memory) }
 {
     let line_too = Arc::try_clone(line)?;
     let rt = rt.clone()?;
@@ -133,16 +117,19 @@ fn seat<R: Wait + Drop + Clone>(
     })
 }
 
-fn ends<R: Wait + Drop + Clone>(
+/// A relay for 1 to 64 places with room for 256 inputs: the senders of the places from 0 on, each at its number, and the taker.
+/// It fails where memory is refused (`Memory`).
+pub fn relay<R: Wait + Drop + Clone>(
     rt: R,
     alloc: Global,
     places: u64,
-) -> Result<(Vec<Sender<R>>, Taker<R>), AllocError>
+) -> Result<(Vec<Sender<R>>, Taker<R>), Fault>
     requires { (0 < places) × (places ≤ 64) }
     ensures count { IfOk result (λ r. vec_len r.0 ≡ places) }
     ensures places { IfOk result (λ r. map strand_of r.0.items ≡ fresh places) }
     ensures one { IfOk result (λ r. All (λ s. relay_of s ≡ host_of r.1) r.0.items) }
     ensures taken { IfOk result (λ r. taken_of r.1 ≡ []) }
+    ensures err { IfErr result (λ fault. fault ≡ Memory) }
 {
     let (line, mut pass) = Line::ruled(alloc, ROOM)?;
     let line = Arc::new(alloc, line)?;

@@ -9,7 +9,7 @@ ghost use Rattle.rfb_wire.specs.Parts.{len_of};
 
 use crate::client_reader::fields::Fields;
 use crate::client_reader::found::Found;
-use crate::client_reader::kept::{Kept, LONGEST_TEXT};
+use crate::client_reader::kept::Kept;
 use crate::client_reader::part::Part;
 use crate::client_reader::past::Past;
 use crate::client_reader::state::{State, Wrong};
@@ -18,7 +18,7 @@ use crate::message_type::{
     CLIENT_CUT_TEXT, FRAMEBUFFER_UPDATE_REQUEST, KEY_EVENT, POINTER_EVENT, SET_ENCODINGS,
     SET_PIXEL_FORMAT,
 };
-use pixel_format::Format;
+use pixel_format::{Format, LONGEST_TEXT};
 use raster::Rect;
 use std::alloc::Global;
 

@@ -1,6 +1,7 @@
 //! A text that is kept as it comes.
 
 ghost use Rattle.std.specs.Prelude.{◌≡◌, ◌+◌, ◌-◌, ◌<◌, ◌≤◌, ◌⊎◌, List, [], ◌++◌, ℕ, length};
+ghost use Rattle.pixel_format.specs.declared.limits.TheConstants.{LONGEST_TEXT};
 ghost use Rattle.rfb_wire.specs.ClientReader.{ahead, keeping, passing};
 
 use crate::client_reader::past::Past;
@@ -9,9 +10,6 @@ use crate::message::ClientMessage;
 use crate::text::Text;
 use std::alloc::Global;
 use std::marker::Model;
-
-/// The longest text that is kept, in bytes.
-pub const LONGEST_TEXT: u32 = 65536;
 
 /// The bytes of a text that have come, and how many are left: at least one.
 #[derive(Drop)]
@@ -22,18 +20,19 @@ pub struct Kept {
 
 impl Model for Kept {
     ghost use Rattle.std.specs.Prelude.{ℕ, ◌+◌, ◌<◌, ◌≤◌, List, length};
+    ghost use Rattle.pixel_format.specs.declared.limits.TheConstants.{LONGEST_TEXT};
 
     ghost Value = { List ℕ × ℕ };
 
     ghost view = { λ k. (k.bytes.items, k.left) };
 
-    ghost invariant = { λ k. (0 < k.left) × (length k.bytes.items + k.left ≤ 65536) };
+    ghost invariant = { λ k. (0 < k.left) × (length k.bytes.items + k.left ≤ LONGEST_TEXT) };
 }
 
 impl Kept {
     /// No byte of a text of this length. It takes no memory.
     pub fn begin(alloc: Global, len: usize) -> State
-        requires { len ≤ 65536 }
+        requires { len ≤ LONGEST_TEXT }
         ensures { ahead result ≡ keeping [] len }
     {
         let bytes = Vec::new(alloc);

@@ -12,7 +12,7 @@ returns-in-Count-clause-goes_on c sofar holds suited =
     let none = rw c.in-Count.is at suited in
     let count = rw c.in-Count.is at c.requires.count in
     rw c.in-Count.is
-    (subst (λ (r : Reading ServerMessage). GoesOn c.args.painter.now c.next_rectangle.new.painter c.next_rectangle.result r) (sym (behind_count w h sofar c.args.b.now c.from_be_bytes.result count none c.from_be_bytes.ensures))
+    (subst (λ (r : Reading ServerMessage). GoesOn c.args.painter.now c.next_rectangle.new.painter c.next_rectangle.result r) (sym (behind_count w h sofar c.args.b.now c.read_update_head.result count none c.read_update_head.ensures))
     (c.next_rectangle.ensures.goes_on sofar holds))
 
 pub returns-in-Area-clause-goes_on : goal.returns-in-Area-clause-goes_on
@@ -26,7 +26,7 @@ returns-in-Encoding-clause-goes_on c sofar holds suited =
     let count = rw c.in-Encoding.is at c.requires.count in
     rw c.in-Encoding.is
     (subst (λ (r : Reading ServerMessage). GoesOn c.args.painter.now c.begin_data.new.painter c.begin_data.result r)
-    (sym (behind_encoding w h sofar c.in-Encoding.left c.in-Encoding.area c.args.b.now c.from_be_bytes-encoding.result count c.from_be_bytes-encoding.ensures)) (c.begin_data.ensures.goes_on sofar holds))
+    (sym (behind_encoding w h sofar c.in-Encoding.left c.in-Encoding.area c.args.b.now c.read_encoding.result count c.read_encoding.ensures)) (c.begin_data.ensures.goes_on sofar holds))
 
 pub returns-in-Colours-clause-stays : goal.returns-in-Colours-clause-stays
 returns-in-Colours-clause-stays c = record { width = refl; height = refl; suits = c.behind_colours.ensures.suits c.args.painter.now.width c.args.painter.now.height }

@@ -13,8 +13,5 @@ invariant-loop g l =
       painter : IsFor l.decoder l.painter;
       publisher_wide : g.P.Puts.width l.publisher ≡ g.P.Puts.width l.fn.publisher;
       publisher_high : g.P.Puts.height l.publisher ≡ g.P.Puts.height l.fn.publisher;
-      given : g.L.Link.given l.link ≡ g.L.Link.given l.fn.link;
-      failed : g.L.Link.failed l.link ≡ g.L.Link.failed l.fn.link;
-      ended : g.L.Link.ended l.link ≡ g.L.Link.ended l.fn.link;
-      running : IsRunning l.fn.decoder.width l.fn.decoder.height l.decoder l.painter l.is_between (g.L.Link.taken l.fn.link) (g.L.Link.taken l.link) (g.P.Puts.updates l.fn.publisher) (g.P.Puts.updates l.publisher);
+      running : IsRunning l.fn.decoder.width l.fn.decoder.height l.decoder l.painter l.is_between (g.L.Link.state l.fn.link) (g.L.Link.state l.link) (g.P.Puts.updates l.fn.publisher) (g.P.Puts.updates l.publisher);
     }

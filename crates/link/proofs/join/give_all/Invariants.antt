@@ -4,7 +4,7 @@ use Rattle.link.proofs.join.give_all.Given as goal
 abbrev pub invariant-loop : goal.invariant-loop
 invariant-loop g l =
     (goal.iterator-loop g).can_next l.iterator' × (goal.iterator-loop g).is_finite l.iterator'
-    × (g.L.Link.given l.link ++ l.left ≡ g.L.Link.given l.fn.link ++ l.fn.bytes)
-    × (g.L.Link.taken l.link ≡ g.L.Link.taken l.fn.link)
-    × (g.L.Link.failed l.link ≡ g.L.Link.failed l.fn.link)
-    × (g.L.Link.ended l.link ≡ g.L.Link.ended l.fn.link)
+    × ((g.L.Link.state l.link).given ++ l.left ≡ (g.L.Link.state l.fn.link).given ++ l.fn.bytes)
+    × ((g.L.Link.state l.link).taken ≡ (g.L.Link.state l.fn.link).taken)
+    × ((g.L.Link.state l.link).failed ≡ (g.L.Link.state l.fn.link).failed)
+    × ((g.L.Link.state l.link).ended ≡ (g.L.Link.state l.fn.link).ended)

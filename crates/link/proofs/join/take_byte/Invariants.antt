@@ -5,7 +5,4 @@ abbrev pub invariant-loop : goal.invariant-loop
 invariant-loop g l =
     (goal.iterator-loop g).can_next l.iterator' × (goal.iterator-loop g).is_finite l.iterator'
     × (length l.byte ≡ 1)
-    × (g.L.Link.taken l.link ≡ g.L.Link.taken l.fn.link)
-    × (g.L.Link.given l.link ≡ g.L.Link.given l.fn.link)
-    × (g.L.Link.failed l.link ≡ g.L.Link.failed l.fn.link)
-    × (g.L.Link.ended l.link ≡ g.L.Link.ended l.fn.link)
+    × (g.L.Link.state l.link ≡ g.L.Link.state l.fn.link)

@@ -1,4 +1,4 @@
-use Rattle.std.proofs.Common.{◌≡◌, ℕ, ◌*◌, List, drop, refl, ap, ◌∙◌}
+use Rattle.std.proofs.Common.{ℕ, ◌*◌, List, drop, refl, ap, ◌∙◌}
 use Rattle.pixel_format.specs.PixelFormat.{row_bytes}
 use Rattle.raster.specs.Screen.{value_at}
 use Rattle.rfb_wire.specs.Writing.{update_head_bytes, rectangle_head_bytes}

@@ -1,12 +1,11 @@
-use Rattle.std.proofs.Common.{◌≡◌, ℕ, ◌-◌, ◌≤◌, ◌++◌, true, false, List, length, take, min, ap, sym, ◌∙◌, length-append, None, arith}
+use Rattle.std.proofs.Common.{◌≡◌, ℕ, ◌-◌, ◌≤◌, ◌++◌, List, length, take, min, ap, sym, ◌∙◌, length-append, None, arith}
 use Rattle.std.proofs.lemmas.Bool.{eqb-true, eqb-false}
 use Rattle.pixel_format.specs.Reading.{Reading, after, taken, fault_of}
+use Rattle.pixel_format.proofs.ReadingLaws.{wants_no_fault}
 use Rattle.raster.specs.declared.rect.Rect.{Rect}
-use Rattle.raster.specs.Screen.{is_within}
 use Rattle.raster.specs.Update.{Paint}
 use Rattle.rfb_wire.specs.ServerMessage.{copy_rect}
-use Rattle.host_decoder.specs.Data.{source_in}
-use Rattle.host_decoder.proofs.Copies.{closing_fed, copy_needs, copy_closes, copy_open, copy_inside, copy_outside, open_no_fault}
+use Rattle.host_decoder.proofs.Copies.{closing_fed, copy_needs, copy_closes, copy_open, copy_inside, copy_outside}
 use Rattle.host_decoder.proofs.copy_source.CopySource.feed.Goals as goal
 use Rattle.host_decoder.proofs.copy_source.CopySource.feed.Goals.{else-is_full-via-then-is_full+else-not-within, else-is_full-via-else-is_full}
 
@@ -25,9 +24,7 @@ returns-then-not-within c reading e =
     let area = c.args.area.now in
     let go = goes c.args.w c.args.h t.result area c.args.self.now new c.args.piece.now reading e t.ensures.bytes t.ensures.most t.ensures.count in
     let full : length new ≡ 4 = eqb-true (length new) 4 (sym c.is_full.ensures.value ∙ c.if-is_full.true) in
-    let out : is_within (source_in area new) c.args.w c.args.h ≡ false =
-    ap (λ (r : Rect). is_within r c.args.w c.args.h) (sym (c.source.ensures (omega (arith, full)))) ∙ (sym c.within.ensures ∙ c.if-not-within.true) in
-    (go.0, go.0 ∙ copy_outside c.args.w c.args.h area new (omega (arith, full)) out)
+    (go.0, go.0 ∙ copy_outside c.args.w c.args.h area c.source.result new (c.source.ensures.value full) (sym c.within.ensures ∙ c.if-not-within.true))
 
 pub returns : goal.returns
 returns c reading e =
@@ -40,9 +37,7 @@ returns c reading e =
     let sound : fault_of (after (copy_rect w h area) new) ≡ None =
     elim c.else-is_full.branch [
       | else-is_full-via-then-is_full+else-not-within b ↦ (let full : length new ≡ 4 = eqb-true (length new) 4 (sym c.is_full.ensures.value ∙ b.if-is_full.true) in
-          let inside : is_within (source_in area new) w h ≡ true =
-          ap (λ (r : Rect). is_within r w h) (sym (b.source.ensures (omega (arith, full)))) ∙ (sym b.within.ensures ∙ b.if-not-within.false) in
-          ap (λ (r : Reading Paint). fault_of r) (copy_inside w h area new (omega (arith, full)) inside))
-      | else-is_full-via-else-is_full b ↦ open_no_fault (after (copy_rect w h area) new) (copy_open w h area new (omega (arith, t.ensures.most, eqb-false (length new) 4 (sym c.is_full.ensures.value ∙ b.if-is_full.false))))
+          ap (λ (r : Reading Paint). fault_of r) (copy_inside w h area b.source.result new (b.source.ensures.value full) (sym b.within.ensures ∙ b.if-not-within.false)))
+      | else-is_full-via-else-is_full b ↦ wants_no_fault (after (copy_rect w h area) new) (copy_open w h area new (omega (arith, t.ensures.most, eqb-false (length new) 4 (sym c.is_full.ensures.value ∙ b.if-is_full.false))))
     ] in
     (go.0, (go.1, ap (λ (r : Reading Paint). fault_of r) go.0 ∙ sound))

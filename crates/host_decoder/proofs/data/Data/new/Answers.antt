@@ -1,12 +1,16 @@
-use Rattle.std.proofs.Common.{refl}
+use Rattle.std.proofs.Common.{◌≡◌, refl, sym, ap, ◌∙◌}
+use Rattle.raster.specs.Encoding.{encoding_number}
 use Rattle.host_decoder.proofs.data.Data.new.Goals as goal
-use Rattle.host_decoder.proofs.data.Data.new.Goals.{in-0+in_ok-new-in-0, in-1, in-2+in_ok-new-in-2, in-5+in_ok-new-in-5}
+use Rattle.host_decoder.proofs.data.Data.new.Goals.{in-Some-Raw+in_ok-new-in-Some-Raw, in-Some-Rre+in_ok-new-in-Some-Rre, in-Some-Hextile+in_ok-new-in-Some-Hextile, in-None}
 
 pub returns-clause-stands : goal.returns-clause-stands
 returns-clause-stands c =
-    elim c.match-encoding.branch [
-      | in-0+in_ok-new-in-0 w ↦ rw (w.body-is, w.in-0.is) (w.in_ok-new-in-0.ensures.ok c.args.area refl)
-      | in-1 w ↦ rw (w.body-is, w.in-1.is, w.new-in-1.ensures) refl
-      | in-2+in_ok-new-in-2 w ↦ rw (w.body-is, w.in-2.is) (w.in_ok-new-in-2.ensures.ok c.args.area refl refl)
-      | in-5+in_ok-new-in-5 w ↦ rw (w.body-is, w.in-5.is) (w.in_ok-new-in-5.ensures.ok c.args.area refl refl)
+    elim c.match-of_number.branch [
+      | in-Some-Raw+in_ok-new-in-Some-Raw w ↦ (let number : c.args.encoding ≡ 0 = sym w.in-Some-Raw.ensures.found ∙ ap encoding_number w.in-Some-Raw.field-0-is in
+          rw (w.body-is, number) (w.in_ok-new-in-Some-Raw.ensures.ok c.args.area refl))
+      | in-Some-Rre+in_ok-new-in-Some-Rre w ↦ (let number : c.args.encoding ≡ 2 = sym w.in-Some-Rre.ensures.found ∙ ap encoding_number w.in-Some-Rre.field-0-is in
+          rw (w.body-is, number) (w.in_ok-new-in-Some-Rre.ensures.ok c.args.area refl refl))
+      | in-Some-Hextile+in_ok-new-in-Some-Hextile w ↦ (let number : c.args.encoding ≡ 5 = sym w.in-Some-Hextile.ensures.found ∙ ap encoding_number w.in-Some-Hextile.field-0-is in
+          rw (w.body-is, number) (w.in_ok-new-in-Some-Hextile.ensures.ok c.args.area refl refl))
+      | in-None w ↦ rw (w.body-is, w.if-encoding-eq-COPY_RECT.true, w.new-in-None.ensures) refl
     ]

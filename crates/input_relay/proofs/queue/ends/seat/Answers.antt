@@ -1,4 +1,4 @@
-use Rattle.std.proofs.Common.{◌≡◌, ◌+◌, sym, ap, ◌∙◌}
+use Rattle.std.proofs.Common.{◌+◌, sym, ap, ◌∙◌}
 use Rattle.input_relay.specs.declared.queue.View.{View}
 use Rattle.input_relay.specs.Relay.{strand, taker}
 use Rattle.input_relay.proofs.Strands.{forks}

@@ -20,20 +20,20 @@ place_narrow-requires-3-clause-fits c =
 
 pub overflow_add-result : goal.overflow_add-result
 overflow_add-result c =
-    let red : c.place_narrow.result ≡ on_channel c.args.format.now.red (red_of c.args.colour) = rw (c.place_narrow.ensures, c.to_le_bytes.ensures, ← c.format.view_is) refl in
-    let green : c.place_narrow-2.result ≡ on_channel c.args.format.now.green (green_of c.args.colour) = rw (c.place_narrow-2.ensures, c.to_le_bytes.ensures, ← c.format.view_is) refl in
+    let red : c.place_narrow.result ≡ on_channel c.args.format.now.red (red_of c.args.colour) = rw (c.place_narrow.ensures, c.components-red.ensures.red, ← c.format.view_is) refl in
+    let green : c.place_narrow-2.result ≡ on_channel c.args.format.now.green (green_of c.args.colour) = rw (c.place_narrow-2.ensures, c.components-red.ensures.green, ← c.format.view_is) refl in
     two_fit c.args.format.now c.args.colour c.place_narrow.result c.place_narrow-2.result (rw (← c.format.view_is) c.format.invariant) red green
 
 pub overflow_add-result-2 : goal.overflow_add-result-2
 overflow_add-result-2 c =
-    let red : c.place_narrow.result ≡ on_channel c.args.format.now.red (red_of c.args.colour) = rw (c.place_narrow.ensures, c.to_le_bytes.ensures, ← c.format.view_is) refl in
-    let green : c.place_narrow-2.result ≡ on_channel c.args.format.now.green (green_of c.args.colour) = rw (c.place_narrow-2.ensures, c.to_le_bytes.ensures, ← c.format.view_is) refl in
-    let blue : c.place_narrow-3.result ≡ on_channel c.args.format.now.blue (blue_of c.args.colour) = rw (c.place_narrow-3.ensures, c.to_le_bytes.ensures, ← c.format.view_is) refl in
+    let red : c.place_narrow.result ≡ on_channel c.args.format.now.red (red_of c.args.colour) = rw (c.place_narrow.ensures, c.components-red.ensures.red, ← c.format.view_is) refl in
+    let green : c.place_narrow-2.result ≡ on_channel c.args.format.now.green (green_of c.args.colour) = rw (c.place_narrow-2.ensures, c.components-red.ensures.green, ← c.format.view_is) refl in
+    let blue : c.place_narrow-3.result ≡ on_channel c.args.format.now.blue (blue_of c.args.colour) = rw (c.place_narrow-3.ensures, c.components-red.ensures.blue, ← c.format.view_is) refl in
     three_fit c.args.format.now c.args.colour c.place_narrow.result c.place_narrow-2.result c.place_narrow-3.result (rw (← c.format.view_is) c.format.invariant) red green blue
 
 pub returns-clause-bound : goal.returns-clause-bound
 returns-clause-bound c =
-    let red : c.place_narrow.result ≡ on_channel c.args.format.now.red (red_of c.args.colour) = rw (c.place_narrow.ensures, c.to_le_bytes.ensures, ← c.format.view_is) refl in
-    let green : c.place_narrow-2.result ≡ on_channel c.args.format.now.green (green_of c.args.colour) = rw (c.place_narrow-2.ensures, c.to_le_bytes.ensures, ← c.format.view_is) refl in
-    let blue : c.place_narrow-3.result ≡ on_channel c.args.format.now.blue (blue_of c.args.colour) = rw (c.place_narrow-3.ensures, c.to_le_bytes.ensures, ← c.format.view_is) refl in
+    let red : c.place_narrow.result ≡ on_channel c.args.format.now.red (red_of c.args.colour) = rw (c.place_narrow.ensures, c.components-red.ensures.red, ← c.format.view_is) refl in
+    let green : c.place_narrow-2.result ≡ on_channel c.args.format.now.green (green_of c.args.colour) = rw (c.place_narrow-2.ensures, c.components-red.ensures.green, ← c.format.view_is) refl in
+    let blue : c.place_narrow-3.result ≡ on_channel c.args.format.now.blue (blue_of c.args.colour) = rw (c.place_narrow-3.ensures, c.components-red.ensures.blue, ← c.format.view_is) refl in
     three_below c.args.format.now c.args.colour c.place_narrow.result c.place_narrow-2.result c.place_narrow-3.result (rw (← c.format.view_is) c.format.invariant) red green blue

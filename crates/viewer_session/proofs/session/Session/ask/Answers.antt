@@ -2,7 +2,7 @@ use Rattle.std.proofs.Common.{Bool, ◌∷◌, refl, sym, ap, subst, ◌∙◌}
 use Rattle.tiles.specs.Touched.{Requested}
 use Rattle.tiles.specs.Have.{HaveStands}
 use Rattle.tiles.proofs.HaveLaws.{stands_incremental}
-use Rattle.viewer_session.specs.Session.{State, Stands, IsSameSession, after_taking}
+use Rattle.viewer_session.specs.Session.{State, Stands, after_taking}
 use Rattle.viewer_session.specs.contracts.session.Session.{the_view}
 use Rattle.rfb_wire.specs.ClientMessage.{Ask}
 use Rattle.viewer_session.proofs.Parts.{sound_on, same_size, same_at}

@@ -3,7 +3,7 @@ use Rattle.std.specs.Arc.{arc_value}
 use Rattle.crossbeam_queue.specs.Passes.{view, IsPassOf}
 use Rattle.input_relay.specs.Relay.{taker}
 use Rattle.input_relay.specs.Ends.{relay_of, strand_of, fresh}
-use Rattle.input_relay.proofs.queue.ends.ends.Given as goal
+use Rattle.input_relay.proofs.queue.ends.relay.Given as goal
 
 abbrev pub invariant-loop-place : goal.invariant-loop-place
 invariant-loop-place g l = record {

@@ -3,7 +3,7 @@ use Rattle.std.proofs.lemmas.List.{map-append}
 use Rattle.input_relay.specs.declared.queue.Strand.{Strand}
 use Rattle.input_relay.specs.Ends.{strand_of, fresh, relay_of}
 use Rattle.input_relay.proofs.Strands.{begins, all_more}
-use Rattle.input_relay.proofs.queue.ends.ends.Goals as goal
+use Rattle.input_relay.proofs.queue.ends.relay.Goals as goal
 
 pub ruled-requires-clause-rule : goal.ruled-requires-clause-rule
 ruled-requires-clause-rule g c = begins
