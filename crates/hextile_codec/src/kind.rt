@@ -1,15 +1,13 @@
 //! The kinds of a tile as it is written, and which of them one has.
 
-ghost use Rattle.std.specs.Prelude.{◌≡◌, ℕ, ◌+◌, ◌*◌, ◌<◌, ◌≤◌, length, map};
-ghost use Rattle.arrayvec.specs.ArrayVec.{array_vec_len};
-ghost use Rattle.pixel_format.specs.PixelFormat.{pixel_len};
+ghost use Rattle.std.specs.Prelude.{◌≡◌, ◌+◌, ◌*◌, ◌<◌, ◌≤◌, length, map};
 ghost use Rattle.raster.specs.Screen.{value_at, part_of};
-ghost use Rattle.raster.specs.Encoding.{runs, drawn_bytes, drawn_leaves, tile_bytes, unless_said};
+ghost use Rattle.raster.specs.Encoding.{runs, unless_said};
 ghost use Rattle.hextile_codec.specs.Carried.{carried_by};
 ghost use Rattle.hextile_codec.specs.Kinds.{subrect_of, kind_of, leaves_of, drawn_len, IsChosen};
 
 use crate::colours::{Colours, is_said};
-use crate::runs::{Run, Runs, find_runs, has_one_value};
+use crate::runs::{Run, Runs, TILE_AREA, find_runs, has_one_value};
 use pixel_format::Format;
 use raster::{Rect, TILE_SIDE};
 
@@ -58,7 +56,7 @@ fn colour_len(format: &Format, before: Option<u32>, value: u32) -> usize
 
 /// How many bytes a tile of so many runs has that isn't Raw.
 fn drawn_len(format: &Format, said: &Colours, background: u32, kind: Kind, count: usize) -> usize
-    requires { count ≤ 256 }
+    requires { count ≤ TILE_AREA }
     ensures { result ≡ drawn_len format.now (carried_by said.now) background kind count }
 {
     let head = 1 + colour_len(format, said.background, background);

@@ -1,6 +1,6 @@
 //! Drawing the pixels of a Raw tile.
 
-ghost use Rattle.std.specs.Prelude.{◌≡◌, ℕ, ◌+◌, ◌*◌, ◌/◌, ◌<◌, ◌≤◌, ◌^◌, length, take, min};
+ghost use Rattle.std.specs.Prelude.{◌≡◌, ◌+◌, ◌*◌, ◌/◌, ◌<◌, ◌≤◌, ◌^◌, length, take, min};
 ghost use Rattle.pixel_format.specs.PixelFormat.{pixel_len};
 ghost use Rattle.raster.specs.Screen.{LooksLike, lay, value_at};
 ghost use Rattle.hextile_codec.specs.Ahead.{DrawsIn, DrawsTo, IsTile, pixels_in};

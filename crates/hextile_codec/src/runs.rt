@@ -1,6 +1,6 @@
 //! The runs of a tile.
 
-ghost use Rattle.std.specs.Prelude.{◌≡◌, ℕ, ◌+◌, ◌*◌, ◌<◌, ◌≤◌, ◌++◌, ◌==◌, false, length, map, take_while, slice_index, IsTrue};
+ghost use Rattle.std.specs.Prelude.{◌≡◌, ◌+◌, ◌*◌, ◌<◌, ◌≤◌, ◌++◌, ◌==◌, false, length, map, take_while, IsTrue};
 ghost use Rattle.std.specs.List.{list_all};
 ghost use Rattle.arrayvec.specs.ArrayVec.{array_vec_len};
 ghost use Rattle.raster.specs.Screen.{value_at, part_of};
@@ -13,7 +13,7 @@ use std::simd::cmp::SimdPartialEq;
 use std::simd::u32x16;
 
 /// How many pixels a tile has at most.
-pub const TILE_AREA: usize = 256;
+pub const TILE_AREA: usize = (TILE_SIDE * TILE_SIDE) as usize;
 
 /// A run: `len` pixels of one value, from column `x` of row `y` of its tile on.
 #[derive(Clone, Copy, Default)]

@@ -1,6 +1,6 @@
 //! Runs of one value in a row.
 
-ghost use Rattle.std.specs.Prelude.{◌≡◌, ℕ, ◌+◌, ◌<◌, ◌≤◌, ◌^◌, ◌++◌, ◌==◌, length, take, take_while};
+ghost use Rattle.std.specs.Prelude.{◌≡◌, ◌+◌, ◌<◌, ◌≤◌, ◌^◌, ◌++◌, ◌==◌, length, take, take_while};
 ghost use Rattle.pixel_format.specs.PixelFormat.{pixel_len};
 ghost use Rattle.raster.specs.Encoding.{rre_subrect_bytes};
 

@@ -1,6 +1,6 @@
 //! Writing RRE.
 
-ghost use Rattle.std.specs.Prelude.{◌≡◌, ℕ, ◌+◌, ◌*◌, ◌<◌, ◌≤◌, ◌^◌, ◌++◌, length, take};
+ghost use Rattle.std.specs.Prelude.{◌≡◌, ◌+◌, ◌*◌, ◌<◌, ◌≤◌, ◌^◌, ◌++◌, length, take};
 ghost use Rattle.std.specs.List.{flat_map};
 ghost use Rattle.pixel_format.specs.PixelFormat.{pixel_len, pixel_bytes};
 ghost use Rattle.raster.specs.declared.encoding.Encoding.TheVariants.{Rre};
