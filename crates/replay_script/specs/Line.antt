@@ -1,5 +1,7 @@
--- The lines of a script.
-use Rattle.std.specs.Prelude.{◌≤◌, length}
+-- The lines of a script: a word, and what stands behind its blank.
+use Rattle.std.specs.Prelude.{◌≡◌, ◌≤◌, ◌++◌, ◌∷◌, ℕ, List, Option, IfSome, IfNone, codes, length}
+use Rattle.std.specs.Fmt.{decimal}
+use Rattle.replay_script.specs.Script.{IsHex, blank}
 use Rattle.replay_script.specs.declared.line.Line.{Line}
 use Rattle.replay_script.specs.declared.line.Line.TheVariants.{Screen, Host, Raise, Open, Greet, Viewer, Turn}
 
@@ -12,3 +14,33 @@ IsInRange (Open viewer) = (1 ≤ viewer) × (viewer ≤ 64)
 IsInRange (Greet viewer) = (1 ≤ viewer) × (viewer ≤ 64)
 IsInRange (Viewer viewer bytes) = (1 ≤ viewer) × (viewer ≤ 64)
 IsInRange (Turn viewer) = (1 ≤ viewer) × (viewer ≤ 64)
+
+-- Its first word.
+abbrev pub word_of : Line → List ℕ
+word_of (Screen width height name) = codes "screen"
+word_of (Host bytes) = codes "host"
+word_of Raise = codes "raise"
+word_of (Open viewer) = codes "open"
+word_of (Greet viewer) = codes "greet"
+word_of (Viewer viewer bytes) = codes "viewer"
+word_of (Turn viewer) = codes "turn"
+
+-- What stands behind the blank after that word: W H NAME, HEX, V full, V HEX or V. Numbers are decimal, with neither a sign nor leading zeros.
+abbrev pub SaysBehind : Line → List ℕ → Type 0
+SaysBehind (Screen width height name) rest = rest ≡ decimal width ++ (blank ∷ (decimal height ++ (blank ∷ name.now)))
+SaysBehind (Host bytes) rest = IsHex rest bytes.items
+SaysBehind Raise rest = ⊥
+SaysBehind (Open viewer) rest = rest ≡ decimal viewer ++ (blank ∷ codes "full")
+SaysBehind (Greet viewer) rest = rest ≡ decimal viewer ++ (blank ∷ codes "full")
+SaysBehind (Viewer viewer bytes) rest = (hex : List ℕ) × (rest ≡ decimal viewer ++ (blank ∷ hex)) × IsHex hex bytes.items
+SaysBehind (Turn viewer) rest = rest ≡ decimal viewer
+
+-- A text is this line: its word, a blank and what stands behind; or a word alone.
+abbrev pub Says : Line → List ℕ → Type 0
+Says Raise text = text ≡ codes "raise"
+Says line text = (rest : List ℕ) × (text ≡ word_of line ++ (blank ∷ rest)) × SaysBehind line rest
+
+-- What was read behind a word is such a line, and None where there is none.
+pub record ReadsBehind (word text : List ℕ) (found : Option Line) : Type 0 where
+  pub some : IfSome found (λ line. IsInRange line × (word_of line ≡ word) × SaysBehind line text)
+  pub none : IfNone found ((line : Line) → IsInRange line → word_of line ≡ word → ¬ SaysBehind line text)

@@ -1,8 +1,11 @@
 //! Lines of a script.
 
-ghost use Rattle.std.specs.Prelude.{◌≤◌, IfOk, IfErr, IfSome, ◌≡◌};
+ghost use Rattle.std.specs.Prelude.{◌≡◌, ◌≢◌, ◌==◌, ◌≤◌, ◌<◌, ◌^◌, ◌++◌, ◌∷◌, ◌&&◌, ◌||◌, ℕ, All, IfOk, IfErr, IfSome, IfNone, codes, length, nat_lt, slice_index};
+ghost use Rattle.std.specs.Fmt.{decimal};
 ghost use Rattle.pixel_format.specs.declared.fault.Fault.TheVariants.{Memory};
-ghost use Rattle.replay_script.specs.Line.{IsInRange};
+ghost use Rattle.replay_script.specs.Script.{blank};
+ghost use Rattle.replay_script.specs.Line.{IsInRange, ReadsBehind, Says};
+ghost use Rattle.replay_script.specs.declared.line.Line as declared;
 
 use crate::hexadecimal::script_bytes;
 use pixel_format::Fault;
@@ -31,12 +34,14 @@ impl<'a> Line<'a> {
     /// Reads a line, without its line feed. `None` where it has another form. Its only fault is `Memory`.
     pub fn read(alloc: Global, line: &'a str) -> Result<Option<Line<'a>>, Fault>
         ensures in_range { IfOk result (λ found. IfSome found IsInRange) }
+        ensures says { IfOk result (λ found. IfSome found (λ said. Says said line.now)) }
+        ensures none { IfOk result (λ found. IfNone found ((said : declared.Line) → IsInRange said → ¬ Says said line.now)) }
         ensures memory { IfErr result (λ fault. fault ≡ Memory) }
     {
         if line == "raise" {
             return Ok(Some(Line::Raise));
         }
-        let Some((word, rest)) = line.split_once(' ') else {
+        let Some((word, rest)) = split(line) else {
             return Ok(None);
         };
         match word {
@@ -51,17 +56,36 @@ impl<'a> Line<'a> {
     }
 }
 
-/// A number in decimal digits, without a sign and without leading zeros. `parse` would take both.
-fn number(text: &str) -> Option<u64> {
-    match text.as_bytes() {
-        [b'+', ..] | [b'0', _, ..] => None,
-        _ => text.parse::<u64>().ok(),
+/// Whether a text has a plus or a leading zero, which `parse` would take.
+fn is_padded(text: &[u8]) -> bool
+    ensures { result ≡ ((slice_index text.now 0 == 43) || ((slice_index text.now 0 == 48) && nat_lt 1 (length text.now))) }
+{
+    !text.is_empty() && (text[0] == b'+' || (text[0] == b'0' && text.len() > 1))
+}
+
+/// A number in decimal digits, without a sign and without leading zeros.
+fn number(text: &str) -> Option<u64>
+    ensures found { IfSome result (λ found. (found < 2 ^ 64) × (text.now ≡ decimal found)) }
+    ensures none { IfNone result ((n : ℕ) → n < 2 ^ 64 → text.now ≢ decimal n) }
+{
+    if is_padded(text.as_bytes()) {
+        return None;
     }
+    text.parse::<u64>().ok()
+}
+
+/// The word before the first blank, and what stands behind it.
+fn split(text: &str) -> Option<(&str, &str)>
+    ensures found { IfSome result (λ parts. (text.now ≡ parts.0.now ++ (blank ∷ parts.1.now)) × All (λ b. b ≢ blank) parts.0.now) }
+    ensures none { IfNone result (All (λ b. b ≢ blank) text.now) }
+{
+    text.split_once(' ')
 }
 
 /// A number from 1 on.
 fn number_up_to(greatest: u64, text: &str) -> Option<u64>
-    ensures { IfSome result (λ found. (1 ≤ found) × (found ≤ greatest)) }
+    ensures found { IfSome result (λ found. (1 ≤ found) × (found ≤ greatest) × (text.now ≡ decimal found)) }
+    ensures none { IfNone result ((n : ℕ) → 1 ≤ n → n ≤ greatest → text.now ≢ decimal n) }
 {
     match number(text) {
         Some(found) if found >= 1 && found <= greatest => Some(found),
@@ -71,17 +95,18 @@ fn number_up_to(greatest: u64, text: &str) -> Option<u64>
 
 /// The number of a viewer.
 fn viewer_number(text: &str) -> Option<u64>
-    ensures { IfSome result (λ viewer. (1 ≤ viewer) × (viewer ≤ 64)) }
+    ensures found { IfSome result (λ viewer. (1 ≤ viewer) × (viewer ≤ 64) × (text.now ≡ decimal viewer)) }
+    ensures none { IfNone result ((n : ℕ) → 1 ≤ n → n ≤ 64 → text.now ≢ decimal n) }
 {
     number_up_to(64, text)
 }
 
 /// `W H NAME`: the name is all behind the one blank after H, 1 to 255 bytes.
 fn screen_line(text: &str) -> Option<Line<'_>>
-    ensures { IfSome result IsInRange }
+    ensures { ReadsBehind (codes "screen") text.now result }
 {
-    let (width, rest) = text.split_once(' ')?;
-    let (height, name) = rest.split_once(' ')?;
+    let (width, rest) = split(text)?;
+    let (height, name) = split(rest)?;
     let width = number_up_to(4096, width)?;
     let height = number_up_to(4096, height)?;
     if name.is_empty() || name.len() > 255 {
@@ -92,7 +117,7 @@ fn screen_line(text: &str) -> Option<Line<'_>>
 
 /// `HEX`
 fn host_line(alloc: Global, text: &str) -> Result<Option<Line<'static>>, Fault>
-    ensures in_range { IfOk result (λ found. IfSome found IsInRange) }
+    ensures reads { IfOk result (ReadsBehind (codes "host") text.now) }
     ensures memory { IfErr result (λ fault. fault ≡ Memory) }
 {
     match script_bytes(alloc, text)? {
@@ -103,9 +128,10 @@ fn host_line(alloc: Global, text: &str) -> Result<Option<Line<'static>>, Fault>
 
 /// `V full`
 fn full_viewer(text: &str) -> Option<u64>
-    ensures { IfSome result (λ viewer. (1 ≤ viewer) × (viewer ≤ 64)) }
+    ensures found { IfSome result (λ viewer. (1 ≤ viewer) × (viewer ≤ 64) × (text.now ≡ decimal viewer ++ (blank ∷ codes "full"))) }
+    ensures none { IfNone result ((n : ℕ) → 1 ≤ n → n ≤ 64 → text.now ≢ decimal n ++ (blank ∷ codes "full")) }
 {
-    let (viewer, role) = text.split_once(' ')?;
+    let (viewer, role) = split(text)?;
     if role != "full" {
         return None;
     }
@@ -113,14 +139,14 @@ fn full_viewer(text: &str) -> Option<u64>
 }
 
 fn open_line(text: &str) -> Option<Line<'static>>
-    ensures { IfSome result IsInRange }
+    ensures { ReadsBehind (codes "open") text.now result }
 {
     let viewer = full_viewer(text)?;
     Some(Line::Open(viewer))
 }
 
 fn greet_line(text: &str) -> Option<Line<'static>>
-    ensures { IfSome result IsInRange }
+    ensures { ReadsBehind (codes "greet") text.now result }
 {
     let viewer = full_viewer(text)?;
     Some(Line::Greet(viewer))
@@ -128,10 +154,10 @@ fn greet_line(text: &str) -> Option<Line<'static>>
 
 /// `V HEX`
 fn viewer_line(alloc: Global, text: &str) -> Result<Option<Line<'static>>, Fault>
-    ensures in_range { IfOk result (λ found. IfSome found IsInRange) }
+    ensures reads { IfOk result (ReadsBehind (codes "viewer") text.now) }
     ensures memory { IfErr result (λ fault. fault ≡ Memory) }
 {
-    let Some((viewer, hex)) = text.split_once(' ') else {
+    let Some((viewer, hex)) = split(text) else {
         return Ok(None);
     };
     let Some(viewer) = viewer_number(viewer) else {
@@ -145,7 +171,7 @@ fn viewer_line(alloc: Global, text: &str) -> Result<Option<Line<'static>>, Fault
 
 /// `V`
 fn turn_line(text: &str) -> Option<Line<'static>>
-    ensures { IfSome result IsInRange }
+    ensures { ReadsBehind (codes "turn") text.now result }
 {
     let viewer = viewer_number(text)?;
     Some(Line::Turn(viewer))
