@@ -1,7 +1,7 @@
 /* Megapixels a second of HostDecoder over a whole FramebufferUpdate, against a decoder in C and memcpy, in one run.
  *
- * A screen of 1920 by 1080 as one rectangle: in Raw, random pixels; in Hextile, a page of text of two colours. It comes in
- * pieces. Ours reads a rectangle to its end and then paints it on the working screen, so that no half of an update is ever
+ * A screen of 1920 by 1080 as one rectangle: in Raw, random pixels; in Hextile, a page of text of two colours. Then a page that
+ * scrolls: a CopyRect of all rows but the first 16 to the top, and 16 rows of random pixels in Raw below. It comes in pieces. Ours reads a rectangle to its end and then paints it on the working screen, so that no half of an update is ever
  * shown; the decoder in C draws each byte on the screen as it comes. All are timed in turn, many rounds, and the best of each
  * counts. */
 #include <malloc.h>
@@ -16,7 +16,7 @@
 bool bench_host_message(uint32_t width, uint32_t height, const uint8_t *message, size_t length, uint32_t step, uint32_t times,
                         uint32_t *shown, size_t count);
 
-enum { W = 1920, H = 1080, HEAD = 16, TIMES = 2 };
+enum { W = 1920, H = 1080, STRIPE = 16, UPDATE_HEAD = 4, HEAD = UPDATE_HEAD + 12, TIMES = 2 };
 
 static uint32_t screen[W * H];
 
@@ -44,8 +44,9 @@ static inline uint32_t pixel(const uint8_t *p) {
     return v & 0xFFFFFF;
 }
 
-__attribute__((noinline)) static void plain_raw(Source *s) {
-    for (size_t k = 0; k < W * H;) {
+/* The pixels from number k on, to the screen's end. */
+__attribute__((noinline)) static void plain_raw(Source *s, size_t k) {
+    while (k < W * H) {
         size_t here = (s->step - s->at % s->step) / 4;
         if (here > W * H - k) here = W * H - k;
         const uint8_t *p = s->bytes + s->at;
@@ -83,6 +84,24 @@ __attribute__((noinline)) static void plain_hextile(Source *s) {
         }
 }
 
+/* The page goes up by a stripe, and Raw comes in below. */
+static void plain_scroll(Source *s) {
+    const uint8_t *from = next(s, 4);
+    memmove(screen, screen + (from[2] << 8 | from[3]) * W, 4 * W * (H - STRIPE));
+    next(s, HEAD - UPDATE_HEAD);
+    plain_raw(s, W * (H - STRIPE));
+}
+
+enum Kind { RAW, HEXTILE, SCROLL, KINDS };
+
+static const char *const names[KINDS] = {"Raw", "Hextile, text", "CopyRect, Raw"};
+
+static void plain_message(enum Kind kind, Source *s) {
+    if (kind == RAW) plain_raw(s, 0);
+    if (kind == HEXTILE) plain_hextile(s);
+    if (kind == SCROLL) plain_scroll(s);
+}
+
 /* ---- the messages */
 
 static uint32_t seed = 1;
@@ -92,10 +111,22 @@ static uint32_t random_byte(void) {
     return seed >> 24;
 }
 
-static size_t put_head(uint8_t *out, int encoding) {
-    const uint8_t head[HEAD] = {0, 0, 0, 1, 0, 0, 0, 0, W >> 8, W & 255, H >> 8, H & 255, 0, 0, 0, encoding};
-    memcpy(out, head, HEAD);
-    return HEAD;
+/* Of a rectangle as wide as the screen, from row y on. */
+static size_t put_rectangle_head(uint8_t *out, int y, int h, int encoding) {
+    const uint8_t head[] = {0, 0, y >> 8, y & 255, W >> 8, W & 255, h >> 8, h & 255, 0, 0, 0, encoding};
+    memcpy(out, head, sizeof head);
+    return sizeof head;
+}
+
+static size_t put_update_head(uint8_t *out, int count) {
+    const uint8_t head[] = {0, 0, 0, count};
+    memcpy(out, head, sizeof head);
+    return sizeof head;
+}
+
+static size_t put_noise(uint8_t *out, size_t bytes) {
+    for (size_t k = 0; k < bytes; k++) out[k] = random_byte();
+    return bytes;
 }
 
 static size_t put_pixel(uint8_t *out, uint32_t value) {
@@ -143,6 +174,25 @@ static size_t put_hextile(uint8_t *out, const uint32_t *page) {
     return n;
 }
 
+static size_t put_message(enum Kind kind, uint8_t *out, const uint32_t *page) {
+    size_t n = put_update_head(out, kind == SCROLL ? 2 : 1);
+    if (kind == RAW) {
+        n += put_rectangle_head(out + n, 0, H, 0);
+        n += put_noise(out + n, 4 * W * H);
+    } else if (kind == HEXTILE) {
+        n += put_rectangle_head(out + n, 0, H, 5);
+        n += put_hextile(out + n, page);
+    } else {
+        const uint8_t from[] = {0, 0, 0, STRIPE};
+        n += put_rectangle_head(out + n, 0, H - STRIPE, 1);
+        memcpy(out + n, from, sizeof from);
+        n += sizeof from;
+        n += put_rectangle_head(out + n, H - STRIPE, STRIPE, 0);
+        n += put_noise(out + n, 4 * W * STRIPE);
+    }
+    return n;
+}
+
 /* ---- the clock: processor time, since other work shares the machine */
 
 static double now(void) {
@@ -166,14 +216,8 @@ int main(int argc, char **argv) {
     draw_text(page);
     printf("a screen of %d by %d; megapixels a second, and ours over theirs\n", W, H);
     printf("%-14s %6s %8s %8s %6s %8s %6s\n", "rectangle", "piece", "ours", "plain C", "ratio", "memcpy", "ratio");
-    for (int hextile = 0; hextile < 2; hextile++) {
-        size_t length = put_head(message, hextile ? 5 : 0);
-        if (hextile) {
-            length += put_hextile(message + length, page);
-        } else {
-            for (size_t k = 0; k < 4 * W * H; k++) message[length + k] = random_byte();
-            length += 4 * W * H;
-        }
+    for (enum Kind kind = 0; kind < KINDS; kind++) {
+        size_t length = put_message(kind, message, page);
         for (int k = 0; k < 3; k++) {
             uint32_t step = steps[k];
             double best[3] = {1e9, 1e9, 1e9}, best_once = 1e9;
@@ -184,20 +228,22 @@ int main(int argc, char **argv) {
                 start = now();
                 if (!bench_host_message(W, H, message, length, step, 1 + TIMES, ours, W * H)) return fputs("refused\n", stderr), 1;
                 keep_best(&best[0], start);
+                memset(screen, 0, sizeof screen);
+                for (int times = 0; times < 1 + TIMES; times++) {
+                    start = now();
+                    plain_message(kind, &(Source){message, step, HEAD, length});
+                    keep_best(&best[1], start);
+                }
+                if (memcmp(ours, screen, sizeof screen)) return fputs("the screens differ\n", stderr), 1;
                 start = now();
-                Source source = {message, step, HEAD, length};
-                hextile ? plain_hextile(&source) : plain_raw(&source);
-                keep_best(&best[1], start);
-                if (memcmp(ours, screen, 4 * W * H)) return fputs("the screens differ\n", stderr), 1;
-                start = now();
-                memcpy(screen, ours, 4 * W * H);
+                memcpy(screen, ours, sizeof screen);
                 keep_best(&best[2], start);
             }
             /* The first time the screen is made too. */
             best[0] = (best[0] - best_once) / TIMES;
             double pixels = W * H / 1e6;
-            printf("%-14s %6u %8.0f %8.0f %6.2f %8.0f %6.2f\n", hextile ? "Hextile, text" : "Raw", step, pixels / best[0],
-                   pixels / best[1], best[1] / best[0], pixels / best[2], best[2] / best[0]);
+            printf("%-14s %6u %8.0f %8.0f %6.2f %8.0f %6.2f\n", names[kind], step, pixels / best[0], pixels / best[1], best[1] / best[0],
+                   pixels / best[2], best[2] / best[0]);
         }
     }
     return 0;

@@ -1,7 +1,6 @@
 //! Worked values of RFC 6143, section 7.4, and of this project's rules beside it, typed by hand.
 
-use arrayvec::ArrayVec;
-use pixel_format::{Fault, Format, LIMIT};
+use pixel_format::{Fault, Format};
 use std::test::Fail;
 
 const RED: u32 = 0x00FF_0000;
@@ -204,38 +203,4 @@ fn each_byte_counts_as_the_rules_say(rt: HostRuntime) {
             );
         }
     }
-}
-
-#[test]
-fn faults_have_their_numbers(rt: HostRuntime) {
-    let faults = [
-        Fault::BadVersion,
-        Fault::HostRefused(ArrayVec::new()),
-        Fault::NoNone,
-        Fault::SecurityFailed,
-        Fault::BadScreen,
-        Fault::UnknownMessage(7),
-        Fault::RectOutside,
-        Fault::UnknownEncoding,
-        Fault::SubrectOutside,
-        Fault::NoBackground,
-        Fault::NoForeground,
-        Fault::BadFormat,
-        Fault::BadChoice,
-        Fault::CopyOutside,
-        Fault::Memory,
-        Fault::LinkFailed,
-        Fault::LinkEnded,
-        Fault::Gone,
-        Fault::NoPlace,
-        Fault::QueueFull,
-        Fault::NumbersOut,
-    ];
-    let numbers = [
-        1, 2, 3, 4, 5, 6, 7, 8, 9, 10, 11, 12, 13, 14, 20, 21, 22, 23, 24, 30, 31,
-    ];
-    for (fault, number) in faults.iter().zip(numbers.iter()) {
-        assert!(rt; fault.number() == *number, "not {number}");
-    }
-    assert!(rt; LIMIT == 4_611_686_018_427_387_904);
 }

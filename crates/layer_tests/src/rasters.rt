@@ -3,7 +3,7 @@
 ghost use Rattle.std.specs.Prelude.{◌≡◌, ◌<◌};
 ghost use Rattle.raster.specs.Painted.{Fits, paint_of};
 
-use raster::{Canvas, Paint, Raster, Rect, paint_one};
+use raster::{Canvas, Paint, Raster, Rect, apply_paint};
 use std::alloc::Global;
 use std::test::Fail;
 
@@ -23,11 +23,11 @@ fn rectangles(rt: HostRuntime) {
     assert!(rt; area.within(8, 2) && !area.within(7, 2) && !area.is_empty());
 }
 
-// Paints on a row of three values. It fails where memory is refused, which it never is.
-fn paints_row(alloc: Global, values: &mut [u32; 3], paint: Paint) -> bool
+// Paints on a row of three values.
+fn paint_row(values: &mut [u32; 3], paint: Paint)
     requires { Fits 3 1 (paint_of paint) }
 {
-    paint_one(alloc, values, 3, 1, &paint).is_ok()
+    apply_paint(values, 3, 1, &paint);
 }
 
 // Red, green and blue, and then the first two copied one to the right.
@@ -35,14 +35,8 @@ fn paints_row(alloc: Global, values: &mut [u32; 3], paint: Paint) -> bool
 fn copies_what_stood_there(rt: HostRuntime) -> Result<(), Fail> {
     let mut values = [0; 3];
     let colours = [0xFF0000, 0x00FF00, 0x0000FF].to_vec(rt.alloc())?;
-    assert!(rt;
-        paints_row(
-            rt.alloc(),
-            &mut values,
-            Paint::Put(rect(0, 0, 3, 1), colours)
-        )
-    );
-    assert!(rt; paints_row(rt.alloc(), &mut values, Paint::Copy(rect(1, 0, 2, 1), 0, 0)));
+    paint_row(&mut values, Paint::Put(rect(0, 0, 3, 1), colours));
+    paint_row(&mut values, Paint::Copy(rect(1, 0, 2, 1), 0, 0));
     assert!(rt; values == [0xFF0000, 0xFF0000, 0x00FF00]);
     Ok(())
 }

@@ -1,7 +1,8 @@
 -- What one whole message of the host changes on a screen.
 use Rattle.std.specs.Prelude.{ℕ, ◌≤◌, Bool, true, false, List, map, length, All, Option, Some, None}
 use Rattle.raster.specs.Painted.{paint_of, Fits}
-use Rattle.raster.specs.Update.{Update, Paints, Bell, Cut}
+use Rattle.raster.specs.Screen.{Canvas, LooksLike, value_at}
+use Rattle.raster.specs.Update.{Update, Paints, Bell, Cut, after_paints, paints_of}
 use Rattle.painter.specs.declared.patch.Change.{Change}
 use Rattle.painter.specs.declared.patch.Change.TheVariants as code
 
@@ -22,6 +23,12 @@ abbrev pub IsFor : ℕ → ℕ → Change → Type 0
 IsFor w h (code.Paints paints) = All (λ p. Fits w h (paint_of p)) paints.items
 IsFor w h code.Bell = Unit {0}
 IsFor w h (code.Text text) = length text.items ≤ 65536
+
+-- Over what the old colours of its screen look like, the new ones show its paints.
+abbrev pub ShowsOver : SizedUpdate → List ℕ → List ℕ → Type 0
+ShowsOver patch old new =
+    (before : Canvas) → LooksLike patch.width patch.height (value_at patch.width old) before
+    → LooksLike patch.width patch.height (value_at patch.width new) (after_paints before (paints_of patch.update))
 
 -- ---- what kind of update it is
 

@@ -1,10 +1,12 @@
 //! A screen that is kept.
 
-ghost use Rattle.std.specs.Prelude.{◌≡◌, ℕ, ◌+◌, ◌<◌, ◌^◌, List, [], ◌∷◌, ◌++◌, IfOk, IfErr};
+ghost use Rattle.std.specs.Prelude.{◌≡◌, ℕ, ◌+◌, ◌<◌, ◌≤◌, ◌^◌, List, [], ◌∷◌, ◌++◌, IfOk, IfErr};
 ghost use Rattle.painter.specs.Board.{BoardStands, IsSameScreen};
+ghost use Rattle.painter.specs.Patch.{is_bell};
 ghost use Rattle.pixel_format.specs.declared.fault.Fault.TheVariants.{Memory};
 ghost use Rattle.raster.specs.Size.{IsScreenSize};
 ghost use Rattle.raster.specs.Update.{Update};
+ghost use Rattle.std.specs.Int.{from_bool};
 
 use crate::patch::Patch;
 use crate::text::Text;
@@ -33,6 +35,15 @@ impl Model for Board {
     ghost view = { λ b. record { width = b.width; height = b.height; number = b.number; colours = b.colours.items; bells = b.bells; text = b.text } };
 
     ghost invariant = { λ b. IsBoard (record { width = b.width; height = b.height; number = b.number; colours = b.colours.items; bells = b.bells; text = b.text }) };
+}
+
+/// How many Bells there were behind a patch, where before it there were so many.
+fn with_bell(bells: u64, patch: &Patch) -> u64
+    requires { bells < 2 ^ 62 }
+    ensures value { result ≡ bells + from_bool (is_bell patch.now.update) }
+    ensures few { result ≤ bells + 1 }
+{
+    bells + u64::from(patch.is_bell())
 }
 
 impl Board {
@@ -109,7 +120,7 @@ impl Board {
             self.height as usize,
             patch.painted(),
         );
-        self.bells += u64::from(patch.is_bell());
+        self.bells = with_bell(self.bells, patch);
         self.text.follow(patch.text_bytes(), self.number);
     }
 }

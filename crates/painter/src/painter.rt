@@ -1,6 +1,6 @@
 //! What gathers the paints of a host's message, and paints them where it ends.
 
-ghost use Rattle.std.specs.Prelude.{◌≡◌, ℕ, ◌<◌, [], ◌∷◌, ◌++◌, length, slice_index, IfOk, IfErr, OnOk};
+ghost use Rattle.std.specs.Prelude.{◌≡◌, ℕ, ◌<◌, [], ◌∷◌, ◌++◌, length, slice_index, IfOk, IfErr, IsOk, OnOk};
 ghost use Rattle.painter.specs.Painter.{IsPainted, shows, with_paints};
 ghost use Rattle.pixel_format.specs.declared.fault.Fault.TheVariants.{Memory};
 ghost use Rattle.raster.specs.Painted.{Fits, paint_of};
@@ -81,11 +81,11 @@ impl Painter {
     }
 
     /// At the end of a FramebufferUpdate (RFC 6143, section 7.6.1): paints what was added since the last patch, and gives it as
-    /// one update. It fails where memory is refused (`Memory`); then nothing has changed.
+    /// one update. It takes no memory, and always succeeds.
     pub fn patch(&mut self) -> Result<Patch, Fault>
         ensures patch { IfOk result (λ patch. patch ≡ record { width = self.old.width; height = self.old.height; update = Paints self.old.paints }) }
         ensures painted { OnOk result (IsPainted self.old self.new) }
-        ensures err { IfErr result (λ fault. (fault ≡ Memory) × (self.new ≡ self.old)) }
+        ensures never_refused { IsOk result }
     {
         self.raster.paint_all(self.paints.as_slice());
         let paints = mem::replace(&mut self.paints, Vec::new(self.alloc));

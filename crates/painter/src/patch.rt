@@ -1,19 +1,19 @@
 //! What one whole message of the host changes on a screen.
 
-ghost use Rattle.std.specs.Prelude.{◌≡◌, ℕ, ◌<◌, ◌≤◌, ◌*◌, length, map, All, OnOk, IfOk, IfErr, IsTrue, ◌↔◌, IfSome, IfNone, Option, Some, None};
-ghost use Rattle.painter.specs.Patch.{is_bell, text_of};
+ghost use Rattle.std.specs.Prelude.{◌≡◌, ℕ, ◌<◌, ◌≤◌, ◌*◌, length, map, All, IfOk, IfErr, IsTrue, ◌↔◌, IfSome, IfNone, Option, Some, None};
+ghost use Rattle.painter.specs.Patch.{ShowsOver, is_bell, text_of};
 ghost use Rattle.pixel_format.specs.declared.fault.Fault.TheVariants.{Memory};
 ghost use Rattle.raster.specs.Painted.{Fits, paint_of};
-ghost use Rattle.raster.specs.Screen.{Canvas, IsWithin, LooksLike, meets, value_at};
+ghost use Rattle.raster.specs.Screen.{IsWithin, meets};
 ghost use Rattle.raster.specs.Size.{IsScreenSize};
-ghost use Rattle.raster.specs.Update.{Paints, Bell, Cut, after_paints, painted, paints_of};
+ghost use Rattle.raster.specs.Update.{Paints, Bell, Cut, painted, paints_of};
 ghost use Rattle.std.specs.List.{list_any};
 ghost use Rattle.std.specs.Option.{option_copied};
 ghost use Rattle.tiles.specs.Touched.{touches};
 
 use pixel_format::Fault;
-use raster::{Paint, Rect, paint_all};
-use std::alloc::{AllocError, Global};
+use raster::{Paint, Rect, apply_paints};
+use std::alloc::Global;
 use std::marker::Model;
 
 /// The paints of a FramebufferUpdate, a Bell, or a text that was cut (RFC 6143, 7.6).
@@ -178,7 +178,6 @@ impl Patch {
         requires { IsWithin r.now 65536 65536 }
         ensures { result ≡ touches r.now self.now.update }
     {
-        let _ = &self.width;
         any_meets(self.painted(), self.width, self.height, r)
     }
 
@@ -201,13 +200,12 @@ impl Patch {
         }
     }
 
-    /// Paints it on the colours of its screen, row after row. Where memory runs out nothing is said of what stands there.
-    pub fn paint(&self, alloc: Global, colours: &mut [u32]) -> Result<(), AllocError>
+    /// Paints it on the colours of its screen, row after row. It always succeeds, and takes no memory.
+    pub fn paint(&self, colours: &mut [u32])
         requires { length colours.old ≡ self.now.width * self.now.height }
-        ensures { OnOk result ((before : Canvas) → LooksLike self.now.width self.now.height (value_at self.now.width colours.old) before → LooksLike self.now.width self.now.height (value_at self.now.width colours.new) (after_paints before (paints_of self.now.update))) }
+        ensures { ShowsOver self.now colours.old colours.new }
     {
-        paint_all(
-            alloc,
+        apply_paints(
             colours,
             self.width as usize,
             self.height as usize,

@@ -74,6 +74,7 @@ impl Text {
         ensures { self.new ≡ Some (record { text = bytes.now; number = number }) }
     {
         self.bytes.clear();
+        // Not refused: the room was taken where it was made.
         let _ = self.bytes.extend_from_slice(bytes);
         self.number = Some(number);
     }

@@ -1,6 +1,6 @@
 //! What a list of patches shows.
 
-ghost use Rattle.std.specs.Prelude.{◌≡◌, ℕ, ◌+◌, ◌*◌, ◌<◌, ◌≤◌, ◌^◌, Bool, List, length, map, drop, All, OnOk, IsTrue, EachIndex, slice_get, slice_index, Some};
+ghost use Rattle.std.specs.Prelude.{◌≡◌, ℕ, ◌+◌, ◌*◌, ◌<◌, ◌≤◌, ◌^◌, Bool, List, length, map, drop, All, IsTrue, EachIndex, slice_get, slice_index, Some};
 ghost use Rattle.std.specs.List.{list_any, list_all, range_with_len};
 ghost use Rattle.raster.specs.Screen.{IsWithin, LooksLike, value_at, tile_count};
 ghost use Rattle.raster.specs.Size.{IsScreenSize};
@@ -12,27 +12,19 @@ ghost use Rattle.tiles.specs.Touched.{touches, is_due_since};
 use crate::cut::Cut;
 use painter::{Patch, Text};
 use raster::Rect;
-use std::alloc::{AllocError, Global};
 use tiles::{Have, rect_at};
 
 /// Paints all patches over black.
-pub(crate) fn repaint(
-    alloc: Global,
-    width: u64,
-    height: u64,
-    patches: &[Patch],
-    colours: &mut [u32],
-) -> Result<(), AllocError>
+pub(crate) fn repaint(width: u64, height: u64, patches: &[Patch], colours: &mut [u32])
     requires size { IsScreenSize width height }
     requires fits { AreOfSize width height patches.now }
     requires room { length colours.old ≡ width * height }
-    ensures { OnOk result (LooksLike width height (value_at width colours.new) (screen (updates_of patches.now))) }
+    ensures { LooksLike width height (value_at width colours.new) (screen (updates_of patches.now)) }
 {
     colours.fill(0);
     for patch in patches {
-        patch.paint(alloc, colours)?;
+        patch.paint(colours);
     }
-    Ok(())
 }
 
 /// How many of the patches are Bells.

@@ -1,13 +1,13 @@
 //! What a viewer has of each tile.
 
-ghost use Rattle.std.specs.Prelude.{◌≡◌, ℕ, ◌+◌, ◌<◌, ◌≤◌, ◌^◌, ◌↔◌, [], ◌∷◌, List, false, length, IfOk, IfErr, IsTrue, slice_get, if◌then◌else◌, Option, Some, None};
-ghost use Rattle.raster.specs.Screen.{IsWithin, tile_count, tile_rect, meets, lies_in};
+ghost use Rattle.std.specs.Prelude.{◌≡◌, ℕ, ◌+◌, ◌*◌, ◌<◌, ◌≤◌, [], ◌∷◌, List, false, length, IfOk, IfErr, slice_get, Some};
+ghost use Rattle.raster.specs.Screen.{IsWithin, fill, tile_count, tiles_across};
 ghost use Rattle.raster.specs.Size.{IsScreenSize};
 ghost use Rattle.tiles.specs.Have.{HaveStands, IsSameSize, sent_at};
 ghost use Rattle.tiles.specs.Touched.{Event, Requested, NewFormat, Answered};
 ghost use Rattle.pixel_format.specs.declared.fault.Fault.TheVariants.{Memory};
 
-use crate::place::rect_at;
+use crate::covered::{tiles_inside, tiles_met};
 use pixel_format::Fault;
 use raster::Rect;
 use std::alloc::Global;
@@ -34,6 +34,30 @@ impl Model for Have {
     ghost invariant = { λ have. IsScreenSize have.width have.height × (length have.sent.items ≡ tile_count have.width have.height) };
 }
 
+/// Gives some tiles that stand one after the other this number, or none.
+fn mark_part(sent: &mut [Option<u64>], from: usize, count: usize, number: Option<u64>)
+    requires { from + count ≤ length sent.old }
+    ensures inside { (k : ℕ) → from ≤ k → k < from + count → slice_get sent.new k ≡ Some number }
+    ensures before { (k : ℕ) → k < from → slice_get sent.new k ≡ slice_get sent.old k }
+    ensures behind { (k : ℕ) → from + count ≤ k → slice_get sent.new k ≡ slice_get sent.old k }
+{
+    sent[from..from + count].fill(number);
+}
+
+/// Gives the tiles of a rectangle of tiles this number, or none, on a screen of `width` by `height` pixels.
+fn mark(sent: &mut [Option<u64>], width: u64, height: u64, tiles: Rect, number: Option<u64>)
+    requires size { IsScreenSize width height }
+    requires all { length sent.old ≡ tile_count width height }
+    requires within { IsWithin tiles (tiles_across width) (tiles_across height) }
+    ensures { (x y : ℕ) → x < tiles_across width → y < tiles_across height → slice_get sent.new (y * tiles_across width + x) ≡ fill tiles (Some number) (λ i j. slice_get sent.old (j * tiles_across width + i)) x y }
+{
+    let across = (width as usize + 15) / 16;
+    for row in 0..tiles.h as usize {
+        let from = (tiles.y as usize + row) * across + tiles.x as usize;
+        mark_part(sent, from, tiles.w as usize, number);
+    }
+}
+
 impl Have {
     /// Of a screen of `width` by `height` pixels no tile was sent yet. It fails where memory is refused (`Memory`).
     pub fn new(alloc: Global, width: u64, height: u64) -> Result<Self, Fault>
@@ -43,9 +67,8 @@ impl Have {
     {
         let across = (width + 15) / 16;
         let down = (height + 15) / 16;
-        let mut sent = Vec::new(alloc);
-        match sent.resize((across * down) as usize, None) {
-            Ok(()) => Ok(Have {
+        match vec![in alloc; None; (across * down) as usize] {
+            Ok(sent) => Ok(Have {
                 width,
                 height,
                 sent,
@@ -74,9 +97,7 @@ impl Have {
         ensures size { IsSameSize self.old self.new }
         ensures stands { (es : List Event) → HaveStands self.old es → HaveStands self.new (NewFormat ∷ es) }
     {
-        for t in 0..self.sent.len() {
-            self.sent[t] = None;
-        }
+        self.sent.as_mut_slice().fill(None);
     }
 
     /// No tile that meets the area counts as sent any longer: it was asked for, and not incrementally (RFC 6143, 7.5.3).
@@ -85,11 +106,14 @@ impl Have {
         ensures size { IsSameSize self.old self.new }
         ensures stands { (es : List Event) → HaveStands self.old es → HaveStands self.new (Requested false area.now ∷ es) }
     {
-        for t in 0..self.sent.len() {
-            if area.meets(&rect_at(self.width, self.height, t as u64)) {
-                self.sent[t] = None;
-            }
-        }
+        let tiles = tiles_met(area, self.width, self.height);
+        mark(
+            self.sent.as_mut_slice(),
+            self.width,
+            self.height,
+            tiles,
+            None,
+        );
     }
 
     /// Each tile that lies wholly inside the area was sent at this number: an answer was begun.
@@ -98,10 +122,13 @@ impl Have {
         ensures size { IsSameSize self.old self.new }
         ensures stands { (es : List Event) → HaveStands self.old es → HaveStands self.new (Answered area.now number ∷ es) }
     {
-        for t in 0..self.sent.len() {
-            if rect_at(self.width, self.height, t as u64).lies_in(area) {
-                self.sent[t] = Some(number);
-            }
-        }
+        let tiles = tiles_inside(area, self.width, self.height);
+        mark(
+            self.sent.as_mut_slice(),
+            self.width,
+            self.height,
+            tiles,
+            Some(number),
+        );
     }
 }

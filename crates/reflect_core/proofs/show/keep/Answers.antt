@@ -1,4 +1,4 @@
-use Rattle.std.proofs.Common.{◌≡◌, ℕ, List, Bool, length, refl, ap, ◌∙◌, arith}
+use Rattle.std.proofs.Common.{ℕ, List, Bool, length, refl, ap, ◌∙◌, arith}
 use Rattle.std.specs.Prelude.{slice_get}
 use Rattle.raster.specs.Screen.{value_at}
 use Rattle.reflect_core.proofs.ShowLaws.{cut_of_all, all_written}

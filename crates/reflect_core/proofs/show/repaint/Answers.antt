@@ -16,7 +16,7 @@ loop-patch-preserved c =
     let high : item.height ≡ c.args.height = ap (λ (p : SizedUpdate). p.height) c.patch-item.is ∙ fits.1 in
     let Shows : ℕ → ℕ → Type 0 =
     λ w h. (before : Canvas) → LooksLike w h (value_at w c.loop-patch.colours) before → LooksLike w h (value_at w c.paint.new.colours) (after_paints before (paints_of item.update)) in
-    let painted : Shows c.args.width c.args.height = subst (λ v. Shows c.args.width v) high (subst (λ v. Shows v item.height) wide c.in_ok-paint.ensures) in
+    let painted : Shows c.args.width c.args.height = subst (λ v. Shows c.args.width v) high (subst (λ v. Shows v item.height) wide c.paint.ensures) in
     let all : screen (updates_of (take (c.loop-patch.patch-index + 1) c.args.patches.now)) ≡ after_paints (screen us) (paints_of item.update) =
     ap screen (updates_of-take c.args.patches.now c.loop-patch.patch-index item c.loop-patch-test.true c.patch-item.is) ∙ after_updates-more opening us item.update in
     record {

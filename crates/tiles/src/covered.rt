@@ -1,0 +1,65 @@
+//! Which tiles an area meets, and which lie in it.
+
+ghost use Rattle.std.specs.Prelude.{◌≡◌, ℕ, ◌+◌, ◌-◌, ◌*◌, ◌/◌, ◌%◌, ◌<◌, ◌≤◌, ◌↔◌, min, max};
+ghost use Rattle.raster.specs.Screen.{IsWithin, holds, lies_in, meets, tile_count, tile_rect, tiles_across};
+ghost use Rattle.raster.specs.Size.{IsScreenSize};
+
+use raster::Rect;
+
+/// Which tiles along a side of the screen a range of pixels meets: the number of the first, and how many.
+fn range_met(start: u64, len: u64, side: u64) -> (u64, u64)
+    requires range { start + len ≤ 65536 }
+    requires side { side ≤ 4096 }
+    ensures within { result.0 + result.1 ≤ tiles_across side }
+    ensures met { (k : ℕ) → k < tiles_across side → ((result.0 ≤ k) × (k < result.0 + result.1)) ↔ (max start (k * 16) < min (start + len) (k * 16 + min 16 (side - k * 16))) }
+{
+    if len == 0 || start >= side {
+        return (0, 0);
+    }
+    let tiles = (side + 15) / 16;
+    let first = (start / 16).min(tiles);
+    let end = ((start + len + 15) / 16).min(tiles);
+    (first, end - first)
+}
+
+/// Which tiles along a side of the screen lie in a range of pixels: the number of the first, and how many.
+fn range_inside(start: u64, len: u64, side: u64) -> (u64, u64)
+    requires range { start + len ≤ 65536 }
+    requires side { side ≤ 4096 }
+    ensures within { result.0 + result.1 ≤ tiles_across side }
+    ensures inside { (k : ℕ) → k < tiles_across side → ((result.0 ≤ k) × (k < result.0 + result.1)) ↔ ((start ≤ k * 16) × (k * 16 + min 16 (side - k * 16) ≤ start + len)) }
+{
+    let tiles = (side + 15) / 16;
+    let first = ((start + 15) / 16).min(tiles);
+    // The last tile ends where the screen does, and may be less than 16 pixels long.
+    let end = if start + len >= side {
+        tiles
+    } else {
+        (start + len) / 16
+    };
+    (first, end.saturating_sub(first))
+}
+
+/// The tiles that an area meets, as a rectangle of tiles: `x` and `w` count columns of tiles, `y` and `h` rows of them.
+pub(crate) fn tiles_met(area: &Rect, width: u64, height: u64) -> Rect
+    requires size { IsScreenSize width height }
+    requires area { IsWithin area.now 65536 65536 }
+    ensures within { IsWithin result (tiles_across width) (tiles_across height) }
+    ensures met { (t : ℕ) → t < tile_count width height → holds result (t % tiles_across width) (t / tiles_across width) ≡ meets area.now (tile_rect width height t) }
+{
+    let (x, w) = range_met(area.x, area.w, width);
+    let (y, h) = range_met(area.y, area.h, height);
+    Rect { x, y, w, h }
+}
+
+/// The tiles that lie in an area, as a rectangle of tiles.
+pub(crate) fn tiles_inside(area: &Rect, width: u64, height: u64) -> Rect
+    requires size { IsScreenSize width height }
+    requires area { IsWithin area.now 65536 65536 }
+    ensures within { IsWithin result (tiles_across width) (tiles_across height) }
+    ensures inside { (t : ℕ) → t < tile_count width height → holds result (t % tiles_across width) (t / tiles_across width) ≡ lies_in (tile_rect width height t) area.now }
+{
+    let (x, w) = range_inside(area.x, area.w, width);
+    let (y, h) = range_inside(area.y, area.h, height);
+    Rect { x, y, w, h }
+}
