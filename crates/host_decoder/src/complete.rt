@@ -13,12 +13,13 @@ ghost use Rattle.host_decoder.specs.Parts.{len_of};
 
 use crate::event::HostEvent;
 use crate::fields::Fields;
-use crate::kept::{Kept, LONGEST_TEXT};
+use crate::kept::Kept;
 use crate::part::Part;
 use crate::past::{Passed, Past};
 use crate::state::{State, Wrong};
 use crate::update_data::{begin_data, next_rectangle};
 use painter::{Painter, Patch};
+use pixel_format::LONGEST_TEXT;
 use raster::Rect;
 use rfb_wire::{
     BELL, FRAMEBUFFER_UPDATE, SERVER_CUT_TEXT, SET_COLOUR_MAP_ENTRIES, read_colour_map_head,

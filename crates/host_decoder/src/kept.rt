@@ -10,9 +10,6 @@ use painter::Patch;
 use std::alloc::Global;
 use std::marker::Model;
 
-/// The longest text that is kept, in bytes.
-pub const LONGEST_TEXT: u32 = 65536;
-
 /// The bytes of a text that have come, and how many are left: at least one.
 #[derive(Drop)]
 pub struct Kept {
