@@ -6,6 +6,7 @@ ghost use Rattle.rfb_wire.specs.declared.viewer_hello.TheConstants.{LONGEST_HAND
 ghost use Rattle.rfb_wire.specs.declared.write.TheConstants.{BEFORE_NAME_LEN};
 ghost use Rattle.rfb_wire.specs.Greeting.{Greeting, IsPrepared, due, ahead, to_send};
 
+use crate::security_type::NONE;
 use crate::version::{SAID_TO_HOST, VERSION_LEN};
 use crate::write::{BEFORE_INIT_LEN, BEFORE_NAME_LEN, write_handshake};
 use pixel_format::Fault;
@@ -96,7 +97,7 @@ impl ViewerHello {
     {
         if self.taken >= VERSION_LEN && !self.begun.starts_with(&SAID_TO_HOST[..VERSION_LEN]) {
             Some(Fault::BadVersion)
-        } else if self.taken > VERSION_LEN && self.begun[VERSION_LEN] != 1 {
+        } else if self.taken > VERSION_LEN && self.begun[VERSION_LEN] != NONE {
             Some(Fault::BadChoice)
         } else {
             None
