@@ -13,23 +13,39 @@ use pixel_format::Fault;
 /// Which field of the handshake is being read, or how it ended.
 #[derive(Clone, Copy)]
 pub(crate) enum Stage {
+    /// The version that the host offers (RFC 6143, 7.1.1).
     Version,
+    /// How many security types it has (7.1.2).
     TypeCount,
+    /// How long the reason is for which it has none (7.1.2).
     ReasonLength,
+    /// That reason, as much of it as is kept.
     Reason,
+    /// Its security types (7.1.2).
     Types,
+    /// SecurityResult (7.1.3).
     Outcome,
+    /// The size of its screen, first in ServerInit (7.3.2).
     Size,
+    /// Its pixel format, which is passed over.
     Format,
+    /// How long its name is.
     NameLength,
+    /// That name, as much of it as is kept.
     Name,
     /// What is left of a name that is too long to be kept.
     Rest,
+    /// It was whole.
     Joined,
+    /// The version isn't 3.8 or later.
     BadVersion,
+    /// There is no security type; the field is the reason.
     Refused,
+    /// None is not among the security types.
     NoNone,
+    /// SecurityResult isn't OK.
     Failed,
+    /// The screen isn't 1 to 4096 pixels each way.
     BadScreen,
 }
 
@@ -80,12 +96,17 @@ impl Stage {
 #[derive(Drop)]
 pub(crate) struct HostTalk {
     pub(crate) stage: Stage,
-    /// The bytes of the field that have come, and how many it has.
+    /// The bytes of the field that have come.
     pub(crate) field: ArrayVec<u8, MOST_KEPT>,
+    /// How many bytes that field has.
     pub(crate) wanted: usize,
+    /// The width of the host's screen in pixels, once it is told.
     pub(crate) w: u64,
+    /// Its height.
     pub(crate) h: u64,
+    /// How many bytes of the name are left that aren't kept.
     pub(crate) rest: u32,
+    /// How many bytes of what is said to a host were sent.
     pub(crate) sent: usize,
 }
 
@@ -96,6 +117,7 @@ impl HostTalk {
     ghost use Rattle.rfb_wire.specs.declared.version.TheConstants.{VERSION_LEN};
     ghost use Rattle.rfb_wire.specs.Joining.{ahead, said, is_field, FitsStage, IsSound, IsJudged, GoesOnAlike, Steps};
 
+    /// A handshake of which nothing has come.
     pub(crate) fn new() -> HostTalk
         ensures { result ≡ record { stage = Stage.Version; field = record { items = [] }; wanted = VERSION_LEN; w = 0; h = 0; rest = 0; sent = 0 } }
     {
@@ -118,6 +140,7 @@ impl HostTalk {
         self.stage.is_open()
     }
 
+    /// The fault at which it stands, if there is one.
     pub(crate) fn fault(&self) -> Option<Fault>
         requires { IsSound self.now }
         ensures { result ≡ fault_of (ahead self.now) }
@@ -156,6 +179,7 @@ impl HostTalk {
         self.wanted = wanted;
     }
 
+    /// Behind a version from 3.8 on come the security types.
     fn judge_version(&mut self)
         requires stage { self.old.stage ≡ Stage.Version }
         requires whole { length self.old.field.items ≡ VERSION_LEN }
@@ -169,6 +193,7 @@ impl HostTalk {
         }
     }
 
+    /// Behind a number of security types they come, and behind 0 a reason.
     fn judge_type_count(&mut self)
         requires stage { self.old.stage ≡ Stage.TypeCount }
         requires whole { length self.old.field.items ≡ COUNT_LEN }
@@ -181,6 +206,7 @@ impl HostTalk {
         }
     }
 
+    /// Of a reason so much is read as is kept.
     fn judge_reason_length(&mut self)
         requires stage { self.old.stage ≡ Stage.ReasonLength }
         requires whole { length self.old.field.items ≡ NUMBER_LEN }
@@ -194,6 +220,7 @@ impl HostTalk {
         }
     }
 
+    /// None has to be among the types.
     fn judge_types(&mut self)
         requires stage { self.old.stage ≡ Stage.Types }
         requires whole { length self.old.field.items ≡ self.old.wanted }
@@ -207,6 +234,7 @@ impl HostTalk {
         }
     }
 
+    /// SecurityResult 0 is OK.
     fn judge_outcome(&mut self)
         requires stage { self.old.stage ≡ Stage.Outcome }
         requires whole { length self.old.field.items ≡ NUMBER_LEN }
@@ -220,6 +248,7 @@ impl HostTalk {
         }
     }
 
+    /// Width and height are judged together.
     fn judge_size(&mut self)
         requires stage { self.old.stage ≡ Stage.Size }
         requires whole { length self.old.field.items ≡ SIZE_LEN }
@@ -237,6 +266,7 @@ impl HostTalk {
         }
     }
 
+    /// Of a name so much is read as is kept, and the rest is passed over.
     fn judge_name_length(&mut self)
         requires stage { self.old.stage ≡ Stage.NameLength }
         requires whole { length self.old.field.items ≡ NUMBER_LEN }

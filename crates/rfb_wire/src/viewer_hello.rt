@@ -111,6 +111,7 @@ impl ViewerHello {
         self.taken < VIEWER_LEN && self.fault().is_none()
     }
 
+    /// What is answered once so many bytes were used.
     fn so_far(&self, used: usize) -> Result<usize, Fault>
         ensures { MatchResult result (λ n. (n ≡ used) × (fault_of (ahead self.now) ≡ None)) (λ fault. fault_of (ahead self.now) ≡ Some fault) }
     {
@@ -120,6 +121,7 @@ impl ViewerHello {
         }
     }
 
+    /// Takes a byte.
     fn step(&mut self, byte: u8)
         requires { wants_more (ahead self.old) ≡ true }
         ensures { self.new ≡ record self.old { begun = self.old.begun ++ byte ∷ [] } }
