@@ -15,24 +15,34 @@ use std::sync::{Arc, Wait};
 /// An input with the place that sent it.
 #[derive(Drop)]
 pub struct Message {
+    /// The number of the place.
     pub from: u64,
+    /// What it sent.
     pub input: Input,
 }
 
 /// What a place has sent. No value of it is made: clauses speak of it.
 pub struct Strand {
+    /// The number of the place.
     pub from: u64,
+    /// All that it has sent, in order.
     pub sent: LinkedList<Input>,
 }
 
 /// What the holder of a pass knows. A sender knows its place and what it has sent. The taker knows how many senders were
 /// made, what it got, and what the senders had sent that came back. No value of it is made.
 pub struct View {
+    /// Whether it is a sender's.
     pub sends: bool,
+    /// Whether it is the taker's.
     pub gets: bool,
+    /// A sender's place; how many senders the taker has made.
     pub from: u64,
+    /// What a sender has sent, in order.
     pub put: LinkedList<Input>,
+    /// What the taker got, in order.
     pub got: LinkedList<Message>,
+    /// What the senders that came back had sent.
     pub known: LinkedList<Strand>,
 }
 
@@ -107,6 +117,7 @@ impl Lesson<Message, View> for Taken {
     ghost fact = { λ v items. Accounted v.known (v.got ++ items) };
 }
 
+/// The queue, under that rule.
 type Line = RuledArrayQueue<Message, View, InOrder>;
 
 /// So many inputs can wait.

@@ -1,12 +1,10 @@
 -- The parts of a viewer's message whose length is fixed.
-use Rattle.std.proofs.Common.{◌≡◌, ℕ, suc, ◌+◌, ◌-◌, ◌<◌, true, false, not, List, [], ◌∷◌, ◌++◌, ◌≤◌, min, length, take, drop, None, refl, sym, ap, ◌∙◌, arith}
+use Rattle.std.proofs.Common.{◌≡◌, ℕ, suc, ◌+◌, ◌-◌, ◌<◌, true, false, not, List, [], ◌∷◌, ◌++◌, min, length, take, drop, None, refl, sym, ap, ◌∙◌, arith}
 use Rattle.std.specs.Prelude.{◌==◌, Bool, if◌then◌else◌, nat_le, slice_index}
 use Rattle.std.specs.Int.{w16, w32, from_be_bytes}
 use mathlib.Core.Path.{fun_ext}
 use Rattle.pixel_format.specs.PixelFormat.{PixelFormat, accepts, format_at}
 use Rattle.std.proofs.lemmas.List.{take_all, length-drop, length-take}
-use Rattle.std.proofs.lemmas.Slice.{take-put_mid}
-use borrow.Rule.Slice.PartMut.{put_mid}
 use Rattle.pixel_format.specs.declared.fault.Fault.TheVariants.{BadFormat}
 use Rattle.pixel_format.specs.Reading.{Reading, Done, Faulty, ◌>>=◌, after, taken, bytes, padding, times, u32, wants_more, unless}
 use Rattle.pixel_format.proofs.ReadingLaws.{bind_assoc, after-append}
@@ -112,9 +110,8 @@ format_refused xs fields e is refused = sym (format_read false xs fields e is (n
 
 -- ---- the bytes of a part
 
-pub fields_want : (p : Part) (buffer : List ℕ) (filled : ℕ) (held : Part × List ℕ) → (p, take filled buffer) ≡ held → filled < len_of p → wants_more (after (form_of held.0) held.1) ≡ true
-fields_want p buffer filled held is lt =
-    ap (λ (f : Part × List ℕ). wants_more (after (form_of f.0) f.1)) (sym is) ∙ part_wants p (take filled buffer) (omega (arith, length-take filled buffer))
+pub fields_want : (p : Part) (begun : List ℕ) (held : Part × List ℕ) → (p, begun) ≡ held → length begun < len_of p → wants_more (after (form_of held.0) held.1) ≡ true
+fields_want p begun held is lt = ap (λ (f : Part × List ℕ). wants_more (after (form_of f.0) f.1)) (sym is) ∙ part_wants p begun lt
 
 -- As many bytes are used as are missing, or as there are.
 pub fields_use : (p : Part) (begun : List ℕ) (new : Reading ClientMessage) (piece next : List ℕ) (left n : ℕ) → length begun + left ≡ len_of p → 0 < left → 0 < length piece → n ≡ min (length piece) left → next ≡ take n piece
@@ -127,21 +124,3 @@ fields_use p begun new piece next left n all more some e f goes =
       goes_on = goes ∙ (ap (λ t. after (form_of p) (begun ++ t)) f ∙ after-append (form_of p) begun (take n piece));
       all = ap (λ r. taken (after r begun) (take n piece)) (is_head p).same ∙ (head_takes (len_of p) (is_head p).next begun (take n piece) (omega arith) ∙ same);
     }
-
-pub part_short : (p : Part) → len_of p ≤ 19
-part_short part.Kind = omega arith
-part_short part.Format = omega arith
-part_short part.Count = omega arith
-part_short (part.Number left found) = omega arith
-part_short part.Ask = omega arith
-part_short part.Key = omega arith
-part_short part.Pointer = omega arith
-part_short part.Length = omega arith
-
--- The next bytes stand behind those that had come.
-pub fields_grow : (p : Part) (buffer seen next : List ℕ) (filled all k : ℕ) (held : Part × List ℕ) → (p, take filled buffer) ≡ held → all ≡ filled + length next → seen ≡ next → filled ≤ length buffer
-    → after (form_of p) (take all (put_mid filled k buffer seen)) ≡ after (form_of held.0) (held.1 ++ next)
-fields_grow p buffer seen next filled all k held is e same le =
-    let count : all ≡ filled + length seen = e ∙ ap (λ (t : List ℕ). filled + length t) (sym same) in
-    let grown : take all (put_mid filled k buffer seen) ≡ take filled buffer ++ next = take-put_mid filled k buffer seen all count le ∙ ap (λ t. take filled buffer ++ t) same in
-    ap (after (form_of p)) grown ∙ ap (λ (f : Part × List ℕ). after (form_of f.0) (f.1 ++ next)) is

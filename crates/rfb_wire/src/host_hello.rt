@@ -45,6 +45,7 @@ impl HostHello {
         }
     }
 
+    /// What is answered once so many bytes were used.
     fn so_far(&self, used: usize) -> Result<usize, Fault>
         ensures { MatchResult result (λ n. (n ≡ used) × (fault_of (ahead self.now) ≡ None)) (λ fault. fault_of (ahead self.now) ≡ Some fault) }
     {

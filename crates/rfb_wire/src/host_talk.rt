@@ -1,33 +1,51 @@
 //! A host's handshake, field by field.
 
-ghost use Rattle.std.specs.Prelude.{◌≡◌, ◌+◌, ◌≤◌, ◌&&◌, ◌||◌, ◌==◌, nat_lt, nat_le, [], ◌∷◌, slice_index, length};
-ghost use Rattle.std.specs.Int.{w16, w32, from_be_bytes};
-ghost use Rattle.rfb_wire.specs.Handshake.{is_host_version, number_at, has_number_at, is_size};
-
+use crate::host_field::{
+    COUNT_LEN, FORMAT_LEN, MOST_KEPT, NUMBER_LEN, SIZE_LEN, is_accepted, is_size, kept, number_in,
+    size_at,
+};
 use crate::joined::Joined;
+use crate::security_type::NONE;
+use crate::version::VERSION_LEN;
 use arrayvec::ArrayVec;
 use pixel_format::Fault;
 
 /// Which field of the handshake is being read, or how it ended.
 #[derive(Clone, Copy)]
 pub(crate) enum Stage {
+    /// The version that the host offers (RFC 6143, 7.1.1).
     Version,
+    /// How many security types it has (7.1.2).
     TypeCount,
+    /// How long the reason is for which it has none (7.1.2).
     ReasonLength,
+    /// That reason, as much of it as is kept.
     Reason,
+    /// Its security types (7.1.2).
     Types,
+    /// SecurityResult (7.1.3).
     Outcome,
+    /// The size of its screen, first in ServerInit (7.3.2).
     Size,
+    /// Its pixel format, which is passed over.
     Format,
+    /// How long its name is.
     NameLength,
+    /// That name, as much of it as is kept.
     Name,
     /// What is left of a name that is too long to be kept.
     Rest,
+    /// It was whole.
     Joined,
+    /// The version isn't 3.8 or later.
     BadVersion,
+    /// There is no security type; the field is the reason.
     Refused,
+    /// None is not among the security types.
     NoNone,
+    /// SecurityResult isn't OK.
     Failed,
+    /// The screen isn't 1 to 4096 pixels each way.
     BadScreen,
 }
 
@@ -78,97 +96,35 @@ impl Stage {
 #[derive(Drop)]
 pub(crate) struct HostTalk {
     pub(crate) stage: Stage,
-    /// The bytes of the field that have come, and how many it has.
-    pub(crate) field: ArrayVec<u8, 255>,
+    /// The bytes of the field that have come.
+    pub(crate) field: ArrayVec<u8, MOST_KEPT>,
+    /// How many bytes that field has.
     pub(crate) wanted: usize,
+    /// The width of the host's screen in pixels, once it is told.
     pub(crate) w: u64,
+    /// Its height.
     pub(crate) h: u64,
+    /// How many bytes of the name are left that aren't kept.
     pub(crate) rest: u32,
+    /// How many bytes of what is said to a host were sent.
     pub(crate) sent: usize,
-}
-
-/// The number that three digits spell.
-fn number_at(version: &[u8], i: usize) -> u32
-    requires { i + 3 ≤ length version.now }
-    ensures { result ≡ number_at version.now i }
-{
-    u32::from(version[i].saturating_sub(b'0')) * 100
-        + u32::from(version[i + 1].saturating_sub(b'0')) * 10
-        + u32::from(version[i + 2].saturating_sub(b'0'))
-}
-
-fn has_number_at(version: &[u8], i: usize) -> bool
-    requires { i + 3 ≤ length version.now }
-    ensures { result ≡ has_number_at version.now i }
-{
-    version[i].is_ascii_digit()
-        && version[i + 1].is_ascii_digit()
-        && version[i + 2].is_ascii_digit()
-}
-
-fn is_from_3_8(major: u32, minor: u32) -> bool
-    ensures { result ≡ (nat_lt 3 major || ((major == 3) && nat_le 8 minor)) }
-{
-    major > 3 || major == 3 && minor >= 8
-}
-
-/// Whether these 12 bytes are a version from 3.8 on.
-fn is_accepted(version: &[u8]) -> bool
-    requires { length version.now ≡ 12 }
-    ensures { result ≡ is_host_version version.now }
-{
-    version.starts_with(b"RFB ")
-        && has_number_at(version, 4)
-        && version[7] == b'.'
-        && has_number_at(version, 8)
-        && version[11] == b'\n'
-        && is_from_3_8(number_at(version, 4), number_at(version, 8))
-}
-
-/// The number in the four bytes of a field.
-fn number_in(field: &[u8]) -> u32
-    requires { length field.now ≡ 4 }
-    ensures { result ≡ from_be_bytes w32 field.now }
-{
-    u32::from_be_bytes([field[0], field[1], field[2], field[3]])
-}
-
-/// A width or a height in two bytes of a field.
-fn size_at(field: &[u8], i: usize) -> u16
-    requires { i + 2 ≤ length field.now }
-    ensures { result ≡ from_be_bytes w16 (slice_index field.now i ∷ slice_index field.now (i + 1) ∷ []) }
-{
-    u16::from_be_bytes([field[i], field[i + 1]])
-}
-
-fn is_size(n: u16) -> bool
-    ensures { result ≡ is_size n }
-{
-    1 <= n && n <= 4096
-}
-
-/// The bytes as a vector of at most 255.
-fn kept(bytes: &[u8]) -> ArrayVec<u8, 255>
-    requires { length bytes.now ≤ 255 }
-    ensures { result.items ≡ bytes.now }
-{
-    let mut kept = ArrayVec::new();
-    let _ = kept.try_extend_from_slice(bytes);
-    kept
 }
 
 impl HostTalk {
     ghost use Rattle.std.specs.Prelude.{◌≡◌, ◌+◌, ◌-◌, ◌≤◌, ◌==◌, if◌then◌else◌, [], ◌∷◌, ◌++◌, true, length};
     ghost use Rattle.pixel_format.specs.Reading.{wants_more, fault_of, whole_of};
+    ghost use Rattle.rfb_wire.specs.declared.host_field.TheConstants.{COUNT_LEN, NUMBER_LEN, SIZE_LEN};
+    ghost use Rattle.rfb_wire.specs.declared.version.TheConstants.{VERSION_LEN};
     ghost use Rattle.rfb_wire.specs.Joining.{ahead, said, is_field, FitsStage, IsSound, IsJudged, GoesOnAlike, Steps};
 
+    /// A handshake of which nothing has come.
     pub(crate) fn new() -> HostTalk
-        ensures { result ≡ record { stage = Stage.Version; field = record { items = [] }; wanted = 12; w = 0; h = 0; rest = 0; sent = 0 } }
+        ensures { result ≡ record { stage = Stage.Version; field = record { items = [] }; wanted = VERSION_LEN; w = 0; h = 0; rest = 0; sent = 0 } }
     {
         HostTalk {
             stage: Stage::Version,
             field: ArrayVec::new(),
-            wanted: 12,
+            wanted: VERSION_LEN,
             w: 0,
             h: 0,
             rest: 0,
@@ -184,6 +140,7 @@ impl HostTalk {
         self.stage.is_open()
     }
 
+    /// The fault at which it stands, if there is one.
     pub(crate) fn fault(&self) -> Option<Fault>
         requires { IsSound self.now }
         ensures { result ≡ fault_of (ahead self.now) }
@@ -222,73 +179,79 @@ impl HostTalk {
         self.wanted = wanted;
     }
 
+    /// Behind a version from 3.8 on come the security types.
     fn judge_version(&mut self)
         requires stage { self.old.stage ≡ Stage.Version }
-        requires whole { length self.old.field.items ≡ 12 }
+        requires whole { length self.old.field.items ≡ VERSION_LEN }
         requires within { self.old.sent ≤ length (said self.old.stage) }
         ensures { IsJudged self.old self.new }
     {
         if is_accepted(self.field.as_slice()) {
-            self.begin(Stage::TypeCount, 1);
+            self.begin(Stage::TypeCount, COUNT_LEN);
         } else {
             self.stage = Stage::BadVersion;
         }
     }
 
+    /// Behind a number of security types they come, and behind 0 a reason.
     fn judge_type_count(&mut self)
         requires stage { self.old.stage ≡ Stage.TypeCount }
-        requires whole { length self.old.field.items ≡ 1 }
+        requires whole { length self.old.field.items ≡ COUNT_LEN }
         requires within { self.old.sent ≤ length (said self.old.stage) }
         ensures { IsJudged self.old self.new }
     {
         match self.field[0] {
-            0 => self.begin(Stage::ReasonLength, 4),
+            0 => self.begin(Stage::ReasonLength, NUMBER_LEN),
             count => self.begin(Stage::Types, usize::from(count)),
         }
     }
 
+    /// Of a reason so much is read as is kept.
     fn judge_reason_length(&mut self)
         requires stage { self.old.stage ≡ Stage.ReasonLength }
-        requires whole { length self.old.field.items ≡ 4 }
+        requires whole { length self.old.field.items ≡ NUMBER_LEN }
         requires within { self.old.sent ≤ length (said self.old.stage) }
         ensures { IsJudged self.old self.new }
     {
-        let kept = number_in(self.field.as_slice()).min(255) as usize;
+        let kept = number_in(self.field.as_slice()).min(MOST_KEPT as u32) as usize;
         self.begin(Stage::Reason, kept);
         if kept == 0 {
             self.stage = Stage::Refused;
         }
     }
 
+    /// None has to be among the types.
     fn judge_types(&mut self)
         requires stage { self.old.stage ≡ Stage.Types }
         requires whole { length self.old.field.items ≡ self.old.wanted }
         requires within { self.old.sent ≤ length (said self.old.stage) }
         ensures { IsJudged self.old self.new }
     {
-        if self.field.as_slice().contains(&1) {
-            self.begin(Stage::Outcome, 4);
+        if self.field.as_slice().contains(&NONE) {
+            self.begin(Stage::Outcome, NUMBER_LEN);
         } else {
             self.stage = Stage::NoNone;
         }
     }
 
+    /// SecurityResult 0 is OK.
     fn judge_outcome(&mut self)
         requires stage { self.old.stage ≡ Stage.Outcome }
-        requires whole { length self.old.field.items ≡ 4 }
+        requires whole { length self.old.field.items ≡ NUMBER_LEN }
         requires within { self.old.sent ≤ length (said self.old.stage) }
         ensures { IsJudged self.old self.new }
     {
         if number_in(self.field.as_slice()) == 0 {
-            self.begin(Stage::Size, 4);
+            self.begin(Stage::Size, SIZE_LEN);
         } else {
             self.stage = Stage::Failed;
         }
     }
 
+    /// Width and height are judged together.
     fn judge_size(&mut self)
         requires stage { self.old.stage ≡ Stage.Size }
-        requires whole { length self.old.field.items ≡ 4 }
+        requires whole { length self.old.field.items ≡ SIZE_LEN }
         requires within { self.old.sent ≤ length (said self.old.stage) }
         ensures { IsJudged self.old self.new }
     {
@@ -297,20 +260,21 @@ impl HostTalk {
         if is_size(w) && is_size(h) {
             self.w = u64::from(w);
             self.h = u64::from(h);
-            self.begin(Stage::Format, 16);
+            self.begin(Stage::Format, FORMAT_LEN);
         } else {
             self.stage = Stage::BadScreen;
         }
     }
 
+    /// Of a name so much is read as is kept, and the rest is passed over.
     fn judge_name_length(&mut self)
         requires stage { self.old.stage ≡ Stage.NameLength }
-        requires whole { length self.old.field.items ≡ 4 }
+        requires whole { length self.old.field.items ≡ NUMBER_LEN }
         requires within { self.old.sent ≤ length (said self.old.stage) }
         ensures { IsJudged self.old self.new }
     {
         let length = number_in(self.field.as_slice());
-        let kept = length.min(255);
+        let kept = length.min(MOST_KEPT as u32);
         self.rest = length - kept;
         self.begin(Stage::Name, kept as usize);
         if kept == 0 {
@@ -334,7 +298,7 @@ impl HostTalk {
             Stage::Types => self.judge_types(),
             Stage::Outcome => self.judge_outcome(),
             Stage::Size => self.judge_size(),
-            Stage::Format => self.begin(Stage::NameLength, 4),
+            Stage::Format => self.begin(Stage::NameLength, NUMBER_LEN),
             Stage::NameLength => self.judge_name_length(),
             Stage::Name if self.rest == 0 => self.stage = Stage::Joined,
             Stage::Name => self.stage = Stage::Rest,

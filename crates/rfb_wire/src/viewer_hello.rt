@@ -6,6 +6,7 @@ ghost use Rattle.rfb_wire.specs.declared.viewer_hello.TheConstants.{LONGEST_HAND
 ghost use Rattle.rfb_wire.specs.declared.write.TheConstants.{BEFORE_NAME_LEN};
 ghost use Rattle.rfb_wire.specs.Greeting.{Greeting, IsPrepared, due, ahead, to_send};
 
+use crate::security_type::NONE;
 use crate::version::{SAID_TO_HOST, VERSION_LEN};
 use crate::write::{BEFORE_INIT_LEN, BEFORE_NAME_LEN, write_handshake};
 use pixel_format::Fault;
@@ -96,7 +97,7 @@ impl ViewerHello {
     {
         if self.taken >= VERSION_LEN && !self.begun.starts_with(&SAID_TO_HOST[..VERSION_LEN]) {
             Some(Fault::BadVersion)
-        } else if self.taken > VERSION_LEN && self.begun[VERSION_LEN] != 1 {
+        } else if self.taken > VERSION_LEN && self.begun[VERSION_LEN] != NONE {
             Some(Fault::BadChoice)
         } else {
             None
@@ -110,6 +111,7 @@ impl ViewerHello {
         self.taken < VIEWER_LEN && self.fault().is_none()
     }
 
+    /// What is answered once so many bytes were used.
     fn so_far(&self, used: usize) -> Result<usize, Fault>
         ensures { MatchResult result (λ n. (n ≡ used) × (fault_of (ahead self.now) ≡ None)) (λ fault. fault_of (ahead self.now) ≡ Some fault) }
     {
@@ -119,6 +121,7 @@ impl ViewerHello {
         }
     }
 
+    /// Takes a byte.
     fn step(&mut self, byte: u8)
         requires { wants_more (ahead self.old) ≡ true }
         ensures { self.new ≡ record self.old { begun = self.old.begun ++ byte ∷ [] } }

@@ -13,6 +13,7 @@ use crate::message_type::{
     BELL, CLIENT_CUT_TEXT, FRAMEBUFFER_UPDATE, FRAMEBUFFER_UPDATE_REQUEST, KEY_EVENT,
     POINTER_EVENT, SERVER_CUT_TEXT, SET_ENCODINGS, SET_PIXEL_FORMAT,
 };
+use crate::security_type::NONE;
 use crate::version::{SAID_TO_HOST, VERSION_LEN};
 use byteorder::{BigEndian, ByteOrder};
 use pixel_format::Format;
@@ -192,9 +193,9 @@ pub fn write_server_init(w: u16, h: u16, name: &[u8], out: &mut [u8]) -> usize
     4 + put_format_and_name(name, back)
 }
 
-/// What is said behind the version and before ServerInit: one security type, which is 1, None, and SecurityResult 0 (RFC
+/// What is said behind the version and before ServerInit: one security type, None, and SecurityResult 0 (RFC
 /// 6143, 7.1.2 and 7.1.3).
-const SECURITY: [u8; 6] = [1, 1, 0, 0, 0, 0];
+const SECURITY: [u8; 6] = [1, NONE, 0, 0, 0, 0];
 
 /// How many bytes of a handshake are said before ServerInit: the version and what is said of security.
 pub(crate) const BEFORE_INIT_LEN: usize = 18;

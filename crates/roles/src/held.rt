@@ -19,7 +19,7 @@ pub const MOST_KEYS: usize = 64;
 /// The keys that a viewer holds down, by rising number, and its last pointer event.
 #[derive(Drop)]
 pub struct Held {
-    keys: ArrayVec<u32, 64>,
+    keys: ArrayVec<u32, MOST_KEYS>,
     mask: u8,
     x: u16,
     y: u16,
@@ -36,7 +36,7 @@ impl Model for Held {
     ghost invariant = { λ h. is_rising h.keys.items ≡ true };
 }
 
-// How many keys are lower than this one, from the first on.
+/// How many keys are lower than this one, from the first on.
 fn place_of(keys: &[u32], key: u32) -> usize
     ensures value { result ≡ prefix_len (λ k. nat_lt k key) keys.now }
     ensures within { result ≤ length keys.now }
@@ -49,7 +49,7 @@ fn place_of(keys: &[u32], key: u32) -> usize
     keys.len()
 }
 
-// Whether a key is among them.
+/// Whether a key is among them.
 fn is_among(keys: &[u32], key: u32) -> bool
     ensures { result ≡ is_down key keys.now }
 {
@@ -69,7 +69,7 @@ impl Held {
         }
     }
 
-    // A press passes where the key is down already or there is room for it.
+    /// A press passes where the key is down already or there is room for it.
     fn press(&mut self, key: u32) -> bool
         ensures value { result ≡ passes self.old.keys (Key true key) }
         ensures kept { self.new ≡ kept_after self.old (Some (Key true key)) }
@@ -85,7 +85,7 @@ impl Held {
         true
     }
 
-    // A release passes where the key is down.
+    /// A release passes where the key is down.
     fn lift(&mut self, key: u32) -> bool
         ensures value { result ≡ passes self.old.keys (Key false key) }
         ensures kept { self.new ≡ kept_after self.old (Some (Key false key)) }
@@ -98,6 +98,7 @@ impl Held {
         true
     }
 
+    /// A pointer event always passes, and is the last from now on.
     fn point(&mut self, mask: u8, x: u16, y: u16)
         ensures { self.new ≡ record self.old { mask = mask; x = x; y = y } }
     {
@@ -123,6 +124,7 @@ impl Held {
         }
     }
 
+    /// The same of a viewer in full control.
     fn passes_full(&mut self, message: &ClientMessage) -> bool
         ensures value { result ≡ passes_if self.old.keys (input_of (message_of message.now)) }
         ensures kept { self.new ≡ kept_after self.old (input_of (message_of message.now)) }

@@ -89,7 +89,7 @@ impl<R: Wait + Drop> Settled<R> {
     }
 }
 
-// The sender of the next place, made of the taker's pass.
+/// The sender of the next place, made of the taker's pass. It fails where memory is refused (`Memory`).
 fn seat<R: Wait + Drop + Clone>(
     line: &Arc<Line, Global>,
     pass: &mut Pass<Message, View>,

@@ -7,8 +7,9 @@ ghost use Rattle.rfb_wire.specs.declared.client_reader.part.Part.TheVariants.{Ki
 ghost use Rattle.rfb_wire.specs.Parts.{len_of};
 
 use crate::client_reader::complete::complete;
-use crate::client_reader::part::Part;
+use crate::client_reader::part::{LONGEST_PART, Part};
 use crate::client_reader::state::State;
+use arrayvec::ArrayVec;
 use std::alloc::Global;
 use std::marker::Model;
 
@@ -16,21 +17,20 @@ use std::marker::Model;
 #[derive(Drop)]
 pub struct Fields {
     part: Part,
-    bytes: [u8; 19],
-    filled: usize,
+    bytes: ArrayVec<u8, LONGEST_PART>,
 }
 
 impl Model for Fields {
-    ghost use Rattle.std.specs.Prelude.{ℕ, ◌<◌, List, take};
+    ghost use Rattle.std.specs.Prelude.{ℕ, ◌<◌, List, length};
     ghost use Rattle.rfb_wire.specs.declared.client_reader.part.Part.{Part};
 
     ghost Value = { Part × List ℕ };
 
     ghost use Rattle.rfb_wire.specs.Parts.{len_of};
 
-    ghost view = { λ f. (f.part, take f.filled f.bytes) };
+    ghost view = { λ f. (f.part, f.bytes.items) };
 
-    ghost invariant = { λ f. f.filled < len_of f.part };
+    ghost invariant = { λ f. length f.bytes.items < len_of f.part };
 }
 
 impl Fields {
@@ -40,8 +40,7 @@ impl Fields {
     {
         Fields {
             part,
-            bytes: [0; 19],
-            filled: 0,
+            bytes: ArrayVec::new(),
         }
     }
 
@@ -59,7 +58,7 @@ impl Fields {
         ensures some { 0 < result }
         ensures wants { wants_more (after (form_of self.now.0) self.now.1) ≡ true }
     {
-        self.part.len() - self.filled
+        self.part.len() - self.bytes.len()
     }
 
     /// What becomes of it with its next bytes.
@@ -67,21 +66,12 @@ impl Fields {
         requires { length self.1 + length next.now ≤ len_of self.0 }
         ensures { ahead result ≡ after (form_of self.0) (self.1 ++ next.now) }
     {
-        let Fields {
-            part,
-            mut bytes,
-            filled,
-        } = self;
-        let end = filled + next.len();
-        bytes[filled..end].copy_from_slice(next);
-        if end < part.len() {
-            State::Fields(Fields {
-                part,
-                bytes,
-                filled: end,
-            })
+        let Fields { part, mut bytes } = self;
+        let _ = bytes.try_extend_from_slice(next);
+        if bytes.len() < part.len() {
+            State::Fields(Fields { part, bytes })
         } else {
-            complete(alloc, part, &bytes[..end])
+            complete(alloc, part, bytes.as_slice())
         }
     }
 }

@@ -5,6 +5,9 @@ ghost use Rattle.rfb_wire.specs.Parts.{len_of};
 
 use crate::client_reader::found::Found;
 
+/// How many bytes the longest part has: padding and a pixel format (RFC 6143, 7.5.1).
+pub const LONGEST_PART: usize = 19;
+
 /// What is read next, where the number of its bytes is known.
 #[derive(Clone, Copy)]
 pub enum Part {
@@ -27,13 +30,13 @@ pub enum Part {
 }
 
 impl Part {
-    /// How many bytes it has: at most `Part::LONGEST`.
+    /// How many bytes it has: at most `LONGEST_PART`.
     pub fn len(self) -> usize
         ensures { result ≡ len_of self }
     {
         match self {
             Part::Kind => 1,
-            Part::Format => 19,
+            Part::Format => LONGEST_PART,
             Part::Count => 3,
             Part::Number { .. } => 4,
             Part::Ask => 9,

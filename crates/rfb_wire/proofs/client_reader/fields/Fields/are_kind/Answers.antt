@@ -1,5 +1,4 @@
-use Rattle.std.proofs.Common.{ℕ, List, take, subst, arith}
-use Rattle.std.proofs.lemmas.List.{length-take}
+use Rattle.std.proofs.Common.{ℕ, List, subst}
 use Rattle.rfb_wire.specs.ClientReader.{form_of, KnowsType}
 use Rattle.rfb_wire.specs.declared.client_reader.part.Part.{Part}
 use Rattle.pixel_format.specs.Reading.{after}
@@ -12,5 +11,5 @@ returns-in_default c =
     record {
       start = λ e. absurd cc;
       other = λ e. subst (λ (held : Part × List ℕ). KnowsType (after (form_of held.0) held.1)) c.self.view_is
-          (fields_know f.part (take f.filled f.bytes) (omega (arith, length-take f.filled f.bytes, c.self.invariant)) c.in_default.not-Kind);
+          (fields_know f.part f.bytes.items c.self.invariant c.in_default.not-Kind);
     }
