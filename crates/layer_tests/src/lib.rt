@@ -1,4 +1,4 @@
-//! Tests of `pixel_format`, `raster`, `rre_codec`, `tiles` and `reflect_core`, which stand in a crate of their own so that each of
+//! Tests of `pixel_format`, `raster`, `rre_codec`, `tiles`, `painter` and `reflect_core`, which stand in a crate of their own so that each of
 //! those is proved once.
 #![tactic(auto)]
 
@@ -7,8 +7,12 @@ mod formats;
 #[cfg(test)]
 mod marks;
 #[cfg(test)]
+mod numbers;
+#[cfg(test)]
 mod rasters;
 #[cfg(test)]
 mod rre;
 #[cfg(test)]
 mod screens;
+#[cfg(test)]
+mod texts;
