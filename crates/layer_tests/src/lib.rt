@@ -1,5 +1,5 @@
-//! Tests of `pixel_format`, `raster`, `tiles` and `reflect_core`, which stand in a crate of their own so that each of
-//! those is proved once.
+//! Tests of `pixel_format`, `raster`, `tiles`, `painter` and `reflect_core`, which stand in a crate of their own so that
+//! each of those is proved once.
 #![tactic(auto)]
 
 #[cfg(test)]
@@ -7,6 +7,10 @@ mod formats;
 #[cfg(test)]
 mod marks;
 #[cfg(test)]
+mod numbers;
+#[cfg(test)]
 mod rasters;
 #[cfg(test)]
 mod screens;
+#[cfg(test)]
+mod texts;

@@ -3,7 +3,7 @@
 ghost use Rattle.std.specs.Prelude.{◌≡◌, ◌<◌};
 ghost use Rattle.raster.specs.Painted.{Fits, paint_of};
 
-use raster::{Canvas, Paint, Raster, Rect, apply_paint};
+use raster::{Canvas, Paint, Raster, Rect, apply_paints};
 use std::alloc::Global;
 use std::test::Fail;
 
@@ -27,7 +27,7 @@ fn rectangles(rt: HostRuntime) {
 fn paint_row(values: &mut [u32; 3], paint: Paint)
     requires { Fits 3 1 (paint_of paint) }
 {
-    apply_paint(values, 3, 1, &paint);
+    apply_paints(values, 3, 1, &[paint]);
 }
 
 // Red, green and blue, and then the first two copied one to the right.

@@ -56,10 +56,7 @@ impl Board {
         ensures err { IfErr result (λ fault. fault ≡ Memory) }
     {
         let text = Text::new(alloc)?;
-        let colours = match vec![in alloc; 0u32; (width * height) as usize] {
-            Ok(colours) => colours,
-            Err(_) => return Err(Fault::Memory),
-        };
+        let colours = vec![in alloc; 0u32; (width * height) as usize]?;
         Ok(Board {
             width,
             height,

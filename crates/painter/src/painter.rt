@@ -74,10 +74,7 @@ impl Painter {
         ensures ok { OnOk result (self.new ≡ with_paints self.old (self.old.paints ++ paint_of paint ∷ [])) }
         ensures err { IfErr result (λ fault. (fault ≡ Memory) × (self.new ≡ self.old)) }
     {
-        match self.paints.push(paint) {
-            Ok(()) => Ok(()),
-            Err(_) => Err(Fault::Memory),
-        }
+        Ok(self.paints.push(paint)?)
     }
 
     /// At the end of a FramebufferUpdate (RFC 6143, section 7.6.1): paints what was added since the last patch, and gives it as

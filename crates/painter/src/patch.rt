@@ -74,10 +74,7 @@ fn copy_of(alloc: Global, paint: &Paint) -> Result<Paint, Fault>
     ensures err { IfErr result (λ fault. fault ≡ Memory) }
 {
     match paint {
-        Paint::Put(area, colours) => match colours.as_slice().to_vec(alloc) {
-            Ok(colours) => Ok(Paint::Put(*area, colours)),
-            Err(_) => Err(Fault::Memory),
-        },
+        Paint::Put(area, colours) => Ok(Paint::Put(*area, colours.as_slice().to_vec(alloc)?)),
         Paint::Copy(area, x, y) => Ok(Paint::Copy(*area, *x, *y)),
     }
 }
@@ -89,10 +86,7 @@ fn copies_of(alloc: Global, paints: &[Paint]) -> Result<Vec<Paint>, Fault>
 {
     let mut copied = Vec::new(alloc);
     for paint in paints {
-        let pushed = copied.push(copy_of(alloc, paint)?);
-        if pushed.is_err() {
-            return Err(Fault::Memory);
-        }
+        copied.push(copy_of(alloc, paint)?)?;
     }
     Ok(copied)
 }
@@ -147,10 +141,10 @@ impl Patch {
                 Ok(Patch::paints(self.width, self.height, copied))
             }
             Change::Bell => Ok(Patch::bell(self.width, self.height)),
-            Change::Text(text) => match text.as_slice().to_vec(alloc) {
-                Ok(copied) => Ok(Patch::text(self.width, self.height, copied)),
-                Err(_) => Err(Fault::Memory),
-            },
+            Change::Text(text) => {
+                let copied = text.as_slice().to_vec(alloc)?;
+                Ok(Patch::text(self.width, self.height, copied))
+            }
         }
     }
 

@@ -5,7 +5,7 @@ ghost use Rattle.pixel_format.specs.declared.fault.Fault.TheVariants.{Memory};
 ghost use Rattle.painter.specs.Kept.{number_of, bytes_of, newer};
 ghost use Rattle.std.specs.Option.{option_copied};
 
-use pixel_format::Fault;
+use pixel_format::{Fault, LONGEST_TEXT};
 use std::alloc::Global;
 use std::marker::Model;
 
@@ -34,13 +34,10 @@ impl Text {
         ensures ok { IfOk result (λ text. text ≡ None) }
         ensures err { IfErr result (λ fault. fault ≡ Memory) }
     {
-        match Vec::with_capacity(alloc, 65536) {
-            Ok(bytes) => Ok(Text {
-                bytes,
-                number: None,
-            }),
-            Err(_) => Err(Fault::Memory),
-        }
+        Ok(Text {
+            bytes: Vec::with_capacity(alloc, LONGEST_TEXT as usize)?,
+            number: None,
+        })
     }
 
     /// The number of the update that brought it.

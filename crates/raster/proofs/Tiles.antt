@@ -1,8 +1,7 @@
 -- How many tiles there are.
-use Rattle.std.proofs.Common.{◌≡◌, ℕ, ◌*◌, ◌≤◌, ◌^◌, arith}
+use Rattle.std.proofs.Common.{◌≡◌, ℕ, arith}
 use Rattle.std.specs.Int.{div_ceil}
-use Rattle.std.proofs.Math.Nat.{mul-le-mul}
-use Rattle.raster.specs.Screen.{tiles_across, tile_count}
+use Rattle.raster.specs.Screen.{tiles_across}
 
 pub across_is : (n : ℕ) → div_ceil n 16 ≡ tiles_across n
 across_is n = omega arith

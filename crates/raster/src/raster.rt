@@ -39,14 +39,11 @@ impl Raster {
         ensures black { IfOk result (λ r. LooksLike w h (shown r) opening) }
         ensures err { IfErr result (λ fault. fault ≡ Memory) }
     {
-        match vec![in alloc; 0u32; (w * h) as usize] {
-            Ok(colours) => Ok(Raster {
-                width: w,
-                height: h,
-                colours,
-            }),
-            Err(_) => Err(Fault::Memory),
-        }
+        Ok(Raster {
+            width: w,
+            height: h,
+            colours: vec![in alloc; 0u32; (w * h) as usize]?,
+        })
     }
 
     /// Its width in pixels.

@@ -11,8 +11,8 @@ ghost use Rattle.tiles.specs.Touched.{touches, is_due_since};
 
 use crate::cut::Cut;
 use painter::{Patch, Text};
-use raster::Rect;
-use tiles::{Have, rect_at};
+use raster::{Rect, tile_rect};
+use tiles::Have;
 
 /// Paints all patches over black.
 pub(crate) fn repaint(width: u64, height: u64, patches: &[Patch], colours: &mut [u32])
@@ -86,7 +86,7 @@ fn is_due_in(patches: &[Patch], area: &Rect, have: &Have, t: u64) -> bool
     ensures { result ≡ due_in have.now area.now (updates_of patches.now) t }
 {
     let (width, height) = have.size();
-    let tile = rect_at(width, height, t);
+    let tile = tile_rect(width, height, t);
     area.meets(&tile) && is_due(patches, &tile, have.sent(t))
 }
 

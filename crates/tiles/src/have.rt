@@ -9,7 +9,7 @@ ghost use Rattle.pixel_format.specs.declared.fault.Fault.TheVariants.{Memory};
 
 use crate::covered::{tiles_inside, tiles_met};
 use pixel_format::Fault;
-use raster::Rect;
+use raster::{Rect, tile_count};
 use std::alloc::Global;
 use std::marker::Model;
 
@@ -65,16 +65,11 @@ impl Have {
         ensures ok { IfOk result (λ have. (have.width ≡ width) × (have.height ≡ height) × HaveStands have []) }
         ensures err { IfErr result (λ fault. fault ≡ Memory) }
     {
-        let across = (width + 15) / 16;
-        let down = (height + 15) / 16;
-        match vec![in alloc; None; (across * down) as usize] {
-            Ok(sent) => Ok(Have {
-                width,
-                height,
-                sent,
-            }),
-            Err(_) => Err(Fault::Memory),
-        }
+        Ok(Have {
+            width,
+            height,
+            sent: vec![in alloc; None; tile_count(width, height) as usize]?,
+        })
     }
 
     /// The width and height of the screen in pixels.
