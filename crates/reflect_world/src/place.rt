@@ -92,24 +92,20 @@ impl Place {
         };
     }
 
-    /// It goes on after its look. Where memory is refused (`Memory`) nothing has changed.
-    pub fn cut(&mut self, screen: &mut PlainScreen) -> Result<(), Fault>
+    /// It goes on after its look. It takes no memory, and always succeeds, since such a screen doesn't end.
+    pub fn cut(&mut self, screen: &mut PlainScreen)
         requires ready { is_some self.old.looked ≡ true → is_ready self.old.session ≡ true }
         requires size { (self.old.session.width ≡ screen.old.width) × (self.old.session.height ≡ screen.old.height) }
-        ensures ok { OnOk result (GoesOn self.old.looked self.old self.new screen.old.updates) }
-        ensures err { IfErr result (λ fault. (fault ≡ Memory) × (self.new ≡ self.old)) }
+        ensures goes_on { GoesOn self.old.looked self.old self.new screen.old.updates }
         ensures screen { screen.new ≡ screen.old }
     {
         let Some(looked) = self.looked else {
-            return Ok(());
+            return;
         };
-        match self.session.turn_at(screen, looked) {
-            Ok(_) => {
-                self.looked = None;
-                Ok(())
-            }
-            Err(_) => Err(Fault::Memory),
-        }
+        let Ok(_) = self.session.turn_at(screen, looked) else {
+            unreachable!()
+        };
+        self.looked = None;
     }
 
     /// So many of its unsent bytes are written, at most those there are. Where memory is refused (`Memory`) nothing has changed.

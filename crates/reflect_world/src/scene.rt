@@ -100,7 +100,7 @@ impl Scene {
     }
 
     /// Takes a step. Where memory is refused (`Memory`), or there are no more numbers of updates (`NumbersOut`), it isn't taken: what stands
-    /// is that of the steps before.
+    /// is that of the steps before. `Raise`, `Bytes`, `Look` and `Cut` are always taken.
     pub fn take(&mut self, step: &Step) -> Result<(), Fault>
         requires { IsReachable self.old }
         ensures ok { OnOk result (TakesStep (step_of step.now) self.old self.new) }
@@ -121,7 +121,10 @@ impl Scene {
                 self.look(*viewer);
                 Ok(())
             }
-            Step::Cut(viewer) => self.cut(*viewer),
+            Step::Cut(viewer) => {
+                self.cut(*viewer);
+                Ok(())
+            }
             Step::Written(viewer, count) => self.write(*viewer, *count),
         }
     }
@@ -208,18 +211,16 @@ impl Scene {
     }
 
     // A viewer that has just looked cuts and answers, where there is reason for it.
-    fn cut(&mut self, viewer: u64) -> Result<(), Fault>
+    fn cut(&mut self, viewer: u64)
         requires { IsReachable self.old }
-        ensures ok { OnOk result (TakesStep (Cut viewer) self.old self.new) }
-        ensures err { IfErr result (λ fault. (fault ≡ Memory) × (self.new ≡ self.old)) }
+        ensures { TakesStep (Cut viewer) self.old self.new }
     {
         if viewer < PLACES {
             let slot = &mut self.places[viewer as usize];
             if let Some(place) = slot {
-                return place.cut(&mut self.screen);
+                place.cut(&mut self.screen);
             }
         }
-        Ok(())
     }
 
     // So many of a viewer's unsent bytes are written, if it is there.

@@ -1,7 +1,7 @@
 //! One viewer's session.
 
 ghost use Rattle.std.specs.Prelude.{◌≡◌, ℕ, ◌+◌, ◌*◌, ◌<◌, ◌≤◌, ◌↔◌, Bool, IsTrue, not, ◌==◌, ◌++◌, true, false, [], ◌∷◌, List, All, drop, length, get_or, take, IfOk, IfErr, OnOk, Ok, Err, None, Some, option_map};
-ghost use Rattle.pixel_format.specs.declared.fault.Fault.TheVariants.{Memory};
+ghost use Rattle.pixel_format.specs.declared.fault.Fault.TheVariants.{Gone, Memory};
 ghost use Rattle.pixel_format.specs.Reading.{wants_more, fault_of};
 ghost use Rattle.raster.specs.Screen.{IsWithin, common, whole_screen};
 ghost use Rattle.raster.specs.Update.{Update};
@@ -10,7 +10,6 @@ ghost use Rattle.rfb_wire.specs.ClientMessage.{Ask, SetPixelFormat};
 ghost use Rattle.rfb_wire.specs.Greeting.{to_send};
 ghost use Rattle.rfb_wire.specs.Message.{message_of, FeedsOrLoses};
 ghost use Rattle.reflect_core.specs.Sequential.{Begins};
-ghost use Rattle.reflect_core.specs.Source.{IsCutRefusal};
 ghost use Rattle.viewer_session.specs.FirstPath.{first_path};
 ghost use Rattle.viewer_session.specs.Record.{Took};
 ghost use Rattle.viewer_session.specs.Session.{State, Stands, IsOneTile, IsSameSession, FedAnswer, IsBegun, IsBetween, IsGreeting, ReadsHello, ReadsOne, fault_in, hello_fault, hello_of, is_greeted, is_ready, without_look, after_writing, after_taking, wants_cut, CutsAt, Turns};
@@ -348,7 +347,7 @@ impl Session {
     /// The second half of a turn, after a look that replied `looked`: where there is reason the source is cut, and an update of the pending area is begun if a
     /// tile of it is due. It answers whether one was begun.
     ///
-    /// It fails where the cut is refused (`Memory`, `Gone`); then the session is as it was.
+    /// It takes no memory, and fails where the source has ended (`Gone`), if it may end; then the session is as it was.
     pub fn turn_at<S: ScreenSource>(&mut self, source: &mut S, looked: u64) -> Result<bool, Fault>
         requires ready { is_ready self.old ≡ true }
         requires screen { (S.width source.old ≡ self.old.width) × (S.height source.old ≡ self.old.height) }
@@ -359,7 +358,7 @@ impl Session {
         ensures idle { wants_cut self.old.asked looked ≡ false → (result ≡ Ok false) × (self.new ≡ self.old) × (source.new ≡ source.old) }
         ensures cuts { wants_cut self.old.asked looked ≡ true → IfOk result (λ _. CutsAt self.old self.new (S.known source.new) (S.answered source.old)) }
         ensures begun { IfOk result (λ begun. begun ≡ not (length self.new.unsent == 0)) }
-        ensures err { IfErr result (λ fault. IsCutRefusal fault × (self.new ≡ self.old) × (S.known source.new ≡ S.known source.old) × (S.answered source.new ≡ S.answered source.old)) }
+        ensures err { IfErr result (λ fault. (fault ≡ Gone) × S.may_end × (self.new ≡ self.old) × (S.known source.new ≡ S.known source.old) × (S.answered source.new ≡ S.answered source.old)) }
     {
         if !self.has_reason(looked) {
             return Ok(false);
@@ -389,7 +388,7 @@ impl Session {
         ensures waits { is_ready self.old ≡ false → (result ≡ Ok false) × (self.new ≡ self.old) × (source.new ≡ source.old) }
         ensures turns { is_ready self.old ≡ true → IfOk result (λ _. Turns self.old self.new (S.known source.new) (S.answered source.old)) }
         ensures begun { is_ready self.old ≡ true → IfOk result (λ begun. begun ≡ not (length self.new.unsent == 0)) }
-        ensures err { IfErr result (λ fault. IsCutRefusal fault × (self.new ≡ self.old)) }
+        ensures err { IfErr result (λ fault. (fault ≡ Gone) × S.may_end × (self.new ≡ self.old)) }
     {
         if !self.is_ready() {
             return Ok(false);

@@ -6,8 +6,8 @@ use Rattle.reflect_world.specs.World.{GoesOn, Held}
 use Rattle.reflect_world.proofs.Turning.{has_turned}
 use Rattle.reflect_world.proofs.place.Place.cut.Goals as goal
 
-pub returns-in-Ok-clause-ok : goal.returns-in-Ok-clause-ok
-returns-in-Ok-clause-ok c =
+pub returns-clause-goes_on : goal.returns-clause-goes_on
+returns-clause-goes_on c =
     let old : Held = record { session = c.self.inside.session; looked = c.self.inside.looked; written = c.self.inside.written.items } in
     let new : Held = record { session = c.turn_at.new.self; looked = None; written = c.self.inside.written.items } in
     let us : List Update = c.args.screen.now.updates in

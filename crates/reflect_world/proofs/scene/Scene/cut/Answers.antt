@@ -1,16 +1,13 @@
 use Rattle.std.proofs.Common.{subst, sym}
-use Rattle.std.proofs.lemmas.Result.{on_ok_weaker}
 use Rattle.reflect_world.specs.Schedule.{Cut, happens}
 use Rattle.reflect_world.specs.World.{Reached, Standing}
 use Rattle.reflect_world.proofs.Reaching.{cut_reaches, with_place, with_screen}
 use Rattle.reflect_world.proofs.scene.Scene.cut.Goals as goal
 
-pub returns-in-Some-clause-ok : goal.returns-in-Some-clause-ok
-returns-in-Some-clause-ok c =
-    on_ok_weaker c.cut.result
-    (λ goes_on s w r.
+pub returns-in-Some : goal.returns-in-Some
+returns-in-Some c =
+    λ s w r.
     subst (λ screen. Reached s (with_screen (with_place (record { screen = c.self.inside.screen; host = c.self.inside.host; host_fault = c.self.inside.host_fault; places = c.self.inside.places.items }) c.args.viewer c.cut.new.self) screen) (happens s w (Cut c.args.viewer))) (sym c.cut.ensures.screen)
     (cut_reaches (record { screen = c.self.inside.screen; host = c.self.inside.host; host_fault = c.self.inside.host_fault; places = c.self.inside.places.items }) c.args.viewer c.index_mut-slot.result.now c.in-Some.place c.cut.new.self
-    c.if-viewer-lt-PLACES.true c.index_mut-slot.ensures.value c.in-Some.is goes_on s w
-    (subst (λ (standing : Standing). Reached s standing w) (sym c.self.view_is) r)))
-    c.cut.ensures.ok
+    c.if-viewer-lt-PLACES.true c.index_mut-slot.ensures.value c.in-Some.is c.cut.ensures.goes_on s w
+    (subst (λ (standing : Standing). Reached s standing w) (sym c.self.view_is) r))

@@ -50,4 +50,4 @@ pub returns-clause-begun : goal.returns-clause-begun
 returns-clause-begun g c = λ yes. c.turn_at.ensures.begun
 
 pub returns-clause-err : goal.returns-clause-err
-returns-clause-err g c = IfErr-weaker c.turn_at.result _ _ (λ fault refused. (refused.0, refused.1)) c.turn_at.ensures.err
+returns-clause-err g c = IfErr-weaker c.turn_at.result _ _ (λ fault refused. (refused.0, refused.1, refused.2)) c.turn_at.ensures.err
