@@ -36,12 +36,13 @@ pub record Joins (old new : LinkState) (joined : Joined) : Type 0 where
   pub failed : new.failed ≡ old.failed
   pub ended : new.ended ≡ old.ended
 
--- The link failed in the meantime, or it said in the meantime that it ended: that count has risen.
+-- What has risen with a fault of the link: how often it failed, or how often it said that it ended. No other fault is the link's.
 abbrev pub Rises : Fault → (failed_old failed_new : ℕ) → (ended_old ended_new : ℕ) → Type 0
 Rises LinkFailed failed_old failed_new ended_old ended_new = HasRisen failed_old failed_new
 Rises LinkEnded failed_old failed_new ended_old ended_new = HasRisen ended_old ended_new
 Rises _ failed_old failed_new ended_old ended_new = ⊥
 
+-- The link failed in the meantime, or it said in the meantime that it ended.
 abbrev pub LinkFails : Fault → (old new : LinkState) → Type 0
 LinkFails fault old new = Rises fault old.failed new.failed old.ended new.ended
 
