@@ -2,8 +2,7 @@
 use Rattle.std.proofs.Common.{◌≡◌, ℕ, ◌+◌, ◌-◌, ◌<◌, ◌≤◌, Bool, true, false, List, [], ◌∷◌, ◌++◌, length, take, drop, Option, None, Some, inl, inr, refl, sym, ap, ◌∙◌, arith, length-drop}
 use Rattle.std.specs.Prelude.{nat_le, if◌then◌else◌, is_none}
 use Rattle.std.proofs.lemmas.Bool.{le-leb, lt-leb, cases_lt}
-use Rattle.std.proofs.Math.ListN.{set}
-use Rattle.std.proofs.lemmas.List.{length-take, take-take, take_all, drop-take, take_more_set}
+use Rattle.std.proofs.lemmas.List.{length-append, length-take, take_all, drop-take}
 use Rattle.pixel_format.specs.Reading.{fault_of}
 use Rattle.pixel_format.specs.declared.fault.Fault.{Fault}
 use Rattle.rfb_wire.specs.Handshake.{version, server_init, said_to_viewer}
@@ -104,61 +103,40 @@ to_send_fits w h whole begun sent p le =
     let g : Greeting = record { w = w; h = h; name = drop 42 whole; begun = begun; sent = sent } in
     left_to_send (fault_of (ahead g)) (said_to_viewer w h (drop 42 whole) (length begun)) sent (due (length whole) (length begun)) (said_len w h whole (length begun) p) le
 
--- ---- the same, of the buffers of the code
+-- ---- the same, of what the code holds
 
-pub record IsLaid (w h len : ℕ) (said begun : List ℕ) (taken sent : ℕ) : Type 0 where
-  pub prepared : IsPrepared w h (take len said)
-  pub room : length said ≡ 297
-  pub fits : len ≤ 297
-  pub held : length begun ≡ 14
-  pub few : taken ≤ 14
-  pub within : sent ≤ due len taken
+pub record IsLaid (w h : ℕ) (said begun : List ℕ) (sent : ℕ) : Type 0 where
+  pub prepared : IsPrepared w h said
+  pub within : sent ≤ due (length said) (length begun)
 
-abbrev pub seen : ℕ → ℕ → ℕ → List ℕ → List ℕ → ℕ → ℕ → Greeting
-seen w h len said begun taken sent = record { w = w; h = h; name = drop 42 (take len said); begun = take taken begun; sent = sent }
+abbrev pub seen : ℕ → ℕ → List ℕ → List ℕ → ℕ → Greeting
+seen w h said begun sent = record { w = w; h = h; name = drop 42 said; begun = begun; sent = sent }
 
-laid_len : (w h len : ℕ) (said begun : List ℕ) (taken sent : ℕ) → IsLaid w h len said begun taken sent → (length (take len said) ≡ len) × (length (take taken begun) ≡ taken) × (18 ≤ len)
-laid_len w h len said begun taken sent l =
-    let a = length-take len said in
-    let b = length-take taken begun in
-    let p = prepared_len w h (take len said) l.prepared in
-    (omega (arith, a, l.room, l.fits), omega (arith, b, l.held, l.few), omega (arith, a, p, l.room, l.fits))
+laid_len : (w h : ℕ) (said begun : List ℕ) (sent : ℕ) → IsLaid w h said begun sent → 18 ≤ length said
+laid_len w h said begun sent l = let p = prepared_len w h said l.prepared in omega (arith, p)
 
-pub more_sent : (w h len : ℕ) (said begun : List ℕ) (taken sent count : ℕ) (g : Greeting) → IsLaid w h len said begun taken sent → seen w h len said begun taken sent ≡ g → count ≤ length (to_send g)
-    → (sent + count ≤ due len taken) × (sent + count ≤ 297)
-more_sent w h len said begun taken sent count g l e le =
-    let n = laid_len w h len said begun taken sent l in
-    let same : due (length (take len said)) (length (take taken begun)) ≡ due len taken = rw (n.0, n.1) refl in
-    let within : sent ≤ due (length (take len said)) (length (take taken begun)) = rw same l.within in
-    let left = to_send_fits w h (take len said) (take taken begun) sent l.prepared within in
-    let own : length (to_send (seen w h len said begun taken sent)) ≡ length (to_send g) = ap (λ v. length (to_send v)) e in
-    let least = due_fits len taken n.2 in
-    (omega (arith, left, same, own, le), omega (arith, left, same, own, le, least, l.fits))
+pub more_sent : (w h : ℕ) (said begun : List ℕ) (sent count : ℕ) (g : Greeting) → IsLaid w h said begun sent → seen w h said begun sent ≡ g → count ≤ length (to_send g)
+    → (sent + count ≤ due (length said) (length begun)) × (sent + count ≤ length said)
+more_sent w h said begun sent count g l e le =
+    let left = to_send_fits w h said begun sent l.prepared l.within in
+    let own : length (to_send (seen w h said begun sent)) ≡ length (to_send g) = ap (λ v. length (to_send v)) e in
+    let least = due_fits (length said) (length begun) (laid_len w h said begun sent l) in
+    (omega (arith, left, own, le), omega (arith, left, own, le, least))
 
--- One more byte was taken.
-pub seen_more : (w h len : ℕ) (said begun : List ℕ) (taken sent b : ℕ) (g : Greeting) → taken < length begun → seen w h len said begun taken sent ≡ g
-    → seen w h len said (set begun taken b) (taken + 1) sent ≡ record g { begun = g.begun ++ b ∷ [] }
-seen_more w h len said begun taken sent b g lt is =
-    let with_begun : List ℕ → Greeting = λ t. record { w = w; h = h; name = drop 42 (take len said); begun = t; sent = sent } in
-    ap with_begun (take_more_set begun taken b lt) ∙ ap (λ (v : Greeting). record v { begun = v.begun ++ b ∷ [] }) is
+-- Once one more byte was taken.
+pub due_more : (w h : ℕ) (said begun : List ℕ) (sent b : ℕ) → IsLaid w h said begun sent → sent ≤ due (length said) (length (begun ++ b ∷ []))
+due_more w h said begun sent b l =
+    let more : length (begun ++ b ∷ []) ≡ length begun + 1 = length-append begun (b ∷ []) in
+    rw more (omega (arith, due_grows (length said) (length begun) (laid_len w h said begun sent l), l.within))
 
-pub due_more : (w h len : ℕ) (said begun : List ℕ) (taken sent : ℕ) → IsLaid w h len said begun taken sent → sent ≤ due len (taken + 1)
-due_more w h len said begun taken sent l = let n = laid_len w h len said begun taken sent l in omega (arith, due_grows len taken n.2, l.within)
-
--- The part of the buffer that is to be sent.
-pub part_to_send : (w h len : ℕ) (said begun : List ℕ) (taken sent k : ℕ) (g : Greeting) → IsLaid w h len said begun taken sent → seen w h len said begun taken sent ≡ g → fault_of (ahead g) ≡ None → k ≡ due len taken
-    → (sent ≤ k) × (k ≤ length said) × (take (k - sent) (drop sent said) ≡ to_send g)
-part_to_send w h len said begun taken sent k g l e none d =
-    let n = laid_len w h len said begun taken sent l in
-    let fits = due_fits len taken n.2 in
-    let whole : List ℕ = take len said in
+-- The part of it that is to be sent.
+pub part_to_send : (w h : ℕ) (said begun : List ℕ) (sent k : ℕ) (g : Greeting) → IsLaid w h said begun sent → seen w h said begun sent ≡ g → fault_of (ahead g) ≡ None → k ≡ due (length said) (length begun)
+    → take (k - sent) (drop sent said) ≡ to_send g
+part_to_send w h said begun sent k g l e none d =
     let split : sent + (k - sent) ≡ k = omega (arith, d, l.within) in
     let cut : take (k - sent) (drop sent said) ≡ drop sent (take k said) = sym (drop-take sent (k - sent) said) ∙ ap (λ i. drop sent (take i said)) split in
-    let inside : take k said ≡ take k whole = sym (take-take k len said (omega (arith, d, fits))) in
-    let as_due : k ≡ due (length whole) (length (take taken begun)) = d ∙ rw (n.0, n.1) refl in
-    let front : take k whole ≡ said_to_viewer w h (drop 42 whole) (length (take taken begun)) = ap (λ i. take i whole) as_due ∙ prepared_front w h whole (length (take taken begun)) l.prepared in
-    let own : drop sent (take k said) ≡ drop sent (said_to_viewer w h (drop 42 whole) (length (take taken begun))) = ap (drop sent) (inside ∙ front) in
+    let front : take k said ≡ said_to_viewer w h (drop 42 said) (length begun) = ap (λ i. take i said) d ∙ prepared_front w h said (length begun) l.prepared in
     let tested : (o : Option Fault) (xs : List ℕ) → o ≡ None → xs ≡ (if is_none o then xs else []) = λ o xs p. rw p refl in
-    let here : Greeting = seen w h len said begun taken sent in
+    let here : Greeting = seen w h said begun sent in
     let none_here : fault_of (ahead here) ≡ None = ap (λ v. fault_of (ahead v)) e ∙ none in
-    (omega (arith, d, l.within), omega (arith, d, fits, l.fits, l.room), cut ∙ (own ∙ (tested (fault_of (ahead here)) (drop sent (said_to_viewer w h (drop 42 whole) (length (take taken begun)))) none_here ∙ ap to_send e)))
+    cut ∙ (ap (drop sent) front ∙ (tested (fault_of (ahead here)) (drop sent (said_to_viewer w h (drop 42 said) (length begun))) none_here ∙ ap to_send e))

@@ -3,9 +3,8 @@ use Rattle.std.proofs.lemmas.Option.{none-some}
 use Rattle.std.proofs.Common.{◌≡◌, ℕ, ◌+◌, ◌<◌, ◌≤◌, ◌≢◌, Bool, true, false, not, List, [], ◌∷◌, ◌++◌, length, take, drop, get_or, Option, Some, None, inl, inr, eq-eqb, length-drop, append_assoc, refl, sym, ap, ◌∙◌, arith}
 use Rattle.std.specs.Prelude.{◌==◌, nat_eq, is_some, is_none}
 use Rattle.std.specs.List.{starts_with}
-use Rattle.std.specs.Cmp.Lexicographic.{pointwise}
 use Rattle.std.proofs.lemmas.Bool.{ne_eqb, cases_lt}
-use Rattle.std.proofs.lemmas.List.{length-take, get_or-take, take-take, take_more}
+use Rattle.std.proofs.lemmas.List.{take_more}
 use Rattle.std.proofs.Math.Seq.{drop-cons}
 use Rattle.pixel_format.specs.Reading.{Reading, Done, Faulty, Want, ◌>>=◌, byte, unless, step, after, whole_of, fault_of, wants_more}
 use Rattle.pixel_format.specs.declared.fault.Fault.{Fault}
@@ -112,39 +111,23 @@ pub greeting_not_whole : (xs : List ℕ) (o : Option Fault) → fault_of (after 
 greeting_not_whole xs None e lt = sym ((greeting_so_far xs (omega arith) e).open_ lt).1
 greeting_not_whole xs (Some f) e lt = sym (fault_stops (after viewer_hello xs) f e).1
 
--- ---- the same, of what has come in a buffer
+-- ---- by the tests on what has come
 
-pub record IsHeld (buffer : List ℕ) (taken : ℕ) (begun : List ℕ) : Type 0 where
-  pub same : take taken buffer ≡ begun
-  pub room : length buffer ≡ 14
-  pub fits : taken ≤ 14
+pub bad_version : (begun : List ℕ) → 12 ≤ length begun → starts_with nat_eq begun version ≡ false → after viewer_hello begun ≡ Faulty BadVersion
+bad_version begun ge e =
+    version_is begun ge ∙ (ap (λ b. after (unless (not b) BadVersion behind_version) (drop 12 begun)) e ∙ after-faulty BadVersion (drop 12 begun))
 
-pub len_held : (buffer : List ℕ) (taken : ℕ) (begun : List ℕ) → IsHeld buffer taken begun → length begun ≡ taken
-len_held buffer taken begun h = rw (← h.same) (omega (arith, length-take taken buffer, h.room, h.fits))
+good_version : (begun : List ℕ) → 12 ≤ length begun → starts_with nat_eq begun version ≡ true → after viewer_hello begun ≡ after behind_version (drop 12 begun)
+good_version begun ge e = version_is begun ge ∙ ap (λ b. after (unless (not b) BadVersion behind_version) (drop 12 begun)) e
 
-version_held : (buffer : List ℕ) (taken : ℕ) (begun : List ℕ) → IsHeld buffer taken begun → 12 ≤ taken → is_version begun ≡ starts_with nat_eq buffer version
-version_held buffer taken begun h ge =
-    let front : take 12 begun ≡ take 12 buffer = ap (take 12) (sym h.same) ∙ take-take 12 taken buffer ge in
-    ap (pointwise nat_eq version) front
+with_choice : (begun : List ℕ) → 13 ≤ length begun → starts_with nat_eq begun version ≡ true → after viewer_hello begun ≡ after (unless (not (get_or begun 12 0 == 1)) BadChoice behind_choice) (drop 13 begun)
+with_choice begun ge e =
+    let next : drop 12 begun ≡ get_or begun 12 0 ∷ drop 13 begun = drop-cons begun 12 0 (omega (arith, ge)) in
+    good_version begun (omega (arith, ge)) e ∙ (ap (after behind_version) next ∙ choice_is (get_or begun 12 0) (drop 13 begun))
 
-pub bad_version : (buffer : List ℕ) (taken : ℕ) (begun : List ℕ) → IsHeld buffer taken begun → 12 ≤ taken → starts_with nat_eq buffer version ≡ false → after viewer_hello begun ≡ Faulty BadVersion
-bad_version buffer taken begun h ge e =
-    version_is begun (omega (arith, len_held buffer taken begun h)) ∙ (ap (λ b. after (unless (not b) BadVersion behind_version) (drop 12 begun)) (version_held buffer taken begun h ge ∙ e) ∙ after-faulty BadVersion (drop 12 begun))
-
-good_version : (buffer : List ℕ) (taken : ℕ) (begun : List ℕ) → IsHeld buffer taken begun → 12 ≤ taken → starts_with nat_eq buffer version ≡ true → after viewer_hello begun ≡ after behind_version (drop 12 begun)
-good_version buffer taken begun h ge e =
-    version_is begun (omega (arith, len_held buffer taken begun h)) ∙ ap (λ b. after (unless (not b) BadVersion behind_version) (drop 12 begun)) (version_held buffer taken begun h ge ∙ e)
-
-with_choice : (buffer : List ℕ) (taken : ℕ) (begun : List ℕ) → IsHeld buffer taken begun → 13 ≤ taken → starts_with nat_eq buffer version ≡ true → after viewer_hello begun ≡ after (unless (not (get_or buffer 12 0 == 1)) BadChoice behind_choice) (drop 13 begun)
-with_choice buffer taken begun h ge e =
-    let n = len_held buffer taken begun h in
-    let next : drop 12 begun ≡ get_or begun 12 0 ∷ drop 13 begun = drop-cons begun 12 0 (omega (arith, n)) in
-    let same : get_or begun 12 0 ≡ get_or buffer 12 0 = ap (λ l. get_or l 12 0) (sym h.same) ∙ get_or-take taken buffer 12 0 (omega arith) in
-    good_version buffer taken begun h (omega arith) e ∙ (ap (after behind_version) next ∙ (choice_is (get_or begun 12 0) (drop 13 begun) ∙ ap (λ c. after (unless (not (c == 1)) BadChoice behind_choice) (drop 13 begun)) same))
-
-pub bad_choice : (buffer : List ℕ) (taken : ℕ) (begun : List ℕ) → IsHeld buffer taken begun → 13 ≤ taken → starts_with nat_eq buffer version ≡ true → get_or buffer 12 0 ≢ 1 → after viewer_hello begun ≡ Faulty BadChoice
-bad_choice buffer taken begun h ge e n =
-    with_choice buffer taken begun h ge e ∙ (ap (λ b. after (unless (not b) BadChoice behind_choice) (drop 13 begun)) (ne_eqb (get_or buffer 12 0) 1 n) ∙ after-faulty BadChoice (drop 13 begun))
+pub bad_choice : (begun : List ℕ) → 13 ≤ length begun → starts_with nat_eq begun version ≡ true → get_or begun 12 0 ≢ 1 → after viewer_hello begun ≡ Faulty BadChoice
+bad_choice begun ge e n =
+    with_choice begun ge e ∙ (ap (λ b. after (unless (not b) BadChoice behind_choice) (drop 13 begun)) (ne_eqb (get_or begun 12 0) 1 n) ∙ after-faulty BadChoice (drop 13 begun))
 
 behind_choice_fine : (ys : List ℕ) → fault_of (after behind_choice ys) ≡ None
 behind_choice_fine [] = refl
@@ -154,16 +137,22 @@ behind_version_fine : (ys : List ℕ) → length ys ≡ 0 → fault_of (after be
 behind_version_fine [] e = refl
 behind_version_fine (c ∷ ys) e = absurd (omega arith)
 
-pub no_fault : (buffer : List ℕ) (taken : ℕ) (begun : List ℕ) → IsHeld buffer taken begun → (12 ≤ taken → starts_with nat_eq buffer version ≡ true) → (13 ≤ taken → get_or buffer 12 0 ≡ 1) → fault_of (after viewer_hello begun) ≡ None
-no_fault buffer taken begun h version_good choice_good =
-    let n = len_held buffer taken begun h in
-    elim (cases_lt taken 12) [
-      | inl lt ↦ (version_open begun (omega (arith, n))).1
-      | inr ge ↦ elim (cases_lt taken 13) [
-        | inl lt ↦ let none : length (drop 12 begun) ≡ 0 = omega (arith, length-drop 12 begun, n) in ap fault_of (good_version buffer taken begun h ge (version_good ge)) ∙ behind_version_fine (drop 12 begun) none
-        | inr more ↦ ap fault_of (with_choice buffer taken begun h more (version_good ge)) ∙ (ap (λ b. fault_of (after (unless (not b) BadChoice behind_choice) (drop 13 begun))) (eq-eqb (get_or buffer 12 0) 1 (choice_good more)) ∙ behind_choice_fine (drop 13 begun))
+pub no_fault : (begun : List ℕ) → (12 ≤ length begun → starts_with nat_eq begun version ≡ true) → (13 ≤ length begun → get_or begun 12 0 ≡ 1) → fault_of (after viewer_hello begun) ≡ None
+no_fault begun version_good choice_good =
+    elim (cases_lt (length begun) 12) [
+      | inl lt ↦ (version_open begun lt).1
+      | inr ge ↦ elim (cases_lt (length begun) 13) [
+        | inl lt ↦ let none : length (drop 12 begun) ≡ 0 = omega (arith, length-drop 12 begun) in ap fault_of (good_version begun ge (version_good ge)) ∙ behind_version_fine (drop 12 begun) none
+        | inr more ↦ ap fault_of (with_choice begun more (version_good ge)) ∙ (ap (λ b. fault_of (after (unless (not b) BadChoice behind_choice) (drop 13 begun))) (eq-eqb (get_or begun 12 0) 1 (choice_good more)) ∙ behind_choice_fine (drop 13 begun))
       ]
     ]
+
+-- The same of bytes that are what has come.
+pub fault_seen : (seen begun : List ℕ) {f : Fault} → seen ≡ begun → after viewer_hello seen ≡ Faulty f → Some f ≡ fault_of (after viewer_hello begun)
+fault_seen seen begun same e = sym (ap fault_of e) ∙ ap (λ xs. fault_of (after viewer_hello xs)) same
+
+pub none_seen : (seen begun : List ℕ) → seen ≡ begun → fault_of (after viewer_hello seen) ≡ None → None ≡ fault_of (after viewer_hello begun)
+none_seen seen begun same e = sym e ∙ ap (λ xs. fault_of (after viewer_hello xs)) same
 
 pub none_is : (o : Option Fault) (b : Bool) → is_some o ≡ not b → b ≡ is_none o
 none_is None true e = refl

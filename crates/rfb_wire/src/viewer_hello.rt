@@ -9,6 +9,7 @@ ghost use Rattle.rfb_wire.specs.Greeting.{Greeting, IsPrepared, due, ahead, to_s
 use crate::security_type::NONE;
 use crate::version::{SAID_TO_HOST, VERSION_LEN};
 use crate::write::{BEFORE_INIT_LEN, BEFORE_NAME_LEN, write_handshake};
+use arrayvec::ArrayVec;
 use pixel_format::Fault;
 use std::marker::Model;
 
@@ -43,12 +44,10 @@ fn due(all: usize, taken: usize) -> usize
 pub struct ViewerHello {
     w: u16,
     h: u16,
-    /// What is said in a whole handshake, one answer behind the other: `length` bytes.
-    said: [u8; LONGEST_HANDSHAKE],
-    length: usize,
+    /// What is said in a whole handshake, one answer behind the other.
+    said: ArrayVec<u8, LONGEST_HANDSHAKE>,
     /// What has come.
-    begun: [u8; VIEWER_LEN],
-    taken: usize,
+    begun: ArrayVec<u8, VIEWER_LEN>,
     sent: usize,
 }
 
@@ -58,12 +57,12 @@ impl Model for ViewerHello {
     ghost view = { λ r. record {
       w = r.w;
       h = r.h;
-      name = drop BEFORE_NAME_LEN (take r.length r.said);
-      begun = take r.taken r.begun;
+      name = drop BEFORE_NAME_LEN r.said.items;
+      begun = r.begun.items;
       sent = r.sent;
     } };
 
-    ghost invariant = { λ r. IsPrepared r.w r.h (take r.length r.said) × (r.length ≤ LONGEST_HANDSHAKE) × (r.taken ≤ VIEWER_LEN) × (r.sent ≤ due r.length r.taken) };
+    ghost invariant = { λ r. IsPrepared r.w r.h r.said.items × (length r.said.items ≤ LONGEST_HANDSHAKE) × (length r.begun.items ≤ VIEWER_LEN) × (r.sent ≤ due (length r.said.items) (length r.begun.items)) };
 }
 
 impl ViewerHello {
@@ -78,15 +77,15 @@ impl ViewerHello {
         requires short { length name.now ≤ 255 }
         ensures { result ≡ record { w = w; h = h; name = name.now; begun = []; sent = 0 } }
     {
-        let mut said = [0; LONGEST_HANDSHAKE];
-        let length = write_handshake(w as u16, h as u16, name, &mut said);
+        let mut bytes = [0; LONGEST_HANDSHAKE];
+        let len = write_handshake(w as u16, h as u16, name, &mut bytes);
+        let mut said = ArrayVec::new();
+        let _ = said.try_extend_from_slice(&bytes[..len]);
         ViewerHello {
             w: w as u16,
             h: h as u16,
             said,
-            length,
-            begun: [0; VIEWER_LEN],
-            taken: 0,
+            begun: ArrayVec::new(),
             sent: 0,
         }
     }
@@ -95,9 +94,10 @@ impl ViewerHello {
     pub fn fault(&self) -> Option<Fault>
         ensures { result ≡ fault_of (ahead self.now) }
     {
-        if self.taken >= VERSION_LEN && !self.begun.starts_with(&SAID_TO_HOST[..VERSION_LEN]) {
+        let begun = self.begun.as_slice();
+        if begun.len() >= VERSION_LEN && !begun.starts_with(&SAID_TO_HOST[..VERSION_LEN]) {
             Some(Fault::BadVersion)
-        } else if self.taken > VERSION_LEN && self.begun[VERSION_LEN] != NONE {
+        } else if begun.len() > VERSION_LEN && begun[VERSION_LEN] != NONE {
             Some(Fault::BadChoice)
         } else {
             None
@@ -108,7 +108,7 @@ impl ViewerHello {
     pub fn wants_more(&self) -> bool
         ensures { result ≡ wants_more (ahead self.now) }
     {
-        self.taken < VIEWER_LEN && self.fault().is_none()
+        !self.begun.is_full() && self.fault().is_none()
     }
 
     /// What is answered once so many bytes were used.
@@ -126,8 +126,7 @@ impl ViewerHello {
         requires { wants_more (ahead self.old) ≡ true }
         ensures { self.new ≡ record self.old { begun = self.old.begun ++ byte ∷ [] } }
     {
-        self.begun[self.taken] = byte;
-        self.taken += 1;
+        self.begun.push(byte);
     }
 
     /// Takes the viewer's bytes up to the end of its handshake, and answers how many they are.
@@ -153,7 +152,8 @@ impl ViewerHello {
         if self.fault().is_some() {
             return &[];
         }
-        &self.said[self.sent..due(self.length, self.taken)]
+        let said = self.said.as_slice();
+        &said[self.sent..due(said.len(), self.begun.len())]
     }
 
     /// So many bytes of `out` have been sent.
@@ -168,6 +168,6 @@ impl ViewerHello {
     pub fn done(&self) -> bool
         ensures { result ≡ is_some (whole_of (ahead self.now)) }
     {
-        self.taken == VIEWER_LEN && self.fault().is_none()
+        self.begun.is_full() && self.fault().is_none()
     }
 }
