@@ -54,11 +54,6 @@ stands_after_look s st number p k =
 
 -- ---- one place among all
 
-pub place_is_none : (s : Setup) (o : Option Held) (q : Option Viewer) → PlaceIs s o q → o ≡ None → q ≡ None
-place_is_none s None None k e = refl
-place_is_none s None (Some p) k e = absurd k
-place_is_none s (Some place) q k e = absurd cc
-
 pub place_is_some : (s : Setup) (o : Option Held) (q : Option Viewer) (place : Held) → PlaceIs s o q → o ≡ Some place → (p : Viewer) × (q ≡ Some p) × PlaceStands s place p
 place_is_some s None q place k e = absurd cc
 place_is_some s (Some other) None place k e = absurd k

@@ -166,7 +166,7 @@ screen_of text (Greet viewer) r w says = absurd cc
 screen_of text (Viewer viewer bytes) r w says = absurd (omega (arith, ap (λ t. get_or t 0 0) w))
 screen_of text (Turn viewer) r w says = absurd cc
 
--- None of a screen's parts is missing.
+-- The text says no screen in range.
 abbrev NoScreen : List ℕ → Type 0
 NoScreen text = (line : Line) → IsInRange line → word_of line ≡ codes "screen" → ¬ SaysBehind line text
 
@@ -227,6 +227,7 @@ viewer_of text (Greet viewer) r w says = absurd cc
 viewer_of text (Viewer viewer bytes) r w says = record { viewer = viewer; hex = says.0; bytes = bytes.items; fits = r; is = says.1; spells = says.2 }
 viewer_of text (Turn viewer) r w says = absurd cc
 
+-- The text says no viewer with bytes.
 abbrev NoViewer : List ℕ → Type 0
 NoViewer text = (line : Line) → IsInRange line → word_of line ≡ codes "viewer" → ¬ SaysBehind line text
 
