@@ -37,13 +37,15 @@ impl Model for Board {
     ghost invariant = { λ b. IsBoard (record { width = b.width; height = b.height; number = b.number; colours = b.colours.items; bells = b.bells; text = b.text }) };
 }
 
-/// How many Bells there were behind a patch, where before it there were so many.
-fn with_bell(bells: u64, patch: &Patch) -> u64
-    requires { bells < 2 ^ 62 }
-    ensures value { result ≡ bells + from_bool (is_bell patch.now.update) }
-    ensures few { result ≤ bells + 1 }
+/// How many updates and how many Bells there are behind a patch, where before it there were so many.
+fn counted(number: u64, bells: u64, patch: &Patch) -> (u64, u64)
+    requires few { bells ≤ number }
+    requires number { number < 2 ^ 62 }
+    ensures number { result.0 ≡ number + 1 }
+    ensures bells { result.1 ≡ bells + from_bool (is_bell patch.now.update) }
+    ensures few { result.1 ≤ result.0 }
 {
-    bells + u64::from(patch.is_bell())
+    (number + 1, bells + u64::from(patch.is_bell()))
 }
 
 impl Board {
@@ -110,14 +112,15 @@ impl Board {
         ensures number { self.new.number ≡ self.old.number + 1 }
         ensures stands { (us : List Update) → BoardStands self.old us → BoardStands self.new (us ++ patch.now.update ∷ []) }
     {
-        self.number += 1;
+        let (number, bells) = counted(self.number, self.bells, patch);
         apply_paints(
             self.colours.as_mut_slice(),
             self.width as usize,
             self.height as usize,
             patch.painted(),
         );
-        self.bells = with_bell(self.bells, patch);
-        self.text.follow(patch.text_bytes(), self.number);
+        self.text.follow(patch.text_bytes(), number);
+        self.number = number;
+        self.bells = bells;
     }
 }

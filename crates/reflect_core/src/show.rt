@@ -66,6 +66,14 @@ fn any_touches(patches: &[Patch], r: &Rect) -> bool
     false
 }
 
+/// The patches behind the first `number`: none where there are no more.
+fn patches_behind(patches: &[Patch], number: u64) -> &[Patch]
+    ensures { result.now ≡ drop number patches.now }
+{
+    let first = (number as usize).min(patches.len());
+    &patches[first..]
+}
+
 /// Whether a tile is due that was last sent at this number, or never.
 fn is_due(patches: &[Patch], tile: &Rect, sent: Option<u64>) -> bool
     requires { IsWithin tile.now 65536 65536 }
@@ -73,8 +81,7 @@ fn is_due(patches: &[Patch], tile: &Rect, sent: Option<u64>) -> bool
 {
     match sent {
         None => true,
-        Some(number) if number >= patches.len() as u64 => false,
-        Some(number) => any_touches(&patches[number as usize..], tile),
+        Some(number) => any_touches(patches_behind(patches, number), tile),
     }
 }
 

@@ -1,10 +1,11 @@
-use Rattle.std.proofs.Common.{◌≡◌, ℕ, ◌+◌, ◌∷◌, [], ◌++◌, List, Option, refl, sym, subst, arith}
+use Rattle.std.proofs.Common.{◌≡◌, ℕ, ◌+◌, ◌∷◌, [], ◌++◌, List, Option, refl, ap, sym, subst, ◌∙◌, arith}
 use Rattle.std.proofs.lemmas.List.{with_items_is}
 use Rattle.std.specs.Int.{from_bool}
 use Rattle.std.specs.Option.{option_copied}
 use Rattle.std.specs.Vec.{with_items}
 use Rattle.raster.specs.Update.{NumberedText}
 use Rattle.painter.specs.Board.{BoardStands}
+use Rattle.painter.specs.Kept.{newer}
 use Rattle.painter.specs.Patch.{is_bell}
 use Rattle.painter.proofs.ViewLaws.{stands-push}
 use Rattle.painter.proofs.board.Board.apply.Goals as goal
@@ -14,11 +15,14 @@ returns-clause-stands c us stands =
     let old = c.self.inside in
     let new : List ℕ = c.apply_paints.new.values in
     let rung : ℕ = from_bool (is_bell c.args.patch.now.update) in
-    let Stands : List ℕ → ℕ → Option NumberedText → Type 0 =
-    λ cs b t. BoardStands (record { width = old.width; height = old.height; number = old.number + 1; colours = cs; bells = b; text = t }) (us ++ c.args.patch.now.update ∷ []) in
+    let Stands : ℕ → List ℕ → ℕ → Option NumberedText → Type 0 =
+    λ n cs b t. BoardStands (record { width = old.width; height = old.height; number = n; colours = cs; bells = b; text = t }) (us ++ c.args.patch.now.update ∷ []) in
     let rows : (with_items old.colours new).items ≡ new = with_items_is old.colours new (omega arith) in
-    subst (λ (b : ℕ). Stands (with_items old.colours new).items b c.follow.new.self) (sym c.with_bell-self-inside.ensures.value)
-    (subst (λ (cs : List ℕ). Stands cs (old.bells + rung) c.follow.new.self) (sym rows)
-    (subst (λ (t : Option NumberedText). Stands new (old.bells + rung) t) (sym c.follow.ensures)
+    let told : c.follow.new.self ≡ newer old.text (old.number + 1) (option_copied c.text_bytes.result) =
+    c.follow.ensures ∙ ap (λ (n : ℕ). newer old.text n (option_copied c.text_bytes.result)) c.counted-number.ensures.number in
+    subst (λ (n : ℕ). Stands n (with_items old.colours new).items c.counted-number.result.1 c.follow.new.self) (sym c.counted-number.ensures.number)
+    (subst (λ (b : ℕ). Stands (old.number + 1) (with_items old.colours new).items b c.follow.new.self) (sym c.counted-number.ensures.bells)
+    (subst (λ (cs : List ℕ). Stands (old.number + 1) cs (old.bells + rung) c.follow.new.self) (sym rows)
+    (subst (λ (t : Option NumberedText). Stands (old.number + 1) new (old.bells + rung) t) (sym told)
     (stands-push c.args.self.now c.args.patch.now old.width old.height old.number old.bells rung old.colours.items c.as_mut_slice.result.now new old.text (option_copied c.text_bytes.result) c.painted.result.now us
-    c.as_mut_slice.ensures.value c.self.view_is c.requires.size c.painted.ensures.fits c.painted.ensures.paints c.apply_paints.ensures refl c.text_bytes.ensures.text stands)))
+    c.as_mut_slice.ensures.value c.self.view_is c.requires.size c.painted.ensures.fits c.painted.ensures.paints c.apply_paints.ensures refl c.text_bytes.ensures.text stands))))
