@@ -3,8 +3,7 @@ use Rattle.std.proofs.Common.{◌≡◌, ℕ, zero, suc, ◌+◌, ◌<◌, ◌�
 use Rattle.std.specs.Int.{w32, from_be_bytes}
 use Rattle.pixel_format.specs.PixelFormat.{PixelFormat, pixel_len, pixel_of}
 use Rattle.pixel_format.specs.Reading.{Reading, Done, Faulty, Want, ◌>>=◌, after, taken, wants_more, bytes, u32, Spells}
-use Rattle.raster.specs.Encoding.{pixel, rect}
-pub use Rattle.raster.specs.Encoding.{rect_in}
+use Rattle.raster.specs.Encoding.{rect_in, pixel, rect}
 use Rattle.raster.proofs.Spellings.{spells_bytes_of, spells_then}
 
 -- It is done after so many bytes, whatever they are.
