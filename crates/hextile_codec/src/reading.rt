@@ -148,6 +148,7 @@ impl Reader {
             return self.take(canvas, bytes);
         }
         let count = bytes.len().min(needed - self.begun.len());
+        // No field needs more bytes than there is room for.
         let _ = self.begun.try_extend_from_slice(&bytes[..count]);
         if self.begun.len() == needed {
             let field = mem::replace(&mut self.begun, ArrayVec::new());

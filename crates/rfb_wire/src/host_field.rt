@@ -93,6 +93,7 @@ pub(crate) fn kept(bytes: &[u8]) -> ArrayVec<u8, MOST_KEPT>
     ensures { result.items ≡ bytes.now }
 {
     let mut kept = ArrayVec::new();
+    // There is room for as many as are kept.
     let _ = kept.try_extend_from_slice(bytes);
     kept
 }

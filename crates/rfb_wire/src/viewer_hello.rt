@@ -80,6 +80,7 @@ impl ViewerHello {
         let mut bytes = [0; LONGEST_HANDSHAKE];
         let len = write_handshake(w as u16, h as u16, name, &mut bytes);
         let mut said = ArrayVec::new();
+        // There is room for a handshake with the longest name.
         let _ = said.try_extend_from_slice(&bytes[..len]);
         ViewerHello {
             w: w as u16,

@@ -163,6 +163,7 @@ impl Reader {
             return needed;
         }
         let count = bytes.len().min(needed - self.begun.len());
+        // No field needs more bytes than there is room for.
         let _ = self.begun.try_extend_from_slice(&bytes[..count]);
         if self.begun.len() == needed {
             self.stage = draw(

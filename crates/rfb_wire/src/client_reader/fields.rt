@@ -67,6 +67,7 @@ impl Fields {
         ensures { ahead result ≡ after (form_of self.0) (self.1 ++ next.now) }
     {
         let Fields { part, mut bytes } = self;
+        // There is room for the longest part.
         let _ = bytes.try_extend_from_slice(next);
         if bytes.len() < part.len() {
             State::Fields(Fields { part, bytes })
