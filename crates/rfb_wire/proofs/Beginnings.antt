@@ -6,18 +6,17 @@ use Rattle.std.proofs.lemmas.Bool.{cases_lt}
 use Rattle.pixel_format.specs.declared.fault.Fault.TheVariants.{BadFormat, UnknownMessage}
 use Rattle.pixel_format.specs.Reading.{Reading, Done, Faulty, Want, ◌>>=◌, step, after, fault_of, wants_more, bytes, padding, times, u32, unless}
 use Rattle.pixel_format.proofs.ReadingLaws.{after-append}
-use Rattle.rfb_wire.specs.ClientMessage.{ClientMessage, SetPixelFormat, SetEncodings, Ask, Key, Pointer, CutText, LostText, client_message}
-use Rattle.rfb_wire.specs.ClientReader.{ahead, at_fault, form_of, KnowsType}
+use Rattle.rfb_wire.specs.ClientMessage.{ClientMessage, SetPixelFormat, SetEncodings, Ask, Key, Pointer, CutText, LostText, client_message, longest_text}
+use Rattle.rfb_wire.specs.ClientReader.{ahead, form_of, KnowsType}
 use Rattle.rfb_wire.specs.Message.{losing, IsOrLoses}
 use Rattle.rfb_wire.specs.Parts.{len_of}
 use Rattle.rfb_wire.specs.declared.client_reader.part.Part.{Part}
 use Rattle.rfb_wire.specs.declared.client_reader.part.Part.TheVariants as part
-use Rattle.rfb_wire.specs.declared.client_reader.kept.Kept.{Kept}
-use Rattle.rfb_wire.specs.declared.client_reader.past.Past.{Past}
+use Rattle.rfb_wire.specs.declared.kept_text.KeptText.{KeptText}
+use Rattle.rfb_wire.specs.declared.skipped_bytes.SkippedBytes.{SkippedBytes}
 use Rattle.rfb_wire.specs.declared.client_reader.state.State.{State}
-use Rattle.rfb_wire.specs.declared.client_reader.state.State.TheVariants.{Keeping, Passing, Whole, Failed}
-use Rattle.rfb_wire.specs.declared.client_reader.state.Wrong.{Wrong}
-use Rattle.rfb_wire.specs.declared.client_reader.state.Wrong.TheVariants as wrong
+use Rattle.rfb_wire.specs.declared.client_reader.state.State.TheVariants.{Fields, Keeping, Passing, Whole, Failed}
+use Rattle.pixel_format.specs.declared.fault.Fault.{Fault}
 use Rattle.rfb_wire.specs.declared.message.ClientMessage as declared
 use Rattle.rfb_wire.proofs.Losing.{losing-after}
 use Rattle.rfb_wire.proofs.ViewerParts.{is_head, part_wants, part_full}
@@ -69,7 +68,7 @@ known_next (part.Number left found) xs other = known_times left _ _
 known_next part.Ask xs other = λ e. cc
 known_next part.Key xs other = λ e. cc
 known_next part.Pointer xs other = λ e. cc
-known_next part.Length xs other = known_text (from_be_bytes w32 (drop 3 xs)) (nat_le (from_be_bytes w32 (drop 3 xs)) 65536)
+known_next part.Length xs other = known_text (from_be_bytes w32 (drop 3 xs)) (nat_le (from_be_bytes w32 (drop 3 xs)) longest_text)
 
 -- Fields other than the type know it.
 pub fields_know : (p : Part) (begun : List ℕ) → length begun < len_of p → NotKind p → KnowsType (after (form_of p) begun)
@@ -101,29 +100,29 @@ pub not_begun_shut : (r : Reading ClientMessage) → wants_more r ≡ false → 
 not_begun_shut r shut (inl e) = let open_ : wants_more r ≡ true = ap wants_more e in cc
 not_begun_shut r shut (inr e) = let open_ : wants_more r ≡ true = ap wants_more e in cc
 
-shut_at : (w : Wrong) → wants_more (at_fault w) ≡ false
-shut_at (wrong.Kind kind) = refl
-shut_at wrong.Format = refl
-
 at_other : (st now : State) → st ≡ now → (IsOrLoses (ahead now) client_message → ⊥) → IsOrLoses (ahead st) client_message → ⊥
 at_other st now e other k = other (subst (λ t. IsOrLoses (ahead t) client_message) e k)
 
 -- A text, a whole message and a fault are elsewhere.
-pub elsewhere : (st : State) → ((x : Kept) × (st ≡ Keeping x)) ⊎ (((x : Past) × (st ≡ Passing x)) ⊎ (((x : declared.ClientMessage) × (st ≡ Whole x)) ⊎ ((x : Wrong) × (st ≡ Failed x))))
+pub elsewhere : (st : State) → ((x : KeptText) × (st ≡ Keeping x)) ⊎ (((len : ℕ) × (x : SkippedBytes) × (st ≡ Passing len x)) ⊎ (((x : declared.ClientMessage) × (st ≡ Whole x)) ⊎ ((x : Fault) × (st ≡ Failed x))))
     → (IsTrue false → IsOrLoses (ahead st) client_message) × (IsOrLoses (ahead st) client_message → IsTrue false)
 elsewhere st is =
     let other : IsOrLoses (ahead st) client_message → ⊥ =
     elim is [
       | inl e ↦ at_other st (Keeping e.0) e.1 (not_begun (ahead (Keeping e.0)) (keeping_knows e.0.0 e.0.1))
       | inr others ↦ elim others [
-        | inl e ↦ at_other st (Passing e.0) e.1 (not_begun (ahead (Passing e.0)) (passing_knows e.0.0 e.0.1))
+        | inl e ↦ at_other st (Passing e.0 e.1) e.2 (not_begun (ahead (Passing e.0 e.1)) (passing_knows e.1 e.0))
         | inr others ↦ elim others [
           | inl e ↦ at_other st (Whole e.0) e.1 (not_begun_shut (ahead (Whole e.0)) refl)
-          | inr e ↦ at_other st (Failed e.0) e.1 (not_begun_shut (ahead (Failed e.0)) (shut_at e.0))
+          | inr e ↦ at_other st (Failed e.0) e.1 (not_begun_shut (ahead (Failed e.0)) refl)
         ]
       ]
     ] in
     (λ e. absurd cc, λ k. absurd (other k))
+
+-- Fields other than the type are elsewhere too.
+pub elsewhere_part : (st : State) (held : Part × List ℕ) → st ≡ Fields held → length held.1 < len_of held.0 → NotKind held.0 → IsOrLoses (ahead st) client_message → ⊥
+elsewhere_part st held is lt other = at_other st (Fields held) is (not_begun (ahead (Fields held)) (fields_know held.0 held.1 lt other))
 
 -- ---- where memory for a text was refused
 

@@ -10,7 +10,7 @@ use Rattle.rfb_wire.specs.Joining.{version_ahead, types_ahead, result_ahead, ver
 use Rattle.rfb_wire.specs.declared.host_talk.Stage.{Stage}
 use Rattle.rfb_wire.specs.declared.host_talk.Stage.TheVariants as at
 use Rattle.rfb_wire.specs.declared.host_talk.HostTalk.{HostTalk}
-use Rattle.rfb_wire.proofs.Fields.{IsOpen, field_open, bind_open}
+use Rattle.rfb_wire.proofs.OpenFields.{IsOpen, field_open, bind_open}
 use Rattle.rfb_wire.proofs.Joinings.{version_judged, types_judged, reason_judged, reason_length_judged, outcome_judged}
 
 -- All that is said, one answer behind the other.

@@ -9,7 +9,7 @@ use Rattle.rfb_wire.specs.Joining.{version_ahead, types_ahead, result_ahead, ini
 use Rattle.rfb_wire.specs.declared.host_talk.Stage.{Stage}
 use Rattle.rfb_wire.specs.declared.host_talk.Stage.TheVariants as at
 use Rattle.rfb_wire.specs.declared.host_talk.HostTalk.{HostTalk}
-use Rattle.rfb_wire.proofs.Fields.{field_open, bind_step}
+use Rattle.rfb_wire.proofs.OpenFields.{field_open, bind_step}
 use Rattle.rfb_wire.proofs.Joinings.{ahead_at, version_judged, types_judged, reason_judged, reason_length_judged, outcome_judged, name_judged}
 
 -- Each beginning of the handshake has gone on by a byte.

@@ -10,7 +10,7 @@ use Rattle.rfb_wire.specs.Joining.{version_ahead, types_ahead, result_ahead, ini
 use Rattle.rfb_wire.specs.declared.host_talk.Stage.{Stage}
 use Rattle.rfb_wire.specs.declared.host_talk.Stage.TheVariants as at
 use Rattle.rfb_wire.specs.declared.host_talk.HostTalk.{HostTalk}
-use Rattle.rfb_wire.proofs.Fields.{IsOpen, field_open, bind_open}
+use Rattle.rfb_wire.proofs.OpenFields.{IsOpen, field_open, bind_open}
 
 -- What follows each field, where it is whole.
 abbrev pub version_judged : List ℕ → Reading (Unit {0})
@@ -20,7 +20,7 @@ abbrev pub types_judged : List ℕ → Reading (Unit {0})
 types_judged types = unless (not (list_any (λ t. t == 1) types)) fault.NoNone (Done tt)
 
 abbrev pub reason_judged : List ℕ → Reading (Unit {0})
-reason_judged reason = Faulty (fault.HostRefused (record { items = reason }))
+reason_judged reason = Faulty (fault.HostRefused reason)
 
 abbrev pub reason_length_judged : List ℕ → Reading (Unit {0})
 reason_length_judged field = refused (from_be_bytes w32 field)

@@ -51,16 +51,16 @@ spells_text kept lost t x few h =
     let counted = spells_bind u32 (text_behind kept lost) (to_be_bytes w32 (length t)) t (length t) x (spells_u32 (length t) few) h in
     record { whole = ap suc (ap suc (ap suc counted.whole)); says = counted.says }
 
-pub text_is_kept : {A : Type 0} (kept : List ℕ → A) (lost : ℕ → A) (t : List ℕ) → length t ≤ 65536 → Spells (text kept lost) (0 ∷ 0 ∷ 0 ∷ to_be_bytes w32 (length t) ++ t) (kept t)
+pub text_is_kept : {A : Type 0} (kept : List ℕ → A) (lost : ℕ → A) (t : List ℕ) → length t ≤ longest_text → Spells (text kept lost) (0 ∷ 0 ∷ 0 ∷ to_be_bytes w32 (length t) ++ t) (kept t)
 text_is_kept {A = A} kept lost t short =
-    let fits : nat_le (length t) longest_text ≡ true = le-leb (length t) 65536 short in
+    let fits : nat_le (length t) longest_text ≡ true = le-leb (length t) longest_text short in
     let passes : text_behind kept lost (length t) ≡ (bytes (length t) >>= λ u. Done (kept u)) = ap (λ b. if b then (bytes (length t) >>= λ u. Done (kept u)) else padding (length t) (Done (lost (length t)))) fits in
     let said : Spells (bytes (length t) >>= λ u. Done (kept u)) t (kept t) = spells_then (bytes (length t)) (λ u. Done (kept u)) t t (kept t) (spells_bytes t) refl in
     spells_text kept lost t (kept t) (omega arith) (subst (λ (r : Reading A). Spells r t (kept t)) (sym passes) said)
 
-pub text_is_lost : {A : Type 0} (kept : List ℕ → A) (lost : ℕ → A) (t : List ℕ) → 65536 < length t → length t < 2 ^ 32 → Spells (text kept lost) (0 ∷ 0 ∷ 0 ∷ to_be_bytes w32 (length t) ++ t) (lost (length t))
+pub text_is_lost : {A : Type 0} (kept : List ℕ → A) (lost : ℕ → A) (t : List ℕ) → longest_text < length t → length t < 2 ^ 32 → Spells (text kept lost) (0 ∷ 0 ∷ 0 ∷ to_be_bytes w32 (length t) ++ t) (lost (length t))
 text_is_lost {A = A} kept lost t long few =
-    let fits : nat_le (length t) longest_text ≡ false = lt-leb (length t) 65536 long in
+    let fits : nat_le (length t) longest_text ≡ false = lt-leb (length t) longest_text long in
     let passes : text_behind kept lost (length t) ≡ padding (length t) (Done (lost (length t))) = ap (λ b. if b then (bytes (length t) >>= λ u. Done (kept u)) else padding (length t) (Done (lost (length t)))) fits in
     let said : Spells (padding (length t) (Done (lost (length t)))) t (lost (length t)) = rw append-nil at (spells_padding t [] (Done (lost (length t))) (lost (length t)) (spells_done (lost (length t)))) in
     spells_text kept lost t (lost (length t)) few (subst (λ (r : Reading A). Spells r t (lost (length t))) (sym passes) said)

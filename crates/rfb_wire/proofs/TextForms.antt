@@ -4,10 +4,7 @@ use mathlib.Core.Path.{fun_ext}
 use Rattle.std.proofs.lemmas.List.{append-nil}
 use Rattle.pixel_format.specs.Reading.{Reading, Done, ◌>>=◌, step, after, taken, bytes}
 use Rattle.pixel_format.proofs.ReadingLaws.{bind_assoc}
-
--- These bytes of a text have come, and so many are left.
-abbrev pub kept_text : {A : Type 0} → (List ℕ → A) → List ℕ → ℕ → Reading A
-kept_text make kept left = bytes left >>= λ others. Done (make (kept ++ others))
+use Rattle.rfb_wire.specs.HeldText.{kept_text}
 
 less_none : (n : ℕ) → n - 0 ≡ n
 less_none n = omega arith

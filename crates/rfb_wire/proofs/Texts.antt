@@ -1,7 +1,7 @@
 -- How a text goes on, kept or read past.
 use Rattle.std.proofs.Common.{◌≡◌, ℕ, zero, suc, ◌+◌, ◌-◌, ◌<◌, ◌≤◌, true, List, [], ◌∷◌, ◌++◌, length, take, min, ◌⊎◌, inl, inr, refl, sym, ap, subst, ◌∙◌, arith}
 use mathlib.Core.Path.{fun_ext}
-use Rattle.std.proofs.lemmas.List.{length-append, length-take}
+use Rattle.std.proofs.lemmas.List.{append-nil, length-append, length-take}
 use Rattle.pixel_format.specs.Reading.{Reading, Done, Want, padding, wants_more}
 use Rattle.pixel_format.proofs.ReadingLaws.{padding-after, padding-taken}
 use Rattle.rfb_wire.specs.ClientMessage.{ClientMessage, CutText, LostText}
@@ -60,3 +60,13 @@ text_uses kept left new piece next n more some e f (inr p) =
 
 pub past_uses : (left len : ℕ) (new : Reading ClientMessage) (piece : List ℕ) (n : ℕ) → 0 < left → 0 < length piece → n ≡ min (length piece) left → new ≡ passing (left - n) len → UsesOrLoses (passing left len) new piece n
 past_uses left len new piece n more some e p = inl (passing_uses left (LostText len) new piece n (omega arith) (omega arith) (omega arith) p)
+
+-- The last bytes of a text, kept or lost.
+pub text_ends : (kept : List ℕ) (left : ℕ) (m : ClientMessage) (piece next : List ℕ) (n : ℕ) → 0 < left → 0 < length piece → n ≡ min (length piece) left → next ≡ take n piece → left - n ≡ 0
+    → (m ≡ CutText (kept ++ next)) ⊎ (m ≡ LostText (length kept + left)) → UsesOrLoses (keeping kept left) (Done m) piece n
+text_ends kept left m piece next n more some e f none (inl p) =
+    let same : left - length next ≡ 0 = rw f (omega (arith, length-take n piece)) in
+    text_uses kept left (Done m) piece next n more some e f (inl (ap Done (p ∙ ap CutText (sym (append-nil (kept ++ next)))) ∙ ap (keeping (kept ++ next)) (sym same)))
+text_ends kept left m piece next n more some e f none (inr p) =
+    let same : left - length next ≡ 0 = rw f (omega (arith, length-take n piece)) in
+    text_uses kept left (Done m) piece next n more some e f (inr (ap Done p ∙ ap (λ k. passing k (length kept + left)) (sym same)))

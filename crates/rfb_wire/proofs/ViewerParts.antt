@@ -1,8 +1,9 @@
 -- The parts of a viewer's message whose length is fixed.
-use Rattle.std.proofs.Common.{◌≡◌, ℕ, suc, ◌+◌, ◌-◌, ◌<◌, true, false, not, List, [], ◌∷◌, ◌++◌, min, length, take, drop, None, refl, sym, ap, ◌∙◌, arith}
-use Rattle.std.specs.Prelude.{◌==◌, Bool, if◌then◌else◌, nat_le, slice_index}
+use Rattle.std.proofs.Common.{◌≡◌, ℕ, zero, suc, ◌+◌, ◌-◌, ◌<◌, true, false, not, List, [], ◌∷◌, ◌++◌, min, length, take, drop, None, refl, sym, ap, ◌∙◌, arith}
+use Rattle.std.specs.Prelude.{◌==◌, Bool, if◌then◌else◌, nat_le, nat_lt, slice_index}
 use Rattle.std.specs.Int.{w16, w32, from_be_bytes}
 use mathlib.Core.Path.{fun_ext}
+use Rattle.std.proofs.lemmas.Bool.{lt-ltb}
 use Rattle.pixel_format.specs.PixelFormat.{PixelFormat, accepts, format_at}
 use Rattle.std.proofs.lemmas.List.{take_all, length-drop, length-take}
 use Rattle.pixel_format.specs.declared.fault.Fault.TheVariants.{BadFormat}
@@ -12,7 +13,7 @@ use Rattle.rfb_wire.proofs.Heads.{head_wants, head_full, head_takes}
 use Rattle.rfb_wire.specs.declared.client_reader.found.Found.{Found}
 use Rattle.rfb_wire.specs.declared.client_reader.part.Part.{Part}
 use Rattle.rfb_wire.specs.declared.client_reader.part.Part.TheVariants as part
-use Rattle.rfb_wire.specs.ClientMessage.{ClientMessage, SetPixelFormat, SetEncodings, Ask, Key, Pointer, CutText, LostText, fields_of, set_pixel_format, set_encodings, choice_of, Choice}
+use Rattle.rfb_wire.specs.ClientMessage.{ClientMessage, SetPixelFormat, SetEncodings, Ask, Key, Pointer, CutText, LostText, longest_text, fields_of, set_pixel_format, set_encodings, choice_of, Choice}
 use Rattle.rfb_wire.specs.Parts.{len_of}
 use Rattle.rfb_wire.specs.ClientReader.{form_of, numbers, choice_with, Uses}
 
@@ -45,7 +46,7 @@ is_head part.Pointer =
     }
 is_head part.Length =
     record {
-      next = λ xs. if nat_le (from_be_bytes w32 (drop 3 xs)) 65536 then (bytes (from_be_bytes w32 (drop 3 xs)) >>= λ others. Done (CutText others)) else padding (from_be_bytes w32 (drop 3 xs)) (Done (LostText (from_be_bytes w32 (drop 3 xs))));
+      next = λ xs. if nat_le (from_be_bytes w32 (drop 3 xs)) longest_text then (bytes (from_be_bytes w32 (drop 3 xs)) >>= λ others. Done (CutText others)) else padding (from_be_bytes w32 (drop 3 xs)) (Done (LostText (from_be_bytes w32 (drop 3 xs))));
       same = refl;
     }
 
@@ -124,3 +125,7 @@ fields_use p begun new piece next left n all more some e f goes =
       goes_on = goes ∙ (ap (λ t. after (form_of p) (begun ++ t)) f ∙ after-append (form_of p) begun (take n piece));
       all = ap (λ r. taken (after r begun) (take n piece)) (is_head p).same ∙ (head_takes (len_of p) (is_head p).next begun (take n piece) (omega arith) ∙ same);
     }
+
+pub fields_open : (held : Part × List ℕ) (left : ℕ) → length held.1 + left ≡ len_of held.0 → 0 < left → nat_lt 0 left ≡ wants_more (after (form_of held.0) held.1)
+fields_open held zero all some = absurd (omega arith)
+fields_open held (suc left) all some = lt-ltb 0 (suc left) some ∙ sym (part_wants held.0 held.1 (omega arith))

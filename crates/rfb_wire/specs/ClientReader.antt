@@ -1,18 +1,17 @@
 -- How reading a viewer's message goes on, by what its reader holds.
 use Rattle.std.specs.Prelude.{◌≡◌, ℕ, suc, Bool, true, false, ◌<◌, ◌≤◌, ◌==◌, ◌||◌, ◌⊎◌, unwrap_or, Some, List, ◌++◌, length, take}
 use Rattle.std.specs.List.{list_any}
-use Rattle.pixel_format.specs.declared.fault.Fault.TheVariants.{BadFormat, UnknownMessage}
+use Rattle.pixel_format.specs.declared.fault.Fault.TheVariants.{UnknownMessage}
 use Rattle.pixel_format.specs.Reading.{Reading, Done, Faulty, ◌>>=◌, step, after, taken, fault_of, bytes, padding, u32, times}
 use Rattle.rfb_wire.specs.ClientMessage as client
 use Rattle.rfb_wire.specs.ClientMessage.{ClientMessage, SetEncodings, CutText, LostText, client_message, set_pixel_format, set_encodings, key_event, pointer_event, text, kind_of}
+use Rattle.rfb_wire.specs.HeldText.{kept_text}
 use Rattle.rfb_wire.specs.Message.{message_of, losing}
 use Rattle.rfb_wire.specs.declared.client_reader.found.Found.{Found}
 use Rattle.rfb_wire.specs.declared.client_reader.part.Part.{Part}
 use Rattle.rfb_wire.specs.declared.client_reader.part.Part.TheVariants as part
 use Rattle.rfb_wire.specs.declared.client_reader.state.State.{State}
 use Rattle.rfb_wire.specs.declared.client_reader.state.State.TheVariants.{Fields, Keeping, Passing, Whole, Failed}
-use Rattle.rfb_wire.specs.declared.client_reader.state.Wrong as declared_wrong
-use Rattle.rfb_wire.specs.declared.client_reader.state.Wrong.TheVariants as wrong
 
 -- ---- a list of encodings, of which the numbers so far were told and not kept
 
@@ -28,7 +27,7 @@ numbers n found = times n u32 >>= λ es. Done (SetEncodings (choice_with found e
 
 -- Of one that is kept, where these bytes have come and so many are left.
 abbrev pub keeping : List ℕ → ℕ → Reading ClientMessage
-keeping kept left = bytes left >>= λ others. Done (CutText (kept ++ others))
+keeping = kept_text CutText
 
 -- And of one that isn't.
 abbrev pub passing : ℕ → ℕ → Reading ClientMessage
@@ -47,26 +46,21 @@ form_of part.Key = key_event
 form_of part.Pointer = pointer_event
 form_of part.Length = text CutText LostText
 
--- How a reader stands at what it found wrong.
-abbrev pub at_fault : declared_wrong.Wrong → Reading ClientMessage
-at_fault (wrong.Kind kind) = Faulty (UnknownMessage kind)
-at_fault wrong.Format = Faulty BadFormat
-
 -- How a reader goes on that holds this.
 abbrev pub ahead : State → Reading ClientMessage
 ahead (Fields fields) = after (form_of fields.0) fields.1
 ahead (Keeping kept) = keeping kept.0 kept.1
-ahead (Passing past) = passing past.0 past.1
+ahead (Passing len left) = passing left len
 ahead (Whole message) = Done (message_of message)
-ahead (Failed what) = at_fault what
+ahead (Failed fault) = Faulty fault
 
 -- More is to come of a message.
 abbrev pub is_partial : State → Bool
 is_partial (Fields fields) = true
 is_partial (Keeping kept) = true
-is_partial (Passing past) = true
+is_partial (Passing len left) = true
 is_partial (Whole message) = false
-is_partial (Failed what) = false
+is_partial (Failed fault) = false
 
 -- The type of the message has come: no further byte shows one that isn't known, 255 say.
 abbrev pub KnowsType : Reading ClientMessage → Type 0

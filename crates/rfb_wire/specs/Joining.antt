@@ -21,8 +21,8 @@ types_ahead at.Version wanted begun = security_types
 types_ahead at.BadVersion wanted begun = security_types
 types_ahead at.TypeCount wanted begun = after security_types begun
 types_ahead at.ReasonLength wanted begun = after (u32 >>= refused) begun
-types_ahead at.Reason wanted begun = after (bytes wanted >>= λ reason. Faulty (fault.HostRefused (record { items = reason }))) begun
-types_ahead at.Refused wanted begun = Faulty (fault.HostRefused (record { items = begun }))
+types_ahead at.Reason wanted begun = after (bytes wanted >>= λ reason. Faulty (fault.HostRefused reason)) begun
+types_ahead at.Refused wanted begun = Faulty (fault.HostRefused begun)
 types_ahead at.Types wanted begun = after (bytes wanted >>= λ types. unless (not (list_any (λ t. t == 1) types)) fault.NoNone (Done tt)) begun
 types_ahead at.NoNone wanted begun = Faulty fault.NoNone
 types_ahead _ wanted begun = Done tt

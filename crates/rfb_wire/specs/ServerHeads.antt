@@ -1,8 +1,6 @@
 -- The fields of fixed length in what a host sends (RFC 6143, 7.6), after the type of a message.
 use Rattle.std.specs.Prelude.{ℕ}
 use Rattle.pixel_format.specs.Reading.{Reading, Done, ◌>>=◌, padding, u16, u32}
-use Rattle.raster.specs.Encoding.{rect}
-use Rattle.rfb_wire.specs.declared.head.RectangleHead.{RectangleHead}
 
 -- The count of rectangles of a FramebufferUpdate (7.6.1).
 abbrev pub update_head : Reading ℕ
@@ -15,13 +13,6 @@ colour_map_head = padding 3 u16
 -- The length of a ServerCutText (7.6.4).
 abbrev pub text_head : Reading ℕ
 text_head = padding 3 u32
-
--- Where a rectangle lies, and the number of its encoding (7.6.1).
-abbrev pub rectangle_head : Reading RectangleHead
-rectangle_head = do
-  area ← rect
-  encoding ← u32
-  Done (record { area = area; encoding = encoding })
 
 -- The source of a CopyRect: x and y (7.7.2).
 abbrev pub copy_source : Reading (ℕ × ℕ)

@@ -4,19 +4,7 @@
 
 ghost use Rattle.std.specs.Prelude.{◌≤◌, length, take};
 ghost use Rattle.pixel_format.specs.Reading.{Spells, u32};
-ghost use Rattle.raster.specs.Encoding.{rect};
-ghost use Rattle.rfb_wire.specs.ServerHeads.{colour_map_head, copy_source, rectangle_head, text_head, update_head};
-
-use raster::{RECT_LEN, Rect};
-
-/// The head of a rectangle of an update (RFC 6143, 7.6.1).
-#[derive(Clone, Copy, Debug, PartialEq, Eq)]
-pub struct RectangleHead {
-    /// Where it lies on the screen, in pixels. It may leave the screen.
-    pub area: Rect,
-    /// The number of its encoding, as 32 bits.
-    pub encoding: u32,
-}
+ghost use Rattle.rfb_wire.specs.ServerHeads.{colour_map_head, copy_source, text_head, update_head};
 
 /// How many rectangles a FramebufferUpdate has: 3 bytes after its type (RFC 6143, 7.6.1).
 pub fn read_update_head(bytes: &[u8]) -> u16
@@ -45,14 +33,6 @@ pub fn read_text_head(bytes: &[u8]) -> u32
     u32::from_be_bytes([b[3], b[4], b[5], b[6]])
 }
 
-/// The place of a rectangle, in pixels: 8 bytes (RFC 6143, 7.6.1).
-pub fn read_rect(bytes: &[u8]) -> Rect
-    requires { 8 ≤ length bytes.now }
-    ensures { Spells rect (take 8 bytes.now) result }
-{
-    Rect::read(bytes)
-}
-
 /// The number of an encoding: 4 bytes (RFC 6143, 7.6.1).
 pub fn read_encoding(bytes: &[u8]) -> u32
     requires { 4 ≤ length bytes.now }
@@ -60,18 +40,6 @@ pub fn read_encoding(bytes: &[u8]) -> u32
 {
     let (b, _) = bytes.split_at(4);
     u32::from_be_bytes([b[0], b[1], b[2], b[3]])
-}
-
-/// The head of a rectangle: 12 bytes (RFC 6143, 7.6.1).
-pub fn read_rectangle_head(bytes: &[u8]) -> RectangleHead
-    requires { 12 ≤ length bytes.now }
-    ensures { Spells rectangle_head (take 12 bytes.now) result }
-{
-    let (area, rest) = bytes.split_at(RECT_LEN);
-    RectangleHead {
-        area: read_rect(area),
-        encoding: read_encoding(rest),
-    }
 }
 
 /// The source of a CopyRect, x and then y: 4 bytes (RFC 6143, 7.7.2).

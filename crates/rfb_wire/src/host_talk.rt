@@ -8,7 +8,7 @@ use crate::joined::Joined;
 use crate::security_type::NONE;
 use crate::version::VERSION_LEN;
 use arrayvec::ArrayVec;
-use pixel_format::Fault;
+use pixel_format::{Fault, Reason};
 
 /// Which field of the handshake is being read, or how it ended.
 #[derive(Clone, Copy)]
@@ -147,7 +147,7 @@ impl HostTalk {
     {
         match self.stage {
             Stage::BadVersion => Some(Fault::BadVersion),
-            Stage::Refused => Some(Fault::HostRefused(kept(self.field.as_slice()))),
+            Stage::Refused => Some(Fault::HostRefused(Reason::new(self.field.as_slice()))),
             Stage::NoNone => Some(Fault::NoNone),
             Stage::Failed => Some(Fault::SecurityFailed),
             Stage::BadScreen => Some(Fault::BadScreen),

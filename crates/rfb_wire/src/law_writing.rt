@@ -5,7 +5,7 @@ ghost use Rattle.std.specs.List.{All};
 ghost use Rattle.pixel_format.specs.PixelFormat.{PixelFormat, IsAccepted};
 ghost use Rattle.pixel_format.specs.Reading.{Done, after, Spells};
 ghost use Rattle.raster.specs.declared.rect.Rect.{Rect};
-ghost use Rattle.rfb_wire.specs.ClientMessage.{client_message, choice_of, SetPixelFormat, SetEncodings, Ask, Key, Pointer, CutText, LostText};
+ghost use Rattle.rfb_wire.specs.ClientMessage.{client_message, choice_of, longest_text, SetPixelFormat, SetEncodings, Ask, Key, Pointer, CutText, LostText};
 ghost use Rattle.rfb_wire.specs.ServerMessage as server;
 ghost use Rattle.rfb_wire.specs.Handshake.{Joined, server_init, host_init, host_hello, viewer_hello, said_to_viewer, said_to_host};
 ghost use Rattle.rfb_wire.specs.Writing.{set_pixel_format_bytes, set_encodings_bytes, request_bytes, key_bytes, pointer_bytes, client_text_bytes, bell_bytes, server_text_bytes};
@@ -17,16 +17,16 @@ pub fn client_messages_are_read()
     ensures request { (incremental : Bool) (area : Rect) → area.x + area.w < 2 ^ 16 → area.y + area.h < 2 ^ 16 → Spells client_message (request_bytes incremental area) (Ask incremental area) }
     ensures key { (down : Bool) (key : ℕ) → key < 2 ^ 32 → Spells client_message (key_bytes down key) (Key down key) }
     ensures pointer { (mask x y : ℕ) → x < 2 ^ 16 → y < 2 ^ 16 → Spells client_message (pointer_bytes mask x y) (Pointer mask x y) }
-    ensures text { (text : List ℕ) → length text ≤ 65536 → Spells client_message (client_text_bytes text) (CutText text) }
-    ensures lost { (text : List ℕ) → 65536 < length text → length text < 2 ^ 32 → Spells client_message (client_text_bytes text) (LostText (length text)) }
+    ensures text { (text : List ℕ) → length text ≤ longest_text → Spells client_message (client_text_bytes text) (CutText text) }
+    ensures lost { (text : List ℕ) → longest_text < length text → length text < 2 ^ 32 → Spells client_message (client_text_bytes text) (LostText (length text)) }
 {}
 
 /// A Bell and a text are read as such by every viewer. A text of more than 65,536 bytes is lost. Of updates
 /// `update_is_read` speaks.
 pub fn server_messages_are_read()
     ensures bell { (format : PixelFormat) (w h : ℕ) → Spells (server.server_message format w h) bell_bytes server.Bell }
-    ensures text { (format : PixelFormat) (w h : ℕ) (text : List ℕ) → length text ≤ 65536 → Spells (server.server_message format w h) (server_text_bytes text) (server.ServerCutText text) }
-    ensures lost { (format : PixelFormat) (w h : ℕ) (text : List ℕ) → 65536 < length text → length text < 2 ^ 32 → Spells (server.server_message format w h) (server_text_bytes text) (server.LostText (length text)) }
+    ensures text { (format : PixelFormat) (w h : ℕ) (text : List ℕ) → length text ≤ longest_text → Spells (server.server_message format w h) (server_text_bytes text) (server.ServerCutText text) }
+    ensures lost { (format : PixelFormat) (w h : ℕ) (text : List ℕ) → longest_text < length text → length text < 2 ^ 32 → Spells (server.server_message format w h) (server_text_bytes text) (server.LostText (length text)) }
 {}
 
 /// What each side says in a handshake is what the other side waits for.

@@ -1,8 +1,7 @@
 //! Fields of fixed length of what a host sends.
 
 use rfb_wire::{
-    read_colour_map_head, read_copy_source, read_encoding, read_rect, read_rectangle_head,
-    read_text_head, read_update_head,
+    read_colour_map_head, read_copy_source, read_encoding, read_text_head, read_update_head,
 };
 
 // The number that a head tells, by every reader that tells one.
@@ -20,16 +19,4 @@ fn reads_source() -> bool {
 #[test]
 fn heads(rt: HostRuntime) {
     assert!(rt; reads_numbers() && reads_source());
-}
-
-fn reads_rectangle() -> bool {
-    let area = read_rect(&[0, 1, 1, 0, 0, 16, 255, 255]);
-    let head = read_rectangle_head(&[0, 1, 1, 0, 0, 16, 255, 255, 0, 0, 0, 5]);
-    let is_placed = area.x == 1 && area.y == 256 && area.w == 16 && area.h == 65535;
-    is_placed && head.area == area && head.encoding == 5
-}
-
-#[test]
-fn rectangles(rt: HostRuntime) {
-    assert!(rt; reads_rectangle());
 }

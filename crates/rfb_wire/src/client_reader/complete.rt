@@ -7,18 +7,18 @@ ghost use Rattle.rfb_wire.specs.ClientMessage.{CutText, LostText, ask, fields_of
 ghost use Rattle.rfb_wire.specs.ClientReader.{ahead, form_of, numbers};
 ghost use Rattle.rfb_wire.specs.Parts.{len_of};
 
-use crate::client_reader::fields::Fields;
 use crate::client_reader::found::Found;
-use crate::client_reader::kept::Kept;
 use crate::client_reader::part::Part;
-use crate::client_reader::past::Past;
-use crate::client_reader::state::{State, Wrong};
+use crate::client_reader::state::State;
+use crate::fields::Fields;
+use crate::kept_text::KeptText;
 use crate::message::ClientMessage;
 use crate::message_type::{
     CLIENT_CUT_TEXT, FRAMEBUFFER_UPDATE_REQUEST, KEY_EVENT, POINTER_EVENT, SET_ENCODINGS,
     SET_PIXEL_FORMAT,
 };
-use pixel_format::{Format, LONGEST_TEXT};
+use crate::text::Text;
+use pixel_format::{Fault, Format, LONGEST_TEXT};
 use raster::Rect;
 use std::alloc::Global;
 
@@ -50,7 +50,7 @@ fn behind_kind(kind: u8) -> State
         KEY_EVENT => Part::Key,
         POINTER_EVENT => Part::Pointer,
         CLIENT_CUT_TEXT => Part::Length,
-        _ => return State::Failed(Wrong::Kind(kind)),
+        _ => return State::Failed(Fault::UnknownMessage(kind)),
     };
     State::Fields(Fields::of(part))
 }
@@ -64,7 +64,7 @@ fn format(b: &[u8]) -> State
     match fields.first_chunk::<16>() {
         Some(fields) => match Format::read(fields) {
             Ok(format) => State::Whole(ClientMessage::Format(format)),
-            Err(_) => State::Failed(Wrong::Format),
+            Err(fault) => State::Failed(fault),
         },
         None => unreachable!(),
     }
@@ -150,8 +150,10 @@ fn cut(alloc: Global, b: &[u8]) -> State
 {
     let len = text_length(b);
     if len > LONGEST_TEXT {
-        Past::begin(len, len)
+        State::past(len, len)
+    } else if len == 0 {
+        State::Whole(ClientMessage::Cut(Text::from_vec(Vec::new(alloc))))
     } else {
-        Kept::begin(alloc, len as usize)
+        State::Keeping(KeptText::begin(alloc, len as usize))
     }
 }

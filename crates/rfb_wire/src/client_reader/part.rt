@@ -1,12 +1,9 @@
 //! The parts of a message whose length is fixed.
 
 ghost use Rattle.std.specs.Prelude.{◌≡◌};
-ghost use Rattle.rfb_wire.specs.Parts.{len_of};
 
 use crate::client_reader::found::Found;
-
-/// How many bytes the longest part has: padding and a pixel format (RFC 6143, 7.5.1).
-pub const LONGEST_PART: usize = 19;
+use crate::fields::FixedPart;
 
 /// What is read next, where the number of its bytes is known.
 #[derive(Clone, Copy)]
@@ -29,14 +26,15 @@ pub enum Part {
     Length,
 }
 
-impl Part {
-    /// How many bytes it has: at most `LONGEST_PART`.
-    pub fn len(self) -> usize
-        ensures { result ≡ len_of self }
-    {
+impl FixedPart for Part {
+    ghost use Rattle.rfb_wire.specs.Parts as parts;
+
+    ghost len_of = { parts.len_of };
+
+    fn len(self) -> usize {
         match self {
             Part::Kind => 1,
-            Part::Format => LONGEST_PART,
+            Part::Format => 19,
             Part::Count => 3,
             Part::Number { .. } => 4,
             Part::Ask => 9,

@@ -1,41 +1,85 @@
 //! How far a reader of a viewer's messages has come.
 
-ghost use Rattle.std.specs.Prelude.{◌≡◌, ◌<◌, ◌↔◌, IsTrue, true, length};
+ghost use Rattle.std.specs.Prelude.{◌≡◌, ◌<◌, ◌↔◌, IsTrue, true, length, unwrap_or, None, Some, MatchResult};
 ghost use Rattle.pixel_format.specs.Reading.{fault_of, wants_more};
 ghost use Rattle.rfb_wire.specs.ClientMessage.{client_message};
-ghost use Rattle.rfb_wire.specs.ClientReader.{ahead, is_partial, UsesOrLoses};
-ghost use Rattle.rfb_wire.specs.Message.{IsOrLoses};
+ghost use Rattle.rfb_wire.specs.ClientReader.{ahead, is_partial, passing, UsesOrLoses};
+ghost use Rattle.rfb_wire.specs.Message.{FeedsOrLoses, IsOrLoses};
+ghost use Rattle.rfb_wire.specs.declared.client_reader.state.State.TheVariants as state;
 
-use crate::client_reader::fields::Fields;
-use crate::client_reader::kept::Kept;
+use crate::client_reader::complete::complete;
 use crate::client_reader::part::Part;
-use crate::client_reader::past::Past;
+use crate::fields::{Fields, FixedPart};
+use crate::kept_text::KeptText;
 use crate::message::ClientMessage;
+use crate::skipped_bytes::SkippedBytes;
 use pixel_format::Fault;
 use std::alloc::Global;
-
-/// What was wrong with a message.
-#[derive(Clone, Copy)]
-pub enum Wrong {
-    /// Its type.
-    Kind(u8),
-    /// Its pixel format.
-    Format,
-}
 
 /// What has come of a message.
 #[derive(Drop)]
 pub enum State {
     /// Some fields of a fixed length.
-    Fields(Fields),
+    Fields(Fields<Part>),
     /// A part of a text that is kept.
-    Keeping(Kept),
-    /// A part of a text that is read past.
-    Passing(Past),
+    Keeping(KeptText),
+    /// A part of a text of so many bytes that is read past.
+    Passing(u32, SkippedBytes),
     /// All of it.
     Whole(ClientMessage),
     /// What shows a fault.
-    Failed(Wrong),
+    Failed(Fault),
+}
+
+/// What a part becomes with bytes from the front of a piece, if it doesn't stay a part, and how many bytes it takes.
+fn take_fields(alloc: Global, fields: &mut Fields<Part>, piece: &[u8]) -> (Option<State>, usize)
+    requires { 0 < length piece.now }
+    ensures { UsesOrLoses (ahead (state.Fields fields.old)) (ahead (unwrap_or result.0 (state.Fields fields.new))) piece.now result.1 }
+{
+    let part = fields.part();
+    let count = piece.len().min(fields.left());
+    let (next, _) = piece.split_at(count);
+    if count < fields.left() {
+        fields.keep(next);
+        return (None, count);
+    }
+    let all = fields.whole(next);
+    (Some(complete(alloc, part, &all[..part.len()])), count)
+}
+
+/// The same of a text that is kept. Where memory for it is refused it is read past from now on.
+fn take_text(alloc: Global, kept: &mut KeptText, piece: &[u8]) -> (Option<State>, usize)
+    requires { 0 < length piece.now }
+    ensures { UsesOrLoses (ahead (state.Keeping kept.old)) (ahead (unwrap_or result.0 (state.Keeping kept.new))) piece.now result.1 }
+{
+    let len = kept.len() as u32;
+    let count = piece.len().min(kept.left());
+    let (next, _) = piece.split_at(count);
+    let left = (kept.left() - count) as u32;
+    if left == 0 {
+        let message = match kept.finish(alloc, next) {
+            Ok(text) => ClientMessage::Cut(text),
+            Err(_) => ClientMessage::CutLost(len),
+        };
+        return (Some(State::Whole(message)), count);
+    }
+    match kept.keep(next) {
+        Ok(()) => (None, count),
+        Err(_) => (Some(State::past(left, len)), count),
+    }
+}
+
+/// The same of a text of so many bytes that is read past.
+fn skip(len: u32, bytes: &mut SkippedBytes, piece: &[u8]) -> (Option<State>, usize)
+    requires { 0 < length piece.now }
+    ensures { UsesOrLoses (ahead (state.Passing len bytes.old)) (ahead (unwrap_or result.0 (state.Passing len bytes.new))) piece.now result.1 }
+{
+    let count = piece.len().min(bytes.left());
+    if count < bytes.left() {
+        bytes.skip(count);
+        return (None, count);
+    }
+    (Some(State::Whole(ClientMessage::CutLost(len))), count)
 }
 
 impl State {
@@ -46,14 +90,25 @@ impl State {
         State::Fields(Fields::of(Part::Kind))
     }
 
+    /// A text of which so many bytes are left to be read past.
+    pub fn past(left: u32, len: u32) -> State
+        ensures { ahead result ≡ passing left len }
+    {
+        if left == 0 {
+            State::Whole(ClientMessage::CutLost(len))
+        } else {
+            State::Passing(len, SkippedBytes::of(left))
+        }
+    }
+
     /// Whether nothing of a message has come.
     pub fn is_start(&self) -> bool
         ensures value { IsTrue result ↔ IsOrLoses (ahead self.now) client_message }
         ensures begins { IsTrue result → ahead self.now ≡ client_message }
     {
         match self {
-            State::Fields(fields) => fields.are_kind(),
-            State::Keeping(_) | State::Passing(_) | State::Whole(_) | State::Failed(_) => false,
+            State::Fields(fields) => matches!(fields.part(), Part::Kind),
+            State::Keeping(_) | State::Passing(_, _) | State::Whole(_) | State::Failed(_) => false,
         }
     }
 
@@ -62,10 +117,11 @@ impl State {
         ensures value { result ≡ wants_more (ahead self.now) }
         ensures partial { result ≡ is_partial self.now }
     {
+        // Of each part at least one byte is left. That the number is asked for here is for the proof.
         match self {
             State::Fields(fields) => fields.left() > 0,
             State::Keeping(kept) => kept.left() > 0,
-            State::Passing(past) => past.left() > 0,
+            State::Passing(_, bytes) => bytes.left() > 0,
             State::Whole(_) | State::Failed(_) => false,
         }
     }
@@ -74,38 +130,53 @@ impl State {
     pub fn fault(&self) -> Option<Fault>
         ensures { result ≡ fault_of (ahead self.now) }
     {
+        // A part shows none; `wants_more` is asked for the proof.
         if self.wants_more() {
             return None;
         }
         match self {
-            State::Failed(Wrong::Kind(kind)) => Some(Fault::UnknownMessage(*kind)),
-            State::Failed(Wrong::Format) => Some(Fault::BadFormat),
+            State::Failed(fault) => Some(*fault),
             _ => None,
         }
     }
 
     /// Takes bytes from the front of a piece, and answers how many: all that its part or its text wants.
-    pub fn advance(self, alloc: Global, piece: &[u8]) -> (State, usize)
-        requires wanted { wants_more (ahead self) ≡ true }
+    pub fn advance(&mut self, alloc: Global, piece: &[u8]) -> usize
+        requires wanted { wants_more (ahead self.old) ≡ true }
         requires some { 0 < length piece.now }
-        ensures { UsesOrLoses (ahead self) (ahead result.0) piece.now result.1 }
+        ensures { UsesOrLoses (ahead self.old) (ahead self.new) piece.now result }
     {
-        match self {
-            State::Fields(fields) => {
-                let count = piece.len().min(fields.left());
-                let (next, _) = piece.split_at(count);
-                (fields.with_bytes(alloc, next), count)
-            }
-            State::Keeping(kept) => {
-                let count = piece.len().min(kept.left());
-                let (next, _) = piece.split_at(count);
-                (kept.with_bytes(next), count)
-            }
-            State::Passing(past) => {
-                let count = piece.len().min(past.left());
-                (past.with_bytes(count), count)
-            }
+        let (next, count) = match self {
+            State::Fields(fields) => take_fields(alloc, fields, piece),
+            State::Keeping(kept) => take_text(alloc, kept, piece),
+            State::Passing(len, bytes) => skip(*len, bytes, piece),
             State::Whole(_) | State::Failed(_) => unreachable!(),
+        };
+        if let Some(state) = next {
+            *self = state;
         }
+        count
+    }
+
+    /// What is answered once so many bytes were used.
+    fn so_far(&self, used: usize) -> Result<usize, Fault>
+        ensures { MatchResult result (λ n. (n ≡ used) × (fault_of (ahead self.now) ≡ None)) (λ fault. fault_of (ahead self.now) ≡ Some fault) }
+    {
+        match self.fault() {
+            Some(fault) => Err(fault),
+            None => Ok(used),
+        }
+    }
+
+    /// Takes a piece, up to the end of a whole message, and answers how many bytes it used, or the fault.
+    pub fn feed(&mut self, alloc: Global, piece: &[u8]) -> Result<usize, Fault>
+        ensures { FeedsOrLoses (ahead self.old) (ahead self.new) piece.now result }
+    {
+        let mut used = 0;
+        while used < piece.len() && self.wants_more() {
+            let (_, left) = piece.split_at(used);
+            used += self.advance(alloc, left);
+        }
+        self.so_far(used)
     }
 }
