@@ -10,7 +10,7 @@ use Rattle.raster.specs.Update.{Update, paints_of, after_paints, after_updates, 
 use Rattle.raster.proofs.Places.{Has, has_holds}
 use Rattle.tiles.specs.Touched.{touches, last_touch_from}
 use Rattle.tiles.specs.Brings.{UntouchedStays, DueWhereTouched}
-use Rattle.tiles.proofs.Due.{or_left, or_right, same_after_paints}
+use Rattle.tiles.proofs.Touching.{or_left, or_right, same_after_paints}
 
 -- ---- the last touch
 

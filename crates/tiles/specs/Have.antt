@@ -1,5 +1,5 @@
 -- What a viewer has of each tile.
-use Rattle.std.specs.Prelude.{◌≡◌, ℕ, ◌<◌, List, slice_get, unwrap_or, Option, Some, None}
+use Rattle.std.specs.Prelude.{◌≡◌, ℕ, ◌<◌, ◌≤◌, min, List, slice_get, unwrap_or, Option, Some, None}
 use Rattle.raster.specs.Screen.{tile_count, tile_rect}
 use Rattle.tiles.specs.Touched.{Event, last_sent}
 
@@ -9,9 +9,13 @@ pub record SentTiles : Type 0 where
   pub height : ℕ
   pub sent : List (Option ℕ)
 
--- The number of one tile; past the last tile there is none.
+-- One of several such numbers; past the last there is none.
+abbrev pub entry : List (Option ℕ) → ℕ → Option ℕ
+entry numbers k = unwrap_or (slice_get numbers k) None
+
+-- The number of one tile.
 abbrev pub sent_at : SentTiles → ℕ → Option ℕ
-sent_at have t = unwrap_or (slice_get have.sent t) None
+sent_at have t = entry have.sent t
 
 -- It says of each tile what these events say. The latest event stands first.
 pub record HaveStands (have : SentTiles) (es : List Event) : Type 0 where
@@ -21,3 +25,16 @@ pub record HaveStands (have : SentTiles) (es : List Event) : Type 0 where
 pub record IsSameSize (have other : SentTiles) : Type 0 where
   pub width : other.width ≡ have.width
   pub height : other.height ≡ have.height
+
+-- ---- what is kept of a row of tiles
+
+-- The first is none, or both are numbers and it is at most the second.
+abbrev pub AtMost : Option ℕ → Option ℕ → Type 0
+AtMost None sent = Unit {0}
+AtMost (Some n) None = ⊥
+AtMost (Some n) (Some m) = n ≤ m
+
+-- The less of a number that may be none and another: none where it is.
+abbrev pub lowered : Option ℕ → ℕ → Option ℕ
+lowered None n = None
+lowered (Some m) n = Some (min m n)

@@ -4,7 +4,15 @@ ghost use Rattle.std.specs.Prelude.{◌≡◌, ℕ, ◌+◌, ◌-◌, ◌*◌, �
 ghost use Rattle.raster.specs.Screen.{IsWithin, holds, lies_in, meets, tile_count, tile_rect, tiles_across};
 ghost use Rattle.raster.specs.Size.{IsScreenSize};
 
-use raster::Rect;
+use raster::{Rect, TILE_SIDE};
+
+/// How many tiles there are across a width, or down a height, in pixels.
+pub(crate) fn tiles_along(side: u64) -> u64
+    requires { side ≤ 4096 }
+    ensures { result ≡ tiles_across side }
+{
+    side.div_ceil(TILE_SIDE)
+}
 
 /// Which tiles along a side of the screen a range of pixels meets: the number of the first, and how many.
 fn range_met(start: u64, len: u64, side: u64) -> (u64, u64)
@@ -16,9 +24,9 @@ fn range_met(start: u64, len: u64, side: u64) -> (u64, u64)
     if len == 0 || start >= side {
         return (0, 0);
     }
-    let tiles = (side + 15) / 16;
-    let first = (start / 16).min(tiles);
-    let end = ((start + len + 15) / 16).min(tiles);
+    let tiles = tiles_along(side);
+    let first = (start / TILE_SIDE).min(tiles);
+    let end = (start + len).div_ceil(TILE_SIDE).min(tiles);
     (first, end - first)
 }
 
@@ -29,13 +37,13 @@ fn range_inside(start: u64, len: u64, side: u64) -> (u64, u64)
     ensures within { result.0 + result.1 ≤ tiles_across side }
     ensures inside { (k : ℕ) → k < tiles_across side → ((result.0 ≤ k) × (k < result.0 + result.1)) ↔ ((start ≤ k * 16) × (k * 16 + min 16 (side - k * 16) ≤ start + len)) }
 {
-    let tiles = (side + 15) / 16;
-    let first = ((start + 15) / 16).min(tiles);
-    // The last tile ends where the screen does, and may be less than 16 pixels long.
+    let tiles = tiles_along(side);
+    let first = start.div_ceil(TILE_SIDE).min(tiles);
+    // The last tile ends where the screen does, and may be shorter than the others.
     let end = if start + len >= side {
         tiles
     } else {
-        (start + len) / 16
+        (start + len) / TILE_SIDE
     };
     (first, end.saturating_sub(first))
 }

@@ -1,13 +1,13 @@
 //! What a viewer has of each tile.
 
-ghost use Rattle.std.specs.Prelude.{◌≡◌, ℕ, ◌+◌, ◌*◌, ◌<◌, ◌≤◌, [], ◌∷◌, List, false, length, IfOk, IfErr, slice_get, Some};
+ghost use Rattle.std.specs.Prelude.{◌≡◌, ℕ, ◌+◌, ◌*◌, ◌<◌, ◌≤◌, [], ◌∷◌, List, false, length, IfOk, IfErr, slice_get, Some, if◌then◌else◌};
 ghost use Rattle.raster.specs.Screen.{IsWithin, fill, tile_count, tiles_across};
 ghost use Rattle.raster.specs.Size.{IsScreenSize};
-ghost use Rattle.tiles.specs.Have.{HaveStands, IsSameSize, sent_at};
+ghost use Rattle.tiles.specs.Have.{AtMost, HaveStands, IsSameSize, entry, lowered, sent_at};
 ghost use Rattle.tiles.specs.Touched.{Event, Requested, NewFormat, Answered};
 ghost use Rattle.pixel_format.specs.declared.fault.Fault.TheVariants.{Memory};
 
-use crate::covered::{tiles_inside, tiles_met};
+use crate::covered::{tiles_along, tiles_inside, tiles_met};
 use pixel_format::Fault;
 use raster::{Rect, tile_count};
 use std::alloc::Global;
@@ -19,19 +19,23 @@ pub struct Have {
     width: u64,
     height: u64,
     sent: Vec<Option<u64>>,
+    /// Of each row of tiles a number that is at most each of theirs, so that a row without a due tile is found at once: none where a tile
+    /// may never have been sent. It may be too low.
+    least: Vec<Option<u64>>,
 }
 
 impl Model for Have {
-    ghost use Rattle.std.specs.Prelude.{◌≡◌, length};
-    ghost use Rattle.raster.specs.Screen.{tile_count};
+    ghost use Rattle.std.specs.Prelude.{◌≡◌, ℕ, ◌+◌, ◌*◌, ◌<◌, length};
+    ghost use Rattle.raster.specs.Screen.{tile_count, tiles_across};
     ghost use Rattle.raster.specs.Size.{IsScreenSize};
-    ghost use Rattle.tiles.specs.Have.{SentTiles};
+    ghost use Rattle.tiles.specs.Have.{AtMost, SentTiles, entry};
 
     ghost Value = { SentTiles };
 
     ghost view = { λ have. record { width = have.width; height = have.height; sent = have.sent.items } };
 
-    ghost invariant = { λ have. IsScreenSize have.width have.height × (length have.sent.items ≡ tile_count have.width have.height) };
+    ghost invariant = { λ have. IsScreenSize have.width have.height × (length have.sent.items ≡ tile_count have.width have.height) × (length have.least.items ≡ tiles_across have.height)
+        × ((x y : ℕ) → x < tiles_across have.width → y < tiles_across have.height → AtMost (entry have.least.items y) (entry have.sent.items (y * tiles_across have.width + x))) };
 }
 
 /// Gives some tiles that stand one after the other this number, or none.
@@ -51,10 +55,37 @@ fn mark(sent: &mut [Option<u64>], width: u64, height: u64, tiles: Rect, number: 
     requires within { IsWithin tiles (tiles_across width) (tiles_across height) }
     ensures { (x y : ℕ) → x < tiles_across width → y < tiles_across height → slice_get sent.new (y * tiles_across width + x) ≡ fill tiles (Some number) (λ i j. slice_get sent.old (j * tiles_across width + i)) x y }
 {
-    let across = (width as usize + 15) / 16;
+    let across = tiles_along(width) as usize;
     for row in 0..tiles.h as usize {
         let from = (tiles.y as usize + row) * across + tiles.x as usize;
         mark_part(sent, from, tiles.w as usize, number);
+    }
+}
+
+/// The less of a number that may be none and another.
+fn lower(least: Option<u64>, number: u64) -> Option<u64>
+    ensures { result ≡ lowered least number }
+{
+    match least {
+        None => None,
+        Some(before) => Some(before.min(number)),
+    }
+}
+
+/// In some rows of tiles some tiles were sent at this number, or all of them.
+fn keep_rows(least: &mut [Option<u64>], from: usize, to: usize, number: u64, all: bool)
+    requires there { to ≤ length least.old }
+    requires order { from ≤ to }
+    ensures inside { (k : ℕ) → from ≤ k → k < to → entry least.new k ≡ (if all then Some number else lowered (entry least.old k) number) }
+    ensures above { (k : ℕ) → k < from → entry least.new k ≡ entry least.old k }
+    ensures below { (k : ℕ) → to ≤ k → entry least.new k ≡ entry least.old k }
+{
+    for row in from..to {
+        least[row] = if all {
+            Some(number)
+        } else {
+            lower(least[row], number)
+        };
     }
 }
 
@@ -65,16 +96,20 @@ impl Have {
         ensures ok { IfOk result (λ have. (have.width ≡ width) × (have.height ≡ height) × HaveStands have []) }
         ensures err { IfErr result (λ fault. fault ≡ Memory) }
     {
+        let sent = vec![in alloc; None; tile_count(width, height) as usize]?;
+        let least = vec![in alloc; None; tiles_along(height) as usize]?;
         Ok(Have {
             width,
             height,
-            sent: vec![in alloc; None; tile_count(width, height) as usize]?,
+            sent,
+            least,
         })
     }
 
     /// The width and height of the screen in pixels.
     pub fn size(&self) -> (u64, u64)
-        ensures { (result.0 ≡ self.now.width) × (result.1 ≡ self.now.height) }
+        ensures value { (result.0 ≡ self.now.width) × (result.1 ≡ self.now.height) }
+        ensures screen { IsScreenSize result.0 result.1 }
     {
         (self.width, self.height)
     }
@@ -93,6 +128,7 @@ impl Have {
         ensures stands { (es : List Event) → HaveStands self.old es → HaveStands self.new (NewFormat ∷ es) }
     {
         self.sent.as_mut_slice().fill(None);
+        self.least.as_mut_slice().fill(None);
     }
 
     /// No tile that meets the area counts as sent any longer: it was asked for, and not incrementally (RFC 6143, 7.5.3).
@@ -107,6 +143,12 @@ impl Have {
             self.width,
             self.height,
             tiles,
+            None,
+        );
+        mark_part(
+            self.least.as_mut_slice(),
+            tiles.y as usize,
+            tiles.h as usize,
             None,
         );
     }
@@ -125,5 +167,20 @@ impl Have {
             tiles,
             Some(number),
         );
+        keep_rows(
+            self.least.as_mut_slice(),
+            tiles.y as usize,
+            (tiles.y + tiles.h) as usize,
+            number,
+            tiles.w == tiles_along(self.width),
+        );
+    }
+
+    /// A number that is at most each of those of a row of tiles, and none where one of these may never have been sent.
+    pub(crate) fn least_of_row(&self, row: u64) -> Option<u64>
+        requires { row < tiles_across self.now.height }
+        ensures { (t : ℕ) → row * tiles_across self.now.width ≤ t → t < row * tiles_across self.now.width + tiles_across self.now.width → AtMost result (sent_at self.now t) }
+    {
+        self.least[row as usize]
     }
 }

@@ -1,0 +1,141 @@
+//! At which update each tile was last touched.
+
+ghost use Rattle.std.specs.Prelude.{◌≡◌, ℕ, ◌+◌, ◌*◌, ◌<◌, ◌≤◌, [], length, max, slice_index, List, IfOk, IfErr};
+ghost use Rattle.raster.specs.Screen.{IsWithin, fill, meets, tile_count, tile_rect, tiles_across};
+ghost use Rattle.raster.specs.Size.{IsScreenSize};
+ghost use Rattle.raster.specs.Update.{Update};
+ghost use Rattle.tiles.specs.Grid.{GridStands, IsTouched, stamp_at};
+ghost use Rattle.tiles.specs.Touched.{last_touch};
+ghost use Rattle.pixel_format.specs.declared.fault.Fault.TheVariants.{Memory};
+
+use crate::covered::{tiles_along, tiles_met};
+use pixel_format::Fault;
+use raster::{Rect, tile_count};
+use std::alloc::Global;
+use std::marker::Model;
+
+/// For each tile of a screen the number of the last update that touched it, and 0 where none did.
+#[derive(Drop)]
+pub struct Grid {
+    width: u64,
+    height: u64,
+    stamps: Vec<u64>,
+    /// Of each row of tiles a number that is at least each of its stamps, so that a row without a due tile is found at once.
+    greatest: Vec<u64>,
+}
+
+impl Model for Grid {
+    ghost use Rattle.std.specs.Prelude.{◌≡◌, ℕ, ◌+◌, ◌*◌, ◌<◌, ◌≤◌, length, slice_index};
+    ghost use Rattle.raster.specs.Screen.{tile_count, tiles_across};
+    ghost use Rattle.raster.specs.Size.{IsScreenSize};
+    ghost use Rattle.tiles.specs.Grid.{Stamps};
+
+    ghost Value = { Stamps };
+
+    ghost view = { λ g. record { width = g.width; height = g.height; stamps = g.stamps.items } };
+
+    ghost invariant = { λ g. IsScreenSize g.width g.height × (length g.stamps.items ≡ tile_count g.width g.height) × (length g.greatest.items ≡ tiles_across g.height)
+        × ((x y : ℕ) → x < tiles_across g.width → y < tiles_across g.height → slice_index g.stamps.items (y * tiles_across g.width + x) ≤ slice_index g.greatest.items y) };
+}
+
+/// Stamps some tiles that stand one after the other.
+fn stamp_part(stamps: &mut [u64], from: usize, count: usize, n: u64)
+    requires { from + count ≤ length stamps.old }
+    ensures inside { (k : ℕ) → from ≤ k → k < from + count → slice_index stamps.new k ≡ n }
+    ensures before { (k : ℕ) → k < from → slice_index stamps.new k ≡ slice_index stamps.old k }
+    ensures behind { (k : ℕ) → from + count ≤ k → slice_index stamps.new k ≡ slice_index stamps.old k }
+{
+    stamps[from..from + count].fill(n);
+}
+
+/// Stamps a rectangle of tiles, on a screen of `width` by `height` pixels.
+fn stamp_tiles(stamps: &mut [u64], width: u64, height: u64, tiles: Rect, n: u64)
+    requires size { IsScreenSize width height }
+    requires all { length stamps.old ≡ tile_count width height }
+    requires within { IsWithin tiles (tiles_across width) (tiles_across height) }
+    ensures { (x y : ℕ) → x < tiles_across width → y < tiles_across height → slice_index stamps.new (y * tiles_across width + x) ≡ fill tiles n (λ i j. slice_index stamps.old (j * tiles_across width + i)) x y }
+{
+    let across = tiles_along(width) as usize;
+    for row in 0..tiles.h as usize {
+        let from = (tiles.y as usize + row) * across + tiles.x as usize;
+        stamp_part(stamps, from, tiles.w as usize, n);
+    }
+}
+
+/// Some rows of tiles now have a tile with this stamp.
+fn raise_rows(greatest: &mut [u64], from: usize, to: usize, n: u64)
+    requires there { to ≤ length greatest.old }
+    requires order { from ≤ to }
+    ensures inside { (k : ℕ) → from ≤ k → k < to → slice_index greatest.new k ≡ max (slice_index greatest.old k) n }
+    ensures outside { (k : ℕ) → (k < from) → slice_index greatest.new k ≡ slice_index greatest.old k }
+    ensures behind { (k : ℕ) → to ≤ k → slice_index greatest.new k ≡ slice_index greatest.old k }
+{
+    for row in from..to {
+        greatest[row] = greatest[row].max(n);
+    }
+}
+
+impl Grid {
+    /// No tile of a screen of `width` by `height` pixels was touched. It fails where memory is refused (`Memory`).
+    pub fn new(alloc: Global, width: u64, height: u64) -> Result<Self, Fault>
+        requires { IsScreenSize width height }
+        ensures ok { IfOk result (λ grid. (grid.width ≡ width) × (grid.height ≡ height) × GridStands grid []) }
+        ensures err { IfErr result (λ fault. fault ≡ Memory) }
+    {
+        let stamps = vec![in alloc; 0u64; tile_count(width, height) as usize]?;
+        let greatest = vec![in alloc; 0u64; tiles_along(height) as usize]?;
+        Ok(Grid {
+            width,
+            height,
+            stamps,
+            greatest,
+        })
+    }
+
+    /// The width and height of the screen in pixels.
+    pub fn size(&self) -> (u64, u64)
+        ensures value { (result.0 ≡ self.now.width) × (result.1 ≡ self.now.height) }
+        ensures screen { IsScreenSize result.0 result.1 }
+    {
+        (self.width, self.height)
+    }
+
+    /// The number of the last update that touched tile `t`, and 0 where none did.
+    pub fn stamp(&self, t: u64) -> u64
+        requires { t < tile_count self.now.width self.now.height }
+        ensures value { result ≡ stamp_at self.now t }
+        ensures last { (us : List Update) → GridStands self.now us → result ≡ last_touch (tile_rect self.now.width self.now.height t) us }
+    {
+        self.stamps[t as usize]
+    }
+
+    /// Update `n` touched each tile that meets the rectangle. Touched by each rectangle that the next update paints, at its number, it
+    /// stands for that update too.
+    pub fn touch(&mut self, area: &Rect, n: u64)
+        requires { IsWithin area.now 65536 65536 }
+        ensures { IsTouched (λ t. meets area.now (tile_rect self.old.width self.old.height t)) n self.old self.new }
+    {
+        let tiles = tiles_met(area, self.width, self.height);
+        stamp_tiles(
+            self.stamps.as_mut_slice(),
+            self.width,
+            self.height,
+            tiles,
+            n,
+        );
+        raise_rows(
+            self.greatest.as_mut_slice(),
+            tiles.y as usize,
+            (tiles.y + tiles.h) as usize,
+            n,
+        );
+    }
+
+    /// A number that is at least the stamp of each tile in a row of tiles.
+    pub(crate) fn greatest_of_row(&self, row: u64) -> u64
+        requires { row < tiles_across self.now.height }
+        ensures { (t : ℕ) → row * tiles_across self.now.width ≤ t → t < row * tiles_across self.now.width + tiles_across self.now.width → stamp_at self.now t ≤ result }
+    {
+        self.greatest[row as usize]
+    }
+}
