@@ -6,7 +6,7 @@ use Rattle.raster.specs.declared.painting.Paint as code
 use Rattle.raster.specs.Painted.{Fits, paint_of}
 use Rattle.raster.specs.Screen.{Canvas, LooksLike, opening, value_at}
 use Rattle.raster.specs.Update.{Paint, Update, Paints, Bell, Cut, NumberedText, after_paints, bells, last_text, last_text_from, paints_of, screen}
-use Rattle.tiles.proofs.Due.{after_updates-more}
+use Rattle.tiles.proofs.Touching.{after_updates-more}
 use Rattle.painter.specs.Board.{BoardStands, Posted}
 pub use Rattle.painter.specs.Kept.{newer}
 use Rattle.painter.specs.Patch.{SizedUpdate, is_bell, text_of}

@@ -1,6 +1,6 @@
 //! A screen that is kept.
 
-ghost use Rattle.std.specs.Prelude.{◌≡◌, ℕ, ◌+◌, ◌<◌, ◌≤◌, ◌^◌, List, [], ◌∷◌, ◌++◌, IfOk, IfErr};
+ghost use Rattle.std.specs.Prelude.{◌≡◌, ℕ, ◌+◌, ◌*◌, ◌<◌, ◌≤◌, ◌^◌, List, [], ◌∷◌, ◌++◌, length, IfOk, IfErr};
 ghost use Rattle.painter.specs.Board.{BoardStands, IsSameScreen};
 ghost use Rattle.painter.specs.Patch.{is_bell};
 ghost use Rattle.pixel_format.specs.declared.fault.Fault.TheVariants.{Memory};
@@ -99,7 +99,8 @@ impl Board {
 
     /// The colours, row after row, each row as long as the screen is wide.
     pub fn colours(&self) -> &[u32]
-        ensures { result.now ≡ self.now.colours }
+        ensures value { result.now ≡ self.now.colours }
+        ensures rows { length result.now ≡ self.now.width * self.now.height }
     {
         self.colours.as_slice()
     }

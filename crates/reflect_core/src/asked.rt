@@ -36,6 +36,7 @@ impl Asked {
     pub fn new(width: u64, height: u64) -> Self
         requires { IsScreenSize width height }
         ensures size { (result.width ≡ width) × (result.height ≡ height) }
+        ensures last { result.last ≡ None }
         ensures stands { AskedStands result [] }
     {
         Asked {
@@ -51,6 +52,7 @@ impl Asked {
     pub fn request(&mut self, clipped: &Rect)
         requires { is_empty clipped.now ≡ false → IsWithin clipped.now self.old.width self.old.height }
         ensures size { IsSameScreen self.old self.new }
+        ensures last { self.new.last ≡ self.old.last }
         ensures stands { (incremental : Bool) (es : List Event) → AskedStands self.old es → AskedStands self.new (Requested incremental clipped.now ∷ es) }
     {
         if clipped.is_empty() {
@@ -67,6 +69,7 @@ impl Asked {
     /// A pixel format was taken (RFC 6143, 7.5.1).
     pub fn new_format(&mut self)
         ensures size { IsSameScreen self.old self.new }
+        ensures last { self.new.last ≡ self.old.last }
         ensures stands { (es : List Event) → AskedStands self.old es → AskedStands self.new (NewFormat ∷ es) }
     {
         self.asked = true;
@@ -75,6 +78,7 @@ impl Asked {
     /// The source was cut, at this number.
     pub fn was_cut(&mut self, number: u64)
         ensures size { IsSameScreen self.old self.new }
+        ensures last { self.new.last ≡ Some number }
         ensures stands { (es : List Event) → AskedStands self.old es → AskedStands self.new (WasCut number ∷ es) }
     {
         self.asked = false;
@@ -84,6 +88,7 @@ impl Asked {
     /// An answer was begun: nothing is pending any longer.
     pub fn answered(&mut self)
         ensures size { IsSameScreen self.old self.new }
+        ensures last { self.new.last ≡ self.old.last }
         ensures stands { (area : Rect) (number : ℕ) (es : List Event) → AskedStands self.old es → AskedStands self.new (Answered area number ∷ es) }
     {
         self.area = None;

@@ -2,7 +2,7 @@ use Rattle.std.proofs.Common.{◌≡◌, ℕ, ◌+◌, List, take, ap, sym, subs
 use Rattle.painter.specs.Patch.{SizedUpdate}
 use Rattle.raster.specs.Screen.{Canvas, LooksLike, opening, value_at}
 use Rattle.raster.specs.Update.{Update, after_paints, paints_of, screen}
-use Rattle.tiles.proofs.Due.{after_updates-more}
+use Rattle.tiles.proofs.Touching.{after_updates-more}
 use Rattle.reflect_core.specs.Plain.{updates_of}
 use Rattle.reflect_core.proofs.ShowLaws.{updates_of-take}
 use Rattle.reflect_core.proofs.show.repaint.Goals as goal
