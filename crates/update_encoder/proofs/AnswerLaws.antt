@@ -64,7 +64,7 @@ and_right : (a b : Bool) → (a && b) ≡ true → b ≡ true
 and_right true b e = e
 and_right false b e = absurd cc
 
-same_numbers_same : (xs ys : List ℕ) → same_numbers xs ys ≡ true → xs ≡ ys
+pub same_numbers_same : (xs ys : List ℕ) → same_numbers xs ys ≡ true → xs ≡ ys
 same_numbers_same [] [] e = refl
 same_numbers_same [] (y ∷ ys) e = absurd cc
 same_numbers_same (x ∷ xs) [] e = absurd cc

@@ -1,0 +1,176 @@
+-- An answer of a cut is one of the screen that was cut.
+use Rattle.std.proofs.Common.{◌≡◌, ℕ, zero, suc, ◌+◌, ◌-◌, ◌*◌, ◌/◌, ◌%◌, ◌<◌, ◌≤◌, Bool, true, false, cond, List, [], ◌∷◌, take, Option, Some, None, refl, sym, ap, ◌∙◌, arith, inl, inr}
+use Rattle.std.specs.Prelude.{min, max, map, nat_lt, ◌&&◌, ◌||◌, ◌==◌, unwrap_or}
+use Rattle.std.specs.List.{flat_map, range_with_len}
+use Rattle.std.proofs.Math.Path.{fun_ext}
+use Rattle.std.proofs.lemmas.Bool.{and_parts, cases_lt, ltb-true}
+use Rattle.pixel_format.specs.PixelFormat.{PixelFormat, tint}
+use Rattle.raster.specs.declared.encoding.Encoding.TheVariants.{Raw}
+use Rattle.raster.specs.declared.rect.Rect.{Rect}
+use Rattle.raster.specs.Encoding.{encoding_number, form, saves_bytes}
+use Rattle.raster.specs.Screen.{Canvas, IsWithin, common, holds, meets, part_of, tile_count, tile_rect, tiles_across}
+use Rattle.raster.specs.Size.{IsScreenSize}
+use Rattle.raster.specs.Update.{Update, screen}
+use Rattle.raster.proofs.Places.{holds_has, tile_of, tile_of_has, tile_of_there}
+use Rattle.raster.proofs.Spellings.{Each}
+use Rattle.raster.proofs.Values.{column_in, row_in}
+use Rattle.reflect_core.specs.declared.cut.Cut.{Cut}
+use Rattle.reflect_core.specs.Source.{IsCutOf, due_in, marked}
+use Rattle.rfb_wire.specs.ClientMessage.{Choice}
+use Rattle.rfb_wire.specs.Writing.{rectangle_bytes, update_bytes}
+use Rattle.tiles.specs.Brings.{IsPart, some_holds}
+use Rattle.tiles.specs.Have.{SentTiles}
+use Rattle.tiles.specs.Touched.{runs, runs_of_row}
+use Rattle.tiles.proofs.Brought.{runs_bring_the_due}
+use Rattle.tiles.proofs.FoundRuns.{row_of_tile, row_under}
+use Rattle.tiles.proofs.RunLaws.{runs_within}
+use Rattle.update_encoder.specs.Answer.{all_spelled, answer_bytes, colours_in, copy_source, repeats_one, same_numbers, spelled}
+use Rattle.update_encoder.specs.Coming.{shown}
+use Rattle.update_encoder.specs.Written.{CutIsAnswered, is_due_of}
+use Rattle.update_encoder.proofs.PixelRows.{map_same}
+
+-- ---- rectangles of two screens that show the same in them
+
+some_width : (w h k : ℕ) → k < w * h → 0 < w
+some_width zero h k lt = absurd (let none : 0 * h ≡ 0 = omega arith in omega (arith, none))
+some_width (suc w) h k lt = omega arith
+
+-- The colours of a rectangle, of screens that look alike in it.
+pub colours_same : (a b : Canvas) (area : Rect) → ((x y : ℕ) → area.x ≤ x → x < area.x + area.w → area.y ≤ y → y < area.y + area.h → a x y ≡ b x y) → colours_in a area ≡ colours_in b area
+colours_same a b area same =
+    map_same (λ k. part_of area a (k % area.w) (k / area.w)) (λ k. part_of area b (k % area.w) (k / area.w)) (area.w * area.h)
+    (λ k lt.
+    let wide : 0 < area.w = some_width area.w area.h k lt in
+    let column : k % area.w < area.w = column_in area.w k wide in
+    let row : k / area.w < area.h = row_in area.w area.h k wide lt in
+    same (area.x + k % area.w) (area.y + k / area.w) (omega arith) (omega arith) (omega arith) (omega arith))
+
+abbrev SameIn : Canvas → Canvas → Rect → Type 0
+SameIn a b r = colours_in a r ≡ colours_in b r
+
+abbrev SameInOne : Canvas → Canvas → Option Rect → Type 0
+SameInOne a b None = Unit {0}
+SameInOne a b (Some r) = SameIn a b r
+
+repeats_same : (a b : Canvas) (before : Option Rect) (r : Rect) → SameInOne a b before → SameIn a b r → repeats_one a before r ≡ repeats_one b before r
+repeats_same a b None r s e = refl
+repeats_same a b (Some above) r s e =
+    let with_same : Bool → Bool = λ c. (above.x == r.x) && ((above.w == r.w) && ((above.h == r.h) && ((above.y + above.h == r.y) && c))) in
+    ap (λ xs. with_same (same_numbers xs (colours_in a r))) s ∙ ap (λ xs. with_same (same_numbers (colours_in b above) xs)) e
+
+abbrev spelled_by : PixelFormat → Choice → Bool → Option Rect → Rect → Bool → List ℕ → List ℕ
+spelled_by format choice may_copy before r does_repeat colours =
+    let values = map (tint format) colours in
+    cond (may_copy && does_repeat) (rectangle_bytes r 1 (copy_source before))
+    (cond (saves_bytes choice.kind format r.w r.h values) (rectangle_bytes r (encoding_number choice.kind) (form choice.kind format r.w r.h values)) (rectangle_bytes r 0 (form Raw format r.w r.h values)))
+
+spelled_same : (format : PixelFormat) (choice : Choice) (a b : Canvas) (may_copy : Bool) (before : Option Rect) (r : Rect) → SameInOne a b before → SameIn a b r
+    → spelled format choice a may_copy before r ≡ spelled format choice b may_copy before r
+spelled_same format choice a b may_copy before r s e =
+    ap (λ c. spelled_by format choice may_copy before r c (colours_in a r)) (repeats_same a b before r s e)
+    ∙ ap (λ cs. spelled_by format choice may_copy before r (repeats_one b before r) cs) e
+
+all_same : (format : PixelFormat) (choice : Choice) (a b : Canvas) (may_copy : Bool) (before : Option Rect) (rs : List Rect) → SameInOne a b before → Each (SameIn a b) rs
+    → all_spelled format choice a may_copy before rs ≡ all_spelled format choice b may_copy before rs
+all_same format choice a b may_copy before [] s each = refl
+all_same format choice a b may_copy before (r ∷ rs) s each =
+    ap (λ t. t ∷ all_spelled format choice a may_copy (Some r) rs) (spelled_same format choice a b may_copy before r s each.0)
+    ∙ ap (λ ts. spelled format choice b may_copy before r ∷ ts) (all_same format choice a b may_copy (Some r) rs each.0 each.1)
+
+-- ---- the runs of a cut
+
+or_left : (a b : Bool) → a ≡ true → (a || b) ≡ true
+or_left true b e = refl
+or_left false b e = absurd cc
+
+or_right : (a b : Bool) → b ≡ true → (a || b) ≡ true
+or_right true b e = refl
+or_right false b e = e
+
+-- Where two screens show the same in all of some rectangles, they do in each.
+each_same : (a b : Canvas) (w h : ℕ) (rs : List Rect) → Each (IsPart w h) rs → ((x y : ℕ) → x < w → y < h → some_holds rs x y ≡ true → a x y ≡ b x y) → Each (SameIn a b) rs
+each_same a b w h [] parts same = tt
+each_same a b w h (r ∷ rs) parts same = (
+  colours_same a b r
+      (λ x y left right top bottom.
+      let across : r.x + r.w ≤ w = parts.0.inside.across in
+      let down : r.y + r.h ≤ h = parts.0.inside.down in
+      same x y (omega arith) (omega arith) (or_left (holds r x y) (some_holds rs x y) (holds_has r x y (record { left = left; right = right; top = top; bottom = bottom })))),
+  each_same a b w h rs parts.1 (λ x y lx ly e. same x y lx ly (or_right (holds r x y) (some_holds rs x y) e)),
+)
+
+module _ (us : List Update) (n : ℕ) (area : Rect) (have : SentTiles) (cut : Cut) (is : IsCutOf us n area have cut) (wide : have.width ≡ cut.width) (high : have.height ≡ cut.height) (size : IsScreenSize cut.width cut.height) where
+  abbrev w : ℕ
+  w = cut.width
+
+  abbrev h : ℕ
+  h = cut.height
+
+  abbrev seen : List Update
+  seen = take n us
+
+  rect_is : (t : ℕ) → tile_rect have.width have.height t ≡ tile_rect w h t
+  rect_is t = ap (λ a. tile_rect a have.height t) wide ∙ ap (λ a. tile_rect w a t) high
+
+  count_is : tile_count have.width have.height ≡ tile_count w h
+  count_is = ap (λ a. tile_count a have.height) wide ∙ ap (λ a. tile_count w a) high
+
+  marked_is : (t : ℕ) → t < tile_count w h → marked cut t ≡ due_in have area seen t
+  marked_is t lt = ap (λ (o : Option Bool). unwrap_or o false) (is.due t (omega (arith, count_is, lt)))
+
+  twice : (a b : Bool) → ((a && b) && a) ≡ (b && a)
+  twice true true = refl
+  twice true false = refl
+  twice false true = refl
+  twice false false = refl
+
+  passes_there : (t : ℕ) → t < tile_count w h → (marked cut t && meets area (tile_rect w h t)) ≡ (is_due_of have seen t && meets area (tile_rect w h t))
+  passes_there t lt =
+      ap (λ b. b && meets area (tile_rect w h t)) (marked_is t lt)
+      ∙ (ap (λ (r : Rect). (meets area r && is_due_of have seen t) && meets area (tile_rect w h t)) (rect_is t) ∙ twice (meets area (tile_rect w h t)) (is_due_of have seen t))
+
+  -- behind the last tile there is none
+  none_met : (t : ℕ) (b : Bool) → tile_count w h ≤ t → meets area (tile_rect w h t) ≡ b → b ≡ false
+  none_met t false le e = refl
+  none_met t true le e =
+      absurd (
+      let across : ℕ = tiles_across w in
+      let both = and_parts (nat_lt (max area.x (t % across * 16)) (min (area.x + area.w) (t % across * 16 + min 16 (w - t % across * 16)))) (nat_lt (max area.y (t / across * 16)) (min (area.y + area.h) (t / across * 16 + min 16 (h - t / across * 16)))) e in
+      let down : max area.y (t / across * 16) < min (area.y + area.h) (t / across * 16 + min 16 (h - t / across * 16)) = ltb-true _ _ both.1 in
+      let high_enough : t / across < tiles_across h = omega (arith, down) in
+      let some : 0 < across = omega (arith, size.wide.0) in
+      let place : t < tile_count w h = row_under t (t / across) across (tiles_across h) high_enough (row_of_tile across t some).1 in
+      omega (arith, place, le)
+      )
+
+  passes_past : (t : ℕ) → tile_count w h ≤ t → (marked cut t && meets area (tile_rect w h t)) ≡ (is_due_of have seen t && meets area (tile_rect w h t))
+  passes_past t le =
+      let none : meets area (tile_rect w h t) ≡ false = none_met t (meets area (tile_rect w h t)) le refl in
+      ap (λ b. marked cut t && b) none ∙ (and_false (marked cut t) ∙ sym (ap (λ b. is_due_of have seen t && b) none ∙ and_false (is_due_of have seen t)))
+    where
+      and_false : (b : Bool) → (b && false) ≡ false
+      and_false true = refl
+      and_false false = refl
+
+  runs_same : runs w h area (marked cut) ≡ runs w h area (is_due_of have seen)
+  runs_same =
+      ap (λ (p : ℕ → Bool). map (common area) (flat_map (runs_of_row p (tiles_across w)) (range_with_len 0 (tiles_across h))))
+      (fun_ext (λ t. elim (cases_lt t (tile_count w h)) [ inl there ↦ passes_there t there | inr past ↦ passes_past t past ]))
+
+  shows_same : IsWithin area w h → (x y : ℕ) → x < w → y < h → some_holds (runs w h area (marked cut)) x y ≡ true → shown cut x y ≡ screen seen x y
+  shows_same on x y lx ly e =
+      let t : ℕ = tile_of w x y in
+      let there : t < tile_count w h = tile_of_there w h x y lx ly in
+      let tile : holds (tile_rect w h t) x y ≡ true = holds_has (tile_rect w h t) x y (tile_of_has w h x y lx ly) in
+      let both = and_parts (holds area x y) (marked cut t) (sym ((runs_bring_the_due w h area (marked cut) size.wide.1 size.high.1 on).exactly t x y there tile) ∙ e) in
+      is.colours t x y (omega (arith, count_is, there)) (sym (marked_is t there) ∙ both.1) both.0 (ap (λ (r : Rect). holds r x y) (rect_is t) ∙ tile)
+
+  pub answered : (format : PixelFormat) (choice : Choice) (sent : Bool) → IsWithin area w h
+      → answer_bytes format choice (shown cut) sent (runs w h area (marked cut)) ≡ answer_bytes format choice (screen seen) sent (runs w h area (is_due_of have seen))
+  answered format choice sent on =
+      ap update_bytes (all_same format choice (shown cut) (screen seen) (choice.copy && sent) None (runs w h area (marked cut)) tt
+      (each_same (shown cut) (screen seen) w h (runs w h area (marked cut)) (runs_within w h area (marked cut) on) (shows_same on)))
+      ∙ ap (λ (rs : List Rect). answer_bytes format choice (screen seen) sent rs) runs_same
+
+pub cut_is_answered : CutIsAnswered
+cut_is_answered us n area have cut format choice sent is wide high size on = answered us n area have cut is wide high size format choice sent on

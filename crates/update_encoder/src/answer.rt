@@ -1,0 +1,110 @@
+//! Answers.
+
+ghost use Rattle.std.specs.Prelude.{◌≡◌, ◌+◌, ◌*◌, ◌<◌, ◌≤◌, ◌^◌, ◌++◌, [], ◌&&◌, length, take, IfNone, IfSome};
+ghost use Rattle.raster.specs.Screen.{IsWithin};
+ghost use Rattle.reflect_core.specs.Source.{marked};
+ghost use Rattle.rfb_wire.specs.Message.{choice_in};
+ghost use Rattle.rfb_wire.specs.Writing.{update_head_bytes};
+ghost use Rattle.tiles.specs.Touched.{runs};
+ghost use Rattle.tiles.specs.Walk.{runs_left};
+ghost use Rattle.update_encoder.specs.Answer.{answer_bytes};
+ghost use Rattle.update_encoder.specs.Coming.{AnswerStands, IsSameAnswer, WroteNext, coming, shown};
+
+use crate::rectangle::Style;
+use pixel_format::Format;
+use raster::Rect;
+use reflect_core::Cut;
+use rfb_wire::Choice;
+use std::marker::Model;
+use tiles::Walk;
+
+/// A FramebufferUpdate that is written one rectangle at a time: what a cut shows in the due tiles of an area, run by run (RFC 6143,
+/// 7.6.1). It takes no memory, and holds no borrow of the cut, which is lent to each step.
+#[derive(Drop)]
+pub struct Answer {
+    walk: Walk,
+    style: Style,
+    /// The rectangle written last.
+    before: Option<Rect>,
+    /// How many rectangles there are in all.
+    count: u64,
+}
+
+impl Model for Answer {
+    ghost use Rattle.std.specs.Prelude.{◌<◌, ◌^◌};
+    ghost use Rattle.reflect_core.specs.Asked.{LiesOn};
+    ghost use Rattle.rfb_wire.specs.Message.{choice_in};
+    ghost use Rattle.update_encoder.specs.Coming.{Answering};
+
+    ghost Value = { Answering };
+
+    ghost view = { λ a. record {
+      walk = a.walk;
+      format = a.style.format;
+      choice = choice_in a.style.choice;
+      may_copy = a.style.may_copy;
+      before = a.before;
+      count = a.count;
+    } };
+
+    ghost invariant = { λ a. (a.count < 2 ^ 16) × LiesOn a.walk.width a.walk.height a.before };
+}
+
+/// How many runs are left.
+fn count_runs(cut: &Cut, mut walk: Walk) -> u64
+    requires size { (walk.width ≡ cut.now.width) × (walk.height ≡ cut.now.height) }
+    requires few { length (runs_left walk (marked cut.now)) < 2 ^ 16 }
+    ensures { result ≡ length (runs_left walk (marked cut.now)) }
+{
+    let mut count = 0;
+    while walk.next(cut).is_some() {
+        count += 1;
+    }
+    count
+}
+
+impl Answer {
+    /// An answer of what a cut shows in the due tiles of an area, in a pixel format and as a viewer chose (RFC 6143, 7.5.1 and 7.5.2),
+    /// none of whose rectangles is written yet. CopyRect is used where the viewer takes it and was sent each of the tiles before.
+    pub fn start(cut: &Cut, area: &Rect, format: Format, choice: Choice) -> Self
+        requires { IsWithin area.now cut.now.width cut.now.height }
+        ensures stands { AnswerStands result cut.now }
+        ensures bytes { update_head_bytes result.count ++ coming result cut.now ≡ answer_bytes format (choice_in choice) (shown cut.now) cut.now.all_were_sent (runs cut.now.width cut.now.height area.now (marked cut.now)) }
+    {
+        Answer {
+            walk: Walk::new(area, cut.width, cut.height),
+            style: Style {
+                format,
+                choice,
+                may_copy: choice.copy && cut.all_were_sent,
+            },
+            before: None,
+            count: count_runs(cut, Walk::new(area, cut.width, cut.height)),
+        }
+    }
+
+    /// How many rectangles it has, those that are written among them.
+    pub fn count(&self) -> u64
+        ensures value { result ≡ self.now.count }
+        ensures few { result < 2 ^ 16 }
+    {
+        self.count
+    }
+
+    /// Writes the next rectangle to the front of `out`, and answers how many bytes it has; `None` where all are written. The cut has to be the
+    /// one at which it began. `values` is room for the pixel values of one run.
+    pub fn next(&mut self, cut: &Cut, values: &mut [u32], out: &mut [u8]) -> Option<usize>
+        requires stands { AnswerStands self.old cut.now }
+        requires values { 16 * cut.now.width ≤ length values.old }
+        requires room { 12 + 64 * cut.now.width ≤ length out.old }
+        ensures stands { AnswerStands self.new cut.now }
+        ensures same { IsSameAnswer self.old self.new }
+        ensures some { IfSome result (λ n. (0 < n) × (n ≤ 12 + 64 * cut.now.width) × WroteNext self.old self.new cut.now (take n out.new)) }
+        ensures none { IfNone result ((coming self.old cut.now ≡ []) × (coming self.new cut.now ≡ [])) }
+    {
+        let run = self.walk.next(cut)?;
+        let before = self.before;
+        self.before = Some(run.area);
+        Some(self.style.write(cut, before, &run.area, values, out))
+    }
+}

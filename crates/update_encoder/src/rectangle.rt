@@ -1,0 +1,164 @@
+//! One rectangle of an answer (RFC 6143, 7.6.1 and 7.7).
+
+ghost use Rattle.std.specs.Prelude.{◌≡◌, ◌+◌, ◌*◌, ◌<◌, ◌≤◌, ◌^◌, length, IfSome, Some};
+ghost use Rattle.pixel_format.specs.PixelFormat.{pixel_len};
+ghost use Rattle.raster.specs.declared.encoding.Encoding.TheVariants.{Raw};
+ghost use Rattle.raster.specs.Encoded.{IsEncoded};
+ghost use Rattle.raster.specs.Encoding.{form};
+ghost use Rattle.raster.specs.Screen.{IsWithin};
+ghost use Rattle.reflect_core.specs.Asked.{LiesOn};
+ghost use Rattle.rfb_wire.specs.Message.{choice_in};
+ghost use Rattle.rfb_wire.specs.Writing.{rectangle_bytes};
+ghost use Rattle.update_encoder.specs.Answer.{copy_source, pixels_in, repeats_one, spelled};
+ghost use Rattle.update_encoder.specs.Coming.{shown};
+ghost use Rattle.update_encoder.specs.Written.{IsFront, IsSaved};
+
+use crate::copied::repeats;
+use crate::rows::{tint_rows, write_rows};
+use pixel_format::Format;
+use raster::{COPY_RECT, Encoding, Rect};
+use reflect_core::Cut;
+use rfb_wire::{Choice, write_rectangle_head};
+
+/// How many bytes the head of a rectangle has.
+const HEAD: usize = 12;
+
+/// How an answer writes its rectangles.
+#[derive(Clone, Copy)]
+pub(crate) struct Style {
+    pub(crate) format: Format,
+    pub(crate) choice: Choice,
+    /// Whether CopyRect may be used.
+    pub(crate) may_copy: bool,
+}
+
+/// Whether an area repeats the one before, if there is one.
+fn repeats_one(cut: &Cut, before: Option<Rect>, area: &Rect) -> bool
+    requires before { LiesOn cut.now.width cut.now.height before }
+    requires within { IsWithin area.now cut.now.width cut.now.height }
+    ensures { result ≡ repeats_one (shown cut.now) before area.now }
+{
+    match before {
+        None => false,
+        Some(above) => {
+            let (width, height) = (cut.width as usize, cut.height as usize);
+            repeats(cut.colours.as_slice(), width, height, &above, area)
+        }
+    }
+}
+
+/// Writes a CopyRect: a head, and the source's top left (RFC 6143, 7.7.2).
+fn write_copy(area: &Rect, above: &Rect, out: &mut [u8]) -> usize
+    requires room { 16 ≤ length out.old }
+    requires above { IsWithin above.now 4096 4096 }
+    requires within { IsWithin area.now 4096 4096 }
+    ensures written { IsFront (rectangle_bytes area.now 1 (copy_source (Some above.now))) out.new result }
+    ensures len { result ≡ 16 }
+{
+    let (head, source) = out.split_at_mut(HEAD);
+    write_rectangle_head(area, COPY_RECT, head);
+    let [x1, x0] = (above.x as u16).to_be_bytes();
+    let [y1, y0] = (above.y as u16).to_be_bytes();
+    let (place, _) = source.split_at_mut(4);
+    place.copy_from_slice(&[x1, x0, y1, y0]);
+    HEAD + 4
+}
+
+/// Writes pixel values in an encoding, where that has fewer bytes than Raw.
+fn encode(
+    kind: Encoding,
+    values: &[u32],
+    area: &Rect,
+    format: &Format,
+    out: &mut [u8],
+) -> Option<usize>
+    requires wide { area.now.w < 2 ^ 16 }
+    requires high { area.now.h < 2 ^ 16 }
+    requires count { length values.now ≡ area.now.w * area.now.h }
+    requires room { length values.now * pixel_len format.now ≤ length out.old }
+    ensures { IsEncoded kind format.now area.now.w area.now.h values.now out.new result }
+{
+    match kind {
+        Encoding::Raw => None,
+        Encoding::Rre => rre_codec::encode(values, area.w, area.h, format, out),
+        Encoding::Hextile => hextile_codec::encode(values, area.w, area.h, format, out),
+    }
+}
+
+/// Writes a rectangle in RRE or Hextile, where that has fewer bytes than Raw (RFC 6143, 7.7.3 and 7.7.4). `values` is room for its
+/// pixel values.
+fn write_encoded(
+    cut: &Cut,
+    area: &Rect,
+    format: &Format,
+    kind: Encoding,
+    values: &mut [u32],
+    out: &mut [u8],
+) -> Option<usize>
+    requires within { IsWithin area.now cut.now.width cut.now.height }
+    requires values { area.now.w * area.now.h ≤ length values.old }
+    requires room { 12 + 4 * (area.now.w * area.now.h) ≤ length out.old }
+    ensures written { IsSaved kind format.now area.now (pixels_in format.now (shown cut.now) area.now) out.new result }
+    ensures room { IfSome result (λ n. n ≤ 12 + 4 * (area.now.w * area.now.h)) }
+{
+    if kind == Encoding::Raw {
+        return None;
+    }
+    let (width, height) = (cut.width as usize, cut.height as usize);
+    let count = (area.w * area.h) as usize;
+    let (pixels, _) = values.split_at_mut(count);
+    tint_rows(cut.colours.as_slice(), width, height, area, format, pixels);
+    let (head, rest) = out.split_at_mut(HEAD);
+    let (data, _) = rest.split_at_mut(4 * count);
+    let len = encode(kind, pixels, area, format, data)?;
+    write_rectangle_head(area, kind.number(), head);
+    Some(HEAD + len)
+}
+
+/// Writes a rectangle in Raw (RFC 6143, 7.7.1).
+fn write_raw(cut: &Cut, area: &Rect, format: &Format, out: &mut [u8]) -> usize
+    requires within { IsWithin area.now cut.now.width cut.now.height }
+    requires room { 12 + 4 * (area.now.w * area.now.h) ≤ length out.old }
+    ensures written { IsFront (rectangle_bytes area.now 0 (form Raw format.now area.now.w area.now.h (pixels_in format.now (shown cut.now) area.now))) out.new result }
+    ensures room { result ≤ 12 + 4 * (area.now.w * area.now.h) }
+{
+    let len = format.bytes() * (area.w * area.h) as usize;
+    let (head, data) = out.split_at_mut(HEAD);
+    let (rows, _) = data.split_at_mut(len);
+    write_rectangle_head(area, Encoding::Raw.number(), head);
+    let (width, height) = (cut.width as usize, cut.height as usize);
+    write_rows(cut.colours.as_slice(), width, height, area, format, rows);
+    HEAD + len
+}
+
+impl Style {
+    /// Writes a rectangle of an answer, of which the one before is given, and answers how many bytes it has: a CopyRect of the one before
+    /// where it may be and repeats it, else in the chosen encoding where that saves bytes, else Raw.
+    pub(crate) fn write(
+        &self,
+        cut: &Cut,
+        before: Option<Rect>,
+        area: &Rect,
+        values: &mut [u32],
+        out: &mut [u8],
+    ) -> usize
+        requires before { LiesOn cut.now.width cut.now.height before }
+        requires within { IsWithin area.now cut.now.width cut.now.height }
+        requires some { 1 ≤ area.now.w * area.now.h }
+        requires values { area.now.w * area.now.h ≤ length values.old }
+        requires room { 12 + 4 * (area.now.w * area.now.h) ≤ length out.old }
+        ensures written { IsFront (spelled self.now.format (choice_in self.now.choice) (shown cut.now) self.now.may_copy before area.now) out.new result }
+        ensures some { 12 ≤ result }
+        ensures room { result ≤ 12 + 4 * (area.now.w * area.now.h) }
+    {
+        if self.may_copy && repeats_one(cut, before, area) {
+            if let Some(above) = before {
+                return write_copy(area, &above, out);
+            }
+        }
+        match write_encoded(cut, area, &self.format, self.choice.kind, values, out) {
+            Some(len) => len,
+            None => write_raw(cut, area, &self.format, out),
+        }
+    }
+}

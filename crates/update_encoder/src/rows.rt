@@ -1,0 +1,62 @@
+//! The pixels of a part of the screen.
+
+ghost use Rattle.std.specs.Prelude.{◌≡◌, ◌+◌, ◌*◌, ◌≤◌, length};
+ghost use Rattle.pixel_format.specs.PixelFormat.{pixel_len, row_bytes};
+ghost use Rattle.raster.specs.Screen.{IsWithin, value_at};
+ghost use Rattle.update_encoder.specs.Answer.{colours_in, pixels_in};
+
+use pixel_format::Format;
+use raster::Rect;
+
+/// Writes the pixels of an area of a screen, row after row.
+pub(crate) fn write_rows(
+    colours: &[u32],
+    width: usize,
+    height: usize,
+    area: &Rect,
+    format: &Format,
+    out: &mut [u8],
+)
+    requires size { length colours.now ≡ width * height }
+    requires small { (width ≤ 4096) × (height ≤ 4096) }
+    requires within { IsWithin area.now width height }
+    requires room { length out.old ≡ pixel_len format.now * (area.now.w * area.now.h) }
+    ensures { out.new ≡ row_bytes format.now (colours_in (value_at width colours.now) area.now) }
+{
+    let across = area.w as usize;
+    let row_len = format.bytes() * across;
+    for row in 0..area.h as usize {
+        let from = (area.y as usize + row) * width + area.x as usize;
+        let start = row * row_len;
+        format.tint_row(
+            &colours[from..from + across],
+            &mut out[start..start + row_len],
+        );
+    }
+}
+
+/// Writes the pixel values of an area of a screen, row after row.
+pub(crate) fn tint_rows(
+    colours: &[u32],
+    width: usize,
+    height: usize,
+    area: &Rect,
+    format: &Format,
+    values: &mut [u32],
+)
+    requires size { length colours.now ≡ width * height }
+    requires small { (width ≤ 4096) × (height ≤ 4096) }
+    requires within { IsWithin area.now width height }
+    requires room { length values.old ≡ area.now.w * area.now.h }
+    ensures { values.new ≡ pixels_in format.now (value_at width colours.now) area.now }
+{
+    let across = area.w as usize;
+    for row in 0..area.h as usize {
+        let from = (area.y as usize + row) * width + area.x as usize;
+        let start = row * across;
+        format.tint_values(
+            &colours[from..from + across],
+            &mut values[start..start + across],
+        );
+    }
+}
