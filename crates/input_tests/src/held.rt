@@ -36,7 +36,9 @@ fn check_stays<R: Abort>(rt: &R, held: &mut Held, role: Role, message: &ClientMe
     assert!(rt; !held.passes(role, message));
 }
 
+// Nothing is left, however often it is asked.
 fn check_nothing_left<R: Abort>(rt: &R, held: &mut Held) {
+    assert!(rt; held.release().is_none());
     assert!(rt; held.release().is_none());
 }
 

@@ -145,9 +145,10 @@ impl Held {
     }
 
     /// The next input that is to be released where the viewer has left, and `None` once there is none left: the keys that are
-    /// down by rising number, then mask 0 at the last position if the last mask wasn't 0. It takes no memory.
+    /// down by rising number, then mask 0 at the last position if the last mask wasn't 0. Where there is none nothing has changed.
+    /// It takes no memory.
     pub fn release(&mut self) -> Option<Input>
-        ensures next { MatchOption result (left_in self.old ≡ []) (λ input. left_in self.old ≡ input_in input ∷ left_in self.new) }
+        ensures next { MatchOption result ((left_in self.old ≡ []) × (self.new ≡ self.old)) (λ input. left_in self.old ≡ input_in input ∷ left_in self.new) }
     {
         if !self.keys.is_empty() {
             let key = self.keys.remove(0);
