@@ -174,16 +174,22 @@ feeding_faults old now new piece left fault h g e fed s p k =
     ∙ (stays s q fault (drop (taken r left) left) ∙ sym (past s new (with_reading q (Faulty fault)) on (ap is_greeted e ∙ g)))))) in
     subst (λ (t : Viewer). Stands s new t) (sym same) on
 
--- The screen's size and the role stay.
+-- The screen's size, the role and the last cut stay.
 pub same_session : (st : State) → IsSameSession st st
-same_session st = record { width = refl; height = refl; role = refl }
+same_session st = record { width = refl; height = refl; role = refl; cut = refl; last = refl }
 
 pub same_read : (old now mid : State) → IsSameSession old now → mid ≡ record now { reader = mid.reader } → IsSameSession old mid
 same_read old now mid k e =
-    record { width = ap (λ (t : State). t.width) e ∙ k.width; height = ap (λ (t : State). t.height) e ∙ k.height; role = ap (λ (t : State). t.role) e ∙ k.role }
+    record {
+      width = ap (λ (t : State). t.width) e ∙ k.width;
+      height = ap (λ (t : State). t.height) e ∙ k.height;
+      role = ap (λ (t : State). t.role) e ∙ k.role;
+      cut = ap (λ (t : State). t.cut) e ∙ k.cut;
+      last = ap (λ (t : State). t.asked.last) e ∙ k.last;
+    }
 
 pub same_on : (old now new : State) → IsSameSession old now → IsSameSession now new → IsSameSession old new
-same_on old now new k l = record { width = l.width ∙ k.width; height = l.height ∙ k.height; role = l.role ∙ k.role }
+same_on old now new k l = record { width = l.width ∙ k.width; height = l.height ∙ k.height; role = l.role ∙ k.role; cut = l.cut ∙ k.cut; last = l.last ∙ k.last }
 
 -- A session whose hello is as before is greeted as before.
 pub greeted_by : (old now : State) → now.greeting ≡ old.greeting → is_greeted old ≡ true → is_greeted now ≡ true

@@ -8,7 +8,7 @@ use Rattle.rfb_wire.specs.ClientMessage.{ClientMessage, SetPixelFormat, SetEncod
 use Rattle.rfb_wire.specs.Message.{viewer_form, losing, FeedsOrLoses}
 use Rattle.rfb_wire.proofs.Losing.{losing-whole}
 use Rattle.viewer_session.specs.Extent.{Extent}
-use Rattle.viewer_session.specs.FirstPath.{first_path}
+use Rattle.viewer_session.specs.AllButInput.{all_but_input}
 use Rattle.viewer_session.specs.Record.{Took}
 use Rattle.viewer_session.specs.Viewer.{Setup, Viewer, served, marked, with_message, after_reading, after_bytes}
 
@@ -75,7 +75,7 @@ stays s p f [] = refl
 stays s p f (b ∷ bs) = stays s p f bs
 
 -- A message is taken into the record, and nothing else of the viewer changes.
-pub takes_message : (s : Setup) (p : Viewer) (m : ClientMessage) → s.extent ≡ first_path s.extent.from_host
+pub takes_message : (s : Setup) (p : Viewer) (m : ClientMessage) → s.extent ≡ all_but_input s.extent.from_host
     → with_message s (past_hello p) (m, []) ≡ past_hello (record p { entries = Took (served s m) ∷ p.entries; reading = viewer_form })
 takes_message s p m e =
     let with_extent : Extent → Viewer = λ x. with_message (record s { extent = x }) (past_hello p) (m, []) in

@@ -11,9 +11,9 @@ use Rattle.rfb_wire.specs.Greeting.{Greeting, ahead, to_send}
 use Rattle.rfb_wire.specs.Handshake.{version, server_init, said_to_viewer}
 use Rattle.rfb_wire.proofs.Greetings.{greeting_steps}
 use Rattle.roles.specs.declared.role.Role.{Role}
-use Rattle.viewer_session.specs.RawUpdate.{Waiting}
+use Rattle.viewer_session.specs.Outgoing.{Sending}
 use Rattle.viewer_session.specs.Viewer.{Setup, Viewer, out_bytes, viewer_fault, after_byte, after_bytes, after_hello, after_reading}
-use Rattle.viewer_session.specs.Session.{State, Stands, Greets, GreetsAs, HasRoom, IsBegun, IsGreeting, IsSaid, HasFed, IsFeeding, at_rest, hello_of, hello_fault, is_greeted}
+use Rattle.viewer_session.specs.Session.{State, Stands, Greets, GreetsAs, IsSpoken, IsBegun, IsGreeting, IsSaid, HasFed, IsFeeding, at_rest, hello_of, hello_fault, is_greeted}
 use Rattle.viewer_session.proofs.Feeding.{past_hello}
 
 -- ---- how the hello goes on
@@ -132,43 +132,39 @@ said_further g b sent =
     ap (λ n. drop g.sent (said_to_viewer g.w g.h g.name n)) (one_more g.begun b) ∙ (ap (drop g.sent) grows.1 ∙ (ap (λ n. drop n (before ++ grows.0)) sent ∙ drop-append_seam before grows.0))
 
 -- Then all that is to be said by now was put out again.
-said_on : (g : Greeting) (b : ℕ) (out new : Waiting) (o : Option Fault) → fault_of (ahead (with_byte g b)) ≡ o → wants_more (ahead (with_byte g b)) ≡ true → IsSaid g out
-    → new.filled ≡ out.filled + length (to_send (with_byte g b)) → IsSaid (with_said (with_byte g b)) new
-said_on g b out new None e wants k filled =
+said_on : (g : Greeting) (b : ℕ) (out new : Sending) (o : Option Fault) → fault_of (ahead (with_byte g b)) ≡ o → wants_more (ahead (with_byte g b)) ≡ true → IsSaid g out
+    → new.filled ≡ out.filled + length (to_send (with_byte g b)) → new.unsent ≡ new.piece → IsSaid (with_said (with_byte g b)) new
+said_on g b out new None e wants k filled alone =
     let more : List ℕ = (said_grows g.w g.h g.name (length g.begun)).0 in
     let say : to_send (with_byte g b) ≡ more = says g b None e ∙ said_further g b k.said in
     let all : length (said_to_viewer g.w g.h g.name (length (g.begun ++ b ∷ []))) ≡ length (said_to_viewer g.w g.h g.name (length g.begun)) + length more =
     ap (λ n. length (said_to_viewer g.w g.h g.name n)) (one_more g.begun b)
     ∙ (ap length (said_grows g.w g.h g.name (length g.begun)).1 ∙ length-append (said_to_viewer g.w g.h g.name (length g.begun)) more) in
     let count : length (to_send (with_byte g b)) ≡ length more = ap length say in
-    record { said = omega (arith, k.said, all, count); filled = omega (arith, k.filled, filled) }
-said_on g b out new (Some f) e wants k filled = absurd (some_is_none f (sym e ∙ fine_while_wanted (ahead (with_byte g b)) wants))
+    record { said = omega (arith, k.said, all, count); filled = omega (arith, k.filled, filled); alone = alone }
+said_on g b out new (Some f) e wants k filled alone = absurd (some_is_none f (sym e ∙ fine_while_wanted (ahead (with_byte g b)) wants))
 
-room_on : (g : Greeting) (b : ℕ) (out : Waiting) (o : Option Fault) → fault_of (ahead (with_byte g b)) ≡ o → length g.name ≤ 255 → 297 ≤ out.room → IsSaid g out
-    → out.filled + length (to_send (with_byte g b)) ≤ out.room
-room_on g b out None e short room k =
+room_on : (g : Greeting) (b : ℕ) (out : Sending) (o : Option Fault) → fault_of (ahead (with_byte g b)) ≡ o → length g.name ≤ 255 → IsSaid g out
+    → out.filled + length (to_send (with_byte g b)) ≤ 65544
+room_on g b out None e short k =
     let more : List ℕ = (said_grows g.w g.h g.name (length g.begun)).0 in
     let count : length (to_send (with_byte g b)) ≡ length more = ap length (says g b None e ∙ said_further g b k.said) in
     let all : length (said_to_viewer g.w g.h g.name (length g.begun + 1)) ≡ length (said_to_viewer g.w g.h g.name (length g.begun)) + length more =
     ap length (said_grows g.w g.h g.name (length g.begun)).1 ∙ length-append (said_to_viewer g.w g.h g.name (length g.begun)) more in
     omega (arith, said_fits g.w g.h g.name (length g.begun + 1), all, count, k.said, k.filled)
-room_on g b out (Some f) e short room k =
+room_on g b out (Some f) e short k =
     let none : length (to_send (with_byte g b)) ≡ 0 = ap length (says g b (Some f) e) in
     let some : length (said_to_viewer g.w g.h g.name (length g.begun)) ≤ 42 + length g.name = said_fits g.w g.h g.name (length g.begun) in
     omega (arith, k.said, k.filled)
 
 -- There is room for what is to be said to a byte.
-pub has_room : (g : Greeting) (b : ℕ) (out : Waiting) → wants_more (ahead g) ≡ true → HasRoom g out → out.filled + length (to_send (with_byte g b)) ≤ out.room
-has_room g b out wants k = room_on g b out (fault_of (ahead (with_byte g b))) refl k.short k.room (k.said wants)
+pub has_room : (g : Greeting) (b : ℕ) (out : Sending) → wants_more (ahead g) ≡ true → IsSpoken g out → out.filled + length (to_send (with_byte g b)) ≤ 65544
+has_room g b out wants k = room_on g b out (fault_of (ahead (with_byte g b))) refl k.short (k.said wants)
 
-pub room_again : (g : Greeting) (b : ℕ) (out new : Waiting) → wants_more (ahead g) ≡ true → HasRoom g out → new.room ≡ out.room → new.filled ≡ out.filled + length (to_send (with_byte g b))
-    → HasRoom (with_said (with_byte g b)) new
-room_again g b out new wants k room filled =
-    record {
-      short = k.short;
-      room = omega (arith, k.room);
-      said = λ again. said_on g b out new (fault_of (ahead (with_byte g b))) refl again (k.said wants) filled;
-    }
+pub spoken_on : (g : Greeting) (b : ℕ) (out new : Sending) → wants_more (ahead g) ≡ true → IsSpoken g out → new.filled ≡ out.filled + length (to_send (with_byte g b)) → new.unsent ≡ new.piece
+    → IsSpoken (with_said (with_byte g b)) new
+spoken_on g b out new wants k filled alone =
+    record { short = k.short; said = λ again. said_on g b out new (fault_of (ahead (with_byte g b))) refl again (k.said wants) filled alone }
 
 -- ---- the viewer that takes it
 
@@ -176,10 +172,10 @@ takes_it : (s : Setup) (p : Viewer) (b : ℕ) → wants_more p.hello ≡ true �
 takes_it s p b wants = ap (λ w. if w then after_hello p (step p.hello b) else (if is_some (viewer_fault p) then p else after_reading s p (step p.reading b))) wants
 
 -- Only the hello and what is said in it went on.
-stands_hello : (s : Setup) (st : State) (p : Viewer) (g : Greeting) (hello : Reading (Unit {0})) (said : ℕ) (unsent : List ℕ) → Stands s st p → GreetsAs s g p.greet hello said p.said_after
+stands_hello : (s : Setup) (st : State) (p : Viewer) (g : Greeting) (hello : Reading (Unit {0})) (said : ℕ) (piece unsent : List ℕ) → Stands s st p → GreetsAs s g p.greet hello said p.said_after
     → p.written ≤ length (out_bytes s (record p { said = said })) → unsent ≡ drop p.written (out_bytes s (record p { said = said }))
-    → Stands s (record st { greeting = Some g; unsent = unsent }) (record p { hello = hello; said = said })
-stands_hello s st p g hello said unsent k greets written left =
+    → Stands s (record st { greeting = Some g; piece = piece; unsent = unsent }) (record p { hello = hello; said = said })
+stands_hello s st p g hello said piece unsent k greets written left =
     record {
       width = k.width;
       height = k.height;
@@ -211,13 +207,13 @@ says_as s p g b greets said sent =
     ∙ ap (λ name. (said_grows s.w s.h name p.said).0) greets.name)))
 
 -- A fault is answered by nothing, any other byte by what comes behind.
-stands_byte_by : (s : Setup) (st : State) (p : Viewer) (g : Greeting) (b : ℕ) (o : Option Fault) → Stands s st p → GreetsAs s g p.greet p.hello p.said p.said_after → wants_more p.hello ≡ true
+stands_byte_by : (s : Setup) (st : State) (p : Viewer) (g : Greeting) (b : ℕ) (o : Option Fault) (piece : List ℕ) → Stands s st p → GreetsAs s g p.greet p.hello p.said p.said_after → wants_more p.hello ≡ true
     → g.sent ≡ length (said_to_viewer g.w g.h g.name (length g.begun)) → step p.hello b ≡ ahead (with_byte g b) → fault_of (ahead (with_byte g b)) ≡ o
-    → Stands s (record st { greeting = Some (with_said (with_byte g b)); unsent = st.unsent ++ to_send (with_byte g b) })
+    → Stands s (record st { greeting = Some (with_said (with_byte g b)); piece = piece; unsent = st.unsent ++ to_send (with_byte g b) })
     (record p { hello = step p.hello b; said = if is_some o then p.said else p.said + 1 })
-stands_byte_by s st p g b (Some f) k greets wants sent steps e =
+stands_byte_by s st p g b (Some f) piece k greets wants sent steps e =
     let nothing : to_send (with_byte g b) ≡ [] = says g b (Some f) e in
-    stands_hello s st p (with_said (with_byte g b)) (step p.hello b) p.said (st.unsent ++ to_send (with_byte g b)) k
+    stands_hello s st p (with_said (with_byte g b)) (step p.hello b) p.said piece (st.unsent ++ to_send (with_byte g b)) k
     (record {
       w = greets.w;
       h = greets.h;
@@ -228,7 +224,7 @@ stands_byte_by s st p g b (Some f) k greets wants sent steps e =
     })
     k.written
     (ap (λ t. st.unsent ++ t) nothing ∙ (append-nil st.unsent ∙ k.unsent))
-stands_byte_by s st p g b None k greets wants sent steps e =
+stands_byte_by s st p g b None piece k greets wants sent steps e =
     let before : List ℕ = said_to_viewer s.w s.h s.name p.said in
     let grows = said_grows s.w s.h s.name p.said in
     let so_far : (p.said ≡ length g.begun) × (p.said_after ≡ []) = greets.taken wants in
@@ -239,7 +235,7 @@ stands_byte_by s st p g b None k greets wants sent steps e =
     let left : st.unsent ++ to_send (with_byte g b) ≡ drop p.written (out_bytes s (record p { said = p.said + 1 })) =
     ap (λ t. t ++ to_send (with_byte g b)) (k.unsent ∙ ap (drop p.written) was)
     ∙ (ap (λ t. drop p.written before ++ t) say ∙ (sym (drop-append-le p.written before grows.0 within) ∙ ap (drop p.written) (sym is))) in
-    stands_hello s st p (with_said (with_byte g b)) (step p.hello b) (p.said + 1) (st.unsent ++ to_send (with_byte g b)) k
+    stands_hello s st p (with_said (with_byte g b)) (step p.hello b) (p.said + 1) piece (st.unsent ++ to_send (with_byte g b)) k
     (record {
       w = greets.w;
       h = greets.h;
@@ -255,16 +251,16 @@ stands_byte_by s st p g b None k greets wants sent steps e =
 takes_with : (p : Viewer) (r : Reading (Unit {0})) (o : Option Fault) → fault_of r ≡ o → after_hello p r ≡ record p { hello = r; said = if is_some o then p.said else p.said + 1 }
 takes_with p r o e = ap (λ q. record p { hello = r; said = if is_some q then p.said else p.said + 1 }) e
 
-pub stands_byte : (s : Setup) (st : State) (p : Viewer) (g : Greeting) (b : ℕ) → st.greeting ≡ Some g → wants_more (ahead g) ≡ true → g.sent ≡ length (said_to_viewer g.w g.h g.name (length g.begun)) → Stands s st p
-    → Stands s (record st { greeting = Some (with_said (with_byte g b)); unsent = st.unsent ++ to_send (with_byte g b) }) (after_byte s p b)
-stands_byte s st p g b is wants sent k =
+pub stands_byte : (s : Setup) (st : State) (p : Viewer) (g : Greeting) (b : ℕ) (piece : List ℕ) → st.greeting ≡ Some g → wants_more (ahead g) ≡ true → g.sent ≡ length (said_to_viewer g.w g.h g.name (length g.begun)) → Stands s st p
+    → Stands s (record st { greeting = Some (with_said (with_byte g b)); piece = piece; unsent = st.unsent ++ to_send (with_byte g b) }) (after_byte s p b)
+stands_byte s st p g b piece is wants sent k =
     let greets : GreetsAs s g p.greet p.hello p.said p.said_after = subst (λ (o : Option Greeting). Greets s o p.greet p.hello p.said p.said_after) is k.greets in
     let wanted : wants_more p.hello ≡ true = ap wants_more greets.goes_on ∙ wants in
     let steps : step p.hello b ≡ ahead (with_byte g b) = ap (λ r. step r b) greets.goes_on ∙ sym (greeting_steps g b) in
     let same : after_byte s p b ≡ record p { hello = step p.hello b; said = if is_some (fault_of (ahead (with_byte g b))) then p.said else p.said + 1 } =
     takes_it s p b wanted ∙ takes_with p (step p.hello b) (fault_of (ahead (with_byte g b))) (ap fault_of steps) in
-    subst (λ q. Stands s (record st { greeting = Some (with_said (with_byte g b)); unsent = st.unsent ++ to_send (with_byte g b) }) q) (sym same)
-    (stands_byte_by s st p g b (fault_of (ahead (with_byte g b))) k greets wanted sent steps refl)
+    subst (λ q. Stands s (record st { greeting = Some (with_said (with_byte g b)); piece = piece; unsent = st.unsent ++ to_send (with_byte g b) }) q) (sym same)
+    (stands_byte_by s st p g b (fault_of (ahead (with_byte g b))) piece k greets wanted sent steps refl)
 
 -- ---- byte after byte
 
@@ -307,11 +303,17 @@ not_yet (Done x) w = absurd cc
 not_yet (Faulty f) w = refl
 not_yet (Want more) w = refl
 
--- What is written of it leaves what was put out.
-pub greeting_on : (o : Option Greeting) (out new : Waiting) → new.room ≡ out.room → new.filled ≡ out.filled → IsGreeting o out → IsGreeting o new
-greeting_on None out new room filled k = tt
-greeting_on (Some g) out new room filled k =
-    record { short = k.short; room = omega (arith, k.room); said = λ wants. record { said = (k.said wants).said; filled = omega (arith, (k.said wants).filled) } }
+-- What is sent of it leaves what was put out.
+pub greeting_on : (o : Option Greeting) (out new : Sending) → (out.unsent ≡ out.piece → (new.unsent ≡ new.piece) × (new.filled ≤ out.filled)) → IsGreeting o out → IsGreeting o new
+greeting_on None out new alone k = tt
+greeting_on (Some g) out new alone k =
+    record {
+      short = k.short;
+      said = λ wants.
+          let said : IsSaid g out = k.said wants in
+          let left : (new.unsent ≡ new.piece) × (new.filled ≤ out.filled) = alone said.alone in
+          record { said = said.said; filled = omega (arith, said.filled, left.1); alone = left.0 };
+    }
 
 -- ---- the beginning
 
@@ -319,10 +321,10 @@ abbrev pub first_greeting : ℕ → ℕ → List ℕ → Greeting
 first_greeting w h name = record { w = w; h = h; name = name; begun = []; sent = 0 }
 
 -- The version is said first.
-pub opens_room : (w h : ℕ) (name : List ℕ) (out : Waiting) → length name ≤ 255 → 297 ≤ out.room → out.filled ≡ 12 → HasRoom (with_said (first_greeting w h name)) out
-opens_room w h name out short room filled = record { short = short; room = room; said = λ wants. record { said = refl; filled = omega arith } }
+pub opens_spoken : (w h : ℕ) (name : List ℕ) (out : Sending) → length name ≤ 255 → out.filled ≡ 12 → out.unsent ≡ out.piece → IsSpoken (with_said (first_greeting w h name)) out
+opens_spoken w h name out short filled alone = record { short = short; said = λ wants. record { said = refl; filled = omega arith; alone = alone } }
 
-pub opens : (s : Setup) (role : Role) (w h : ℕ) (name : List ℕ) (out : Waiting) → s.w ≡ w → s.h ≡ h → s.name ≡ name → out.unsent ≡ version
+pub opens : (s : Setup) (role : Role) (w h : ℕ) (name : List ℕ) (out : Sending) → s.w ≡ w → s.h ≡ h → s.name ≡ name → out.unsent ≡ version
     → IsBegun s role true (Some (with_said (first_greeting w h name))) out
 opens s role w h name out ew eh en unsent =
     record { greets = record { w = sym ew; h = sym eh; name = sym en; greets = refl; goes_on = refl; taken = λ wants. (refl, refl) }; unsent = unsent }

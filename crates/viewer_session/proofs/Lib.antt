@@ -1,12 +1,13 @@
 pub mod Feeding
-pub mod OneTile
-pub mod RawAnswer
+pub mod Pieces
+pub mod Sending
+pub mod SameRuns
 pub mod SessionLaws
 pub mod HelloLaws
 pub mod FeedLaws
+pub mod TurnLaws
+pub mod Parts
 pub mod Stands
 pub mod Accepted
 pub mod Streams
-pub mod TurnLaws
 pub mod Vectors
-pub mod Parts

@@ -7,9 +7,8 @@ use Rattle.pixel_format.specs.declared.fault.Fault.{Fault}
 use Rattle.pixel_format.specs.PixelFormat.{PixelFormat}
 use Rattle.pixel_format.specs.Reading.{Reading, fault_of, whole_of}
 use Rattle.raster.specs.declared.rect.Rect.{Rect}
-use Rattle.raster.specs.declared.encoding.Encoding.TheVariants.{Raw}
 use Rattle.raster.specs.Screen.{common, whole_screen, meets, is_empty, tile_rect}
-use Rattle.rfb_wire.specs.ClientMessage.{ClientMessage, SetPixelFormat, SetEncodings, Ask, Key, Pointer, CutText, LostText, Choice, without_text}
+use Rattle.rfb_wire.specs.ClientMessage.{ClientMessage, SetPixelFormat, SetEncodings, Ask, Key, Pointer, CutText, LostText, without_text}
 use Rattle.rfb_wire.specs.declared.client_reader.ClientReader.{ClientReader}
 use Rattle.rfb_wire.specs.ClientReader.{ahead}
 use Rattle.rfb_wire.specs.Greeting.{Greeting}
@@ -20,7 +19,6 @@ use Rattle.tiles.specs.Have.{SentTiles, HaveStands}
 use Rattle.tiles.specs.Touched.{Event, Requested, NewFormat, last_sent}
 use Rattle.reflect_core.specs.Asked.{Wanted, AskedStands}
 use Rattle.viewer_session.specs.Extent.{Extent}
-use Rattle.viewer_session.specs.FirstPath.{first_path}
 use Rattle.viewer_session.specs.Record.{Took, events}
 use Rattle.viewer_session.specs.Viewer.{Setup, Viewer, served, viewer_fault, out_bytes}
 use Rattle.viewer_session.specs.Session.{State, Stands, Greets, IsBetween, Keeps, at_rest, after_taking, after_look, after_writing, fault_in, is_greeted}
@@ -94,17 +92,7 @@ pub stands_empty : (incremental : Bool) (area : Rect) (have : SentTiles) (es : L
 stands_empty incremental area have es e k =
     record { each = λ t lt. k.each t lt ∙ ap Some (sym (forgets_none incremental area (tile_rect have.width have.height t) es e)) }
 
--- A message that changes nothing: encodings, since each answer is Raw, and input.
-served_encodings : (s : Setup) (choice : Choice) → s.extent ≡ first_path s.extent.from_host → served s (SetEncodings choice) ≡ SetEncodings (record { kind = Raw; copy = false })
-served_encodings s choice e = ap (λ x. served (record s { extent = x }) (SetEncodings choice)) e
-
-pub stands_encodings : (s : Setup) (st : State) (p : Viewer) (choice : Choice) → Stands s st p → Stands s st (after_taking s (SetEncodings choice) p)
-stands_encodings s st p choice k =
-    let raw : Choice = record { kind = Raw; copy = false } in
-    let kept : Keeps s.w s.h st (Took (SetEncodings raw) ∷ p.entries) = record { asked = k.keeps.asked; have = k.keeps.have; format = k.keeps.format; choice = refl } in
-    stands_taking s (SetEncodings choice) st st p k refl refl refl refl refl refl
-    (subst (λ (m : ClientMessage). Keeps s.w s.h st (Took m ∷ p.entries)) (sym (served_encodings s choice k.extent)) kept)
-
+-- A message that changes nothing: input.
 pub stands_key : (s : Setup) (st : State) (p : Viewer) (down : Bool) (key : ℕ) → Stands s st p → Stands s st (after_taking s (Key down key) p)
 stands_key s st p down key k =
     stands_taking s (Key down key) st st p k refl refl refl refl refl refl (record { asked = k.keeps.asked; have = k.keeps.have; format = k.keeps.format; choice = k.keeps.choice })
@@ -202,8 +190,8 @@ pub unsent_left : (s : Setup) (st : State) (p : Viewer) → Stands s st p → le
 unsent_left s st p k = ap length k.unsent ∙ length-drop p.written (out_bytes s p)
 
 -- Some of it is written.
-pub stands_written : (s : Setup) (st : State) (p : Viewer) (n : ℕ) → n ≤ length st.unsent → Stands s st p → Stands s (record st { unsent = drop n st.unsent }) (after_writing n p)
-stands_written s st p n le k =
+pub stands_written : (s : Setup) (st : State) (p : Viewer) (n : ℕ) (piece : List ℕ) → n ≤ length st.unsent → Stands s st p → Stands s (record st { piece = piece; unsent = drop n st.unsent }) (after_writing n p)
+stands_written s st p n piece le k =
     record {
       width = k.width;
       height = k.height;

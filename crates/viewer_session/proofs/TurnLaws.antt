@@ -1,75 +1,231 @@
--- What a turn over one tile sends.
-use Rattle.std.proofs.Common.{◌≡◌, ℕ, ◌<◌, ◌≤◌, Bool, true, false, List, [], ◌∷◌, ◌++◌, length, take, drop, get_or, Option, Some, None, refl, sym, ap, subst, ◌∙◌, arith, length-append, append_assoc}
-use Rattle.std.specs.Prelude.{◌&&◌, ◌||◌, is_none, is_some, if◌then◌else◌, slice_get, unwrap_or, ◌==◌}
+-- What a turn begins to send.
+use Rattle.std.proofs.Common.{◌≡◌, ℕ, zero, suc, ◌^◌, ◌<◌, ◌≤◌, Bool, true, false, List, [], ◌∷◌, ◌++◌, length, take, drop, Option, Some, None, refl, sym, ap, subst, ◌∙◌, arith, length-append, append_assoc, ◌⊎◌, inl, inr}
+use Rattle.std.specs.Prelude.{◌&&◌, ◌||◌, not, is_none, is_some, if◌then◌else◌, unwrap_or, ◌==◌, nat_lt, nat_le}
+use Rattle.std.specs.Int.{w16, from_be_bytes}
+use Rattle.std.specs.List.{list_any, range_with_len, flat_map}
+use Rattle.std.proofs.lemmas.Bool.Decides.{nat_tests}
 use Rattle.std.proofs.lemmas.Bool.{eqb-true}
-use Rattle.std.proofs.lemmas.Option.{get_or_from_slice_get}
-use Rattle.std.specs.List.{list_any, range_with_len}
-use Rattle.std.proofs.lemmas.List.{length-take, length-drop}
+use Rattle.std.proofs.lemmas.Nat.{from_be_bytes-to_be_bytes_2}
+use Rattle.std.proofs.lemmas.List.{length-take, length-drop, take-take, take_all}
 use Rattle.std.proofs.Math.Seq.{drop-append_seam}
-use Rattle.pixel_format.specs.PixelFormat.{PixelFormat, row_bytes}
+use Rattle.pixel_format.specs.PixelFormat.{PixelFormat}
 use Rattle.pixel_format.specs.Reading.{Reading, whole_of}
 use Rattle.raster.specs.declared.rect.Rect.{Rect}
-use Rattle.raster.specs.Screen.{IsWithin, holds, meets, whole_screen, tile_rect, tile_count, value_at}
-use Rattle.raster.proofs.Places.{Has, holds_has}
-use Rattle.raster.specs.Update.{Update, screen}
+use Rattle.raster.specs.Screen.{Canvas, IsWithin, meets, tile_rect, tile_count}
+use Rattle.raster.specs.Size.{IsScreenSize}
+use Rattle.raster.specs.Update.{Update, Paints, Cut, screen, bells, last_text, NumberedText}
+use Rattle.raster.specs.Update as update
 use Rattle.rfb_wire.specs.ClientMessage.{Choice}
-use Rattle.rfb_wire.specs.Greeting.{Greeting}
+use Rattle.rfb_wire.specs.Greeting.{Greeting, ahead}
 use Rattle.rfb_wire.specs.Handshake.{said_to_viewer}
-use Rattle.rfb_wire.specs.Writing.{update_head_bytes, rectangle_head_bytes}
+use Rattle.rfb_wire.specs.Writing.{bell_bytes, update_head_bytes}
 use Rattle.tiles.specs.Have.{SentTiles, HaveStands}
-use Rattle.tiles.specs.Touched.{Event, WasCut, Answered, runs}
-use Rattle.reflect_core.specs.declared.cut.Cut.{Cut}
-use Rattle.reflect_core.specs.Asked.{Wanted, AskedStands, pending}
-use Rattle.reflect_core.specs.Source.{IsCutOf, due_in}
-use Rattle.reflect_core.proofs.CutLaws.{due_by, marks_due}
-use Rattle.update_encoder.specs.Answer.{answer_bytes}
+use Rattle.tiles.specs.Touched.{Event, WasCut, is_due_since, runs}
+use Rattle.tiles.proofs.HaveLaws.{sent_at_stands}
+use Rattle.tiles.proofs.RunLaws.{runs_few}
+use Rattle.reflect_core.specs.declared.cut.Cut as cutting
+use Rattle.reflect_core.specs.Asked.{Wanted, AskedStands, last_cut}
+use Rattle.reflect_core.specs.Source.{IsCutOf, marked, was_sent_if_due}
+use Rattle.reflect_core.proofs.CutLaws.{marks_due}
+use Rattle.update_encoder.specs.Answer.{all_spelled, answer_bytes}
+use Rattle.update_encoder.specs.Coming.{shown}
+use Rattle.update_encoder.specs.Written.{is_due_of}
+use Rattle.update_encoder.proofs.CutLaws.{cut_is_answered}
 use Rattle.viewer_session.specs.Extent.{Extent}
-use Rattle.viewer_session.specs.FirstPath.{first_path}
-use Rattle.viewer_session.specs.RawUpdate.{raw_update}
-use Rattle.viewer_session.specs.Record.{Entry, MadeCut, Began, events, format_of, choice_of}
-use Rattle.viewer_session.specs.Turn.{due_tile, due_tile_in, all_were_sent, update_for, update_at, update_part, sent_at, began_at, record_after_cut}
+use Rattle.viewer_session.specs.AllButInput.{all_but_input}
+use Rattle.viewer_session.specs.Found.{answered_at, has_newer, is_newer, rings, update_in, update_of}
+use Rattle.viewer_session.specs.Outgoing.{Sending, text_message}
+use Rattle.viewer_session.specs.Record.{Entry, MadeCut, events, format_of, choice_of}
+use Rattle.viewer_session.specs.Turn.{due_tile, due_tile_in, was_sent, all_were_sent, update_for, update_at, update_part, bell_at, newer_text, text_at, began_at, record_after_cut}
+use Rattle.viewer_session.specs.Turn as turn
 use Rattle.viewer_session.specs.Viewer.{Setup, Viewer, out_bytes, after_cut}
-use Rattle.viewer_session.specs.Session.{State, Stands, Greets, Keeps, IsOneTile, CutsAt, at_rest, hello_of, is_greeted, is_ready, fault_in}
+use Rattle.viewer_session.specs.Session.{State, Stands, Greets, Keeps, CutsAt, HasCounted, IsGreeting, at_rest, hello_of, is_greeted, is_ready, fault_in}
 use Rattle.viewer_session.proofs.HelloLaws.{not_yet}
-use Rattle.viewer_session.proofs.OneTile.{one_tile, tile_is_screen, runs_one}
-use Rattle.viewer_session.proofs.RawAnswer.{raw_choice, raw_answer, colours_same}
+use Rattle.viewer_session.proofs.SameRuns.{runs_same, all_same, any_same, no_run, not_zero}
 
--- ---- what is sent
+-- ---- how many rectangles an answer has
 
--- Where no Bell and no text is told an update alone is sent.
-sends_update : (s : Setup) (es : List Entry) (us : List Update) → s.extent ≡ first_path s.extent.from_host
-    → sent_at s.extent.tells_news s.w s.h es us ≡ update_part (update_at s.w s.h es us)
-sends_update s es us e = ap (λ (extent : Extent). sent_at extent.tells_news s.w s.h es us) e
+length_spelled : (format : PixelFormat) (choice : Choice) (canvas : Canvas) (may_copy : Bool) (before : Option Rect) (rs : List Rect) → length (all_spelled format choice canvas may_copy before rs) ≡ length rs
+length_spelled format choice canvas may_copy before [] = refl
+length_spelled format choice canvas may_copy before (r ∷ rs) = ap suc (length_spelled format choice canvas may_copy (Some r) rs)
 
--- ---- the update
+same_count : (a b : ℕ) (xs ys : List ℕ) → a < 2 ^ 16 → b < 2 ^ 16 → update_head_bytes a ++ xs ≡ update_head_bytes b ++ ys → a ≡ b
+same_count a b xs ys la lb e = sym (from_be_bytes-to_be_bytes_2 a la) ∙ (ap (λ t. from_be_bytes w16 (take 2 (drop 2 t))) e ∙ from_be_bytes-to_be_bytes_2 b lb)
 
-any_of_one : (p : ℕ → Bool) (n : ℕ) → n ≡ 1 → list_any p (range_with_len 0 n) ≡ (p 0 || false)
-any_of_one p n e = ap (λ k. list_any p (range_with_len 0 k)) e
+abbrev found_in : cutting.Cut → Rect → List Rect
+found_in cut area = runs cut.width cut.height area (marked cut)
 
-pub update_none : (w h : ℕ) (es : List Entry) (us : List Update) (area : Rect) → IsOneTile w h → pending (events w h es) ≡ Some area → due_tile_in w h es us area 0 ≡ false → update_at w h es us ≡ None
-update_none w h es us area k e d =
-    let found : List ℕ = answer_bytes (format_of es) (choice_of es) (screen us) (all_were_sent w h es us area) (runs w h area (due_tile w h es us)) in
-    ap (update_for w h es us) e
-    ∙ ap (λ b. if b then Some (area, found) else None) (any_of_one (due_tile_in w h es us area) (tile_count w h) (one_tile w h k) ∙ ap (λ b. b || false) d)
+count_is : (format : PixelFormat) (choice : Choice) (cut : cutting.Cut) (area : Rect) (count : ℕ) (rest : List ℕ) → count < 2 ^ 16 → IsScreenSize cut.width cut.height
+    → update_head_bytes count ++ rest ≡ answer_bytes format choice (shown cut) cut.all_were_sent (found_in cut area) → count ≡ length (found_in cut area)
+count_is format choice cut area count rest few size e =
+    let spelled : List (List ℕ) = all_spelled format choice (shown cut) (choice.copy && cut.all_were_sent) None (found_in cut area) in
+    let long : length spelled ≡ length (found_in cut area) = length_spelled format choice (shown cut) (choice.copy && cut.all_were_sent) None (found_in cut area) in
+    let less : length (found_in cut area) < 2 ^ 16 = runs_few cut.width cut.height area (marked cut) size.wide.1 size.high.1 in
+    same_count count (length spelled) rest (flat_map (λ r. r) spelled) few (omega (arith, long, less)) e ∙ long
 
-due_and : (a b : Bool) → (a && b) ≡ true → (b && a) ≡ true
-due_and true true e = e
-due_and true false e = e
-due_and false true e = e
-due_and false false e = e
+-- It has none: there is no update.
+pub found_none : (format : PixelFormat) (choice : Choice) (cut : cutting.Cut) (area : Rect) (count : ℕ) (rest : List ℕ) → count < 2 ^ 16 → IsScreenSize cut.width cut.height
+    → update_head_bytes count ++ rest ≡ answer_bytes format choice (shown cut) cut.all_were_sent (found_in cut area) → count ≡ 0 → update_of format choice cut area ≡ None
+found_none format choice cut area count rest few size e none =
+    let bytes : List ℕ = answer_bytes format choice (shown cut) cut.all_were_sent (found_in cut area) in
+    ap (λ n. if n == 0 then None else Some (area, bytes)) (sym (count_is format choice cut area count rest few size e) ∙ none)
 
-pub update_one : (w h : ℕ) (es : List Entry) (us : List Update) (area : Rect) → IsOneTile w h → IsWithin area w h → pending (events w h es) ≡ Some area → due_tile_in w h es us area 0 ≡ true → choice_of es ≡ raw_choice
-    → update_at w h es us ≡ Some (area, raw_update (format_of es) (screen us) area)
-update_one w h es us area k on e d c =
-    let sent : Bool = all_were_sent w h es us area in
-    let answer : Choice → List Rect → List ℕ = λ choice rs. answer_bytes (format_of es) choice (screen us) sent rs in
-    let found : List ℕ = answer (choice_of es) (runs w h area (due_tile w h es us)) in
-    let one : runs w h area (due_tile w h es us) ≡ area ∷ [] = runs_one w h area (due_tile w h es us) k on (due_and (meets area (tile_rect w h 0)) (due_tile w h es us 0) d) in
-    let is_raw : found ≡ raw_update (format_of es) (screen us) area =
-    ap (answer (choice_of es)) one ∙ (ap (λ choice. answer choice (area ∷ [])) c ∙ raw_answer (format_of es) (screen us) sent area) in
-    ap (update_for w h es us) e
-    ∙ (ap (λ b. if b then Some (area, found) else None) (any_of_one (due_tile_in w h es us area) (tile_count w h) (one_tile w h k) ∙ ap (λ b. b || false) d)
-    ∙ ap (λ bytes. Some (area, bytes)) is_raw)
+-- It has some: they are the update.
+pub found_some : (format : PixelFormat) (choice : Choice) (cut : cutting.Cut) (area : Rect) (count : ℕ) (rest : List ℕ) → count < 2 ^ 16 → IsScreenSize cut.width cut.height
+    → update_head_bytes count ++ rest ≡ answer_bytes format choice (shown cut) cut.all_were_sent (found_in cut area) → (count ≡ 0 → ⊥) → update_of format choice cut area ≡ Some (area, update_head_bytes count ++ rest)
+found_some format choice cut area count rest few size e some =
+    let bytes : List ℕ = answer_bytes format choice (shown cut) cut.all_were_sent (found_in cut area) in
+    let is : count ≡ length (found_in cut area) = count_is format choice cut area count rest few size e in
+    ap (λ b. if b then None else Some (area, bytes)) (not_zero (length (found_in cut area)) (λ z. some (is ∙ z))) ∙ ap (λ (bs : List ℕ). Some (area, bs)) (sym e)
+
+-- The same of what the code has at hand.
+pub none_at : (st now : State) (o : Option Rect) (area : Rect) (seen : cutting.Cut) (count : ℕ) (rest : List ℕ) → st ≡ now → o ≡ Some area → seen ≡ st.cut → count < 2 ^ 16 → IsScreenSize seen.width seen.height
+    → update_head_bytes count ++ rest ≡ answer_bytes st.format st.choice (shown seen) seen.all_were_sent (found_in seen area) → count ≡ 0 → update_in now.format now.choice now.cut o ≡ None
+none_at st now o area seen count rest same is there few size e none =
+    sym (ap (λ (t : State). update_in t.format t.choice t.cut o) same)
+    ∙ (ap (update_in st.format st.choice st.cut) is
+    ∙ (ap (λ (cut : cutting.Cut). update_of st.format st.choice cut area) (sym there) ∙ found_none st.format st.choice seen area count rest few size e none))
+
+pub some_at : (st now : State) (o : Option Rect) (area : Rect) (seen : cutting.Cut) (count : ℕ) (rest : List ℕ) → st ≡ now → o ≡ Some area → seen ≡ st.cut → count < 2 ^ 16 → IsScreenSize seen.width seen.height
+    → update_head_bytes count ++ rest ≡ answer_bytes st.format st.choice (shown seen) seen.all_were_sent (found_in seen area) → (count ≡ 0 → ⊥)
+    → update_in now.format now.choice now.cut o ≡ Some (area, update_head_bytes count ++ rest)
+some_at st now o area seen count rest same is there few size e some =
+    sym (ap (λ (t : State). update_in t.format t.choice t.cut o) same)
+    ∙ (ap (update_in st.format st.choice st.cut) is
+    ∙ (ap (λ (cut : cutting.Cut). update_of st.format st.choice cut area) (sym there) ∙ found_some st.format st.choice seen area count rest few size e some))
+
+-- ---- the update at a cut is the one of the definitions
+
+twice : (m d : Bool) → (m && (m && d)) ≡ (m && d)
+twice true d = refl
+twice false d = refl
+
+if_not : (b c : Bool) (x y : Rect × List ℕ) → b ≡ not c → x ≡ y → (if b then None else Some x) ≡ (if c then Some y else None)
+if_not b true x y e f = ap (λ t. if t then None else Some x) e ∙ ap (λ (t : Rect × List ℕ). Some t) f
+if_not b false x y e f = ap (λ t. if t then None else Some x) e
+
+on_screen : (area : Rect) (w h v u : ℕ) → w ≡ v → h ≡ u → IsWithin area v u → IsWithin area w h
+on_screen area w h v u ew eh on = record { across = omega (arith, on.across, ew); down = omega (arith, on.down, eh) }
+
+update_same : (known : List Update) (n : ℕ) (area : Rect) (have : SentTiles) (cut : cutting.Cut) (entries : List Entry) (format : PixelFormat) (choice : Choice)
+    → IsCutOf known n area have cut → have.width ≡ cut.width → have.height ≡ cut.height → IsScreenSize cut.width cut.height → IsWithin area cut.width cut.height
+    → HaveStands have (events have.width have.height entries) → format ≡ format_of entries → choice ≡ choice_of entries
+    → update_of format choice cut area ≡ update_for have.width have.height entries (take n known) (Some area)
+update_same known n area have cut entries format choice is ew eh size on stood ef ec =
+    let w : ℕ = have.width in
+    let h : ℕ = have.height in
+    let us : List Update = take n known in
+    let due : ℕ → Bool = due_tile w h entries us in
+    let due_here : ℕ → Bool = due_tile_in w h entries us area in
+    let all : Bool = all_were_sent w h entries us area in
+    let marks : (t : ℕ) → t < tile_count w h → marked cut t ≡ due_here t = λ t lt. ap (λ o. unwrap_or o false) (marks_due known n area have cut (events w h entries) stood is t lt) in
+    let due_is : (t : ℕ) → t < tile_count w h → is_due_of have us t ≡ due t = λ t lt. ap (λ o. is_due_since (tile_rect w h t) o us) (sent_at_stands have (events w h entries) t stood lt) in
+    let runs_are : runs cut.width cut.height area (is_due_of have us) ≡ runs w h area due =
+    ap (λ k. runs k cut.height area (is_due_of have us)) (sym ew) ∙ (ap (λ k. runs w k area (is_due_of have us)) (sym eh) ∙ runs_same w h area (is_due_of have us) due due_is) in
+    let all_is : cut.all_were_sent ≡ all =
+    is.all_were_sent
+    ∙ all_same (was_sent_if_due have area us) (λ t. not (due_here t) || was_sent w h entries t) (tile_count w h) 0
+    (λ t lo hi. ap (λ o. not (meets area (tile_rect w h t) && is_due_since (tile_rect w h t) o us) || is_some o) (sent_at_stands have (events w h entries) t stood (omega (arith, hi)))) in
+    let bytes : answer_bytes format choice (shown cut) cut.all_were_sent (found_in cut area) ≡ answer_bytes (format_of entries) (choice_of entries) (screen us) all (runs w h area due) =
+    cut_is_answered known n area have cut format choice cut.all_were_sent is ew eh size on
+    ∙ (ap (answer_bytes format choice (screen us) cut.all_were_sent) runs_are
+    ∙ (ap (λ b. answer_bytes format choice (screen us) b (runs w h area due)) all_is
+    ∙ (ap (λ (f : PixelFormat). answer_bytes f choice (screen us) all (runs w h area due)) ef
+    ∙ ap (λ (c : Choice). answer_bytes (format_of entries) c (screen us) all (runs w h area due)) ec))) in
+    let found_are : found_in cut area ≡ runs w h area (marked cut) = ap (λ k. runs k cut.height area (marked cut)) (sym ew) ∙ ap (λ k. runs w k area (marked cut)) (sym eh) in
+    let test : (length (found_in cut area) == 0) ≡ not (list_any due_here (range_with_len 0 (tile_count w h))) =
+    ap (λ rs. length rs == 0) found_are
+    ∙ (no_run w h area (marked cut) (omega (arith, size.wide, ew)) (omega (arith, size.high, eh)) (on_screen area w h cut.width cut.height ew eh on)
+    ∙ ap not
+    (any_same (λ t. meets area (tile_rect w h t) && marked cut t) due_here (tile_count w h) 0
+    (λ t lo hi. ap (λ b. meets area (tile_rect w h t) && b) (marks t (omega (arith, hi))) ∙ twice (meets area (tile_rect w h t)) (due t)))) in
+    if_not (length (found_in cut area) == 0) (list_any due_here (range_with_len 0 (tile_count w h))) (area, answer_bytes format choice (shown cut) cut.all_were_sent (found_in cut area))
+    (area, answer_bytes (format_of entries) (choice_of entries) (screen us) all (runs w h area due)) test (ap (λ (bs : List ℕ). (area, bs)) bytes)
+
+-- The same over a screen of w by h.
+update_on : (w h : ℕ) (known : List Update) (n : ℕ) (area : Rect) (have : SentTiles) (cut : cutting.Cut) (entries : List Entry) (format : PixelFormat) (choice : Choice)
+    → have.width ≡ w → have.height ≡ h → IsCutOf known n area have cut → have.width ≡ cut.width → have.height ≡ cut.height → IsScreenSize cut.width cut.height → IsWithin area cut.width cut.height
+    → HaveStands have (events w h entries) → format ≡ format_of entries → choice ≡ choice_of entries
+    → update_of format choice cut area ≡ update_for w h entries (take n known) (Some area)
+update_on w h known n area have cut entries format choice v u is ew eh size on stood ef ec =
+    let Same : ℕ → ℕ → Type 0 = λ x y. HaveStands have (events x y entries) → update_of format choice cut area ≡ update_for x y entries (take n known) (Some area) in
+    let here : Same have.width have.height = λ k. update_same known n area have cut entries format choice is ew eh size on k ef ec in
+    subst (λ y. Same w y) u (subst (λ x. Same x have.height) v here) stood
+
+-- What is known of a state and a cut that was made for it.
+pub record IsCutFor (st : State) (cut : cutting.Cut) (nowhere : Rect) (known : List Update) (n : ℕ) : Type 0 where
+  pub is : IsCutOf known n (unwrap_or st.asked.area nowhere) st.have cut
+  pub width : st.width ≡ cut.width
+  pub height : st.height ≡ cut.height
+  pub have_width : st.have.width ≡ st.width
+  pub have_height : st.have.height ≡ st.height
+  pub size : IsScreenSize cut.width cut.height
+  pub within : IsWithin (unwrap_or st.asked.area nowhere) cut.width cut.height
+
+update_by : (s : Setup) (st : State) (p : Viewer) (cut : cutting.Cut) (known : List Update) (n : ℕ) (nowhere : Rect) (area : Option Rect) → Stands s st p
+    → IsCutOf known n (unwrap_or area nowhere) st.have cut → st.width ≡ cut.width → st.height ≡ cut.height → st.have.width ≡ st.width → st.have.height ≡ st.height → IsScreenSize cut.width cut.height
+    → IsWithin (unwrap_or area nowhere) cut.width cut.height → update_in st.format st.choice cut area ≡ update_for s.w s.h p.entries (take n known) area
+update_by s st p cut known n nowhere None k is ew eh hw hh size on = refl
+update_by s st p cut known n nowhere (Some area) k is ew eh hw hh size on =
+    update_on s.w s.h known n area st.have cut p.entries st.format st.choice (hw ∙ k.width) (hh ∙ k.height) is (hw ∙ ew) (hh ∙ eh) size on k.keeps.have k.keeps.format k.keeps.choice
+
+-- The update that a session finds in a cut is the one of the definitions.
+pub update_is : (s : Setup) (st : State) (p : Viewer) (cut : cutting.Cut) (known : List Update) (n : ℕ) (nowhere : Rect) → Stands s st p → IsCutFor st cut nowhere known n
+    → update_in st.format st.choice cut st.asked.area ≡ update_at s.w s.h p.entries (take n known)
+update_is s st p cut known n nowhere k c =
+    update_by s st p cut known n nowhere st.asked.area k c.is c.width c.height c.have_width c.have_height c.size c.within
+    ∙ ap (update_for s.w s.h p.entries (take n known)) k.keeps.asked.area
+
+-- ---- news
+
+bells_taken : (n : ℕ) (us : List Update) → bells (take n us) ≤ bells us
+bells_taken zero us = omega arith
+bells_taken (suc n) [] = omega arith
+bells_taken (suc n) (Paints ps ∷ us) = bells_taken n us
+bells_taken (suc n) (update.Bell ∷ us) = omega (arith, bells_taken n us)
+bells_taken (suc n) (Cut text ∷ us) = bells_taken n us
+
+either_by : (number n : ℕ) (b : Bool) → nat_le number n ≡ b → (number ≤ n) ⊎ (n ≤ number)
+either_by number n true e = inl (grind (arith, nat_tests))
+either_by number n false e = inr (grind (arith, nat_tests))
+
+either : (number n : ℕ) → (number ≤ n) ⊎ (n ≤ number)
+either number n = either_by number n (nat_le number n) refl
+
+not_more : (a b : ℕ) → b ≤ a → nat_lt a b ≡ false
+not_more a b le = grind (arith, nat_tests)
+
+rings_by : (known : List Update) (number n : ℕ) → (number ≤ n) ⊎ (n ≤ number) → nat_lt (bells (take number known)) (bells (take n known)) ≡ nat_lt (bells (take number (take n known))) (bells (take n known))
+rings_by known number n (inl le) = ap (λ us. nat_lt (bells us) (bells (take n known))) (sym (take-take number n known le))
+rings_by known number n (inr le) =
+    let same : take n (take number known) ≡ take n known = take-take n number known le in
+    let whole : take number (take n known) ≡ take n known = take_all number (take n known) (omega (arith, length-take n known)) in
+    not_more (bells (take number known)) (bells (take n known)) (omega (arith, bells_taken n (take number known), ap bells same))
+    ∙ sym (ap (λ us. nat_lt (bells us) (bells (take n known))) whole ∙ not_more (bells (take n known)) (bells (take n known)) (omega arith))
+
+bell_is : (last : Option ℕ) (before now : ℕ) (known : List Update) (n : ℕ) → now ≡ bells (take n known) → ((number : ℕ) → last ≡ Some number → (number ≤ length known) × (before ≡ bells (take number known)))
+    → (if rings last before now then bell_bytes else []) ≡ bell_at (take n known) last
+bell_is None before now known n e counted = refl
+bell_is (Some number) before now known n e counted =
+    ap (λ b. if b then bell_bytes else [])
+    (ap (λ k. nat_lt before k) e ∙ (ap (λ k. nat_lt k (bells (take n known))) (counted number refl).1 ∙ rings_by known number n (either number n)))
+
+text_by : (number : ℕ) (text : Option NumberedText) → (if is_newer number text then text_message text else []) ≡ newer_text number text
+text_by number None = refl
+text_by number (Some last) = refl
+
+text_is : (last : Option ℕ) (text : Option NumberedText) (us : List Update) → text ≡ last_text us → (if has_newer last text then text_message text else []) ≡ text_at us last
+text_is None text us e = refl
+text_is (Some number) text us e = text_by number text ∙ ap (newer_text number) e
+
+-- Where a text is newer there is one.
+text_of_newer : (number : ℕ) (text : Option NumberedText) → is_newer number text ≡ true → is_some text ≡ true
+text_of_newer number None e = absurd cc
+text_of_newer number (Some last) e = refl
+
+pub text_there : (last : Option ℕ) (text : Option NumberedText) (b : Bool) → b ≡ has_newer last text → b ≡ true → is_some text ≡ true
+text_there None text b e newer = absurd (let never : false ≡ true = sym e ∙ newer in cc)
+text_there (Some number) text b e newer = text_of_newer number text (sym e ∙ newer)
 
 -- ---- the viewer after a cut
 
@@ -79,10 +235,6 @@ hello_bytes s p = if p.greet then said_to_viewer s.w s.h s.name p.said else []
 
 rests_cut : (s : Setup) (us : List Update) (p : Viewer) → p ≡ at_rest p → after_cut s us p ≡ at_rest (after_cut s us p)
 rests_cut s us p e = ap (after_cut s us) e
-
-nothing : (xs : List ℕ) → length xs ≡ 0 → xs ≡ []
-nothing [] e = refl
-nothing (x ∷ xs) e = absurd (omega arith)
 
 drop_at : (xs ys : List ℕ) (n : ℕ) → n ≡ length xs → drop n (xs ++ ys) ≡ ys
 drop_at xs ys n e = ap (λ k. drop k (xs ++ ys)) e ∙ drop-append_seam xs ys
@@ -119,12 +271,18 @@ sent_all st e = eqb-true (length st.unsent) 0 (and_left (length st.unsent == 0) 
 pub greeted_ready : (st : State) → is_ready st ≡ true → is_greeted st ≡ true
 greeted_ready st e = and_left (is_greeted st) (is_none (fault_in st)) (and_right (length st.unsent == 0) (is_greeted st && is_none (fault_in st)) e)
 
-stands_cut : (s : Setup) (st : State) (p : Viewer) (us : List Update) (wanted : Wanted) (have : SentTiles) (bytes : List ℕ) → Stands s st p → is_ready st ≡ true
-    → sent_at s.extent.tells_news s.w s.h p.entries us ≡ bytes → Keeps s.w s.h (record st { asked = wanted; have = have; unsent = bytes }) (record_after_cut s.w s.h p.entries us)
-    → Stands s (record st { asked = wanted; have = have; unsent = bytes }) (after_cut s us p)
-stands_cut s st p us wanted have bytes k ready e keeps =
+-- A hello that is done says no more, whatever waits.
+pub greeting_done : (o : Option Greeting) (out now : Sending) → is_some (whole_of (hello_of o)) ≡ true → IsGreeting o out → IsGreeting o now
+greeting_done None out now done k = tt
+greeting_done (Some g) out now done k =
+    record { short = k.short; said = λ wants. absurd (let open_ : is_some (whole_of (ahead g)) ≡ false = not_yet (ahead g) wants in cc) }
+
+stands_cut : (s : Setup) (st : State) (p : Viewer) (us : List Update) (wanted : Wanted) (have : SentTiles) (cut : cutting.Cut) (piece bytes : List ℕ) → Stands s st p → is_ready st ≡ true
+    → turn.sent_at s.extent.tells_news s.w s.h p.entries us ≡ bytes → Keeps s.w s.h (record st { asked = wanted; have = have; cut = cut; piece = piece; unsent = bytes }) (record_after_cut s.w s.h p.entries us)
+    → Stands s (record st { asked = wanted; have = have; cut = cut; piece = piece; unsent = bytes }) (after_cut s us p)
+stands_cut s st p us wanted have cut piece bytes k ready e keeps =
     let none : length st.unsent ≡ 0 = sent_all st ready in
-    let sent : List ℕ = sent_at s.extent.tells_news s.w s.h p.entries us in
+    let sent : List ℕ = turn.sent_at s.extent.tells_news s.w s.h p.entries us in
     let over : length (drop p.written (out_bytes s p)) ≡ 0 = ap length (sym k.unsent) ∙ none in
     let out : out_bytes s (after_cut s us p) ≡ out_bytes s p ++ sent = sym (append_assoc (hello_bytes s p) p.said_after sent) in
     record {
@@ -141,137 +299,84 @@ stands_cut s st p us wanted have bytes k ready e keeps =
       unsent = sym (ap (drop p.written) out ∙ (drop_said p.written (out_bytes s p) sent k.written over ∙ e));
     }
 
--- Nothing is sent.
-pub stands_quiet : (s : Setup) (st : State) (p : Viewer) (us : List Update) (n : ℕ) (wanted : Wanted) → Stands s st p → is_ready st ≡ true → length us ≡ n
-    → update_at s.w s.h p.entries us ≡ None → ((es : List Event) → AskedStands st.asked es → AskedStands wanted (WasCut n ∷ es)) → Stands s (record st { asked = wanted }) (after_cut s us p)
-stands_quiet s st p us n wanted k none count e asked =
-    let none_is : st.unsent ≡ [] = nothing st.unsent (sent_all st none) in
-    let es : List Event = events s.w s.h p.entries in
-    let quiet : record_after_cut s.w s.h p.entries us ≡ MadeCut n ∷ p.entries = ap (λ u. began_at (length us) u (MadeCut (length us) ∷ p.entries)) e ∙ ap (λ m. MadeCut m ∷ p.entries) count in
-    let kept : Keeps s.w s.h (record st { asked = wanted }) (MadeCut n ∷ p.entries) =
-    record { asked = asked es k.keeps.asked; have = record { each = k.keeps.have.each }; format = k.keeps.format; choice = k.keeps.choice } in
-    let sends : sent_at s.extent.tells_news s.w s.h p.entries us ≡ st.unsent = sends_update s p.entries us k.extent ∙ (ap update_part e ∙ sym none_is) in
-    stands_cut s st p us wanted st.have st.unsent k none sends
-    (subst (λ (t : List Entry). Keeps s.w s.h (record st { asked = wanted }) t) (sym quiet) kept)
+-- ---- the record after it
 
--- An update of the area is sent.
-pub stands_answered : (s : Setup) (st : State) (p : Viewer) (us : List Update) (n : ℕ) (area : Rect) (wanted : Wanted) (have : SentTiles) (bytes : List ℕ) → Stands s st p → is_ready st ≡ true
-    → length us ≡ n → update_at s.w s.h p.entries us ≡ Some (area, bytes)
-    → ((es : List Event) → AskedStands st.asked es → AskedStands wanted (Answered area n ∷ WasCut n ∷ es))
-    → ((es : List Event) → HaveStands st.have es → HaveStands have (Answered area n ∷ es))
-    → Stands s (record st { asked = wanted; have = have; unsent = bytes }) (after_cut s us p)
-stands_answered s st p us n area wanted have bytes k none count e asked has =
-    let es : List Event = events s.w s.h p.entries in
-    let answered : record_after_cut s.w s.h p.entries us ≡ Began area n bytes ∷ MadeCut n ∷ p.entries =
-    ap (λ u. began_at (length us) u (MadeCut (length us) ∷ p.entries)) e ∙ ap (λ m. Began area m bytes ∷ MadeCut m ∷ p.entries) count in
-    let kept : Keeps s.w s.h (record st { asked = wanted; have = have; unsent = bytes }) (Began area n bytes ∷ MadeCut n ∷ p.entries) =
-    record { asked = asked es k.keeps.asked; have = has (WasCut n ∷ es) (record { each = k.keeps.have.each }); format = k.keeps.format; choice = k.keeps.choice } in
-    stands_cut s st p us wanted have bytes k none (sends_update s p.entries us k.extent ∙ ap update_part e)
-    (subst (λ (t : List Entry). Keeps s.w s.h (record st { asked = wanted; have = have; unsent = bytes }) t) (sym answered) kept)
+events_began : (w h n : ℕ) (found : Option (Rect × List ℕ)) (entries : List Entry) → events w h (began_at n found entries) ≡ answered_at n found (events w h entries)
+events_began w h n None entries = refl
+events_began w h n (Some found) entries = refl
 
--- ---- a cut of one tile
+format_began : (n : ℕ) (found : Option (Rect × List ℕ)) (entries : List Entry) → format_of (began_at n found (MadeCut n ∷ entries)) ≡ format_of entries
+format_began n None entries = refl
+format_began n (Some found) entries = refl
 
-some_is : (b c : Bool) → Some b ≡ Some c → b ≡ c
-some_is b c e = cc
+choice_began : (n : ℕ) (found : Option (Rect × List ℕ)) (entries : List Entry) → choice_of (began_at n found (MadeCut n ∷ entries)) ≡ choice_of entries
+choice_began n None entries = refl
+choice_began n (Some found) entries = refl
 
-one_of : (w h v u : ℕ) → IsOneTile w h → v ≡ w → u ≡ h → IsOneTile v u
-one_of w h v u k ev eu = record { wide = (omega (arith, k.wide), omega (arith, k.wide)); high = (omega (arith, k.high), omega (arith, k.high)) }
+keeps_cut : (w h n : ℕ) (st : State) (entries : List Entry) (found : Option (Rect × List ℕ)) (wanted : Wanted) (have : SentTiles) (cut : cutting.Cut) (piece bytes : List ℕ) → Keeps w h st entries
+    → ((es : List Event) → AskedStands st.asked es → AskedStands wanted (answered_at n found (WasCut n ∷ es)))
+    → ((es : List Event) → HaveStands st.have es → HaveStands have (answered_at n found es))
+    → Keeps w h (record st { asked = wanted; have = have; cut = cut; piece = piece; unsent = bytes }) (began_at n found (MadeCut n ∷ entries))
+keeps_cut w h n st entries found wanted have cut piece bytes k asked has =
+    let es : List Event = events w h entries in
+    let now : events w h (began_at n found (MadeCut n ∷ entries)) ≡ answered_at n found (WasCut n ∷ es) = events_began w h n found (MadeCut n ∷ entries) in
+    record {
+      asked = subst (λ l. AskedStands wanted l) (sym now) (asked es k.asked);
+      have = subst (λ l. HaveStands have l) (sym now) (has (WasCut n ∷ es) (record { each = k.have.each }));
+      format = k.format ∙ sym (format_began n found entries);
+      choice = k.choice ∙ sym (choice_began n found entries);
+    }
+
+-- ---- all of it
 
 count_taken : (n : ℕ) (us : List Update) → n ≤ length us → length (take n us) ≡ n
 count_taken n us le = omega (arith, length-take n us)
 
--- What the cut marks of the tile is what the record says of it.
-due_of_cut : (s : Setup) (st : State) (p : Viewer) (known : List Update) (n : ℕ) (area : Rect) (cut : Cut) (b : Bool) → Stands s st p → IsOneTile st.width st.height → st.have.width ≡ st.width → st.have.height ≡ st.height
-    → IsCutOf known n area st.have cut → slice_get cut.due.items 0 ≡ Some b → due_tile_in s.w s.h p.entries (take n known) area 0 ≡ b
-due_of_cut s st p known n area cut b k one ew eh is due =
-    let es : List Event = events s.w s.h p.entries in
-    let by : ℕ → ℕ → Bool = λ w h. due_by w h area es (take n known) 0 in
-    let inside : 0 < tile_count st.have.width st.have.height = omega (arith, one_tile st.have.width st.have.height (one_of st.width st.height st.have.width st.have.height one ew eh)) in
-    let marks : slice_get cut.due.items 0 ≡ Some (by st.have.width st.have.height) = marks_due known n area st.have cut es k.keeps.have is 0 inside in
-    ap (λ w. by w s.h) (sym k.width) ∙ (ap (by st.width) (sym k.height) ∙ (ap (λ w. by w st.height) (sym ew) ∙ (ap (by st.have.width) (sym eh) ∙ sym (some_is b (by st.have.width st.have.height) (sym due ∙ marks)))))
+last_is : (n number : ℕ) (o : Option ℕ) → o ≡ Some n → o ≡ Some number → n ≡ number
+last_is n number o e f = cc
 
--- The colours that the cut shows are those of the screen.
-cut_shows : (st : State) (known : List Update) (n : ℕ) (area : Rect) (cut : Cut) → IsOneTile st.width st.height → st.have.width ≡ st.width → st.have.height ≡ st.height → IsWithin area st.width st.height
-    → IsCutOf known n area st.have cut → slice_get cut.due.items 0 ≡ Some true → raw_update st.format (value_at cut.width cut.colours.items) area ≡ raw_update st.format (screen (take n known)) area
-cut_shows st known n area cut one ew eh on is due =
-    let small : IsOneTile st.have.width st.have.height = one_of st.width st.height st.have.width st.have.height one ew eh in
-    let inside : 0 < tile_count st.have.width st.have.height = omega (arith, one_tile st.have.width st.have.height small) in
-    let is_due : due_in st.have area (take n known) 0 ≡ true = some_is (due_in st.have area (take n known) 0) true (sym (is.due 0 inside) ∙ due) in
-    let head : List ℕ = update_head_bytes 1 ++ rectangle_head_bytes area 0 in
-    ap (λ colours. head ++ row_bytes st.format colours)
-    (colours_same (value_at cut.width cut.colours.items) (screen (take n known)) area
-    (λ x y left right top bottom.
-    let whole : Rect = whole_screen st.have.width st.have.height in
-    let has : Has whole x y = record { left = omega arith; right = omega (arith, on.across, ew); top = omega arith; bottom = omega (arith, on.down, eh) } in
-    let in_tile : holds (tile_rect st.have.width st.have.height 0) x y ≡ true = ap (λ (r : Rect). holds r x y) (tile_is_screen st.have.width st.have.height small) ∙ holds_has whole x y has in
-    is.colours 0 x y inside is_due (holds_has area x y (record { left = left; right = right; top = top; bottom = bottom })) in_tile))
+tells : (s : Setup) (es : List Entry) (us : List Update) → s.extent ≡ all_but_input s.extent.from_host
+    → turn.sent_at s.extent.tells_news s.w s.h es us
+    ≡ bell_at us (last_cut (events s.w s.h es)) ++ (text_at us (last_cut (events s.w s.h es)) ++ update_part (update_at s.w s.h es us))
+tells s es us e =
+    ap (λ (extent : Extent). turn.sent_at extent.tells_news s.w s.h es us) e
+    ∙ append_assoc (bell_at us (last_cut (events s.w s.h es))) (text_at us (last_cut (events s.w s.h es))) (update_part (update_at s.w s.h es us))
 
--- The pending area is answered.
-pub answers_at : (st now : State) (known : List Update) (least n : ℕ) (area : Rect) (cut : Cut) (wanted : Wanted) (have : SentTiles) (bytes : List ℕ) → st ≡ now → is_ready now ≡ true
-    → IsOneTile st.width st.height → st.have.width ≡ st.width → st.have.height ≡ st.height → st.asked.area ≡ Some area → IsWithin area st.width st.height
-    → IsCutOf known n area st.have cut → least ≤ n → slice_get cut.due.items 0 ≡ Some true
-    → ((es : List Event) → AskedStands st.asked es → AskedStands wanted (Answered area n ∷ WasCut n ∷ es))
-    → ((es : List Event) → HaveStands st.have es → HaveStands have (Answered area n ∷ es))
-    → bytes ≡ raw_update st.format (value_at cut.width cut.colours.items) area → CutsAt now (record st { asked = wanted; have = have; unsent = bytes }) known least
-answers_at st now known least n area cut wanted have bytes same none one ew eh pends on is fresh due asked has e =
+-- A cut, and what of it begins to be sent.
+pub turned : (st now : State) (known : List Update) (least most n : ℕ) (cut : cutting.Cut) (nowhere : Rect) (wanted : Wanted) (have : SentTiles) (bell text : Bool) (update piece bytes : List ℕ)
+    → st ≡ now → is_ready now ≡ true → IsCutFor st cut nowhere known n → (least ≤ n) × (n ≤ most)
+    → bell ≡ rings st.asked.last st.cut.bells cut.bells → text ≡ has_newer st.asked.last cut.text → update ≡ update_part (update_in st.format st.choice cut st.asked.area)
+    → wanted.last ≡ Some n
+    → ((es : List Event) → AskedStands st.asked es → AskedStands wanted (answered_at n (update_in st.format st.choice cut st.asked.area) (WasCut n ∷ es)))
+    → ((es : List Event) → HaveStands st.have es → HaveStands have (answered_at n (update_in st.format st.choice cut st.asked.area) es))
+    → bytes ≡ (if bell then bell_bytes else []) ++ ((if text then text_message cut.text else []) ++ update)
+    → CutsAt now (record st { asked = wanted; have = have; cut = cut; piece = piece; unsent = bytes }) known least most
+turned st now known least most n cut nowhere wanted have bell text update piece bytes same ready c fresh rung newer found last asked has e =
+    let us : List Update = take n known in
     record {
       number = n;
-      known = is.known;
-      fresh = fresh;
-      stands = λ s p stands.
-          let k : Stands s st p = subst (λ (t : State). Stands s t p) (sym same) stands in
-          let small : IsOneTile s.w s.h = one_of st.width st.height s.w s.h one (sym k.width) (sym k.height) in
-          let on_screen : IsWithin area s.w s.h = record { across = omega (arith, on.across, k.width); down = omega (arith, on.down, k.height) } in
-          let sends : update_at s.w s.h p.entries (take n known) ≡ Some (area, raw_update (format_of p.entries) (screen (take n known)) area) =
-          update_one s.w s.h p.entries (take n known) area small on_screen (sym k.keeps.asked.area ∙ pends) (due_of_cut s st p known n area cut true k one ew eh is due) k.keeps.choice in
-          let shown : raw_update (format_of p.entries) (screen (take n known)) area ≡ bytes =
-          ap (λ (f : PixelFormat). raw_update f (screen (take n known)) area) (sym k.keeps.format) ∙ (sym (cut_shows st known n area cut one ew eh on is due) ∙ sym e) in
-          stands_answered s st p (take n known) n area wanted have bytes k (ap is_ready same ∙ none) (count_taken n known is.known) (sends ∙ ap (λ bs. Some (area, bs)) shown) asked has;
+      known = c.is.known;
+      fresh = fresh.0;
+      bounded = fresh.1;
+      counted = λ number f. let m : n ≡ number = last_is n number wanted.last last f in (omega (arith, c.is.known, m), c.is.bells ∙ ap (λ k. bells (take k known)) m);
+      stands = λ s p counted stood.
+          let k : Stands s st p = subst (λ (t : State). Stands s t p) (sym same) stood in
+          let known_bells : HasCounted st known = subst (λ (t : State). HasCounted t known) (sym same) counted in
+          let count : length us ≡ n = count_taken n known c.is.known in
+          let update_there : update_in st.format st.choice cut st.asked.area ≡ update_at s.w s.h p.entries us = update_is s st p cut known n nowhere k c in
+          let last_there : st.asked.last ≡ last_cut (events s.w s.h p.entries) = k.keeps.asked.last in
+          let bells_there : (if bell then bell_bytes else []) ≡ bell_at us (last_cut (events s.w s.h p.entries)) =
+          ap (λ b. if b then bell_bytes else []) rung ∙ (bell_is st.asked.last st.cut.bells cut.bells known n c.is.bells known_bells ∙ ap (bell_at us) last_there) in
+          let text_there : (if text then text_message cut.text else []) ≡ text_at us (last_cut (events s.w s.h p.entries)) =
+          ap (λ b. if b then text_message cut.text else []) newer ∙ (text_is st.asked.last cut.text us c.is.text ∙ ap (text_at us) last_there) in
+          let bytes_there : bytes ≡ turn.sent_at s.extent.tells_news s.w s.h p.entries us =
+          e
+          ∙ (ap (λ t. t ++ ((if text then text_message cut.text else []) ++ update)) bells_there
+          ∙ (ap (λ t. bell_at us (last_cut (events s.w s.h p.entries)) ++ (t ++ update)) text_there
+          ∙ (ap (λ t. bell_at us (last_cut (events s.w s.h p.entries)) ++ (text_at us (last_cut (events s.w s.h p.entries)) ++ t)) (found ∙ ap update_part update_there) ∙ sym (tells s p.entries us k.extent)))) in
+          let kept : Keeps s.w s.h (record st { asked = wanted; have = have; cut = cut; piece = piece; unsent = bytes }) (began_at n (update_in st.format st.choice cut st.asked.area) (MadeCut n ∷ p.entries)) =
+          keeps_cut s.w s.h n st p.entries (update_in st.format st.choice cut st.asked.area) wanted have cut piece bytes k.keeps asked has in
+          let record_is : began_at n (update_in st.format st.choice cut st.asked.area) (MadeCut n ∷ p.entries) ≡ record_after_cut s.w s.h p.entries us =
+          ap (λ u. began_at n u (MadeCut n ∷ p.entries)) update_there ∙ ap (λ m. began_at m (update_at s.w s.h p.entries us) (MadeCut m ∷ p.entries)) (sym count) in
+          stands_cut s st p us wanted have cut piece bytes k (ap is_ready same ∙ ready) (sym bytes_there) (subst (λ (l : List Entry). Keeps s.w s.h (record st { asked = wanted; have = have; cut = cut; piece = piece; unsent = bytes }) l) record_is kept);
     }
-
--- The tile isn't due.
-pub quiet_at : (st now : State) (known : List Update) (least n : ℕ) (area : Rect) (cut : Cut) (wanted : Wanted) → st ≡ now → is_ready now ≡ true
-    → IsOneTile st.width st.height → st.have.width ≡ st.width → st.have.height ≡ st.height → st.asked.area ≡ Some area → IsCutOf known n area st.have cut → least ≤ n → slice_get cut.due.items 0 ≡ Some false
-    → ((es : List Event) → AskedStands st.asked es → AskedStands wanted (WasCut n ∷ es)) → CutsAt now (record st { asked = wanted }) known least
-quiet_at st now known least n area cut wanted same none one ew eh pends is fresh due asked =
-    record {
-      number = n;
-      known = is.known;
-      fresh = fresh;
-      stands = λ s p stands.
-          let k : Stands s st p = subst (λ (t : State). Stands s t p) (sym same) stands in
-          let small : IsOneTile s.w s.h = one_of st.width st.height s.w s.h one (sym k.width) (sym k.height) in
-          stands_quiet s st p (take n known) n wanted k (ap is_ready same ∙ none) (count_taken n known is.known)
-          (update_none s.w s.h p.entries (take n known) area small (sym k.keeps.asked.area ∙ pends) (due_of_cut s st p known n area cut false k one ew eh is due)) asked;
-    }
-
--- Nothing is pending.
-pub unasked_at : (st now : State) (known : List Update) (least n : ℕ) (wanted : Wanted) → st ≡ now → is_ready now ≡ true → st.asked.area ≡ None → n ≤ length known → least ≤ n
-    → ((es : List Event) → AskedStands st.asked es → AskedStands wanted (WasCut n ∷ es)) → CutsAt now (record st { asked = wanted }) known least
-unasked_at st now known least n wanted same none pends le fresh asked =
-    record {
-      number = n;
-      known = le;
-      fresh = fresh;
-      stands = λ s p stands.
-          let k : Stands s st p = subst (λ (t : State). Stands s t p) (sym same) stands in
-          stands_quiet s st p (take n known) n wanted k (ap is_ready same ∙ none) (count_taken n known le)
-          (ap (update_for s.w s.h p.entries (take n known)) (sym k.keeps.asked.area ∙ pends)) asked;
-    }
-
--- ---- what the code has at hand
-
--- A pending area is what the source is cut for, and lies on the screen.
-pub cut_for : (us : List Update) (n : ℕ) (o : Option Rect) (r area nowhere : Rect) (have : SentTiles) (cut : Cut) → r ≡ unwrap_or o nowhere → o ≡ Some area → IsCutOf us n r have cut → IsCutOf us n area have cut
-cut_for us n o r area nowhere have cut e f is = subst (λ (t : Rect). IsCutOf us n t have cut) (e ∙ ap (λ (t : Option Rect). unwrap_or t nowhere) f) is
-
-pub lies_on : (area : Rect) (w h v u : ℕ) → v ≡ w → u ≡ h → IsWithin area v u → IsWithin area w h
-lies_on area w h v u ev eu on = record { across = omega (arith, on.across); down = omega (arith, on.down) }
-
--- The mark of the tile, as it was read.
-pub tile_marked : (us : List Update) (n : ℕ) (area : Rect) (have : SentTiles) (cut : Cut) (w h : ℕ) (read b : Bool) → IsCutOf us n area have cut → IsOneTile w h → have.width ≡ w → have.height ≡ h
-    → read ≡ get_or cut.due.items 0 read → read ≡ b → slice_get cut.due.items 0 ≡ Some b
-tile_marked us n area have cut w h read b is one ew eh e f =
-    let inside : 0 < tile_count have.width have.height = omega (arith, one_tile have.width have.height (one_of w h have.width have.height one ew eh)) in
-    let mark : Bool = due_in have area (take n us) 0 in
-    is.due 0 inside ∙ ap Some (sym (get_or_from_slice_get cut.due.items 0 mark read (is.due 0 inside)) ∙ (sym e ∙ f))

@@ -1,13 +1,13 @@
 -- What a session keeps, and which viewers it stands for.
-use Rattle.std.specs.Prelude.{◌≡◌, ℕ, ◌+◌, ◌*◌, ◌≤◌, Bool, true, false, max, ◌&&◌, ◌||◌, ◌==◌, nat_lt, if◌then◌else◌, is_some, is_none, unwrap_or, List, [], ◌∷◌, length, drop, take, Option, Some, None, Result, Ok, Err}
+use Rattle.std.specs.Prelude.{◌≡◌, ℕ, ◌+◌, ◌≤◌, Bool, true, false, max, ◌&&◌, ◌||◌, ◌==◌, nat_lt, if◌then◌else◌, is_some, is_none, unwrap_or, List, [], ◌∷◌, length, drop, take, Option, Some, None, Result, Ok, Err}
 use Rattle.pixel_format.specs.declared.fault.Fault.{Fault}
 use Rattle.pixel_format.specs.PixelFormat.{PixelFormat}
 use Rattle.pixel_format.specs.Reading.{Reading, Done, whole_of, fault_of, wants_more, GivesWhole}
-use Rattle.raster.specs.declared.encoding.Encoding.TheVariants.{Raw}
-use Rattle.raster.specs.Update.{Update}
+use Rattle.raster.specs.Size.{IsScreenSize}
+use Rattle.raster.specs.Update.{Update, bells}
 use Rattle.rfb_wire.specs.declared.client_reader.ClientReader.{ClientReader}
 use Rattle.rfb_wire.specs.ClientReader.{ahead}
-use Rattle.rfb_wire.specs.ClientMessage.{ClientMessage}
+use Rattle.rfb_wire.specs.ClientMessage.{ClientMessage, Choice}
 use Rattle.rfb_wire.specs.Greeting as handshake
 use Rattle.rfb_wire.specs.Greeting.{Greeting}
 use Rattle.rfb_wire.specs.Handshake.{said_to_viewer}
@@ -16,14 +16,14 @@ use Rattle.roles.specs.declared.role.Role.{Role}
 use Rattle.tiles.specs.Have.{SentTiles, HaveStands}
 use Rattle.reflect_core.specs.Asked.{Wanted, AskedStands}
 use Rattle.reflect_core.specs.declared.cut.Cut.{Cut}
-use Rattle.viewer_session.specs.FirstPath.{first_path}
-use Rattle.viewer_session.specs.RawUpdate.{Waiting}
+use Rattle.viewer_session.specs.AllButInput.{all_but_input}
+use Rattle.viewer_session.specs.Outgoing.{Sending}
 use Rattle.viewer_session.specs.Record.{Entry, Took, Saw, events, format_of, choice_of}
 use Rattle.viewer_session.specs.Viewer as viewer
 use Rattle.viewer_session.specs.Viewer.{Setup, Viewer, served, out_bytes, new_viewer, after_bytes, after_cut}
 
--- The size of the screen, the viewer's role, its hello where it has one, what has come of its next message, the pixel format that holds, what it has asked for, what it has of each
--- tile, and the bytes for it that aren't sent yet.
+-- The size of the screen, the viewer's role, its hello where it has one, what has come of its next message, the pixel format and the choice of encodings that hold, what
+-- it has asked for, what it has of each tile, the last cut, the piece that is sent next, and all bytes for it that aren't sent yet.
 pub record State : Type 0 where
   pub width : ℕ
   pub height : ℕ
@@ -31,14 +31,12 @@ pub record State : Type 0 where
   pub greeting : Option Greeting
   pub reader : ClientReader
   pub format : PixelFormat
+  pub choice : Choice
   pub asked : Wanted
   pub have : SentTiles
+  pub cut : Cut
+  pub piece : List ℕ
   pub unsent : List ℕ
-
--- A screen that is one tile.
-pub record IsOneTile (w h : ℕ) : Type 0 where
-  pub wide : (1 ≤ w) × (w ≤ 16)
-  pub high : (1 ≤ h) × (h ≤ 16)
 
 -- How the hello goes on. A session that begins after it has none, and takes it as done.
 abbrev pub hello_of : Option Greeting → Reading (Unit {0})
@@ -46,31 +44,30 @@ hello_of None = Done tt
 hello_of (Some greeting) = handshake.ahead greeting
 
 -- While more of a hello is to come, all that is to be said by now was put out, and nothing else.
-pub record IsSaid (greeting : Greeting) (out : Waiting) : Type 0 where
+pub record IsSaid (greeting : Greeting) (out : Sending) : Type 0 where
   pub said : greeting.sent ≡ length (said_to_viewer greeting.w greeting.h greeting.name (length greeting.begun))
   pub filled : out.filled ≤ greeting.sent
+  pub alone : out.unsent ≡ out.piece
 
--- There is room for the longest hello.
-pub record HasRoom (greeting : Greeting) (out : Waiting) : Type 0 where
+-- A hello is short, and is said as it goes on.
+pub record IsSpoken (greeting : Greeting) (out : Sending) : Type 0 where
   pub short : length greeting.name ≤ 255
-  pub room : 297 ≤ out.room
   pub said : wants_more (handshake.ahead greeting) ≡ true → IsSaid greeting out
 
 -- That, where there is a hello.
-abbrev pub IsGreeting : Option Greeting → Waiting → Type 0
+abbrev pub IsGreeting : Option Greeting → Sending → Type 0
 IsGreeting None out = Unit {0}
-IsGreeting (Some greeting) out = HasRoom greeting out
+IsGreeting (Some greeting) out = IsSpoken greeting out
 
 -- All parts of a session are of the screen's size, no whole message waits in its reader, which no byte reaches before the hello is done, and
--- there is room for hello and answers.
-pub record IsSound (w h : ℕ) (greeting : Option Greeting) (reader : ClientReader) (asked : Wanted) (have : SentTiles) (cut : Cut) (out : Waiting) : Type 0 where
-  pub one : IsOneTile w h
+-- the hello is said as it goes on.
+pub record IsSound (w h : ℕ) (greeting : Option Greeting) (reader : ClientReader) (asked : Wanted) (have : SentTiles) (out : Sending) : Type 0 where
+  pub size : IsScreenSize w h
   pub taken : whole_of (ahead reader) ≡ None
   pub fresh : is_some (whole_of (hello_of greeting)) ≡ false → fault_of (ahead reader) ≡ None
   pub asked_size : (asked.width ≡ w) × (asked.height ≡ h)
   pub have_size : (have.width ≡ w) × (have.height ≡ h)
-  pub cut_size : (cut.width ≡ w) × (cut.height ≡ h)
-  pub room : 16 + 4 * (w * h) ≤ out.room
+  pub cut_size : (out.cut.width ≡ w) × (out.cut.height ≡ h)
   pub greets : IsGreeting greeting out
 
 -- The fault of the hello, if there is one.
@@ -113,13 +110,13 @@ pub record Keeps (w h : ℕ) (st : State) (entries : List Entry) : Type 0 where
   pub asked : AskedStands st.asked (events w h entries)
   pub have : HaveStands st.have (events w h entries)
   pub format : st.format ≡ format_of entries
-  pub choice : choice_of entries ≡ record { kind = Raw; copy = false }
+  pub choice : st.choice ≡ choice_of entries
 
--- The state stands for a viewer of a build of the first path.
+-- The state stands for a viewer of a build that relays no input.
 pub record Stands (s : Setup) (st : State) (p : Viewer) : Type 0 where
   pub width : st.width ≡ s.w
   pub height : st.height ≡ s.h
-  pub extent : s.extent ≡ first_path s.extent.from_host
+  pub extent : s.extent ≡ all_but_input s.extent.from_host
   pub role : p.role ≡ st.role
   pub rests : p ≡ at_rest p
   pub greets : Greets s st.greeting p.greet p.hello p.said p.said_after
@@ -133,15 +130,23 @@ pub record Stands (s : Setup) (st : State) (p : Viewer) : Type 0 where
 -- ---- what the calls do
 
 -- Before any byte of a viewer: what was said so far waits to be sent, and is all that the viewer is sent by then.
-pub record IsBegun (s : Setup) (role : Role) (greet : Bool) (greeting : Option Greeting) (out : Waiting) : Type 0 where
+pub record IsBegun (s : Setup) (role : Role) (greet : Bool) (greeting : Option Greeting) (out : Sending) : Type 0 where
   pub greets : Greets s greeting greet (new_viewer s role greet).hello 0 []
   pub unsent : out.unsent ≡ out_bytes s (new_viewer s role greet)
 
 -- The size of the screen and the role stay.
+pub record IsSameViewer (before now : State) : Type 0 where
+  pub width : now.width ≡ before.width
+  pub height : now.height ≡ before.height
+  pub role : now.role ≡ before.role
+
+-- And so does the last cut.
 pub record IsSameSession (before now : State) : Type 0 where
   pub width : now.width ≡ before.width
   pub height : now.height ≡ before.height
   pub role : now.role ≡ before.role
+  pub cut : now.cut ≡ before.cut
+  pub last : now.asked.last ≡ before.asked.last
 
 -- The answer of a feed: all of the piece was used, or there is a fault, in this piece or before.
 abbrev pub FedAnswer : State → List ℕ → Result ℕ Fault → Type 0
@@ -196,17 +201,37 @@ after_writing n p = record p { written = p.written + n }
 abbrev pub wants_cut : Wanted → ℕ → Bool
 wants_cut wanted looked = nat_lt (unwrap_or wanted.last 0) looked || (is_some wanted.area && wanted.asked)
 
--- It was cut: at a number that is at least this, of the updates that the source knows. The new state stands for the viewers that the cut makes of those of
--- the old.
-pub record CutsAt (old new : State) (us : List Update) (least : ℕ) : Type 0 where
+-- The Bells at the last cut, if there was one, are those of the first of these updates.
+abbrev pub HasCounted : State → List Update → Type 0
+HasCounted st us = (number : ℕ) → st.asked.last ≡ Some number → (number ≤ length us) × (st.cut.bells ≡ bells (take number us))
+
+-- It was cut: at a number that is at least the one and at most the other of these, of the updates that the source knows. The new state stands for the viewers that
+-- the cut makes of those of the old, where the cut before it was one of this source.
+pub record CutsAt (old new : State) (us : List Update) (least most : ℕ) : Type 0 where
   pub number : ℕ
   pub known : number ≤ length us
   pub fresh : least ≤ number
-  pub stands : (s : Setup) (p : Viewer) → Stands s old p → Stands s new (after_cut s (take number us) p)
+  pub bounded : number ≤ most
+  pub counted : HasCounted new us
+  pub stands : (s : Setup) (p : Viewer) → HasCounted old us → Stands s old p → Stands s new (after_cut s (take number us) p)
 
--- It was looked at, with a reply that is known, and then cut where there is reason, at a number that is at least the reply.
-pub record Turns (old new : State) (us : List Update) (least : ℕ) : Type 0 where
+-- The source was looked at, with a reply that is known and is the source's own (looks), and then cut where there is reason, at a number that is at least the
+-- reply. Behind the look nothing but a cut has moved the source. Reply and number are at most what the source has answered by now.
+pub record Turns {S : Type 0} (looks : S → ℕ → S → Type 0) (moves : S → S → Type 0) (before after : S) (old new : State) (us : List Update) (least most : ℕ) : Type 0 where
   pub looked : ℕ
+  pub behind : S
+  pub replied : looks before looked behind
+  pub moved : moves behind after
   pub seen : looked ≤ length us
+  pub rises : least ≤ most
+  pub bounded : looked ≤ most
   pub idle : wants_cut old.asked looked ≡ false → new ≡ old
-  pub cuts : wants_cut old.asked looked ≡ true → CutsAt old new us (max least looked)
+  pub cuts : wants_cut old.asked looked ≡ true → CutsAt old new us (max least looked) most
+
+-- The source was looked at, with a reply of its own (looks), and its cut was refused: it knows and has answered what it had behind the look.
+pub record HasOnlyLooked {S : Type 0} (looks : S → ℕ → S → Type 0) (known : S → List Update) (answered : S → ℕ) (before after : S) : Type 0 where
+  pub looked : ℕ
+  pub behind : S
+  pub replied : looks before looked behind
+  pub knows : known after ≡ known behind
+  pub has_answered : answered after ≡ answered behind

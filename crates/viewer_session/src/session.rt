@@ -1,38 +1,35 @@
 //! One viewer's session: how it begins, and what it shows.
 
-ghost use Rattle.std.specs.Prelude.{◌≡◌, ◌+◌, ◌*◌, ◌≤◌, ◌↔◌, Bool, IsTrue, ◌++◌, true, false, [], drop, length, IfOk, IfErr, None};
+ghost use Rattle.std.specs.Prelude.{◌≡◌, ◌+◌, ◌≤◌, ◌↔◌, Bool, IsTrue, ◌++◌, true, false, [], drop, length, IfOk, IfErr, None};
 ghost use Rattle.pixel_format.specs.declared.fault.Fault.TheVariants.{Memory};
 ghost use Rattle.pixel_format.specs.Reading.{fault_of};
+ghost use Rattle.raster.specs.Size.{IsScreenSize};
 ghost use Rattle.rfb_wire.specs.ClientReader.{ahead};
 ghost use Rattle.rfb_wire.specs.Greeting.{to_send};
-ghost use Rattle.viewer_session.specs.FirstPath.{first_path};
-ghost use Rattle.viewer_session.specs.Session.{State, Stands, IsOneTile, IsBegun, IsBetween, IsGreeting, fault_in, hello_fault, is_greeted, is_ready, after_writing};
+ghost use Rattle.reflect_core.specs.Sequential.{Begins};
+ghost use Rattle.viewer_session.specs.AllButInput.{all_but_input};
+ghost use Rattle.viewer_session.specs.Outgoing.{longest_piece};
+ghost use Rattle.viewer_session.specs.Session.{State, Stands, IsBegun, IsBetween, IsGreeting, IsSameSession, fault_in, hello_fault, is_greeted, is_ready, after_writing};
 ghost use Rattle.viewer_session.specs.Viewer.{Setup, Viewer, new_viewer, may_look};
 
 mod reading;
 mod turning;
 
-use crate::outbox::Outbox;
-use crate::raw_update::{RECTANGLE_HEAD, UPDATE_HEAD};
+use crate::outgoing::Outgoing;
 use pixel_format::{Fault, Format};
-use reflect_core::{Asked, Cut};
-use rfb_wire::{ClientReader, ViewerHello};
+use raster::Encoding;
+use reflect_core::Asked;
+use rfb_wire::{Choice, ClientReader, ViewerHello};
 use roles::Role;
 use std::alloc::Global;
 use std::marker::Model;
 use tiles::Have;
 
-/// What is said in a hello before the name, in bytes: the version, the security types, the SecurityResult, and ServerInit up to its name (RFC 6143, 7.1 to 7.3).
-const BEFORE_NAME: usize = 12 + 2 + 4 + 24;
-
-/// The most bytes of a name.
-const LONGEST_NAME: usize = 255;
-
-/// How many bytes a pixel of the widest format has (RFC 6143, 7.4).
-const WIDEST_PIXEL: usize = 4;
-
-/// A viewer's hello and messages are read, and answered from a source of screens (RFC 6143, 7.1 to 7.6), over a screen of at most 16 by 16 pixels: one tile.
-/// All answers are Raw, and input is read and dropped.
+/// A viewer's hello and messages are read, and answered from a source of screens (RFC 6143, 7.1 to 7.6). Input is read and dropped.
+///
+/// What is sent waits in pieces: `out` is the bytes of a hello, a Bell, a text, the head of an update or one rectangle, and once `sent` has
+/// emptied it the next takes its place. An answer keeps the format and the choice that stood at its cut, and what is forgotten while
+/// pieces are unsent stays forgotten: what the viewer has of each tile changes at the cut.
 #[derive(Drop)]
 pub struct Session {
     width: u64,
@@ -41,13 +38,14 @@ pub struct Session {
     hello: Option<ViewerHello>,
     reader: ClientReader,
     format: Format,
+    choice: Choice,
     asked: Asked,
     have: Have,
-    cut: Cut,
-    out: Outbox,
+    out: Outgoing,
 }
 
 impl Model for Session {
+    ghost use Rattle.rfb_wire.specs.Message.{choice_in};
     ghost use Rattle.viewer_session.specs.Session.{State, IsSound};
 
     ghost Value = { State };
@@ -59,39 +57,44 @@ impl Model for Session {
       greeting = s.hello;
       reader = s.reader;
       format = s.format;
+      choice = choice_in s.choice;
       asked = s.asked;
       have = s.have;
+      cut = s.out.cut;
+      piece = s.out.piece;
       unsent = s.out.unsent;
     } };
 
-    ghost invariant = { λ s. IsSound s.width s.height s.hello s.reader s.asked s.have s.cut s.out };
+    ghost invariant = { λ s. IsSound s.width s.height s.hello s.reader s.asked s.have s.out };
 }
 
 impl Session {
     /// A session of a viewer that begins with its hello, over a screen of `w` by `h` pixels with a name of 1 to 255 bytes. All the room
-    /// that hello and answers need is taken here. It fails where memory is refused (`Memory`).
+    /// that it needs is taken here. It fails where memory is refused (`Memory`).
     pub fn open(alloc: Global, w: u64, h: u64, name: &[u8], role: Role) -> Result<Self, Fault>
-        requires size { IsOneTile w h }
+        requires size { IsScreenSize w h }
         requires name { (1 ≤ length name.now) × (length name.now ≤ 255) }
         ensures size { IfOk result (λ session. (session.width ≡ w) × (session.height ≡ h)) }
-        ensures stands { IfOk result (λ session. (s : Setup) → s.w ≡ w → s.h ≡ h → s.name ≡ name.now → s.extent ≡ first_path s.extent.from_host → Stands s session (new_viewer s role true)) }
+        ensures uncut { IfOk result (λ session. session.asked.last ≡ None) }
+        ensures stands { IfOk result (λ session. (s : Setup) → s.w ≡ w → s.h ≡ h → s.name ≡ name.now → s.extent ≡ all_but_input s.extent.from_host → Stands s session (new_viewer s role true)) }
         ensures err { IfErr result (λ fault. fault ≡ Memory) }
     {
-        let mut out = room_for(alloc, w, h)?;
+        let mut out = Outgoing::new(alloc, w, h)?;
         let mut hello = ViewerHello::new(w, h, name);
         say(&mut hello, &mut out);
         Session::begun(alloc, w, h, role, Some(hello), out)
     }
 
-    /// A session of a viewer whose handshake is done, over a screen of `w` by `h` pixels. All the room that answers need is taken here.
+    /// A session of a viewer whose handshake is done, over a screen of `w` by `h` pixels. All the room that it needs is taken here.
     /// It fails where memory is refused (`Memory`).
     pub fn ready(alloc: Global, w: u64, h: u64, role: Role) -> Result<Self, Fault>
-        requires { IsOneTile w h }
+        requires { IsScreenSize w h }
         ensures size { IfOk result (λ session. (session.width ≡ w) × (session.height ≡ h)) }
-        ensures stands { IfOk result (λ session. (s : Setup) → s.w ≡ w → s.h ≡ h → s.extent ≡ first_path s.extent.from_host → Stands s session (new_viewer s role false)) }
+        ensures uncut { IfOk result (λ session. session.asked.last ≡ None) }
+        ensures stands { IfOk result (λ session. (s : Setup) → s.w ≡ w → s.h ≡ h → s.extent ≡ all_but_input s.extent.from_host → Stands s session (new_viewer s role false)) }
         ensures err { IfErr result (λ fault. fault ≡ Memory) }
     {
-        let out = room_for(alloc, w, h)?;
+        let out = Outgoing::new(alloc, w, h)?;
         Session::begun(alloc, w, h, role, None, out)
     }
 
@@ -102,17 +105,17 @@ impl Session {
         h: u64,
         role: Role,
         hello: Option<ViewerHello>,
-        out: Outbox,
+        out: Outgoing,
     ) -> Result<Self, Fault>
-        requires size { IsOneTile w h }
-        requires room { 16 + 4 * (w * h) ≤ out.room }
+        requires size { IsScreenSize w h }
+        requires cut { (out.cut.width ≡ w) × (out.cut.height ≡ h) }
         requires greets { IsGreeting hello out }
         ensures size { IfOk result (λ session. (session.width ≡ w) × (session.height ≡ h)) }
-        ensures stands { IfOk result (λ session. (s : Setup) (greet : Bool) → s.w ≡ w → s.h ≡ h → s.extent ≡ first_path s.extent.from_host → IsBegun s role greet hello out → Stands s session (new_viewer s role greet)) }
+        ensures uncut { IfOk result (λ session. session.asked.last ≡ None) }
+        ensures stands { IfOk result (λ session. (s : Setup) (greet : Bool) → s.w ≡ w → s.h ≡ h → s.extent ≡ all_but_input s.extent.from_host → IsBegun s role greet hello out → Stands s session (new_viewer s role greet)) }
         ensures err { IfErr result (λ fault. fault ≡ Memory) }
     {
         let have = Have::new(alloc, w, h)?;
-        let cut = Cut::new(alloc, w, h)?;
         Ok(Session {
             width: w,
             height: h,
@@ -120,24 +123,31 @@ impl Session {
             hello,
             reader: ClientReader::new(alloc),
             format: Format::HOST,
+            choice: Choice {
+                kind: Encoding::Raw,
+                copy: false,
+            },
             asked: Asked::new(w, h),
             have,
-            cut,
             out,
         })
     }
 
-    /// The bytes that aren't sent yet.
+    /// The piece that is sent next: the first of the bytes that aren't sent yet, and empty exactly where there are none.
     pub fn out(&self) -> &[u8]
-        ensures { result.now ≡ self.now.unsent }
+        ensures value { result.now ≡ self.now.piece }
+        ensures begins { Begins result.now self.now.unsent }
+        ensures empty { (length result.now ≡ 0) ↔ (self.now.unsent ≡ []) }
+        ensures short { length result.now ≤ longest_piece self.now.width }
     {
-        self.out.unsent()
+        self.out.piece()
     }
 
-    /// So many of these bytes, from the first on, were sent.
+    /// So many bytes of the piece, from the first on, were sent. Once it is empty the next takes its place.
     pub fn sent(&mut self, n: usize)
-        requires { n ≤ length self.old.unsent }
-        ensures unsent { self.new ≡ record self.old { unsent = drop n self.old.unsent } }
+        requires { n ≤ length self.old.piece }
+        ensures same { IsSameSession self.old self.new }
+        ensures unsent { self.new ≡ record self.old { piece = self.new.piece; unsent = drop n self.old.unsent } }
         ensures stands { (s : Setup) (p : Viewer) → Stands s self.old p → Stands s self.new (after_writing n p) }
     {
         self.out.sent(n);
@@ -179,7 +189,7 @@ impl Session {
         ensures value { result ≡ is_ready self.now }
         ensures stands { (s : Setup) (p : Viewer) → Stands s self.now p → result ≡ may_look s p }
     {
-        self.out.unsent().is_empty() && self.is_greeted() && self.reader.fault().is_none()
+        self.out.piece().is_empty() && self.is_greeted() && self.reader.fault().is_none()
     }
 
     /// Whether the viewer stands between two messages: its hello is done, there is no fault, and no byte was used since the hello's end or
@@ -191,24 +201,15 @@ impl Session {
     }
 }
 
-// Room for the bytes of a hello, or of an update of a screen of this size.
-fn room_for(alloc: Global, w: u64, h: u64) -> Result<Outbox, Fault>
-    requires { IsOneTile w h }
-    ensures room { IfOk result (λ out. (16 + 4 * (w * h) ≤ out.room) × (297 ≤ out.room)) }
-    ensures empty { IfOk result (λ out. (out.filled ≡ 0) × (out.unsent ≡ [])) }
-    ensures err { IfErr result (λ fault. fault ≡ Memory) }
-{
-    let longest_update = UPDATE_HEAD + RECTANGLE_HEAD + WIDEST_PIXEL * (w * h) as usize;
-    Outbox::new(alloc, longest_update.max(BEFORE_NAME + LONGEST_NAME))
-}
-
 // What is to be said in a hello by now waits to be sent.
-fn say(hello: &mut ViewerHello, out: &mut Outbox)
-    requires { out.old.filled + length (to_send hello.old) ≤ out.old.room }
+fn say(hello: &mut ViewerHello, out: &mut Outgoing)
+    requires room { out.old.filled + length (to_send hello.old) ≤ 65544 }
+    requires alone { out.old.unsent ≡ out.old.piece }
     ensures hello { hello.new ≡ record hello.old { sent = hello.old.sent + length (to_send hello.old) } }
-    ensures room { out.new.room ≡ out.old.room }
+    ensures cut { out.new.cut ≡ out.old.cut }
     ensures filled { out.new.filled ≡ out.old.filled + length (to_send hello.old) }
     ensures unsent { out.new.unsent ≡ out.old.unsent ++ to_send hello.old }
+    ensures alone { out.new.unsent ≡ out.new.piece }
 {
     let said = hello.out();
     let count = said.len();

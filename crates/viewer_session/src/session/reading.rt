@@ -3,15 +3,15 @@
 ghost use Rattle.std.specs.Prelude.{◌≡◌, ◌<◌, ◌≤◌, true, length, IfOk, IfErr, OnOk, Err, None, Some, option_map};
 ghost use Rattle.pixel_format.specs.Reading.{wants_more, fault_of};
 ghost use Rattle.rfb_wire.specs.ClientReader.{ahead};
-ghost use Rattle.rfb_wire.specs.ClientMessage.{Ask, SetPixelFormat};
-ghost use Rattle.rfb_wire.specs.Message.{message_of, FeedsOrLoses};
+ghost use Rattle.rfb_wire.specs.ClientMessage.{Ask, SetPixelFormat, SetEncodings};
+ghost use Rattle.rfb_wire.specs.Message.{choice_in, message_of, FeedsOrLoses};
 ghost use Rattle.viewer_session.specs.Session.{Stands, IsSameSession, FedAnswer, ReadsHello, ReadsOne, hello_fault, hello_of, is_greeted, without_look, after_taking};
 ghost use Rattle.viewer_session.specs.Viewer.{Setup, Viewer, after_byte, after_bytes};
 
 use super::{Session, say};
 use pixel_format::{Fault, Format};
 use raster::Rect;
-use rfb_wire::ClientMessage;
+use rfb_wire::{Choice, ClientMessage};
 
 impl Session {
     // Whether another byte of the hello is to come.
@@ -77,7 +77,16 @@ impl Session {
         self.have.forget_all();
     }
 
-    // A message is taken. Every answer is Raw whatever encodings are listed, and no input is relayed.
+    // A list of encodings is taken: the choice that it comes to holds for each answer from now on.
+    fn set_choice(&mut self, choice: Choice)
+        ensures same { IsSameSession self.old self.new }
+        ensures reader { (self.new.reader ≡ self.old.reader) × (self.new.greeting ≡ self.old.greeting) }
+        ensures stands { (s : Setup) (p : Viewer) → Stands s self.old p → Stands s self.new (after_taking s (SetEncodings (choice_in choice)) p) }
+    {
+        self.choice = choice;
+    }
+
+    // A message is taken. No input is relayed.
     fn take_message(&mut self, message: ClientMessage)
         ensures same { IsSameSession self.old self.new }
         ensures reader { (self.new.reader ≡ self.old.reader) × (self.new.greeting ≡ self.old.greeting) }
@@ -86,8 +95,8 @@ impl Session {
         match message {
             ClientMessage::Format(format) => self.set_format(format),
             ClientMessage::Ask { incremental, rect } => self.ask(incremental, &rect),
-            ClientMessage::Encodings(_)
-            | ClientMessage::Key { .. }
+            ClientMessage::Encodings(choice) => self.set_choice(choice),
+            ClientMessage::Key { .. }
             | ClientMessage::Pointer { .. }
             | ClientMessage::Cut(_)
             | ClientMessage::CutLost(_) => {}

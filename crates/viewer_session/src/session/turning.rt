@@ -1,14 +1,22 @@
-//! Turns: looks, cuts, and the answers that they begin.
+//! Turns: looks, cuts, and what they begin to send.
 
-ghost use Rattle.std.specs.Prelude.{◌≡◌, ◌<◌, not, ◌==◌, true, false, length, get_or, IfOk, IfErr, Ok};
+ghost use Rattle.std.specs.Prelude.{◌≡◌, ◌<◌, not, ◌==◌, true, false, is_some, List, ◌∷◌, length, IfOk, IfErr, IfSome, Ok};
 ghost use Rattle.pixel_format.specs.declared.fault.Fault.TheVariants.{Gone};
+ghost use Rattle.reflect_core.specs.Asked.{AskedStands, LiesOn};
 ghost use Rattle.reflect_core.specs.Sequential.{Begins};
-ghost use Rattle.viewer_session.specs.Session.{IsSameSession, is_ready, wants_cut, CutsAt, Turns};
+ghost use Rattle.tiles.specs.Have.{HaveStands};
+ghost use Rattle.tiles.specs.Touched.{Event, WasCut};
+ghost use Rattle.update_encoder.specs.Coming.{AnswerStands};
+ghost use Rattle.viewer_session.specs.Found.{answered_at, has_newer, rings, update_in};
+ghost use Rattle.viewer_session.specs.Outgoing.{answer_coming};
+ghost use Rattle.viewer_session.specs.Session.{HasOnlyLooked, IsSameViewer, is_ready, wants_cut, CutsAt, Turns};
+ghost use Rattle.viewer_session.specs.Turn.{update_part};
 
 use super::Session;
 use pixel_format::Fault;
 use raster::Rect;
 use reflect_core::{Cut, ScreenSource};
+use update_encoder::Answer;
 
 // A rectangle with no position.
 const NOWHERE: Rect = Rect {
@@ -17,6 +25,15 @@ const NOWHERE: Rect = Rect {
     w: 0,
     h: 0,
 };
+
+// What a cut has that is news to a viewer.
+#[derive(Clone, Copy)]
+struct News {
+    // Bells have become more.
+    bell: bool,
+    // The text is newer.
+    text: bool,
+}
 
 impl Session {
     // Whether there is reason to cut after a look that replied this number.
@@ -27,51 +44,70 @@ impl Session {
             || (self.asked.area().is_some() && self.asked.asked())
     }
 
-    /// The second half of a turn, after a look that replied `looked`: where there is reason the source is cut, and an update of the pending area is begun if a
-    /// tile of it is due. It answers whether one was begun.
+    // The answer to a pending area at the cut, where a tile of it is due. Then the area is no longer pending, and each tile that lies
+    // wholly inside it counts as sent.
+    fn answer(&mut self, area: Option<Rect>, number: u64) -> Option<Answer>
+        requires { LiesOn self.old.cut.width self.old.cut.height area }
+        ensures others { self.new ≡ record self.old { asked = self.new.asked; have = self.new.have } }
+        ensures last { self.new.asked.last ≡ self.old.asked.last }
+        ensures stands { IfSome result (λ answer. AnswerStands answer self.old.cut) }
+        ensures bytes { answer_coming true result self.old.cut ≡ update_part (update_in self.old.format self.old.choice self.old.cut area) }
+        ensures asked { (es : List Event) → AskedStands self.old.asked es → AskedStands self.new.asked (answered_at number (update_in self.old.format self.old.choice self.old.cut area) es) }
+        ensures have { (es : List Event) → HaveStands self.old.have es → HaveStands self.new.have (answered_at number (update_in self.old.format self.old.choice self.old.cut area) es) }
+    {
+        let area = area?;
+        let answer = Answer::start(self.out.cut(), &area, self.format, self.choice);
+        if answer.count() == 0 {
+            return None;
+        }
+        self.asked.answered();
+        self.have.keep(&area, number);
+        Some(answer)
+    }
+
+    /// The second half of a turn, after a look that replied `looked`: where there is reason the source is cut, and what the cut brings begins to be
+    /// sent: one Bell where Bells have become more since the last cut, the text where it is newer, and an update of the pending area where a tile of it is
+    /// due. The first cut brings neither Bell nor text. It answers whether anything is begun.
     ///
     /// It takes no memory, and fails where the source has ended (`Gone`), if it may end; then the session is as it was.
     pub fn turn_at<S: ScreenSource>(&mut self, source: &mut S, looked: u64) -> Result<bool, Fault>
         requires ready { is_ready self.old ≡ true }
         requires screen { (S.width source.old ≡ self.old.width) × (S.height source.old ≡ self.old.height) }
-        ensures same { IsSameSession self.old self.new }
+        ensures same { IsSameViewer self.old self.new }
         ensures moves { S.moves source.old source.new }
         ensures size { (S.width source.new ≡ S.width source.old) × (S.height source.new ≡ S.height source.old) }
         ensures grows { Begins (S.known source.old) (S.known source.new) }
         ensures idle { wants_cut self.old.asked looked ≡ false → (result ≡ Ok false) × (self.new ≡ self.old) × (source.new ≡ source.old) }
-        ensures cuts { wants_cut self.old.asked looked ≡ true → IfOk result (λ _. CutsAt self.old self.new (S.known source.new) (S.answered source.old)) }
+        ensures cuts { wants_cut self.old.asked looked ≡ true → IfOk result (λ _. CutsAt self.old self.new (S.known source.new) (S.answered source.old) (S.answered source.new)) }
         ensures begun { IfOk result (λ begun. begun ≡ not (length self.new.unsent == 0)) }
         ensures err { IfErr result (λ fault. (fault ≡ Gone) × S.may_end × (self.new ≡ self.old) × (S.known source.new ≡ S.known source.old) × (S.answered source.new ≡ S.answered source.old)) }
     {
         if !self.has_reason(looked) {
             return Ok(false);
         }
+        let last = self.asked.last_cut();
+        let bells = self.out.cut().bells;
         let area = self.asked.area();
-        let number = source.cut(&area.unwrap_or(NOWHERE), &self.have, &mut self.cut)?;
+        let number = self.out.take(source, &area.unwrap_or(NOWHERE), &self.have)?;
         self.asked.was_cut(number);
-        match area {
-            Some(area) if is_due(&self.cut) => {
-                self.out.put_update(&self.cut, &area, &self.format);
-                self.asked.answered();
-                self.have.keep(&area, number);
-                Ok(true)
-            }
-            _ => Ok(false),
-        }
+        let news = news_of(self.out.cut(), last, bells);
+        let answer = self.answer(area, number);
+        self.out.begin(news.bell, news.text, answer);
+        Ok(!self.out.piece().is_empty())
     }
 
     /// One turn. It does nothing and answers false while bytes are unsent, before the hello is done, and after a fault. Otherwise it looks once and goes on as
-    /// `turn_at`.
+    /// `turn_at`. Where that fails (`Gone`) the session is as it was, and the source knows what it knew behind the look.
     pub fn turn<S: ScreenSource>(&mut self, source: &mut S) -> Result<bool, Fault>
         requires { (S.width source.old ≡ self.old.width) × (S.height source.old ≡ self.old.height) }
-        ensures same { IsSameSession self.old self.new }
+        ensures same { IsSameViewer self.old self.new }
         ensures moves { S.moves source.old source.new }
         ensures size { (S.width source.new ≡ S.width source.old) × (S.height source.new ≡ S.height source.old) }
         ensures grows { Begins (S.known source.old) (S.known source.new) }
         ensures waits { is_ready self.old ≡ false → (result ≡ Ok false) × (self.new ≡ self.old) × (source.new ≡ source.old) }
-        ensures turns { is_ready self.old ≡ true → IfOk result (λ _. Turns self.old self.new (S.known source.new) (S.answered source.old)) }
+        ensures turns { is_ready self.old ≡ true → IfOk result (λ _. Turns S.looks S.moves source.old source.new self.old self.new (S.known source.new) (S.answered source.old) (S.answered source.new)) }
         ensures begun { is_ready self.old ≡ true → IfOk result (λ begun. begun ≡ not (length self.new.unsent == 0)) }
-        ensures err { IfErr result (λ fault. (fault ≡ Gone) × S.may_end × (self.new ≡ self.old)) }
+        ensures err { IfErr result (λ fault. (fault ≡ Gone) × S.may_end × (self.new ≡ self.old) × HasOnlyLooked S.looks S.known S.answered source.old source.new) }
     {
         if !self.is_ready() {
             return Ok(false);
@@ -81,10 +117,22 @@ impl Session {
     }
 }
 
-// Whether the one tile of a screen is due at a cut.
-fn is_due(cut: &Cut) -> bool
-    requires { 0 < length cut.now.due.items }
-    ensures { result ≡ get_or cut.now.due.items 0 result }
+// What a cut has that is news since the one of this number, which showed so many Bells. At the first cut nothing is.
+fn news_of(cut: &Cut, last: Option<u64>, bells: u64) -> News
+    ensures bell { result.bell ≡ rings last bells cut.now.bells }
+    ensures text { result.text ≡ has_newer last cut.now.text }
 {
-    cut.due[0]
+    let Some(last) = last else {
+        return News {
+            bell: false,
+            text: false,
+        };
+    };
+    News {
+        bell: bells < cut.bells,
+        text: match cut.text.number() {
+            Some(number) => last < number,
+            None => false,
+        },
+    }
 }

@@ -1,29 +1,13 @@
-use Rattle.std.proofs.Common.{Bool, ◌∷◌, refl, sym, ap, subst, ◌∙◌}
+use Rattle.std.proofs.Common.{Bool, ◌∷◌, sym, subst, ◌∙◌}
 use Rattle.tiles.specs.Touched.{Requested}
 use Rattle.tiles.specs.Have.{HaveStands}
 use Rattle.tiles.proofs.HaveLaws.{stands_incremental}
 use Rattle.viewer_session.specs.Session.{State, Stands, after_taking}
 use Rattle.viewer_session.specs.contracts.session.Session.{the_view}
 use Rattle.rfb_wire.specs.ClientMessage.{Ask}
-use Rattle.viewer_session.proofs.Parts.{sound_on, same_size, same_at}
 use Rattle.viewer_session.proofs.SessionLaws.{stands_asked, stands_empty}
 use Rattle.viewer_session.proofs.session.Session.ask.Goals as goal
 use Rattle.viewer_session.proofs.session.Session.ask.Goals.{else-not-incremental-via-then-not-incremental+else-not-is_empty, else-not-incremental-via-else-not-incremental}
-
-pub invariant_of-self : goal.invariant_of-self
-invariant_of-self c = sound_on _ _ _ _ _ _ _ _ _ _ _ _ c.self.invariant c.request.ensures.size c.forget.ensures.size (refl, refl) refl c.self.invariant.greets
-
-pub invariant_of-self-else-not-is_empty : goal.invariant_of-self-else-not-is_empty
-invariant_of-self-else-not-is_empty c = sound_on _ _ _ _ _ _ _ _ _ _ _ _ c.self.invariant c.request.ensures.size (same_size _) (refl, refl) refl c.self.invariant.greets
-
-pub invariant_of-self-else-not-incremental : goal.invariant_of-self-else-not-incremental
-invariant_of-self-else-not-incremental c = sound_on _ _ _ _ _ _ _ _ _ _ _ _ c.self.invariant c.request.ensures.size (same_size _) (refl, refl) refl c.self.invariant.greets
-
-pub returns-then-not-is_empty-clause-same : goal.returns-then-not-is_empty-clause-same
-returns-then-not-is_empty-clause-same c = same_at (the_view c.self.inside) c.args.self.now _ c.self.view_is refl refl refl
-
-pub returns-then-not-is_empty-clause-reader : goal.returns-then-not-is_empty-clause-reader
-returns-then-not-is_empty-clause-reader c = (ap (λ (t : State). t.reader) c.self.view_is, ap (λ (t : State). t.greeting) c.self.view_is)
 
 pub returns-then-not-is_empty-clause-stands : goal.returns-then-not-is_empty-clause-stands
 returns-then-not-is_empty-clause-stands c =

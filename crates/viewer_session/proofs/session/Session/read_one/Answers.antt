@@ -15,13 +15,12 @@ greeted_is o st same open_ greeted = let both : is_some (whole_of (hello_of o)) 
 pub invariant_of-self-2 : goal.invariant_of-self-2
 invariant_of-self-2 c =
     record {
-      one = c.self.invariant.one;
+      size = c.self.invariant.size;
       taken = none_waits (ahead c.feed.new.self) (ahead c.take-message.new.self) _ c.take-message.ensures;
       fresh = λ open_. absurd (greeted_is c.self.inside.hello c.args.self.now (ap (λ (st : State). st.greeting) c.self.view_is) open_ c.requires);
       asked_size = c.self.invariant.asked_size;
       have_size = c.self.invariant.have_size;
       cut_size = c.self.invariant.cut_size;
-      room = c.self.invariant.room;
       greets = c.self.invariant.greets;
     }
 

@@ -1,137 +1,87 @@
-use Rattle.std.proofs.Common.{length, refl, sym, ap, subst, ◌∙◌, arith, true≢false}
-use Rattle.viewer_session.specs.Session.{State, CutsAt, IsSameSession, is_greeted}
+use Rattle.std.proofs.Common.{◌≡◌, ◌++◌, List, ℕ, ◌∷◌, Option, [], true, refl, sym, ap, subst, ◌∙◌}
+use Rattle.std.specs.Prelude.{if◌then◌else◌, is_some, unwrap_or}
+use Rattle.pixel_format.specs.Reading.{whole_of}
+use Rattle.raster.specs.declared.rect.Rect.{Rect}
+use Rattle.rfb_wire.specs.Writing.{bell_bytes}
+use Rattle.tiles.specs.Have.{HaveStands}
+use Rattle.tiles.specs.Touched.{WasCut}
+use Rattle.reflect_core.specs.Asked.{AskedStands, LiesOn}
+use Rattle.reflect_core.specs.Source.{IsCutOf}
+use Rattle.reflect_core.specs.declared.cut.Cut.{Cut}
+use Rattle.viewer_session.specs.Found.{answered_at, has_newer, rings, update_in}
+use Rattle.viewer_session.specs.Outgoing.{answer_coming, text_message}
+use Rattle.viewer_session.specs.Session.{State, CutsAt, is_greeted, hello_of}
+use Rattle.viewer_session.specs.Turn.{update_part}
 use Rattle.viewer_session.specs.contracts.session.Session.{the_view}
-use Rattle.viewer_session.proofs.FeedLaws.{same_session}
-use Rattle.viewer_session.proofs.TurnLaws.{answers_at, quiet_at, unasked_at, cut_for, lies_on, tile_marked, greeted_ready}
-use Rattle.viewer_session.proofs.Parts.{sound_on, same_screen, screen_on, same_size, greeting_done, same_at, none_begun, some_begun, begins_same, cut_within, update_fits}
+use Rattle.viewer_session.proofs.Parts.{cut_within}
+use Rattle.viewer_session.proofs.TurnLaws.{greeted_ready, greeting_done, text_there, turned, IsCutFor}
 use Rattle.viewer_session.proofs.session.Session.turn_at.Goals as goal
-use Rattle.viewer_session.proofs.session.Session.turn_at.Goals.{in_default-via-in-Some+else-is_due, in_default-via-in_default}
 
--- ---- where there is no reason
+pub begin-requires-clause-text : goal.begin-requires-clause-text
+begin-requires-clause-text g c = λ newer.
+    let cut_is : c.self-2.inside.out.cut ≡ c.take.new.self.cut = ap (λ (t : State). t.cut) c.self-2.view_is ∙ ap (λ (t : State). t.cut) c.answer-answer.ensures.others in
+    ap (λ (cut : Cut). is_some cut.text) (cut_is ∙ sym c.cut-2.ensures) ∙ text_there c.last_cut-last.result c.cut-2.result.now.text c.news_of-news.result.text c.news_of-news.ensures.text newer
 
-pub returns-then-not-has_reason-clause-same : goal.returns-then-not-has_reason-clause-same
-returns-then-not-has_reason-clause-same g c = same_session c.args.self.now
+pub invariant_of-self-3 : goal.invariant_of-self-3
+invariant_of-self-3 g c =
+    let i = c.self-2.invariant in
+    let hello_is : c.self-2.inside.hello ≡ c.self.inside.hello = ap (λ (t : State). t.greeting) c.self-2.view_is ∙ ap (λ (t : State). t.greeting) c.answer-answer.ensures.others in
+    record {
+      size = i.size;
+      taken = i.taken;
+      fresh = i.fresh;
+      asked_size = i.asked_size;
+      have_size = i.have_size;
+      cut_size = (ap (λ (cut : Cut). cut.width) c.begin.ensures.cut ∙ i.cut_size.0, ap (λ (cut : Cut). cut.height) c.begin.ensures.cut ∙ i.cut_size.1);
+      greets = greeting_done c.self-2.inside.hello c.self-2.inside.out c.begin.new.self (ap (λ o. is_some (whole_of (hello_of o))) hello_is ∙ (ap is_greeted c.self.view_is ∙ greeted_ready c.args.self.now c.requires.ready)) i.greets;
+    }
 
-pub returns-then-not-has_reason-clause-grows : goal.returns-then-not-has_reason-clause-grows
-returns-then-not-has_reason-clause-grows g c = begins_same (g.S.ScreenSource.known c.args.source.now)
-
-pub returns-then-not-has_reason-clause-idle : goal.returns-then-not-has_reason-clause-idle
-returns-then-not-has_reason-clause-idle g c = λ no. (refl, refl, refl)
-
-pub returns-then-not-has_reason-clause-cuts : goal.returns-then-not-has_reason-clause-cuts
-returns-then-not-has_reason-clause-cuts g c = λ yes. absurd (true≢false (sym yes ∙ (sym c.has_reason.ensures ∙ c.if-not-has_reason.true)))
-
-pub returns-then-not-has_reason-clause-begun : goal.returns-then-not-has_reason-clause-begun
-returns-then-not-has_reason-clause-begun g c = none_begun c.args.self.now c.args.self.now c.args.self.now.unsent refl c.requires.ready refl
-
--- ---- the cut
-
-pub cut-requires-clause-within : goal.cut-requires-clause-within
-cut-requires-clause-within g c =
+pub returns-clause-cuts : goal.returns-clause-cuts
+returns-clause-cuts g c = λ reason.
     let i = c.self.invariant in
-    cut_within c.area-area.result c.unwrap_or.result _ _ _ _ _ c.unwrap_or.ensures (refl, refl) c.area-area.ensures.within
-    (i.asked_size.0 ∙ (ap (λ (t : State). t.width) c.self.view_is ∙ sym c.requires.screen.0)) (i.asked_size.1 ∙ (ap (λ (t : State). t.height) c.self.view_is ∙ sym c.requires.screen.1))
-
-pub cut-requires-clause-screen : goal.cut-requires-clause-screen
-cut-requires-clause-screen g c =
-    let i = c.self.invariant in (
-      i.have_size.0 ∙ (ap (λ (t : State). t.width) c.self.view_is ∙ sym c.requires.screen.0),
-      i.have_size.1 ∙ (ap (λ (t : State). t.height) c.self.view_is ∙ sym c.requires.screen.1),
-    )
-
-pub cut-requires-clause-room : goal.cut-requires-clause-room
-cut-requires-clause-room g c =
-    let i = c.self.invariant in (
-      i.cut_size.0 ∙ (ap (λ (t : State). t.width) c.self.view_is ∙ sym c.requires.screen.0),
-      i.cut_size.1 ∙ (ap (λ (t : State). t.height) c.self.view_is ∙ sym c.requires.screen.1),
-    )
-
--- ---- where it is refused
-
-pub invariant_of-self : goal.invariant_of-self
-invariant_of-self g c = sound_on _ _ _ _ _ _ _ _ _ _ _ _ c.self.invariant (same_screen _) (same_size _) c.cut.ensures.room refl c.self.invariant.greets
-
-pub returns-in_err-number-clause-same : goal.returns-in_err-number-clause-same
-returns-in_err-number-clause-same g c = same_at (the_view c.self.inside) c.args.self.now _ c.self.view_is refl refl refl
-
-pub returns-in_err-number-clause-idle : goal.returns-in_err-number-clause-idle
-returns-in_err-number-clause-idle g c = λ no. absurd (true≢false (sym c.if-not-has_reason.false ∙ (c.has_reason.ensures ∙ no)))
-
--- ---- where an update is begun
-
-pub put_update-requires-clause-within : goal.put_update-requires-clause-within
-put_update-requires-clause-within g c =
-    let i = c.self.invariant in
-    lies_on c.in-Some.area _ _ _ _ (i.asked_size.0 ∙ sym (c.cut.ensures.room.0 ∙ i.cut_size.0)) (i.asked_size.1 ∙ sym (c.cut.ensures.room.1 ∙ i.cut_size.1)) c.in-Some.ensures.within
-
-pub put_update-requires-clause-room : goal.put_update-requires-clause-room
-put_update-requires-clause-room g c =
-    let i = c.self.invariant in
-    update_fits c.in-Some.area c.self.inside.width c.self.inside.height c.self.inside.out.room (lies_on c.in-Some.area _ _ _ _ i.asked_size.0 i.asked_size.1 c.in-Some.ensures.within) i.room
-
-pub invariant_of-self-then-is_due : goal.invariant_of-self-then-is_due
-invariant_of-self-then-is_due g c =
-    let i = c.self.invariant in
-    sound_on _ _ _ _ _ _ _ _ _ _ _ _ i (screen_on _ _ _ c.was_cut.ensures.size c.answered.ensures.size) c.keep.ensures.size c.cut.ensures.room c.put_update.ensures.room
-    (greeting_done c.self.inside.hello c.self.inside.out _ (ap is_greeted c.self.view_is ∙ greeted_ready c.args.self.now c.requires.ready) c.put_update.ensures.room i.greets)
-
-pub returns-in-Some-clause-same : goal.returns-in-Some-clause-same
-returns-in-Some-clause-same g c = same_at (the_view c.self.inside) c.args.self.now _ c.self.view_is refl refl refl
-
-pub returns-in-Some-clause-idle : goal.returns-in-Some-clause-idle
-returns-in-Some-clause-idle g c = λ no. absurd (true≢false (sym c.if-not-has_reason.false ∙ (c.has_reason.ensures ∙ no)))
-
-pub returns-in-Some-clause-begun : goal.returns-in-Some-clause-begun
-returns-in-Some-clause-begun g c = some_begun c.put_update.new.self.unsent (omega (arith, ap length c.put_update.ensures.unsent))
-
-pub returns-in-Some-clause-cuts : goal.returns-in-Some-clause-cuts
-returns-in-Some-clause-cuts g c = λ reason.
-    let i = c.self.invariant in
-    let ok = c.in_ok-number.ensures.ok in
-    let is = cut_for _ _ c.area-area.result _ c.in-Some.area _ _ _ c.unwrap_or.ensures c.in-Some.is ok.0 in
-    answers_at (the_view c.self.inside) c.args.self.now (g.S.ScreenSource.known c.cut.new.self) (g.S.ScreenSource.answered c.args.source.now) c.in_ok-number.number c.in-Some.area c.cut.new.into c.answered.new.self c.keep.new.self c.put_update.new.self.unsent
-    c.self.view_is c.requires.ready i.one i.have_size.0 i.have_size.1 (sym c.area-area.ensures.value ∙ c.in-Some.is) (lies_on c.in-Some.area _ _ _ _ i.asked_size.0 i.asked_size.1 c.in-Some.ensures.within) is ok.1
-    (tile_marked _ _ _ _ _ _ _ c.is_due.result _ is i.one i.have_size.0 i.have_size.1 c.is_due.ensures c.if-is_due.true)
-    (λ es a. c.answered.ensures.stands c.in-Some.area c.in_ok-number.number _ (c.was_cut.ensures.stands es a)) c.keep.ensures.stands c.put_update.ensures.unsent
-
--- ---- where none is begun
-
-pub invariant_of-self-else-is_due : goal.invariant_of-self-else-is_due
-invariant_of-self-else-is_due g c = sound_on _ _ _ _ _ _ _ _ _ _ _ _ c.self.invariant c.was_cut.ensures.size (same_size _) c.cut.ensures.room refl c.self.invariant.greets
-
-pub invariant_of-self-in_default : goal.invariant_of-self-in_default
-invariant_of-self-in_default g c = sound_on _ _ _ _ _ _ _ _ _ _ _ _ c.self.invariant c.was_cut.ensures.size (same_size _) c.cut.ensures.room refl c.self.invariant.greets
-
-pub returns-in_default-clause-same : goal.returns-in_default-clause-same
-returns-in_default-clause-same g c =
-    elim c.in_default.branch [
-      | in_default-via-in-Some+else-is_due w ↦ subst (λ (t : State). IsSameSession c.args.self.now t) (sym w.self-is) (same_at (the_view c.self.inside) c.args.self.now _ c.self.view_is refl refl refl)
-      | in_default-via-in_default w ↦ subst (λ (t : State). IsSameSession c.args.self.now t) (sym w.self-is) (same_at (the_view c.self.inside) c.args.self.now _ c.self.view_is refl refl refl)
-    ]
-
-pub returns-in_default-clause-idle : goal.returns-in_default-clause-idle
-returns-in_default-clause-idle g c = λ no. absurd (true≢false (sym c.if-not-has_reason.false ∙ (c.has_reason.ensures ∙ no)))
-
-pub returns-in_default-clause-begun : goal.returns-in_default-clause-begun
-returns-in_default-clause-begun g c =
     let st = the_view c.self.inside in
-    elim c.in_default.branch [
-      | in_default-via-in-Some+else-is_due w ↦ none_begun st c.args.self.now c.in_default.self.unsent c.self.view_is c.requires.ready (ap (λ (t : State). t.unsent) w.self-is)
-      | in_default-via-in_default w ↦ none_begun st c.args.self.now c.in_default.self.unsent c.self.view_is c.requires.ready (ap (λ (t : State). t.unsent) w.self-is)
-    ]
-
-pub returns-in_default-clause-cuts : goal.returns-in_default-clause-cuts
-returns-in_default-clause-cuts g c =
-    let i = c.self.invariant in
+    let now = c.args.self.now in
+    let known = g.S.ScreenSource.known c.take.new.source in
+    let least = g.S.ScreenSource.answered c.args.source.now in
+    let most = g.S.ScreenSource.answered c.take.new.source in
+    let cut : Cut = c.take.new.self.cut in
+    let n : ℕ = c.in_ok-number.number in
     let ok = c.in_ok-number.ensures.ok in
-    let P : State → Type 0 = λ st. CutsAt c.args.self.now st (g.S.ScreenSource.known c.cut.new.self) (g.S.ScreenSource.answered c.args.source.now) in
-    elim c.in_default.branch [
-      | in_default-via-in-Some+else-is_due w ↦ λ reason. subst P (sym w.self-is)
-          (let is = cut_for _ _ c.area-area.result _ w.in-Some.area _ _ _ c.unwrap_or.ensures w.in-Some.is ok.0 in
-          quiet_at (the_view c.self.inside) c.args.self.now (g.S.ScreenSource.known c.cut.new.self) (g.S.ScreenSource.answered c.args.source.now) c.in_ok-number.number w.in-Some.area c.cut.new.into c.was_cut.new.self
-          c.self.view_is c.requires.ready i.one i.have_size.0 i.have_size.1 (sym c.area-area.ensures.value ∙ w.in-Some.is) is ok.1
-          (tile_marked _ _ _ _ _ _ _ w.is_due.result _ is i.one i.have_size.0 i.have_size.1 w.is_due.ensures w.if-is_due.false) c.was_cut.ensures.stands)
-      | in_default-via-in_default w ↦ λ reason. subst P (sym w.self-is)
-          (unasked_at (the_view c.self.inside) c.args.self.now (g.S.ScreenSource.known c.cut.new.self) (g.S.ScreenSource.answered c.args.source.now) c.in_ok-number.number c.was_cut.new.self
-          c.self.view_is c.requires.ready (sym c.area-area.ensures.value ∙ w.in_default.is) ok.0.known ok.1 c.was_cut.ensures.stands)
-    ]
+    let answer = c.answer-answer.new.self in
+    let found = c.answer-answer.result in
+    let area_is : c.area-area.result ≡ st.asked.area = c.area-area.ensures.value in
+    let nowhere : Rect = record { x = 0; y = 0; w = 0; h = 0 } in
+    let mid_is : the_view c.self-2.inside ≡ record st { asked = answer.asked; have = answer.have; cut = cut; piece = c.take.new.self.piece; unsent = c.take.new.self.unsent } = c.self-2.view_is ∙ c.answer-answer.ensures.others in
+    let cut_is : c.self-2.inside.out.cut ≡ cut = ap (λ (t : State). t.cut) mid_is in
+    let begun : c.begin.new.self.cut ≡ cut = c.begin.ensures.cut ∙ cut_is in
+    let piece : List ℕ = c.begin.new.self.piece in
+    let bytes : List ℕ = c.begin.new.self.unsent in
+    let bell = c.news_of-news.result.bell in
+    let text = c.news_of-news.result.text in
+    let bytes_are : bytes ≡ (if bell then bell_bytes else []) ++ ((if text then text_message cut.text else []) ++ answer_coming true found cut) =
+    c.begin.ensures.unsent ∙ ap (λ (t : Cut). (if bell then bell_bytes else []) ++ ((if text then text_message t.text else []) ++ answer_coming true found t)) cut_is in
+    let rung : bell ≡ rings st.asked.last st.cut.bells cut.bells =
+    c.news_of-news.ensures.bell
+    ∙ (ap (λ o. rings o c.cut.result.now.bells c.cut-2.result.now.bells) c.last_cut-last.ensures
+    ∙ (ap (λ (t : Cut). rings st.asked.last t.bells c.cut-2.result.now.bells) c.cut.ensures ∙ ap (λ (t : Cut). rings st.asked.last st.cut.bells t.bells) c.cut-2.ensures)) in
+    let newer : text ≡ has_newer st.asked.last cut.text =
+    c.news_of-news.ensures.text ∙ (ap (λ o. has_newer o c.cut-2.result.now.text) c.last_cut-last.ensures ∙ ap (λ (t : Cut). has_newer st.asked.last t.text) c.cut-2.ensures) in
+    let part : answer_coming true found cut ≡ update_part (update_in st.format st.choice cut st.asked.area) = c.answer-answer.ensures.bytes ∙ ap (λ o. update_part (update_in st.format st.choice cut o)) area_is in
+    let cut_for : IsCutFor st cut nowhere known n =
+    record {
+      is = subst (λ (r : Rect). IsCutOf known n r st.have cut) (c.unwrap_or.ensures ∙ ap (λ (o : Option Rect). unwrap_or o nowhere) area_is) ok.0;
+      width = sym (c.take.ensures.room.0 ∙ i.cut_size.0);
+      height = sym (c.take.ensures.room.1 ∙ i.cut_size.1);
+      have_width = i.have_size.0;
+      have_height = i.have_size.1;
+      size = cut.size;
+      within = cut_within st.asked.area (unwrap_or st.asked.area nowhere) nowhere st.asked.width st.asked.height cut.width cut.height refl (refl, refl)
+          (subst (λ (o : Option Rect). LiesOn st.asked.width st.asked.height o) area_is c.area-area.ensures.within) (i.asked_size.0 ∙ sym (c.take.ensures.room.0 ∙ i.cut_size.0)) (i.asked_size.1 ∙ sym (c.take.ensures.room.1 ∙ i.cut_size.1));
+    } in
+    subst (λ (t : State). CutsAt now (record t { cut = c.begin.new.self.cut; piece = piece; unsent = bytes }) known least most) (sym mid_is)
+    (subst (λ (t : Cut). CutsAt now (record st { asked = answer.asked; have = answer.have; cut = t; piece = piece; unsent = bytes }) known least most) (sym begun)
+    (turned st now known least most n cut nowhere answer.asked answer.have bell text (answer_coming true found cut) piece bytes
+    c.self.view_is c.requires.ready cut_for (ok.1, ok.2) rung newer part (c.answer-answer.ensures.last ∙ c.was_cut.ensures.last)
+    (λ es a. subst (λ (o : Option Rect). AskedStands answer.asked (answered_at n (update_in st.format st.choice cut o) (WasCut n ∷ es))) area_is (c.answer-answer.ensures.asked (WasCut n ∷ es) (c.was_cut.ensures.stands es a)))
+    (λ es h. subst (λ (o : Option Rect). HaveStands answer.have (answered_at n (update_in st.format st.choice cut o) es)) area_is (c.answer-answer.ensures.have es h))
+    bytes_are))

@@ -1,8 +1,8 @@
 use Rattle.std.proofs.Common.{◌≡◌, ℕ, ◌+◌, ◌≤◌, List, ◌++◌, length, take, drop, sym, ap, ◌∙◌, arith, length-append, append_assoc}
 use Rattle.std.proofs.lemmas.List.{drop-append-le, length-take, take-take}
 use Rattle.std.proofs.Math.Seq.{take-append_seam}
-use Rattle.viewer_session.specs.RawUpdate.{Waiting}
-use Rattle.viewer_session.proofs.outbox.Outbox.append.Goals as goal
+use Rattle.viewer_session.specs.Outgoing.{Waiting}
+use Rattle.viewer_session.proofs.piece.Piece.append.Goals as goal
 
 -- A part that was written behind the bytes that were filled.
 filled_on : (sent filled count room : ℕ) (whole part behind rest : List ℕ) → sent ≤ filled → filled ≤ length whole → length part ≡ count → filled + count ≤ room

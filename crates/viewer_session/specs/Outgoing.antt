@@ -1,0 +1,53 @@
+-- What waits to be sent of a session: the piece that is shown, and what comes behind it (RFC 6143, 7.6).
+use Rattle.std.specs.Prelude.{◌≡◌, ℕ, ◌+◌, ◌*◌, Bool, true, max, if◌then◌else◌, is_some, List, [], ◌++◌, length, Option, Some, None, IfSome}
+use Rattle.raster.specs.Update.{NumberedText}
+use Rattle.rfb_wire.specs.Writing.{server_text_bytes, update_head_bytes}
+use Rattle.reflect_core.specs.declared.cut.Cut.{Cut}
+use Rattle.update_encoder.specs.Coming.{Answering, AnswerStands, coming}
+use Rattle.viewer_session.specs.declared.coming.Coming as declared
+
+-- How much room there is for a piece, how many bytes were put into it, and those that aren't sent yet.
+pub record Waiting : Type 0 where
+  pub room : ℕ
+  pub filled : ℕ
+  pub unsent : List ℕ
+
+-- The most bytes of a piece, over a screen of this width: those of the longest text's message (7.6.4), or of a rectangle's head and one
+-- row of tiles in the widest format (7.6.1).
+abbrev pub longest_piece : ℕ → ℕ
+longest_piece w = max 65544 (12 + 64 * w)
+
+-- A text as its message (7.6.4).
+abbrev pub text_message : Option NumberedText → List ℕ
+text_message None = []
+text_message (Some last) = server_text_bytes last.text
+
+-- What comes of an answer: its head, unless that was put out, and its rectangles (7.6.1).
+abbrev pub answer_coming : Bool → Option Answering → Cut → List ℕ
+answer_coming head None cut = []
+answer_coming head (Some answer) cut = (if head then update_head_bytes answer.count else []) ++ coming answer cut
+
+-- What comes behind the piece: a text of the cut, and an answer.
+abbrev pub all_coming : declared.Coming → Cut → List ℕ
+all_coming c cut = (if c.text then text_message cut.text else []) ++ answer_coming c.head c.answer cut
+
+-- What is to come is the cut's: its text, where one comes, and an answer that was begun of it.
+pub record IsOf (c : declared.Coming) (cut : Cut) : Type 0 where
+  pub text : c.text ≡ true → is_some cut.text ≡ true
+  pub answer : IfSome c.answer (λ answer. AnswerStands answer cut)
+
+-- ---- what contracts see of it
+
+-- The last cut, how many bytes were put into the piece, those of it that aren't sent yet, and all bytes that aren't.
+pub record Sending : Type 0 where
+  pub cut : Cut
+  pub filled : ℕ
+  pub piece : List ℕ
+  pub unsent : List ℕ
+
+-- The piece and the strip are large enough; what comes is the cut's; and nothing comes behind an empty piece.
+pub record IsOutgoing (cut : Cut) (piece : Waiting) (strip : ℕ) (c : declared.Coming) : Type 0 where
+  pub room : piece.room ≡ longest_piece cut.width
+  pub long : strip ≡ 16 * cut.width
+  pub is_of : IsOf c cut
+  pub shows : length piece.unsent ≡ 0 → all_coming c cut ≡ []

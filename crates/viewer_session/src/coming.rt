@@ -1,0 +1,75 @@
+//! What comes behind the piece that is sent.
+
+ghost use Rattle.std.specs.Prelude.{◌≡◌, ◌*◌, ◌≤◌, [], ◌++◌, false, None, length};
+ghost use Rattle.viewer_session.specs.Outgoing.{IsOf, all_coming, answer_coming, longest_piece};
+
+use crate::piece::Piece;
+use reflect_core::Cut;
+use update_encoder::Answer;
+
+/// What of a cut comes behind the piece: its text where one is news, then an answer. Of the answer the head comes first, and then one
+/// rectangle after the other.
+#[derive(Drop)]
+pub struct Coming {
+    /// The cut's text comes.
+    pub text: bool,
+    /// The answer's head comes.
+    pub head: bool,
+    /// The answer, if there is one.
+    pub answer: Option<Answer>,
+}
+
+impl Coming {
+    /// Nothing comes.
+    pub fn nothing() -> Self
+        ensures { result ≡ record { text = false; head = false; answer = None } }
+    {
+        Coming {
+            text: false,
+            head: false,
+            answer: None,
+        }
+    }
+
+    /// The next part of what comes is the piece from now on. It is empty where nothing comes.
+    pub fn put_next(&mut self, cut: &Cut, strip: &mut [u32], piece: &mut Piece)
+        requires is_of { IsOf self.old cut.now }
+        requires strip { 16 * cut.now.width ≤ length strip.old }
+        requires room { piece.old.room ≡ longest_piece cut.now.width }
+        ensures room { piece.new.room ≡ piece.old.room }
+        ensures is_of { IsOf self.new cut.now }
+        ensures bytes { all_coming self.old cut.now ≡ piece.new.unsent ++ all_coming self.new cut.now }
+        ensures shows { length piece.new.unsent ≡ 0 → (all_coming self.new cut.now ≡ []) × (piece.new.filled ≡ 0) }
+    {
+        if self.text {
+            self.text = false;
+            piece.put_text(cut.text.bytes());
+        } else {
+            self.put_of_answer(cut, strip, piece);
+        }
+    }
+
+    // The next part of the answer is the piece from now on.
+    fn put_of_answer(&mut self, cut: &Cut, strip: &mut [u32], piece: &mut Piece)
+        requires text { self.old.text ≡ false }
+        requires is_of { IsOf self.old cut.now }
+        requires strip { 16 * cut.now.width ≤ length strip.old }
+        requires room { piece.old.room ≡ longest_piece cut.now.width }
+        ensures room { piece.new.room ≡ piece.old.room }
+        ensures text { self.new.text ≡ false }
+        ensures is_of { IsOf self.new cut.now }
+        ensures bytes { answer_coming self.old.head self.old.answer cut.now ≡ piece.new.unsent ++ answer_coming self.new.head self.new.answer cut.now }
+        ensures shows { length piece.new.unsent ≡ 0 → (answer_coming self.new.head self.new.answer cut.now ≡ []) × (piece.new.filled ≡ 0) }
+    {
+        let Some(answer) = &mut self.answer else {
+            piece.clear();
+            return;
+        };
+        if self.head {
+            self.head = false;
+            piece.put_update_head(answer.count());
+        } else {
+            piece.put_rectangle(answer, cut, strip);
+        }
+    }
+}

@@ -1,0 +1,168 @@
+//! What a session sends: a cut of the source, and what of it waits to be sent, piece by piece.
+
+ghost use Rattle.std.specs.Prelude.{◌≡◌, ℕ, ◌+◌, ◌*◌, ◌≤◌, Bool, true, if◌then◌else◌, is_some, [], ◌++◌, drop, length, IfOk, IfErr, IfSome};
+ghost use Rattle.pixel_format.specs.declared.fault.Fault.TheVariants.{Memory, Gone};
+ghost use Rattle.raster.specs.Screen.{IsWithin};
+ghost use Rattle.raster.specs.Size.{IsScreenSize};
+ghost use Rattle.reflect_core.specs.Sequential.{Begins};
+ghost use Rattle.reflect_core.specs.Source.{IsCutOf};
+ghost use Rattle.rfb_wire.specs.Writing.{bell_bytes};
+ghost use Rattle.update_encoder.specs.Coming.{AnswerStands};
+ghost use Rattle.viewer_session.specs.Outgoing.{answer_coming, longest_piece, text_message};
+
+use crate::coming::Coming;
+use crate::piece::Piece;
+use pixel_format::{Fault, LONGEST_TEXT};
+use raster::{Rect, TILE_SIDE};
+use reflect_core::{Cut, ScreenSource};
+use std::alloc::Global;
+use std::marker::Model;
+use tiles::Have;
+use update_encoder::Answer;
+
+/// How many bytes a text's message has before the text (RFC 6143, 7.6.4).
+const TEXT_HEAD: usize = 8;
+
+/// How many bytes the head of a rectangle has (RFC 6143, 7.6.1).
+const RECTANGLE_HEAD: usize = 12;
+
+/// How many bytes a pixel of the widest format has (RFC 6143, 7.4).
+const WIDEST_PIXEL: usize = 4;
+
+/// A cut of the source, one piece of the bytes that wait to be sent, and what of the cut comes behind it. Contracts see the cut, the
+/// piece's bytes, and all bytes that aren't sent.
+#[derive(Drop)]
+pub struct Outgoing {
+    cut: Cut,
+    piece: Piece,
+    strip: Vec<u32>,
+    coming: Coming,
+}
+
+impl Model for Outgoing {
+    ghost use Rattle.std.specs.Prelude.{◌++◌, length};
+    ghost use Rattle.viewer_session.specs.Outgoing.{IsOutgoing, Sending, all_coming};
+
+    ghost Value = { Sending };
+
+    ghost view = { λ o. record { cut = o.cut; filled = o.piece.filled; piece = o.piece.unsent; unsent = o.piece.unsent ++ all_coming o.coming o.cut } };
+
+    ghost invariant = { λ o. IsOutgoing o.cut o.piece (length o.strip.items) o.coming };
+}
+
+impl Outgoing {
+    /// Nothing waits, over a screen of `width` by `height` pixels. All the room is taken here. It fails where memory is refused
+    /// (`Memory`).
+    pub fn new(alloc: Global, width: u64, height: u64) -> Result<Self, Fault>
+        requires { IsScreenSize width height }
+        ensures size { IfOk result (λ out. (out.cut.width ≡ width) × (out.cut.height ≡ height)) }
+        ensures empty { IfOk result (λ out. (out.filled ≡ 0) × (out.piece ≡ []) × (out.unsent ≡ [])) }
+        ensures err { IfErr result (λ fault. fault ≡ Memory) }
+    {
+        let cut = Cut::new(alloc, width, height)?;
+        let piece = Piece::new(alloc, room_for(width))?;
+        let strip = vec![in alloc; 0u32; (TILE_SIDE * width) as usize]?;
+        Ok(Outgoing {
+            cut,
+            piece,
+            strip,
+            coming: Coming::nothing(),
+        })
+    }
+
+    /// The last cut. Before the first it shows nothing.
+    pub fn cut(&self) -> &Cut
+        ensures { result.now ≡ self.now.cut }
+    {
+        &self.cut
+    }
+
+    /// The piece that is sent next: as long as it isn't empty, the first of the bytes that wait.
+    pub fn piece(&self) -> &[u8]
+        ensures value { result.now ≡ self.now.piece }
+        ensures begins { Begins result.now self.now.unsent }
+        ensures shows { length result.now ≡ 0 → self.now.unsent ≡ [] }
+        ensures short { length result.now ≤ longest_piece self.now.cut.width }
+    {
+        self.piece.unsent()
+    }
+
+    /// So many bytes of the piece, from the first on, were sent. Once it is empty the next takes its place.
+    pub fn sent(&mut self, count: usize)
+        requires { count ≤ length self.old.piece }
+        ensures cut { self.new.cut ≡ self.old.cut }
+        ensures unsent { self.new.unsent ≡ drop count self.old.unsent }
+        ensures few { length self.old.piece ≤ length self.old.unsent }
+        ensures alone { self.old.unsent ≡ self.old.piece → (self.new.unsent ≡ self.new.piece) × (self.new.filled ≤ self.old.filled) }
+    {
+        self.piece.sent(count);
+        if self.piece.unsent().is_empty() {
+            self.coming
+                .put_next(&self.cut, self.strip.as_mut_slice(), &mut self.piece);
+        }
+    }
+
+    /// Further bytes of a hello wait, where nothing comes behind the piece.
+    pub fn append(&mut self, bytes: &[u8])
+        requires room { self.old.filled + length bytes.now ≤ 65544 }
+        requires alone { self.old.unsent ≡ self.old.piece }
+        ensures cut { self.new.cut ≡ self.old.cut }
+        ensures filled { self.new.filled ≡ self.old.filled + length bytes.now }
+        ensures unsent { self.new.unsent ≡ self.old.unsent ++ bytes.now }
+        ensures alone { self.new.unsent ≡ self.new.piece }
+    {
+        self.piece.append(bytes);
+    }
+
+    /// Cuts the source, where all bytes were sent. What is cut waits only once `begin` says so.
+    pub fn take<S: ScreenSource>(
+        &mut self,
+        source: &mut S,
+        area: &Rect,
+        have: &Have,
+    ) -> Result<u64, Fault>
+        requires sent { length self.old.unsent ≡ 0 }
+        requires within { IsWithin area.now (S.width source.old) (S.height source.old) }
+        requires screen { (have.now.width ≡ S.width source.old) × (have.now.height ≡ S.height source.old) }
+        requires room { (self.old.cut.width ≡ S.width source.old) × (self.old.cut.height ≡ S.height source.old) }
+        ensures moves { S.moves source.old source.new }
+        ensures size { (S.width source.new ≡ S.width source.old) × (S.height source.new ≡ S.height source.old) }
+        ensures room { (self.new.cut.width ≡ self.old.cut.width) × (self.new.cut.height ≡ self.old.cut.height) }
+        ensures sent { (self.new.piece ≡ []) × (self.new.unsent ≡ []) }
+        ensures grows { Begins (S.known source.old) (S.known source.new) }
+        ensures ok { IfOk result (λ n. IsCutOf (S.known source.new) n area.now have.now self.new.cut × (S.answered source.old ≤ n) × (n ≤ S.answered source.new)) }
+        ensures err { IfErr result (λ fault. (fault ≡ Gone) × S.may_end × (S.known source.new ≡ S.known source.old) × (S.answered source.new ≡ S.answered source.old) × (self.new ≡ self.old)) }
+    {
+        self.coming = Coming::nothing();
+        source.cut(area, have, &mut self.cut)
+    }
+
+    /// What of the cut is sent waits from now on, and nothing else: a Bell, its text and an answer, in this order.
+    pub fn begin(&mut self, bell: bool, text: bool, answer: Option<Answer>)
+        requires text { text ≡ true → is_some self.old.cut.text ≡ true }
+        requires answer { IfSome answer (λ begun. AnswerStands begun self.old.cut) }
+        ensures cut { self.new.cut ≡ self.old.cut }
+        ensures unsent { self.new.unsent ≡ (if bell then bell_bytes else []) ++ ((if text then text_message self.old.cut.text else []) ++ answer_coming true answer self.old.cut) }
+    {
+        self.coming = Coming {
+            text,
+            head: true,
+            answer,
+        };
+        if bell {
+            self.piece.put_bell();
+        } else {
+            self.coming
+                .put_next(&self.cut, self.strip.as_mut_slice(), &mut self.piece);
+        }
+    }
+}
+
+// The room for the longest piece over a screen of this width.
+fn room_for(width: u64) -> usize
+    requires { width ≤ 4096 }
+    ensures { result ≡ longest_piece width }
+{
+    let longest_text = TEXT_HEAD + LONGEST_TEXT as usize;
+    longest_text.max(RECTANGLE_HEAD + WIDEST_PIXEL * (TILE_SIDE * width) as usize)
+}

@@ -1,0 +1,140 @@
+//! A piece of the bytes that wait to be sent.
+
+ghost use Rattle.std.specs.Prelude.{◌≡◌, ℕ, ◌+◌, ◌-◌, ◌*◌, ◌≤◌, ◌^◌, ◌<◌, [], ◌++◌, drop, length, IfOk, IfErr};
+ghost use Rattle.pixel_format.specs.declared.fault.Fault.TheVariants.{Memory};
+ghost use Rattle.rfb_wire.specs.Writing.{bell_bytes, server_text_bytes, update_head_bytes};
+ghost use Rattle.update_encoder.specs.Coming.{AnswerStands, coming};
+
+use pixel_format::Fault;
+use reflect_core::Cut;
+use rfb_wire::{write_bell, write_server_text, write_update_head};
+use std::alloc::Global;
+use std::marker::Model;
+use update_encoder::Answer;
+
+/// Bytes that wait to be sent, in room that was reserved for them. Contracts see how much room there is and how much of it is
+/// taken, and the bytes that aren't sent yet.
+#[derive(Drop)]
+pub struct Piece {
+    bytes: Vec<u8>,
+    filled: usize,
+    sent: usize,
+}
+
+impl Model for Piece {
+    ghost use Rattle.std.specs.Prelude.{◌≤◌, drop, take, length};
+    ghost use Rattle.viewer_session.specs.Outgoing.{Waiting};
+
+    ghost Value = { Waiting };
+
+    ghost view = { λ p. record { room = length p.bytes.items; filled = p.filled; unsent = drop p.sent (take p.filled p.bytes.items) } };
+
+    ghost invariant = { λ p. (p.sent ≤ p.filled) × (p.filled ≤ length p.bytes.items) };
+}
+
+impl Piece {
+    /// An empty one with room for so many bytes. It fails where memory is refused (`Memory`).
+    pub fn new(alloc: Global, room: usize) -> Result<Self, Fault>
+        ensures ok { IfOk result (λ piece. (piece.room ≡ room) × (piece.filled ≡ 0) × (piece.unsent ≡ [])) }
+        ensures err { IfErr result (λ fault. fault ≡ Memory) }
+    {
+        let mut bytes = Vec::new(alloc);
+        if bytes.resize(room, 0).is_err() {
+            return Err(Fault::Memory);
+        }
+        Ok(Piece {
+            bytes,
+            filled: 0,
+            sent: 0,
+        })
+    }
+
+    /// The bytes that aren't sent yet.
+    pub fn unsent(&self) -> &[u8]
+        ensures value { result.now ≡ self.now.unsent }
+        ensures few { length result.now ≤ self.now.filled }
+        ensures within { self.now.filled ≤ self.now.room }
+    {
+        &self.bytes.as_slice()[self.sent..self.filled]
+    }
+
+    /// So many of them, from the first on, were sent.
+    pub fn sent(&mut self, count: usize)
+        requires { count ≤ length self.old.unsent }
+        ensures room { (self.new.room ≡ self.old.room) × (self.new.filled ≡ self.old.filled) }
+        ensures unsent { self.new.unsent ≡ drop count self.old.unsent }
+    {
+        self.sent += count;
+    }
+
+    /// Further bytes wait, behind those that waited before.
+    pub fn append(&mut self, bytes: &[u8])
+        requires { self.old.filled + length bytes.now ≤ self.old.room }
+        ensures room { self.new.room ≡ self.old.room }
+        ensures filled { self.new.filled ≡ self.old.filled + length bytes.now }
+        ensures unsent { self.new.unsent ≡ self.old.unsent ++ bytes.now }
+    {
+        let end = self.filled + bytes.len();
+        self.bytes.as_mut_slice()[self.filled..end].copy_from_slice(bytes);
+        self.filled = end;
+    }
+
+    /// Nothing waits from now on.
+    pub fn clear(&mut self)
+        ensures room { (self.new.room ≡ self.old.room) × (self.new.filled ≡ 0) }
+        ensures unsent { self.new.unsent ≡ [] }
+    {
+        self.filled = 0;
+        self.sent = 0;
+    }
+
+    /// A Bell waits from now on, and nothing else (RFC 6143, 7.6.3).
+    pub fn put_bell(&mut self)
+        requires { 1 ≤ self.old.room }
+        ensures room { self.new.room ≡ self.old.room }
+        ensures unsent { self.new.unsent ≡ bell_bytes }
+    {
+        self.filled = write_bell(self.bytes.as_mut_slice());
+        self.sent = 0;
+    }
+
+    /// A text waits from now on, and nothing else (RFC 6143, 7.6.4).
+    pub fn put_text(&mut self, text: &[u8])
+        requires short { length text.now ≤ 65536 }
+        requires room { 8 + length text.now ≤ self.old.room }
+        ensures room { self.new.room ≡ self.old.room }
+        ensures unsent { self.new.unsent ≡ server_text_bytes text.now }
+    {
+        self.filled = write_server_text(text, self.bytes.as_mut_slice());
+        self.sent = 0;
+    }
+
+    /// The head of an update of so many rectangles waits from now on, and nothing else (RFC 6143, 7.6.1).
+    pub fn put_update_head(&mut self, rectangles: u64)
+        requires few { rectangles < 65536 }
+        requires room { 4 ≤ self.old.room }
+        ensures room { self.new.room ≡ self.old.room }
+        ensures unsent { self.new.unsent ≡ update_head_bytes rectangles }
+    {
+        self.filled = write_update_head(rectangles as u16, self.bytes.as_mut_slice());
+        self.sent = 0;
+    }
+
+    /// The next rectangle of an answer waits from now on, and nothing else; where there is none, nothing does. It is encoded over a
+    /// strip of pixel values.
+    pub fn put_rectangle(&mut self, answer: &mut Answer, cut: &Cut, strip: &mut [u32])
+        requires stands { AnswerStands answer.old cut.now }
+        requires strip { 16 * cut.now.width ≤ length strip.old }
+        requires room { 12 + 64 * cut.now.width ≤ self.old.room }
+        ensures room { self.new.room ≡ self.old.room }
+        ensures stands { AnswerStands answer.new cut.now }
+        ensures bytes { coming answer.old cut.now ≡ self.new.unsent ++ coming answer.new cut.now }
+        ensures shows { length self.new.unsent ≡ 0 → (coming answer.new cut.now ≡ []) × (self.new.filled ≡ 0) }
+    {
+        self.sent = 0;
+        self.filled = match answer.next(cut, strip, self.bytes.as_mut_slice()) {
+            Some(count) => count,
+            None => 0,
+        };
+    }
+}
