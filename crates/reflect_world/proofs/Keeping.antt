@@ -1,31 +1,54 @@
 -- A world and its schedule.
-use Rattle.std.proofs.Common.{◌≡◌, ℕ, ◌+◌, ◌<◌, ◌≤◌, List, [], ◌∷◌, ◌++◌, length, take, Some, refl, ap, sym, ◌∙◌, subst, arith, append_assoc, inl, inr, Bool, length-append, Option}
+use Rattle.std.proofs.Common.{◌≡◌, ℕ, ◌+◌, ◌<◌, ◌≤◌, List, [], ◌∷◌, ◌++◌, length, take, Some, refl, ap, sym, ◌∙◌, subst, arith, append_assoc, inl, inr, Bool, true, false, length-append, Option}
 use Rattle.std.specs.Prelude.{map, slice_get, slice_index_or}
 use Rattle.std.specs.Option.{option_to_list}
 use Rattle.std.proofs.Math.Seq.{take-append_seam}
 use Rattle.std.proofs.lemmas.List.{get_or-map, length-map, map-append, take_more}
 use Rattle.std.proofs.lemmas.Option.{slice_get-get_or}
 use Rattle.pixel_format.specs.declared.fault.Fault.{Fault}
-use Rattle.viewer_session.specs.Session.{IsOneTile}
-use Rattle.reflect_world.specs.Schedule.{Step}
-use Rattle.reflect_world.specs.World.{IsFaithful, IsKept, JoinsUnder, Kept, Reached, Standing, StopsAt, entry_of, setup_of, step_of, with_steps, world_of, StaysFor}
+use Rattle.pixel_format.specs.declared.fault.Fault.TheVariants.{Memory, NumbersOut}
+use Rattle.raster.specs.Size.{IsScreenSize}
+use Rattle.reflect_world.specs.Schedule.{Step, World}
+use Rattle.reflect_world.specs.World.{IsFaithful, IsServed, IsKept, IsRefusal, JoinsUnder, Kept, Leaves, Reached, Shows, ShowsUnder, Standing, StopsAt, entry_of, setup_of, step_of, with_steps, world_of}
 use Rattle.reflect_world.specs.declared.step.Entry.{Entry}
 use Rattle.reflect_world.specs.declared.step.Step as declared
 use Rattle.reflect_world.proofs.FirstForms.{host_short, viewer_accepted}
 use Rattle.reflect_world.proofs.Holds.{in_every_schedule}
-use Rattle.reflect_world.proofs.Reaching.{play-more}
+use Rattle.reflect_world.proofs.Reaching.{play-more, shows_reached}
 use Rattle.reflect_world.proofs.Told.{told_in_every_schedule}
 
-pub kept_more : (k : Kept) (old new : Standing) (e : Step) → IsKept k old → JoinsUnder k.name e old new → IsKept (with_steps k (e ∷ [])) new
-kept_more k old new e kept takes =
-    record { named = kept.named; reached = subst (λ w. Reached (setup_of k) new w) (sym (play-more (setup_of k) k.steps e)) (takes (setup_of k) (world_of k) refl kept.reached) }
+kept_more : (k : Kept) (old new : Standing) (e : Step) → IsKept k old → k.is_refused ≡ false → JoinsUnder k.name e old new → IsKept (with_steps k (e ∷ [])) new
+kept_more k old new e kept fine takes =
+    let now : Reached (setup_of k) new (world_of (with_steps k (e ∷ []))) =
+    subst (λ w. Reached (setup_of k) new w) (sym (play-more (setup_of k) k.steps e)) (takes (setup_of k) (world_of k) refl (kept.reached fine)) in
+    record { named = kept.named; shows = shows_reached (setup_of k) new (world_of (with_steps k (e ∷ []))) now; reached = λ no. now }
 
 -- An entry was pushed, and its step was taken.
-pub kept_pushed : (k : Kept) (entries more : List Entry) (entry : Entry) (old new : Standing) → IsKept (record k { steps = map entry_of entries }) old → more ≡ entries ++ entry ∷ []
+pub kept_pushed : (k : Kept) (entries more : List Entry) (entry : Entry) (old new : Standing) → IsKept (record k { steps = map entry_of entries }) old → k.is_refused ≡ false → more ≡ entries ++ entry ∷ []
     → JoinsUnder k.name (entry_of entry) old new → IsKept (record k { steps = map entry_of more }) new
-kept_pushed k entries more entry old new kept pushed takes =
+kept_pushed k entries more entry old new kept fine pushed takes =
     let steps : map entry_of more ≡ map entry_of entries ++ entry_of entry ∷ [] = ap (map entry_of) pushed ∙ map-append entry_of entries (entry ∷ []) in
-    subst (λ (es : List Step). IsKept (record k { steps = es }) new) (sym steps) (kept_more (record k { steps = map entry_of entries }) old new (entry_of entry) kept takes)
+    subst (λ (es : List Step). IsKept (record k { steps = es }) new) (sym steps) (kept_more (record k { steps = map entry_of entries }) old new (entry_of entry) kept fine takes)
+
+-- The same of a viewer that joins, which it may do though memory was refused.
+kept_joined_by : (k : Kept) (old new : Standing) (e : Step) → IsKept k old → JoinsUnder k.name e old new → ShowsUnder k.name e old new → IsKept (with_steps k (e ∷ [])) new
+kept_joined_by k old new e kept takes shows =
+    let more = sym (play-more (setup_of k) k.steps e) in
+    record {
+      named = kept.named;
+      shows = subst (λ w. Shows (setup_of k) new w) more (shows (setup_of k) (world_of k) refl kept.shows);
+      reached = λ fine. subst (λ w. Reached (setup_of k) new w) more (takes (setup_of k) (world_of k) refl (kept.reached fine));
+    }
+
+pub kept_joined : (k : Kept) (entries more : List Entry) (entry : Entry) (old new : Standing) → IsKept (record k { steps = map entry_of entries }) old → more ≡ entries ++ entry ∷ []
+    → JoinsUnder k.name (entry_of entry) old new → ShowsUnder k.name (entry_of entry) old new → IsKept (record k { steps = map entry_of more }) new
+kept_joined k entries more entry old new kept pushed takes shows =
+    let steps : map entry_of more ≡ map entry_of entries ++ entry_of entry ∷ [] = ap (map entry_of) pushed ∙ map-append entry_of entries (entry ∷ []) in
+    subst (λ (es : List Step). IsKept (record k { steps = es }) new) (sym steps) (kept_joined_by (record k { steps = map entry_of entries }) old new (entry_of entry) kept takes shows)
+
+-- Memory was refused, and nothing else changed.
+pub kept_refused : (k : Kept) (standing : Standing) → IsKept k standing → IsKept (record k { is_refused = true }) standing
+kept_refused k standing kept = record { named = kept.named; shows = kept.shows; reached = λ no. absurd cc }
 
 -- What is left when the last was taken off again.
 last_off : (entries left : List Entry) (entry taken_off : Entry) → entries ++ entry ∷ [] ≡ left ++ taken_off ∷ [] → left ≡ entries
@@ -38,32 +61,41 @@ pub pushed_and_popped : (entries more left : List Entry) (entry taken_off : Entr
 pushed_and_popped entries more left entry taken_off popped pushed was is = last_off entries left entry taken_off (sym pushed ∙ (was ∙ ap (λ o. left ++ option_to_list o) is))
 
 -- A step wasn't taken, and the entries are as before.
-pub kept_stays : (k : Kept) (entries left : List Entry) (is_refused : Bool) (old new : Standing) → IsKept (record k { steps = map entry_of entries }) old → left ≡ entries → StaysFor old new
-    → IsKept (record k { steps = map entry_of left; is_refused = is_refused }) new
-kept_stays k entries left is_refused old new kept same stays =
-    let as_before : IsKept (record k { steps = map entry_of entries; is_refused = is_refused }) new = record { named = kept.named; reached = stays (setup_of k) (world_of (record k { steps = map entry_of entries })) kept.reached } in
+pub kept_stays : (k : Kept) (entries left : List Entry) (is_refused : Bool) (fault : Fault) (old new : Standing) → IsKept (record k { steps = map entry_of entries }) old → k.is_refused ≡ false → left ≡ entries
+    → Leaves old new fault → (is_refused ≡ false → fault ≡ NumbersOut) → IsKept (record k { steps = map entry_of left; is_refused = is_refused }) new
+kept_stays k entries left is_refused fault old new kept fine same leaves out =
+    let w : World = world_of (record k { steps = map entry_of entries }) in
+    let as_before : IsKept (record k { steps = map entry_of entries; is_refused = is_refused }) new =
+    record { named = kept.named; shows = leaves.0 (setup_of k) w (kept.reached fine); reached = λ no. leaves.1 (out no) (setup_of k) w (kept.reached fine) } in
     subst (λ (es : List Entry). IsKept (record k { steps = map entry_of es; is_refused = is_refused }) new) (sym same) as_before
+
+-- What isn't refused for want of memory is for want of numbers.
+pub out_of_numbers : (e : Step) (standing : Standing) (fault : Fault) → IsRefusal e standing fault → (fault ≡ Memory → ⊥) → fault ≡ NumbersOut
+out_of_numbers e standing fault (inl memory) other = absurd (other memory)
+out_of_numbers e standing fault (inr out) other = out.0
 
 -- ---- the headline
 
-pub is_faithful : (k : Kept) → IsOneTile k.width k.height → IsFaithful k
-is_faithful k tile =
-    let wide : k.width ≤ 4096 = omega (arith, tile.wide.1) in
-    let high : k.height ≤ 4096 = omega (arith, tile.high.1) in
-    let held = in_every_schedule (setup_of k) wide high viewer_accepted k.steps in
-    let told = told_in_every_schedule (setup_of k) wide high viewer_accepted (host_short k.width k.height) k.steps in
-    record { holds = held.0; history = held.1; in_order = told.0; said = told.1; read = told.2; written = told.3 }
+is_served : (k : Kept) → IsScreenSize k.width k.height → (es : List Step) → IsServed (setup_of k) es
+is_served k size es =
+    let wide : k.width ≤ 4096 = omega (arith, size.wide.1) in
+    let high : k.height ≤ 4096 = omega (arith, size.high.1) in
+    let told = told_in_every_schedule (setup_of k) wide high viewer_accepted (host_short k.width k.height) es in
+    record { holds = in_every_schedule (setup_of k) wide high viewer_accepted es; in_order = told.0; said = told.1; read = told.2; written = told.3 }
 
-same_tile : (old new : Kept) → new.width ≡ old.width → new.height ≡ old.height → IsOneTile old.width old.height → IsOneTile new.width new.height
-same_tile old new w h tile = rw (w, h) tile
+pub is_faithful : (k : Kept) → IsScreenSize k.width k.height → IsFaithful k
+is_faithful k size before after split = is_served k size before
+
+same_size : (old new : Kept) → new.width ≡ old.width → new.height ≡ old.height → IsScreenSize old.width old.height → IsScreenSize new.width new.height
+same_size old new w h size = rw (w, h) size
 
 -- A world with more steps, or with a step refused, is of the same size.
-pub tile_at : (old new : Kept) (e : Step) (fault : Fault) → IsOneTile old.width old.height → StopsAt old new e fault → IsOneTile new.width new.height
-tile_at old new e fault tile (inl p) = same_tile old new (ap (λ (k : Kept). k.width) p.1) (ap (λ (k : Kept). k.height) p.1) tile
-tile_at old new e fault tile (inr p) = same_tile old new (ap (λ (k : Kept). k.width) p.3) (ap (λ (k : Kept). k.height) p.3) tile
+pub size_at : (old new : Kept) (e : Step) (fault : Fault) → IsScreenSize old.width old.height → StopsAt old new e fault → IsScreenSize new.width new.height
+size_at old new e fault size (inl p) = same_size old new (ap (λ (k : Kept). k.width) p.1) (ap (λ (k : Kept). k.height) p.1) size
+size_at old new e fault size (inr p) = same_size old new (ap (λ (k : Kept). k.width) p.3) (ap (λ (k : Kept). k.height) p.3) size
 
-pub tile_with : (old now : Kept) (es : List Step) → now ≡ with_steps old es → IsOneTile old.width old.height → IsOneTile now.width now.height
-tile_with old now es is tile = same_tile old now (ap (λ (k : Kept). k.width) is) (ap (λ (k : Kept). k.height) is) tile
+pub size_with : (old now : Kept) (es : List Step) → now ≡ with_steps old es → IsScreenSize old.width old.height → IsScreenSize now.width now.height
+size_with old now es is size = same_size old now (ap (λ (k : Kept). k.width) is) (ap (λ (k : Kept). k.height) is) size
 
 -- ---- steps played one after another
 

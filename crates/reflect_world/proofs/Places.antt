@@ -1,22 +1,24 @@
 -- Places of viewers.
-use Rattle.std.proofs.Common.{◌≡◌, ℕ, zero, suc, ◌+◌, ◌-◌, ◌<◌, Bool, true, false, cond, List, [], ◌∷◌, ◌++◌, length, take, Option, Some, None, refl, ap, sym, ◌∙◌, subst, arith, append-nil, append_assoc}
+use Rattle.std.proofs.Common.{◌≡◌, ℕ, zero, suc, ◌+◌, ◌-◌, ◌<◌, Bool, true, false, cond, List, [], ◌∷◌, ◌++◌, length, take, Option, Some, None, refl, ap, sym, ◌∙◌, subst, arith, append-nil, append_assoc, length-append}
 use Rattle.std.specs.Prelude.{slice_set, is_some, min, ◌==◌, if◌then◌else◌}
 use Rattle.std.proofs.Math.Seq.{take-add}
 use Rattle.std.proofs.lemmas.Bool.{eqb-true, eqb-false}
 use Rattle.std.proofs.lemmas.List.{get_or-set_same, get_or-set_other, length-drop, take-append-le}
 use Rattle.pixel_format.specs.declared.fault.Fault.{Fault}
 use Rattle.pixel_format.specs.Reading.{Reading, Done, Faulty, Want, step, fault_of, wants_more}
-use Rattle.raster.specs.Update.{Update}
+use Rattle.raster.specs.Update.{Update, bells}
 use Rattle.rfb_wire.specs.ClientMessage.{ClientMessage}
 use Rattle.rfb_wire.specs.Greeting.{Greeting}
 use Rattle.rfb_wire.specs.Handshake.{said_to_viewer}
 use Rattle.roles.specs.Allowed.{Input, passes}
 use Rattle.viewer_session.specs.Viewer.{Setup, Viewer, out_bytes, may_look, after_cut, after_byte, after_bytes, after_hello, after_reading, marked, relayed, viewer_fault, with_input}
 use Rattle.viewer_session.specs.Turn.{sent_at}
-use Rattle.viewer_session.specs.Session.{State, Stands, Greets, at_rest, is_ready, after_look, without_look, after_writing}
+use Rattle.reflect_core.specs.declared.cut.Cut.{Cut}
+use Rattle.viewer_session.specs.Session.{State, Stands, Greets, HasCounted, IsSameSession, at_rest, is_ready, after_look, without_look, after_writing}
 use Rattle.viewer_session.proofs.HelloLaws.{said_grows}
+use Rattle.viewer_session.proofs.SessionLaws.{fault_stands}
 use Rattle.reflect_world.specs.Said.{hello_of}
-use Rattle.reflect_world.specs.World.{Held, PlaceStands, PlaceIs, place_at}
+use Rattle.reflect_world.specs.World.{Held, PlaceBy, PlaceShows, PlaceStands, place_at}
 
 -- ---- a look, and what forgets it
 
@@ -52,27 +54,68 @@ stands_after_look s st number p k =
       unsent = k.unsent;
     }
 
+-- ---- what the last cut counted
+
+-- One update more leaves it so.
+pub counted_more : (st : State) (us : List Update) (u : Update) → HasCounted st us → HasCounted st (us ++ u ∷ [])
+counted_more st us u k = λ number e.
+    let was = k number e in
+    (omega (arith, was.0, length-append us (u ∷ [])), was.1 ∙ ap bells (sym (take-append-le number us (u ∷ []) was.0)))
+
+pub place_more : (s : Setup) (us : List Update) (u : Update) (o : Option Held) (q : Option Viewer) → PlaceBy (PlaceStands s us) o q → PlaceBy (PlaceStands s (us ++ u ∷ [])) o q
+place_more s us u None None k = k
+place_more s us u None (Some p) k = k
+place_more s us u (Some place) None k = k
+place_more s us u (Some place) (Some p) k = record { session = k.session; counted = counted_more place.session us u k.counted; looked = k.looked; ready = k.ready; written = k.written }
+
+-- So does what makes no cut.
+pub counted_same : (before now : State) (us : List Update) → IsSameSession before now → HasCounted before us → HasCounted now us
+counted_same before now us same k = λ number e.
+    let was = k number (sym same.last ∙ e) in
+    (was.0, ap (λ (cut : Cut). cut.bells) same.cut ∙ was.1)
+
 -- ---- one place among all
 
-pub place_is_some : (s : Setup) (o : Option Held) (q : Option Viewer) (place : Held) → PlaceIs s o q → o ≡ Some place → (p : Viewer) × (q ≡ Some p) × PlaceStands s place p
-place_is_some s None q place k e = absurd cc
-place_is_some s (Some other) None place k e = absurd k
-place_is_some s (Some other) (Some p) place k e = let same : other ≡ place = cc in (p, refl, subst (λ h. PlaceStands s h p) same k)
+pub place_is_some : (P : Held → Viewer → Type 0) (o : Option Held) (q : Option Viewer) (place : Held) → PlaceBy P o q → o ≡ Some place → (p : Viewer) × (q ≡ Some p) × P place p
+place_is_some P None q place k e = absurd cc
+place_is_some P (Some other) None place k e = absurd k
+place_is_some P (Some other) (Some p) place k e = let same : other ≡ place = cc in (p, refl, subst (λ h. P h p) same k)
 
--- The place of one viewer changes, and so does that viewer.
-places_set_if : (s : Setup) (places : List (Option Held)) (viewers : ℕ → Option Viewer) (v u : ℕ) (place : Held) (p : Viewer) (is : Bool) → (u == v) ≡ is → v < length places
-    → PlaceIs s (place_at places u) (viewers u) → PlaceStands s place p
-    → PlaceIs s (place_at (slice_set places v (Some place)) u) (cond is (Some p) (viewers u))
-places_set_if s places viewers v u place p true is room k good =
+-- The place of one viewer changes, and so may that viewer.
+places_set_if : (P : Held → Viewer → Type 0) (places : List (Option Held)) (viewers : ℕ → Option Viewer) (v u : ℕ) (place : Held) (p : Viewer) (is : Bool) → (u == v) ≡ is → v < length places
+    → PlaceBy P (place_at places u) (viewers u) → P place p
+    → PlaceBy P (place_at (slice_set places v (Some place)) u) (cond is (Some p) (viewers u))
+places_set_if P places viewers v u place p true is room k good =
     let same : u ≡ v = eqb-true u v is in
-    subst (λ (o : Option Held). PlaceIs s o (Some p)) (sym (ap (place_at (slice_set places v (Some place))) same ∙ get_or-set_same places v (Some place) None room)) good
-places_set_if s places viewers v u place p false is room k good =
-    subst (λ (o : Option Held). PlaceIs s o (viewers u)) (sym (get_or-set_other places v u (Some place) None (eqb-false u v is))) k
+    subst (λ (o : Option Held). PlaceBy P o (Some p)) (sym (ap (place_at (slice_set places v (Some place))) same ∙ get_or-set_same places v (Some place) None room)) good
+places_set_if P places viewers v u place p false is room k good =
+    subst (λ (o : Option Held). PlaceBy P o (viewers u)) (sym (get_or-set_other places v u (Some place) None (eqb-false u v is))) k
 
-pub places_set : (s : Setup) (places : List (Option Held)) (viewers : ℕ → Option Viewer) (v : ℕ) (place : Held) (p : Viewer) → v < length places
-    → ((u : ℕ) → PlaceIs s (place_at places u) (viewers u)) → PlaceStands s place p
-    → (u : ℕ) → PlaceIs s (place_at (slice_set places v (Some place)) u) (cond (u == v) (Some p) (viewers u))
-places_set s places viewers v place p room k good u = places_set_if s places viewers v u place p (u == v) refl room (k u) good
+pub places_set : (P : Held → Viewer → Type 0) (places : List (Option Held)) (viewers : ℕ → Option Viewer) (v : ℕ) (place : Held) (p : Viewer) → v < length places
+    → ((u : ℕ) → PlaceBy P (place_at places u) (viewers u)) → P place p
+    → (u : ℕ) → PlaceBy P (place_at (slice_set places v (Some place)) u) (cond (u == v) (Some p) (viewers u))
+places_set P places viewers v place p room k good u = places_set_if P places viewers v u place p (u == v) refl room (k u) good
+
+place_changed_if : (P : Held → Viewer → Type 0) (places : List (Option Held)) (viewers : ℕ → Option Viewer) (v u : ℕ) (place : Held) (p : Viewer) (is : Bool) → (u == v) ≡ is → v < length places
+    → PlaceBy P (place_at places u) (viewers u) → viewers v ≡ Some p → P place p
+    → PlaceBy P (place_at (slice_set places v (Some place)) u) (viewers u)
+place_changed_if P places viewers v u place p true is room k there good =
+    let same : u ≡ v = eqb-true u v is in
+    subst (λ (q : Option Viewer). PlaceBy P (place_at (slice_set places v (Some place)) u) q) (sym (ap viewers same ∙ there)) (places_set_if P places viewers v u place p true is room k good)
+place_changed_if P places viewers v u place p false is room k there good = places_set_if P places viewers v u place p false is room k good
+
+-- The place changes under the same viewer.
+pub place_changed : (P : Held → Viewer → Type 0) (places : List (Option Held)) (viewers : ℕ → Option Viewer) (v : ℕ) (place : Held) (p : Viewer) → v < length places
+    → ((u : ℕ) → PlaceBy P (place_at places u) (viewers u)) → viewers v ≡ Some p → P place p
+    → (u : ℕ) → PlaceBy P (place_at (slice_set places v (Some place)) u) (viewers u)
+place_changed P places viewers v place p room k there good u = place_changed_if P places viewers v u place p (u == v) refl room (k u) there good
+
+-- What stands is seen.
+pub place_seen : (s : Setup) (us : List Update) (o : Option Held) (q : Option Viewer) → PlaceBy (PlaceStands s us) o q → PlaceBy (PlaceShows s) o q
+place_seen s us None None k = k
+place_seen s us None (Some p) k = k
+place_seen s us (Some place) None k = k
+place_seen s us (Some place) (Some p) k = record { fault = fault_stands s place.session p k.session; written = k.written }
 
 -- ---- a viewer's bytes change neither what was written nor its look, and add to what is said in its hello at most
 
@@ -161,15 +204,16 @@ fed_is s p bytes e =
     ap fed e ∙ sym (ap fed_alone e)
 
 -- Its bytes came: the look is forgotten.
-pub place_fed : (s : Setup) (place : Held) (session : State) (p : Viewer) (bytes : List ℕ) → PlaceStands s place p
-    → ((q : Viewer) → Stands s place.session q → Stands s session (after_bytes s (without_look q) bytes))
-    → PlaceStands s (record { session = session; looked = None; written = place.written }) (after_bytes s (record p { looked = None; lost = p.lost ++ [] }) (p.unread ++ bytes))
-place_fed s place session p bytes k fed =
+pub place_fed : (s : Setup) (us : List Update) (place : Held) (session : State) (p : Viewer) (bytes : List ℕ) → PlaceStands s us place p
+    → ((q : Viewer) → Stands s place.session q → Stands s session (after_bytes s (without_look q) bytes)) → (HasCounted place.session us → HasCounted session us)
+    → PlaceStands s us (record { session = session; looked = None; written = place.written }) (after_bytes s (record p { looked = None; lost = p.lost ++ [] }) (p.unread ++ bytes))
+place_fed s us place session p bytes k fed counted =
     let stands = fed p k.session in
     let grown = grown_bytes s (without_look p) bytes (early s place.session p k.session) in
-    subst (λ q. PlaceStands s (record { session = session; looked = None; written = place.written }) q) (sym (fed_is s p bytes k.session.rests))
+    subst (λ q. PlaceStands s us (record { session = session; looked = None; written = place.written }) q) (sym (fed_is s p bytes k.session.rests))
     (record {
       session = stands;
+      counted = counted k.counted;
       looked = sym grown.looked;
       ready = λ no. absurd cc;
       written = k.written ∙ (sym (take-append-le p.written (out_bytes s p) grown.out.0 k.session.written) ∙ (ap (take p.written) (sym grown.out.1) ∙ ap (λ n. take n (out_bytes s (after_bytes s (without_look p) bytes))) (sym grown.written)));
@@ -179,44 +223,46 @@ place_fed s place session p bytes k fed =
 abbrev pub looked_at : Setup → ℕ → Viewer → Viewer
 looked_at s tally p = if may_look s p then after_look tally p else without_look p
 
-place_looked_if : (s : Setup) (place : Held) (p : Viewer) (tally : ℕ) (is : Bool) → PlaceStands s place p → is_ready place.session ≡ is
-    → PlaceStands s (record place { looked = cond is (Some tally) None }) (cond is (after_look tally p) (without_look p))
-place_looked_if s place p tally true k e =
-    record { session = stands_after_look s place.session tally p k.session; looked = refl; ready = λ yes. e; written = k.written }
-place_looked_if s place p tally false k e =
-    record { session = stands_without_look s place.session p k.session; looked = refl; ready = λ no. absurd cc; written = k.written }
+place_looked_if : (s : Setup) (us : List Update) (place : Held) (p : Viewer) (tally : ℕ) (is : Bool) → PlaceStands s us place p → is_ready place.session ≡ is
+    → PlaceStands s us (record place { looked = cond is (Some tally) None }) (cond is (after_look tally p) (without_look p))
+place_looked_if s us place p tally true k e =
+    record { session = stands_after_look s place.session tally p k.session; counted = k.counted; looked = refl; ready = λ yes. e; written = k.written }
+place_looked_if s us place p tally false k e =
+    record { session = stands_without_look s place.session p k.session; counted = k.counted; looked = refl; ready = λ no. absurd cc; written = k.written }
 
-pub place_looked : (s : Setup) (place : Held) (p : Viewer) (tally : ℕ) (ready : Bool) → PlaceStands s place p → ready ≡ is_ready place.session → ready ≡ may_look s p
-    → PlaceStands s (record place { looked = if ready then Some tally else None }) (looked_at s tally p)
-place_looked s place p tally ready k e may = rw (← may) (place_looked_if s place p tally ready k (sym e))
+pub place_looked : (s : Setup) (us : List Update) (place : Held) (p : Viewer) (tally : ℕ) (ready : Bool) → PlaceStands s us place p → ready ≡ is_ready place.session → ready ≡ may_look s p
+    → PlaceStands s us (record place { looked = if ready then Some tally else None }) (looked_at s tally p)
+place_looked s us place p tally ready k e may = rw (← may) (place_looked_if s us place p tally ready k (sym e))
 
 -- So many of its unsent bytes were written.
-pub place_written : (s : Setup) (place : Held) (session : State) (p : Viewer) (count : ℕ) → PlaceStands s place p
-    → Stands s session (after_writing (min count (length place.session.unsent)) p)
-    → PlaceStands s (record { session = session; looked = None; written = place.written ++ take (min count (length place.session.unsent)) place.session.unsent })
+pub place_written : (s : Setup) (us : List Update) (place : Held) (session : State) (p : Viewer) (count : ℕ) → PlaceStands s us place p
+    → Stands s session (after_writing (min count (length place.session.unsent)) p) → HasCounted session us
+    → PlaceStands s us (record { session = session; looked = None; written = place.written ++ take (min count (length place.session.unsent)) place.session.unsent })
     (record p { looked = None; written = min (p.written + count) (length (out_bytes s p)) })
-place_written s place session p count k sent =
+place_written s us place session p count k sent counted =
     let n : ℕ = min count (length place.session.unsent) in
     let left : length place.session.unsent ≡ length (out_bytes s p) - p.written = ap length k.session.unsent ∙ length-drop p.written (out_bytes s p) in
     let count_is : min (p.written + count) (length (out_bytes s p)) ≡ p.written + n = omega (arith, k.session.written) in
-    subst (λ (w : ℕ). PlaceStands s (record { session = session; looked = None; written = place.written ++ take n place.session.unsent }) (record p { looked = None; written = w })) (sym count_is)
+    subst (λ (w : ℕ). PlaceStands s us (record { session = session; looked = None; written = place.written ++ take n place.session.unsent }) (record p { looked = None; written = w })) (sym count_is)
     (record {
       session = stands_without_look s session (after_writing n p) sent;
+      counted = counted;
       looked = refl;
       ready = λ no. absurd cc;
       written = ap (λ w. w ++ take n place.session.unsent) k.written ∙ ap (λ u. take p.written (out_bytes s p) ++ take n u) k.session.unsent ∙ sym (take-add p.written n (out_bytes s p));
     })
 
 -- It went on after its look: there was no reason to cut, or it cut.
-pub place_stays : (s : Setup) (place : Held) (session : State) (p : Viewer) → PlaceStands s place p → Stands s session (without_look p)
-    → PlaceStands s (record { session = session; looked = None; written = place.written }) (record p { looked = None })
-place_stays s place session p k stands = record { session = stands; looked = refl; ready = λ no. absurd cc; written = k.written }
+pub place_stays : (s : Setup) (us : List Update) (place : Held) (session : State) (p : Viewer) → PlaceStands s us place p → Stands s session (without_look p) → HasCounted session us
+    → PlaceStands s us (record { session = session; looked = None; written = place.written }) (record p { looked = None })
+place_stays s us place session p k stands counted = record { session = stands; counted = counted; looked = refl; ready = λ no. absurd cc; written = k.written }
 
-pub place_cut : (s : Setup) (place : Held) (session : State) (p : Viewer) (us : List Update) → PlaceStands s place p → Stands s session (after_cut s us p)
-    → PlaceStands s (record { session = session; looked = None; written = place.written }) (after_cut s us p)
-place_cut s place session p us k stands =
+pub place_cut : (s : Setup) (us : List Update) (place : Held) (session : State) (p : Viewer) → PlaceStands s us place p → Stands s session (after_cut s us p) → HasCounted session us
+    → PlaceStands s us (record { session = session; looked = None; written = place.written }) (after_cut s us p)
+place_cut s us place session p k stands counted =
     record {
       session = stands;
+      counted = counted;
       looked = refl;
       ready = λ no. absurd cc;
       written = k.written ∙ (sym (take-append-le p.written (out_bytes s p) (sent_at s.extent.tells_news s.w s.h p.entries us) k.session.written) ∙ ap (take p.written) (append_assoc (hello_of s p) p.said_after (sent_at s.extent.tells_news s.w s.h p.entries us)));

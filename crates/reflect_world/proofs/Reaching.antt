@@ -1,5 +1,5 @@
 -- What stands in a world's fields after one step more.
-use Rattle.std.proofs.Common.{◌≡◌, ℕ, ◌<◌, Bool, true, false, cond, List, [], ◌∷◌, ◌++◌, length, take, Option, Some, None, Ok, Err, inl, inr, refl, ap, sym, ◌∙◌, subst, arith}
+use Rattle.std.proofs.Common.{◌≡◌, ℕ, ◌+◌, ◌<◌, Bool, true, false, cond, List, [], ◌∷◌, ◌++◌, length, take, Option, Some, None, Ok, Err, inl, inr, refl, ap, sym, ◌∙◌, subst, arith}
 use Rattle.std.specs.Prelude.{is_some, slice_get, slice_index_or, slice_set, min, ◌==◌, if◌then◌else◌}
 use Rattle.std.proofs.lemmas.Bool.{eqb-true}
 use Rattle.std.proofs.lemmas.List.{get_or_default, length-set, set-get_or}
@@ -7,22 +7,23 @@ use Rattle.pixel_format.specs.declared.fault.Fault.{Fault}
 use Rattle.pixel_format.specs.Reading.{fault_of, rest}
 use Rattle.raster.specs.Update.{Update, view}
 use Rattle.roles.specs.declared.role.Role.{Role}
-use Rattle.pixel_format.specs.declared.fault.Fault.TheVariants.{Memory}
+use Rattle.pixel_format.specs.declared.fault.Fault.TheVariants.{Memory, NumbersOut}
 use Rattle.host_decoder.specs.Updates.{updates_by}
 use Rattle.reflect_core.specs.Plain.{Plain}
-use Rattle.viewer_session.specs.FirstPath.{first_path}
+use Rattle.viewer_session.specs.AllButInput.{all_but_input}
 use Rattle.viewer_session.specs.Extent.{Extent}
 use Rattle.viewer_session.specs.Turn.{has_reason}
 use Rattle.viewer_session.specs.Viewer.{Setup, Viewer, may_look, after_cut, after_bytes, new_viewer}
-use Rattle.viewer_session.specs.Session.{State, Stands, after_look, without_look, after_writing, is_ready}
+use Rattle.viewer_session.specs.Session.{State, Stands, HasCounted, after_look, without_look, after_writing, is_ready}
 use Rattle.reflect_core.specs.Sequential as history
 use Rattle.reflect_world.specs.Host.{HasReadTo, HostSide, HostStands, IsReadOut, IsSameHost, ReadsOn, form_of, host_form}
-use Rattle.reflect_world.specs.Schedule.{set_viewer, World, Step, Put, Join, Bytes, Look, Cut, Written, beginning, happens, play, play_from, put_next, for_viewer, cut_at}
-use Rattle.reflect_world.specs.World.{Held, Standing, PlaceStands, PlaceIs, Reached, place_at, IsFed, HasLooked, IsWritten, GoesOn, IsPut, JoinsUnder, TakesStep}
+use Rattle.reflect_world.specs.Schedule.{set_viewer, with_act, Act, ByViewer, World, Step, Put, Join, Bytes, Look, Cut, Written, beginning, happens, play, play_from, put_next, for_viewer, cut_at}
+use Rattle.reflect_world.specs.World.{Held, Standing, PlaceBy, PlaceShows, PlaceStands, Reached, Shows, Leaves, StaysFor, StaysSeen, IsBrokenOff, ShowsUnder, place_at, IsFed, HasLooked, IsWritten, GoesOn, IsPut, JoinsUnder, TakesStep}
 use Rattle.painter.specs.Patch.{SizedUpdate}
 use Rattle.reflect_world.proofs.HostReading.{no_next}
 use Rattle.reflect_world.proofs.Hosts.{next_of}
-use Rattle.reflect_world.proofs.Places.{places_set, place_is_some, place_fed, place_looked, place_written, place_stays, place_cut}
+use Rattle.viewer_session.proofs.SessionLaws.{fault_stands}
+use Rattle.reflect_world.proofs.Places.{place_changed, place_more, place_seen, places_set, place_is_some, place_fed, place_looked, place_written, place_stays, place_cut}
 
 -- ---- the schedule grows
 
@@ -55,7 +56,7 @@ reached_put s standing w host screen u r same none reads width height updates ta
     ap (λ form. slice_get (updates_by form w.host_bytes) (length w.shared.updates)) (form_is s standing w host r same) ∙ next_of w.host_bytes w.shared.updates host u none reads in
     subst (λ o. Reached s (record standing { host = host; screen = screen }) (put_next s w o)) (sym there)
     (record {
-      tile = r.tile;
+      size = r.size;
       extent = r.extent;
       width = width ∙ r.width;
       height = height ∙ r.height;
@@ -66,7 +67,7 @@ reached_put s standing w host screen u r same none reads width height updates ta
       host = inr reads;
       fault = r.fault;
       room = r.room;
-      places = r.places;
+      places = λ v. place_more s w.shared.updates u (place_at standing.places v) (w.viewers v) (r.places v);
     })
 
 -- There is none left.
@@ -78,7 +79,7 @@ reached_no_put s standing w host fault r same stands out =
     ap (λ f. slice_get (updates_by f w.host_bytes) (length w.shared.updates)) form ∙ (ap (λ all. slice_get all (length w.shared.updates)) out.none_left ∙ no_next w.shared.updates) in
     subst (λ o. Reached s (record standing { host = host; host_fault = fault }) (put_next s w o)) (sym there)
     (record {
-      tile = r.tile;
+      size = r.size;
       extent = r.extent;
       width = r.width;
       height = r.height;
@@ -102,11 +103,11 @@ abbrev pub with_screen : Standing → Plain → Standing
 with_screen standing screen = record standing { screen = screen }
 
 -- One viewer's place changes, over the same host and screen.
-reached_set : (s : Setup) (standing : Standing) (w : World) (steps : List history.Step) (v : ℕ) (place : Held) (p : Viewer) → Reached s standing w → v < 65 → PlaceStands s place p
-    → Reached s (with_place standing v place) (set_viewer (record w { steps = steps }) v (Some p))
-reached_set s standing w steps v place p r within good =
+reached_set : (s : Setup) (standing : Standing) (w : World) (acts : List Act) (stays : ℕ → ℕ) (v : ℕ) (place : Held) (p : Viewer) → Reached s standing w → v < 65 → PlaceStands s w.shared.updates place p
+    → Reached s (with_place standing v place) (set_viewer (record w { acts = acts; stays = stays }) v (Some p))
+reached_set s standing w acts stays v place p r within good =
     record {
-      tile = r.tile;
+      size = r.size;
       extent = r.extent;
       width = r.width;
       height = r.height;
@@ -117,35 +118,38 @@ reached_set s standing w steps v place p r within good =
       host = r.host;
       fault = r.fault;
       room = length-set standing.places v (Some place) ∙ r.room;
-      places = places_set s standing.places w.viewers v place p (omega (arith, r.room)) r.places good;
+      places = places_set (PlaceStands s w.shared.updates) standing.places w.viewers v place p (omega (arith, r.room)) r.places good;
     }
 
 -- A step of one that is there.
 reached_for : (s : Setup) (standing new : Standing) (w : World) (v : ℕ) (place : Held) (make : Viewer → World) → Reached s standing w → place_at standing.places v ≡ Some place
-    → ((p : Viewer) → PlaceStands s place p → Reached s new (make p)) → Reached s new (for_viewer w (w.viewers v) make)
+    → ((p : Viewer) → PlaceStands s w.shared.updates place p → Reached s new (make p)) → Reached s new (for_viewer w (w.viewers v) make)
 reached_for s standing new w v place make r there f =
-    let it = place_is_some s (place_at standing.places v) (w.viewers v) place (r.places v) there in
+    let it = place_is_some (PlaceStands s w.shared.updates) (place_at standing.places v) (w.viewers v) place (r.places v) there in
     subst (λ o. Reached s new (for_viewer w o make)) (sym it.1) (f it.0 it.2)
 
+none_is : (number : ℕ) (o : Option ℕ) → o ≡ None → o ≡ Some number → ⊥
+none_is number o e f = cc
+
 -- A viewer joins.
-pub reached_join : (s : Setup) (standing : Standing) (w : World) (v : ℕ) (role : Role) (greet : Bool) (session : State) → Reached s standing w → v < 65 → Stands s session (new_viewer s role greet)
+pub reached_join : (s : Setup) (standing : Standing) (w : World) (v : ℕ) (role : Role) (greet : Bool) (session : State) → Reached s standing w → v < 65 → Stands s session (new_viewer s role greet) → session.asked.last ≡ None
     → Reached s (with_place standing v (record { session = session; looked = None; written = [] })) (happens s w (Join v role greet))
-reached_join s standing w v role greet session r within stands =
-    reached_set s standing w w.steps v (record { session = session; looked = None; written = [] }) (new_viewer s role greet) r within
-    (record { session = stands; looked = refl; ready = λ no. absurd cc; written = refl })
+reached_join s standing w v role greet session r within stands uncut =
+    reached_set s standing w w.acts (λ u. if u == v then w.stays u + 1 else w.stays u) v (record { session = session; looked = None; written = [] }) (new_viewer s role greet) r within
+    (record { session = stands; counted = λ number e. absurd (none_is number session.asked.last uncut e); looked = refl; ready = λ no. absurd cc; written = refl })
 
 pub reached_bytes : (s : Setup) (standing : Standing) (w : World) (v : ℕ) (bytes : List ℕ) (place : Held) (session : State) → Reached s standing w → v < 65 → place_at standing.places v ≡ Some place
-    → ((q : Viewer) → Stands s place.session q → Stands s session (after_bytes s (without_look q) bytes))
+    → ((q : Viewer) → Stands s place.session q → Stands s session (after_bytes s (without_look q) bytes)) → ((us : List Update) → HasCounted place.session us → HasCounted session us)
     → Reached s (with_place standing v (record { session = session; looked = None; written = place.written })) (happens s w (Bytes v bytes []))
-reached_bytes s standing w v bytes place session r within there fed =
-    reached_for s standing _ w v place _ r there (λ p k. reached_set s standing w w.steps v _ _ r within (place_fed s place session p bytes k fed))
+reached_bytes s standing w v bytes place session r within there fed counted =
+    reached_for s standing _ w v place _ r there (λ p k. reached_set s standing w w.acts w.stays v _ _ r within (place_fed s w.shared.updates place session p bytes k fed (counted w.shared.updates)))
 
 reached_look_if : (s : Setup) (standing : Standing) (w : World) (v : ℕ) (place : Held) (p : Viewer) (is : Bool) → Reached s standing w → v < 65
-    → PlaceStands s place (cond is (after_look w.shared.tally p) (without_look p))
+    → PlaceStands s w.shared.updates place (cond is (after_look w.shared.tally p) (without_look p))
     → Reached s (with_place standing v place)
-    (cond is (set_viewer (record w { steps = w.steps ++ history.Look w.shared.tally ∷ [] }) v (Some (after_look w.shared.tally p))) (set_viewer w v (Some (without_look p))))
-reached_look_if s standing w v place p true r within k = reached_set s standing w (w.steps ++ history.Look w.shared.tally ∷ []) v place (after_look w.shared.tally p) r within k
-reached_look_if s standing w v place p false r within k = reached_set s standing w w.steps v place (without_look p) r within k
+    (cond is (set_viewer (with_act w (ByViewer v (w.stays v)) (history.Look w.shared.tally)) v (Some (after_look w.shared.tally p))) (set_viewer w v (Some (without_look p))))
+reached_look_if s standing w v place p true r within k = reached_set s standing w (with_act w (ByViewer v (w.stays v)) (history.Look w.shared.tally)).acts w.stays v place (after_look w.shared.tally p) r within k
+reached_look_if s standing w v place p false r within k = reached_set s standing w w.acts w.stays v place (without_look p) r within k
 
 pub reached_look : (s : Setup) (standing : Standing) (w : World) (v : ℕ) (place : Held) (tally : ℕ) (ready : Bool) → Reached s standing w → v < 65 → place_at standing.places v ≡ Some place
     → tally ≡ standing.screen.tally → ready ≡ is_ready place.session → ((q : Viewer) → Stands s place.session q → ready ≡ may_look s q)
@@ -154,22 +158,22 @@ reached_look s standing w v place tally ready r within there is e may =
     reached_for s standing _ w v place _ r there
     (λ p k.
     let same : tally ≡ w.shared.tally = is ∙ r.tally in
-    let looked : PlaceStands s (record place { looked = if ready then Some tally else None }) (cond (may_look s p) (after_look w.shared.tally p) (without_look p)) =
-    subst (λ t. PlaceStands s (record place { looked = if ready then Some tally else None }) (cond (may_look s p) (after_look t p) (without_look p))) same (place_looked s place p tally ready k e (may p k.session)) in
+    let looked : PlaceStands s w.shared.updates (record place { looked = if ready then Some tally else None }) (cond (may_look s p) (after_look w.shared.tally p) (without_look p)) =
+    subst (λ t. PlaceStands s w.shared.updates (record place { looked = if ready then Some tally else None }) (cond (may_look s p) (after_look t p) (without_look p))) same (place_looked s w.shared.updates place p tally ready k e (may p k.session)) in
     reached_look_if s standing w v _ p (may_look s p) r within looked)
 
 pub reached_written : (s : Setup) (standing : Standing) (w : World) (v count : ℕ) (place : Held) (session : State) → Reached s standing w → v < 65 → place_at standing.places v ≡ Some place
-    → ((q : Viewer) → Stands s place.session q → Stands s session (after_writing (min count (length place.session.unsent)) q))
+    → ((q : Viewer) → Stands s place.session q → Stands s session (after_writing (min count (length place.session.unsent)) q)) → ((us : List Update) → HasCounted place.session us → HasCounted session us)
     → Reached s (with_place standing v (record { session = session; looked = None; written = place.written ++ take (min count (length place.session.unsent)) place.session.unsent })) (happens s w (Written v count))
-reached_written s standing w v count place session r within there sent =
-    reached_for s standing _ w v place _ r there (λ p k. reached_set s standing w w.steps v _ _ r within (place_written s place session p count k (sent p k.session)))
+reached_written s standing w v count place session r within there sent counted =
+    reached_for s standing _ w v place _ r there (λ p k. reached_set s standing w w.acts w.stays v _ _ r within (place_written s w.shared.updates place session p count k (sent p k.session) (counted w.shared.updates k.counted)))
 
 -- ---- the second half of a turn
 
-same_place_if : (s : Setup) (places : List (Option Held)) (viewers : ℕ → Option Viewer) (v u : ℕ) (p : Viewer) (is : Bool) → (u == v) ≡ is → PlaceIs s (place_at places u) (viewers u)
-    → PlaceIs s (place_at places v) (Some p) → PlaceIs s (place_at places u) (cond is (Some p) (viewers u))
-same_place_if s places viewers v u p true is k there = let same : u ≡ v = eqb-true u v is in subst (λ n. PlaceIs s (place_at places n) (Some p)) (sym same) there
-same_place_if s places viewers v u p false is k there = k
+same_place_if : (s : Setup) (us : List Update) (places : List (Option Held)) (viewers : ℕ → Option Viewer) (v u : ℕ) (p : Viewer) (is : Bool) → (u == v) ≡ is → PlaceBy (PlaceStands s us) (place_at places u) (viewers u)
+    → PlaceBy (PlaceStands s us) (place_at places v) (Some p) → PlaceBy (PlaceStands s us) (place_at places u) (cond is (Some p) (viewers u))
+same_place_if s us places viewers v u p true is k there = let same : u ≡ v = eqb-true u v is in subst (λ n. PlaceBy (PlaceStands s us) (place_at places n) (Some p)) (sym same) there
+same_place_if s us places viewers v u p false is k there = k
 
 -- No look was taken before it.
 pub reached_no_look : (s : Setup) (standing : Standing) (w : World) (v : ℕ) (place : Held) → Reached s standing w → place_at standing.places v ≡ Some place → place.looked ≡ None
@@ -179,7 +183,7 @@ reached_no_look s standing w v place r there none =
     (λ p k.
     subst (λ o. Reached s standing (cut_at s w v p o)) (sym none ∙ k.looked)
     (record {
-      tile = r.tile;
+      size = r.size;
       extent = r.extent;
       width = r.width;
       height = r.height;
@@ -190,31 +194,35 @@ reached_no_look s standing w v place r there none =
       host = r.host;
       fault = r.fault;
       room = r.room;
-      places = λ u. same_place_if s standing.places w.viewers v u p (u == v) refl (r.places u) (subst (λ o. PlaceIs s o (Some p)) (sym there) k);
+      places = λ u. same_place_if s w.shared.updates standing.places w.viewers v u p (u == v) refl (r.places u) (subst (λ o. PlaceBy (PlaceStands s w.shared.updates) o (Some p)) (sym there) k);
     }))
 
 reached_cut_if : (s : Setup) (standing : Standing) (w : World) (v looked : ℕ) (place : Held) (p : Viewer) (is : Bool) → Reached s standing w → v < 65
-    → PlaceStands s place (cond is (after_cut s w.shared.updates p) (without_look p))
+    → PlaceStands s w.shared.updates place (cond is (after_cut s w.shared.updates p) (without_look p))
     → Reached s (with_place standing v place)
-    (cond is (set_viewer (record w { steps = w.steps ++ history.Cut (view w.shared.updates) ∷ [] }) v (Some (after_cut s w.shared.updates p))) (set_viewer w v (Some (without_look p))))
-reached_cut_if s standing w v looked place p true r within k = reached_set s standing w (w.steps ++ history.Cut (view w.shared.updates) ∷ []) v place (after_cut s w.shared.updates p) r within k
-reached_cut_if s standing w v looked place p false r within k = reached_set s standing w w.steps v place (without_look p) r within k
+    (cond is (set_viewer (with_act w (ByViewer v (w.stays v)) (history.Cut (view w.shared.updates))) v (Some (after_cut s w.shared.updates p))) (set_viewer w v (Some (without_look p))))
+reached_cut_if s standing w v looked place p true r within k = reached_set s standing w (with_act w (ByViewer v (w.stays v)) (history.Cut (view w.shared.updates))).acts w.stays v place (after_cut s w.shared.updates p) r within k
+reached_cut_if s standing w v looked place p false r within k = reached_set s standing w w.acts w.stays v place (without_look p) r within k
 
-place_turned : (s : Setup) (place : Held) (session : State) (p : Viewer) (us : List Update) (looked : ℕ) (is : Bool) → has_reason s.w s.h p.entries looked ≡ is → PlaceStands s place p
-    → (has_reason s.w s.h p.entries looked ≡ false → Stands s session (without_look p)) → (has_reason s.w s.h p.entries looked ≡ true → Stands s session (after_cut s us p))
-    → PlaceStands s (record { session = session; looked = None; written = place.written }) (cond is (after_cut s us p) (without_look p))
-place_turned s place session p us looked true e k stays cut = place_cut s place session p us k (cut e)
-place_turned s place session p us looked false e k stays cut = place_stays s place session p k (stays e)
+place_turned : (s : Setup) (place : Held) (session : State) (p : Viewer) (us : List Update) (looked : ℕ) (is : Bool) → has_reason s.w s.h p.entries looked ≡ is → PlaceStands s us place p
+    → (has_reason s.w s.h p.entries looked ≡ false → Stands s session (without_look p)) → (has_reason s.w s.h p.entries looked ≡ true → Stands s session (after_cut s us p)) → HasCounted session us
+    → PlaceStands s us (record { session = session; looked = None; written = place.written }) (cond is (after_cut s us p) (without_look p))
+place_turned s place session p us looked true e k stays cut counted = place_cut s us place session p k (cut e) counted
+place_turned s place session p us looked false e k stays cut counted = place_stays s us place session p k (stays e) counted
 
 -- The session went on.
 pub reached_cut : (s : Setup) (standing : Standing) (w : World) (v looked : ℕ) (place : Held) (session : State) → Reached s standing w → v < 65 → place_at standing.places v ≡ Some place → place.looked ≡ Some looked
     → ((q : Viewer) → Stands s place.session q → has_reason s.w s.h q.entries looked ≡ false → Stands s session (without_look q))
-    → ((q : Viewer) → Stands s place.session q → has_reason s.w s.h q.entries looked ≡ true → Stands s session (after_cut s standing.screen.updates q))
+    → ((q : Viewer) → HasCounted place.session standing.screen.updates → Stands s place.session q → has_reason s.w s.h q.entries looked ≡ true → Stands s session (after_cut s standing.screen.updates q))
+    → (HasCounted place.session standing.screen.updates → HasCounted session standing.screen.updates)
     → Reached s (with_place standing v (record { session = session; looked = None; written = place.written })) (happens s w (Cut v))
-reached_cut s standing w v looked place session r within there at stays cut =
+reached_cut s standing w v looked place session r within there at stays cut counted =
     reached_for s standing _ w v place _ r there
     (λ p k.
-    let turned = place_turned s place session p w.shared.updates looked (has_reason s.w s.h p.entries looked) refl k (stays p k.session) (λ e. subst (λ us. Stands s session (after_cut s us p)) r.updates (cut p k.session e)) in
+    let known : HasCounted place.session standing.screen.updates = subst (λ us. HasCounted place.session us) (sym r.updates) k.counted in
+    let turned =
+    place_turned s place session p w.shared.updates looked (has_reason s.w s.h p.entries looked) refl k (stays p k.session) (λ e. subst (λ us. Stands s session (after_cut s us p)) r.updates (cut p known k.session e))
+    (subst (λ us. HasCounted session us) r.updates (counted known)) in
     subst (λ o. Reached s (with_place standing v (record { session = session; looked = None; written = place.written })) (cut_at s w v p o)) (sym at ∙ k.looked)
     (reached_cut_if s standing w v looked _ p (has_reason s.w s.h p.entries looked) r within turned))
 
@@ -228,7 +236,7 @@ pub fed_reaches : (standing : Standing) (v : ℕ) (bytes : List ℕ) (found : Op
     → TakesStep (Bytes v bytes []) standing (with_place standing v new)
 fed_reaches standing v bytes found place new within at e k s w r =
     subst (λ h. Reached s (with_place standing v h) (happens s w (Bytes v bytes []))) (sym k.others)
-    (reached_bytes s standing w v bytes place new.session r within (there_is standing v found place r.room within at e) (k.stands s))
+    (reached_bytes s standing w v bytes place new.session r within (there_is standing v found place r.room within at e) (k.stands s) k.counted)
 
 pub looked_reaches : (standing : Standing) (v : ℕ) (tally : ℕ) (found : Option Held) (place new : Held) → v < 65 → found ≡ slice_index_or standing.places v found → found ≡ Some place → tally ≡ standing.screen.tally → HasLooked place new tally
     → TakesStep (Look v) standing (with_place standing v new)
@@ -240,7 +248,7 @@ pub written_reaches : (standing : Standing) (v count : ℕ) (found : Option Held
     → IsWritten place new (min count (length place.session.unsent)) → TakesStep (Written v count) standing (with_place standing v new)
 written_reaches standing v count found place new within at e k s w r =
     subst (λ h. Reached s (with_place standing v h) (happens s w (Written v count))) (sym k.others)
-    (reached_written s standing w v count place new.session r within (there_is standing v found place r.room within at e) (k.stands s))
+    (reached_written s standing w v count place new.session r within (there_is standing v found place r.room within at e) (k.stands s) k.counted)
 
 same_placed : (s : Setup) (standing : Standing) (w : World) (v : ℕ) (place : Held) → Reached s standing w → v < 65 → place_at standing.places v ≡ Some place → Reached s (with_place standing v place) w
 same_placed s standing w v place r within there = let same : slice_set standing.places v (Some place) ≡ standing.places = ap (slice_set standing.places v) (sym there) ∙ set-get_or standing.places v None in rw same r
@@ -252,7 +260,7 @@ goes_on_reaches standing v place new None s w r within there at k =
     (same_placed s standing (happens s w (Cut v)) v place (reached_no_look s standing w v place r there at) within there)
 goes_on_reaches standing v place new (Some looked) s w r within there at k =
     subst (λ h. Reached s (with_place standing v h) (happens s w (Cut v))) (sym k.others)
-    (reached_cut s standing w v looked place new.session r within there at (k.stays s) (k.cuts s))
+    (reached_cut s standing w v looked place new.session r within there at (k.stays s) (k.cuts s) k.counted)
 
 pub cut_reaches : (standing : Standing) (v : ℕ) (found : Option Held) (place new : Held) → v < 65 → found ≡ slice_index_or standing.places v found → found ≡ Some place → GoesOn place.looked place new standing.screen.updates
     → TakesStep (Cut v) standing (with_place standing v new)
@@ -264,19 +272,19 @@ held_is new looked written =
     let with_written : List ℕ → Held = λ b. record { session = new.session; looked = None; written = b } in
     ap with_looked looked ∙ ap with_written written
 
-pub joined_reaches : (standing : Standing) (v : ℕ) (name : List ℕ) (role : Role) (greet : Bool) (new : Held) → v < 65 → new.looked ≡ None → new.written ≡ []
-    → ((s : Setup) → s.w ≡ standing.screen.width → s.h ≡ standing.screen.height → s.name ≡ name → s.extent ≡ first_path s.extent.from_host → Stands s new.session (new_viewer s role greet))
+pub joined_reaches : (standing : Standing) (v : ℕ) (name : List ℕ) (role : Role) (greet : Bool) (new : Held) → v < 65 → new.looked ≡ None → new.written ≡ [] → new.session.asked.last ≡ None
+    → ((s : Setup) → s.w ≡ standing.screen.width → s.h ≡ standing.screen.height → s.name ≡ name → s.extent ≡ all_but_input s.extent.from_host → Stands s new.session (new_viewer s role greet))
     → JoinsUnder name (Join v role greet) standing (with_place standing v new)
-joined_reaches standing v name role greet new within looked written stands s w named r =
-    let extent : s.extent ≡ first_path s.extent.from_host = r.extent ∙ ap first_path (sym (ap (λ (x : Extent). x.from_host) r.extent)) in
+joined_reaches standing v name role greet new within looked written uncut stands s w named r =
+    let extent : s.extent ≡ all_but_input s.extent.from_host = r.extent ∙ ap all_but_input (sym (ap (λ (x : Extent). x.from_host) r.extent)) in
     subst (λ h. Reached s (with_place standing v h) (happens s w (Join v role greet))) (sym (held_is new looked written))
-    (reached_join s standing w v role greet new.session r within (stands s (sym r.width) (sym r.height) named extent))
+    (reached_join s standing w v role greet new.session r within (stands s (sym r.width) (sym r.height) named extent) uncut)
 
 -- What a cut asks for.
 pub ready_there : (s : Setup) (standing : Standing) (w : World) (v : ℕ) (found : Option Held) (place : Held) → Reached s standing w → v < 65 → found ≡ slice_index_or standing.places v found → found ≡ Some place
     → (is_some place.looked ≡ true → is_ready place.session ≡ true) × (place.session.width ≡ standing.screen.width) × (place.session.height ≡ standing.screen.height)
 ready_there s standing w v found place r within at e =
-    let it = place_is_some s (place_at standing.places v) (w.viewers v) place (r.places v) (there_is standing v found place r.room within at e) in
+    let it = place_is_some (PlaceStands s w.shared.updates) (place_at standing.places v) (w.viewers v) place (r.places v) (there_is standing v found place r.room within at e) in
     let k = it.2 in
     (k.ready, k.session.width ∙ sym r.width, k.session.height ∙ sym r.height)
 
@@ -305,3 +313,61 @@ err_reaches standing host fault same other reads s w r =
       | inl memory ↦ absurd (other memory)
       | inr read ↦ reached_no_put s standing w host (Some fault) r same out.0 read
     ]
+
+-- ---- what is seen
+
+pub shows_reached : (s : Setup) (standing : Standing) (w : World) → Reached s standing w → Shows s standing w
+shows_reached s standing w r =
+    record {
+      size = r.size;
+      extent = r.extent;
+      width = r.width;
+      height = r.height;
+      updates = r.updates;
+      fault = r.fault;
+      room = r.room;
+      places = λ v. place_seen s w.shared.updates (place_at standing.places v) (w.viewers v) (r.places v);
+    }
+
+pub leaves_stays : (old new : Standing) (fault : Fault) → StaysFor old new → Leaves old new fault
+leaves_stays old new fault stays = (λ s w r. shows_reached s new w (stays s w r), λ out. stays)
+
+pub leaves_same : (old new : Standing) (fault : Fault) → new ≡ old → Leaves old new fault
+leaves_same old new fault same = leaves_stays old new fault (λ s w r. subst (λ (standing : Standing). Reached s standing w) (sym same) r)
+
+pub leaves_seen : (old new : Standing) (fault : Fault) → fault ≡ Memory → StaysSeen old new → Leaves old new fault
+leaves_seen old new fault memory seen = (seen, λ out. absurd (let never : Memory ≡ NumbersOut = sym memory ∙ out in cc))
+
+-- A write was broken off.
+pub broken_off : (standing : Standing) (v : ℕ) (found : Option Held) (place new : Held) → v < 65 → found ≡ slice_index_or standing.places v found → found ≡ Some place → IsBrokenOff place new → StaysSeen standing (with_place standing v new)
+broken_off standing v found place new within at e broken s w r =
+    let shown = shows_reached s standing w r in
+    let it = place_is_some (PlaceShows s) (place_at standing.places v) (w.viewers v) place (shown.places v) (there_is standing v found place r.room within at e) in
+    record {
+      size = shown.size;
+      extent = shown.extent;
+      width = shown.width;
+      height = shown.height;
+      updates = shown.updates;
+      fault = shown.fault;
+      room = length-set standing.places v (Some new) ∙ shown.room;
+      places = place_changed (PlaceShows s) standing.places w.viewers v new it.0 (omega (arith, shown.room)) shown.places it.1 (record { fault = broken.fault ∙ it.2.fault; written = broken.written ∙ it.2.written });
+    }
+
+-- A viewer joins, also where memory was refused before.
+pub joined_shows : (standing : Standing) (v : ℕ) (name : List ℕ) (role : Role) (greet : Bool) (new : Held) → v < 65 → new.written ≡ []
+    → ((s : Setup) → s.w ≡ standing.screen.width → s.h ≡ standing.screen.height → s.name ≡ name → s.extent ≡ all_but_input s.extent.from_host → Stands s new.session (new_viewer s role greet))
+    → ShowsUnder name (Join v role greet) standing (with_place standing v new)
+joined_shows standing v name role greet new within written stands s w named shown =
+    let extent : s.extent ≡ all_but_input s.extent.from_host = shown.extent ∙ ap all_but_input (sym (ap (λ (x : Extent). x.from_host) shown.extent)) in
+    let stood : Stands s new.session (new_viewer s role greet) = stands s (sym shown.width) (sym shown.height) named extent in
+    record {
+      size = shown.size;
+      extent = shown.extent;
+      width = shown.width;
+      height = shown.height;
+      updates = shown.updates;
+      fault = shown.fault;
+      room = length-set standing.places v (Some new) ∙ shown.room;
+      places = places_set (PlaceShows s) standing.places w.viewers v new (new_viewer s role greet) (omega (arith, shown.room)) shown.places (record { fault = fault_stands s new.session (new_viewer s role greet) stood; written = written });
+    }

@@ -78,7 +78,7 @@ holds_after_written s lw lh form short es v p e later earlier area n bytes split
     let written = written_begins (hello_of s p ++ stream_of (heard s.extent.tells_news s.w s.h us upto)) (stream_of begins.0) p.written le in
     let read = read_in s lw lh form short es v p e later upto split in (
       (written.0, ap (take p.written) out ∙ written.1),
-      subst (λ (l : Listener). HoldsArea l.follower area (take n us)) (sym read.2) (holds_after_each s lw lh form es v p e later earlier area n bytes split).2,
+      subst (λ (l : Listener). HoldsArea l.follower area (take n us)) (sym read.2) (holds_after_each s lw lh form es v p e later earlier area n bytes split).held,
     )
 
 pub told_in_every_schedule : ToldInEverySchedule

@@ -1,17 +1,17 @@
 -- A reflector as the code keeps it, and the world of the definitions that it stands for.
-use Rattle.std.specs.Prelude.{◌≡◌, ℕ, ◌^◌, ◌⊎◌, Bool, true, false, if◌then◌else◌, List, [], ◌∷◌, ◌++◌, length, is_some, slice_get, slice_index_or, take, Option, Some, None, ◌≤◌}
+use Rattle.std.specs.Prelude.{◌≡◌, ℕ, ◌^◌, ◌⊎◌, Bool, true, false, if◌then◌else◌, List, [], ◌∷◌, ◌++◌, length, is_some, slice_get, slice_index_or, drop, take, Option, Some, None, ◌≤◌}
 use Rattle.pixel_format.specs.declared.fault.Fault.{Fault}
 use Rattle.pixel_format.specs.declared.fault.Fault.TheVariants.{Memory, NumbersOut}
+use Rattle.raster.specs.Size.{IsScreenSize}
 use Rattle.raster.specs.Update.{Update}
 use Rattle.reflect_core.specs.Plain.{Plain}
-use Rattle.reflect_core.specs.Sequential.{IsHistory}
-use Rattle.viewer_session.specs.FirstPath.{first_path}
-use Rattle.viewer_session.specs.Session.{IsOneTile, State, Stands, is_ready, after_writing, without_look}
+use Rattle.viewer_session.specs.AllButInput.{all_but_input}
+use Rattle.viewer_session.specs.Session.{HasCounted, State, fault_in, Stands, is_ready, after_writing, without_look}
 use Rattle.viewer_session.specs.Turn.{has_reason}
-use Rattle.viewer_session.specs.Viewer.{Setup, Viewer, out_bytes, after_bytes, after_cut, may_look}
+use Rattle.viewer_session.specs.Viewer.{Setup, Viewer, out_bytes, after_bytes, after_cut, may_look, viewer_fault}
 use Rattle.reflect_world.specs.Schedule.{Step, World, HostBytes, Put, Raise, Join, Bytes, Look, Cut, Written, happens, play}
 use Rattle.reflect_world.specs.Host.{HasReadTo, HostSide, HostStands, IsSameHost, host_form}
-use Rattle.reflect_world.specs.Headline.{HoldsAfterEachAnswer}
+use Rattle.reflect_world.specs.Headline.{Holds}
 use Rattle.reflect_world.specs.Said.{ArePutInOrder, HoldsAfterEachWritten, IsRead, IsSaid}
 use Rattle.reflect_world.specs.declared.step.Step as declared_step
 use Rattle.reflect_world.specs.declared.step.Step.TheVariants as code
@@ -47,9 +47,9 @@ pub record Kept : Type 0 where
   pub steps : List Step
   pub is_refused : Bool
 
--- The setup of the definitions: its screen, its room, and what the first path serves, over all that a host may send.
+-- The setup of the definitions: its screen, its room, and all of the protocol but relayed input.
 abbrev pub setup_of : Kept → Setup
-setup_of k = record { w = k.width; h = k.height; name = k.name; room = k.room; extent = first_path host_form }
+setup_of k = record { w = k.width; h = k.height; name = k.name; room = k.room; extent = all_but_input host_form }
 
 -- The world that its schedule gives.
 abbrev pub world_of : Kept → World
@@ -74,24 +74,42 @@ pub record Standing : Type 0 where
 abbrev pub place_at : List (Option Held) → ℕ → Option Held
 place_at places v = slice_index_or places v None
 
--- A place stands for a viewer. Where its last step was a look it is ready to go on.
-pub record PlaceStands (s : Setup) (place : Held) (p : Viewer) : Type 0 where
+-- A place stands for a viewer, over these updates: its last cut, if there was one, counted the Bells of the first of them. Where its last step
+-- was a look it is ready to go on.
+pub record PlaceStands (s : Setup) (us : List Update) (place : Held) (p : Viewer) : Type 0 where
   pub session : Stands s place.session p
+  pub counted : HasCounted place.session us
   pub looked : place.looked ≡ p.looked
   pub ready : is_some place.looked ≡ true → is_ready place.session ≡ true
   pub written : place.written ≡ take p.written (out_bytes s p)
 
--- There is a place where there is a viewer, and it stands for that one.
-abbrev pub PlaceIs : Setup → Option Held → Option Viewer → Type 0
-PlaceIs s None None = Unit {0}
-PlaceIs s None (Some p) = ⊥
-PlaceIs s (Some place) None = ⊥
-PlaceIs s (Some place) (Some p) = PlaceStands s place p
+-- There is a place where there is a viewer, and they are so related.
+abbrev pub PlaceBy : (Held → Viewer → Type 0) → Option Held → Option Viewer → Type 0
+PlaceBy P None None = Unit {0}
+PlaceBy P None (Some p) = ⊥
+PlaceBy P (Some place) None = ⊥
+PlaceBy P (Some place) (Some p) = P place p
+
+-- What is seen of a place: the fault of its viewer's bytes, and what was written to it.
+pub record PlaceShows (s : Setup) (place : Held) (p : Viewer) : Type 0 where
+  pub fault : fault_in place.session ≡ viewer_fault p
+  pub written : place.written ≡ take p.written (out_bytes s p)
+
+-- What is seen of the fields is what the schedule has come to. It stays so where memory was refused in the middle of a step.
+pub record Shows (s : Setup) (standing : Standing) (w : World) : Type 0 where
+  pub size : IsScreenSize s.w s.h
+  pub extent : s.extent ≡ all_but_input host_form
+  pub width : standing.screen.width ≡ s.w
+  pub height : standing.screen.height ≡ s.h
+  pub updates : standing.screen.updates ≡ w.shared.updates
+  pub fault : standing.host_fault ≡ w.host_fault
+  pub room : length standing.places ≡ 65
+  pub places : (v : ℕ) → PlaceBy (PlaceShows s) (place_at standing.places v) (w.viewers v)
 
 -- What stands in the fields is what the schedule has come to.
 pub record Reached (s : Setup) (standing : Standing) (w : World) : Type 0 where
-  pub tile : IsOneTile s.w s.h
-  pub extent : s.extent ≡ first_path host_form
+  pub size : IsScreenSize s.w s.h
+  pub extent : s.extent ≡ all_but_input host_form
   pub width : standing.screen.width ≡ s.w
   pub height : standing.screen.height ≡ s.h
   pub updates : standing.screen.updates ≡ w.shared.updates
@@ -101,7 +119,7 @@ pub record Reached (s : Setup) (standing : Standing) (w : World) : Type 0 where
   pub host : HostStands w.host_bytes w.shared.updates standing.host
   pub fault : standing.host_fault ≡ w.host_fault
   pub room : length standing.places ≡ 65
-  pub places : (v : ℕ) → PlaceIs s (place_at standing.places v) (w.viewers v)
+  pub places : (v : ℕ) → PlaceBy (PlaceStands s w.shared.updates) (place_at standing.places v) (w.viewers v)
 
 -- ---- what the calls of a place do
 
@@ -113,6 +131,7 @@ with_session place session = record { session = session; looked = None; written 
 pub record IsFed (old new : Held) (bytes : List ℕ) : Type 0 where
   pub others : new ≡ with_session old new.session
   pub stands : (s : Setup) (p : Viewer) → Stands s old.session p → Stands s new.session (after_bytes s (without_look p) bytes)
+  pub counted : (us : List Update) → HasCounted old.session us → HasCounted new.session us
 
 -- It looked at the tally, if it may.
 pub record HasLooked (old new : Held) (tally : ℕ) : Type 0 where
@@ -123,12 +142,28 @@ pub record HasLooked (old new : Held) (tally : ℕ) : Type 0 where
 pub record IsWritten (old new : Held) (count : ℕ) : Type 0 where
   pub others : new ≡ record { session = new.session; looked = None; written = old.written ++ take count old.session.unsent }
   pub stands : (s : Setup) (p : Viewer) → Stands s old.session p → Stands s new.session (after_writing count p)
+  pub counted : (us : List Update) → HasCounted old.session us → HasCounted new.session us
+
+-- So many of its unsent bytes were written, and nothing else changed.
+pub record WritesSome (old new : Held) (count : ℕ) : Type 0 where
+  pub others : new ≡ record old { session = new.session; written = old.written ++ take count old.session.unsent }
+  pub within : count ≤ length old.session.unsent
+  pub left : new.session.unsent ≡ drop count old.session.unsent
+  pub fault : fault_in new.session ≡ fault_in old.session
+  pub stands : (s : Setup) (p : Viewer) → Stands s old.session p → Stands s new.session (after_writing count p)
+  pub counted : (us : List Update) → HasCounted old.session us → HasCounted new.session us
+
+-- Writing was broken off: it shows what it showed before.
+pub record IsBrokenOff (old new : Held) : Type 0 where
+  pub fault : fault_in new.session ≡ fault_in old.session
+  pub written : new.written ≡ old.written
 
 -- It went on after a look that replied this number, over a source of these updates.
 pub record HasTurned (old new : Held) (looked : ℕ) (us : List Update) : Type 0 where
   pub others : new ≡ with_session old new.session
   pub stays : (s : Setup) (p : Viewer) → Stands s old.session p → has_reason s.w s.h p.entries looked ≡ false → Stands s new.session (without_look p)
-  pub cuts : (s : Setup) (p : Viewer) → Stands s old.session p → has_reason s.w s.h p.entries looked ≡ true → Stands s new.session (after_cut s us p)
+  pub cuts : (s : Setup) (p : Viewer) → HasCounted old.session us → Stands s old.session p → has_reason s.w s.h p.entries looked ≡ true → Stands s new.session (after_cut s us p)
+  pub counted : HasCounted old.session us → HasCounted new.session us
 
 -- Where there was no look it does nothing.
 abbrev pub GoesOn : Option ℕ → Held → Held → List Update → Type 0
@@ -162,9 +197,25 @@ JoinsUnder name e old new = (s : Setup) (w : World) → s.name ≡ name → Reac
 abbrev pub StaysFor : Standing → Standing → Type 0
 StaysFor old new = (s : Setup) (w : World) → Reached s old w → Reached s new w
 
+-- What stood for a world is seen as it was.
+abbrev pub StaysSeen : Standing → Standing → Type 0
+StaysSeen old new = (s : Setup) (w : World) → Reached s old w → Shows s new w
+
+-- And stands for it still, unless it was memory that was refused.
+abbrev pub Leaves : Standing → Standing → Fault → Type 0
+Leaves old new fault = StaysSeen old new × (fault ≡ NumbersOut → StaysFor old new)
+
+-- What was seen of a world is seen of what happens to it by a step, over a screen of this name.
+abbrev pub ShowsUnder : List ℕ → Step → Standing → Standing → Type 0
+ShowsUnder name e old new = (s : Setup) (w : World) → s.name ≡ name → Shows s old w → Shows s new (happens s w e)
+
 -- It stands for some world.
 abbrev pub IsReachable : Standing → Type 0
 IsReachable standing = (s : Setup) × (w : World) × Reached s standing w
+
+-- It shows some world.
+abbrev pub IsSeen : Standing → Type 0
+IsSeen standing = (s : Setup) × (w : World) × Shows s standing w
 
 -- Why a step isn't taken: memory is refused, or at a Put there are no more numbers.
 abbrev pub IsRefusal : Step → Standing → Fault → Type 0
@@ -172,10 +223,12 @@ IsRefusal e standing fault = (fault ≡ Memory) ⊎ ((fault ≡ NumbersOut) × (
 
 -- ---- what a world's calls do
 
--- The fields stand for what the schedule has come to, over a screen with a name of 1 to 255 bytes.
+-- The fields stand for what the schedule has come to, over a screen with a name of 1 to 255 bytes. Once memory was refused no step is taken any longer, and
+-- they only show it.
 pub record IsKept (k : Kept) (standing : Standing) : Type 0 where
   pub named : (1 ≤ length k.name) × (length k.name ≤ 255)
-  pub reached : Reached (setup_of k) standing (world_of k)
+  pub shows : Shows (setup_of k) standing (world_of k)
+  pub reached : k.is_refused ≡ false → Reached (setup_of k) standing (world_of k)
 
 -- A step was refused, and isn't in the schedule: for want of memory, which is noted; or at a Put for which there is no more number.
 abbrev pub StopsAt : Kept → Kept → Step → Fault → Type 0
@@ -197,13 +250,16 @@ HasStopped old new es played fault =
     ((old.is_refused ≡ true) × (new ≡ old) × (played ≡ 0) × (fault ≡ Memory))
     ⊎ ((old.is_refused ≡ false) × ((e : Step) × (slice_get es played ≡ Some e) × StopsAt (with_steps old (take played es)) new e fault))
 
--- What holds of a world, whatever its schedule: after each answer a viewer that follows its answers holds the area asked for; the puts,
--- raises, looks and cuts are one legal history; the updates are those of the host's bytes, in order; each viewer is sent its Bells, texts
--- and answers and nothing else, and reads exactly these; and once an answer is written whole it holds the area.
-pub record IsFaithful (k : Kept) : Type 0 where
-  pub holds : HoldsAfterEachAnswer (setup_of k) (world_of k)
-  pub history : IsHistory (world_of k).steps (world_of k).shared
-  pub in_order : ArePutInOrder (setup_of k) (world_of k)
-  pub said : IsSaid (setup_of k) (world_of k)
-  pub read : IsRead (setup_of k) (world_of k)
-  pub written : HoldsAfterEachWritten (setup_of k) (world_of k)
+-- What holds of a schedule: the headline, so that after each answer a viewer that follows its answers holds the area asked for, and the puts, raises, looks and
+-- cuts are one legal history, which has the viewers' own; the updates are those of the host's bytes, in order; each viewer is sent its Bells, texts and answers and
+-- nothing else, and reads exactly these; and once an answer is written whole it holds the area.
+pub record IsServed (s : Setup) (es : List Step) : Type 0 where
+  pub holds : Holds s es
+  pub in_order : ArePutInOrder s (play s es)
+  pub said : IsSaid s (play s es)
+  pub read : IsRead s (play s es)
+  pub written : HoldsAfterEachWritten s (play s es)
+
+-- That holds of a world's schedule, whatever it is, and of each beginning of it: a viewer that left was served as long as it was there.
+abbrev pub IsFaithful : Kept → Type 0
+IsFaithful k = (before after : List Step) → k.steps ≡ before ++ after → IsServed (setup_of k) before

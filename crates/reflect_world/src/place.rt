@@ -1,11 +1,12 @@
 //! A viewer of a world.
 
-ghost use Rattle.std.specs.Prelude.{◌≡◌, ℕ, ◌≤◌, [], ◌++◌, true, false, is_some, min, length, take, None, Some, IfOk, IfErr, OnOk};
+ghost use Rattle.std.specs.Prelude.{◌≡◌, ℕ, ◌≤◌, ◌<◌, [], ◌++◌, true, false, is_some, min, length, take, None, Some, IfOk, IfErr, OnOk};
 ghost use Rattle.pixel_format.specs.declared.fault.Fault.TheVariants.{Memory};
-ghost use Rattle.viewer_session.specs.FirstPath.{first_path};
-ghost use Rattle.viewer_session.specs.Session.{IsOneTile, Stands, fault_in, is_ready};
+ghost use Rattle.raster.specs.Size.{IsScreenSize};
+ghost use Rattle.viewer_session.specs.AllButInput.{all_but_input};
+ghost use Rattle.viewer_session.specs.Session.{Stands, fault_in, is_ready};
 ghost use Rattle.viewer_session.specs.Viewer.{Setup, new_viewer};
-ghost use Rattle.reflect_world.specs.World.{GoesOn, HasLooked, IsFed, IsWritten};
+ghost use Rattle.reflect_world.specs.World.{GoesOn, HasLooked, IsBrokenOff, IsFed, IsWritten, WritesSome};
 
 use pixel_format::Fault;
 use reflect_core::PlainScreen;
@@ -41,10 +42,11 @@ impl Place {
         role: Role,
         greet: bool,
     ) -> Result<Self, Fault>
-        requires size { IsOneTile width height }
+        requires size { IsScreenSize width height }
         requires name { (1 ≤ length name.now) × (length name.now ≤ 255) }
         ensures fresh { IfOk result (λ place. (place.looked ≡ None) × (place.written ≡ [])) }
-        ensures stands { IfOk result (λ place. (s : Setup) → s.w ≡ width → s.h ≡ height → s.name ≡ name.now → s.extent ≡ first_path s.extent.from_host → Stands s place.session (new_viewer s role greet)) }
+        ensures uncut { IfOk result (λ place. place.session.asked.last ≡ None) }
+        ensures stands { IfOk result (λ place. (s : Setup) → s.w ≡ width → s.h ≡ height → s.name ≡ name.now → s.extent ≡ all_but_input s.extent.from_host → Stands s place.session (new_viewer s role greet)) }
         ensures err { IfErr result (λ fault. fault ≡ Memory) }
     {
         let session = if greet {
@@ -108,18 +110,39 @@ impl Place {
         self.looked = None;
     }
 
-    /// So many of its unsent bytes are written, at most those there are. Where memory is refused (`Memory`) nothing has changed.
+    /// So many of its unsent bytes are written, piece by piece, at most those there are. Where memory is refused (`Memory`) what was written
+    /// before stands, and no more can be made of the session.
     pub fn write(&mut self, count: u64) -> Result<(), Fault>
         ensures ok { OnOk result (IsWritten self.old self.new (min count (length self.old.session.unsent))) }
+        ensures err { IfErr result (λ fault. (fault ≡ Memory) × IsBrokenOff self.old self.new) }
+    {
+        let before = self.written.len();
+        let mut left = count;
+        while left > 0 && !self.session.out().is_empty() {
+            match self.write_piece(left) {
+                Ok(written) => left -= written,
+                Err(fault) => {
+                    self.written.truncate(before);
+                    return Err(fault);
+                }
+            }
+        }
+        self.looked = None;
+        Ok(())
+    }
+
+    // Bytes of the piece that is sent next are written, at most so many. Where memory is refused nothing has changed.
+    fn write_piece(&mut self, most: u64) -> Result<u64, Fault>
+        ensures ok { IfOk result (λ count. WritesSome self.old self.new count × (count ≤ most)) }
+        ensures some { IfOk result (λ count. 0 < most → 0 < length self.old.session.piece → 0 < count) }
         ensures err { IfErr result (λ fault. (fault ≡ Memory) × (self.new ≡ self.old)) }
     {
-        let unsent = self.session.out();
-        let count = count.min(unsent.len() as u64) as usize;
-        if self.written.extend_from_slice(&unsent[..count]).is_err() {
+        let piece = self.session.out();
+        let count = most.min(piece.len() as u64) as usize;
+        if self.written.extend_from_slice(&piece[..count]).is_err() {
             return Err(Fault::Memory);
         }
         self.session.sent(count);
-        self.looked = None;
-        Ok(())
+        Ok(count as u64)
     }
 }

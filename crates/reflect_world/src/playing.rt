@@ -1,7 +1,7 @@
 //! Scripts, played over a world.
 
 ghost use Rattle.std.specs.Prelude.{◌≡◌, ◌≤◌, ◌⊎◌, length, IfOk};
-ghost use Rattle.viewer_session.specs.Session.{IsOneTile};
+ghost use Rattle.raster.specs.Size.{IsScreenSize};
 
 use crate::step::Step;
 use crate::world::{World, play};
@@ -16,7 +16,7 @@ use std::{io, slice};
 const LINES: u64 = 1 << 40;
 
 /// The widest and highest screen that is served, in pixels.
-const LARGEST: u64 = 16;
+const LARGEST: u64 = 4096;
 
 /// Room for inputs on their way to the host.
 const ROOM: u64 = 1 << 62;
@@ -154,7 +154,7 @@ fn print<W: Write>(output: &mut W, line: String) -> Result<(), Stop> {
 
 /// The width, the height and the name of the screen that the first line opens.
 fn screen_line(alloc: Global, line: &[u8]) -> Result<(u64, u64, &str), Stop>
-    ensures size { IfOk result (λ screen. IsOneTile screen.0 screen.1) }
+    ensures size { IfOk result (λ screen. IsScreenSize screen.0 screen.1) }
     ensures name { IfOk result (λ screen. (1 ≤ length screen.2.now) × (length screen.2.now ≤ 255)) }
 {
     let Ok(text) = str::from_utf8(line) else {

@@ -3,12 +3,12 @@
 ghost use Rattle.std.specs.Prelude.{◌≡◌, ℕ, ◌<◌, ◌≤◌, false, [], None, length, IfOk, IfErr, OnOk};
 ghost use Rattle.std.specs.Option.{option_copied};
 ghost use Rattle.pixel_format.specs.declared.fault.Fault.TheVariants.{Memory};
-ghost use Rattle.viewer_session.specs.FirstPath.{first_path};
-ghost use Rattle.viewer_session.specs.Session.{IsOneTile};
+ghost use Rattle.viewer_session.specs.AllButInput.{all_but_input};
+ghost use Rattle.raster.specs.Size.{IsScreenSize};
 ghost use Rattle.viewer_session.specs.Viewer.{Setup};
 ghost use Rattle.reflect_world.specs.Schedule.{Put, Raise, Join, HostBytes, Bytes, Look, Cut, Written, beginning};
 ghost use Rattle.reflect_core.specs.Plain.{IsPutRefusal};
-ghost use Rattle.reflect_world.specs.World.{IsPut, IsReachable, IsRefusal, JoinsUnder, Reached, TakesStep, place_at, step_of, IsUnread, StaysFor};
+ghost use Rattle.reflect_world.specs.World.{IsPut, IsReachable, IsRefusal, IsSeen, JoinsUnder, Leaves, Reached, ShowsUnder, StaysSeen, TakesStep, place_at, step_of, IsUnread, StaysFor};
 ghost use Rattle.reflect_world.specs.Host.{host_form};
 
 use crate::host::Host;
@@ -45,8 +45,8 @@ impl Model for Scene {
 impl Scene {
     /// Before any step. It fails where memory is refused (`Memory`).
     pub fn new(alloc: Global, width: u64, height: u64) -> Result<Self, Fault>
-        requires { IsOneTile width height }
-        ensures ok { IfOk result (λ scene. (s : Setup) → s.w ≡ width → s.h ≡ height → s.extent ≡ first_path host_form → Reached s scene beginning) }
+        requires { IsScreenSize width height }
+        ensures ok { IfOk result (λ scene. (s : Setup) → s.w ≡ width → s.h ≡ height → s.extent ≡ all_but_input host_form → Reached s scene beginning) }
         ensures err { IfErr result (λ fault. fault ≡ Memory) }
     {
         let Ok(places) = free_places(alloc) else {
@@ -62,10 +62,10 @@ impl Scene {
     }
 
     /// The fault that the host's bytes showed, if there is one.
-    pub fn host_fault(&self) -> Option<&Fault>
-        ensures { option_copied result ≡ self.now.host_fault }
+    pub fn host_fault(&self) -> Option<Fault>
+        ensures { result ≡ self.now.host_fault }
     {
-        self.host_fault.as_ref()
+        self.host_fault
     }
 
     /// How many updates were put.
@@ -89,8 +89,9 @@ impl Scene {
     pub fn join(&mut self, viewer: u64, role: Role, name: &[u8], greet: bool) -> Result<(), Fault>
         requires there { viewer < 65 }
         requires name { (1 ≤ length name.now) × (length name.now ≤ 255) }
-        requires reached { IsReachable self.old }
+        requires seen { IsSeen self.old }
         ensures ok { OnOk result (JoinsUnder name.now (Join viewer role greet) self.old self.new) }
+        ensures shows { OnOk result (ShowsUnder name.now (Join viewer role greet) self.old self.new) }
         ensures err { IfErr result (λ fault. (fault ≡ Memory) × (self.new ≡ self.old)) }
     {
         let (width, height) = self.screen.size();
@@ -99,12 +100,12 @@ impl Scene {
         Ok(())
     }
 
-    /// Takes a step. Where memory is refused (`Memory`), or there are no more numbers of updates (`NumbersOut`), it isn't taken: what stands
-    /// is that of the steps before. `Raise`, `Bytes`, `Look` and `Cut` are always taken.
+    /// Takes a step. Where memory is refused (`Memory`), or there are no more numbers of updates (`NumbersOut`), it isn't taken: what is seen
+    /// is that of the steps before, and behind `NumbersOut` further steps may be taken. `Raise`, `Bytes`, `Look` and `Cut` are always taken.
     pub fn take(&mut self, step: &Step) -> Result<(), Fault>
         requires { IsReachable self.old }
         ensures ok { OnOk result (TakesStep (step_of step.now) self.old self.new) }
-        ensures err { IfErr result (λ fault. IsRefusal (step_of step.now) self.old fault × StaysFor self.old self.new) }
+        ensures err { IfErr result (λ fault. IsRefusal (step_of step.now) self.old fault × Leaves self.old self.new fault) }
     {
         match step {
             Step::HostBytes(bytes) => self.host_bytes(bytes.as_slice()),
@@ -223,11 +224,11 @@ impl Scene {
         }
     }
 
-    // So many of a viewer's unsent bytes are written, if it is there.
+    // So many of a viewer's unsent bytes are written, if it is there. Where memory is refused what was written before is seen still.
     fn write(&mut self, viewer: u64, count: u64) -> Result<(), Fault>
         requires { IsReachable self.old }
         ensures ok { OnOk result (TakesStep (Written viewer count) self.old self.new) }
-        ensures err { IfErr result (λ fault. (fault ≡ Memory) × (self.new ≡ self.old)) }
+        ensures err { IfErr result (λ fault. (fault ≡ Memory) × StaysSeen self.old self.new) }
     {
         if viewer < PLACES {
             let slot = &mut self.places[viewer as usize];

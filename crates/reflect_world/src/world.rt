@@ -2,7 +2,7 @@
 
 ghost use Rattle.std.specs.Prelude.{◌≡◌, ℕ, ◌<◌, ◌≤◌, ◌^◌, ◌↔◌, [], ◌∷◌, ◌++◌, false, length, map, take, IfOk, IfErr, OnOk, OnErr, IsTrue, IsSome};
 ghost use Rattle.pixel_format.specs.declared.fault.Fault.TheVariants.{Memory};
-ghost use Rattle.viewer_session.specs.Session.{IsOneTile};
+ghost use Rattle.raster.specs.Size.{IsScreenSize};
 ghost use Rattle.reflect_world.specs.Schedule.{Join, fault_at, written_of};
 ghost use Rattle.reflect_world.specs.World.{HasPlayed, HasStopped, IsFaithful, StopsAt, setup_of, step_of, with_steps, world_of};
 
@@ -61,7 +61,7 @@ impl World {
         name: &[u8],
         room: u64,
     ) -> Result<World, Fault>
-        requires size { IsOneTile width height }
+        requires size { IsScreenSize width height }
         requires name { (1 ≤ length name.now) × (length name.now ≤ 255) }
         requires room { room ≤ 2 ^ 62 }
         ensures ok { IfOk result (λ world. world ≡ record { width = width; height = height; name = name.now; room = room; steps = []; is_refused = false }) }
@@ -132,9 +132,7 @@ impl World {
     pub fn host_fault(&self) -> Option<Fault>
         ensures { result ≡ (world_of self.now).host_fault }
     {
-        let fault = self.scene.host_fault()?;
-        // A fault's clone takes no memory.
-        fault.clone().ok()
+        self.scene.host_fault()
     }
 
     /// How many updates were put.

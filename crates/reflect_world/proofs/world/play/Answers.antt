@@ -1,12 +1,12 @@
 use Rattle.std.proofs.Common.{inr, subst, take}
 use Rattle.std.specs.Prelude.{map}
-use Rattle.viewer_session.specs.Session.{IsOneTile}
+use Rattle.raster.specs.Size.{IsScreenSize}
 use Rattle.reflect_world.specs.World.{Kept, StopsAt, step_of}
-use Rattle.reflect_world.proofs.Keeping.{is_faithful, played_more, step_at, tile_at, tile_with}
+use Rattle.reflect_world.proofs.Keeping.{is_faithful, played_more, step_at, size_at, size_with}
 use Rattle.reflect_world.proofs.world.play.Goals as goal
 
 pub returns-then-world-clause-faithful : goal.returns-then-world-clause-faithful
-returns-then-world-clause-faithful c = is_faithful c.args.world.now (subst (λ (k : Kept). IsOneTile k.width k.height) c.world.view_is c.world.invariant.reached.tile)
+returns-then-world-clause-faithful c = is_faithful c.args.world.now (subst (λ (k : Kept). IsScreenSize k.width k.height) c.world.view_is c.world.invariant.shows.size)
 
 pub loop-played-preserved : goal.loop-played-preserved
 loop-played-preserved c =
@@ -20,10 +20,10 @@ returns-in-Err-clause-err c =
 
 pub returns-in-Err-clause-faithful : goal.returns-in-Err-clause-faithful
 returns-in-Err-clause-faithful c =
-    let tile = tile_with c.args.world.now c.loop-played.world (take c.loop-played.played (map step_of c.args.steps.now)) c.loop-played.invariant.0 (subst (λ (k : Kept). IsOneTile k.width k.height) c.world.view_is c.world.invariant.reached.tile) in
-    is_faithful c.step.new.self (tile_at c.loop-played.world c.step.new.self (step_of c.index-steps-played.result) c.in-Err.fault tile c.in-Err.ensures.err)
+    let size = size_with c.args.world.now c.loop-played.world (take c.loop-played.played (map step_of c.args.steps.now)) c.loop-played.invariant.0 (subst (λ (k : Kept). IsScreenSize k.width k.height) c.world.view_is c.world.invariant.shows.size) in
+    is_faithful c.step.new.self (size_at c.loop-played.world c.step.new.self (step_of c.index-steps-played.result) c.in-Err.fault size c.in-Err.ensures.err)
 
 pub returns-clause-faithful : goal.returns-clause-faithful
 returns-clause-faithful c =
     is_faithful c.loop-played.world
-    (tile_with c.args.world.now c.loop-played.world (take c.loop-played.played (map step_of c.args.steps.now)) c.loop-played.invariant.0 (subst (λ (k : Kept). IsOneTile k.width k.height) c.world.view_is c.world.invariant.reached.tile))
+    (size_with c.args.world.now c.loop-played.world (take c.loop-played.played (map step_of c.args.steps.now)) c.loop-played.invariant.0 (subst (λ (k : Kept). IsScreenSize k.width k.height) c.world.view_is c.world.invariant.shows.size))

@@ -15,4 +15,4 @@ returns-clause-goes_on c =
     (subst (λ (looked : Option ℕ). GoesOn looked old new us) (sym c.in-Some.is)
     (has_turned old c.turn_at.new.self us c.in-Some.looked
     (λ e. (c.turn_at.ensures.idle e).1)
-    (λ e. subst (λ (screen : Plain). CutsAt c.self.inside.session c.turn_at.new.self screen.updates (length us)) c.turn_at.ensures.moves (c.in-Ok.ensures.cuts e))))
+    (λ e. subst (λ (screen : Plain). CutsAt c.self.inside.session c.turn_at.new.self screen.updates (length us) (length screen.updates)) c.turn_at.ensures.moves (c.in-Ok.ensures.cuts e))))

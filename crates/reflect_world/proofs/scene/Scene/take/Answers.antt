@@ -1,7 +1,9 @@
 use Rattle.std.proofs.Common.{ap, subst, sym, ◌∙◌}
 use Rattle.std.specs.Prelude.{OnOk}
+use Rattle.std.proofs.lemmas.Result.{IfErr-weaker}
 use Rattle.reflect_world.specs.Schedule.{HostBytes, Step, happens}
-use Rattle.reflect_world.specs.World.{Reached, TakesStep, step_of}
+use Rattle.reflect_world.specs.World.{IsRefusal, Reached, TakesStep, step_of}
+use Rattle.reflect_world.proofs.Reaching.{leaves_stays}
 use Rattle.reflect_world.proofs.scene.Scene.take.Goals as goal
 
 pub returns-in-HostBytes-clause-ok : goal.returns-in-HostBytes-clause-ok
@@ -10,3 +12,12 @@ returns-in-HostBytes-clause-ok c =
 
 pub returns-in-Raise-clause-ok : goal.returns-in-Raise-clause-ok
 returns-in-Raise-clause-ok c = λ s w r. subst (λ (e : Step). Reached s c.raise.new.self (happens s w e)) (sym (ap step_of c.in-Raise.is)) (c.raise.ensures s w r)
+
+pub returns-in-Put-clause-err : goal.returns-in-Put-clause-err
+returns-in-Put-clause-err c =
+    IfErr-weaker c.put_next.result _ _
+    (λ fault refused. (
+      subst (λ (e : Step). IsRefusal e c.args.self.now fault) (sym (ap step_of c.in-Put.is)) refused.0,
+      leaves_stays c.args.self.now c.put_next.new.self fault refused.1,
+    ))
+    c.put_next.ensures.err
