@@ -1,0 +1,65 @@
+//! How a pair begins.
+
+ghost use Rattle.std.specs.Prelude.{◌≡◌, ◌⊎◌, ◌^◌, ◌<◌, ◌≤◌, [], length, vec_len, All, IfOk, IfErr};
+ghost use Rattle.left_right.specs.Handles.{published, pending};
+ghost use Rattle.pixel_format.specs.declared.fault.Fault.TheVariants.{Memory, NoPlace};
+ghost use Rattle.raster.specs.Size.{IsScreenSize};
+
+use crate::eye::Eye;
+use crate::published::Published;
+use crate::publishing::opened;
+use crate::stamped::Stamped;
+use crate::writer::PairWriter;
+use left_right::WriteHandle;
+use pixel_format::Fault;
+use std::alloc::Global;
+use std::sync::{Arc, Wait};
+use tally_word::{Front, Naming, Roll};
+
+/// So many eyes of a pair, which know no update. It fails where memory is refused (`Memory`) or no place is left
+/// (`NoPlace`).
+pub fn eyes<J: Naming, R: Wait + Drop>(
+    alloc: Global,
+    handle: &WriteHandle<Published<J>, Stamped<J>, R>,
+    front: &Front<J>,
+    places: usize,
+) -> Result<Vec<Eye<J>>, Fault>
+    ensures count { IfOk result (λ eyes. vec_len eyes ≡ places) }
+    ensures empty { IfOk result (λ eyes. All (λ eye. eye ≡ []) eyes.items) }
+    ensures err { IfErr result (λ fault. (fault ≡ Memory) ⊎ (fault ≡ NoPlace)) }
+{
+    let mut eyes = Vec::new(alloc);
+    for _ in 0..places {
+        // Nothing tells a place that isn't free from a count of owners that is full.
+        let Ok(reader) = handle.handle() else {
+            return Err(Fault::NoPlace);
+        };
+        eyes.push(Eye::new(reader, front))?;
+    }
+    Ok(eyes)
+}
+
+/// A publisher's end and so many readers' ends, over an opening screen of `width` by `height` pixels. It fails where
+/// memory is refused (`Memory`) or no place for a reader is left (`NoPlace`).
+pub fn pair<J: Naming, R: Wait + Drop>(
+    rt: R,
+    alloc: Global,
+    roll: &Arc<Roll<J>, Global>,
+    front: &Front<J>,
+    width: u64,
+    height: u64,
+    places: usize,
+) -> Result<(PairWriter<J, R>, Vec<Eye<J>>), Fault>
+    requires size { IsScreenSize width height × (width ≡ J.width) × (height ≡ J.height) }
+    requires empty { front.now ≡ [] }
+    requires places { (1 ≤ places) × (places ≤ 65) }
+    ensures writer { IfOk result (λ ends. ends.0 ≡ []) }
+    ensures count { IfOk result (λ ends. vec_len ends.1 ≡ places) }
+    ensures eyes { IfOk result (λ ends. All (λ eye. eye ≡ []) ends.1.items) }
+    ensures err { IfErr result (λ fault. (fault ≡ Memory) ⊎ (fault ≡ NoPlace)) }
+{
+    let handle = opened(rt, alloc, front, width, height, places)?;
+    let eyes = eyes(alloc, &handle, front, places)?;
+    let roll = Arc::try_clone(roll)?;
+    Ok((PairWriter::new(handle, roll), eyes))
+}

@@ -1,0 +1,145 @@
+//! The readers' ends of a pair.
+
+ghost use Rattle.std.specs.Prelude.{◌≡◌, ◌⊎◌, ◌≤◌, [], length, take, IfOk, IfErr};
+ghost use Rattle.pixel_format.specs.declared.fault.Fault.TheVariants.{Gone};
+ghost use Rattle.raster.specs.Screen.{IsWithin};
+ghost use Rattle.reflect_core.specs.Sequential.{Begins};
+ghost use Rattle.reflect_core.specs.Source.{IsCutOf};
+ghost use Rattle.tally_word.specs.History.{puts_of};
+
+use crate::news::PairNews;
+use crate::published::Published;
+use crate::writer::PairWriter;
+use left_right::ReadHandle;
+use pixel_format::Fault;
+use raster::Rect;
+use reflect_core::Cut;
+use std::marker::Model;
+use std::sync::Wait;
+use tally_word::{Front, Naming};
+use tiles::Have;
+
+/// Reads what is published: contracts see the list of updates that it knows.
+#[derive(Drop)]
+pub struct Eye<J: Naming> {
+    reader: ReadHandle<Published<J>>,
+    front: Front<J>,
+    number: u64,
+}
+
+impl<J: Naming> Model for Eye<J> {
+    ghost use Rattle.std.specs.Prelude.{◌≤◌, List, length, take};
+    ghost use Rattle.raster.specs.Update.{Update};
+    ghost use Rattle.tally_word.specs.History.{puts_of};
+
+    ghost Value = { List Update };
+
+    ghost view = { λ e. take e.number (puts_of e.front) };
+
+    ghost invariant = { λ e. e.number ≤ length (puts_of e.front) };
+}
+
+impl<J: Naming> Eye<J> {
+    /// It knows no update.
+    pub(crate) fn new(reader: ReadHandle<Published<J>>, front: &Front<J>) -> Self
+        ensures { result ≡ [] }
+    {
+        Eye {
+            reader,
+            front: front.again(),
+            number: 0,
+        }
+    }
+
+    /// How many updates it knows.
+    pub fn number(&self) -> u64
+        ensures { result ≡ length self.now }
+    {
+        self.number
+    }
+
+    /// It knows the longer of its list and the one that was told from now on. Each of the two begins that.
+    pub fn learn(&mut self, news: &PairNews<J>)
+        ensures one { (self.new ≡ self.old) ⊎ (self.new ≡ news.now) }
+        ensures mine { Begins self.old self.new }
+        ensures told { Begins news.now self.new }
+    {
+        self.learn_first(&news.front, news.number);
+    }
+
+    /// The same with what the publisher has published.
+    pub fn meet<R: Wait + Drop>(&mut self, writer: &PairWriter<J, R>)
+        ensures one { (self.new ≡ self.old) ⊎ (self.new ≡ writer.now) }
+        ensures mine { Begins self.old self.new }
+        ensures told { Begins writer.now self.new }
+    {
+        self.learn(&writer.tell());
+    }
+
+    /// The same with the first `number` updates of a beginning of the history.
+    pub fn learn_first(&mut self, front: &Front<J>, number: u64)
+        requires { number ≤ length (puts_of front.now) }
+        ensures one { (self.new ≡ self.old) ⊎ (self.new ≡ take number (puts_of front.now)) }
+        ensures mine { Begins self.old self.new }
+        ensures told { Begins (take number (puts_of front.now)) self.new }
+    {
+        // Both are beginnings of one history.
+        let mut both = self.front.again();
+        both.learn(front);
+        if self.number < number {
+            self.front = front.again();
+            self.number = number;
+        }
+    }
+
+    /// What the published updates show, and how many they are: it knows them from now on. It takes no memory, and fails
+    /// where the publisher has ended (`Gone`); then it is as it was, and so is the cut.
+    pub fn cut(&mut self, area: &Rect, have: &Have, into: &mut Cut) -> Result<u64, Fault>
+        requires within { IsWithin area.now J.width J.height }
+        requires screen { (have.now.width ≡ J.width) × (have.now.height ≡ J.height) }
+        requires room { (into.old.width ≡ J.width) × (into.old.height ≡ J.height) }
+        ensures grows { IfOk result (λ n. Begins self.old self.new × (n ≡ length self.new)) }
+        ensures cut { IfOk result (λ n. IsCutOf self.new n area.now have.now into.new) }
+        ensures room { (into.new.width ≡ into.old.width) × (into.new.height ≡ into.old.height) }
+        ensures gone { IfErr result (λ fault. (fault ≡ Gone) × (self.new ≡ self.old) × (into.new ≡ into.old)) }
+    {
+        let Some(guard) = self.reader.enter() else {
+            return Err(Fault::Gone);
+        };
+        let copy: &Published<J> = &guard;
+        let number = copy.number();
+        // A copy that was entered is never older than what was told, which no contract can say.
+        if number < self.number {
+            return Err(Fault::Gone);
+        }
+        let front = copy.front();
+        let mut both = self.front.again();
+        both.learn(&front);
+        copy.show(area, have, into);
+        self.number = number;
+        self.front = front;
+        Ok(number)
+    }
+
+    /// How many updates are published: it knows them from now on. It fails where the publisher has ended (`Gone`); then
+    /// it is as it was.
+    pub fn look(&mut self) -> Result<u64, Fault>
+        ensures grows { IfOk result (λ n. Begins self.old self.new × (n ≡ length self.new)) }
+        ensures gone { IfErr result (λ fault. (fault ≡ Gone) × (self.new ≡ self.old)) }
+    {
+        let Some(guard) = self.reader.enter() else {
+            return Err(Fault::Gone);
+        };
+        let copy: &Published<J> = &guard;
+        let number = copy.number();
+        if number < self.number {
+            return Err(Fault::Gone);
+        }
+        let front = copy.front();
+        let mut both = self.front.again();
+        both.learn(&front);
+        self.number = number;
+        self.front = front;
+        Ok(number)
+    }
+}

@@ -1,0 +1,25 @@
+//! A screen that one thread publishes and others read: a pair of boards, of which readers see the one and the publisher
+//! changes the other.
+//!
+//! `pair` takes memory, and fails where it is refused (`Memory`) or where no place for a reader is left (`NoPlace`).
+//! `PairWriter::put`, its end and its drop may wait for an eye that is inside a copy; so the writer keeps a handle that
+//! may wait. An eye never waits, and takes no memory.
+#![tactic(auto)]
+
+mod ends;
+mod eye;
+mod news;
+mod published;
+mod publishing;
+mod show;
+mod stamped;
+mod stamps;
+mod writer;
+
+pub use ends::{eyes, pair};
+pub use eye::Eye;
+pub use news::PairNews;
+pub use published::Published;
+pub use publishing::{opened, publish, tell};
+pub use stamped::Stamped;
+pub use writer::PairWriter;

@@ -1,0 +1,126 @@
+//! A copy of the screen.
+
+ghost use Rattle.std.specs.Prelude.{◌≡◌, ◌+◌, ◌^◌, ◌≤◌, suc, [], length, IfOk, IfErr};
+ghost use Rattle.pixel_format.specs.declared.fault.Fault.TheVariants.{Memory};
+ghost use Rattle.raster.specs.Screen.{IsWithin};
+ghost use Rattle.raster.specs.Size.{IsScreenSize};
+ghost use Rattle.reflect_core.specs.Source.{IsCutOf};
+ghost use Rattle.tally_word.specs.History.{puts_of};
+
+use crate::show::show;
+use crate::stamped::Stamped;
+use crate::stamps::Stamps;
+use left_right::Absorb;
+use painter::Board;
+use pixel_format::Fault;
+use raster::Rect;
+use reflect_core::Cut;
+use std::alloc::{AllocError, Global};
+use std::marker::Model;
+use tally_word::{Change, Front, Naming};
+use tiles::Have;
+
+/// A copy of the screen: contracts see the history that it stands for. That its board is the one of that history's
+/// updates is part of its type, so whoever may enter a copy knows it.
+#[derive(Drop)]
+pub struct Published<J: Naming> {
+    board: Board,
+    stamps: Stamps,
+    front: Front<J>,
+}
+
+impl<J: Naming> Model for Published<J> {
+    ghost use Rattle.std.specs.Prelude.{List};
+    ghost use Rattle.screen_pair.specs.Published.{IsPublished};
+    ghost use Rattle.tally_word.specs.History as history;
+
+    ghost Value = { List history.Change };
+
+    ghost view = { λ p. p.front };
+
+    ghost invariant = { λ p. IsPublished J.width J.height p.board p.stamps p.front };
+}
+
+impl<J: Naming> Absorb<Stamped<J>> for Published<J> {
+    ghost use Rattle.screen_pair.specs.Published.{follows};
+
+    // A clause reads an array as a list, of any length.
+    type State = [Change; 0];
+
+    ghost state = { λ p. p };
+
+    ghost applied = { follows };
+
+    ghost never_fails = { Unit {0} };
+
+    fn absorb_first(
+        &mut self,
+        operation: &Stamped<J>,
+        _other: &Published<J>,
+    ) -> Result<(), AllocError> {
+        if operation.number == self.board.number() + 1 {
+            self.follow(operation);
+        }
+        Ok(())
+    }
+}
+
+impl<J: Naming> Published<J> {
+    /// The opening screen. It fails where memory is refused (`Memory`).
+    pub(crate) fn new(
+        alloc: Global,
+        width: u64,
+        height: u64,
+        front: &Front<J>,
+    ) -> Result<Self, Fault>
+        requires size { IsScreenSize width height × (width ≡ J.width) × (height ≡ J.height) }
+        requires empty { front.now ≡ [] }
+        ensures ok { IfOk result (λ p. p ≡ []) }
+        ensures err { IfErr result (λ fault. fault ≡ Memory) }
+    {
+        Ok(Published {
+            board: Board::new(alloc, width, height)?,
+            stamps: Stamps::new(alloc, width, height)?,
+            front: front.again(),
+        })
+    }
+
+    /// How many updates it shows.
+    pub(crate) fn number(&self) -> u64
+        ensures number { result ≡ length (puts_of self.now) }
+        ensures few { result ≤ 2 ^ 62 }
+    {
+        self.board.number()
+    }
+
+    /// The history that it stands for.
+    pub(crate) fn front(&self) -> Front<J>
+        ensures { result ≡ self.now }
+    {
+        self.front.again()
+    }
+
+    /// Keeps what it shows in a cut. It takes no memory.
+    pub(crate) fn show(&self, area: &Rect, have: &Have, into: &mut Cut)
+        requires within { IsWithin area.now J.width J.height }
+        requires size { (have.now.width ≡ J.width) × (have.now.height ≡ J.height) }
+        requires room { (into.old.width ≡ J.width) × (into.old.height ≡ J.height) }
+        ensures size { (into.new.width ≡ into.old.width) × (into.new.height ≡ into.old.height) }
+        ensures cut { IsCutOf (puts_of self.now) (length (puts_of self.now)) area.now have.now into.new }
+    {
+        show(&self.board, &self.stamps, area, have, into);
+    }
+
+    /// Applies the update that comes next.
+    fn follow(&mut self, next: &Stamped<J>)
+        requires { suc (length (puts_of self.old)) ≡ length (puts_of next.now.log) }
+        ensures { self.new ≡ next.now.log }
+    {
+        // Both are beginnings of one history.
+        let mut both = self.front.again();
+        both.learn(&next.front);
+        self.board.apply(&next.patch);
+        self.stamps.follow(&next.patch, next.number);
+        self.front = next.front.again();
+    }
+}

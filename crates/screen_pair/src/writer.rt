@@ -1,0 +1,124 @@
+//! The publisher's end of a pair.
+
+ghost use Rattle.std.specs.Prelude.{◌≡◌, ◌*◌, ◌+◌, ◌<◌, ◌≤◌, ◌^◌, ◌∷◌, ◌++◌, [], length, IfOk, IfErr, IsTrue, List};
+ghost use Rattle.left_right.specs.Handles.{published, pending};
+ghost use Rattle.reflect_core.specs.Plain.{IsPutRefusal};
+ghost use Rattle.reflect_core.specs.Sequential.{Begins};
+ghost use Rattle.raster.specs.Update.{Update};
+ghost use Rattle.tally_word.specs.History.{puts_of};
+
+use crate::news::PairNews;
+use crate::published::Published;
+use crate::publishing::{publish, tell};
+use crate::stamped::Stamped;
+use left_right::{Absorb, WriteHandle};
+use painter::Patch;
+use pixel_format::{Fault, LIMIT};
+use reflect_core::Puts;
+use std::alloc::Global;
+use std::marker::Model;
+use std::sync::{Arc, Wait};
+use tally_word::{Change, Front, Naming, Roll};
+
+/// Publishes updates: contracts see the list of those that are published.
+#[derive(Drop)]
+pub struct PairWriter<J: Naming, R: Wait + Drop>
+where
+    Published<J>: Absorb<Stamped<J>, State = [Change; 0]>,
+{
+    handle: WriteHandle<Published<J>, Stamped<J>, R>,
+    roll: Arc<Roll<J>, Global>,
+}
+
+impl<J: Naming, R: Wait + Drop> Model for PairWriter<J, R>
+where
+    Published<J>: Absorb<Stamped<J>, State = [Change; 0]>,
+{
+    ghost use Rattle.std.specs.Prelude.{◌≡◌, [], List};
+    ghost use Rattle.left_right.specs.Handles.{published, pending};
+    ghost use Rattle.raster.specs.Update.{Update};
+    ghost use Rattle.tally_word.specs.History.{puts_of};
+
+    ghost Value = { List Update };
+
+    ghost view = { λ w. puts_of (published w.handle) };
+
+    ghost invariant = { λ w. pending w.handle ≡ [] };
+}
+
+/// Knows all changes from now on, and sees that the tally stands at the number of updates: where one was published and
+/// isn't raised, it is. It says whether these are all updates.
+fn catch_up<J: Naming>(front: &mut Front<J>, roll: &Roll<J>, number: u64) -> bool
+    requires { (number ≡ length (puts_of front.old)) × (number < 2 ^ 62) }
+    ensures grows { Begins front.old front.new }
+    ensures count { IsTrue result → length front.new ≡ 2 * number }
+{
+    let changes = front.look(roll);
+    front.is_legal();
+    if changes == 2 * number {
+        return true;
+    }
+    if changes != (2 * number).saturating_sub(1) {
+        return false;
+    }
+    front.raise(roll, changes, number)
+}
+
+impl<J: Naming, R: Wait + Drop> PairWriter<J, R> {
+    /// The publisher of copies that are opening screens.
+    pub(crate) fn new(
+        handle: WriteHandle<Published<J>, Stamped<J>, R>,
+        roll: Arc<Roll<J>, Global>,
+    ) -> Self
+        requires { (published handle ≡ []) × (pending handle ≡ []) }
+        ensures { result ≡ [] }
+    {
+        PairWriter { handle, roll }
+    }
+
+    /// News of what is published.
+    pub fn tell(&self) -> PairNews<J>
+        ensures { result ≡ self.now }
+    {
+        tell(&self.handle)
+    }
+
+    /// Ends the publisher: no copy can be entered from now on. It may wait for an eye that is inside one.
+    pub fn end(self) {
+        drop(self)
+    }
+}
+
+impl<J: Naming, R: Wait + Drop> Puts for PairWriter<J, R> {
+    ghost updates = { λ w. w };
+
+    ghost width = { λ w. J.width };
+
+    ghost height = { λ w. J.height };
+
+    /// It may wait for an eye that is still inside the copy from before the last put.
+    fn put(&mut self, patch: Patch) -> Result<u64, (Fault, Patch)>
+        requires { (patch.width ≡ J.width) × (patch.height ≡ J.height) }
+        ensures ok { IfOk result (λ n. (length self.old < 2 ^ 62) × (self.new ≡ self.old ++ patch.update ∷ []) × (n ≡ length self.new)) }
+        ensures err { IfErr result (λ refused. IsPutRefusal (length self.old) refused.0 × (refused.1 ≡ patch) × (self.new ≡ self.old)) }
+    {
+        let copy = self.handle.published();
+        let number = copy.number();
+        if number >= LIMIT {
+            return Err((Fault::NumbersOut, patch));
+        }
+        let mut front = copy.front();
+        // No other end adds changes, so neither of these is ever so.
+        if !catch_up(&mut front, &self.roll, number) {
+            return Err((Fault::Memory, patch));
+        }
+        front.is_legal();
+        if !front.put(&self.roll, 2 * number, &patch) {
+            return Err((Fault::Memory, patch));
+        }
+        if let Err(patch) = publish(&mut self.handle, patch, number + 1, front) {
+            return Err((Fault::Memory, patch));
+        }
+        Ok(number + 1)
+    }
+}

@@ -1,0 +1,61 @@
+//! How a shared screen begins.
+
+ghost use Rattle.std.specs.Prelude.{◌≡◌, ◌⊎◌, ◌≤◌, [], length, vec_len, All, IfOk, IfErr};
+ghost use Rattle.pixel_format.specs.declared.fault.Fault.TheVariants.{Memory, NoPlace};
+ghost use Rattle.raster.specs.Size.{IsScreenSize};
+
+use crate::publisher::Publisher;
+use crate::watcher::Watcher;
+use pixel_format::Fault;
+use screen_pair::{Eye, eyes, opened};
+use std::alloc::Global;
+use std::sync::{Arc, Wait};
+use tally_word::{Glance, Naming, Opened, tally};
+
+/// A watcher of each eye.
+fn watchers<J: Naming>(
+    alloc: Global,
+    width: u64,
+    height: u64,
+    eyes: Vec<Eye<J>>,
+    glance: &Glance<J>,
+) -> Result<Vec<Watcher<J>>, Fault>
+    requires size { (width ≡ J.width) × (height ≡ J.height) }
+    requires empty { All (λ eye. eye ≡ []) eyes.items × (glance.now ≡ []) }
+    ensures count { IfOk result (λ made. vec_len made ≡ vec_len eyes) }
+    ensures made { IfOk result (λ made. All (λ w. w ≡ record { updates = []; tally = 0 }) made.items) }
+    ensures err { IfErr result (λ fault. fault ≡ Memory) }
+{
+    let mut made = Vec::new(alloc);
+    for eye in eyes {
+        made.push(Watcher::new(width, height, eye, glance.another()?))?;
+    }
+    Ok(made)
+}
+
+/// A publisher and so many watchers, over an opening screen of `width` by `height` pixels, of a history without a
+/// change. It fails where memory is refused (`Memory`) or no place for a reader is left (`NoPlace`).
+pub fn shared<J: Naming, R: Wait + Drop + Copy>(
+    rt: R,
+    alloc: Global,
+    history: Opened,
+    width: u64,
+    height: u64,
+    places: usize,
+) -> Result<(Publisher<J, R>, Vec<Watcher<J>>), Fault>
+    requires history { history.seen.book ≡ J.book }
+    requires size { IsScreenSize width height × (width ≡ J.width) × (height ≡ J.height) }
+    requires places { (1 ≤ places) × (places ≤ 65) }
+    ensures publisher { IfOk result (λ ends. ends.0 ≡ []) }
+    ensures count { IfOk result (λ ends. vec_len ends.1 ≡ places) }
+    ensures watchers { IfOk result (λ ends. All (λ w. w ≡ record { updates = []; tally = 0 }) ends.1.items) }
+    ensures err { IfErr result (λ fault. (fault ≡ Memory) ⊎ (fault ≡ NoPlace)) }
+{
+    let (roll, front) = history.named::<J>();
+    let roll = Arc::new(alloc, roll)?;
+    let handle = opened(rt, alloc, &front, width, height, places)?;
+    let eyes = eyes(alloc, &handle, &front, places)?;
+    let (raiser, glance) = tally(&roll, &front)?;
+    let watchers = watchers(alloc, width, height, eyes, &glance)?;
+    Ok((Publisher::new(handle, raiser, rt), watchers))
+}

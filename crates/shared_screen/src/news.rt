@@ -1,0 +1,25 @@
+//! What the publisher tells.
+
+use screen_pair::PairNews;
+use std::marker::Model;
+use tally_word::{Naming, TallyNews};
+
+/// What the publisher had put when it told: contracts see the updates, and the tally, which is raised to their number.
+/// It may be read by many.
+#[derive(Drop)]
+pub struct News<J: Naming> {
+    pub(crate) pair: PairNews<J>,
+    pub(crate) tally: TallyNews<J>,
+}
+
+impl<J: Naming> Model for News<J> {
+    ghost use Rattle.std.specs.Prelude.{◌≡◌, length};
+    ghost use Rattle.reflect_core.specs.Sequential.{Shared};
+    ghost use Rattle.tally_word.specs.History.{tally_of};
+
+    ghost Value = { Shared };
+
+    ghost view = { λ n. record { updates = n.pair; tally = length n.pair } };
+
+    ghost invariant = { λ n. tally_of n.tally ≡ length n.pair };
+}

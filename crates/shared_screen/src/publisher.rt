@@ -1,0 +1,130 @@
+//! The end that puts updates.
+
+ghost use Rattle.std.specs.Prelude.{◌≡◌, ◌*◌, ◌+◌, ◌<◌, ◌≤◌, ◌^◌, ◌∷◌, ◌++◌, [], length, IfOk, IfErr, MatchBool};
+ghost use Rattle.left_right.specs.Handles.{published, pending};
+ghost use Rattle.raster.specs.Update.{Update};
+ghost use Rattle.reflect_core.specs.Plain.{IsPutRefusal};
+ghost use Rattle.reflect_core.specs.Sequential.{Begins};
+ghost use Rattle.tally_word.specs.History.{Put, Raise, puts_of};
+
+use crate::news::News;
+use left_right::{Absorb, WriteHandle};
+use painter::Patch;
+use pixel_format::{Fault, LIMIT};
+use reflect_core::Puts;
+use screen_pair::{PairNews, Published, Stamped, publish, tell};
+use std::marker::Model;
+use std::sync::Wait;
+use std::thread;
+use tally_word::{Change, Front, Naming, Raiser};
+
+/// Puts updates, and raises the tally after each: contracts see its history, all changes so far.
+#[derive(Drop)]
+pub struct Publisher<J: Naming, R: Wait + Drop>
+where
+    Published<J>: Absorb<Stamped<J>, State = [Change; 0]>,
+{
+    handle: WriteHandle<Published<J>, Stamped<J>, R>,
+    raiser: Raiser<J>,
+    rt: R,
+}
+
+impl<J: Naming, R: Wait + Drop> Model for Publisher<J, R>
+where
+    Published<J>: Absorb<Stamped<J>, State = [Change; 0]>,
+{
+    ghost use Rattle.std.specs.Prelude.{◌≡◌, [], List, length};
+    ghost use Rattle.left_right.specs.Handles.{published, pending};
+    ghost use Rattle.tally_word.specs.History as history;
+    ghost use Rattle.tally_word.specs.History.{puts_of, tally_of};
+
+    ghost Value = { List history.Change };
+
+    ghost view = { λ p. p.raiser };
+
+    ghost invariant = { λ p. (pending p.handle ≡ []) × (puts_of (published p.handle) ≡ puts_of p.raiser) × (tally_of p.raiser ≡ length (puts_of p.raiser)) };
+}
+
+/// Raises the tally to the number of updates that are published, as the news of the pair tell.
+fn lift<J: Naming>(
+    raiser: &mut Raiser<J>,
+    number: u64,
+    front: &Front<J>,
+    news: &PairNews<J>,
+) -> bool
+    requires published { puts_of front.now ≡ news.now }
+    requires put { (u : Update) × (front.now ≡ raiser.old ++ Put u ∷ []) }
+    requires number { (number ≡ length (puts_of front.now)) × (number ≤ 2 ^ 62) }
+    ensures { MatchBool result (raiser.new ≡ front.now ++ Raise number ∷ []) (Begins front.now raiser.new × (length front.now < length raiser.new)) }
+{
+    raiser.raise(number, front)
+}
+
+impl<J: Naming, R: Wait + Drop> Publisher<J, R> {
+    /// The publisher of copies that are opening screens.
+    pub(crate) fn new(
+        handle: WriteHandle<Published<J>, Stamped<J>, R>,
+        raiser: Raiser<J>,
+        rt: R,
+    ) -> Self
+        requires { (published handle ≡ []) × (pending handle ≡ []) × (raiser ≡ []) }
+        ensures { result ≡ [] }
+    {
+        Publisher { handle, raiser, rt }
+    }
+
+    /// News of all that was put; the tally is raised to it.
+    pub fn tell(&self) -> News<J>
+        ensures { result ≡ record { updates = puts_of self.now; tally = length (puts_of self.now) } }
+    {
+        News {
+            pair: tell(&self.handle),
+            tally: self.raiser.tell(),
+        }
+    }
+
+    /// Ends the publisher: no copy can be entered from now on. It may wait for a watcher that is inside one.
+    pub fn end(self) {
+        drop(self)
+    }
+}
+
+impl<J: Naming, R: Wait + Drop> Puts for Publisher<J, R> {
+    ghost updates = { λ p. puts_of p };
+
+    ghost width = { λ p. J.width };
+
+    ghost height = { λ p. J.height };
+
+    /// Publishes the update, and then raises the tally to its number. It may wait for a watcher that is still inside
+    /// the copy from before the last put.
+    fn put(&mut self, patch: Patch) -> Result<u64, (Fault, Patch)>
+        requires { (patch.width ≡ J.width) × (patch.height ≡ J.height) }
+        ensures history { IfOk result (λ n. self.new ≡ (self.old ++ Put patch.update ∷ []) ++ Raise n ∷ []) }
+        ensures ok { IfOk result (λ n. (length (puts_of self.old) < 2 ^ 62) × (puts_of self.new ≡ puts_of self.old ++ patch.update ∷ []) × (n ≡ length (puts_of self.new))) }
+        ensures err { IfErr result (λ refused. IsPutRefusal (length (puts_of self.old)) refused.0 × (refused.1 ≡ patch) × (self.new ≡ self.old)) }
+    {
+        let number = tell(&self.handle).number();
+        if number >= LIMIT {
+            return Err((Fault::NumbersOut, patch));
+        }
+        let mut front = self.raiser.front();
+        front.is_legal();
+        // No other end adds changes, so this is never so.
+        if !front.put(self.raiser.roll(), 2 * number, &patch) {
+            return Err((Fault::Memory, patch));
+        }
+        if let Err(patch) = publish(&mut self.handle, patch, number + 1, front.again()) {
+            return Err((Fault::Memory, patch));
+        }
+        let news = tell(&self.handle);
+        if !lift(&mut self.raiser, number + 1, &front, &news) {
+            // Nor is this.
+            for _ in self.rt.forever() {
+                thread::yield_now();
+            }
+            unreachable!()
+        }
+        Ok(number + 1)
+    }
+}

@@ -1,0 +1,149 @@
+//! The ends that look and cut.
+
+ghost use Rattle.std.specs.Prelude.{◌≡◌, ◌⊎◌, ◌+◌, ◌≤◌, ◌∷◌, [], length, IfOk, IfErr};
+ghost use Rattle.pixel_format.specs.declared.fault.Fault.TheVariants.{Gone};
+ghost use Rattle.raster.specs.Screen.{IsWithin};
+ghost use Rattle.raster.specs.Update.{view};
+ghost use Rattle.reflect_core.specs.Sequential.{Begins};
+ghost use Rattle.reflect_core.specs.Sequential as step;
+ghost use Rattle.reflect_core.specs.Source.{IsCutOf};
+ghost use Rattle.tally_word.specs.Reaches.{Reaches};
+ghost use Rattle.tally_word.proofs.Reaching.{reaches_itself, reaches_on};
+ghost use Rattle.tally_word.specs.History.{puts_of};
+
+use crate::news::News;
+use crate::publisher::Publisher;
+use pixel_format::Fault;
+use raster::Rect;
+use reflect_core::{Cut, ScreenSource};
+use screen_pair::Eye;
+use std::marker::Model;
+use std::sync::Wait;
+use tally_word::{Glance, Naming};
+use tiles::Have;
+
+/// Looks at the tally without entering a copy, and cuts: contracts see a state of the sequential screen, the updates
+/// that it knows and the tally.
+#[derive(Drop)]
+pub struct Watcher<J: Naming> {
+    width: u64,
+    height: u64,
+    eye: Eye<J>,
+    glance: Glance<J>,
+    // The greatest tally that it looked at or was told, and the number of its last cut.
+    told: u64,
+    last: u64,
+}
+
+impl<J: Naming> Model for Watcher<J> {
+    ghost use Rattle.std.specs.Prelude.{◌≡◌, ◌≤◌, ◌-◌, length, max};
+    ghost use Rattle.reflect_core.specs.Sequential.{Shared};
+    ghost use Rattle.tally_word.specs.History.{tally_of};
+
+    ghost Value = { Shared };
+
+    ghost view = { λ w. record { updates = w.eye; tally = max w.told (w.last - 1) } };
+
+    ghost invariant = { λ w. (w.width ≡ J.width) × (w.height ≡ J.height) × (w.told ≤ tally_of w.glance) × (length w.eye ≡ max w.told w.last) };
+}
+
+impl<J: Naming> Watcher<J> {
+    /// It knows no update, and its tally is 0.
+    pub(crate) fn new(width: u64, height: u64, eye: Eye<J>, glance: Glance<J>) -> Self
+        requires { (width ≡ J.width) × (height ≡ J.height) × (eye ≡ []) × (glance ≡ []) }
+        ensures { result ≡ record { updates = []; tally = 0 } }
+    {
+        Watcher {
+            width,
+            height,
+            eye,
+            glance,
+            told: 0,
+            last: 0,
+        }
+    }
+
+    /// It knows the longer of its list and the one that was told from now on. Each of the two begins that; and each
+    /// later look is at least the tally told.
+    pub fn learn(&mut self, news: &News<J>)
+        ensures one { (self.new.updates ≡ self.old.updates) ⊎ (self.new.updates ≡ news.now.updates) }
+        ensures mine { Begins self.old.updates self.new.updates }
+        ensures told { Begins news.now.updates self.new.updates }
+        ensures rises { (self.old.tally ≤ self.new.tally) × (news.now.tally ≤ self.new.tally) }
+        ensures history { Reaches self.old [] self.new }
+    {
+        self.eye.learn(&news.pair);
+        self.glance.learn(&news.tally);
+        self.told = self.told.max(news.pair.number());
+    }
+
+    /// The same with all that the publisher has put.
+    pub fn meet<R: Wait + Drop>(&mut self, publisher: &Publisher<J, R>)
+        ensures one { (self.new.updates ≡ self.old.updates) ⊎ (self.new.updates ≡ puts_of publisher.now) }
+        ensures mine { Begins self.old.updates self.new.updates }
+        ensures told { Begins (puts_of publisher.now) self.new.updates }
+        ensures rises { (self.old.tally ≤ self.new.tally) × (length (puts_of publisher.now) ≤ self.new.tally) }
+        ensures history { Reaches self.old [] self.new }
+    {
+        self.learn(&publisher.tell());
+    }
+}
+
+impl<J: Naming> ScreenSource for Watcher<J> {
+    ghost known = { λ w. w.updates };
+
+    ghost answered = { λ w. length w.updates };
+
+    ghost width = { λ w. J.width };
+
+    ghost height = { λ w. J.height };
+
+    ghost may_end = { Unit {0} };
+
+    ghost looks = { λ old reply new. Reaches old (step.Look reply ∷ []) new };
+
+    ghost moves = { λ old new. Reaches old [] new };
+
+    ghost moves_none = { reaches_itself };
+
+    ghost moves_on = { reaches_on };
+
+    fn size(&self) -> (u64, u64) {
+        (self.width, self.height)
+    }
+
+    /// One load: it enters no copy. It answers the greater of the number raised last and the number of its last cut
+    /// less one.
+    fn look(&mut self) -> u64
+        ensures reply { result ≡ self.new.tally }
+        ensures rises { self.old.tally ≤ result }
+        ensures grows { Begins self.old.updates self.new.updates }
+        ensures near { (result ≤ length self.new.updates) × (length self.new.updates ≤ result + 1) }
+        ensures history { Reaches self.old (step.Look result ∷ []) self.new }
+        ensures moves { Reaches self.old [] self.new }
+    {
+        let number = self.glance.look();
+        let front = self.glance.front();
+        front.is_legal();
+        self.eye.learn_first(&front, number);
+        self.told = number;
+        number.max(self.last.saturating_sub(1))
+    }
+
+    fn cut(&mut self, area: &Rect, have: &Have, into: &mut Cut) -> Result<u64, Fault>
+        requires within { IsWithin area.now J.width J.height }
+        requires screen { (have.now.width ≡ J.width) × (have.now.height ≡ J.height) }
+        requires room { (into.old.width ≡ J.width) × (into.old.height ≡ J.height) }
+        ensures reply { IfOk result (λ n. IsCutOf self.new.updates n area.now have.now into.new × (n ≡ length self.new.updates)) }
+        ensures rises { IfOk result (λ n. (self.old.tally ≤ n) × (self.old.tally ≤ self.new.tally) × (n ≤ self.new.tally + 1)) }
+        ensures grows { Begins self.old.updates self.new.updates }
+        ensures history { IfOk result (λ _. Reaches self.old (step.Cut (view self.new.updates) ∷ []) self.new) }
+        ensures moves { Reaches self.old [] self.new }
+        ensures room { (into.new.width ≡ into.old.width) × (into.new.height ≡ into.old.height) }
+        ensures gone { IfErr result (λ fault. (fault ≡ Gone) × (self.new ≡ self.old) × (into.new ≡ into.old)) }
+    {
+        let number = self.eye.cut(area, have, into)?;
+        self.last = number;
+        Ok(number)
+    }
+}

@@ -1,0 +1,116 @@
+//! What was seen of the history.
+
+ghost use Rattle.std.specs.Prelude.{◌≡◌, ◌≤◌, ◌<◌, ◌^◌, ◌+◌, ◌++◌, ◌∷◌, [], length, MatchBool};
+ghost use Rattle.reflect_core.specs.Sequential.{Begins};
+ghost use Rattle.tally_word.specs.History.{Put, Raise, puts_of, tally_of, IsLegal};
+
+use crate::change::Change;
+use crate::law::{Add, Law, Look, Nothing};
+use crate::naming::Naming;
+use crate::roll::Roll;
+use logbook::{Offer, Seen};
+use painter::Patch;
+use std::marker::{Model, PhantomData};
+
+/// A beginning of the history, which was seen: contracts see its changes. It has no bytes.
+#[derive(Drop)]
+pub struct Front<J: Naming> {
+    pub(crate) seen: Seen<Change, u64, Law>,
+    pub(crate) of: PhantomData<J>,
+}
+
+impl<J: Naming> Model for Front<J> {
+    ghost use Rattle.std.specs.Prelude.{◌≡◌, List};
+    ghost use Rattle.tally_word.specs.History as history;
+    ghost use Rattle.tally_word.specs.History.{IsLegal};
+
+    ghost Value = { List history.Change };
+
+    ghost view = { λ f. f.seen.log };
+
+    ghost invariant = { λ f. (f.seen.book ≡ J.book) × IsLegal f.seen.log };
+}
+
+impl<J: Naming> Front<J> {
+    /// An equal one.
+    pub fn again(&self) -> Front<J>
+        ensures { result ≡ self.now }
+    {
+        Front {
+            seen: self.seen.again(),
+            of: PhantomData,
+        }
+    }
+
+    /// What the longer of both knows is known from now on.
+    pub fn learn(&mut self, other: &Front<J>)
+        ensures mine { Begins self.old self.new }
+        ensures told { Begins other.now self.new }
+    {
+        self.seen.learn(&other.seen);
+    }
+
+    /// Its changes are legal.
+    pub fn is_legal(&self)
+        ensures { IsLegal self.now }
+    {
+        let _ = &self.seen;
+    }
+
+    /// All changes so far are known from now on: one load, which answers how many they are.
+    pub fn look(&mut self, roll: &Roll<J>) -> u64
+        ensures grows { Begins self.old self.new }
+        ensures count { result ≡ length self.new }
+    {
+        let mut offer: Offer<Change, u64, Law, Nothing> = self.seen.plain::<Nothing, u64, Add>(&0);
+        roll.word.load::<Look, Nothing>(&mut self.seen, &mut offer)
+    }
+
+    /// Puts a patch's update behind the changes that are known, by one exchange, and says whether it did: not where
+    /// there are more changes, which are known then.
+    pub fn put(&mut self, roll: &Roll<J>, changes: u64, patch: &Patch) -> bool
+        requires count { (changes ≡ length self.old) × (changes < 2 ^ 63) }
+        requires raised { tally_of self.old ≡ length (puts_of self.old) }
+        ensures grows { Begins self.old self.new }
+        ensures put { MatchBool result (self.new ≡ self.old ++ Put patch.now.update ∷ []) (length self.old < length self.new) }
+    {
+        let mut offer: Offer<Change, u64, Law, Nothing> = self
+            .seen
+            .plain::<Nothing, Patch, Add>(patch);
+        let mut pen = self.seen.no_pen();
+        let found = roll
+            .word
+            .compare_exchange::<Add, Nothing>(
+                changes,
+                changes + 1,
+                &mut self.seen,
+                &mut offer,
+                &mut pen,
+            );
+        found == changes
+    }
+
+    /// Raises the tally to the number of the updates that are known, by one exchange, and says whether it did: not
+    /// where there are more changes, which are known then.
+    pub fn raise(&mut self, roll: &Roll<J>, changes: u64, number: u64) -> bool
+        requires count { (changes ≡ length self.old) × (changes < 2 ^ 63) }
+        requires next { (number ≡ length (puts_of self.old)) × (number ≡ tally_of self.old + 1) }
+        ensures grows { Begins self.old self.new }
+        ensures raised { MatchBool result (self.new ≡ self.old ++ Raise number ∷ []) (length self.old < length self.new) }
+    {
+        let mut offer: Offer<Change, u64, Law, Nothing> = self
+            .seen
+            .plain::<Nothing, u64, Add>(&number);
+        let mut pen = self.seen.no_pen();
+        let found = roll
+            .word
+            .compare_exchange::<Add, Nothing>(
+                changes,
+                changes + 1,
+                &mut self.seen,
+                &mut offer,
+                &mut pen,
+            );
+        found == changes
+    }
+}

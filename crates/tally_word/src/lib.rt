@@ -1,0 +1,26 @@
+//! The history of a shared screen, and its tally: a list of changes, which contracts alone see, and one word that
+//! threads share, the number of changes.
+//!
+//! An end knows a beginning of the history. Looking is one load, putting and raising are one exchange; none of them
+//! waits, and none takes memory. A call that makes an end may be refused it (`Memory`). No handle is needed.
+#![tactic(auto)]
+
+mod change;
+mod front;
+mod glance;
+mod law;
+mod naming;
+mod news;
+mod opened;
+mod raiser;
+mod roll;
+
+pub use change::Change;
+pub use front::Front;
+pub use glance::Glance;
+pub use law::Law;
+pub use naming::Naming;
+pub use news::TallyNews;
+pub use opened::Opened;
+pub use raiser::{Raiser, tally};
+pub use roll::Roll;
