@@ -55,14 +55,14 @@ behind_all format w h k carried stage sofar le = let over : nat_lt k (tile_count
 
 -- ---- a tile that is whole
 
-pub record WholeTile (format : PixelFormat) (area : Rect) (carried : Carried) (stage : Stage) (canvas : Canvas) (part : Part) : Type 0 where
+pub record WholeTile (keep : ℕ → ℕ) (format : PixelFormat) (area : Rect) (carried : Carried) (stage : Stage) (canvas : Canvas) (part : Part) : Type 0 where
   pub what : Tile
   pub is : tile_rest format area.w area.h carried stage part ≡ Done (what, carried)
-  pub shows : (x y : ℕ) → x < area.w → y < area.h → part_of area canvas x y ≡ tile_shows area.w (Some what) x y
+  pub shows : (x y : ℕ) → x < area.w → y < area.h → part_of area canvas x y ≡ keep (tile_shows area.w (Some what) x y)
 
-pub whole_tile : (format : PixelFormat) (area : Rect) (carried : Carried) (stage : Stage) (canvas : Canvas) (part : Part) → is_whole area.w area.h stage ≡ true → IsDrawn area stage canvas part → WholeTile format area carried stage canvas part
-whole_tile format area carried Mask canvas part e shows = absurd cc
-whole_tile format area carried (RawPixels count) canvas part e shows =
+pub whole_tile : (keep : ℕ → ℕ) → (format : PixelFormat) (area : Rect) (carried : Carried) (stage : Stage) (canvas : Canvas) (part : Part) → is_whole area.w area.h stage ≡ true → IsDrawn keep area stage canvas part → WholeTile keep format area carried stage canvas part
+whole_tile keep format area carried Mask canvas part e shows = absurd cc
+whole_tile keep format area carried (RawPixels count) canvas part e shows =
     let all : count ≡ area.w * area.h = eqb-true count (area.w * area.h) e in
     let none : area.w * area.h - count ≡ 0 = omega (arith, all) in
     record {
@@ -70,12 +70,12 @@ whole_tile format area carried (RawPixels count) canvas part e shows =
       is = rw none (ap (λ (vs : List ℕ). Done (Pixels vs, carried)) (append-nil part.pixels));
       shows = λ x y lx ly. shows.1 x y lx ly (let p = row_before area.w x y area.h lx ly in omega (arith, p, all));
     }
-whole_tile format area carried (Head mask) canvas part e shows = absurd cc
-whole_tile format area carried (Subrects coloured left) canvas part e shows =
+whole_tile keep format area carried (Head mask) canvas part e shows = absurd cc
+whole_tile keep format area carried (Subrects coloured left) canvas part e shows =
     let none : left ≡ 0 = eqb-true left 0 e in
     record {
       what = Drawn part.drawing;
       is = rw none (ap (λ (ss : List Subrect). Done (Drawn (record { background = part.drawing.background; subrects = ss }), carried)) (append-nil part.drawing.subrects));
       shows = shows;
     }
-whole_tile format area carried (Failed flaw) canvas part e shows = absurd cc
+whole_tile keep format area carried (Failed flaw) canvas part e shows = absurd cc

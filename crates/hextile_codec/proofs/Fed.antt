@@ -13,19 +13,19 @@ pub same_size : (old mid new : Progress) → IsSameSize old mid → IsSameSize m
 same_size old mid new a b = record { format = b.format ∙ a.format; width = b.width ∙ a.width; height = b.height ∙ a.height }
 
 -- Of a piece there is left what has not been taken, and the rest of it was drawn.
-pub record HasDrawn (start now : Progress) (canvas : Canvas) (piece left : List ℕ) (sofar : Sofar) : Type 0 where
+pub record HasDrawn (keep : ℕ → ℕ) (start now : Progress) (canvas : Canvas) (piece left : List ℕ) (sofar : Sofar) : Type 0 where
   pub drawing : Sofar
   pub goes_on : after (ahead start sofar) piece ≡ after (ahead now drawing) left
   pub count : taken (ahead start sofar) piece + length left ≡ length piece + taken (ahead now drawing) left
-  pub stands : Stands now canvas drawing
+  pub stands : Stands keep now canvas drawing
 
-pub drawn_none : (start : Progress) (canvas : Canvas) (piece : List ℕ) (sofar : Sofar) → Stands start canvas sofar → HasDrawn start start canvas piece piece sofar
-drawn_none start canvas piece sofar stands = record { drawing = sofar; goes_on = refl; count = omega arith; stands = stands }
+pub drawn_none : (keep : ℕ → ℕ) → (start : Progress) (canvas : Canvas) (piece : List ℕ) (sofar : Sofar) → Stands keep start canvas sofar → HasDrawn keep start start canvas piece piece sofar
+drawn_none keep start canvas piece sofar stands = record { drawing = sofar; goes_on = refl; count = omega arith; stands = stands }
 
 -- A step further.
-pub drawn_more : (start now next : Progress) (canvas after_it : Canvas) (piece left : List ℕ) (n : ℕ) (sofar : Sofar) → n ≤ length left → HasDrawn start now canvas piece left sofar
-    → ((d : Sofar) → Stands now canvas d → Steps now next after_it (take n left) d) → HasDrawn start next after_it piece (drop n left) sofar
-drawn_more start now next canvas after_it piece left n sofar le h step =
+pub drawn_more : (keep : ℕ → ℕ) → (start now next : Progress) (canvas after_it : Canvas) (piece left : List ℕ) (n : ℕ) (sofar : Sofar) → n ≤ length left → HasDrawn keep start now canvas piece left sofar
+    → ((d : Sofar) → Stands keep now canvas d → Steps keep now next after_it (take n left) d) → HasDrawn keep start next after_it piece (drop n left) sofar
+drawn_more keep start now next canvas after_it piece left n sofar le h step =
     let s = step h.drawing h.stands in
     let xs : List ℕ = take n left in
     let ys : List ℕ = drop n left in
@@ -41,11 +41,11 @@ drawn_more start now next canvas after_it piece left n sofar le h step =
     }
 
 -- It stops where nothing is left, or no byte is wanted.
-pub drawn_stops : (start now : Progress) (canvas : Canvas) (piece left : List ℕ) (answer : Result ℕ Fault) (sofar : Sofar) → HasDrawn start now canvas piece left sofar
+pub drawn_stops : (keep : ℕ → ℕ) → (start now : Progress) (canvas : Canvas) (piece left : List ℕ) (answer : Result ℕ Fault) (sofar : Sofar) → HasDrawn keep start now canvas piece left sofar
     → ((d : Sofar) → (after (ahead now d) left ≡ ahead now d) × (taken (ahead now d) left ≡ 0))
     → ((d : Sofar) → MatchResult answer (λ n. (n ≡ length piece - length left) × (fault_of (ahead now d) ≡ None)) (λ fault. fault_of (ahead now d) ≡ Some fault))
-    → Draws start now canvas piece answer sofar
-drawn_stops start now canvas piece left answer sofar h none e =
+    → Draws keep start now canvas piece answer sofar
+drawn_stops keep start now canvas piece left answer sofar h none e =
     let stays = none h.drawing in
     record {
       drawing = h.drawing;

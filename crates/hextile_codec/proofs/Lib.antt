@@ -18,3 +18,5 @@ pub mod TileRuns
 pub mod Drawings
 pub mod RawRows
 pub mod Tiles
+pub mod MaskBits
+pub mod MarkedRuns

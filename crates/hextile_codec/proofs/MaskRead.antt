@@ -10,21 +10,21 @@ use Rattle.hextile_codec.specs.declared.stage.Stage.{Stage}
 use Rattle.hextile_codec.specs.declared.stage.Stage.TheVariants.{Mask, RawPixels, Head, Subrects, Failed}
 use Rattle.hextile_codec.specs.Ahead.{Part, blank, Led, IsDrawn, IsBehindMask, IsLater, tile_rest}
 
-behind_mask : (area : Rect) (next : Stage) (canvas : Canvas) → IsBehindMask next → IsDrawn area next canvas blank
-behind_mask area Mask canvas e = absurd e
-behind_mask area (RawPixels count) canvas e = (omega (arith, e), λ x y lx ly lt. absurd (omega (arith, e, lt)))
-behind_mask area (Head mask) canvas e = tt
-behind_mask area (Subrects coloured left) canvas e = absurd e
-behind_mask area (Failed flaw) canvas e = tt
+behind_mask : (keep : ℕ → ℕ) → (area : Rect) (next : Stage) (canvas : Canvas) → IsBehindMask next → IsDrawn keep area next canvas blank
+behind_mask keep area Mask canvas e = absurd e
+behind_mask keep area (RawPixels count) canvas e = (omega (arith, e), λ x y lx ly lt. absurd (omega (arith, e, lt)))
+behind_mask keep area (Head mask) canvas e = tt
+behind_mask keep area (Subrects coloured left) canvas e = absurd e
+behind_mask keep area (Failed flaw) canvas e = tt
 
-pub mask_leads : (format : PixelFormat) (area : Rect) (carried : Carried) (mask : ℕ) (next : Stage) (canvas : Canvas) (part : Part) → IsBehindMask next
+pub mask_leads : (keep : ℕ → ℕ) → (format : PixelFormat) (area : Rect) (carried : Carried) (mask : ℕ) (next : Stage) (canvas : Canvas) (part : Part) → IsBehindMask next
     → step (tile format carried area.w area.h) mask ≡ tile_rest format area.w area.h carried next blank
-    → Led format area carried carried Mask next (mask ∷ []) canvas part
-mask_leads format area carried mask next canvas part behind e =
+    → Led keep format area carried carried Mask next (mask ∷ []) canvas part
+mask_leads keep format area carried mask next canvas part behind e =
     record {
       grown = blank;
       goes = record { all = ap suc (taken-nil (step (tile format carried area.w area.h) mask)); leads = e };
-      shows = behind_mask area next canvas behind;
+      shows = behind_mask keep area next canvas behind;
     }
 
 pub later_mask : (format : PixelFormat) (area : Rect) (next : Stage) → IsBehindMask next → ((mask : ℕ) → next ≡ Head mask → ⊥) → IsLater format area next

@@ -1,6 +1,8 @@
 -- Pixel values in bytes, one after another.
 use Rattle.std.proofs.Common.{◌≡◌, ℕ, zero, suc, ◌+◌, ◌-◌, ◌*◌, ◌<◌, ◌≤◌, List, [], ◌∷◌, ◌++◌, length, take, drop, refl, sym, ap, ◌∙◌, append_assoc, arith}
-use Rattle.std.specs.Prelude.{slice_set}
+use Rattle.std.specs.Prelude.{slice_set, map}
+use Rattle.std.specs.Int.{w32, from_le_bytes}
+use Rattle.std.specs.Simd.{first_chunks}
 use Rattle.std.proofs.lemmas.List.{append-nil, take_all, take_more_set, length-take, length-drop, length-set}
 use Rattle.pixel_format.specs.PixelFormat.{PixelFormat, pixel_len, pixel_of}
 use Rattle.pixel_format.specs.Reading.{Reading, Done, ◌>>=◌, times}
@@ -67,3 +69,10 @@ pub pixels_go : (format : PixelFormat) (carried : Carried) (w h come n : ℕ) (p
 pixels_go format carried w h come n part bs le e =
     let left : w * h - come ≡ n + (w * h - (come + n)) = omega arith in
     rw left (more_goes format carried n (w * h - (come + n)) part.pixels bs e)
+
+-- Where a pixel value is spelled in four bytes, the least significant first, its bytes are taken four by four.
+pub words_are : (format : PixelFormat) → pixel_len format ≡ 4 → ((bytes : List ℕ) → pixel_of format bytes ≡ from_le_bytes w32 bytes) → (n : ℕ) (bs : List ℕ) → map (from_le_bytes w32) (first_chunks 4 n bs) ≡ pixels_in format n bs
+words_are format len value zero bs = refl
+words_are format len value (suc n) bs =
+    ap (λ vs. from_le_bytes w32 (take 4 bs) ∷ vs) (words_are format len value n (drop 4 bs))
+    ∙ (ap (λ v. v ∷ pixels_in format n (drop 4 bs)) (sym (value (take 4 bs))) ∙ ap (λ k. pixel_of format (take k bs) ∷ pixels_in format n (drop k bs)) (sym len))

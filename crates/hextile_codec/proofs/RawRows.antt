@@ -9,7 +9,7 @@ use Rattle.raster.specs.declared.rect.Rect.{Rect}
 use Rattle.raster.specs.Screen.{Canvas, value_at, values_of, part_of}
 use Rattle.raster.specs.Encoding.{raw_bytes}
 use Rattle.raster.proofs.Places.{values_at, length_values}
-use Rattle.hextile_codec.proofs.TileRuns.{tile_row, tile_row_len, tile_row_at}
+use Rattle.raster.proofs.AreaRows.{tile_row, tile_row_len, tile_row_at}
 
 -- The values of a tile.
 abbrev pub tile_values : List ℕ → ℕ → Rect → List ℕ

@@ -5,7 +5,7 @@ use Rattle.std.specs.Int.{w8, w16, w32, byte_len}
 use Rattle.std.proofs.Math.Nat.{div-add-mod, div-lt_iff_lt-mul, le-div_iff_mul-le, mod-lt, mul-le-mul_right}
 use Rattle.pixel_format.specs.PixelFormat.{PixelFormat, pixel_len}
 use Rattle.raster.specs.declared.rect.Rect.{Rect}
-use Rattle.raster.specs.Screen.{Canvas, LooksLike, lay, value_at}
+use Rattle.raster.specs.Screen.{Canvas, LooksLike, lay, value_at, kept}
 use Rattle.raster.specs.Encoding.{Carried}
 use Rattle.hextile_codec.specs.declared.stage.Stage.TheVariants.{RawPixels}
 use Rattle.hextile_codec.specs.Ahead.{Part, IsTile, IsDrawn, Led, pixels_in}
@@ -60,11 +60,11 @@ still_inside w h count n some lt le =
     let p : (count / w + 1) * w ≤ h * w = mul-le-mul_right {m = count / w + 1} {n = h} w (omega (arith, i.row)) in
     omega (arith, i.is, i.column, p)
 
-pub row_leads : (format : PixelFormat) (area : Rect) (carried : Carried) (w h count n : ℕ) (part : Part) (old new : Canvas) (bs : List ℕ) → IsTile area w h → count < area.w * area.h → n ≤ area.w - count % area.w → length bs ≡ n * pixel_len format
-    → LooksLike w h new (lay (record { x = area.x + count % area.w; y = area.y + count / area.w; w = n; h = 1 }) (value_at n (pixels_in format n bs)) old)
-    → IsDrawn area (RawPixels count) old part
-    → Led format area carried carried (RawPixels count) (RawPixels (count + n)) bs new part
-row_leads format area carried w h count n part old new bs tile lt le size shows before =
+pub row_leads : (keep : ℕ → ℕ) → (format : PixelFormat) (area : Rect) (carried : Carried) (w h count n : ℕ) (part : Part) (old new : Canvas) (bs : List ℕ) → IsTile area w h → count < area.w * area.h → n ≤ area.w - count % area.w → length bs ≡ n * pixel_len format
+    → LooksLike w h new (lay (record { x = area.x + count % area.w; y = area.y + count / area.w; w = n; h = 1 }) (kept keep (value_at n (pixels_in format n bs))) old)
+    → IsDrawn keep area (RawPixels count) old part
+    → Led keep format area carried carried (RawPixels count) (RawPixels (count + n)) bs new part
+row_leads keep format area carried w h count n part old new bs tile lt le size shows before =
     let row : ℕ = count / area.w in
     let column : ℕ = count % area.w in
     let i = next_is area.w area.h count tile.wide.0 lt in
@@ -76,7 +76,7 @@ row_leads format area carried w h count n part old new bs tile lt le size shows 
       shows = (
         omega (arith, length-append part.pixels more, len, before.0),
         λ x y lx ly inside.
-            row_grows area w h row column n part.pixels more old new tile (omega (arith, i.column, le)) i.row (before.0 ∙ sym i.is) len shows
+            row_grows keep area w h row column n part.pixels more old new tile (omega (arith, i.column, le)) i.row (before.0 ∙ sym i.is) len shows
             (λ u v lu lv k. before.1 u v lu lv (omega (arith, i.is, k))) x y lx ly (omega (arith, i.is, inside)),
       );
     }

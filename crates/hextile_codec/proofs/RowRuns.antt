@@ -4,13 +4,13 @@ use Rattle.std.specs.Prelude.{filter, ◌==◌, take_while}
 use Rattle.std.specs.List.{list_all, range_with_len}
 use Rattle.std.proofs.lemmas.Bool.{and_parts}
 use Rattle.std.proofs.lemmas.List.{length-drop, get_or-drop, take_all, map-append}
-use Rattle.std.proofs.lemmas.List.Sums.{take_while-cons}
 use Rattle.raster.specs.Screen.{Canvas}
-use Rattle.raster.specs.Encoding.{Subrect, begins_run, run_from, runs_of_row}
+use Rattle.raster.specs.Encoding.{begins_run, run_from, runs_of_row}
 use Rattle.raster.proofs.Runs.{run_some, run_within}
 use Rattle.raster.proofs.RowScan.{IsFresh, runs_behind, front_of_list, fresh_behind, found_other, found_background}
 use Rattle.hextile_codec.specs.declared.runs.Run.{Run}
-use Rattle.hextile_codec.specs.Kinds.{subrect_of, row_shows}
+use Rattle.hextile_codec.specs.Kinds.{subrect_of}
+use Rattle.raster.specs.RowShown.{row_shows}
 
 -- The run at x, found in what is left of the row.
 pub run_at : (row : List ℕ) (y x : ℕ) → x < length row
@@ -64,56 +64,6 @@ run_fits row y x len lx long =
     let b = run_within (row_shows row) (length row) y x lx in
     (omega (arith, a, long), omega (arith, b, long))
 
--- ---- two canvases with the same row
-
-take_while_same : (p q : ℕ → Bool) (a n : ℕ) → ((k : ℕ) → a ≤ k → k < a + n → p k ≡ q k) → take_while p (range_with_len a n) ≡ take_while q (range_with_len a n)
-take_while_same p q a zero f = refl
-take_while_same p q a (suc n) f =
-    let here : p a ≡ q a = f a (omega arith) (omega arith) in
-    let others = take_while_same p q (a + 1) n (λ k lo hi. f k (omega arith) (omega arith)) in
-    take_while-cons p a (range_with_len (a + 1) n)
-    ∙ (ap (λ t. cond (p a) (a ∷ t) []) others ∙ (ap (λ b. cond b (a ∷ take_while q (range_with_len (a + 1) n)) []) here ∙ sym (take_while-cons q a (range_with_len (a + 1) n))))
-
-run_same : (c d : Canvas) (w y z x : ℕ) → x < w → ((k : ℕ) → k < w → c k y ≡ d k z) → length (take_while (λ k. c k y == c x y) (range_with_len x (w - x))) ≡ length (take_while (λ k. d k z == d x z) (range_with_len x (w - x)))
-run_same c d w y z x lx f =
-    ap length (take_while_same (λ k. c k y == c x y) (λ k. d k z == d x z) x (w - x) (λ k lo hi. let a = f k (omega arith) in let b = f x lx in rw (a, b) refl))
-
--- Lists made of the positions of a row that pass a test.
-picked_same : (p q : ℕ → Bool) (f g : ℕ → Subrect) (a n : ℕ) → ((k : ℕ) → a ≤ k → k < a + n → p k ≡ q k) → ((k : ℕ) → a ≤ k → k < a + n → f k ≡ g k)
-    → map f (filter p (range_with_len a n)) ≡ map g (filter q (range_with_len a n))
-picked_same p q f g a zero e s = refl
-picked_same p q f g a (suc n) e s =
-    let others = picked_same p q f g (a + 1) n (λ k lo hi. e k (omega arith) (omega arith)) (λ k lo hi. s k (omega arith) (omega arith)) in
-    by_head (p a) (q a) a (filter p (range_with_len (a + 1) n)) (filter q (range_with_len (a + 1) n)) (e a (omega arith) (omega arith)) (s a (omega arith) (omega arith)) others
-  where
-    by_head : (b c : Bool) (x : ℕ) (xs ys : List ℕ) → b ≡ c → f x ≡ g x → map f xs ≡ map g ys → map f (cond b (x ∷ xs) xs) ≡ map g (cond c (x ∷ ys) ys)
-    by_head true true x xs ys e s o = rw (s, o) refl
-    by_head false false x xs ys e s o = o
-    by_head true false x xs ys e s o = absurd cc
-    by_head false true x xs ys e s o = absurd cc
-
-begins_same : (c d : Canvas) (background w y : ℕ) → ((k : ℕ) → k < w → c k y ≡ d k y) → (k : ℕ) → k < w → begins_run c background y k ≡ begins_run d background y k
-begins_same c d background w y f k lt =
-    let a = f k lt in
-    let b = f (k - 1) (omega arith) in
-    rw (a, b) refl
-
-abbrev run_of : ℕ → ℕ → ℕ → ℕ → Subrect
-run_of x y value len = record { value = value; area = record { x = x; y = y; w = len; h = 1 } }
-
-by_parts : (x y u v n m : ℕ) → u ≡ v → n ≡ m → run_of x y u n ≡ run_of x y v m
-by_parts x y u v n m e g = rw (e, g) refl
-
-subrects_same : (c d : Canvas) (w y : ℕ) → ((k : ℕ) → k < w → c k y ≡ d k y) → (k : ℕ) → k < w → run_from c w y k ≡ run_from d w y k
-subrects_same c d w y f k lt =
-    let a = f k lt in
-    let l = run_same c d w y y k lt f in
-    by_parts k y (c k y) (d k y) (length (take_while (λ i. c i y == c k y) (range_with_len k (w - k)))) (length (take_while (λ i. d i y == d k y) (range_with_len k (w - k)))) a l
-
-pub row_same : (c d : Canvas) (background w y : ℕ) → ((k : ℕ) → k < w → c k y ≡ d k y) → runs_of_row c background w y ≡ runs_of_row d background w y
-row_same c d background w y f =
-    picked_same (begins_run c background y) (begins_run d background y) (run_from c w y) (run_from d w y) 0 w (λ k lo hi. begins_same c d background w y f k (omega arith)) (λ k lo hi. subrects_same c d w y f k (omega arith))
-
 -- ---- a row of the background alone
 
 passes_at : (p : ℕ → Bool) (xs : List ℕ) (k : ℕ) → list_all p xs ≡ true → k < length xs → p (get_or xs k 0) ≡ true
@@ -121,7 +71,7 @@ passes_at p [] k e lt = absurd (omega arith)
 passes_at p (x ∷ xs) zero e lt = (and_parts (p x) (list_all p xs) e).0
 passes_at p (x ∷ xs) (suc k) e lt = passes_at p xs k (and_parts (p x) (list_all p xs) e).1 (omega arith)
 
-none_pass : (p : ℕ → Bool) (a n : ℕ) → ((k : ℕ) → a ≤ k → k < a + n → p k ≡ false) → filter p (range_with_len a n) ≡ []
+pub none_pass : (p : ℕ → Bool) (a n : ℕ) → ((k : ℕ) → a ≤ k → k < a + n → p k ≡ false) → filter p (range_with_len a n) ≡ []
 none_pass p a zero f = refl
 none_pass p a (suc n) f =
     ap (λ b. cond b (a ∷ filter p (range_with_len (a + 1) n)) (filter p (range_with_len (a + 1) n))) (f a (omega arith) (omega arith)) ∙ none_pass p (a + 1) n (λ k lo hi. f k (omega arith) (omega arith))

@@ -6,7 +6,7 @@ use Rattle.pixel_format.specs.PixelFormat.{PixelFormat}
 use Rattle.pixel_format.specs.Reading.{Reading, Done, Faulty, after, wants_more, whole_of, fault_of}
 use Rattle.pixel_format.proofs.ReadingLaws.{after-done, after-faulty, done_is, wants_no_fault, wants_not_whole}
 use Rattle.raster.specs.declared.rect.Rect.{Rect}
-use Rattle.raster.specs.Screen.{Canvas, LooksLike, tile_count, tile_rect}
+use Rattle.raster.specs.Screen.{Canvas, LooksLike, tile_count, tile_rect, kept}
 use Rattle.raster.specs.Encoding.{Carried, Tile, tiled}
 use Rattle.raster.proofs.FixedLength.{Needs}
 use Rattle.hextile_codec.specs.declared.stage.Flaw.{Flaw}
@@ -68,15 +68,15 @@ whole_there format w h tiles k area stage filled carried sofar begun p len = eli
 ]
 
 -- And then a canvas shows all tiles.
-pub shown_there : (format : PixelFormat) (w h tiles k : ℕ) (area : Rect) (stage : Stage) (filled : ℕ) (carried : Carried) (sofar : Sofar) (begun : List ℕ) (canvas : Canvas) (all : List Tile)
-    → IsPlace format w h tiles k area stage filled → length begun ≤ filled → ShowsBefore w h k canvas sofar.tiles → after (next_form format w h k carried stage sofar) begun ≡ Done all → LooksLike w h canvas (tiled w h all)
-shown_there format w h tiles k area stage filled carried sofar begun canvas all p len before e = elim (cases_lt k tiles) [
+pub shown_there : (keep : ℕ → ℕ) → (format : PixelFormat) (w h tiles k : ℕ) (area : Rect) (stage : Stage) (filled : ℕ) (carried : Carried) (sofar : Sofar) (begun : List ℕ) (canvas : Canvas) (all : List Tile)
+    → IsPlace format w h tiles k area stage filled → length begun ≤ filled → ShowsBefore keep w h k canvas sofar.tiles → after (next_form format w h k carried stage sofar) begun ≡ Done all → LooksLike w h canvas (kept keep (tiled w h all))
+shown_there keep format w h tiles k area stage filled carried sofar begun canvas all p len before e = elim (cases_lt k tiles) [
   | inl lt ↦
       let t : true ≡ false = sym (ap (λ (r : Reading (List Tile)). is_some (whole_of r)) e) ∙ open_not_whole format w h tiles k area stage filled carried sofar begun p len lt in
       absurd cc
   | inr le ↦
       let same : sofar.tiles ≡ all = done_is sofar.tiles all (sym (over_there format w h tiles k area stage filled carried sofar begun p le) ∙ e) in
-      rw same at (all_shown w h k canvas sofar.tiles (omega (arith, p.count, le)) before)
+      rw same at (all_shown keep w h k canvas sofar.tiles (omega (arith, p.count, le)) before)
 ]
 
 -- There is no fault where none was met.

@@ -72,25 +72,25 @@ outside_goes format coloured carried w h left part bs e out =
     let g : Goes one bs (Faulty SubrectOutside) = goes_to one (judged w h s) (Faulty SubrectOutside) bs (subrect_goes format coloured carried w h bs e) (ap (λ b. unless (not b) SubrectOutside (Done s)) out) in
     goes_under (one >>= first) (Faulty SubrectOutside) end bs (goes_under one (Faulty SubrectOutside) first bs g)
 
-pub subrect_leads : (format : PixelFormat) (area : Rect) (coloured : Bool) (carried : Carried) (left : ℕ) (part : Part) (old new : Canvas) (bs : List ℕ) → 0 < left → colour_len format coloured + 2 ≡ length bs
+pub subrect_leads : (keep : ℕ → ℕ) → (format : PixelFormat) (area : Rect) (coloured : Bool) (carried : Carried) (left : ℕ) (part : Part) (old new : Canvas) (bs : List ℕ) → 0 < left → colour_len format coloured + 2 ≡ length bs
     → is_within (subrect_in format coloured carried bs).area area.w area.h ≡ true
-    → LooksLike area.w area.h (part_of area new) (fill (subrect_in format coloured carried bs).area (subrect_in format coloured carried bs).value (part_of area old))
-    → IsDrawn area (Subrects coloured left) old part
-    → Led format area carried carried (Subrects coloured left) (Subrects coloured (left - 1)) bs new part
-subrect_leads format area coloured carried zero part old new bs some e inside shows before = absurd (omega arith)
-subrect_leads format area coloured carried (suc left) part old new bs some e inside shows before =
+    → LooksLike area.w area.h (part_of area new) (fill (subrect_in format coloured carried bs).area (keep (subrect_in format coloured carried bs).value) (part_of area old))
+    → IsDrawn keep area (Subrects coloured left) old part
+    → Led keep format area carried carried (Subrects coloured left) (Subrects coloured (left - 1)) bs new part
+subrect_leads keep format area coloured carried zero part old new bs some e inside shows before = absurd (omega arith)
+subrect_leads keep format area coloured carried (suc left) part old new bs some e inside shows before =
     let s : Subrect = subrect_in format coloured carried bs in
     let one : suc left - 1 ≡ left = omega arith in
     rw one
     (record {
       grown = record { pixels = part.pixels; drawing = with_subrect part.drawing s };
       goes = inside_goes format coloured carried area.w area.h left part bs e inside;
-      shows = subrect_drawn area.w area.h part.drawing s (part_of area old) (part_of area new) before shows;
+      shows = subrect_drawn keep area.w area.h part.drawing s (part_of area old) (part_of area new) before shows;
     })
 
-pub subrect_fails : (format : PixelFormat) (area : Rect) (coloured : Bool) (carried : Carried) (left : ℕ) (part : Part) (new : Canvas) (bs : List ℕ) → 0 < left → colour_len format coloured + 2 ≡ length bs
+pub subrect_fails : (keep : ℕ → ℕ) → (format : PixelFormat) (area : Rect) (coloured : Bool) (carried : Carried) (left : ℕ) (part : Part) (new : Canvas) (bs : List ℕ) → 0 < left → colour_len format coloured + 2 ≡ length bs
     → is_within (subrect_in format coloured carried bs).area area.w area.h ≡ false
-    → Led format area carried carried (Subrects coloured left) (Failed flaw.SubrectOutside) bs new part
-subrect_fails format area coloured carried zero part new bs some e out = absurd (omega arith)
-subrect_fails format area coloured carried (suc left) part new bs some e out =
+    → Led keep format area carried carried (Subrects coloured left) (Failed flaw.SubrectOutside) bs new part
+subrect_fails keep format area coloured carried zero part new bs some e out = absurd (omega arith)
+subrect_fails keep format area coloured carried (suc left) part new bs some e out =
     record { grown = part; goes = outside_goes format coloured carried area.w area.h left part bs e out; shows = tt }

@@ -24,12 +24,12 @@ nothing_begun : {A : Type 0} (form : Reading A) (begun : List ℕ) → begun ≡
 nothing_begun form begun e = ap (after form) e
 
 -- It stays in its tile.
-pub stays_in_tile : (format : PixelFormat) (w h k : ℕ) (area : Rect) (carried later : Carried) (stage next : Stage) (begun bytes : List ℕ) (old new : Canvas) (sofar : Sofar) → k < tile_count w h → area ≡ tile_rect w h k → begun ≡ []
-    → Keeps area w h old new → ((part : Part) → Leads format area carried later stage next bytes old new part)
-    → Stands (at_tile format w h k carried stage begun) old sofar → Steps (at_tile format w h k carried stage begun) (at_tile format w h k later next begun) new bytes sofar
-stays_in_tile format w h k area carried later stage next begun bytes old new sofar lt is none keeps leads stands =
+pub stays_in_tile : (keep : ℕ → ℕ) → (format : PixelFormat) (w h k : ℕ) (area : Rect) (carried later : Carried) (stage next : Stage) (begun bytes : List ℕ) (old new : Canvas) (sofar : Sofar) → k < tile_count w h → area ≡ tile_rect w h k → begun ≡ []
+    → Keeps area w h old new → ((part : Part) → Leads keep format area carried later stage next bytes old new part)
+    → Stands keep (at_tile format w h k carried stage begun) old sofar → Steps keep (at_tile format w h k carried stage begun) (at_tile format w h k later next begun) new bytes sofar
+stays_in_tile keep format w h k area carried later stage next begun bytes old new sofar lt is none keeps leads stands =
     let here : Rect = tile_rect w h k in
-    let led : Led format here carried later stage next bytes new sofar.part = (rw is at leads) sofar.part stands.part in
+    let led : Led keep format here carried later stage next bytes new sofar.part = (rw is at leads) sofar.part stands.part in
     let grown : Sofar = record { tiles = sofar.tiles; part = led.grown } in
     let under : Goes (tile_rest format here.w here.h carried stage sofar.part >>= others_behind format w h k sofar.tiles) bytes (tile_rest format here.w here.h later next led.grown >>= others_behind format w h k sofar.tiles) =
     goes_under (tile_rest format here.w here.h carried stage sofar.part) (tile_rest format here.w here.h later next led.grown) (others_behind format w h k sofar.tiles) bytes led.goes in
@@ -40,17 +40,17 @@ stays_in_tile format w h k area carried later stage next begun bytes old new sof
     record {
       drawing = grown;
       goes = rw (from, to) under;
-      stands = record { count = stands.count; before = before_stays w h k old new sofar.tiles (rw is at keeps) stands.before; part = led.shows };
+      stands = record { count = stands.count; before = before_stays keep w h k old new sofar.tiles (rw is at keeps) stands.before; part = led.shows };
     }
 
 -- Its tile is whole, and it goes on to the next.
-pub leaves_tile : (format : PixelFormat) (w h k : ℕ) (area : Rect) (carried later : Carried) (stage next : Stage) (begun bytes : List ℕ) (old new : Canvas) (sofar : Sofar) → k < tile_count w h → area ≡ tile_rect w h k → begun ≡ []
-    → Keeps area w h old new → ((part : Part) → Leads format area carried later stage next bytes old new part) → is_whole area.w area.h next ≡ true
-    → Stands (at_tile format w h k carried stage begun) old sofar → Steps (at_tile format w h k carried stage begun) (at_tile format w h (k + 1) later Mask begun) new bytes sofar
-leaves_tile format w h k area carried later stage next begun bytes old new sofar lt is none keeps leads whole stands =
+pub leaves_tile : (keep : ℕ → ℕ) → (format : PixelFormat) (w h k : ℕ) (area : Rect) (carried later : Carried) (stage next : Stage) (begun bytes : List ℕ) (old new : Canvas) (sofar : Sofar) → k < tile_count w h → area ≡ tile_rect w h k → begun ≡ []
+    → Keeps area w h old new → ((part : Part) → Leads keep format area carried later stage next bytes old new part) → is_whole area.w area.h next ≡ true
+    → Stands keep (at_tile format w h k carried stage begun) old sofar → Steps keep (at_tile format w h k carried stage begun) (at_tile format w h (k + 1) later Mask begun) new bytes sofar
+leaves_tile keep format w h k area carried later stage next begun bytes old new sofar lt is none keeps leads whole stands =
     let here : Rect = tile_rect w h k in
-    let led : Led format here carried later stage next bytes new sofar.part = (rw is at leads) sofar.part stands.part in
-    let t = whole_tile format here later next new led.grown (rw is at whole) led.shows in
+    let led : Led keep format here carried later stage next bytes new sofar.part = (rw is at leads) sofar.part stands.part in
+    let t = whole_tile keep format here later next new led.grown (rw is at whole) led.shows in
     let grown : Sofar = record { tiles = sofar.tiles ++ t.what ∷ []; part = blank } in
     let behind : Tile × Carried → Reading (List Tile) = others_behind format w h k sofar.tiles in
     let under : Goes (tile_rest format here.w here.h carried stage sofar.part >>= behind) bytes (tile_rest format here.w here.h later next led.grown >>= behind) =
@@ -64,7 +64,7 @@ leaves_tile format w h k area carried later stage next begun bytes old new sofar
       goes = rw from (goes_to (tile_rest format here.w here.h carried stage sofar.part >>= behind) (tile_rest format here.w here.h later next led.grown >>= behind) (ahead (at_tile format w h (k + 1) later Mask begun) grown) bytes under to);
       stands = record {
         count = omega (arith, length-append sofar.tiles (t.what ∷ []), stands.count);
-        before = before_more w h k new sofar.tiles t.what stands.count (before_stays w h k old new sofar.tiles (rw is at keeps) stands.before) t.shows;
+        before = before_more keep w h k new sofar.tiles t.what stands.count (before_stays keep w h k old new sofar.tiles (rw is at keeps) stands.before) t.shows;
         part = tt;
       };
     }
@@ -111,9 +111,9 @@ place_moves format w h tiles k area there stage p lt is =
     record { wide = p.wide; high = p.high; count = p.count; within = omega (arith, lt); lies = is; ready = λ _. tt; over = λ _. refl; room = omega arith }
 
 -- The bytes that were wanted have come in two parts, of which the first was kept.
-pub kept_first : (format : PixelFormat) (w h k : ℕ) (carried : Carried) (stage : Stage) (begun more field : List ℕ) (used : ℕ) (new : Progress) (canvas : Canvas) (sofar : Sofar) → field ≡ begun ++ more → length field ≤ used
-    → Steps (at_tile format w h k carried stage []) new canvas (take used field) sofar → Steps (at_tile format w h k carried stage begun) new canvas more sofar
-kept_first format w h k carried stage begun more field used new canvas sofar joined le s =
+pub kept_first : (keep : ℕ → ℕ) → (format : PixelFormat) (w h k : ℕ) (carried : Carried) (stage : Stage) (begun more field : List ℕ) (used : ℕ) (new : Progress) (canvas : Canvas) (sofar : Sofar) → field ≡ begun ++ more → length field ≤ used
+    → Steps keep (at_tile format w h k carried stage []) new canvas (take used field) sofar → Steps keep (at_tile format w h k carried stage begun) new canvas more sofar
+kept_first keep format w h k carried stage begun more field used new canvas sofar joined le s =
     let all : take used field ≡ begun ++ more = take_all used field le ∙ joined in
     record {
       drawing = s.drawing;

@@ -6,7 +6,8 @@ use Rattle.std.proofs.lemmas.Bool.Decides.{nat_tests}
 use Rattle.std.proofs.lemmas.List.{get_or_append_left, get_or-append-add}
 use Rattle.std.proofs.Math.Nat.{mul-le-mul_right}
 use Rattle.raster.specs.declared.rect.Rect.{Rect}
-use Rattle.raster.specs.Screen.{Canvas, LooksLike, IsWithin, holds, is_within, fill, lay, part_of, value_at}
+use Rattle.raster.specs.Screen.{Canvas, LooksLike, IsWithin, holds, is_within, fill, lay, part_of, value_at, kept}
+use Rattle.raster.proofs.Kept.{kept_fill}
 use Rattle.raster.specs.Encoding.{Subrect, Drawing, drawn, after_subrects}
 use Rattle.raster.proofs.Rows.{fill_inside, lay_inside, lay_outside}
 use Rattle.raster.proofs.RreLaws.{with_subrect}
@@ -53,11 +54,11 @@ lay_keeps area r over w h old new i shows x y lx ly e =
     shows x y lx ly ∙ ap (λ (b : Bool). if b then over (x - (area.x + r.x)) (y - (area.y + r.y)) else old x y) (outside area r x y i e)
 
 -- A part of a row behind the pixels that have come.
-pub row_grows : (area : Rect) (w h row column n : ℕ) (before more : List ℕ) (old new : Canvas) → IsTile area w h → column + n ≤ area.w → row < area.h → length before ≡ row * area.w + column → length more ≡ n
-    → LooksLike w h new (lay (record { x = area.x + column; y = area.y + row; w = n; h = 1 }) (value_at n more) old)
-    → ((x y : ℕ) → x < area.w → y < area.h → y * area.w + x < row * area.w + column → part_of area old x y ≡ value_at area.w before x y)
-    → (x y : ℕ) → x < area.w → y < area.h → y * area.w + x < row * area.w + column + n → part_of area new x y ≡ value_at area.w (before ++ more) x y
-row_grows area w h row column n before more old new t across down len count shows sofar x y lx ly lt =
+pub row_grows : (keep : ℕ → ℕ) → (area : Rect) (w h row column n : ℕ) (before more : List ℕ) (old new : Canvas) → IsTile area w h → column + n ≤ area.w → row < area.h → length before ≡ row * area.w + column → length more ≡ n
+    → LooksLike w h new (lay (record { x = area.x + column; y = area.y + row; w = n; h = 1 }) (kept keep (value_at n more)) old)
+    → ((x y : ℕ) → x < area.w → y < area.h → y * area.w + x < row * area.w + column → part_of area old x y ≡ keep (value_at area.w before x y))
+    → (x y : ℕ) → x < area.w → y < area.h → y * area.w + x < row * area.w + column + n → part_of area new x y ≡ keep (value_at area.w (before ++ more) x y)
+row_grows keep area w h row column n before more old new t across down len count shows sofar x y lx ly lt =
     let there = shows (area.x + x) (area.y + y) (omega (arith, t.within.across)) (omega (arith, t.within.down)) in
     elim (cases_lt (y * area.w + x) (row * area.w + column)) [
       | inl come ↦
@@ -66,7 +67,7 @@ row_grows area w h row column n before more old new t across down len count show
             | inl above ↦ inr (inr (inl (omega arith)))
             | inr from ↦ let p : row * area.w ≤ y * area.w = mul-le-mul_right {m = row} {n = y} area.w from in inl (omega (arith, p))
           ] in
-          there ∙ (lay_outside (area.x + column) (area.y + row) n 1 (value_at n more) old (area.x + x) (area.y + y) out ∙ (sofar x y lx ly come ∙ sym (get_or_append_left before more 0 (y * area.w + x) (omega arith))))
+          there ∙ (lay_outside (area.x + column) (area.y + row) n 1 (kept keep (value_at n more)) old (area.x + x) (area.y + y) out ∙ (sofar x y lx ly come ∙ ap keep (sym (get_or_append_left before more 0 (y * area.w + x) (omega arith)))))
       | inr new_one ↦
           let upto : y < row + 1 = elim (cases_lt y (row + 1)) [
             | inl up ↦ up
@@ -79,9 +80,9 @@ row_grows area w h row column n before more old new t across down len count show
           let here : y ≡ row = omega arith in
           let at_row : y * area.w ≡ row * area.w = ap (λ k. k * area.w) here in
           let index : y * area.w + x ≡ length before + (x - column) = omega (arith, at_row) in
-          let inside = lay_inside (area.x + column) (area.y + row) n 1 (value_at n more) old (area.x + x) (area.y + y) (omega (arith, at_row)) (omega (arith, at_row)) (omega arith) (omega arith) in
+          let inside = lay_inside (area.x + column) (area.y + row) n 1 (kept keep (value_at n more)) old (area.x + x) (area.y + y) (omega (arith, at_row)) (omega (arith, at_row)) (omega arith) (omega arith) in
           let dx : (area.y + y - (area.y + row)) * n + (area.x + x - (area.x + column)) ≡ x - column = let z : area.y + y - (area.y + row) ≡ 0 = omega arith in rw z (omega arith) in
-          there ∙ (inside ∙ (ap (λ k. get_or more k 0) dx ∙ sym (ap (λ k. get_or (before ++ more) k 0) index ∙ get_or-append-add before more (x - column) 0)))
+          there ∙ (inside ∙ ap keep (ap (λ k. get_or more k 0) dx ∙ sym (ap (λ k. get_or (before ++ more) k 0) index ∙ get_or-append-add before more (x - column) 0)))
     ]
 
 -- ---- subrectangles one by one
@@ -90,11 +91,13 @@ after_one : (canvas : Canvas) (ss : List Subrect) (s : Subrect) (x y : ℕ) → 
 after_one canvas [] s x y = refl
 after_one canvas (t ∷ ss) s x y = after_one (fill t.area t.value canvas) ss s x y
 
-pub subrect_drawn : (w h : ℕ) (sofar : Drawing) (s : Subrect) (old new : Canvas) → LooksLike w h old (drawn sofar) → LooksLike w h new (fill s.area s.value old) → LooksLike w h new (drawn (with_subrect sofar s))
-subrect_drawn w h sofar s old new before shows x y lx ly =
-    shows x y lx ly ∙ (ap (λ u. fill s.area s.value (λ _ _. u) x y) (before x y lx ly) ∙ sym (after_one (λ x y. sofar.background) sofar.subrects s x y))
+pub subrect_drawn : (keep : ℕ → ℕ) → (w h : ℕ) (sofar : Drawing) (s : Subrect) (old new : Canvas) → LooksLike w h old (kept keep (drawn sofar)) → LooksLike w h new (fill s.area (keep s.value) old) → LooksLike w h new (kept keep (drawn (with_subrect sofar s)))
+subrect_drawn keep w h sofar s old new before shows x y lx ly =
+    shows x y lx ly
+    ∙ (ap (λ u. fill s.area (keep s.value) (λ _ _. u) x y) (before x y lx ly)
+    ∙ (kept_fill keep s.area s.value (drawn sofar) x y ∙ ap keep (sym (after_one (λ x y. sofar.background) sofar.subrects s x y))))
 
-pub background_drawn : (area : Rect) (w h v : ℕ) (old new : Canvas) → IsTile area w h → LooksLike w h new (fill area v old) → LooksLike area.w area.h (part_of area new) (drawn (record { background = v; subrects = [] }))
-background_drawn area w h v old new t shows x y lx ly =
+pub background_drawn : (keep : ℕ → ℕ) → (area : Rect) (w h v : ℕ) (old new : Canvas) → IsTile area w h → LooksLike w h new (fill area (keep v) old) → LooksLike area.w area.h (part_of area new) (kept keep (drawn (record { background = v; subrects = [] })))
+background_drawn keep area w h v old new t shows x y lx ly =
     shows (area.x + x) (area.y + y) (omega (arith, t.within.across)) (omega (arith, t.within.down))
-    ∙ fill_inside area.x area.y area.w area.h v old (area.x + x) (area.y + y) (omega arith) (omega arith) (omega arith) (omega arith)
+    ∙ fill_inside area.x area.y area.w area.h (keep v) old (area.x + x) (area.y + y) (omega arith) (omega arith) (omega arith) (omega arith)

@@ -1,43 +1,16 @@
 -- The runs of a tile, found row after row.
-use Rattle.std.proofs.Common.{◌≡◌, ℕ, suc, false, ◌&&◌, List, [], ◌∷◌, ◌++◌, length, map, take, drop, get_or, refl, sym, ap, ◌∙◌, ◌+◌, ◌-◌, ◌*◌, ◌<◌, ◌≤◌, append_assoc, length-append, arith}
+use Rattle.std.proofs.Common.{◌≡◌, ℕ, suc, false, ◌&&◌, List, [], ◌∷◌, ◌++◌, length, map, refl, sym, ap, ◌∙◌, ◌+◌, ◌-◌, ◌*◌, ◌<◌, ◌≤◌, append_assoc, length-append, arith}
 use Rattle.std.specs.Prelude.{◌==◌}
 use Rattle.std.specs.List.{flat_map, range_with_len, list_all}
-use Rattle.std.proofs.lemmas.List.{length-take, length-drop, get_or-take, get_or-drop, append-nil, length-map}
+use Rattle.std.proofs.lemmas.List.{append-nil, length-map}
 use Rattle.std.proofs.lemmas.List.Folds.{list_all-append}
-use Rattle.std.proofs.Math.Nat.{mul-le-mul_right}
 use Rattle.raster.specs.declared.rect.Rect.{Rect}
 use Rattle.raster.specs.Screen.{Canvas, value_at, part_of}
 use Rattle.raster.specs.Encoding.{Subrect, runs, runs_of_row}
 use Rattle.hextile_codec.specs.declared.runs.Run.{Run}
-use Rattle.hextile_codec.specs.Kinds.{subrect_of, has_one_value, row_shows}
-use Rattle.hextile_codec.proofs.RowRuns.{row_same}
-
--- ---- a row of a tile in the values of all
-
--- Row y of a tile.
-abbrev pub tile_row : List ℕ → ℕ → Rect → ℕ → List ℕ
-tile_row values w tile y = take (tile.y * w + tile.x + y * w + tile.w - (tile.y * w + tile.x + y * w)) (drop (tile.y * w + tile.x + y * w) values)
-
-pub row_inside : (w x y n ty th len : ℕ) → x + n ≤ w → (ty + th) * w ≤ len → y < th → ty * w + x + y * w + n ≤ len
-row_inside w x y n ty th len across down lt =
-    let p : (ty + y + 1) * w ≤ (ty + th) * w = mul-le-mul_right w (omega arith) in
-    omega (arith, p)
-
-pub tile_row_len : (values : List ℕ) (w : ℕ) (tile : Rect) (y : ℕ) → tile.x + tile.w ≤ w → (tile.y + tile.h) * w ≤ length values → y < tile.h → length (tile_row values w tile y) ≡ tile.w
-tile_row_len values w tile y across down lt =
-    let start : ℕ = tile.y * w + tile.x + y * w in
-    let p : start + tile.w ≤ length values = row_inside w tile.x y tile.w tile.y tile.h (length values) across down lt in
-    omega (arith, length-take (start + tile.w - start) (drop start values), length-drop start values, p)
-
-pub tile_row_at : (values : List ℕ) (w : ℕ) (tile : Rect) (y k : ℕ) → k < tile.w → get_or (tile_row values w tile y) k 0 ≡ part_of tile (value_at w values) k y
-tile_row_at values w tile y k lt =
-    let start : ℕ = tile.y * w + tile.x + y * w in
-    let place : start + k ≡ (tile.y + y) * w + (tile.x + k) = omega arith in
-    get_or-take (start + tile.w - start) (drop start values) k 0 (omega arith) ∙ (get_or-drop start values k 0 ∙ ap (λ p. get_or values p 0) place)
-
--- The value of a tile's first pixel.
-pub tile_first : (values : List ℕ) (w : ℕ) (tile : Rect) → get_or values (tile.y * w + tile.x) 0 ≡ part_of tile (value_at w values) 0 0
-tile_first values w tile = let place : tile.y * w + tile.x ≡ (tile.y + 0) * w + (tile.x + 0) = omega arith in ap (λ p. get_or values p 0) place
+use Rattle.hextile_codec.specs.Kinds.{subrect_of, has_one_value}
+use Rattle.raster.specs.RowShown.{row_shows}
+use Rattle.raster.proofs.AreaRows.{row_same, tile_row, tile_row_len, tile_row_at}
 
 -- ---- row after row
 

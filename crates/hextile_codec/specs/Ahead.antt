@@ -5,7 +5,7 @@ use Rattle.pixel_format.specs.Reading.{Reading, Done, Faulty, ◌>>=◌, after, 
 use Rattle.pixel_format.specs.declared.fault.Fault.{Fault}
 use Rattle.pixel_format.specs.declared.fault.Fault.TheVariants.{SubrectOutside, NoBackground, NoForeground}
 use Rattle.raster.specs.declared.rect.Rect.{Rect}
-use Rattle.raster.specs.Screen.{Canvas, LooksLike, IsWithin, holds, part_of, value_at, tiles_across, tile_count, tile_rect}
+use Rattle.raster.specs.Screen.{Canvas, LooksLike, IsWithin, holds, part_of, value_at, tiles_across, tile_count, tile_rect, kept}
 use Rattle.raster.specs.Encoding.{Drawing, drawn, Carried, Tile, Pixels, Drawn, has_bit, pixel, tile, drawn_tile, hextile_subrect, tiles_from, tiled}
 use Rattle.hextile_codec.specs.Carried.{carried_by}
 use Rattle.hextile_codec.specs.declared.colours.Colours.{Colours}
@@ -84,21 +84,21 @@ pub record IsTile (area : Rect) (w h : ℕ) : Type 0 where
   pub within : IsWithin area w h
   pub small : (area.x < 65536) × (area.y < 65536)
 
--- A canvas shows, in a tile at an area, what was read of it so far. Before the first pixel, and after a fault, nothing is said of it.
-abbrev pub IsDrawn : Rect → Stage → Canvas → Part → Type 0
-IsDrawn area Mask canvas part = Unit {0}
-IsDrawn area (RawPixels count) canvas part =
+-- A canvas shows, in a tile at an area, what it keeps of what was read of it so far. Before the first pixel, and after a fault, nothing is said of it.
+abbrev pub IsDrawn : (keep : ℕ → ℕ) → Rect → Stage → Canvas → Part → Type 0
+IsDrawn keep area Mask canvas part = Unit {0}
+IsDrawn keep area (RawPixels count) canvas part =
     (length part.pixels ≡ count)
-    × ((x y : ℕ) → x < area.w → y < area.h → y * area.w + x < count → part_of area canvas x y ≡ value_at area.w part.pixels x y)
-IsDrawn area (Head mask) canvas part = Unit {0}
-IsDrawn area (Subrects coloured left) canvas part = LooksLike area.w area.h (part_of area canvas) (drawn part.drawing)
-IsDrawn area (Failed flaw) canvas part = Unit {0}
+    × ((x y : ℕ) → x < area.w → y < area.h → y * area.w + x < count → part_of area canvas x y ≡ keep (value_at area.w part.pixels x y))
+IsDrawn keep area (Head mask) canvas part = Unit {0}
+IsDrawn keep area (Subrects coloured left) canvas part = LooksLike area.w area.h (part_of area canvas) (kept keep (drawn part.drawing))
+IsDrawn keep area (Failed flaw) canvas part = Unit {0}
 
--- A canvas shows the tiles that are whole, and what was read of the next one.
-pub record Stands (p : Progress) (canvas : Canvas) (sofar : Sofar) : Type 0 where
+-- A canvas shows what it keeps of the tiles that are whole, and of what was read of the next one.
+pub record Stands (keep : ℕ → ℕ) (p : Progress) (canvas : Canvas) (sofar : Sofar) : Type 0 where
   pub count : length sofar.tiles ≡ p.tile
-  pub before : (x y : ℕ) → x < p.width → y < p.height → y / 16 * tiles_across p.width + x / 16 < p.tile → canvas x y ≡ tiled p.width p.height sofar.tiles x y
-  pub part : IsDrawn (tile_rect p.width p.height p.tile) p.stage canvas sofar.part
+  pub before : (x y : ℕ) → x < p.width → y < p.height → y / 16 * tiles_across p.width + x / 16 < p.tile → canvas x y ≡ keep (tiled p.width p.height sofar.tiles x y)
+  pub part : IsDrawn keep (tile_rect p.width p.height p.tile) p.stage canvas sofar.part
 
 -- Readers of rectangles of one size and format.
 pub record IsSameSize (old new : Progress) : Type 0 where
@@ -112,28 +112,28 @@ pub record Goes {A : Type 0} (form : Reading A) (bytes : List ℕ) (later : Read
   pub leads : after form bytes ≡ later
 
 -- A reader took bytes, each of which was wanted, and drew what they say.
-pub record Steps (old new : Progress) (now : Canvas) (bytes : List ℕ) (sofar : Sofar) : Type 0 where
+pub record Steps (keep : ℕ → ℕ) (old new : Progress) (now : Canvas) (bytes : List ℕ) (sofar : Sofar) : Type 0 where
   pub drawing : Sofar
   pub goes : Goes (ahead old sofar) bytes (ahead new drawing)
-  pub stands : Stands new now drawing
+  pub stands : Stands keep new now drawing
 
 -- A reader was fed a piece, and drew what it took of it.
-pub record Draws (old new : Progress) (now : Canvas) (piece : List ℕ) (answer : Result ℕ Fault) (sofar : Sofar) : Type 0 where
+pub record Draws (keep : ℕ → ℕ) (old new : Progress) (now : Canvas) (piece : List ℕ) (answer : Result ℕ Fault) (sofar : Sofar) : Type 0 where
   pub drawing : Sofar
   pub feeds : Feeds (ahead old sofar) (ahead new drawing) piece answer
-  pub stands : Stands new now drawing
+  pub stands : Stands keep new now drawing
 
 -- ---- in one tile
 
 -- The bytes of a stage lead to a later one, and what they say was drawn.
-pub record Led (format : PixelFormat) (area : Rect) (carried later : Carried) (stage next : Stage) (bytes : List ℕ) (now : Canvas) (part : Part) : Type 0 where
+pub record Led (keep : ℕ → ℕ) (format : PixelFormat) (area : Rect) (carried later : Carried) (stage next : Stage) (bytes : List ℕ) (now : Canvas) (part : Part) : Type 0 where
   pub grown : Part
   pub goes : Goes (tile_rest format area.w area.h carried stage part) bytes (tile_rest format area.w area.h later next grown)
-  pub shows : IsDrawn area next now grown
+  pub shows : IsDrawn keep area next now grown
 
 -- That, wherever the canvas before showed what was read of the tile so far.
-abbrev pub Leads : PixelFormat → Rect → Carried → Carried → Stage → Stage → List ℕ → Canvas → Canvas → Part → Type 0
-Leads format area carried later stage next bytes before now part = IsDrawn area stage before part → Led format area carried later stage next bytes now part
+abbrev pub Leads : (keep : ℕ → ℕ) → PixelFormat → Rect → Carried → Carried → Stage → Stage → List ℕ → Canvas → Canvas → Part → Type 0
+Leads keep format area carried later stage next bytes before now part = IsDrawn keep area stage before part → Led keep format area carried later stage next bytes now part
 
 -- Outside an area nothing was drawn.
 abbrev pub Keeps : Rect → ℕ → ℕ → Canvas → Canvas → Type 0
@@ -195,8 +195,8 @@ IsLater format area (Subrects coloured left) = Unit {0}
 IsLater format area (Failed flaw) = Unit {0}
 
 -- What was drawn of a tile at an area leads over these bytes from a stage, with these colours, to a later one.
-pub record DrawsTo (format : PixelFormat) (area : Rect) (carried : Colours) (stage : Stage) (bytes : List ℕ) (before now : Canvas) (drawn : outcome.Drawn) : Type 0 where
-  pub leads : (part : Part) → Leads format area (carried_by carried) (carried_by drawn.carried) stage drawn.stage bytes before now part
+pub record DrawsTo (keep : ℕ → ℕ) (format : PixelFormat) (area : Rect) (carried : Colours) (stage : Stage) (bytes : List ℕ) (before now : Canvas) (drawn : outcome.Drawn) : Type 0 where
+  pub leads : (part : Part) → Leads keep format area (carried_by carried) (carried_by drawn.carried) stage drawn.stage bytes before now part
   pub later : IsLater format area drawn.stage
 
 -- A tile of w by h is whole at a stage.

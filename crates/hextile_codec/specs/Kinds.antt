@@ -1,5 +1,5 @@
 -- What the reflector knows of a tile before it writes it.
-use Rattle.std.specs.Prelude.{◌≡◌, ℕ, ◌+◌, ◌*◌, ◌<◌, ◌≤◌, Bool, true, ◌==◌, if◌then◌else◌, List, [], ◌∷◌, length, slice_index, Some, None}
+use Rattle.std.specs.Prelude.{◌≡◌, ℕ, ◌+◌, ◌*◌, ◌<◌, ◌≤◌, Bool, true, ◌==◌, if◌then◌else◌, List, [], ◌∷◌, length, Some, None}
 use Rattle.std.specs.List.{list_all}
 use Rattle.pixel_format.specs.PixelFormat.{PixelFormat, pixel_len}
 use Rattle.raster.specs.Screen.{Canvas, values_of}
@@ -19,10 +19,6 @@ pub record IsSmall (run : Run) : Type 0 where
   pub y : run.y < 16
   pub some : 0 < run.len
   pub most : run.len ≤ 16
-
--- A row of values as a canvas whose rows are all the same.
-abbrev pub row_shows : List ℕ → Canvas
-row_shows row x y = slice_index row x
 
 -- All runs have the value of the first.
 abbrev pub has_one_value : List Subrect → Bool

@@ -46,8 +46,9 @@ pub fn draw_head<C: Canvas>(
     requires count { head_len format.now mask ≤ length bytes.now }
     requires tile { IsTile area (C.width canvas.old) (C.height canvas.old) }
     ensures canvas { DrawsIn area (C.width canvas.old) (C.height canvas.old) (C.shows canvas.old) (C.width canvas.new) (C.height canvas.new) (C.shows canvas.new) }
+    ensures stays { C.Stays canvas.old canvas.new }
     ensures used { result.used ≡ head_len format.now mask }
-    ensures drawn { DrawsTo format.now area carried (Stage.Head mask) (take result.used bytes.now) (C.shows canvas.old) (C.shows canvas.new) result }
+    ensures drawn { DrawsTo C.keeps format.now area carried (Stage.Head mask) (take result.used bytes.now) (C.shows canvas.old) (C.shows canvas.new) result }
 {
     let (bytes, _) = bytes.split_at(head_len(format, mask));
     let (background, rest) = specified(
@@ -91,8 +92,9 @@ fn draw_announced<C: Canvas>(
 ) -> Drawn
     requires tile { IsTile area (C.width canvas.old) (C.height canvas.old) }
     ensures canvas { DrawsIn area (C.width canvas.old) (C.height canvas.old) (C.shows canvas.old) (C.width canvas.new) (C.height canvas.new) (C.shows canvas.new) }
+    ensures stays { C.Stays canvas.old canvas.new }
     ensures used { result.used ≡ 1 }
-    ensures drawn { DrawsTo format.now area carried (Stage.Head mask) [] (C.shows canvas.old) (C.shows canvas.new) result }
+    ensures drawn { DrawsTo C.keeps format.now area carried (Stage.Head mask) [] (C.shows canvas.old) (C.shows canvas.new) result }
 {
     if head_len(format, mask) > 0 {
         return Drawn {
@@ -115,8 +117,9 @@ pub fn draw_mask<C: Canvas>(
 ) -> Drawn
     requires tile { IsTile area (C.width canvas.old) (C.height canvas.old) }
     ensures canvas { DrawsIn area (C.width canvas.old) (C.height canvas.old) (C.shows canvas.old) (C.width canvas.new) (C.height canvas.new) (C.shows canvas.new) }
+    ensures stays { C.Stays canvas.old canvas.new }
     ensures used { result.used ≡ 1 }
-    ensures drawn { DrawsTo format.now area carried Stage.Mask (mask ∷ []) (C.shows canvas.old) (C.shows canvas.new) result }
+    ensures drawn { DrawsTo C.keeps format.now area carried Stage.Mask (mask ∷ []) (C.shows canvas.old) (C.shows canvas.new) result }
 {
     let stage = after_mask(mask, carried);
     match stage {

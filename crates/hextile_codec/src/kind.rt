@@ -1,6 +1,6 @@
 //! The kinds of a tile as it is written, and which of them one has.
 
-ghost use Rattle.std.specs.Prelude.{◌≡◌, ◌+◌, ◌*◌, ◌<◌, ◌≤◌, length, map};
+ghost use Rattle.std.specs.Prelude.{◌≡◌, ◌+◌, ◌*◌, ◌<◌, ◌≤◌, ◌^◌, length, map};
 ghost use Rattle.raster.specs.Screen.{value_at, part_of};
 ghost use Rattle.raster.specs.Encoding.{runs, unless_said};
 ghost use Rattle.hextile_codec.specs.Carried.{carried_by};
@@ -85,6 +85,8 @@ pub fn choose(
     requires h_most { tile.now.h ≤ TILE_SIDE }
     requires across { tile.now.x + tile.now.w ≤ w }
     requires down { (tile.now.y + tile.now.h) * w ≤ length values.now }
+    requires wide { w < 2 ^ 16 }
+    requires high { tile.now.y + tile.now.h < 2 ^ 16 }
     ensures { IsChosen format.now (carried_by said.now) tile.now.w tile.now.h (part_of tile.now (value_at w values.now)) (map subrect_of runs.new.items) result }
 {
     let pixel = format.bytes();

@@ -10,6 +10,7 @@ mod colours;
 mod drawing;
 mod head;
 mod kind;
+mod marking;
 mod mask;
 mod pixels;
 mod put;

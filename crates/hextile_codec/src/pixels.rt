@@ -2,14 +2,14 @@
 
 ghost use Rattle.std.specs.Prelude.{◌≡◌, ◌+◌, ◌*◌, ◌/◌, ◌<◌, ◌≤◌, ◌^◌, length, take, min};
 ghost use Rattle.pixel_format.specs.PixelFormat.{pixel_len};
-ghost use Rattle.raster.specs.Screen.{LooksLike, lay, value_at};
+ghost use Rattle.raster.specs.Screen.{LooksLike, lay, value_at, kept};
 ghost use Rattle.hextile_codec.specs.Ahead.{DrawsIn, DrawsTo, IsTile, pixels_in};
 
 use crate::colours::Colours;
 use crate::drawing::Drawn;
 use crate::stage::Stage;
 use pixel_format::Format;
-use raster::{Canvas, Rect, TILE_SIDE};
+use raster::{Canvas, Rect, TILE_SIDE, VALUE_LEN};
 
 /// The pixel values in some bytes, one for each.
 fn get_row(format: &Format, bytes: &[u8], values: &mut [u32])
@@ -35,8 +35,13 @@ fn draw_row<C: Canvas>(format: &Format, x: u64, y: u64, count: usize, bytes: &[u
     requires down { y < C.height canvas.old }
     ensures width { C.width canvas.new ≡ C.width canvas.old }
     ensures height { C.height canvas.new ≡ C.height canvas.old }
-    ensures shows { LooksLike (C.width canvas.old) (C.height canvas.old) (C.shows canvas.new) (lay (record { x = x; y = y; w = count; h = 1 }) (value_at count (pixels_in format.now count bytes.now)) (C.shows canvas.old)) }
+    ensures stays { C.Stays canvas.old canvas.new }
+    ensures shows { LooksLike (C.width canvas.old) (C.height canvas.old) (C.shows canvas.new) (lay (record { x = x; y = y; w = count; h = 1 }) (kept C.keeps (value_at count (pixels_in format.now count bytes.now))) (C.shows canvas.old)) }
 {
+    if format.spells_words() {
+        let (words, _) = bytes.as_chunks::<VALUE_LEN>();
+        return canvas.put_bytes(x, y, words);
+    }
     let mut values = [0; TILE_SIDE as usize];
     let row = &mut values[..count];
     get_row(format, bytes, row);
@@ -71,9 +76,10 @@ pub fn draw_pixels<C: Canvas>(
     requires count { pixel_len format.now ≤ length bytes.now }
     requires tile { IsTile area (C.width canvas.old) (C.height canvas.old) }
     ensures canvas { DrawsIn area (C.width canvas.old) (C.height canvas.old) (C.shows canvas.old) (C.width canvas.new) (C.height canvas.new) (C.shows canvas.new) }
+    ensures stays { C.Stays canvas.old canvas.new }
     ensures used { pixel_len format.now ≤ result.used }
     ensures within { result.used ≤ length bytes.now }
-    ensures drawn { DrawsTo format.now area carried (Stage.RawPixels come) (take result.used bytes.now) (C.shows canvas.old) (C.shows canvas.new) result }
+    ensures drawn { DrawsTo C.keeps format.now area carried (Stage.RawPixels come) (take result.used bytes.now) (C.shows canvas.old) (C.shows canvas.new) result }
 {
     let size = format.bytes();
     let mut count = come;

@@ -181,12 +181,9 @@ fn put_row(format: &Format, row: &[u32], out: &mut [u8], used: usize) -> usize
     ensures end { result ≡ used + pixel_len format.now * length row.now }
     ensures bytes { take result out.new ≡ take used out.old ++ raw_bytes format.now row.now }
 {
-    let mut at = used;
-    for value in row {
-        format.put_pixel(*value, &mut out[at..]);
-        at += format.bytes();
-    }
-    at
+    let end = used + format.bytes() * row.len();
+    format.put_values(row, &mut out[used..end]);
+    end
 }
 
 /// Puts a tile's pixels, from index `used` of `out` on.

@@ -3,7 +3,7 @@
 ghost use Rattle.std.specs.Prelude.{◌≡◌, ℕ, ◌+◌, ◌<◌, ◌≤◌, true, List, [], length, take, is_some, Some, None, MatchResult};
 ghost use Rattle.pixel_format.specs.Reading.{Done, whole_of, fault_of};
 ghost use Rattle.raster.specs.Encoding.{Tile, hextile, tiled};
-ghost use Rattle.raster.specs.Screen.{Map, LooksLike};
+ghost use Rattle.raster.specs.Screen.{Map, LooksLike, kept};
 ghost use Rattle.hextile_codec.specs.Ahead.{Part, Sofar, nothing_read, ahead, Stands, Steps, Draws, IsSameSize, is_wanting, needed};
 
 use crate::colours::Colours;
@@ -60,7 +60,7 @@ impl Reader {
         ensures width { result.width ≡ w }
         ensures height { result.height ≡ h }
         ensures begins { (part : Part) → ahead result (nothing_read part) ≡ hextile format w h }
-        ensures stands { (canvas : Map ℕ) (part : Part) → Stands result canvas (nothing_read part) }
+        ensures stands { (keep : ℕ → ℕ) (canvas : Map ℕ) (part : Part) → Stands keep result canvas (nothing_read part) }
     {
         Reader {
             format,
@@ -83,7 +83,7 @@ impl Reader {
     /// Whether the rectangle is read to its end. Then a canvas on which it drew shows its tiles.
     pub fn whole(&self) -> bool
         ensures whole { (sofar : Sofar) → result ≡ is_some (whole_of (ahead self.now sofar)) }
-        ensures shows { (canvas : Map ℕ) (sofar : Sofar) (tiles : List Tile) → Stands self.now canvas sofar → ahead self.now sofar ≡ Done tiles → LooksLike self.now.width self.now.height canvas (tiled self.now.width self.now.height tiles) }
+        ensures shows { (keep : ℕ → ℕ) (canvas : Map ℕ) (sofar : Sofar) (tiles : List Tile) → Stands keep self.now canvas sofar → ahead self.now sofar ≡ Done tiles → LooksLike self.now.width self.now.height canvas (kept keep (tiled self.now.width self.now.height tiles)) }
     {
         self.tile == self.tiles
     }
@@ -107,7 +107,8 @@ impl Reader {
         ensures size { IsSameSize self.old self.new }
         ensures width { C.width canvas.new ≡ self.old.width }
         ensures height { C.height canvas.new ≡ self.old.height }
-        ensures drawn { (sofar : Sofar) → Stands self.old (C.shows canvas.old) sofar → Steps self.old self.new (C.shows canvas.new) (take result bytes.now) sofar }
+        ensures stays { C.Stays canvas.old canvas.new }
+        ensures drawn { (sofar : Sofar) → Stands C.keeps self.old (C.shows canvas.old) sofar → Steps C.keeps self.old self.new (C.shows canvas.new) (take result bytes.now) sofar }
     {
         let drawn = draw(
             &self.format,
@@ -141,7 +142,8 @@ impl Reader {
         ensures size { IsSameSize self.old self.new }
         ensures width { C.width canvas.new ≡ self.old.width }
         ensures height { C.height canvas.new ≡ self.old.height }
-        ensures drawn { (sofar : Sofar) → Stands self.old (C.shows canvas.old) sofar → Steps self.old self.new (C.shows canvas.new) (take result bytes.now) sofar }
+        ensures stays { C.Stays canvas.old canvas.new }
+        ensures drawn { (sofar : Sofar) → Stands C.keeps self.old (C.shows canvas.old) sofar → Steps C.keeps self.old self.new (C.shows canvas.new) (take result bytes.now) sofar }
     {
         let needed = needed(&self.format, self.stage);
         if self.begun.is_empty() && needed <= bytes.len() {
@@ -178,7 +180,8 @@ impl Reader {
         ensures size { IsSameSize self.old self.new }
         ensures width { C.width canvas.new ≡ self.old.width }
         ensures height { C.height canvas.new ≡ self.old.height }
-        ensures drawn { (sofar : Sofar) → Stands self.old (C.shows canvas.old) sofar → Draws self.old self.new (C.shows canvas.new) piece.now result sofar }
+        ensures stays { C.Stays canvas.old canvas.new }
+        ensures drawn { (sofar : Sofar) → Stands C.keeps self.old (C.shows canvas.old) sofar → Draws C.keeps self.old self.new (C.shows canvas.new) piece.now result sofar }
     {
         let mut left = piece;
         while !left.is_empty() && self.wants_more() {

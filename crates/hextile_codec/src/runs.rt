@@ -1,19 +1,24 @@
 //! The runs of a tile.
 
-ghost use Rattle.std.specs.Prelude.{◌≡◌, ◌+◌, ◌*◌, ◌<◌, ◌≤◌, ◌++◌, ◌==◌, false, length, map, take_while, IsTrue};
+ghost use Rattle.std.specs.Prelude.{◌≡◌, ◌+◌, ◌*◌, ◌<◌, ◌≤◌, ◌^◌, ◌++◌, ◌==◌, false, length, map, take_while, IsTrue};
 ghost use Rattle.std.specs.List.{list_all};
 ghost use Rattle.arrayvec.specs.ArrayVec.{array_vec_len};
 ghost use Rattle.raster.specs.Screen.{value_at, part_of};
 ghost use Rattle.raster.specs.Encoding.{runs, runs_of_row};
-ghost use Rattle.hextile_codec.specs.Kinds.{subrect_of, has_one_value, row_shows};
+ghost use Rattle.raster.specs.RowShown.{row_shows};
+ghost use Rattle.hextile_codec.specs.Kinds.{subrect_of, has_one_value};
 
+use crate::marking::mark_row;
 use arrayvec::ArrayVec;
-use raster::{Rect, TILE_SIDE};
+use raster::{Rect, TILE_SIDE, has_runs};
 use std::simd::cmp::SimdPartialEq;
 use std::simd::u32x16;
 
 /// How many pixels a tile has at most.
 pub const TILE_AREA: usize = (TILE_SIDE * TILE_SIDE) as usize;
+
+/// So many runs in the first rows of a tile are a reason to count them all.
+const CROWDED: usize = TILE_SIDE as usize;
 
 /// A run: `len` pixels of one value, from column `x` of row `y` of its tile on.
 #[derive(Clone, Copy, Default)]
@@ -54,6 +59,29 @@ fn is_all(row: &[u32], value: u32) -> bool
     row.iter().all(|v| *v == value)
 }
 
+/// Adds the runs of a row of 16, found by its marks.
+fn add_whole_row(row: &[u32], y: usize, background: u32, runs: &mut Runs)
+    requires whole { length row.now ≡ TILE_SIDE }
+    requires high { y < TILE_SIDE }
+    requires room { array_vec_len runs.old + length row.now ≤ TILE_AREA }
+    ensures added { map subrect_of runs.new.items ≡ map subrect_of runs.old.items ++ runs_of_row (row_shows row.now) background (length row.now) y }
+    ensures few { array_vec_len runs.new ≤ array_vec_len runs.old + length row.now }
+{
+    let marks = mark_row(row, background);
+    let mut x = 0;
+    while marks.begins >> x != 0 {
+        let first = x + (marks.begins >> x).trailing_zeros() as usize;
+        let len = (marks.ends >> (first + 1)).trailing_zeros() + 1;
+        runs.push(Run {
+            value: row[first],
+            x: first as u8,
+            y: y as u8,
+            len: len as u8,
+        });
+        x = first + 1;
+    }
+}
+
 /// Adds the runs of row `y` other than the background to those of the rows above.
 fn add_row(row: &[u32], y: usize, background: u32, runs: &mut Runs)
     requires some { 0 < length row.now }
@@ -65,6 +93,9 @@ fn add_row(row: &[u32], y: usize, background: u32, runs: &mut Runs)
 {
     if row[0] == background && is_all(row, background) {
         return;
+    }
+    if row.len() == TILE_SIDE as usize {
+        return add_whole_row(row, y, background, runs);
     }
     let mut x = 0;
     while x < row.len() {
@@ -84,7 +115,7 @@ fn add_row(row: &[u32], y: usize, background: u32, runs: &mut Runs)
 
 /// Finds the runs of a tile other than its background, the first pixel's value, and puts them into `found`.
 ///
-/// `false` as soon as there are `enough` of them, of more values than one; `found` then holds the first of them.
+/// `false` only where there are `enough` of them, of more values than one; `found` then holds the first of them.
 pub fn find_runs(values: &[u32], w: usize, tile: &Rect, enough: usize, found: &mut Runs) -> bool
     requires w_some { 0 < tile.now.w }
     requires w_most { tile.now.w ≤ TILE_SIDE }
@@ -92,6 +123,8 @@ pub fn find_runs(values: &[u32], w: usize, tile: &Rect, enough: usize, found: &m
     requires h_most { tile.now.h ≤ TILE_SIDE }
     requires across { tile.now.x + tile.now.w ≤ w }
     requires down { (tile.now.y + tile.now.h) * w ≤ length values.now }
+    requires wide { w < 2 ^ 16 }
+    requires high { tile.now.y + tile.now.h < 2 ^ 16 }
     ensures all { let all = runs (part_of tile.now (value_at w values.now)) tile.now.w tile.now.h in IsTrue result → map subrect_of found.new.items ≡ all }
     ensures many { let all = runs (part_of tile.now (value_at w values.now)) tile.now.w tile.now.h in result ≡ false → enough ≤ length all }
     ensures mixed { let all = runs (part_of tile.now (value_at w values.now)) tile.now.w tile.now.h in result ≡ false → has_one_value all ≡ false }
@@ -99,6 +132,7 @@ pub fn find_runs(values: &[u32], w: usize, tile: &Rect, enough: usize, found: &m
     found.clear();
     let first = tile.y as usize * w + tile.x as usize;
     let background = values[first];
+    let mut judged = false;
     for y in 0..tile.h as usize {
         let start = first + y * w;
         add_row(
@@ -107,8 +141,12 @@ pub fn find_runs(values: &[u32], w: usize, tile: &Rect, enough: usize, found: &m
             background,
             found,
         );
-        if found.len() >= enough && !has_one_value(found.as_slice()) {
-            return false;
+        // A crowded tile shows early, and its runs are counted faster than found.
+        if !judged && found.len() >= CROWDED {
+            judged = true;
+            if !has_one_value(found.as_slice()) && has_runs(values, w, tile, enough as u64) {
+                return false;
+            }
         }
     }
     true

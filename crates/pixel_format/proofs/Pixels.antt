@@ -1,5 +1,5 @@
 -- A pixel value and its bytes: what they are in each size and order, and that the value is read back.
-use Rattle.std.proofs.Common.{◌≡◌, ℕ, ◌^◌, ◌*◌, ◌%◌, Bool, true, false, cond, ◌||◌, List, [], ◌∷◌, length, refl, ◌<◌, arith}
+use Rattle.std.proofs.Common.{◌≡◌, ℕ, ◌^◌, ◌*◌, ◌%◌, ◌/◌, Bool, true, false, cond, ◌||◌, List, [], ◌∷◌, length, refl, ◌<◌, arith}
 use Rattle.std.specs.Prelude.{◌==◌}
 use Rattle.std.specs.Int.{Width, w8, w16, w32, byte_len, to_be_bytes, to_le_bytes, from_be_bytes, from_le_bytes}
 use Rattle.std.proofs.lemmas.Nat.{from_be_bytes-to_be_bytes_2, from_be_bytes-to_be_bytes_4, from_le_bytes-to_le_bytes_2, from_le_bytes-to_le_bytes_4}
@@ -90,3 +90,17 @@ row_32_big format colours n8 n16 b = same_pieces (λ colour. to_be_bytes w32 (ti
 
 pub row_32_little : (format : PixelFormat) (colours : List ℕ) → (format.bits_per_pixel ≡ 8 → ⊥) → (format.bits_per_pixel ≡ 16 → ⊥) → format.big_endian ≡ false → flat_map (λ colour. to_le_bytes w32 (tint format colour)) colours ≡ row_bytes format colours
 row_32_little format colours n8 n16 b = same_pieces (λ colour. to_le_bytes w32 (tint format colour)) (λ colour. pixel_bytes format (tint format colour)) colours (λ colour. four_little format (tint format colour) n8 n16 b)
+
+-- Of a value the two lowest bytes are written.
+pub low_byte : (v : ℕ) → v % 65536 % 256 ≡ v % 256
+low_byte v = omega arith
+
+pub high_byte : (v : ℕ) → v % 65536 / 256 % 256 ≡ v / 256 % 256
+high_byte v = omega arith
+
+-- A row of values in a format's bytes.
+pub values_16_little : (format : PixelFormat) (values : List ℕ) → format.bits_per_pixel ≡ 16 → format.big_endian ≡ false → flat_map (to_le_bytes w16) values ≡ flat_map (pixel_bytes format) values
+values_16_little format values e b = same_pieces (to_le_bytes w16) (pixel_bytes format) values (λ v. two_little format v e b)
+
+pub values_32_little : (format : PixelFormat) (values : List ℕ) → format.bits_per_pixel ≡ 32 → format.big_endian ≡ false → flat_map (to_le_bytes w32) values ≡ flat_map (pixel_bytes format) values
+values_32_little format values e b = same_pieces (to_le_bytes w32) (pixel_bytes format) values (λ v. four_little format v (λ f. absurd (omega (arith, e, f))) (λ f. absurd (omega (arith, e, f))) b)

@@ -12,8 +12,11 @@ pub mod TileSpelled
 pub mod HextileSpelled
 pub mod Forms
 pub mod Bytes
+pub mod Kept
 pub mod Places
 pub mod RowScan
 pub mod FixedLength
 pub mod Tiles
 pub mod Puts
+pub mod AreaRows
+pub mod RunCount

@@ -24,7 +24,7 @@ runs_behind_all canvas background w y x le = let none : w - x ≡ 0 = omega arit
 abbrev pub IsFresh : Canvas → ℕ → ℕ → Type 0
 IsFresh canvas y x = (x ≡ 0) ⊎ (canvas (x - 1) y ≡ canvas x y → ⊥)
 
-filter_skips : (p : ℕ → Bool) (a n m : ℕ) → ((k : ℕ) → a ≤ k → k < a + n → p k ≡ false) → filter p (range_with_len a (n + m)) ≡ filter p (range_with_len (a + n) m)
+pub filter_skips : (p : ℕ → Bool) (a n m : ℕ) → ((k : ℕ) → a ≤ k → k < a + n → p k ≡ false) → filter p (range_with_len a (n + m)) ≡ filter p (range_with_len (a + n) m)
 filter_skips p a zero m f = let s : 0 + m ≡ m = omega arith in let t : a + 0 ≡ a = omega arith in rw (s, t) refl
 filter_skips p a (suc n) m f =
     let s : suc n + m ≡ suc (n + m) = omega arith in

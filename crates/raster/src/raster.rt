@@ -1,13 +1,13 @@
 //! Rasters: screens that are held in memory.
 
-ghost use Rattle.std.specs.Prelude.{◌≡◌, ℕ, ◌+◌, ◌*◌, ◌<◌, ◌≤◌, ◌^◌, length, slice_index, map, All, IfOk, IfErr};
+ghost use Rattle.std.specs.Prelude.{◌≡◌, ℕ, ◌+◌, ◌*◌, ◌<◌, ◌≤◌, ◌^◌, length, slice_index, map, All, IfOk, IfErr, ⊤};
 ghost use Rattle.pixel_format.specs.declared.fault.Fault.TheVariants.{Memory};
 ghost use Rattle.raster.specs.Screen.{LooksLike, IsWithin, opening, fill, lay, copy, value_at};
 ghost use Rattle.raster.specs.Update.{after_paints};
 ghost use Rattle.raster.specs.Painted.{Fits, paint_of};
 ghost use Rattle.raster.specs.Picture.{Picture, shown, IsPicture, IsRedrawn};
 
-use crate::canvas::Canvas;
+use crate::canvas::{Canvas, VALUE_LEN};
 use crate::painting::{self, Paint};
 use crate::rect::Rect;
 use pixel_format::Fault;
@@ -164,6 +164,15 @@ impl Canvas for Raster {
 
     ghost shows = { shown };
 
+    ghost keeps = { λ value. value };
+
+    // There is nothing around it.
+    ghost Stays = { λ _ _. ⊤ };
+
+    ghost stays_at_once = { λ _. tt };
+
+    ghost stays_then = { λ _ _ _ _ _. tt };
+
     fn put(&mut self, x: u64, y: u64, value: u32) {
         self.set(x, y, value);
     }
@@ -180,5 +189,16 @@ impl Canvas for Raster {
             h: 1,
         };
         self.put(area, values);
+    }
+
+    fn put_bytes(&mut self, x: u64, y: u64, values: &[[u8; VALUE_LEN]]) {
+        painting::put_words(
+            self.colours.as_mut_slice(),
+            self.width as usize,
+            self.height as usize,
+            x as usize,
+            y as usize,
+            values,
+        );
     }
 }

@@ -13,19 +13,19 @@ pub same_size : (old mid new : Progress) → IsSameSize old mid → IsSameSize m
 same_size old mid new a b = record { format = b.format ∙ a.format; width = b.width ∙ a.width; height = b.height ∙ a.height }
 
 -- Of a piece there is left what has not been taken, and the rest of it was drawn.
-pub record HasDrawn (start now : Progress) (canvas : Canvas) (piece left : List ℕ) (sofar : Drawing) : Type 0 where
+pub record HasDrawn (keeps : ℕ → ℕ) (start now : Progress) (canvas : Canvas) (piece left : List ℕ) (sofar : Drawing) : Type 0 where
   pub drawing : Drawing
   pub goes_on : after (ahead start sofar) piece ≡ after (ahead now drawing) left
   pub count : taken (ahead start sofar) piece + length left ≡ length piece + taken (ahead now drawing) left
-  pub stands : Stands now canvas drawing
+  pub stands : Stands keeps now canvas drawing
 
-pub drawn_none : (start : Progress) (canvas : Canvas) (piece : List ℕ) (sofar : Drawing) → Stands start canvas sofar → HasDrawn start start canvas piece piece sofar
-drawn_none start canvas piece sofar stands = record { drawing = sofar; goes_on = refl; count = omega arith; stands = stands }
+pub drawn_none : (keeps : ℕ → ℕ) → (start : Progress) (canvas : Canvas) (piece : List ℕ) (sofar : Drawing) → Stands keeps start canvas sofar → HasDrawn keeps start start canvas piece piece sofar
+drawn_none keeps start canvas piece sofar stands = record { drawing = sofar; goes_on = refl; count = omega arith; stands = stands }
 
 -- A step further.
-pub drawn_more : (start now next : Progress) (canvas after_it : Canvas) (piece left : List ℕ) (n : ℕ) (sofar : Drawing) → n ≤ length left → HasDrawn start now canvas piece left sofar
-    → ((d : Drawing) → Stands now canvas d → Steps now next after_it (take n left) d) → HasDrawn start next after_it piece (drop n left) sofar
-drawn_more start now next canvas after_it piece left n sofar le h step =
+pub drawn_more : (keeps : ℕ → ℕ) → (start now next : Progress) (canvas after_it : Canvas) (piece left : List ℕ) (n : ℕ) (sofar : Drawing) → n ≤ length left → HasDrawn keeps start now canvas piece left sofar
+    → ((d : Drawing) → Stands keeps now canvas d → Steps keeps now next after_it (take n left) d) → HasDrawn keeps start next after_it piece (drop n left) sofar
+drawn_more keeps start now next canvas after_it piece left n sofar le h step =
     let s = step h.drawing h.stands in
     let xs : List ℕ = take n left in
     let ys : List ℕ = drop n left in
@@ -41,11 +41,11 @@ drawn_more start now next canvas after_it piece left n sofar le h step =
     }
 
 -- It stops where nothing is left, or no byte is wanted.
-pub drawn_stops : (start now : Progress) (canvas : Canvas) (piece left : List ℕ) (answer : Result ℕ Fault) (sofar : Drawing) → HasDrawn start now canvas piece left sofar
+pub drawn_stops : (keeps : ℕ → ℕ) → (start now : Progress) (canvas : Canvas) (piece left : List ℕ) (answer : Result ℕ Fault) (sofar : Drawing) → HasDrawn keeps start now canvas piece left sofar
     → ((d : Drawing) → (after (ahead now d) left ≡ ahead now d) × (taken (ahead now d) left ≡ 0))
     → ((d : Drawing) → MatchResult answer (λ n. (n ≡ length piece - length left) × (fault_of (ahead now d) ≡ None)) (λ fault. fault_of (ahead now d) ≡ Some fault))
-    → Draws start now canvas piece answer sofar
-drawn_stops start now canvas piece left answer sofar h none e =
+    → Draws keeps start now canvas piece answer sofar
+drawn_stops keeps start now canvas piece left answer sofar h none e =
     let stays = none h.drawing in
     record {
       drawing = h.drawing;

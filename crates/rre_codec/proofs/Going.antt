@@ -8,7 +8,7 @@ use Rattle.pixel_format.specs.Reading.{Reading, Done, Faulty, Want, after, taken
 use Rattle.pixel_format.specs.declared.fault.Fault.TheVariants.{SubrectOutside}
 use Rattle.pixel_format.proofs.ReadingLaws.{after-append, after-done, after-faulty, done, done_is, wants_no_fault, wants_not_whole}
 use Rattle.raster.specs.Encoding.{Drawing, Subrect, drawn}
-use Rattle.raster.specs.Screen.{Canvas, LooksLike}
+use Rattle.raster.specs.Screen.{Canvas, LooksLike, kept}
 use Rattle.raster.proofs.FixedLength.{Needs, needs_takes, needs_after, needs_wants}
 use Rattle.rre_codec.specs.declared.stage.Stage.{Stage}
 use Rattle.rre_codec.specs.declared.stage.Stage.TheVariants.{Head, Subrects, Outside}
@@ -74,12 +74,12 @@ wants_not_done : {A : Type 0} (r : Reading A) (x : A) → wants_more r ≡ true 
 wants_not_done r x w e = never_whole r x (wants_not_whole r w) e
 
 -- Then the canvas shows what was read.
-pub whole_shows : (format : PixelFormat) (w h n : ℕ) (canvas : Canvas) (sofar drawing : Drawing) (begun : List ℕ) → length begun < needed format (Subrects n)
-    → LooksLike w h canvas (drawn sofar) → after (next_form format w h (Subrects n) sofar) begun ≡ Done drawing → LooksLike w h canvas (drawn drawing)
-whole_shows format w h zero canvas sofar drawing begun lt shows e =
+pub whole_shows : (keeps : ℕ → ℕ) → (format : PixelFormat) (w h n : ℕ) (canvas : Canvas) (sofar drawing : Drawing) (begun : List ℕ) → length begun < needed format (Subrects n)
+    → LooksLike w h canvas (kept keeps (drawn sofar)) → after (next_form format w h (Subrects n) sofar) begun ≡ Done drawing → LooksLike w h canvas (kept keeps (drawn drawing))
+whole_shows keeps format w h zero canvas sofar drawing begun lt shows e =
     let read : done (record { background = sofar.background; subrects = sofar.subrects ++ [] }) ≡ done drawing =
     sym (after-done (record { background = sofar.background; subrects = sofar.subrects ++ [] }) begun) ∙ e in
     let same : sofar ≡ drawing = ap (λ (ss : List Subrect). record { background = sofar.background; subrects = ss }) (sym (append-nil sofar.subrects)) ∙ done_is _ drawing read in
     rw (← same) shows
-whole_shows format w h (suc n) canvas sofar drawing begun lt shows e =
+whole_shows keeps format w h (suc n) canvas sofar drawing begun lt shows e =
     absurd (wants_not_done (after (next_form format w h (Subrects (suc n)) sofar) begun) drawing (open_wants format w h (Subrects (suc n)) sofar begun (lt-ltb 0 (suc n) (omega arith)) lt) e)

@@ -8,7 +8,8 @@ use Rattle.pixel_format.specs.Reading.{Reading, Done, Faulty, ◌>>=◌, after, 
 use Rattle.pixel_format.specs.declared.fault.Fault.TheVariants.{SubrectOutside}
 use Rattle.pixel_format.proofs.ReadingLaws.{after-append, after_bind, after_bind_open}
 use Rattle.raster.specs.declared.rect.Rect.{Rect}
-use Rattle.raster.specs.Screen.{Canvas, LooksLike, fill, is_within}
+use Rattle.raster.specs.Screen.{Canvas, LooksLike, fill, is_within, kept}
+use Rattle.raster.proofs.Kept.{kept_fill}
 use Rattle.raster.specs.Encoding.{Subrect, Drawing, drawn, after_subrects, pixel, rect, rect_in, rre, rre_subrect}
 use Rattle.raster.proofs.Rows.{fill_inside}
 use Rattle.raster.proofs.RreLaws.{rre_goes_on, with_subrect}
@@ -51,6 +52,16 @@ stage_needs format w h Head sofar e = head_needs format w h
 stage_needs format w h (Subrects zero) sofar e = absurd cc
 stage_needs format w h (Subrects (suc n)) sofar e = come_needs format w h sofar n
 stage_needs format w h Outside sofar e = absurd cc
+
+-- Some bytes are looked at.
+pub needs_some : (format : PixelFormat) (stage : Stage) → 0 < needed format stage
+needs_some format Head = omega arith
+needs_some format (Subrects count) = omega arith
+needs_some format Outside = omega arith
+
+-- And takes them all.
+pub stage_takes : (format : PixelFormat) (w h : ℕ) (stage : Stage) (sofar : Drawing) (bs : List ℕ) → is_open stage ≡ true → length bs ≡ needed format stage → taken (next_form format w h stage sofar) bs ≡ length bs
+stage_takes format w h stage sofar bs e len = needs_takes (needed format stage) (next_form format w h stage sofar) bs (stage_needs format w h stage sofar e) (omega arith)
 
 -- ---- what they lead to
 
@@ -125,8 +136,8 @@ outside_read format w h sofar (suc n) bs lt e out = outside_next format w h sofa
 
 -- ---- what is drawn
 
-pub background_drawn : (w h v : ℕ) (old new : Canvas) → LooksLike w h new (fill (record { x = 0; y = 0; w = w; h = h }) v old) → LooksLike w h new (drawn (record { background = v; subrects = [] }))
-background_drawn w h v old new shows x y lx ly = shows x y lx ly ∙ fill_inside 0 0 w h v old x y (omega arith) (omega arith) (omega arith) (omega arith)
+pub background_drawn : (keeps : ℕ → ℕ) (w h v : ℕ) (old new : Canvas) → LooksLike w h new (fill (record { x = 0; y = 0; w = w; h = h }) (keeps v) old) → LooksLike w h new (kept keeps (drawn (record { background = v; subrects = [] })))
+background_drawn keeps w h v old new shows x y lx ly = shows x y lx ly ∙ fill_inside 0 0 w h (keeps v) old x y (omega arith) (omega arith) (omega arith) (omega arith)
 
 after_one : (canvas : Canvas) (ss : List Subrect) (s : Subrect) (x y : ℕ) → after_subrects canvas (ss ++ s ∷ []) x y ≡ fill s.area s.value (after_subrects canvas ss) x y
 after_one canvas [] s x y = refl
@@ -135,6 +146,9 @@ after_one canvas (t ∷ ss) s x y = after_one (fill t.area t.value canvas) ss s 
 fill_same : (area : Rect) (v : ℕ) (a b : Canvas) (x y : ℕ) → a x y ≡ b x y → fill area v a x y ≡ fill area v b x y
 fill_same area v a b x y e = ap (λ u. fill area v (λ _ _. u) x y) e
 
-pub subrect_drawn : (w h : ℕ) (sofar : Drawing) (s : Subrect) (old new : Canvas) → LooksLike w h old (drawn sofar) → LooksLike w h new (fill s.area s.value old) → LooksLike w h new (drawn (with_subrect sofar s))
-subrect_drawn w h sofar s old new before shows x y lx ly =
-    shows x y lx ly ∙ (fill_same s.area s.value old (drawn sofar) x y (before x y lx ly) ∙ sym (after_one (λ x y. sofar.background) sofar.subrects s x y))
+pub subrect_drawn : (keeps : ℕ → ℕ) (w h : ℕ) (sofar : Drawing) (s : Subrect) (old new : Canvas) → LooksLike w h old (kept keeps (drawn sofar)) → LooksLike w h new (fill s.area (keeps s.value) old)
+    → LooksLike w h new (kept keeps (drawn (with_subrect sofar s)))
+subrect_drawn keeps w h sofar s old new before shows x y lx ly =
+    shows x y lx ly
+    ∙ (fill_same s.area (keeps s.value) old (kept keeps (drawn sofar)) x y (before x y lx ly)
+    ∙ (kept_fill keeps s.area s.value (drawn sofar) x y ∙ ap keeps (sym (after_one (λ x y. sofar.background) sofar.subrects s x y))))

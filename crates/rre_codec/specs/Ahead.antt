@@ -4,7 +4,7 @@ use Rattle.pixel_format.specs.PixelFormat.{PixelFormat, pixel_len}
 use Rattle.pixel_format.specs.Reading.{Reading, Done, Faulty, ◌>>=◌, after, taken, times, Feeds}
 use Rattle.pixel_format.specs.declared.fault.Fault.{Fault}
 use Rattle.pixel_format.specs.declared.fault.Fault.TheVariants.{SubrectOutside}
-use Rattle.raster.specs.Screen.{Canvas, LooksLike}
+use Rattle.raster.specs.Screen.{Canvas, LooksLike, kept}
 use Rattle.raster.specs.Encoding.{Drawing, drawn, rre, rre_subrect}
 use Rattle.rre_codec.specs.declared.stage.Stage.{Stage}
 use Rattle.rre_codec.specs.declared.stage.Stage.TheVariants.{Head, Subrects, Outside}
@@ -32,15 +32,15 @@ next_form format w h Outside sofar = Faulty SubrectOutside
 abbrev pub ahead : Progress → Drawing → Reading Drawing
 ahead p sofar = after (next_form p.format p.width p.height p.stage sofar) p.begun
 
--- From the background on a canvas shows what was drawn so far. After a fault nothing is said of it.
-abbrev pub IsDrawn : ℕ → ℕ → Stage → Canvas → Drawing → Type 0
-IsDrawn w h Head canvas sofar = Unit {0}
-IsDrawn w h (Subrects count) canvas sofar = LooksLike w h canvas (drawn sofar)
-IsDrawn w h Outside canvas sofar = Unit {0}
+-- From the background on a canvas shows what it keeps of what was drawn so far. After a fault nothing is said of it.
+abbrev pub IsDrawn : (keeps : ℕ → ℕ) → ℕ → ℕ → Stage → Canvas → Drawing → Type 0
+IsDrawn keeps w h Head canvas sofar = Unit {0}
+IsDrawn keeps w h (Subrects count) canvas sofar = LooksLike w h canvas (kept keeps (drawn sofar))
+IsDrawn keeps w h Outside canvas sofar = Unit {0}
 
--- A canvas shows what a reader has read so far.
-abbrev pub Stands : Progress → Canvas → Drawing → Type 0
-Stands p canvas sofar = IsDrawn p.width p.height p.stage canvas sofar
+-- A canvas shows what it keeps of what a reader has read so far.
+abbrev pub Stands : (keeps : ℕ → ℕ) → Progress → Canvas → Drawing → Type 0
+Stands keeps p canvas sofar = IsDrawn keeps p.width p.height p.stage canvas sofar
 
 -- Readers of rectangles of one size and format.
 pub record IsSameSize (old new : Progress) : Type 0 where
@@ -49,27 +49,28 @@ pub record IsSameSize (old new : Progress) : Type 0 where
   pub height : new.height ≡ old.height
 
 -- A reader took bytes, each of which was wanted, and drew what they say.
-pub record Steps (old new : Progress) (now : Canvas) (bytes : List ℕ) (sofar : Drawing) : Type 0 where
+pub record Steps (keeps : ℕ → ℕ) (old new : Progress) (now : Canvas) (bytes : List ℕ) (sofar : Drawing) : Type 0 where
   pub drawing : Drawing
   pub reads : ahead new drawing ≡ after (ahead old sofar) bytes
   pub takes : taken (ahead old sofar) bytes ≡ length bytes
-  pub stands : Stands new now drawing
+  pub stands : Stands keeps new now drawing
 
 -- A reader was fed a piece, and drew what it took of it.
-pub record Draws (old new : Progress) (now : Canvas) (piece : List ℕ) (answer : Result ℕ Fault) (sofar : Drawing) : Type 0 where
+pub record Draws (keeps : ℕ → ℕ) (old new : Progress) (now : Canvas) (piece : List ℕ) (answer : Result ℕ Fault) (sofar : Drawing) : Type 0 where
   pub drawing : Drawing
   pub feeds : Feeds (ahead old sofar) (ahead new drawing) piece answer
-  pub stands : Stands new now drawing
+  pub stands : Stands keeps new now drawing
 
--- The bytes of a stage lead to the next one, and what they say was drawn.
-pub record Led (format : PixelFormat) (w h : ℕ) (stage next : Stage) (bytes : List ℕ) (now : Canvas) (sofar : Drawing) : Type 0 where
+-- Bytes are all wanted, and lead from one stage to a later one, and what they say was drawn.
+pub record Led (keeps : ℕ → ℕ) (format : PixelFormat) (w h : ℕ) (stage next : Stage) (bytes : List ℕ) (now : Canvas) (sofar : Drawing) : Type 0 where
   pub drawing : Drawing
+  pub takes : taken (next_form format w h stage sofar) bytes ≡ length bytes
   pub reads : after (next_form format w h stage sofar) bytes ≡ next_form format w h next drawing
-  pub shows : IsDrawn w h next now drawing
+  pub shows : IsDrawn keeps w h next now drawing
 
 -- That, wherever the canvas before showed what was drawn so far.
-abbrev pub Leads : PixelFormat → ℕ → ℕ → Stage → Stage → List ℕ → Canvas → Canvas → Drawing → Type 0
-Leads format w h stage next bytes before now sofar = IsDrawn w h stage before sofar → Led format w h stage next bytes now sofar
+abbrev pub Leads : (keeps : ℕ → ℕ) → PixelFormat → ℕ → ℕ → Stage → Stage → List ℕ → Canvas → Canvas → Drawing → Type 0
+Leads keeps format w h stage next bytes before now sofar = IsDrawn keeps w h stage before sofar → Led keeps format w h stage next bytes now sofar
 
 -- How many bytes are looked at together.
 abbrev pub needed : PixelFormat → Stage → ℕ

@@ -4,7 +4,7 @@ ghost use Rattle.std.specs.Prelude.{◌≡◌, ℕ, ◌+◌, ◌<◌, ◌≤◌,
 ghost use Rattle.pixel_format.specs.PixelFormat.{pixel_len};
 ghost use Rattle.pixel_format.specs.Reading.{Done, whole_of, fault_of};
 ghost use Rattle.raster.specs.Encoding.{Drawing, drawn, rre};
-ghost use Rattle.raster.specs.Screen.{Map, LooksLike};
+ghost use Rattle.raster.specs.Screen.{Map, LooksLike, kept};
 ghost use Rattle.rre_codec.specs.Ahead.{Leads, needed, is_open, ahead, Stands, Steps, Draws, IsSameSize};
 
 use crate::run::COUNT_LEN;
@@ -21,7 +21,8 @@ fn draw_head<C: Canvas>(format: &Format, w: u64, h: u64, bytes: &[u8], canvas: &
     requires height { C.height canvas.old ≡ h }
     ensures width { C.width canvas.new ≡ w }
     ensures height { C.height canvas.new ≡ h }
-    ensures drawn { (sofar : Drawing) → Leads format.now w h Stage.Head result bytes.now (C.shows canvas.old) (C.shows canvas.new) sofar }
+    ensures stays { C.Stays canvas.old canvas.new }
+    ensures drawn { (sofar : Drawing) → Leads C.keeps format.now w h Stage.Head result bytes.now (C.shows canvas.old) (C.shows canvas.new) sofar }
 {
     let (count, background) = bytes.split_at(COUNT_LEN);
     let count = u32::from_be_bytes([count[0], count[1], count[2], count[3]]);
@@ -30,6 +31,7 @@ fn draw_head<C: Canvas>(format: &Format, w: u64, h: u64, bytes: &[u8], canvas: &
 }
 
 /// Draws the subrectangle in these bytes, if it lies inside, and answers what is next. It is one of `left`.
+#[inline(always)]
 fn draw_subrect<C: Canvas>(
     format: &Format,
     w: u64,
@@ -44,7 +46,8 @@ fn draw_subrect<C: Canvas>(
     requires height { C.height canvas.old ≡ h }
     ensures width { C.width canvas.new ≡ w }
     ensures height { C.height canvas.new ≡ h }
-    ensures drawn { (sofar : Drawing) → Leads format.now w h (Stage.Subrects left) result bytes.now (C.shows canvas.old) (C.shows canvas.new) sofar }
+    ensures stays { C.Stays canvas.old canvas.new }
+    ensures drawn { (sofar : Drawing) → Leads C.keeps format.now w h (Stage.Subrects left) result bytes.now (C.shows canvas.old) (C.shows canvas.new) sofar }
 {
     let (value, place) = bytes.split_at(format.bytes());
     let area = Rect::read(place);
@@ -56,6 +59,7 @@ fn draw_subrect<C: Canvas>(
 }
 
 /// Draws what the bytes that are looked at together say, and answers what the next ones are.
+#[inline(always)]
 fn draw<C: Canvas>(
     format: &Format,
     w: u64,
@@ -70,13 +74,45 @@ fn draw<C: Canvas>(
     requires height { C.height canvas.old ≡ h }
     ensures width { C.width canvas.new ≡ w }
     ensures height { C.height canvas.new ≡ h }
-    ensures drawn { (sofar : Drawing) → Leads format.now w h stage result bytes.now (C.shows canvas.old) (C.shows canvas.new) sofar }
+    ensures stays { C.Stays canvas.old canvas.new }
+    ensures drawn { (sofar : Drawing) → Leads C.keeps format.now w h stage result bytes.now (C.shows canvas.old) (C.shows canvas.new) sofar }
 {
     match stage {
         Stage::Head => draw_head(format, w, h, bytes, canvas),
         Stage::Subrects(left) => draw_subrect(format, w, h, left, bytes, canvas),
         Stage::Outside => Stage::Outside,
     }
+}
+
+/// Draws the fields that the bytes have whole, one after another. Answers what the next bytes are, and how many these
+/// fields have.
+fn draw_fields<C: Canvas>(
+    format: &Format,
+    w: u64,
+    h: u64,
+    stage: Stage,
+    bytes: &[u8],
+    canvas: &mut C,
+) -> (Stage, usize)
+    requires open { is_open stage ≡ true }
+    requires count { needed format.now stage ≤ length bytes.now }
+    requires width { C.width canvas.old ≡ w }
+    requires height { C.height canvas.old ≡ h }
+    ensures some { 0 < result.1 }
+    ensures within { result.1 ≤ length bytes.now }
+    ensures width { C.width canvas.new ≡ w }
+    ensures height { C.height canvas.new ≡ h }
+    ensures stays { C.Stays canvas.old canvas.new }
+    ensures drawn { (sofar : Drawing) → Leads C.keeps format.now w h stage result.0 (take result.1 bytes.now) (C.shows canvas.old) (C.shows canvas.new) sofar }
+{
+    let mut stage = stage;
+    let mut rest = bytes;
+    while is_open(stage) && needed(format, stage) <= rest.len() {
+        let (field, others) = rest.split_at(needed(format, stage));
+        stage = draw(format, w, h, stage, field, canvas);
+        rest = others;
+    }
+    (stage, bytes.len() - rest.len())
 }
 
 /// A reader of one rectangle in RRE (RFC 6143, section 7.7.3), which paints as it reads. It holds no more than the
@@ -107,7 +143,7 @@ impl Reader {
         ensures width { result.width ≡ w }
         ensures height { result.height ≡ h }
         ensures begins { (sofar : Drawing) → ahead result sofar ≡ rre format w h }
-        ensures stands { (canvas : Map ℕ) (sofar : Drawing) → Stands result canvas sofar }
+        ensures stands { (keeps : ℕ → ℕ) (canvas : Map ℕ) (sofar : Drawing) → Stands keeps result canvas sofar }
     {
         Reader {
             format,
@@ -121,7 +157,7 @@ impl Reader {
     /// Whether the rectangle is read to its end.
     pub fn whole(&self) -> bool
         ensures whole { (sofar : Drawing) → result ≡ is_some (whole_of (ahead self.now sofar)) }
-        ensures shows { (canvas : Map ℕ) (sofar drawing : Drawing) → Stands self.now canvas sofar → ahead self.now sofar ≡ Done drawing → LooksLike self.now.width self.now.height canvas (drawn drawing) }
+        ensures shows { (keeps : ℕ → ℕ) (canvas : Map ℕ) (sofar drawing : Drawing) → Stands keeps self.now canvas sofar → ahead self.now sofar ≡ Done drawing → LooksLike self.now.width self.now.height canvas (kept keeps (drawn drawing)) }
     {
         match self.stage {
             Stage::Subrects(left) => left == 0,
@@ -148,19 +184,21 @@ impl Reader {
         ensures size { IsSameSize self.old self.new }
         ensures width { C.width canvas.new ≡ self.old.width }
         ensures height { C.height canvas.new ≡ self.old.height }
-        ensures drawn { (sofar : Drawing) → Stands self.old (C.shows canvas.old) sofar → Steps self.old self.new (C.shows canvas.new) (take result bytes.now) sofar }
+        ensures stays { C.Stays canvas.old canvas.new }
+        ensures drawn { (sofar : Drawing) → Stands C.keeps self.old (C.shows canvas.old) sofar → Steps C.keeps self.old self.new (C.shows canvas.new) (take result bytes.now) sofar }
     {
         let needed = needed(&self.format, self.stage);
         if self.begun.is_empty() && needed <= bytes.len() {
-            self.stage = draw(
+            let (stage, used) = draw_fields(
                 &self.format,
                 self.width,
                 self.height,
                 self.stage,
-                &bytes[..needed],
+                bytes,
                 canvas,
             );
-            return needed;
+            self.stage = stage;
+            return used;
         }
         let count = bytes.len().min(needed - self.begun.len());
         // No field needs more bytes than there is room for.
@@ -199,7 +237,8 @@ impl Reader {
         ensures size { IsSameSize self.old self.new }
         ensures width { C.width canvas.new ≡ self.old.width }
         ensures height { C.height canvas.new ≡ self.old.height }
-        ensures drawn { (sofar : Drawing) → Stands self.old (C.shows canvas.old) sofar → Draws self.old self.new (C.shows canvas.new) piece.now result sofar }
+        ensures stays { C.Stays canvas.old canvas.new }
+        ensures drawn { (sofar : Drawing) → Stands C.keeps self.old (C.shows canvas.old) sofar → Draws C.keeps self.old self.new (C.shows canvas.new) piece.now result sofar }
     {
         let mut left = piece;
         while !left.is_empty() && self.wants_more() {

@@ -11,7 +11,7 @@ ghost use Rattle.rre_codec.specs.Putting.{Puts};
 
 use crate::run::{COUNT_LEN, Run, put_run, run_len};
 use pixel_format::Format;
-use raster::RECT_LEN;
+use raster::{RECT_LEN, Rect, has_runs};
 
 /// Writes the runs of row `y` other than the background from index `used` of `out` on, and answers where they end;
 /// `None` where that isn't inside `out`.
@@ -83,6 +83,16 @@ pub fn encode(values: &[u32], w: u64, h: u64, format: &Format, out: &mut [u8]) -
     let raw = values.len() * pixel;
     let head = COUNT_LEN + pixel;
     if raw <= head {
+        return None;
+    }
+    // So many subrectangles have as many bytes as Raw, and they are counted faster than written.
+    let enough = (raw - head).div_ceil(pixel + RECT_LEN);
+    if has_runs(
+        values,
+        w as usize,
+        &Rect { x: 0, y: 0, w, h },
+        enough as u64,
+    ) {
         return None;
     }
     let end = put_runs(format, values, w as usize, h as usize, &mut out[..raw])?;

@@ -49,7 +49,7 @@ returns-clause-drawn g c =
             grown = only_background (colour_in format (has_bit mask 1) c.args.carried.background bs);
             goes = head_goes format c.args.area.w c.args.area.h mask (record { background = c.args.carried.background; foreground = c.args.carried.foreground }) part bs (omega (arith, c.split_at.ensures.front_len, c.head_len.ensures.value, c.requires.count));
             shows =
-                background_drawn c.args.area (g.C.Canvas.width c.args.canvas.now) (g.C.Canvas.height c.args.canvas.now) (unwrap_or (colour_in format (has_bit mask 1) c.args.carried.background bs) 0) (g.C.Canvas.shows c.args.canvas.now) (g.C.Canvas.shows c.fill.new.self) c.requires.tile
+                background_drawn g.C.Canvas.keeps c.args.area (g.C.Canvas.width c.args.canvas.now) (g.C.Canvas.height c.args.canvas.now) (unwrap_or (colour_in format (has_bit mask 1) c.args.carried.background bs) 0) (g.C.Canvas.shows c.args.canvas.now) (g.C.Canvas.shows c.fill.new.self) c.requires.tile
                 (rw (c.unwrap_or.ensures, b_told) at c.fill.ensures.shows);
           });
     }

@@ -8,7 +8,7 @@ use Rattle.raster.specs.Encoding.{Subrect, Carried, runs, drawn_bytes}
 use Rattle.hextile_codec.specs.declared.runs.Run.{Run}
 use Rattle.hextile_codec.specs.Carried.{carried_by}
 use Rattle.hextile_codec.specs.Kinds.{subrect_of, kind_of, drawn_len}
-use Rattle.hextile_codec.proofs.TileRuns.{tile_first}
+use Rattle.raster.proofs.AreaRows.{tile_first}
 use Rattle.hextile_codec.proofs.Drawings.{chosen_raw, chosen_drawn, drawn_has, mixed_least}
 use Rattle.hextile_codec.proofs.kind.choose.Goals as goal
 

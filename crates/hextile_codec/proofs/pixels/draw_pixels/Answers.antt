@@ -2,7 +2,7 @@ use Rattle.std.proofs.Common.{◌≡◌, ◌∙◌, ap, refl, ℕ, ◌+◌, ◌-
 use Rattle.std.proofs.lemmas.List.{length-take}
 use Rattle.std.proofs.Math.Nat.{le-div_iff_mul-le, mul-le-mul_right}
 use Rattle.pixel_format.specs.PixelFormat.{pixel_len}
-use Rattle.raster.specs.Screen.{value_at}
+use Rattle.raster.specs.Screen.{value_at, kept}
 use Rattle.hextile_codec.specs.declared.stage.Stage.TheVariants.{RawPixels}
 use Rattle.hextile_codec.specs.Carried.{carried_by}
 use Rattle.hextile_codec.specs.Ahead.{pixels_in}
@@ -20,7 +20,8 @@ loop-count-init g c =
       first = λ _. refl;
       later = λ lt. absurd (omega arith);
       canvas = record { width = refl; height = refl; keeps = λ x y lx ly e. refl };
-      drawn = λ part shows. has_led_none c.args.format.now c.args.area (carried_by c.args.carried) (RawPixels c.args.come) c.args.bytes.now (g.C.Canvas.shows c.args.canvas.now) part shows;
+      stays = g.met.C.Canvas.stays_at_once c.args.canvas.now;
+      drawn = λ part shows. has_led_none g.C.Canvas.keeps c.args.format.now c.args.area (carried_by c.args.carried) (RawPixels c.args.come) c.args.bytes.now (g.C.Canvas.shows c.args.canvas.now) part shows;
     }
 
 pub loop-count-preserved : goal.loop-count-preserved
@@ -62,12 +63,13 @@ loop-count-preserved g c =
         height = c.draw_row.ensures.height ∙ i.canvas.height;
         keeps =
             keeps_then area w h (g.C.Canvas.shows c.args.canvas.now) before now i.canvas.keeps
-            (lay_keeps area (record { x = count % area.w; y = count / area.w; w = n; h = 1 }) (value_at n (pixels_in format n bs)) w h before now (record { across = omega (arith, least, next.column); down = omega (arith, next.row) }) shows);
+            (lay_keeps area (record { x = count % area.w; y = count / area.w; w = n; h = 1 }) (kept g.C.Canvas.keeps (value_at n (pixels_in format n bs))) w h before now (record { across = omega (arith, least, next.column); down = omega (arith, next.row) }) shows);
       };
+      stays = g.met.C.Canvas.stays_then c.args.canvas.now c.loop-count.canvas c.draw_row.new.canvas i.stays c.draw_row.ensures.stays;
       drawn = λ part was.
           rw c.split_at.ensures.back
-          (has_led_more format area carried carried carried (RawPixels c.args.come) (RawPixels count) (RawPixels (count + n)) c.args.bytes.now rest (n * size) before now part (i.drawn part was)
-          (λ q stands. row_leads format area carried w h count n q before now bs c.requires.tile lt least len shows stands));
+          (has_led_more g.C.Canvas.keeps format area carried carried carried (RawPixels c.args.come) (RawPixels count) (RawPixels (count + n)) c.args.bytes.now rest (n * size) before now part (i.drawn part was)
+          (λ q stands. row_leads g.C.Canvas.keeps format area carried w h count n q before now bs c.requires.tile lt least len shows stands));
     }
 
 pub overflow_mul-now : goal.overflow_mul-now
@@ -79,7 +81,7 @@ pub returns-clause-drawn : goal.returns-clause-drawn
 returns-clause-drawn g c =
     record {
       leads = λ part was.
-          has_led_all c.args.format.now c.args.area (carried_by c.args.carried) (carried_by c.args.carried) (RawPixels c.args.come) (RawPixels c.loop-count.count) c.args.bytes.now c.loop-count.rest.now (g.C.Canvas.shows c.loop-count.canvas) part (c.loop-count.invariant.drawn part was);
+          has_led_all g.C.Canvas.keeps c.args.format.now c.args.area (carried_by c.args.carried) (carried_by c.args.carried) (RawPixels c.args.come) (RawPixels c.loop-count.count) c.args.bytes.now c.loop-count.rest.now (g.C.Canvas.shows c.loop-count.canvas) part (c.loop-count.invariant.drawn part was);
       later = c.loop-count.invariant.most;
     }
 

@@ -15,8 +15,9 @@ invariant-loop-count g l =
       first : l.count ≡ l.fn.come → l.rest ≡ l.bytes;
       later : l.fn.come < l.count → pixel_len l.fn.format + length l.rest ≤ length l.bytes;
       canvas : DrawsIn l.fn.area (g.C.Canvas.width l.fn.canvas) (g.C.Canvas.height l.fn.canvas) (g.C.Canvas.shows l.fn.canvas) (g.C.Canvas.width l.canvas) (g.C.Canvas.height l.canvas) (g.C.Canvas.shows l.canvas);
-      drawn : (part : Part) → IsDrawn l.fn.area (RawPixels l.fn.come) (g.C.Canvas.shows l.fn.canvas) part
-          → HasLed l.fn.format l.fn.area (carried_by l.fn.carried) (carried_by l.fn.carried) (RawPixels l.fn.come) (RawPixels l.count) l.bytes l.rest (g.C.Canvas.shows l.canvas) part;
+      stays : g.C.Canvas.Stays l.fn.canvas l.canvas;
+      drawn : (part : Part) → IsDrawn g.C.Canvas.keeps l.fn.area (RawPixels l.fn.come) (g.C.Canvas.shows l.fn.canvas) part
+          → HasLed g.C.Canvas.keeps l.fn.format l.fn.area (carried_by l.fn.carried) (carried_by l.fn.carried) (RawPixels l.fn.come) (RawPixels l.count) l.bytes l.rest (g.C.Canvas.shows l.canvas) part;
     }
 
 abbrev pub decreases-loop-count : goal.decreases-loop-count

@@ -3,7 +3,7 @@ use Rattle.std.proofs.Math.Nat.{mul-le-mul_left, mul-le-mul_right}
 use Rattle.pixel_format.specs.PixelFormat.{pixel_len}
 use Rattle.raster.specs.declared.rect.Rect.{Rect}
 use Rattle.raster.specs.Encoding.{raw_bytes}
-use Rattle.hextile_codec.proofs.TileRuns.{tile_row_len}
+use Rattle.raster.proofs.AreaRows.{tile_row_len}
 use Rattle.hextile_codec.proofs.RawRows.{row_is_put, all_rows}
 use Rattle.hextile_codec.proofs.put.put_raw.Goals as goal
 

@@ -1,6 +1,6 @@
 use Rattle.std.proofs.Common.{◌+◌, ◌-◌, ◌<◌, ◌≤◌, length}
 use Rattle.raster.proofs.RowScan.{IsFresh}
-use Rattle.hextile_codec.specs.Kinds.{row_shows}
+use Rattle.raster.specs.RowShown.{row_shows}
 use Rattle.hextile_codec.proofs.RowRuns.{AreSoFar}
 use Rattle.hextile_codec.proofs.runs.add_row.Given as goal
 

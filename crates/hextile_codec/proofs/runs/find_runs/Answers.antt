@@ -4,19 +4,12 @@ use Rattle.raster.specs.declared.rect.Rect.{Rect}
 use Rattle.raster.specs.Screen.{Canvas, value_at, part_of}
 use Rattle.hextile_codec.specs.declared.runs.Run.{Run}
 use Rattle.hextile_codec.specs.Kinds.{subrect_of, has_one_value}
-use Rattle.hextile_codec.proofs.TileRuns.{AreAbove, row_inside, all_above, row_above, tile_row_len, tile_first, above_many, above_mixed}
+use Rattle.hextile_codec.proofs.TileRuns.{AreAbove, all_above, row_above, above_mixed}
+use Rattle.raster.proofs.AreaRows.{row_inside, tile_row_len, tile_first}
 use Rattle.hextile_codec.proofs.runs.find_runs.Goals as goal
 
-pub returns-then-not-has_one_value-clause-many : goal.returns-then-not-has_one_value-clause-many
-returns-then-not-has_one_value-clause-many c =
-    let tile : Rect = c.args.tile.now in
-    let canvas : Canvas = part_of tile (value_at c.args.w c.args.values.now) in
-    let above : AreAbove canvas tile.w tile.h (c.loop-y.y + 1) c.add_row.new.runs.items =
-    row_above c.args.values.now c.args.w tile c.loop-y.y (get_or c.args.values.now (tile.y * c.args.w + tile.x) 0) c.loop-y.found.items c.add_row.new.runs.items c.requires.across c.requires.down c.loop-y-test.true (tile_first c.args.values.now c.args.w tile) c.add_row.ensures.added c.loop-y.invariant.above in
-    λ _. omega (arith, above_many canvas tile.w tile.h (c.loop-y.y + 1) c.add_row.new.runs.items above, c.if-len-enough.true, c.len.ensures.value)
-
-pub returns-then-not-has_one_value-clause-mixed : goal.returns-then-not-has_one_value-clause-mixed
-returns-then-not-has_one_value-clause-mixed c =
+pub returns-then-has_runs-clause-mixed : goal.returns-then-has_runs-clause-mixed
+returns-then-has_runs-clause-mixed c =
     let tile : Rect = c.args.tile.now in
     let canvas : Canvas = part_of tile (value_at c.args.w c.args.values.now) in
     let above : AreAbove canvas tile.w tile.h (c.loop-y.y + 1) c.add_row.new.runs.items =

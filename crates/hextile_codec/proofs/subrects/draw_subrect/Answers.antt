@@ -25,7 +25,7 @@ returns-clause-canvas g c =
       width = c.fill.ensures.width;
       height = c.fill.ensures.height;
       keeps =
-          fill_keeps c.args.area r c.args.value (g.C.Canvas.width c.args.canvas.now) (g.C.Canvas.height c.args.canvas.now) (g.C.Canvas.shows c.args.canvas.now) (g.C.Canvas.shows c.fill.new.self)
+          fill_keeps c.args.area r (g.C.Canvas.keeps c.args.value) (g.C.Canvas.width c.args.canvas.now) (g.C.Canvas.height c.args.canvas.now) (g.C.Canvas.shows c.args.canvas.now) (g.C.Canvas.shows c.fill.new.self)
           (lies_within r c.args.area.w c.args.area.h (sym c.within.ensures ∙ c.if-not-within.false)) c.fill.ensures.shows;
     }
 
@@ -39,8 +39,8 @@ pub returns-clause-drawn : goal.returns-clause-drawn
 returns-clause-drawn g c _ x y lx ly =
     let before = g.C.Canvas.shows c.args.canvas.now in
     let r : Rect = place c.from.result c.from-2.result c.from-3.result c.from-4.result in
-    fill_in_tile c.args.area r c.args.value (g.C.Canvas.width c.args.canvas.now) (g.C.Canvas.height c.args.canvas.now) before (g.C.Canvas.shows c.fill.new.self) c.requires.tile c.fill.ensures.shows x y lx ly
-    ∙ ap (λ q. fill q c.args.value (part_of c.args.area before) x y) (same_place c.args.position c.args.size c.from.result c.from-2.result c.from-3.result c.from-4.result c.from.ensures c.from-2.ensures c.from-3.ensures c.from-4.ensures)
+    fill_in_tile c.args.area r (g.C.Canvas.keeps c.args.value) (g.C.Canvas.width c.args.canvas.now) (g.C.Canvas.height c.args.canvas.now) before (g.C.Canvas.shows c.fill.new.self) c.requires.tile c.fill.ensures.shows x y lx ly
+    ∙ ap (λ q. fill q (g.C.Canvas.keeps c.args.value) (part_of c.args.area before) x y) (same_place c.args.position c.args.size c.from.result c.from-2.result c.from-3.result c.from-4.result c.from.ensures c.from-2.ensures c.from-3.ensures c.from-4.ensures)
 
 pub returns-then-not-within-clause-inside : goal.returns-then-not-within-clause-inside
 returns-then-not-within-clause-inside g c =

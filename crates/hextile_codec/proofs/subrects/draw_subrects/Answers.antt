@@ -19,7 +19,8 @@ loop-left-init g c =
       first = λ _. refl;
       later = λ lt. absurd (omega arith);
       canvas = record { width = refl; height = refl; keeps = λ x y lx ly e. refl };
-      drawn = λ part shows. has_led_none c.args.format.now c.args.area (carried_by c.args.carried) (Subrects c.args.coloured c.args.left) c.args.bytes.now (g.C.Canvas.shows c.args.canvas.now) part shows;
+      stays = g.met.C.Canvas.stays_at_once c.args.canvas.now;
+      drawn = λ part shows. has_led_none g.C.Canvas.keeps c.args.format.now c.args.area (carried_by c.args.carried) (Subrects c.args.coloured c.args.left) c.args.bytes.now (g.C.Canvas.shows c.args.canvas.now) part shows;
     }
 
 pub loop-left-preserved : goal.loop-left-preserved
@@ -54,10 +55,11 @@ loop-left-preserved g c =
         height = c.draw_subrect.ensures.canvas.height ∙ i.canvas.height;
         keeps = keeps_then area (g.C.Canvas.width c.args.canvas.now) (g.C.Canvas.height c.args.canvas.now) (g.C.Canvas.shows c.args.canvas.now) before now i.canvas.keeps (rw (i.canvas.width, i.canvas.height) at c.draw_subrect.ensures.canvas.keeps);
       };
+      stays = g.met.C.Canvas.stays_then c.args.canvas.now c.loop-left.canvas c.draw_subrect.new.canvas i.stays c.draw_subrect.ensures.stays;
       drawn = λ part was.
           rw c.split_at.ensures.back
-          (has_led_more format area carried carried carried (Subrects coloured c.args.left) (Subrects coloured left) (Subrects coloured (left - 1)) c.args.bytes.now rest n before now part (i.drawn part was)
-          (λ p stands. subrect_leads format area coloured carried left p before now bs some count inside shows stands));
+          (has_led_more g.C.Canvas.keeps format area carried carried carried (Subrects coloured c.args.left) (Subrects coloured left) (Subrects coloured (left - 1)) c.args.bytes.now rest n before now part (i.drawn part was)
+          (λ p stands. subrect_leads g.C.Canvas.keeps format area coloured carried left p before now bs some count inside shows stands));
     }
 
 pub returns-then-not-draw_subrect-clause-drawn : goal.returns-then-not-draw_subrect-clause-drawn
@@ -82,9 +84,9 @@ returns-then-not-draw_subrect-clause-drawn g c =
       later = tt;
       leads = λ part was.
           rw c.split_at.ensures.back
-          (has_led_all format area carried carried (Subrects coloured c.args.left) (Failed flaw.SubrectOutside) c.args.bytes.now (drop n rest) now part
-          (has_led_more format area carried carried carried (Subrects coloured c.args.left) (Subrects coloured left) (Failed flaw.SubrectOutside) c.args.bytes.now rest n before now part (i.drawn part was)
-          (λ p stands. subrect_fails format area coloured carried left p now bs c.loop-left-test.true count out)));
+          (has_led_all g.C.Canvas.keeps format area carried carried (Subrects coloured c.args.left) (Failed flaw.SubrectOutside) c.args.bytes.now (drop n rest) now part
+          (has_led_more g.C.Canvas.keeps format area carried carried carried (Subrects coloured c.args.left) (Subrects coloured left) (Failed flaw.SubrectOutside) c.args.bytes.now rest n before now part (i.drawn part was)
+          (λ p stands. subrect_fails g.C.Canvas.keeps format area coloured carried left p now bs c.loop-left-test.true count out)));
     }
 
 pub returns-clause-drawn : goal.returns-clause-drawn
@@ -92,6 +94,6 @@ returns-clause-drawn g c =
     record {
       later = tt;
       leads = λ part was.
-          has_led_all c.args.format.now c.args.area (carried_by c.args.carried) (carried_by c.args.carried) (Subrects c.args.coloured c.args.left) (Subrects c.args.coloured c.loop-left.left) c.args.bytes.now c.loop-left.rest.now (g.C.Canvas.shows c.loop-left.canvas) part
+          has_led_all g.C.Canvas.keeps c.args.format.now c.args.area (carried_by c.args.carried) (carried_by c.args.carried) (Subrects c.args.coloured c.args.left) (Subrects c.args.coloured c.loop-left.left) c.args.bytes.now c.loop-left.rest.now (g.C.Canvas.shows c.loop-left.canvas) part
           (c.loop-left.invariant.drawn part was);
     }

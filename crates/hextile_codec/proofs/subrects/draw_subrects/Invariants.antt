@@ -13,8 +13,9 @@ invariant-loop-left g l =
       first : l.left ≡ l.fn.left → l.rest ≡ l.bytes;
       later : l.left < l.fn.left → colour_len l.fn.format l.fn.coloured + 2 + length l.rest ≤ length l.bytes;
       canvas : DrawsIn l.fn.area (g.C.Canvas.width l.fn.canvas) (g.C.Canvas.height l.fn.canvas) (g.C.Canvas.shows l.fn.canvas) (g.C.Canvas.width l.canvas) (g.C.Canvas.height l.canvas) (g.C.Canvas.shows l.canvas);
-      drawn : (part : Part) → IsDrawn l.fn.area (Subrects l.fn.coloured l.fn.left) (g.C.Canvas.shows l.fn.canvas) part
-          → HasLed l.fn.format l.fn.area (carried_by l.fn.carried) (carried_by l.fn.carried) (Subrects l.fn.coloured l.fn.left) (Subrects l.fn.coloured l.left) l.bytes l.rest (g.C.Canvas.shows l.canvas) part;
+      stays : g.C.Canvas.Stays l.fn.canvas l.canvas;
+      drawn : (part : Part) → IsDrawn g.C.Canvas.keeps l.fn.area (Subrects l.fn.coloured l.fn.left) (g.C.Canvas.shows l.fn.canvas) part
+          → HasLed g.C.Canvas.keeps l.fn.format l.fn.area (carried_by l.fn.carried) (carried_by l.fn.carried) (Subrects l.fn.coloured l.fn.left) (Subrects l.fn.coloured l.left) l.bytes l.rest (g.C.Canvas.shows l.canvas) part;
     }
 
 abbrev pub decreases-loop-left : goal.decreases-loop-left

@@ -1,9 +1,13 @@
-use Rattle.std.proofs.Common.{◌≡◌, ◌+◌, ◌-◌, ◌*◌, ◌/◌, ◌∙◌, ◌++◌, List, ℕ, ap, length, take, drop, arith, sym, append_assoc, length-append}
+use Rattle.std.proofs.Common.{◌≡◌, ◌+◌, ◌-◌, ◌*◌, ◌≤◌, ◌/◌, ◌∙◌, ◌++◌, List, ℕ, ap, length, take, drop, arith, sym, append_assoc, length-append}
 use Rattle.std.specs.List.{flat_map}
 use Rattle.std.specs.Int.{w32, to_be_bytes}
 use Rattle.std.proofs.lemmas.List.{length-take}
 use Rattle.pixel_format.specs.PixelFormat.{pixel_len, pixel_bytes}
-use Rattle.raster.specs.Screen.{Canvas, value_at}
+use Rattle.raster.specs.Screen.{Canvas, value_at, part_of}
+use Rattle.raster.proofs.Places.{part_whole}
+use Rattle.std.proofs.lemmas.Bool.{leb-true}
+use Rattle.std.proofs.lemmas.Grind.{div_ceil_times}
+use Rattle.std.proofs.Math.Nat.{mul-le-mul_right}
 use Rattle.raster.specs.Encoding.{runs, rre_subrect_bytes}
 use Rattle.rre_codec.proofs.Lengths.{head_len, rre_len, rre_saves, rre_saves_nothing, count_by_len, number_in_front}
 use Rattle.rre_codec.proofs.writing.encode.Goals as goal
@@ -52,3 +56,20 @@ returns c =
           (said.front ∙ append_assoc old pixel places)
           ∙ ap (λ t. t ++ (pixel ++ places)) number,
     )
+
+-- As many subrectangles as have no fewer bytes than Raw.
+pub returns-then-has_runs : goal.returns-then-has_runs
+returns-then-has_runs c =
+    let format = c.args.format.now in
+    let p : ℕ = pixel_len format in
+    let n : ℕ = length (runs (value_at c.args.w c.args.values.now) c.args.w c.args.h) in
+    let raw : ℕ = length c.args.values.now * c.bytes-pixel.result in
+    let same : raw ≡ length c.args.values.now * p = ap (λ k. length c.args.values.now * k) c.bytes-pixel.ensures in
+    let whole : n ≡ length (runs (part_of (record { x = 0; y = 0; w = c.args.w; h = c.args.h }) (value_at c.args.w c.args.values.now)) c.args.w c.args.h) = ap (λ m. length (runs m c.args.w c.args.h)) (sym (part_whole c.args.w c.args.h (value_at c.args.w c.args.values.now))) in
+    let many : c.div_ceil-enough.result ≤ n = omega (arith, whole, leb-true c.div_ceil-enough.result _ (sym c.has_runs.ensures ∙ c.if-has_runs.true)) in
+    let size : ℕ = c.bytes-pixel.result + 8 in
+    let upto = (div_ceil_times (raw - (4 + c.bytes-pixel.result)) size (omega arith)).0 in
+    let most : c.div_ceil-enough.result * size ≤ n * size = mul-le-mul_right {m = c.div_ceil-enough.result} {n = n} size many in
+    let is = ap (λ k. k * size) c.div_ceil-enough.ensures in
+    let sizes : n * size ≡ (p + 8) * n = ap (λ k. n * (k + 8)) c.bytes-pixel.ensures ∙ omega arith in
+    rre_saves_nothing format c.args.w c.args.h c.args.values.now (omega (arith, same, upto, most, is, sizes, c.bytes-pixel.ensures, c.if-raw-head.false))

@@ -16,8 +16,9 @@ loop-self-preserved g c =
       size = same_size c.args.self.now c.loop-self.self c.step-used.new.self i.size c.step-used.ensures.size;
       width = c.step-used.ensures.width ∙ i.size.width;
       height = c.step-used.ensures.height ∙ i.size.height;
+      stays = g.met.C.Canvas.stays_then c.args.canvas.now c.loop-self.canvas c.step-used.new.canvas i.stays c.step-used.ensures.stays;
       drawn = λ sofar stands. rw c.split_at.ensures.back
-          (drawn_more c.args.self.now c.loop-self.self c.step-used.new.self (g.C.Canvas.shows c.loop-self.canvas) (g.C.Canvas.shows c.step-used.new.canvas) c.args.piece.now c.loop-self.left.now c.step-used.result sofar c.step-used.ensures.within (i.drawn sofar stands) c.step-used.ensures.drawn);
+          (drawn_more g.C.Canvas.keeps c.args.self.now c.loop-self.self c.step-used.new.self (g.C.Canvas.shows c.loop-self.canvas) (g.C.Canvas.shows c.step-used.new.canvas) c.args.piece.now c.loop-self.left.now c.step-used.result sofar c.step-used.ensures.within (i.drawn sofar stands) c.step-used.ensures.drawn);
     }
 
 pub returns-clause-drawn : goal.returns-clause-drawn
@@ -28,4 +29,4 @@ returns-clause-drawn g c sofar stands =
       | then-loop-self-test+else-wants_more w ↦ λ d. none_wanted (ahead now d) c.loop-self.left.now (closed_there now.format now.width now.height now.tile now.stage now.carried d now.begun (sym w.wants_more.ensures ∙ w.if-wants_more.false))
       | else-loop-self-test w ↦ λ d. none_left (ahead now d) c.loop-self.left.now (eqb-true (length c.loop-self.left.now) 0 (sym c.is_empty.ensures ∙ w.loop-self-test.false))
     ] in
-    drawn_stops c.args.self.now now (g.C.Canvas.shows c.loop-self.canvas) c.args.piece.now c.loop-self.left.now c.answer.result sofar (c.loop-self.invariant.drawn sofar stands) over c.answer.ensures
+    drawn_stops g.C.Canvas.keeps c.args.self.now now (g.C.Canvas.shows c.loop-self.canvas) c.args.piece.now c.loop-self.left.now c.answer.result sofar (c.loop-self.invariant.drawn sofar stands) over c.answer.ensures

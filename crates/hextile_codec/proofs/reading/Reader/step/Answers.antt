@@ -30,7 +30,7 @@ returns-then-len-needed-clause-drawn g c sofar stands =
     let s = rw (c.replace-field.ensures.after, c.new.ensures) at (c.take-then-len-needed.ensures.drawn sofar (record { count = before.count; before = before.before; part = before.part })) in
     let field : c.as_slice.result.now ≡ begun ++ more = c.as_slice.ensures.value ∙ rw c.replace-field.ensures.value joined in
     rw (← c.self.view_is)
-    (kept_first r.format r.width r.height r.tile (carried_by r.carried) r.stage begun more c.as_slice.result.now c.take-then-len-needed.result c.take-then-len-needed.new.self (g.C.Canvas.shows c.take-then-len-needed.new.canvas) sofar field
+    (kept_first g.C.Canvas.keeps r.format r.width r.height r.tile (carried_by r.carried) r.stage begun more c.as_slice.result.now c.take-then-len-needed.result c.take-then-len-needed.new.self (g.C.Canvas.shows c.take-then-len-needed.new.canvas) sofar field
     (omega (arith, ap length field, length-append begun more, room, c.take-then-len-needed.ensures.used)) s)
 
 pub returns-else-len-needed-clause-drawn : goal.returns-else-len-needed-clause-drawn

@@ -59,7 +59,7 @@ returns-then-self-clause-drawn g c sofar stands =
     let width = c.requires.width ∙ ap (λ p. p.width) (sym c.self.view_is) in
     let height = c.requires.height ∙ ap (λ p. p.height) (sym c.self.view_is) in
     rw (← c.self.view_is)
-    (leaves_tile r.format r.width r.height r.tile r.area (carried_by r.carried) (carried_by c.draw-drawn.result.carried) r.stage c.draw-drawn.result.stage r.begun.items (take c.draw-drawn.result.used c.args.bytes.now) (g.C.Canvas.shows c.args.canvas.now) (g.C.Canvas.shows c.draw-drawn.new.canvas) sofar
+    (leaves_tile g.C.Canvas.keeps r.format r.width r.height r.tile r.area (carried_by r.carried) (carried_by c.draw-drawn.result.carried) r.stage c.draw-drawn.result.stage r.begun.items (take c.draw-drawn.result.used c.args.bytes.now) (g.C.Canvas.shows c.args.canvas.now) (g.C.Canvas.shows c.draw-drawn.new.canvas) sofar
     lt (c.self.invariant.lies before) none (rw (width, height) at c.draw-drawn.ensures.canvas.keeps) c.draw-drawn.ensures.drawn.leads (sym c.is_whole.ensures ∙ c.if-is_whole.true) (rw (← c.self.view_is) at stands))
 
 pub returns-else-self-clause-drawn : goal.returns-else-self-clause-drawn
@@ -71,7 +71,7 @@ returns-else-self-clause-drawn g c sofar stands =
     let width = c.requires.width ∙ ap (λ p. p.width) (sym c.self.view_is) in
     let height = c.requires.height ∙ ap (λ p. p.height) (sym c.self.view_is) in
     rw (← c.self.view_is)
-    (leaves_tile r.format r.width r.height r.tile r.area (carried_by r.carried) (carried_by c.draw-drawn.result.carried) r.stage c.draw-drawn.result.stage r.begun.items (take c.draw-drawn.result.used c.args.bytes.now) (g.C.Canvas.shows c.args.canvas.now) (g.C.Canvas.shows c.draw-drawn.new.canvas) sofar
+    (leaves_tile g.C.Canvas.keeps r.format r.width r.height r.tile r.area (carried_by r.carried) (carried_by c.draw-drawn.result.carried) r.stage c.draw-drawn.result.stage r.begun.items (take c.draw-drawn.result.used c.args.bytes.now) (g.C.Canvas.shows c.args.canvas.now) (g.C.Canvas.shows c.draw-drawn.new.canvas) sofar
     lt (c.self.invariant.lies before) none (rw (width, height) at c.draw-drawn.ensures.canvas.keeps) c.draw-drawn.ensures.drawn.leads (sym c.is_whole.ensures ∙ c.if-is_whole.true) (rw (← c.self.view_is) at stands))
 
 pub returns-else-is_whole-clause-drawn : goal.returns-else-is_whole-clause-drawn
@@ -83,5 +83,5 @@ returns-else-is_whole-clause-drawn g c sofar stands =
     let width = c.requires.width ∙ ap (λ p. p.width) (sym c.self.view_is) in
     let height = c.requires.height ∙ ap (λ p. p.height) (sym c.self.view_is) in
     rw (← c.self.view_is)
-    (stays_in_tile r.format r.width r.height r.tile r.area (carried_by r.carried) (carried_by c.draw-drawn.result.carried) r.stage c.draw-drawn.result.stage r.begun.items (take c.draw-drawn.result.used c.args.bytes.now) (g.C.Canvas.shows c.args.canvas.now) (g.C.Canvas.shows c.draw-drawn.new.canvas) sofar
+    (stays_in_tile g.C.Canvas.keeps r.format r.width r.height r.tile r.area (carried_by r.carried) (carried_by c.draw-drawn.result.carried) r.stage c.draw-drawn.result.stage r.begun.items (take c.draw-drawn.result.used c.args.bytes.now) (g.C.Canvas.shows c.args.canvas.now) (g.C.Canvas.shows c.draw-drawn.new.canvas) sofar
     lt (c.self.invariant.lies before) none (rw (width, height) at c.draw-drawn.ensures.canvas.keeps) c.draw-drawn.ensures.drawn.leads (rw (← c.self.view_is) at stands))

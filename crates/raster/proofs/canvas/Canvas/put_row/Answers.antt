@@ -1,5 +1,5 @@
 use Rattle.std.proofs.Common.{length, refl, arith, ◌∙◌, get_or}
-use Rattle.raster.specs.Screen.{value_at}
+use Rattle.raster.specs.Screen.{value_at, kept}
 use Rattle.raster.proofs.Rows.{lay_nothing, lay_one_more}
 use Rattle.raster.proofs.canvas.Canvas.put_row.Goals as goal
 
@@ -8,7 +8,8 @@ loop-i-init g c =
     record {
       width = refl;
       height = refl;
-      shows = lay_nothing (g.Self.Canvas.width c.args.self.now) (g.Self.Canvas.height c.args.self.now) c.args.x c.args.y (value_at (length c.args.values.now) c.args.values.now) (g.Self.Canvas.shows c.args.self.now);
+      stays = g.met.Self.Canvas.stays_at_once c.args.self.now;
+      shows = lay_nothing (g.Self.Canvas.width c.args.self.now) (g.Self.Canvas.height c.args.self.now) c.args.x c.args.y (kept g.Self.Canvas.keeps (value_at (length c.args.values.now) c.args.values.now)) (g.Self.Canvas.shows c.args.self.now);
     }
 
 pub loop-i-preserved : goal.loop-i-preserved
@@ -18,7 +19,8 @@ loop-i-preserved g c =
     record {
       width = width;
       height = height;
-      shows = lay_one_more (g.Self.Canvas.width c.args.self.now) (g.Self.Canvas.height c.args.self.now) c.args.x c.args.y c.loop-i.i (length c.args.values.now) (get_or c.args.values.now c.loop-i.i 0) c.args.values.now (g.Self.Canvas.shows c.args.self.now)
+      stays = g.met.Self.Canvas.stays_then c.args.self.now c.loop-i.self c.put.new.self c.loop-i.invariant.stays c.put.ensures.stays;
+      shows = lay_one_more (g.Self.Canvas.width c.args.self.now) (g.Self.Canvas.height c.args.self.now) c.args.x c.args.y c.loop-i.i (length c.args.values.now) (g.Self.Canvas.keeps (get_or c.args.values.now c.loop-i.i 0)) g.Self.Canvas.keeps c.args.values.now (g.Self.Canvas.shows c.args.self.now)
           (g.Self.Canvas.shows c.loop-i.self) (g.Self.Canvas.shows c.put.new.self) refl c.loop-i.invariant.shows
           (λ x y lx ly. c.put.ensures.shows x y (omega (arith, c.loop-i.invariant.width)) (omega (arith, c.loop-i.invariant.height)));
     }

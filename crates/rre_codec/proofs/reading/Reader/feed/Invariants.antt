@@ -11,7 +11,8 @@ invariant-loop-self g l =
       size : IsSameSize l.fn.self l.self;
       width : g.C.Canvas.width l.canvas ≡ l.fn.self.width;
       height : g.C.Canvas.height l.canvas ≡ l.fn.self.height;
-      drawn : (sofar : Drawing) → Stands l.fn.self (g.C.Canvas.shows l.fn.canvas) sofar → HasDrawn l.fn.self l.self (g.C.Canvas.shows l.canvas) l.piece l.left sofar;
+      stays : g.C.Canvas.Stays l.fn.canvas l.canvas;
+      drawn : (sofar : Drawing) → Stands g.C.Canvas.keeps l.fn.self (g.C.Canvas.shows l.fn.canvas) sofar → HasDrawn g.C.Canvas.keeps l.fn.self l.self (g.C.Canvas.shows l.canvas) l.piece l.left sofar;
     }
 
 abbrev pub decreases-loop-self : goal.decreases-loop-self

@@ -2,6 +2,8 @@ use Rattle.std.proofs.Common.{◌≡◌, ℕ, ◌+◌, ◌≤◌, ◌∙◌, ◌
 use Rattle.std.specs.Prelude.{IsOk, OnOk}
 use Rattle.std.proofs.lemmas.List.{length-take, nil_from_length}
 use Rattle.std.proofs.lemmas.Bool.{eqb-true}
+use Rattle.pixel_format.specs.Reading.{Reading, after, taken}
+use Rattle.raster.specs.Encoding.{Drawing}
 use Rattle.rre_codec.specs.Ahead.{needed, next_form}
 use Rattle.rre_codec.proofs.Going.{goes_on, all_taken, nothing_begun}
 use Rattle.rre_codec.proofs.reading.Reader.step.Goals as goal
@@ -11,20 +13,17 @@ added : {E P : Type 0} (answer : Result (Unit {0}) E) → IsOk answer → OnOk a
 added (Ok x) fits p = p
 added (Err e) fits p = absurd cc
 
-pub draw-self-inside-requires-clause-count : goal.draw-self-inside-requires-clause-count
-draw-self-inside-requires-clause-count g c = omega (arith, length-take c.needed-needed.result c.args.bytes.now, c.needed-needed.ensures.value, c.if-needed-bytes.true)
+pub draw_fields-stage-requires-clause-width : goal.draw_fields-stage-requires-clause-width
+draw_fields-stage-requires-clause-width g c = c.requires.width ∙ ap (λ p. p.width) (sym c.self.view_is)
 
-pub draw-self-inside-requires-clause-width : goal.draw-self-inside-requires-clause-width
-draw-self-inside-requires-clause-width g c = c.requires.width ∙ ap (λ p. p.width) (sym c.self.view_is)
-
-pub draw-self-inside-requires-clause-height : goal.draw-self-inside-requires-clause-height
-draw-self-inside-requires-clause-height g c = c.requires.height ∙ ap (λ p. p.height) (sym c.self.view_is)
+pub draw_fields-stage-requires-clause-height : goal.draw_fields-stage-requires-clause-height
+draw_fields-stage-requires-clause-height g c = c.requires.height ∙ ap (λ p. p.height) (sym c.self.view_is)
 
 pub returns-then-needed-bytes-clause-width : goal.returns-then-needed-bytes-clause-width
-returns-then-needed-bytes-clause-width g c = c.draw-self-inside.ensures.width ∙ ap (λ p. p.width) c.self.view_is
+returns-then-needed-bytes-clause-width g c = c.draw_fields-stage.ensures.width ∙ ap (λ p. p.width) c.self.view_is
 
 pub returns-then-needed-bytes-clause-height : goal.returns-then-needed-bytes-clause-height
-returns-then-needed-bytes-clause-height g c = c.draw-self-inside.ensures.height ∙ ap (λ p. p.height) c.self.view_is
+returns-then-needed-bytes-clause-height g c = c.draw_fields-stage.ensures.height ∙ ap (λ p. p.height) c.self.view_is
 
 pub returns-then-len-needed-clause-drawn : goal.returns-then-len-needed-clause-drawn
 returns-then-len-needed-clause-drawn g c sofar stands =
@@ -37,12 +36,12 @@ returns-then-len-needed-clause-drawn g c sofar stands =
     let room : length begun + length more ≤ needed r.format r.stage = omega (arith, some, c.min-count.ensures, c.len.ensures.value, c.needed-needed.ensures.value, c.self.invariant) in
     let joined : c.try_extend_from_slice.new.self.items ≡ begun ++ more =
     added c.try_extend_from_slice.result (c.try_extend_from_slice.ensures.variant.1 (omega (arith, room, c.needed-needed.ensures.value, c.needed-needed.ensures.most))) c.try_extend_from_slice.ensures.ok in
-    let led = c.draw-self-inside-then-len-needed.ensures.drawn sofar before in
+    let led = c.draw-self-inside.ensures.drawn sofar before in
     let whole : c.as_slice.result.now ≡ begun ++ more = c.as_slice.ensures.value ∙ joined in
     rw (← c.self.view_is)
     (record {
       drawing = led.drawing;
-      reads = nothing_begun (next_form r.format r.width r.height c.draw-self-inside-then-len-needed.result led.drawing) c.clear.new.self.items c.clear.ensures ∙ (sym led.reads ∙ goes_on r.format r.width r.height r.stage sofar begun more c.as_slice.result.now whole);
+      reads = nothing_begun (next_form r.format r.width r.height c.draw-self-inside.result led.drawing) c.clear.new.self.items c.clear.ensures ∙ (sym led.reads ∙ goes_on r.format r.width r.height r.stage sofar begun more c.as_slice.result.now whole);
       takes = all_taken r.format r.width r.height r.stage sofar begun more wanted room;
       stands = led.shows;
     })
@@ -70,16 +69,15 @@ pub returns-then-needed-bytes-clause-drawn : goal.returns-then-needed-bytes-clau
 returns-then-needed-bytes-clause-drawn g c sofar stands =
     let r = c.self.inside in
     let begun : List ℕ = r.begun.items in
-    let field : List ℕ = take c.needed-needed.result c.args.bytes.now in
+    let fields : List ℕ = take c.draw_fields-stage.result.1 c.args.bytes.now in
     let none : begun ≡ [] = nil_from_length begun (eqb-true (length begun) 0 (sym c.is_empty.ensures ∙ c.if-is_empty.true)) in
-    let wanted = rw (← c.self.view_is) at c.requires.open in
-    let led = c.draw-self-inside.ensures.drawn sofar (rw (← c.self.view_is) at stands) in
-    let long : length field ≡ c.needed-needed.result = omega (arith, length-take c.needed-needed.result c.args.bytes.now, c.if-needed-bytes.true) in
-    let room : length begun + length field ≤ needed r.format r.stage = omega (arith, long, ap length none, c.needed-needed.ensures.value) in
+    let form = next_form r.format r.width r.height r.stage sofar in
+    let led = c.draw_fields-stage.ensures.drawn sofar (rw (← c.self.view_is) at stands) in
+    let fresh : after form begun ≡ form = nothing_begun form begun none in
     rw (← c.self.view_is)
     (record {
       drawing = led.drawing;
-      reads = nothing_begun (next_form r.format r.width r.height c.draw-self-inside.result led.drawing) begun none ∙ (sym led.reads ∙ goes_on r.format r.width r.height r.stage sofar begun field field (ap (λ t. t ++ field) (sym none)));
-      takes = all_taken r.format r.width r.height r.stage sofar begun field wanted room;
+      reads = nothing_begun (next_form r.format r.width r.height c.draw_fields-stage.result.0 led.drawing) begun none ∙ (sym led.reads ∙ ap (λ (t : Reading Drawing). after t fields) (sym fresh));
+      takes = ap (λ (t : Reading Drawing). taken t fields) fresh ∙ led.takes;
       stands = led.shows;
     })
