@@ -1,5 +1,5 @@
 -- What follows once all bytes of a part have come.
-use Rattle.std.proofs.Common.{◌≡◌, ℕ, ◌*◌, ◌<◌, ◌≤◌, Bool, true, false, List, [], length, map, take, inr, sym, ap, subst, ◌∙◌}
+use Rattle.std.proofs.Common.{◌≡◌, ℕ, ◌*◌, ◌<◌, ◌≤◌, Bool, true, false, List, [], length, take, inr, sym, ap, subst, ◌∙◌}
 use Rattle.std.specs.Prelude.{if◌then◌else◌, nat_le}
 use Rattle.std.proofs.lemmas.Bool.{lt-leb, le-leb}
 use Rattle.pixel_format.specs.PixelFormat.{host_format}
@@ -13,26 +13,12 @@ use Rattle.rfb_wire.specs.ServerMessage.{ServerMessage, SetColorMapEntries, Serv
 use Rattle.host_decoder.specs.declared.part.Part.TheVariants as part
 use Rattle.host_decoder.specs.declared.past.Passed.TheVariants as passed
 use Rattle.host_decoder.specs.declared.state.State.{State}
-use Rattle.host_decoder.specs.Updates.{in_colours}
-use Rattle.host_decoder.specs.Decoder.{GoesOn, Holds, PaintsNothing, Stands, form_of, keeping, passing, rectangles, with_others}
+use Rattle.host_decoder.specs.Decoder.{GoesOn, Holds, StandsUnpainted, form_of, keeping, passing, rectangles, with_others}
 use Rattle.host_decoder.proofs.HostParts.{head_read}
 
--- Where nothing is painted the working raster shows what it did.
-pub nothing_painted : (painter : Painting) (state : State) (r : Reading ServerMessage) → Stands painter.width painter.height state painter.paints r → PaintsNothing state → GoesOn painter painter state r
-nothing_painted painter state r stands still =
-    record {
-      stands = inr stands;
-      repaints = λ canvas same x y lx ly. same x y lx ly ∙ ap (λ (c : Canvas). c x y) (sym (still canvas));
-    }
-
 -- Outside an update no paint is held.
-none_held : (w h : ℕ) (paints sofar : List Paint) → Holds w h paints sofar → sofar ≡ [] → paints ≡ []
-none_held w h paints sofar holds none = holds.same ∙ ap (map in_colours) none
-
-pub outside_update : (painter : Painting) (sofar : List Paint) (state : State) (r : Reading ServerMessage) → Holds painter.width painter.height painter.paints sofar → sofar ≡ []
-    → Stands painter.width painter.height state [] r → PaintsNothing state → GoesOn painter painter state r
-outside_update painter sofar state r holds none stands still =
-    nothing_painted painter state r (subst (λ ps. Stands painter.width painter.height state ps r) (sym (none_held painter.width painter.height painter.paints sofar holds none)) stands) still
+pub outside_update : (painter : Painting) (start : Canvas) (sofar : List Paint) (state : State) (r : Reading ServerMessage) → Holds start painter sofar → sofar ≡ [] → StandsUnpainted painter.width painter.height state r → GoesOn painter painter state start r
+outside_update painter start sofar state r holds none stands = inr (stands start painter (subst (λ ps. Holds start painter ps) none holds))
 
 -- ---- what is read behind a part
 

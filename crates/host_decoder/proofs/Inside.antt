@@ -4,7 +4,9 @@ use Rattle.std.specs.Prelude.{IsTrue, IsFalse}
 use Rattle.pixel_format.specs.Reading.{Reading, ◌>>=◌, after, taken, wants_more, fault_of}
 use Rattle.pixel_format.proofs.InOrder.{then_wants}
 use Rattle.pixel_format.proofs.ReadingLaws.{after_bind_open, taken-open, wants_no_fault}
+use Rattle.raster.specs.Screen.{Canvas}
 use Rattle.raster.specs.Update.{Paint}
+use Rattle.painter.specs.Painter.{Painting}
 use Rattle.rfb_wire.specs.ServerMessage.{ServerMessage}
 use Rattle.host_decoder.specs.Data.{DataProgress, DataStands}
 use Rattle.host_decoder.specs.Pendings.{Unread, IsOpen}
@@ -12,10 +14,10 @@ use Rattle.host_decoder.specs.Decoder.{InData, behind}
 use Rattle.host_decoder.proofs.RectangleData.{taken_open}
 
 -- All of it is taken, and the message goes on.
-pub fed_inside : (w h : ℕ) (old new : Unread) (paints : List Paint) (r : Reading ServerMessage) (piece : List ℕ) → new.left ≡ old.left
-    → ((reading : Reading Paint) → DataStands old.reader reading → DataStands new.reader (after reading piece) × (wants_more (after reading piece) ≡ true)) → InData w h old.left old.reader paints r
-    → InData w h new.left new.reader paints (after r piece) × (length piece ≡ taken r piece) × (fault_of (after r piece) ≡ None)
-fed_inside w h old new paints r piece left fed s =
+pub fed_inside : (w h : ℕ) (old new : Unread) (start : Canvas) (painter : Painting) (r : Reading ServerMessage) (piece : List ℕ) → new.left ≡ old.left
+    → ((reading : Reading Paint) → DataStands old.reader reading → DataStands new.reader (after reading piece) × (wants_more (after reading piece) ≡ true)) → InData w h old.left old.reader start painter r
+    → InData w h new.left new.reader start painter (after r piece) × (length piece ≡ taken r piece) × (fault_of (after r piece) ≡ None)
+fed_inside w h old new start painter r piece left fed s =
     let b : Paint → Reading ServerMessage = behind w h s.sofar old.left in
     let next = fed s.reading s.stands in
     let all : taken s.reading piece ≡ length piece = taken-open s.reading piece next.1 in

@@ -1,41 +1,26 @@
 -- The data of a rectangle, and what follows them.
-use Rattle.std.proofs.Common.{◌≡◌, ℕ, zero, suc, true, false, List, [], ◌∷◌, ◌++◌, length, map, drop, All, None, is_some, inr, refl, sym, ap, subst, ◌∙◌, arith}
+use Rattle.std.proofs.Common.{◌≡◌, ℕ, suc, true, false, List, [], ◌∷◌, ◌++◌, length, map, drop, None, is_some, inr, refl, sym, ap, subst, ◌∙◌, arith}
 use Rattle.std.proofs.lemmas.List.{drop_all, map-append}
-use Rattle.std.proofs.lemmas.List.Elements.{All-append}
 use Rattle.pixel_format.specs.declared.fault.Fault.{Fault}
 use Rattle.pixel_format.specs.Reading.{Reading, Done, Faulty, Want, ◌>>=◌, after, taken, wants_more, whole_of, fault_of}
 use Rattle.pixel_format.proofs.InOrder.{then_done, then_taken, then_faulty}
 use Rattle.pixel_format.proofs.ReadingLaws.{after_bind_open, after-faulty, none_from, taken-nil, taken-open, wants_from, whole_from}
-use Rattle.raster.specs.Painted.{Fits}
+use Rattle.raster.specs.Screen.{Canvas}
 use Rattle.raster.specs.Update.{Paint}
-use Rattle.painter.specs.Painter.{Painting, with_paints}
+use Rattle.painter.specs.Painter.{Painting, IsPaintedOver}
 use Rattle.rfb_wire.specs.ServerMessage.{ServerMessage}
 use Rattle.host_decoder.specs.Data.{DataProgress, DataStands}
 use Rattle.host_decoder.specs.Pendings.{Unread, IsOpen}
 use Rattle.host_decoder.specs.Updates.{in_colours}
 use Rattle.host_decoder.specs.declared.state.State.{State}
 use Rattle.host_decoder.specs.declared.state.State.TheVariants as state
-use Rattle.host_decoder.specs.Decoder.{GoesOn, Holds, Uses, behind, rectangles, with_others}
+use Rattle.host_decoder.specs.Decoder.{GoesOn, Holds, Uses, behind, with_others}
 
--- ---- a paint is added
+-- ---- a rectangle is painted
 
-all_one : (P : Paint → Type 0) (p : Paint) → P p → All P (p ∷ [])
-all_one P p holds zero d lt = holds
-all_one P p holds (suc k) d lt = absurd (omega arith)
-
-paint_held : (w h : ℕ) (paints sofar : List Paint) (paint painted : Paint) → paint ≡ in_colours painted → Fits w h paint → Holds w h paints sofar → Holds w h (paints ++ paint ∷ []) (sofar ++ painted ∷ [])
-paint_held w h paints sofar paint painted is fits holds =
-    record {
-      same = ap (λ ps. ps ++ paint ∷ []) holds.same ∙ (ap (λ p. map in_colours sofar ++ p ∷ []) is ∙ sym (map-append in_colours sofar (painted ∷ [])));
-      fits = All-append (Fits w h) paints (paint ∷ []) holds.fits (all_one (Fits w h) paint fits);
-    }
-
-pub paint_added : (old new : Painting) (paint painted : Paint) (state : State) (sofar : List Paint) (left : ℕ) → paint ≡ in_colours painted → Fits old.width old.height paint → Holds old.width old.height old.paints sofar
-    → ((s : List Paint) → Holds old.width old.height (old.paints ++ paint ∷ []) s → GoesOn (with_paints old (old.paints ++ paint ∷ [])) new state (rectangles old.width old.height s left))
-    → GoesOn old new state (behind old.width old.height sofar left painted)
-paint_added old new paint painted state sofar left is fits holds next =
-    let g = next (sofar ++ painted ∷ []) (paint_held old.width old.height old.paints sofar paint painted is fits holds) in
-    record { stands = g.stands; repaints = g.repaints }
+pub paint_held : (start : Canvas) (painter : Painting) (sofar : List Paint) (paint painted : Paint) → paint ≡ in_colours painted → IsPaintedOver start (map in_colours sofar ++ paint ∷ []) painter → Holds start painter (sofar ++ painted ∷ [])
+paint_held start painter sofar paint painted is stands =
+    subst (λ ps. IsPaintedOver start ps painter) (ap (λ p. map in_colours sofar ++ p ∷ []) is ∙ sym (map-append in_colours sofar (painted ∷ []))) stands
 
 -- ---- what was fed to a rectangle's data
 
@@ -58,9 +43,9 @@ taken_open (Want more) next (b ∷ bs) e = ap suc (taken_open (more b) next bs (
 
 -- ---- a step over them
 
-pub uses_whole : (old new : Painting) (state : State) (left used : ℕ) (bs : List ℕ) (sofar : List Paint) (r : Reading Paint) → used ≡ taken r bs → is_some (whole_of (after r bs)) ≡ true
-    → ((p : Paint) → after r bs ≡ Done p → GoesOn old new state (behind old.width old.height sofar left p)) → Uses old new state (with_others old.width old.height sofar left r) bs used
-uses_whole old new state left used bs sofar r count e next =
+pub uses_whole : (old new : Painting) (state : State) (left used : ℕ) (bs : List ℕ) (start : Canvas) (sofar : List Paint) (r : Reading Paint) → used ≡ taken r bs → is_some (whole_of (after r bs)) ≡ true
+    → ((p : Paint) → after r bs ≡ Done p → GoesOn old new state start (behind old.width old.height sofar left p)) → Uses old new state start (with_others old.width old.height sofar left r) bs used
+uses_whole old new state left used bs start sofar r count e next =
     let whole = whole_from (after r bs) e in
     let b : Paint → Reading ServerMessage = behind old.width old.height sofar left in
     record {
@@ -72,10 +57,10 @@ uses_whole old new state left used bs sofar r count e next =
       goes_on = next whole.0 whole.1;
     }
 
-pub uses_open : (painter : Painting) (pending : Unread) (new : DataProgress) (left used : ℕ) (bs : List ℕ) (sofar : List Paint) (r : Reading Paint) → used ≡ taken r bs → fault_of (after r bs) ≡ None → is_some (whole_of (after r bs)) ≡ false
-    → pending ≡ record { left = left; reader = new } → DataStands new (after r bs) → Holds painter.width painter.height painter.paints sofar
-    → Uses painter painter (state.Pixels pending) (with_others painter.width painter.height sofar left r) bs used
-uses_open painter pending new left used bs sofar r count fine e is stands holds =
+pub uses_open : (painter : Painting) (pending : Unread) (new : DataProgress) (left used : ℕ) (bs : List ℕ) (start : Canvas) (sofar : List Paint) (r : Reading Paint) → used ≡ taken r bs → fault_of (after r bs) ≡ None → is_some (whole_of (after r bs)) ≡ false
+    → pending ≡ record { left = left; reader = new } → DataStands new (after r bs) → Holds start painter sofar
+    → Uses painter painter (state.Pixels pending) start (with_others painter.width painter.height sofar left r) bs used
+uses_open painter pending new left used bs start sofar r count fine e is stands holds =
     let w : ℕ = painter.width in
     let h : ℕ = painter.height in
     let b : Paint → Reading ServerMessage = behind w h sofar left in
@@ -89,18 +74,15 @@ uses_open painter pending new left used bs sofar r count fine e is stands holds 
         says = after_bind_open r b bs all ∙ ap (after (after r bs >>= b)) (sym over);
         count = λ f. omega (arith, taken_open r b bs all, count, all, none);
       };
-      goes_on = record {
-        stands = inr (rw is (record { sofar = sofar; holds = holds; reading = after r bs; stands = stands; wants = wants; reads = refl }));
-        repaints = λ canvas same. same;
-      };
+      goes_on = inr (rw is (record { sofar = sofar; holds = holds; reading = after r bs; stands = stands; wants = wants; reads = refl }));
     }
 
-pub uses_spoiled : (painter : Painting) (new : DataProgress) (left : ℕ) (bs : List ℕ) (sofar : List Paint) (r : Reading Paint) (fault : Fault) → after r bs ≡ Faulty fault → DataStands new (after r bs)
-    → Uses painter painter (state.Spoiled new) (with_others painter.width painter.height sofar left r) bs (length bs)
-uses_spoiled painter new left bs sofar r fault e stands =
+pub uses_spoiled : (painter : Painting) (new : DataProgress) (left : ℕ) (bs : List ℕ) (start : Canvas) (sofar : List Paint) (r : Reading Paint) (fault : Fault) → after r bs ≡ Faulty fault → DataStands new (after r bs)
+    → Uses painter painter (state.Spoiled new) start (with_others painter.width painter.height sofar left r) bs (length bs)
+uses_spoiled painter new left bs start sofar r fault e stands =
     let b : Paint → Reading ServerMessage = behind painter.width painter.height sofar left in
     record {
       next = Faulty fault;
       behind_ = record { says = then_faulty r b bs fault e ∙ sym (after-faulty fault (drop (length bs) bs)); count = λ f. absurd cc };
-      goes_on = record { stands = inr (record { fault = fault; stands = subst (λ s. DataStands new s) e stands; reads = refl }); repaints = λ canvas same. same };
+      goes_on = inr (record { fault = fault; stands = subst (λ s. DataStands new s) e stands; reads = refl });
     }

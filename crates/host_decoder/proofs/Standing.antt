@@ -1,17 +1,20 @@
 -- What stands in a decoder tells whether it wants more.
-use Rattle.std.proofs.Common.{◌≡◌, ℕ, zero, suc, ◌<◌, true, false, List, [], None, refl, sym, ap, subst, ◌∙◌, arith}
-use Rattle.std.specs.Prelude.{option_map}
+use Rattle.std.proofs.Common.{◌≡◌, ℕ, zero, suc, ◌<◌, true, false, List, [], None, Some, refl, sym, ap, subst, ◌∙◌, arith}
+use Rattle.std.specs.Prelude.{Option}
 use Rattle.pixel_format.specs.Reading.{Reading, wants_more, whole_of, renewed}
 use Rattle.pixel_format.proofs.InOrder.{then_wants}
 use Rattle.pixel_format.proofs.ReadingLaws.{none_whole, renewed_from}
-use Rattle.raster.specs.Update.{Paint}
+use Rattle.raster.specs.Screen.{Canvas}
+use Rattle.painter.specs.Painter.{Painting}
 use Rattle.rfb_wire.specs.ServerMessage.{ServerMessage}
 use Rattle.host_decoder.specs.declared.past.Passed.{Passed}
 use Rattle.host_decoder.specs.declared.event.HostEvent.{HostEvent}
 use Rattle.host_decoder.specs.declared.state.State.{State}
 use Rattle.host_decoder.specs.declared.state.State.TheVariants.{Fields, Pixels, Spoiled, Keeping, Passing, Whole, Failed, Refused}
 use Rattle.host_decoder.specs.Decoder.{Stands, behind, host_message, is_open, keeping, passing}
-use Rattle.host_decoder.specs.Events.{event_of}
+use Rattle.host_decoder.specs.Decoder.{start as begun}
+use Rattle.host_decoder.specs.Events.{BringsWhole, changes, screen_behind}
+use Rattle.raster.specs.Update.{after_updates}
 use Rattle.host_decoder.proofs.HostParts.{part_wants}
 
 keeping_wants : (kept : List ℕ) (left : ℕ) → 0 < left → wants_more (keeping kept left) ≡ true
@@ -23,41 +26,56 @@ passing_wants zero what lt = absurd (omega arith)
 passing_wants (suc left) what lt = refl
 
 -- An open one wants another byte.
-pub open_wants : (w h : ℕ) (state : State) (paints : List Paint) (r : Reading ServerMessage) → is_open state ≡ true → Stands w h state paints r → wants_more r ≡ true
-open_wants w h (Fields fields) paints r e s = ap wants_more s.reads ∙ part_wants w h s.sofar fields.0 fields.1 s.missing
-open_wants w h (Pixels pending) paints r e s = ap wants_more s.reads ∙ then_wants s.reading (behind w h s.sofar pending.left) [] s.wants
-open_wants w h (Spoiled reader) paints r e s = absurd cc
-open_wants w h (Keeping kept) paints r e s = ap wants_more s.2 ∙ keeping_wants kept.0 kept.1 s.1
-open_wants w h (Passing past) paints r e s = ap wants_more s.2 ∙ passing_wants past.0 past.1 s.1
-open_wants w h (Whole event) paints r e s = absurd cc
-open_wants w h (Failed what) paints r e s = absurd cc
-open_wants w h Refused paints r e s = absurd s
+pub open_wants : (w h : ℕ) (state : State) (start : Canvas) (painter : Painting) (r : Reading ServerMessage) → is_open state ≡ true → Stands w h state start painter r → wants_more r ≡ true
+open_wants w h (Fields fields) start painter r e s = ap wants_more s.reads ∙ part_wants w h s.sofar fields.0 fields.1 s.missing
+open_wants w h (Pixels pending) start painter r e s = ap wants_more s.reads ∙ then_wants s.reading (behind w h s.sofar pending.left) [] s.wants
+open_wants w h (Spoiled reader) start painter r e s = absurd cc
+open_wants w h (Keeping kept) start painter r e s = ap wants_more s.2 ∙ keeping_wants kept.0 kept.1 s.1
+open_wants w h (Passing past) start painter r e s = ap wants_more s.2 ∙ passing_wants past.0 past.1 s.1
+open_wants w h (Whole event) start painter r e s = absurd cc
+open_wants w h (Failed what) start painter r e s = absurd cc
+open_wants w h Refused start painter r e s = absurd s
 
 -- And another one doesn't.
-pub closed_wants : (w h : ℕ) (state : State) (paints : List Paint) (r : Reading ServerMessage) → is_open state ≡ false → Stands w h state paints r → wants_more r ≡ false
-closed_wants w h (Fields fields) paints r e s = absurd cc
-closed_wants w h (Pixels pending) paints r e s = absurd cc
-closed_wants w h (Spoiled reader) paints r e s = ap wants_more s.reads
-closed_wants w h (Keeping kept) paints r e s = absurd cc
-closed_wants w h (Passing past) paints r e s = absurd cc
-closed_wants w h (Whole event) paints r e s = ap wants_more s.reads
-closed_wants w h (Failed what) paints r e s = ap wants_more s
-closed_wants w h Refused paints r e s = absurd s
+pub closed_wants : (w h : ℕ) (state : State) (start : Canvas) (painter : Painting) (r : Reading ServerMessage) → is_open state ≡ false → Stands w h state start painter r → wants_more r ≡ false
+closed_wants w h (Fields fields) start painter r e s = absurd cc
+closed_wants w h (Pixels pending) start painter r e s = absurd cc
+closed_wants w h (Spoiled reader) start painter r e s = ap wants_more s.reads
+closed_wants w h (Keeping kept) start painter r e s = absurd cc
+closed_wants w h (Passing past) start painter r e s = absurd cc
+closed_wants w h (Whole event) start painter r e s = ap wants_more s.reads
+closed_wants w h (Failed what) start painter r e s = ap wants_more s
+closed_wants w h Refused start painter r e s = absurd s
 
 -- A message is whole only where its event waits.
-pub not_whole : (w h : ℕ) (state : State) (paints : List Paint) (r : Reading ServerMessage) → ((event : HostEvent) → state ≡ Whole event → ⊥) → Stands w h state paints r → whole_of r ≡ None
-not_whole w h (Fields fields) paints r other s = none_whole r (open_wants w h (Fields fields) paints r refl s)
-not_whole w h (Pixels pending) paints r other s = none_whole r (open_wants w h (Pixels pending) paints r refl s)
-not_whole w h (Spoiled reader) paints r other s = ap whole_of s.reads
-not_whole w h (Keeping kept) paints r other s = none_whole r (open_wants w h (Keeping kept) paints r refl s)
-not_whole w h (Passing past) paints r other s = none_whole r (open_wants w h (Passing past) paints r refl s)
-not_whole w h (Whole event) paints r other s = absurd (other event refl)
-not_whole w h (Failed what) paints r other s = ap whole_of s
-not_whole w h Refused paints r other s = absurd s
+pub not_whole : (w h : ℕ) (state : State) (start : Canvas) (painter : Painting) (r : Reading ServerMessage) → ((event : HostEvent) → state ≡ Whole event → ⊥) → Stands w h state start painter r → whole_of r ≡ None
+not_whole w h (Fields fields) start painter r other s = none_whole r (open_wants w h (Fields fields) start painter r refl s)
+not_whole w h (Pixels pending) start painter r other s = none_whole r (open_wants w h (Pixels pending) start painter r refl s)
+not_whole w h (Spoiled reader) start painter r other s = ap whole_of s.reads
+not_whole w h (Keeping kept) start painter r other s = none_whole r (open_wants w h (Keeping kept) start painter r refl s)
+not_whole w h (Passing past) start painter r other s = none_whole r (open_wants w h (Passing past) start painter r refl s)
+not_whole w h (Whole event) start painter r other s = absurd (other event refl)
+not_whole w h (Failed what) start painter r other s = ap whole_of s
+not_whole w h Refused start painter r other s = absurd s
 
 -- Then nothing is given, and it goes on as it did.
-pub nothing_given : (w h : ℕ) (state : State) (paints : List Paint) (r : Reading ServerMessage) → ((event : HostEvent) → state ≡ Whole event → ⊥) → Stands w h state paints r
-    → (None ≡ option_map (event_of w h) (whole_of r)) × Stands w h state paints (renewed (host_message w h) r)
-nothing_given w h state paints r other s =
-    let none = not_whole w h state paints r other s in
-    (sym (ap (option_map (event_of w h)) none), subst (λ t. Stands w h state paints t) (sym (renewed_from (host_message w h) r none)) s)
+pub nothing_given : (w h : ℕ) (state : State) (start : Canvas) (painter : Painting) (r : Reading ServerMessage) → ((event : HostEvent) → state ≡ Whole event → ⊥) → Stands w h state start painter r
+    → BringsWhole w h start None (whole_of r) × Stands w h state (screen_behind w h start (whole_of r)) painter (renewed (host_message w h) r)
+nothing_given w h state start painter r other s =
+    let none = not_whole w h state start painter r other s in (
+      subst (λ (o : Option ServerMessage). BringsWhole w h start None o) (sym none) tt,
+      subst (λ (o : Option ServerMessage). Stands w h state (screen_behind w h start o) painter (renewed (host_message w h) r)) (sym none)
+          (subst (λ t. Stands w h state start painter t) (sym (renewed_from (host_message w h) r none)) s),
+    )
+
+-- And where one is whole its event is given, and the next message begins over the screen behind it.
+pub event_given : (w h : ℕ) (event : HostEvent) (start : Canvas) (painter : Painting) (r : Reading ServerMessage) → Stands w h (Whole event) start painter r
+    → BringsWhole w h start (Some event) (whole_of r) × Stands w h begun (screen_behind w h start (whole_of r)) painter (renewed (host_message w h) r)
+event_given w h event start painter r s =
+    let whole : whole_of r ≡ Some s.message = ap whole_of s.reads in
+    let next : renewed (host_message w h) r ≡ host_message w h = ap (renewed (host_message w h)) s.reads in (
+      subst (λ (o : Option ServerMessage). BringsWhole w h start (Some event) o) (sym whole) s.brings,
+      subst (λ (o : Option ServerMessage). Stands w h begun (screen_behind w h start o) painter (renewed (host_message w h) r)) (sym whole)
+          (subst (λ t. Stands w h begun (after_updates start (changes w h s.message)) painter t) (sym next)
+          (record { sofar = []; holds = s.shows; suited = refl; missing = omega arith; reads = refl })),
+    )

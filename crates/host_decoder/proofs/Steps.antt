@@ -1,5 +1,7 @@
 -- A step of a decoder over some bytes.
-use Rattle.std.proofs.Common.{◌≡◌, ℕ, ◌+◌, ◌-◌, ◌<◌, ◌≤◌, true, List, [], ◌++◌, min, length, take, drop, ◌⊎◌, inl, inr, sym, ap, subst, ◌∙◌, arith}
+use Rattle.std.proofs.Common.{◌≡◌, ℕ, ◌+◌, ◌-◌, ◌<◌, ◌≤◌, true, List, [], ◌∷◌, ◌++◌, min, length, take, drop, ◌⊎◌, inl, inr, refl, sym, ap, subst, ◌∙◌, arith}
+use Rattle.std.specs.Prelude.{◌==◌}
+use Rattle.std.proofs.lemmas.Bool.{eqb-true}
 use Rattle.std.proofs.lemmas.List.{length-append, length-take, take-append-drop}
 use Rattle.pixel_format.specs.Reading.{Reading, Done, after, taken, padding}
 use Rattle.pixel_format.proofs.ReadingLaws.{after-append, padding-after, padding-taken, taken-append}
@@ -12,7 +14,7 @@ use Rattle.host_decoder.specs.Parts.{Passed, len_of, message_of}
 use Rattle.host_decoder.specs.declared.part.Part.{Part}
 use Rattle.host_decoder.specs.declared.state.State.{State}
 use Rattle.host_decoder.specs.declared.state.State.TheVariants as state
-use Rattle.host_decoder.specs.Decoder.{GoesOn, Holds, InPart, IsBehind, IsSuited, PaintsNothing, Stands, Uses, form_of, is_refused, keeping, passing}
+use Rattle.host_decoder.specs.Decoder.{GoesOn, Holds, InPart, IsBehind, IsSuited, StandsUnpainted, Uses, form_of, is_refused, keeping, passing}
 use Rattle.host_decoder.proofs.HostParts.{part_takes}
 
 pub behind_first : (r : Reading ServerMessage) (bs : List ℕ) (n : ℕ) → n ≤ length bs → taken r (take n bs) ≡ n → IsBehind r (after r (take n bs)) bs n
@@ -27,9 +29,9 @@ behind_first r bs n le all =
 -- ---- fields
 
 -- Bytes of a part, of which more are missing.
-pub fields_use : (painter : Painting) (p : Part) (begun bs next : List ℕ) (fields : Part × List ℕ) (left n : ℕ) (r : Reading ServerMessage) → length begun + left ≡ len_of p → n ≡ min (length bs) left → n < left → next ≡ take n bs → fields ≡ (p, begun ++ next)
-    → InPart painter.width painter.height p begun painter.paints r → Uses painter painter (state.Fields fields) r bs n
-fields_use painter p begun bs next fields left n r all e lt f is here =
+pub fields_use : (painter : Painting) (p : Part) (begun bs next : List ℕ) (fields : Part × List ℕ) (left n : ℕ) (start : Canvas) (r : Reading ServerMessage) → length begun + left ≡ len_of p → n ≡ min (length bs) left → n < left → next ≡ take n bs → fields ≡ (p, begun ++ next)
+    → InPart painter.width painter.height p begun start painter r → Uses painter painter (state.Fields fields) start r bs n
+fields_use painter p begun bs next fields left n start r all e lt f is here =
     let w : ℕ = painter.width in
     let h : ℕ = painter.height in
     let xs : List ℕ = take n bs in
@@ -37,18 +39,18 @@ fields_use painter p begun bs next fields left n r all e lt f is here =
     let form : Reading ServerMessage = form_of w h here.sofar p in
     let taken_ : taken r xs ≡ n = ap (λ (q : Reading ServerMessage). taken q xs) here.reads ∙ (part_takes w h here.sofar p begun xs (omega arith) ∙ few) in
     let reads : after r xs ≡ after form (begun ++ xs) = ap (λ (q : Reading ServerMessage). after q xs) here.reads ∙ sym (after-append form begun xs) in
-    let there : InPart w h p (begun ++ xs) painter.paints (after r xs) = record { sofar = here.sofar; holds = here.holds; suited = here.suited; missing = omega (arith, length-append begun xs, few); reads = reads } in
+    let there : InPart w h p (begun ++ xs) start painter (after r xs) = record { sofar = here.sofar; holds = here.holds; suited = here.suited; missing = omega (arith, length-append begun xs, few); reads = reads } in
     let same : fields ≡ (p, begun ++ xs) = is ∙ ap (λ t. (p, begun ++ t)) f in
     record {
       next = after r xs;
       behind_ = behind_first r bs n (omega arith) taken_;
-      goes_on = record { stands = inr (subst (λ (g : Part × List ℕ). InPart w h g.0 g.1 painter.paints (after r xs)) (sym same) there); repaints = λ canvas looks. looks };
+      goes_on = inr (subst (λ (g : Part × List ℕ). InPart w h g.0 g.1 start painter (after r xs)) (sym same) there);
     }
 
 -- The last bytes of a part.
-pub fields_end : (old new : Painting) (state : State) (p : Part) (begun bs next all : List ℕ) (left n : ℕ) (r : Reading ServerMessage) → length begun + left ≡ len_of p → n ≡ min (length bs) left → left ≤ n → next ≡ take n bs → all ≡ begun ++ next
-    → InPart old.width old.height p begun old.paints r → ((sofar : List Paint) → Holds old.width old.height old.paints sofar → IsSuited p sofar → GoesOn old new state (after (form_of old.width old.height sofar p) all)) → Uses old new state r bs n
-fields_end old new state p begun bs next all left n r len e le f is here then_ =
+pub fields_end : (old new : Painting) (state : State) (p : Part) (begun bs next all : List ℕ) (left n : ℕ) (start : Canvas) (r : Reading ServerMessage) → length begun + left ≡ len_of p → n ≡ min (length bs) left → left ≤ n → next ≡ take n bs → all ≡ begun ++ next
+    → InPart old.width old.height p begun start old r → ((sofar : List Paint) → Holds start old sofar → IsSuited p sofar → GoesOn old new state start (after (form_of old.width old.height sofar p) all)) → Uses old new state start r bs n
+fields_end old new state p begun bs next all left n start r len e le f is here then_ =
     let w : ℕ = old.width in
     let h : ℕ = old.height in
     let xs : List ℕ = take n bs in
@@ -59,33 +61,44 @@ fields_end old new state p begun bs next all left n r len e le f is here then_ =
     record {
       next = after r xs;
       behind_ = behind_first r bs n (omega arith) taken_;
-      goes_on = subst (λ (q : Reading ServerMessage). GoesOn old new state q) reads (then_ here.sofar here.holds here.suited);
+      goes_on = subst (λ (q : Reading ServerMessage). GoesOn old new state start q) reads (then_ here.sofar here.holds here.suited);
     }
+
+none_is : (xs : List ℕ) → length xs ≡ 0 → xs ≡ []
+none_is [] e = refl
+none_is (x ∷ xs) e = absurd (omega arith)
+
+-- Where none has come, they are all of it.
+pub all_at_once : (begun next : List ℕ) → (length begun == 0) ≡ true → next ≡ begun ++ next
+all_at_once begun next e = ap (λ xs. xs ++ next) (sym (none_is begun (eqb-true (length begun) 0 e)))
 
 -- ---- texts
 
 -- Where nothing is painted.
-unpainted : (painter : Painting) (state : State) (r : Reading ServerMessage) → (is_refused state ≡ true) ⊎ Stands painter.width painter.height state painter.paints r → PaintsNothing state → GoesOn painter painter state r
-unpainted painter state r stands still = record { stands = stands; repaints = λ canvas same x y lx ly. same x y lx ly ∙ ap (λ (c : Canvas). c x y) (sym (still canvas)) }
+unpainted : (painter : Painting) (state : State) (start : Canvas) (r : Reading ServerMessage) → Holds start painter [] → (is_refused state ≡ true) ⊎ StandsUnpainted painter.width painter.height state r → GoesOn painter painter state start r
+unpainted painter state start r none (inl e) = inl e
+unpainted painter state start r none (inr s) = inr (s start painter none)
 
-with_paints_of : (w h : ℕ) (state : State) (paints : List Paint) (r : Reading ServerMessage) → paints ≡ [] → (is_refused state ≡ true) ⊎ Stands w h state [] r → (is_refused state ≡ true) ⊎ Stands w h state paints r
-with_paints_of w h state paints r none (inl e) = inl e
-with_paints_of w h state paints r none (inr s) = inr (subst (λ ps. Stands w h state ps r) (sym none) s)
-
-pub text_uses : (painter : Painting) (kept : List ℕ) (left : ℕ) (state : State) (bs next : List ℕ) (n : ℕ) (r : Reading ServerMessage) → painter.paints ≡ [] → r ≡ keeping kept left → n ≡ min (length bs) left → next ≡ take n bs
-    → (is_refused state ≡ true) ⊎ Stands painter.width painter.height state [] (keeping (kept ++ next) (left - length next)) → PaintsNothing state → Uses painter painter state r bs n
-text_uses painter kept left state bs next n r none reads e f stands still =
+pub text_uses : (painter : Painting) (kept : List ℕ) (left : ℕ) (state : State) (bs next : List ℕ) (n : ℕ) (start : Canvas) (r : Reading ServerMessage) → Holds start painter [] → r ≡ keeping kept left → n ≡ min (length bs) left → next ≡ take n bs
+    → (is_refused state ≡ true) ⊎ StandsUnpainted painter.width painter.height state (keeping (kept ++ next) (left - length next)) → Uses painter painter state start r bs n
+text_uses painter kept left state bs next n start r none reads e f stands =
     let few : length (take n bs) ≡ n = omega (arith, length-take n bs) in
     let same : keeping (kept ++ next) (left - length next) ≡ after r (take n bs) = rw (f, reads) (sym (text_after ServerCutText kept (take n bs) left (omega arith))) in
     let all : taken r (take n bs) ≡ n = rw reads (text_taken ServerCutText kept (take n bs) left (omega arith) ∙ few) in
-    let there = with_paints_of painter.width painter.height state painter.paints (after r (take n bs)) none (subst (λ q. (is_refused state ≡ true) ⊎ Stands painter.width painter.height state [] q) same stands) in
-    record { next = after r (take n bs); behind_ = behind_first r bs n (omega arith) all; goes_on = unpainted painter state (after r (take n bs)) there still }
+    record {
+      next = after r (take n bs);
+      behind_ = behind_first r bs n (omega arith) all;
+      goes_on = unpainted painter state start (after r (take n bs)) none (subst (λ q. (is_refused state ≡ true) ⊎ StandsUnpainted painter.width painter.height state q) same stands);
+    }
 
-pub past_uses : (painter : Painting) (left : ℕ) (what : Passed) (state : State) (bs : List ℕ) (n : ℕ) (r : Reading ServerMessage) → painter.paints ≡ [] → r ≡ passing left what → n ≡ min (length bs) left
-    → Stands painter.width painter.height state [] (passing (left - n) what) → PaintsNothing state → Uses painter painter state r bs n
-past_uses painter left what state bs n r none reads e stands still =
+pub past_uses : (painter : Painting) (left : ℕ) (what : Passed) (state : State) (bs : List ℕ) (n : ℕ) (start : Canvas) (r : Reading ServerMessage) → Holds start painter [] → r ≡ passing left what → n ≡ min (length bs) left
+    → StandsUnpainted painter.width painter.height state (passing (left - n) what) → Uses painter painter state start r bs n
+past_uses painter left what state bs n start r none reads e stands =
     let few : length (take n bs) ≡ n = omega (arith, length-take n bs) in
     let same : passing (left - n) what ≡ after r (take n bs) = rw reads (ap (λ k. padding (left - k) (Done (message_of what))) (sym few) ∙ sym (padding-after left (Done (message_of what)) (take n bs) (omega arith))) in
     let all : taken r (take n bs) ≡ n = rw reads (padding-taken left (Done (message_of what)) (take n bs) (omega arith) ∙ few) in
-    let there = with_paints_of painter.width painter.height state painter.paints (after r (take n bs)) none (inr (subst (λ q. Stands painter.width painter.height state [] q) same stands)) in
-    record { next = after r (take n bs); behind_ = behind_first r bs n (omega arith) all; goes_on = unpainted painter state (after r (take n bs)) there still }
+    record {
+      next = after r (take n bs);
+      behind_ = behind_first r bs n (omega arith) all;
+      goes_on = unpainted painter state start (after r (take n bs)) none (inr (subst (λ q. StandsUnpainted painter.width painter.height state q) same stands));
+    }

@@ -66,7 +66,7 @@ pub record RreStands (area : Rect) (p : RreProgress) (reading : Reading Paint) :
   pub sofar : Drawing
   pub width : p.reader.width ≡ area.w
   pub height : p.reader.height ≡ area.h
-  pub stands : rre.Stands p.reader (shown p.canvas) sofar
+  pub stands : rre.Stands (λ value. value) p.reader (shown p.canvas) sofar
   pub reads : reading ≡ putting area (rre.ahead p.reader sofar >>= λ drawing. Done (values_of area.w area.h (drawn drawing)))
 
 -- ---- Hextile
@@ -76,7 +76,7 @@ pub record HextileStands (area : Rect) (p : HextileProgress) (reading : Reading 
   pub sofar : hextile.Sofar
   pub width : p.reader.width ≡ area.w
   pub height : p.reader.height ≡ area.h
-  pub stands : hextile.Stands p.reader (shown p.canvas) sofar
+  pub stands : hextile.Stands (λ value. value) p.reader (shown p.canvas) sofar
   pub reads : reading ≡ putting area (hextile.ahead p.reader sofar >>= λ tiles. Done (values_of area.w area.h (tiled area.w area.h tiles)))
 
 -- ---- any encoding

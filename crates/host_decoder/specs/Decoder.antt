@@ -1,18 +1,17 @@
 -- How reading a host's message goes on, by what its decoder and its painter hold (RFC 6143, 7.6).
-use Rattle.std.specs.Prelude.{◌≡◌, ℕ, ◌+◌, ◌<◌, drop, length, Bool, true, false, List, [], ◌∷◌, ◌++◌, map, All, None, Result, Ok, Err, ◌⊎◌}
+use Rattle.std.specs.Prelude.{◌≡◌, ℕ, ◌+◌, ◌<◌, drop, length, Bool, true, false, List, [], ◌∷◌, ◌++◌, map, None, Result, Ok, Err, ◌⊎◌}
 use Rattle.pixel_format.specs.PixelFormat.{host_format}
 use Rattle.pixel_format.specs.declared.fault.Fault.{Fault}
 use Rattle.pixel_format.specs.declared.fault.Fault.TheVariants.{UnknownMessage, RectOutside, UnknownEncoding, Memory}
 use Rattle.pixel_format.specs.Reading.{Reading, Done, Faulty, ◌>>=◌, after, taken, bytes, padding, times, u32, wants_more, fault_of}
-use Rattle.raster.specs.Painted.{Fits}
-use Rattle.raster.specs.Screen.{Canvas, IsWithin, LooksLike}
+use Rattle.raster.specs.Screen.{Canvas, IsWithin}
 use Rattle.raster.specs.Size.{IsScreenSize}
 use Rattle.raster.specs.Update.{Paint, Update, after_updates}
-use Rattle.painter.specs.Painter.{Painting, shows}
+use Rattle.painter.specs.Painter.{Painting, IsPaintedOver}
 use Rattle.rfb_wire.specs.ClientMessage.{text}
 use Rattle.rfb_wire.specs.ServerMessage.{ServerMessage, FramebufferUpdate, ServerCutText, LostText, rectangle, data_of, framebuffer_update, set_color_map_entries, server_message}
 use Rattle.host_decoder.specs.Updates.{in_colours}
-use Rattle.host_decoder.specs.Events.{event_of, brought_by}
+use Rattle.host_decoder.specs.Events.{Brings, brought_by, changes}
 use Rattle.host_decoder.specs.Data.{DataProgress, DataStands}
 use Rattle.host_decoder.specs.Parts.{Passed, len_of, message_of}
 use Rattle.host_decoder.specs.declared.event.HostEvent.{HostEvent}
@@ -79,25 +78,24 @@ at_fault (wrong.Kind kind) = UnknownMessage kind
 at_fault wrong.Area = RectOutside
 at_fault wrong.Encoding = UnknownEncoding
 
--- ---- what stands in a decoder, beside the paints in the painter
+-- ---- what stands in a decoder, beside what was painted, over the screen at the start of the message
 
--- The painter holds the paints of the message so far, in colours, each of which lies on the screen.
-pub record Holds (w h : ℕ) (paints sofar : List Paint) : Type 0 where
-  pub same : paints ≡ map in_colours sofar
-  pub fits : All (Fits w h) paints
+-- The painter shows the paints of the message so far, in colours.
+abbrev pub Holds : Canvas → Painting → List Paint → Type 0
+Holds start painter sofar = IsPaintedOver start (map in_colours sofar) painter
 
 -- Some bytes of a part have come, and one is missing.
-pub record InPart (w h : ℕ) (part : Part) (begun : List ℕ) (paints : List Paint) (r : Reading ServerMessage) : Type 0 where
+pub record InPart (w h : ℕ) (part : Part) (begun : List ℕ) (start : Canvas) (painter : Painting) (r : Reading ServerMessage) : Type 0 where
   pub sofar : List Paint
-  pub holds : Holds w h paints sofar
+  pub holds : Holds start painter sofar
   pub suited : IsSuited part sofar
   pub missing : length begun < len_of part
   pub reads : r ≡ after (form_of w h sofar part) begun
 
 -- A rectangle's data are being read, and so many rectangles are left behind it.
-pub record InData (w h left : ℕ) (reader : DataProgress) (paints : List Paint) (r : Reading ServerMessage) : Type 0 where
+pub record InData (w h left : ℕ) (reader : DataProgress) (start : Canvas) (painter : Painting) (r : Reading ServerMessage) : Type 0 where
   pub sofar : List Paint
-  pub holds : Holds w h paints sofar
+  pub holds : Holds start painter sofar
   pub reading : Reading Paint
   pub stands : DataStands reader reading
   pub wants : wants_more reading ≡ true
@@ -109,27 +107,33 @@ pub record AtFault (reader : DataProgress) (r : Reading ServerMessage) : Type 0 
   pub stands : DataStands reader (Faulty fault)
   pub reads : r ≡ Faulty fault
 
--- The event of a whole message waits.
-pub record AtEnd (w h : ℕ) (event : HostEvent) (paints : List Paint) (r : Reading ServerMessage) : Type 0 where
+-- The event of a whole message waits, and the painter shows the screen behind it.
+pub record AtEnd (w h : ℕ) (event : HostEvent) (start : Canvas) (painter : Painting) (r : Reading ServerMessage) : Type 0 where
   pub message : ServerMessage
   pub reads : r ≡ Done message
-  pub brings : event ≡ event_of w h message
-  pub none : paints ≡ []
+  pub brings : Brings w h start event message
+  pub shows : Holds (after_updates start (changes w h message)) painter []
 
--- What stands there stands for a message that goes on so. Once memory was refused nothing does.
-abbrev pub Stands : ℕ → ℕ → State → List Paint → Reading ServerMessage → Type 0
-Stands w h (Fields fields) paints r = InPart w h fields.0 fields.1 paints r
-Stands w h (Pixels pending) paints r = InData w h pending.left pending.reader paints r
-Stands w h (Spoiled reader) paints r = AtFault reader r
-Stands w h (Keeping kept) paints r = (paints ≡ []) × (0 < kept.1) × (r ≡ keeping kept.0 kept.1)
-Stands w h (Passing past) paints r = (paints ≡ []) × (0 < past.0) × (r ≡ passing past.0 past.1)
-Stands w h (Whole event) paints r = AtEnd w h event paints r
-Stands w h (Failed what) paints r = r ≡ Faulty (at_fault what)
-Stands w h Refused paints r = ⊥
+-- What stands there stands for a message that goes on so, and that began over a screen. Once memory was refused nothing does.
+abbrev pub Stands : ℕ → ℕ → State → Canvas → Painting → Reading ServerMessage → Type 0
+Stands w h (Fields fields) start painter r = InPart w h fields.0 fields.1 start painter r
+Stands w h (Pixels pending) start painter r = InData w h pending.left pending.reader start painter r
+Stands w h (Spoiled reader) start painter r = AtFault reader r
+Stands w h (Keeping kept) start painter r = Holds start painter [] × (0 < kept.1) × (r ≡ keeping kept.0 kept.1)
+Stands w h (Passing past) start painter r = Holds start painter [] × (0 < past.0) × (r ≡ passing past.0 past.1)
+Stands w h (Whole event) start painter r = AtEnd w h event start painter r
+Stands w h (Failed what) start painter r = r ≡ Faulty (at_fault what)
+Stands w h Refused start painter r = ⊥
 
--- A decoder and its painter stand for a message of the host that goes on so.
-abbrev pub Decodes : Decoding → Painting → Reading ServerMessage → Type 0
-Decodes decoder painter r = Stands decoder.width decoder.height decoder.state painter.paints r
+-- Outside an update: whatever the painter is, where nothing was painted over a screen, it stands for a message that goes on so.
+abbrev pub StandsUnpainted : ℕ → ℕ → State → Reading ServerMessage → Type 0
+StandsUnpainted w h state r = (start : Canvas) (painter : Painting) → Holds start painter [] → Stands w h state start painter r
+
+-- A decoder and its painter stand for a message of the host that goes on so. At its start the screen was this: what all whole messages before
+-- it made. Before the message's first byte, and where it is whole, the painter shows the screen as it then is; inside an update, or at a
+-- fault, it may show a part of it.
+abbrev pub Decodes : Decoding → Painting → Canvas → Reading ServerMessage → Type 0
+Decodes decoder painter start r = Stands decoder.width decoder.height decoder.state start painter r
 
 -- No byte of a message has come.
 abbrev pub start : State
@@ -168,10 +172,6 @@ waiting (Whole event) = brought_by event
 waiting (Failed what) = []
 waiting Refused = []
 
--- What came to wait paints nothing.
-abbrev pub PaintsNothing : State → Type 0
-PaintsNothing state = (canvas : Canvas) → after_updates canvas (waiting state) ≡ canvas
-
 -- ---- what a decoder does
 
 -- The decoder and the painter are for screens of one size.
@@ -180,15 +180,10 @@ pub record IsFor (decoder : Decoding) (painter : Painting) : Type 0 where
   pub height : painter.height ≡ decoder.height
 
 -- A message that went on as r was fed a piece. Where memory is refused, nothing is said of it from then on.
-abbrev pub Feeds : Decoding → Painting → Reading ServerMessage → List ℕ → Result ℕ Fault → Type 0
-Feeds decoder painter r piece (Ok used) = Decodes decoder painter (after r piece) × (used ≡ taken r piece) × (fault_of (after r piece) ≡ None)
-Feeds decoder painter r piece (Err fault) =
-    ((fault ≡ Memory) × (is_refused decoder.state ≡ true)) ⊎ ((after r piece ≡ Faulty fault) × Decodes decoder painter (after r piece))
-
--- The working raster goes from before to after the updates that came to wait.
-abbrev pub Repaints : Painting → Painting → List Update → List Update → Type 0
-Repaints old new before after_ =
-    (canvas : Canvas) → LooksLike old.width old.height (shows old) (after_updates canvas before) → LooksLike new.width new.height (shows new) (after_updates canvas after_)
+abbrev pub Feeds : Decoding → Painting → Canvas → Reading ServerMessage → List ℕ → Result ℕ Fault → Type 0
+Feeds decoder painter start r piece (Ok used) = Decodes decoder painter start (after r piece) × (used ≡ taken r piece) × (fault_of (after r piece) ≡ None)
+Feeds decoder painter start r piece (Err fault) =
+    ((fault ≡ Memory) × (is_refused decoder.state ≡ true)) ⊎ ((after r piece ≡ Faulty fault) × Decodes decoder painter start (after r piece))
 
 -- ---- a step of it
 
@@ -224,9 +219,8 @@ pub record Stays (old new : Painting) (state : State) : Type 0 where
   pub suits : Suits old.width old.height state
 
 -- A message that waited for more goes on as r. Or memory was refused.
-pub record GoesOn (old new : Painting) (state : State) (r : Reading ServerMessage) : Type 0 where
-  pub stands : (is_refused state ≡ true) ⊎ Stands old.width old.height state new.paints r
-  pub repaints : Repaints old new [] (waiting state)
+abbrev pub GoesOn : Painting → Painting → State → Canvas → Reading ServerMessage → Type 0
+GoesOn old new state start r = (is_refused state ≡ true) ⊎ Stands old.width old.height state start new r
 
 -- Behind the first n bytes reading goes on as next.
 pub record IsBehind (r next : Reading ServerMessage) (bytes : List ℕ) (n : ℕ) : Type 0 where
@@ -234,10 +228,10 @@ pub record IsBehind (r next : Reading ServerMessage) (bytes : List ℕ) (n : ℕ
   pub count : fault_of next ≡ None → taken r bytes ≡ n + taken next (drop n bytes)
 
 -- It does so once these bytes were used.
-pub record Uses (old new : Painting) (state : State) (r : Reading ServerMessage) (bytes : List ℕ) (n : ℕ) : Type 0 where
+pub record Uses (old new : Painting) (state : State) (start : Canvas) (r : Reading ServerMessage) (bytes : List ℕ) (n : ℕ) : Type 0 where
   pub next : Reading ServerMessage
   pub behind_ : IsBehind r next bytes n
-  pub goes_on : GoesOn old new state next
+  pub goes_on : GoesOn old new state start next
 
 -- What is answered at the end. Where a rectangle's data are at fault, they name it again.
 abbrev pub Judges : State → State → ℕ → Result ℕ Fault → Type 0

@@ -1,8 +1,10 @@
 -- What whole messages of a host bring (RFC 6143, 7.6).
-use Rattle.std.specs.Prelude.{ℕ, List, [], ◌∷◌, map, Option, Some, None}
+use Rattle.std.specs.Prelude.{◌≡◌, ℕ, List, [], ◌∷◌, map, Option, Some, None}
 use Rattle.raster.specs.Update as update
-use Rattle.raster.specs.Update.{Update, Paints}
+use Rattle.raster.specs.Screen.{Canvas}
+use Rattle.raster.specs.Update.{Update, Paints, after_updates}
 use Rattle.painter.specs.Patch.{SizedUpdate}
+use Rattle.painter.specs.Same.{AreSameUpdates}
 use Rattle.rfb_wire.specs.ServerMessage as server
 use Rattle.rfb_wire.specs.ServerMessage.{ServerMessage, FramebufferUpdate, SetColorMapEntries, ServerCutText, LostText}
 use Rattle.host_decoder.specs.Updates.{in_colours}
@@ -36,3 +38,32 @@ brought_by (Bell patch) = patch.update ∷ []
 brought_by (Cut patch) = patch.update ∷ []
 brought_by Map = []
 brought_by LongCut = []
+
+-- Its patch is for a screen of w by h.
+abbrev pub IsSized : ℕ → ℕ → HostEvent → Type 0
+IsSized w h (Paint patch) = (patch.width ≡ w) × (patch.height ≡ h)
+IsSized w h (Bell patch) = (patch.width ≡ w) × (patch.height ≡ h)
+IsSized w h (Cut patch) = (patch.width ≡ w) × (patch.height ≡ h)
+IsSized w h Map = Unit {0}
+IsSized w h LongCut = Unit {0}
+
+-- What a message changes, as a list.
+abbrev pub changes : ℕ → ℕ → ServerMessage → List Update
+changes w h message = brought_by (event_of w h message)
+
+-- An event brings what a message changes that was sent over a screen.
+pub record Brings (w h : ℕ) (start : Canvas) (event : HostEvent) (message : ServerMessage) : Type 0 where
+  pub sized : IsSized w h event
+  pub same : AreSameUpdates w h start (changes w h message) (brought_by event)
+
+-- There is an event where there is a message, and it brings what that changes.
+abbrev pub BringsWhole : ℕ → ℕ → Canvas → Option HostEvent → Option ServerMessage → Type 0
+BringsWhole w h start None None = Unit {0}
+BringsWhole w h start None (Some message) = ⊥
+BringsWhole w h start (Some event) None = ⊥
+BringsWhole w h start (Some event) (Some message) = Brings w h start event message
+
+-- The screen behind a message that was sent over a screen: as it is where none is whole.
+abbrev pub screen_behind : ℕ → ℕ → Canvas → Option ServerMessage → Canvas
+screen_behind w h start None = start
+screen_behind w h start (Some message) = after_updates start (changes w h message)

@@ -2,6 +2,7 @@
 
 ghost use Rattle.std.specs.Prelude.{◌≡◌, ℕ, ◌<◌, ◌≤◌, true, length, IfOk};
 ghost use Rattle.pixel_format.specs.Reading.{Reading};
+ghost use Rattle.raster.specs.Screen.{Canvas};
 ghost use Rattle.raster.specs.Size.{IsScreenSize};
 ghost use Rattle.rfb_wire.specs.ServerMessage.{ServerMessage};
 ghost use Rattle.host_decoder.specs.Decoder.{InPart, Judges, Stands, Stays, Suits, SuitsPart, Uses, is_open};
@@ -21,7 +22,7 @@ fn take_fields(alloc: Global, painter: &mut Painter, fields: Fields, bytes: &[u8
     requires some { 0 < length bytes.now }
     ensures stays { Stays painter.old painter.new result.0 }
     ensures within { (0 < result.1) × (result.1 ≤ length bytes.now) }
-    ensures uses { (r : Reading ServerMessage) → InPart painter.old.width painter.old.height fields.0 fields.1 painter.old.paints r → Uses painter.old painter.new result.0 r bytes.now result.1 }
+    ensures uses { (start : Canvas) (r : Reading ServerMessage) → InPart painter.old.width painter.old.height fields.0 fields.1 start painter.old r → Uses painter.old painter.new result.0 start r bytes.now result.1 }
 {
     let count = bytes.len().min(fields.left());
     let (next, _) = bytes.split_at(count);
@@ -49,7 +50,7 @@ pub(crate) fn advance(
     requires some { 0 < length bytes.now }
     ensures stays { Stays painter.old painter.new result.0 }
     ensures within { (0 < result.1) × (result.1 ≤ length bytes.now) }
-    ensures uses { (r : Reading ServerMessage) → Stands painter.old.width painter.old.height state painter.old.paints r → Uses painter.old painter.new result.0 r bytes.now result.1 }
+    ensures uses { (start : Canvas) (r : Reading ServerMessage) → Stands painter.old.width painter.old.height state start painter.old r → Uses painter.old painter.new result.0 start r bytes.now result.1 }
 {
     match state {
         State::Fields(fields) => take_fields(alloc, painter, fields, bytes),

@@ -1,13 +1,14 @@
 //! What follows once all bytes of a part have come.
 
-ghost use Rattle.std.specs.Prelude.{◌≡◌, ℕ, List, [], length};
+ghost use Rattle.std.specs.Prelude.{◌≡◌, ℕ, List, length};
 ghost use Rattle.pixel_format.specs.PixelFormat.{host_format};
 ghost use Rattle.pixel_format.specs.Reading.{after};
+ghost use Rattle.raster.specs.Screen.{Canvas};
 ghost use Rattle.raster.specs.Size.{IsScreenSize};
 ghost use Rattle.raster.specs.Update as update;
 ghost use Rattle.rfb_wire.specs.ClientMessage.{text};
 ghost use Rattle.rfb_wire.specs.ServerMessage.{LostText, ServerCutText, fields_of, set_color_map_entries};
-ghost use Rattle.host_decoder.specs.Decoder.{GoesOn, Holds, IsSuited, PaintsNothing, Stands, Stays, Suits, SuitsPart, form_of};
+ghost use Rattle.host_decoder.specs.Decoder.{GoesOn, Holds, IsSuited, Stands, StandsUnpainted, Stays, Suits, SuitsPart, form_of};
 ghost use Rattle.host_decoder.specs.declared.part.Part.TheVariants.{Area};
 ghost use Rattle.host_decoder.specs.Parts.{len_of};
 
@@ -31,8 +32,7 @@ use std::alloc::Global;
 fn behind_kind(painter: &Painter, kind: u8) -> State
     requires size { IsScreenSize painter.now.width painter.now.height }
     ensures suits { Suits painter.now.width painter.now.height result }
-    ensures stands { Stands painter.now.width painter.now.height result [] (fields_of host_format painter.now.width painter.now.height kind) }
-    ensures still { PaintsNothing result }
+    ensures stands { StandsUnpainted painter.now.width painter.now.height result (fields_of host_format painter.now.width painter.now.height kind) }
 {
     let part = match kind {
         FRAMEBUFFER_UPDATE => Part::Count,
@@ -51,9 +51,8 @@ fn behind_kind(painter: &Painter, kind: u8) -> State
 fn behind_area(painter: &Painter, left: u16, b: &[u8]) -> State
     requires { length b.now ≡ 8 }
     ensures suits { Suits painter.now.width painter.now.height result }
-    ensures stands { (sofar : List update.Paint) → Holds painter.now.width painter.now.height painter.now.paints sofar
-        → Stands painter.now.width painter.now.height result painter.now.paints (after (form_of painter.now.width painter.now.height sofar (Area left)) b.now) }
-    ensures still { PaintsNothing result }
+    ensures stands { (start : Canvas) (sofar : List update.Paint) → Holds start painter.now sofar
+        → Stands painter.now.width painter.now.height result start painter.now (after (form_of painter.now.width painter.now.height sofar (Area left)) b.now) }
 {
     let area = Rect::read(b);
     let (width, height) = painter.size();
@@ -67,9 +66,8 @@ fn behind_area(painter: &Painter, left: u16, b: &[u8]) -> State
 /// What follows the number of a colour map's entries, of six bytes each.
 fn behind_colours(b: &[u8]) -> State
     requires { length b.now ≡ 5 }
-    ensures stands { (w h : ℕ) → Stands w h result [] (after set_color_map_entries b.now) }
+    ensures stands { (w h : ℕ) → StandsUnpainted w h result (after set_color_map_entries b.now) }
     ensures suits { (w h : ℕ) → Suits w h result }
-    ensures still { PaintsNothing result }
 {
     let count = read_colour_map_head(b);
     Past::begin(u32::from(count) * 6, Passed::Colours)
@@ -80,8 +78,7 @@ fn behind_length(alloc: Global, painter: &Painter, b: &[u8]) -> State
     requires size { IsScreenSize painter.now.width painter.now.height }
     requires count { length b.now ≡ 7 }
     ensures suits { Suits painter.now.width painter.now.height result }
-    ensures stands { Stands painter.now.width painter.now.height result [] (after (text ServerCutText LostText) b.now) }
-    ensures still { PaintsNothing result }
+    ensures stands { StandsUnpainted painter.now.width painter.now.height result (after (text ServerCutText LostText) b.now) }
 {
     let len = read_text_head(b);
     if len > LONGEST_TEXT {
@@ -97,8 +94,8 @@ pub(crate) fn complete(alloc: Global, painter: &mut Painter, part: Part, b: &[u8
     requires count { length b.now ≡ len_of part }
     requires suits { SuitsPart painter.old.width painter.old.height part }
     ensures stays { Stays painter.old painter.new result }
-    ensures goes_on { (sofar : List update.Paint) → Holds painter.old.width painter.old.height painter.old.paints sofar → IsSuited part sofar
-        → GoesOn painter.old painter.new result (after (form_of painter.old.width painter.old.height sofar part) b.now) }
+    ensures goes_on { (start : Canvas) (sofar : List update.Paint) → Holds start painter.old sofar → IsSuited part sofar
+        → GoesOn painter.old painter.new result start (after (form_of painter.old.width painter.old.height sofar part) b.now) }
 {
     match part {
         Part::Kind => behind_kind(painter, b[0]),

@@ -1,14 +1,15 @@
 //! Reading what a host sends, in whatever pieces it comes.
 
-ghost use Rattle.std.specs.Prelude.{◌≡◌, true, [], Ok, Err, None, Some, Result, IfNone, IfOk, IfSome, IsTrue, IsFalse, ◌≤◌, length, option_map};
+ghost use Rattle.std.specs.Prelude.{◌≡◌, true, [], Ok, Err, None, Some, Result, IfNone, IfOk, IfSome, IsTrue, IsFalse, ◌≤◌, length};
 ghost use Rattle.pixel_format.specs.declared.fault.Fault.{Fault};
 ghost use Rattle.pixel_format.specs.declared.fault.Fault.TheVariants.{Memory};
 ghost use Rattle.pixel_format.specs.Reading.{Reading, Faulty, renewed, whole_of};
+ghost use Rattle.raster.specs.Screen.{Canvas};
 ghost use Rattle.raster.specs.Size.{IsScreenSize};
 ghost use Rattle.painter.specs.Painter.{Painting};
 ghost use Rattle.rfb_wire.specs.ServerMessage.{ServerMessage};
-ghost use Rattle.host_decoder.specs.Decoder.{Decodes, Feeds, IsFor, Repaints, host_message, is_open, is_refused, start, waiting};
-ghost use Rattle.host_decoder.specs.Events.{brought_by, event_of};
+ghost use Rattle.host_decoder.specs.Decoder.{Decodes, Feeds, Holds, IsFor, host_message, is_open, is_refused, start, waiting};
+ghost use Rattle.host_decoder.specs.Events.{BringsWhole, brought_by, screen_behind};
 
 use crate::advance::{advance, judge};
 use crate::event::HostEvent;
@@ -22,7 +23,8 @@ use std::mem;
 /// A decoder of what a host sends after its handshake (RFC 6143, 7.6 and 7.7), over a screen of one size, which holds
 /// what has come of the next message. Contracts see the width and the height of the screen in pixels, and what is held.
 ///
-/// The paints of an update wait in the painter until the update is whole.
+/// Rectangles are painted into the painter's screen as they come. At an update's end its patch is made of the tiles that they touched; of a
+/// message that isn't whole none is ever made.
 #[derive(Drop)]
 pub struct HostDecoder {
     alloc: Global,
@@ -46,7 +48,7 @@ impl HostDecoder {
     pub fn new(alloc: Global, width: u64, height: u64) -> Self
         requires { IsScreenSize width height }
         ensures value { result ≡ record { width = width; height = height; state = start } }
-        ensures begins { (painter : Painting) → painter.paints ≡ [] → Decodes result painter (host_message width height) }
+        ensures begins { (screen : Canvas) (painter : Painting) → Holds screen painter [] → Decodes result painter screen (host_message width height) }
     {
         HostDecoder {
             alloc,
@@ -68,7 +70,7 @@ impl HostDecoder {
     fn take_pixels(&mut self, piece: &[u8]) -> bool
         ensures size { (self.new.width ≡ self.old.width) × (self.new.height ≡ self.old.height) }
         ensures open_ { IsTrue result → (is_open self.old.state ≡ true) × (is_open self.new.state ≡ true) }
-        ensures feeds { IsTrue result → (painter : Painting) (r : Reading ServerMessage) → Decodes self.old painter r → Feeds self.new painter r piece.now (Ok (length piece.now)) }
+        ensures feeds { IsTrue result → (painter : Painting) (screen : Canvas) (r : Reading ServerMessage) → Decodes self.old painter screen r → Feeds self.new painter screen r piece.now (Ok (length piece.now)) }
         ensures other { IsFalse result → self.new ≡ self.old }
     {
         match &mut self.state {
@@ -81,16 +83,15 @@ impl HostDecoder {
     /// a message waits to be taken, and none after a fault, which it names again.
     ///
     /// `UnknownMessage`, `RectOutside`, `UnknownEncoding`, `CopyOutside`, `SubrectOutside`, `NoBackground` and
-    /// `NoForeground` at the byte that shows it; `Memory` where memory is refused. Each is final. The paints of a
-    /// message that isn't whole may be left in the painter, and are never painted.
+    /// `NoForeground` at the byte that shows it; `Memory` where memory is refused. Each is final. The
+    /// painter's screen may then show a part of a message, and is of no more use.
     pub fn feed(&mut self, painter: &mut Painter, piece: &[u8]) -> Result<usize, Fault>
         requires { IsFor self.old painter.old }
         ensures size { (self.new.width ≡ self.old.width) × (self.new.height ≡ self.old.height) × IsFor self.new painter.new }
         ensures within { IfOk result (λ used. used ≤ length piece.now) }
-        ensures feeds { (r : Reading ServerMessage) → Decodes self.old painter.old r → Feeds self.new painter.new r piece.now result }
-        ensures repaints { (r : Reading ServerMessage) → Decodes self.old painter.old r → Repaints painter.old painter.new (waiting self.old.state) (waiting self.new.state) }
+        ensures feeds { (screen : Canvas) (r : Reading ServerMessage) → Decodes self.old painter.old screen r → Feeds self.new painter.new screen r piece.now result }
         ensures refused { is_refused self.old.state ≡ true → (result ≡ Err Memory) × (self.new ≡ self.old) × (painter.new ≡ painter.old) }
-        ensures faulty { (fault : Fault) → Decodes self.old painter.old (Faulty fault) → (result ≡ Err fault) × Decodes self.new painter.new (Faulty fault) × (painter.new ≡ painter.old) }
+        ensures faulty { (screen : Canvas) (fault : Fault) → Decodes self.old painter.old screen (Faulty fault) → (result ≡ Err fault) × Decodes self.new painter.new screen (Faulty fault) × (painter.new ≡ painter.old) }
     {
         if self.take_pixels(piece) {
             return Ok(piece.len());
@@ -111,8 +112,9 @@ impl HostDecoder {
     /// The event of the message that is whole, if there is one. The next bytes begin another.
     pub fn whole(&mut self) -> Option<HostEvent>
         ensures size { (self.new.width ≡ self.old.width) × (self.new.height ≡ self.old.height) }
-        ensures given { (painter : Painting) → (r : Reading ServerMessage) → Decodes self.old painter r
-            → (result ≡ option_map (event_of self.old.width self.old.height) (whole_of r)) × Decodes self.new painter (renewed (host_message self.old.width self.old.height) r) }
+        ensures given { (painter : Painting) (screen : Canvas) (r : Reading ServerMessage) → Decodes self.old painter screen r
+            → BringsWhole self.old.width self.old.height screen result (whole_of r)
+            × Decodes self.new painter (screen_behind self.old.width self.old.height screen (whole_of r)) (renewed (host_message self.old.width self.old.height) r) }
         ensures refused { is_refused self.old.state ≡ true → result ≡ None }
         ensures none { IfNone result (self.new ≡ self.old) }
         ensures some { IfSome result (λ event. (waiting self.old.state ≡ brought_by event) × (self.new.state ≡ start)) }

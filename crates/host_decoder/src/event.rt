@@ -5,7 +5,7 @@ use painter::Patch;
 /// What a whole message of the host brings (RFC 6143, 7.6). The last two change nothing.
 #[derive(Drop)]
 pub enum HostEvent {
-    /// The paints of a FramebufferUpdate.
+    /// A FramebufferUpdate, as the tiles that it touched.
     Paint(Patch),
     /// A Bell.
     Bell(Patch),

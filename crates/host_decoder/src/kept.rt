@@ -2,7 +2,7 @@
 
 ghost use Rattle.std.specs.Prelude.{◌≡◌, ℕ, ◌+◌, ◌-◌, ◌<◌, ◌≤◌, ◌⊎◌, true, [], ◌++◌, length};
 ghost use Rattle.raster.specs.Size.{IsScreenSize};
-ghost use Rattle.host_decoder.specs.Decoder.{PaintsNothing, Stands, Suits, is_refused, keeping};
+ghost use Rattle.host_decoder.specs.Decoder.{StandsUnpainted, Suits, is_refused, keeping};
 
 use crate::event::HostEvent;
 use crate::state::State;
@@ -31,9 +31,8 @@ impl Model for Kept {
 fn text(width: u64, height: u64, bytes: Vec<u8>, left: usize) -> State
     requires size { IsScreenSize width height }
     requires short { length bytes.items + left ≤ 65536 }
-    ensures stands { Stands width height result [] (keeping bytes.items left) }
+    ensures stands { StandsUnpainted width height result (keeping bytes.items left) }
     ensures suits { Suits width height result }
-    ensures still { PaintsNothing result }
 {
     if left > 0 {
         State::Keeping(Kept { bytes, left })
@@ -47,9 +46,8 @@ impl Kept {
     pub(crate) fn begin(alloc: Global, width: u64, height: u64, len: usize) -> State
         requires size { IsScreenSize width height }
         requires short { len ≤ 65536 }
-        ensures stands { Stands width height result [] (keeping [] len) }
+        ensures stands { StandsUnpainted width height result (keeping [] len) }
         ensures suits { Suits width height result }
-        ensures still { PaintsNothing result }
     {
         text(width, height, Vec::new(alloc), len)
     }
@@ -66,9 +64,8 @@ impl Kept {
     pub(crate) fn with_bytes(self, width: u64, height: u64, next: &[u8]) -> State
         requires size { IsScreenSize width height }
         requires few { length next.now ≤ self.1 }
-        ensures stands { (is_refused result ≡ true) ⊎ Stands width height result [] (keeping (self.0 ++ next.now) (self.1 - length next.now)) }
+        ensures stands { (is_refused result ≡ true) ⊎ StandsUnpainted width height result (keeping (self.0 ++ next.now) (self.1 - length next.now)) }
         ensures suits { Suits width height result }
-        ensures still { PaintsNothing result }
     {
         let Kept { mut bytes, left } = self;
         let left = left - next.len();

@@ -1,7 +1,7 @@
 //! What is read past.
 
-ghost use Rattle.std.specs.Prelude.{◌≡◌, ℕ, ◌-◌, ◌<◌, ◌≤◌, []};
-ghost use Rattle.host_decoder.specs.Decoder.{PaintsNothing, Stands, Suits, passing};
+ghost use Rattle.std.specs.Prelude.{◌≡◌, ℕ, ◌-◌, ◌<◌, ◌≤◌};
+ghost use Rattle.host_decoder.specs.Decoder.{StandsUnpainted, Suits, passing};
 
 use crate::event::HostEvent;
 use crate::state::State;
@@ -37,9 +37,8 @@ impl Model for Past {
 impl Past {
     /// So many bytes are left.
     pub(crate) fn begin(left: u32, what: Passed) -> State
-        ensures stands { (w h : ℕ) → Stands w h result [] (passing left what) }
+        ensures stands { (w h : ℕ) → StandsUnpainted w h result (passing left what) }
         ensures suits { (w h : ℕ) → Suits w h result }
-        ensures still { PaintsNothing result }
     {
         if left > 0 {
             return State::Passing(Past { left, what });
@@ -61,9 +60,8 @@ impl Past {
     /// What becomes of it with the next bytes, of which it takes so many.
     pub(crate) fn with_bytes(self, count: usize) -> State
         requires { count ≤ self.0 }
-        ensures stands { (w h : ℕ) → Stands w h result [] (passing (self.0 - count) self.1) }
+        ensures stands { (w h : ℕ) → StandsUnpainted w h result (passing (self.0 - count) self.1) }
         ensures suits { (w h : ℕ) → Suits w h result }
-        ensures still { PaintsNothing result }
     {
         Past::begin(self.left - count as u32, self.what)
     }

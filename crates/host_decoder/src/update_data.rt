@@ -3,7 +3,7 @@
 ghost use Rattle.std.specs.Prelude.{◌≡◌, ◌<◌, ◌≤◌, List, length};
 ghost use Rattle.pixel_format.specs.Reading.{Reading, Done};
 ghost use Rattle.pixel_format.specs.PixelFormat.{host_format};
-ghost use Rattle.raster.specs.Screen.{IsWithin};
+ghost use Rattle.raster.specs.Screen.{Canvas, IsWithin};
 ghost use Rattle.raster.specs.Size.{IsScreenSize};
 ghost use Rattle.raster.specs.Update as update;
 ghost use Rattle.rfb_wire.specs.ServerMessage.{data_of};
@@ -22,10 +22,10 @@ use pixel_format::Fault;
 use raster::Rect;
 use std::alloc::Global;
 
-/// What follows where so many rectangles are left: the next one's place, or the end of the update, which is painted.
+/// What follows where so many rectangles are left: the next one's place, or the end of the update, which has its patch.
 pub(crate) fn next_rectangle(painter: &mut Painter, left: u16) -> State
     ensures stays { Stays painter.old painter.new result }
-    ensures goes_on { (sofar : List update.Paint) → Holds painter.old.width painter.old.height painter.old.paints sofar → GoesOn painter.old painter.new result (rectangles painter.old.width painter.old.height sofar left) }
+    ensures goes_on { (start : Canvas) (sofar : List update.Paint) → Holds start painter.old sofar → GoesOn painter.old painter.new result start (rectangles painter.old.width painter.old.height sofar left) }
 {
     if left > 0 {
         return State::Fields(Fields::of(Part::Area(left - 1)));
@@ -36,18 +36,16 @@ pub(crate) fn next_rectangle(painter: &mut Painter, left: u16) -> State
     }
 }
 
-/// What follows a rectangle whose data have come: its paint is added.
-fn add_paint(painter: &mut Painter, left: u16, reader: Data) -> State
+/// What follows a rectangle whose data have come: it is painted.
+fn put_paint(painter: &mut Painter, left: u16, reader: Data) -> State
     requires whole { (painted : update.Paint) × DataStands reader (Done painted) }
     requires width { reader.width ≡ painter.old.width }
     requires height { reader.height ≡ painter.old.height }
     ensures stays { Stays painter.old painter.new result }
-    ensures goes_on { (sofar : List update.Paint) → (painted : update.Paint) → Holds painter.old.width painter.old.height painter.old.paints sofar → DataStands reader (Done painted) → GoesOn painter.old painter.new result (behind painter.old.width painter.old.height sofar left painted) }
+    ensures goes_on { (start : Canvas) (sofar : List update.Paint) (painted : update.Paint) → Holds start painter.old sofar → DataStands reader (Done painted) → GoesOn painter.old painter.new result start (behind painter.old.width painter.old.height sofar left painted) }
 {
-    match painter.add(reader.into_paint()) {
-        Ok(()) => next_rectangle(painter, left),
-        Err(_) => State::Refused,
-    }
+    painter.paint(&reader.into_paint());
+    next_rectangle(painter, left)
 }
 
 /// Reads the data of a rectangle, of which so many follow it, from the front of some bytes, and answers how many.
@@ -63,12 +61,12 @@ pub(crate) fn read_data(
     ensures stays { Stays painter.old painter.new result.0 }
     ensures within { result.1 ≤ length bytes.now }
     ensures some { IsOpen reader → 0 < length bytes.now → 0 < result.1 }
-    ensures uses { (sofar : List update.Paint) → (reading : Reading update.Paint) → Holds painter.old.width painter.old.height painter.old.paints sofar → DataStands reader reading
-        → Uses painter.old painter.new result.0 (with_others painter.old.width painter.old.height sofar left reading) bytes.now result.1 }
+    ensures uses { (start : Canvas) (sofar : List update.Paint) (reading : Reading update.Paint) → Holds start painter.old sofar → DataStands reader reading
+        → Uses painter.old painter.new result.0 start (with_others painter.old.width painter.old.height sofar left reading) bytes.now result.1 }
 {
     match reader.feed(bytes) {
         Err(_) => (State::Spoiled(reader), bytes.len()),
-        Ok(used) if reader.is_whole() => (add_paint(painter, left, reader), used),
+        Ok(used) if reader.is_whole() => (put_paint(painter, left, reader), used),
         Ok(used) => (State::Pixels(Pending::of(left, reader)), used),
     }
 }
@@ -84,8 +82,8 @@ pub(crate) fn begin_data(
     requires size { IsScreenSize painter.old.width painter.old.height }
     requires within { IsWithin area painter.old.width painter.old.height }
     ensures stays { Stays painter.old painter.new result }
-    ensures goes_on { (sofar : List update.Paint) → Holds painter.old.width painter.old.height painter.old.paints sofar
-        → GoesOn painter.old painter.new result (with_others painter.old.width painter.old.height sofar left (data_of host_format painter.old.width painter.old.height area encoding)) }
+    ensures goes_on { (start : Canvas) (sofar : List update.Paint) → Holds start painter.old sofar
+        → GoesOn painter.old painter.new result start (with_others painter.old.width painter.old.height sofar left (data_of host_format painter.old.width painter.old.height area encoding)) }
 {
     let (width, height) = painter.size();
     match Data::new(alloc, width, height, area, encoding) {

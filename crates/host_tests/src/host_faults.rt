@@ -6,7 +6,7 @@ use crate::lent::Host;
 use std::process::Abort;
 
 // Over a screen of 2 by 1 the last of these bytes shows the fault, at once and one byte at a time; it is named again
-// whatever comes, no event is given, and nothing is painted.
+// whatever comes, and no event is given.
 fn fails<R: Abort + AllocGlobal>(rt: &R, bytes: &[u8], fault: u64)
     requires { 0 < length bytes.now }
 {
@@ -27,7 +27,6 @@ fn ends<R: Abort>(rt: &R, host: &mut Host, begun: &[u8], rest: &[u8], fault: u64
     assert!(rt; host.feed(&[]) == Err(fault));
     assert!(rt; host.feed(&[2]) == Err(fault));
     assert!(rt; host.whole().is_none());
-    assert!(rt; host.row() == [0, 0].as_slice());
 }
 
 #[test]
@@ -54,7 +53,7 @@ fn unknown_encodings(rt: HostRuntime) {
     fails(&rt, &[0, 0, 0, 1, 0, 0, 0, 0, 0, 2, 0, 1, 1, 0, 0, 0], 8);
 }
 
-// The second of two: what the first painted stays away too.
+// Alone, and behind a rectangle that was painted.
 #[test]
 fn copies_from_outside(rt: HostRuntime) {
     fails(

@@ -9,8 +9,8 @@ use std::marker::Model;
 use std::panic::Expect;
 use std::process::Abort;
 
-/// The type of a message (RFC 6143, section 7.6), with 4 for a text that was read past; and how many rectangles an update
-/// has, or how many bytes a text that is kept.
+/// The type of a message (RFC 6143, section 7.6), with 4 for a text that was read past; and how many tiles an update
+/// touches, or how many bytes a text that is kept.
 pub type Told = (u8, usize);
 
 fn told(event: &HostEvent) -> Told {

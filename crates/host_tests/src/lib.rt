@@ -9,3 +9,5 @@ mod host_faults;
 mod lent;
 #[cfg(test)]
 mod painting;
+#[cfg(test)]
+mod patches;

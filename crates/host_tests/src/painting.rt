@@ -28,51 +28,8 @@ fn paint_counting<R: Abort + AllocGlobal>(rt: &R, painter: &mut Painter) -> Patc
     ensures size { (painter.new.width ≡ 5) × (painter.new.height ≡ 5) }
     ensures patch { (result.width ≡ 5) × (result.height ≡ 5) }
 {
-    put(rt, painter, SQUARE, &COUNTING);
+    painter.put(SQUARE, &COUNTING);
     painter.patch().expect(rt, "a patch")
-}
-
-fn put<R: Abort + AllocGlobal>(rt: &R, painter: &mut Painter, area: Rect, colours: &[u32])
-    requires size { (painter.old.width ≡ 5) × (painter.old.height ≡ 5) }
-    requires area { IsWithin area 5 5 }
-    requires count { length colours.now ≡ area.w * area.h }
-    ensures size { (painter.new.width ≡ 5) × (painter.new.height ≡ 5) }
-{
-    let colours = colours.to_vec(rt.alloc()).expect(rt, "memory");
-    painter.add(Paint::Put(area, colours)).expect(rt, "room");
-}
-
-#[test]
-fn paints_at_the_end_of_a_message(rt: HostRuntime) {
-    let mut painter = black(&rt, 5, 5);
-    is_painted_at_the_end(&rt, &mut painter);
-}
-
-fn is_painted_at_the_end<R: Abort + AllocGlobal>(rt: &R, painter: &mut Painter)
-    requires { (painter.old.width ≡ 5) × (painter.old.height ≡ 5) }
-{
-    assert!(rt; painter.size() == (5, 5));
-    let patch = paint_counting(rt, painter);
-    assert!(rt; patch.size() == (5, 5) && patch.painted().len() == 1);
-    is_second_row(rt, painter);
-    let dot = Rect {
-        x: 0,
-        y: 1,
-        w: 1,
-        h: 1,
-    };
-    put(rt, painter, dot, &[0xFFFFFF]);
-    is_second_row(rt, painter);
-    painter.clear();
-    let none = painter.patch().expect(rt, "a patch");
-    assert!(rt; none.painted().is_empty());
-    is_second_row(rt, painter);
-}
-
-fn is_second_row<R: Abort>(rt: &R, painter: &Painter)
-    requires { (painter.now.width ≡ 5) × (painter.now.height ≡ 5) }
-{
-    assert!(rt; painter.row(1) == [6, 7, 8, 9, 10].as_slice());
 }
 
 // What stands in row y after the middle 3 by 3 was copied from its place, moved by the source's top left.
@@ -121,8 +78,7 @@ fn copy_middle<R: Abort + AllocGlobal>(
         w: 3,
         h: 3,
     };
-    let copy = Paint::Copy(middle, u64::from(sx), u64::from(sy));
-    painter.add(copy).expect(rt, "room");
+    painter.paint(&Paint::Copy(middle, u64::from(sx), u64::from(sy)));
     board.apply(&painter.patch().expect(rt, "a patch"));
 }
 

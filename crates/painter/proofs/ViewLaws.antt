@@ -11,6 +11,8 @@ use Rattle.painter.specs.Board.{BoardStands, Posted}
 pub use Rattle.painter.specs.Kept.{newer}
 use Rattle.painter.specs.Patch.{SizedUpdate, is_bell, text_of}
 use Rattle.painter.proofs.PatchLaws.{shows_over}
+use Rattle.painter.proofs.TouchLaws.{met_by, stands_painted}
+use Rattle.tiles.specs.Grid.{IsTouched, Stamps}
 
 -- A Bell more.
 pub bells-push : (us : List Update) (u : Update) → bells (us ++ u ∷ []) ≡ bells us + (if is_bell u then 1 else 0)
@@ -51,15 +53,15 @@ counted : (b : Bool) → from_bool b ≡ (if b then 1 else 0)
 counted true = refl
 counted false = refl
 
--- A board that stands for some updates does so for one more, where that was painted on it, counted, and kept as a text.
-pub stands-push : (board : Posted) (patch : SizedUpdate) (w h n rung count : ℕ) (old seen new : List ℕ) (last : Option NumberedText) (text : Option (List ℕ)) (ps : List code.Paint) (us : List Update)
-    → seen ≡ old → record { width = w; height = h; number = n; colours = old; bells = rung; text = last } ≡ board → (patch.width ≡ board.width) × (patch.height ≡ board.height)
+-- A board that stands for some updates does so for one more, where that was painted on it, touched its tiles, was counted, and kept as a text.
+pub stands-push : (board : Posted) (patch : SizedUpdate) (w h n rung count : ℕ) (old seen new : List ℕ) (grid touched : Stamps) (last : Option NumberedText) (text : Option (List ℕ)) (ps : List code.Paint) (us : List Update)
+    → seen ≡ old → record { width = w; height = h; number = n; colours = old; grid = grid; bells = rung; text = last } ≡ board → (patch.width ≡ board.width) × (patch.height ≡ board.height)
     → All (λ p. Fits patch.width patch.height (paint_of p)) ps → map paint_of ps ≡ paints_of patch.update → LooksLike w h (value_at w new) (after_paints (value_at w seen) (map paint_of ps))
-    → count ≡ from_bool (is_bell patch.update) → text ≡ text_of patch.update → BoardStands board us
-    → BoardStands (record { width = w; height = h; number = n + 1; colours = new; bells = rung + count; text = newer last (n + 1) text }) (us ++ patch.update ∷ [])
-stands-push board patch w h n rung count old seen new last text ps us is_old is size fits same shows is_count is_text stands =
+    → IsTouched (met_by grid ps) (n + 1) grid touched → count ≡ from_bool (is_bell patch.update) → text ≡ text_of patch.update → BoardStands board us
+    → BoardStands (record { width = w; height = h; number = n + 1; colours = new; grid = touched; bells = rung + count; text = newer last (n + 1) text }) (us ++ patch.update ∷ [])
+stands-push board patch w h n rung count old seen new grid touched last text ps us is_old is size fits same shows touches is_count is_text stands =
     let u : Update = patch.update in
-    let stood : BoardStands (record { width = w; height = h; number = n; colours = old; bells = rung; text = last }) us = subst (λ (b : Posted). BoardStands b us) (sym is) stands in
+    let stood : BoardStands (record { width = w; height = h; number = n; colours = old; grid = grid; bells = rung; text = last }) us = subst (λ (b : Posted). BoardStands b us) (sym is) stands in
     let wide : patch.width ≡ w = size.0 ∙ ap (λ (b : Posted). b.width) (sym is) in
     let high : patch.height ≡ h = size.1 ∙ ap (λ (b : Posted). b.height) (sym is) in
     let fit : All (λ p. Fits w h (paint_of p)) ps = subst (λ v. All (λ p. Fits w v (paint_of p)) ps) high (subst (λ v. All (λ p. Fits v patch.height (paint_of p)) ps) wide fits) in
@@ -68,6 +70,7 @@ stands-push board patch w h n rung count old seen new last text ps us is_old is 
     record {
       number = omega (arith, stood.number, longer);
       screen = screen-push w h seen new ps us u fit same shows (subst (λ (cs : List ℕ). LooksLike w h (value_at w cs) (screen us)) (sym is_old) stood.screen);
+      grid = stands_painted grid touched ps us u (n + 1) (omega (arith, stood.number)) same touches stood.grid;
       bells = ap (λ k. k + count) stood.bells ∙ (ap (λ k. bells us + k) (is_count ∙ counted (is_bell u)) ∙ sym (bells-push us u));
       text = ap (λ (t : Option NumberedText). newer t (n + 1) text) stood.text ∙ (ap (λ k. newer (last_text us) k text) next ∙ (ap (λ (t : Option (List ℕ)). newer (last_text us) (1 + length us) t) is_text ∙ sym (last_text-push us u)));
     }

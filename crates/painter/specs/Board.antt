@@ -3,13 +3,16 @@ use Rattle.std.specs.Prelude.{◌≡◌, ℕ, ◌*◌, ◌≤◌, List, length, 
 use Rattle.raster.specs.Screen.{LooksLike, value_at}
 use Rattle.raster.specs.Size.{IsScreenSize}
 use Rattle.raster.specs.Update.{NumberedText, Update, bells, last_text, screen}
+use Rattle.tiles.specs.Grid.{GridStands, Stamps}
 
--- Its width and height in pixels, the number of its last update, its colours row after row, how many Bells there were, and the last text.
+-- Its width and height in pixels, the number of its last update, its colours row after row, the number of the last
+-- update that touched each tile, how many Bells there were, and the last text.
 pub record Posted : Type 0 where
   pub width : ℕ
   pub height : ℕ
   pub number : ℕ
   pub colours : List ℕ
+  pub grid : Stamps
   pub bells : ℕ
   pub text : Option NumberedText
 
@@ -17,13 +20,15 @@ pub record Posted : Type 0 where
 pub record BoardStands (board : Posted) (us : List Update) : Type 0 where
   pub number : board.number ≡ length us
   pub screen : LooksLike board.width board.height (value_at board.width board.colours) (screen us)
+  pub grid : GridStands board.grid us
   pub bells : board.bells ≡ bells us
   pub text : board.text ≡ last_text us
 
--- What stands in its fields: a colour for each position, and no more Bells than updates.
+-- What stands in its fields: a colour for each position, the tiles of its screen, and no more Bells than updates.
 pub record IsBoard (board : Posted) : Type 0 where
   pub size : IsScreenSize board.width board.height
   pub rows : length board.colours ≡ board.width * board.height
+  pub tiles : (board.grid.width ≡ board.width) × (board.grid.height ≡ board.height)
   pub few : board.bells ≤ board.number
 
 -- Both are of one screen size.

@@ -2,3 +2,4 @@ pub mod Patch
 pub mod Kept
 pub mod Painter
 pub mod Board
+pub mod Same

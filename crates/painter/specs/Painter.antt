@@ -1,34 +1,52 @@
--- What the paints of a host's message are gathered in, and what they are painted on.
-use Rattle.std.specs.Prelude.{◌≡◌, ℕ, List, [], All}
-use Rattle.raster.specs.declared.painting.Paint as code
-use Rattle.raster.specs.Painted.{Fits, paint_of}
-use Rattle.raster.specs.Screen.{Canvas, LooksLike, value_at}
-use Rattle.raster.specs.Size.{IsScreenSize}
-use Rattle.raster.specs.Update.{Paint, after_paints}
+-- The screen on which a host's update is painted as it comes, and the tiles that its patch brings.
+use Rattle.std.specs.Prelude.{◌≡◌, ℕ, ◌<◌, Bool, ◌==◌, List, map, filter, length, slice_index}
+use Rattle.std.specs.List.{range_with_len, sum_by}
+use Rattle.raster.specs.Screen.{Canvas, LooksLike, part_of, tile_count, tile_rect, value_at, values_of}
+use Rattle.raster.specs.Update.{Paint, Put, Copy, Paints, after_paints}
+use Rattle.tiles.specs.Touched.{touches}
 
--- The size of the screen, the colours of the working raster, row after row, and the paints that were added since the last patch.
+-- The size of the screen, its colours row after row, and of each tile a 1 where the update that is being read has touched it.
 pub record Painting : Type 0 where
   pub width : ℕ
   pub height : ℕ
   pub colours : List ℕ
-  pub paints : List Paint
+  pub marks : List ℕ
 
--- What the working raster shows.
-abbrev pub shows : Painting → Canvas
-shows painting = value_at painting.width painting.colours
+-- What it shows.
+abbrev pub worked : Painting → Canvas
+worked screen = value_at screen.width screen.colours
 
--- The same, with these paints.
-abbrev pub with_paints : Painting → List Paint → Painting
-with_paints painting paints = record { width = painting.width; height = painting.height; colours = painting.colours; paints = paints }
+-- A tile was touched.
+abbrev pub is_touched : Painting → ℕ → Bool
+is_touched screen t = slice_index screen.marks t == 1
 
--- A screen that holds each of the paints.
-pub record IsPainting (w h : ℕ) (paints : List code.Paint) : Type 0 where
-  pub size : IsScreenSize w h
-  pub fits : All (λ p. Fits w h (paint_of p)) paints
+-- Over the screen at the update's start it shows these paints, and the tiles that were touched are those that one of them touches.
+pub record IsPaintedOver (start : Canvas) (paints : List Paint) (screen : Painting) : Type 0 where
+  pub shows : LooksLike screen.width screen.height (worked screen) (after_paints start paints)
+  pub touched : (t : ℕ) → t < tile_count screen.width screen.height → is_touched screen t ≡ touches (tile_rect screen.width screen.height t) (Paints paints)
 
--- The working raster shows the paints that were added before, and none is left.
-pub record IsPainted (old new : Painting) : Type 0 where
-  pub width : new.width ≡ old.width
-  pub height : new.height ≡ old.height
-  pub shows : LooksLike old.width old.height (shows new) (after_paints (shows old) old.paints)
-  pub paints : new.paints ≡ []
+-- Both are of one screen size.
+pub record IsAsLarge (screen other : Painting) : Type 0 where
+  pub width : other.width ≡ screen.width
+  pub height : other.height ≡ screen.height
+
+-- ---- the patch of an update
+
+-- A whole tile of a screen of w by h, as it looks.
+abbrev pub tile_put : ℕ → ℕ → Canvas → ℕ → Paint
+tile_put w h screen t =
+    let r = tile_rect w h t in
+    Put r (values_of r.w r.h (part_of r screen))
+
+-- The tiles that a test lets through, each once, in rising order.
+abbrev pub tile_puts : ℕ → ℕ → Canvas → (ℕ → Bool) → List Paint
+tile_puts w h screen passes = map (tile_put w h screen) (filter passes (range_with_len 0 (tile_count w h)))
+
+-- How many colours a paint has.
+abbrev pub colour_count : Paint → ℕ
+colour_count (Put r colours) = length colours
+colour_count (Copy r sx sy) = 0
+
+-- How many all of them have.
+abbrev pub colours_of : List Paint → ℕ
+colours_of paints = sum_by colour_count paints

@@ -1,28 +1,35 @@
 //! A screen that is kept.
 
-ghost use Rattle.std.specs.Prelude.{◌≡◌, ℕ, ◌+◌, ◌*◌, ◌<◌, ◌≤◌, ◌^◌, List, [], ◌∷◌, ◌++◌, length, IfOk, IfErr};
+ghost use Rattle.std.specs.Prelude.{◌≡◌, ℕ, ◌+◌, ◌*◌, ◌<◌, ◌≤◌, ◌^◌, List, [], ◌∷◌, ◌++◌, length, map, All, IfOk, IfErr};
 ghost use Rattle.painter.specs.Board.{BoardStands, IsSameScreen};
 ghost use Rattle.painter.specs.Patch.{is_bell};
 ghost use Rattle.pixel_format.specs.declared.fault.Fault.TheVariants.{Memory};
+ghost use Rattle.raster.specs.Painted.{Fits, paint_of};
+ghost use Rattle.raster.specs.Screen.{meets, tile_rect};
 ghost use Rattle.raster.specs.Size.{IsScreenSize};
-ghost use Rattle.raster.specs.Update.{Update};
+ghost use Rattle.raster.specs.Update.{Update, painted};
 ghost use Rattle.std.specs.Int.{from_bool};
+ghost use Rattle.std.specs.List.{list_any};
+ghost use Rattle.tiles.specs.Grid.{IsTouched};
 
 use crate::patch::Patch;
 use crate::text::Text;
 use pixel_format::Fault;
-use raster::apply_paints;
+use raster::{Paint, apply_paints};
 use std::alloc::Global;
 use std::marker::Model;
+use tiles::Grid;
 
-/// What a list of updates shows: the number of the last of them, the screen, how many Bells there were, and the last text of the
-/// host's cut buffer. All its room is taken where it is made.
+/// What a list of updates shows: the number of the last of them, the screen, the number of the last that touched each of
+/// its tiles, how many Bells there were, and the last text of the host's cut buffer. All its room is taken where it is
+/// made.
 #[derive(Drop)]
 pub struct Board {
     width: u64,
     height: u64,
     number: u64,
     colours: Vec<u32>,
+    grid: Grid,
     bells: u64,
     text: Text,
 }
@@ -32,9 +39,9 @@ impl Model for Board {
 
     ghost Value = { Posted };
 
-    ghost view = { λ b. record { width = b.width; height = b.height; number = b.number; colours = b.colours.items; bells = b.bells; text = b.text } };
+    ghost view = { λ b. record { width = b.width; height = b.height; number = b.number; colours = b.colours.items; grid = b.grid; bells = b.bells; text = b.text } };
 
-    ghost invariant = { λ b. IsBoard (record { width = b.width; height = b.height; number = b.number; colours = b.colours.items; bells = b.bells; text = b.text }) };
+    ghost invariant = { λ b. IsBoard (record { width = b.width; height = b.height; number = b.number; colours = b.colours.items; grid = b.grid; bells = b.bells; text = b.text }) };
 }
 
 /// How many updates and how many Bells there are behind a patch, where before it there were so many.
@@ -48,6 +55,21 @@ fn counted(number: u64, bells: u64, patch: &Patch) -> (u64, u64)
     (number + 1, bells + u64::from(patch.is_bell()))
 }
 
+/// Update `n` touched the tiles that one of these paints meets.
+fn touch_painted(grid: &mut Grid, paints: &[Paint], n: u64)
+    requires size { IsScreenSize grid.old.width grid.old.height }
+    requires fits { All (λ p. Fits grid.old.width grid.old.height (paint_of p)) paints.now }
+    ensures { IsTouched (λ t. list_any (λ p. meets (painted (paint_of p)) (tile_rect grid.old.width grid.old.height t)) paints.now) n grid.old grid.new }
+{
+    for paint in paints {
+        let area = match paint {
+            Paint::Put(area, _) => area,
+            Paint::Copy(area, _, _) => area,
+        };
+        grid.touch(area, n);
+    }
+}
+
 impl Board {
     /// A black screen of `width` by `height` pixels, to which no update was applied, and room for a text of 65,536 bytes. It fails
     /// where memory is refused (`Memory`).
@@ -59,11 +81,13 @@ impl Board {
     {
         let text = Text::new(alloc)?;
         let colours = vec![in alloc; 0u32; (width * height) as usize]?;
+        let grid = Grid::new(alloc, width, height)?;
         Ok(Board {
             width,
             height,
             number: 0,
             colours,
+            grid,
             bells: 0,
             text,
         })
@@ -105,6 +129,14 @@ impl Board {
         self.colours.as_slice()
     }
 
+    /// The number of the last update that touched each tile of its screen.
+    pub fn grid(&self) -> &Grid
+        ensures value { result.now ≡ self.now.grid }
+        ensures size { (result.now.width ≡ self.now.width) × (result.now.height ≡ self.now.height) }
+    {
+        &self.grid
+    }
+
     /// Applies the next update. It always succeeds, and takes no memory.
     pub fn apply(&mut self, patch: &Patch)
         requires size { (patch.now.width ≡ self.old.width) × (patch.now.height ≡ self.old.height) }
@@ -114,12 +146,14 @@ impl Board {
         ensures stands { (us : List Update) → BoardStands self.old us → BoardStands self.new (us ++ patch.now.update ∷ []) }
     {
         let (number, bells) = counted(self.number, self.bells, patch);
+        let paints = patch.painted();
         apply_paints(
             self.colours.as_mut_slice(),
             self.width as usize,
             self.height as usize,
-            patch.painted(),
+            paints,
         );
+        touch_painted(&mut self.grid, paints, number);
         self.text.follow(patch.text_bytes(), number);
         self.number = number;
         self.bells = bells;

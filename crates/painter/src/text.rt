@@ -76,6 +76,16 @@ impl Text {
         self.number = Some(number);
     }
 
+    /// The same text as another, or none.
+    pub fn copy_from(&mut self, other: &Text)
+        ensures { self.new ≡ other.now }
+    {
+        match other.number {
+            None => self.clear(),
+            Some(number) => self.set(other.bytes(), number),
+        }
+    }
+
     /// The update of this number brings these bytes, or no text: then the last one stays.
     pub fn follow(&mut self, bytes: Option<&[u8]>, number: u64)
         requires { IfSome bytes (λ text. length text.now ≤ 65536) }

@@ -2,11 +2,11 @@ use Rattle.host_decoder.proofs.Rectangles.{encoding_next, area_fault}
 use Rattle.host_decoder.proofs.complete.behind_area.Goals as goal
 
 pub returns-then-within-clause-stands : goal.returns-then-within-clause-stands
-returns-then-within-clause-stands c sofar holds =
-    encoding_next c.args.painter.now.width c.args.painter.now.height c.args.painter.now.paints sofar c.args.left c.args.b.now c.read-area.result c.of.result c.requires c.read-area.ensures.spelled
+returns-then-within-clause-stands c start sofar holds =
+    encoding_next c.args.painter.now.width c.args.painter.now.height start c.args.painter.now sofar c.args.left c.args.b.now c.read-area.result c.of.result c.requires c.read-area.ensures.spelled
     (cc (c.within.ensures, c.if-within.true, c.size-width.ensures.0, c.size-width.ensures.1)) c.of.ensures holds
 
 pub returns-else-within-clause-stands : goal.returns-else-within-clause-stands
-returns-else-within-clause-stands c sofar holds =
+returns-else-within-clause-stands c start sofar holds =
     area_fault c.args.painter.now.width c.args.painter.now.height sofar c.args.left c.args.b.now c.read-area.result c.requires c.read-area.ensures.spelled
     (cc (c.within.ensures, c.if-within.false, c.size-width.ensures.0, c.size-width.ensures.1))

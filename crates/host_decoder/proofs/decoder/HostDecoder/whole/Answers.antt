@@ -10,7 +10,7 @@ returns-in_default c =
     rw (← c.self.view_is, c.replace.ensures.value)
     (record {
       size = (refl, refl);
-      given = λ painter r stands. nothing_given w h c.self.inside.state painter.paints r other stands;
+      given = λ painter screen r stands. nothing_given w h c.self.inside.state screen painter r other stands;
       refused = λ e. refl;
       none = refl;
       some = tt;

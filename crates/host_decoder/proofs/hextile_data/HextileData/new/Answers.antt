@@ -19,6 +19,6 @@ returns-clause-ok c area w h =
       sofar = sofar;
       width = c.new.ensures.width ∙ w;
       height = c.new.ensures.height ∙ h;
-      stands = c.new.ensures.stands (shown c.in_ok-new.field-0) part;
+      stands = c.new.ensures.stands (λ value. value) (shown c.in_ok-new.field-0) part;
       reads = ap (λ (r : Reading (List Tile)). putting area (told (λ tiles. values_of area.w area.h (tiled area.w area.h tiles)) r)) (sym begins);
     }

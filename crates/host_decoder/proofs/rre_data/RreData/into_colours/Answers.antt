@@ -14,5 +14,5 @@ returns c area painted h =
     paint_drawn drawn area reader.width reader.height canvas (ahead reader s.sofar) _ painted c.self.invariant.0 c.self.invariant.1 s.width s.height
     (sym (ap length c.into_colours-colours.ensures.colours) ∙ c.into_colours-colours.ensures.count)
     (all_written c.into_colours-colours.result.len c.keep_colours.new.values _ (ap length c.keep_colours.ensures ∙ (length_map colour_of c.deref_mut.result.now ∙ c.deref_mut.ensures.len)) ∙ c.keep_colours.ensures ∙ ap (map colour_of) (c.deref_mut.ensures.value ∙ c.into_colours-colours.ensures.colours))
-    (λ drawing e. c.whole.ensures.shows (shown canvas) s.sofar drawing s.stands e)
+    (λ drawing e. c.whole.ensures.shows (λ value. value) (shown canvas) s.sofar drawing s.stands e)
     s.reads

@@ -18,6 +18,6 @@ returns-clause-ok c area w h =
       sofar = sofar;
       width = c.new.ensures.width ∙ w;
       height = c.new.ensures.height ∙ h;
-      stands = c.new.ensures.stands (shown c.in_ok-new.field-0) sofar;
+      stands = c.new.ensures.stands (λ value. value) (shown c.in_ok-new.field-0) sofar;
       reads = ap (λ (r : Reading Drawing). putting area (told (λ d. values_of area.w area.h (drawn d)) r)) (sym begins);
     }

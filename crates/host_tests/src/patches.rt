@@ -1,0 +1,131 @@
+//! The patches of the tiles that an update touched.
+
+ghost use Rattle.std.specs.Prelude.{◌≡◌, ◌≤◌, ◌<◌, ◌+◌, ◌*◌, length};
+ghost use Rattle.raster.specs.Screen.{IsWithin};
+ghost use Rattle.raster.specs.Size.{IsScreenSize};
+
+use crate::lent::black;
+use painter::{Board, Painter};
+use raster::{Paint, Rect};
+use std::panic::Expect;
+use std::process::Abort;
+
+fn dot(x: u64, y: u64) -> Rect
+    ensures { result ≡ record { x = x; y = y; w = 1; h = 1 } }
+{
+    Rect { x, y, w: 1, h: 1 }
+}
+
+// Whether a paint puts these colours on this rectangle.
+fn is_put(paint: &Paint, area: Rect, colours: &[u32]) -> bool {
+    match paint {
+        Paint::Put(place, values) => *place == area && values.as_slice() == colours,
+        Paint::Copy(_, _, _) => false,
+    }
+}
+
+#[test]
+fn many_rectangles_on_a_tile_are_one_tile(rt: HostRuntime) {
+    let mut painter = black(&rt, 2, 1);
+    is_one_tile(&rt, &mut painter);
+}
+
+// A pixel of a screen of 2 by 1.
+fn put_dot(painter: &mut Painter, x: u64, colour: u32)
+    requires size { (painter.old.width ≡ 2) × (painter.old.height ≡ 1) }
+    requires inside { x < 2 }
+    ensures { (painter.new.width ≡ 2) × (painter.new.height ≡ 1) }
+{
+    painter.put(dot(x, 0), &[colour]);
+}
+
+// As many rectangles as an update can have (RFC 6143, 7.6.1), of a pixel each.
+fn is_one_tile<R: Abort + AllocGlobal>(rt: &R, painter: &mut Painter)
+    requires { (painter.old.width ≡ 2) × (painter.old.height ≡ 1) }
+{
+    assert!(rt; painter.size() == (2, 1));
+    for k in 0..65535u32 {
+        put_dot(painter, u64::from(k % 2), k);
+    }
+    let whole = Rect {
+        x: 0,
+        y: 0,
+        w: 2,
+        h: 1,
+    };
+    let patch = painter.patch().expect(rt, "a patch");
+    assert!(rt; patch.size() == (2, 1) && patch.painted().len() == 1);
+    assert!(rt; is_put(&patch.painted()[0], whole, &[65534, 65533]));
+    assert!(rt; painter.row(0) == [65534, 65533].as_slice());
+    let none = painter.patch().expect(rt, "a patch");
+    assert!(rt; none.painted().is_empty());
+}
+
+#[test]
+fn touched_tiles_come_whole_in_rising_order(rt: HostRuntime) {
+    let mut painter = black(&rt, 17, 17);
+    is_in_order(&rt, &mut painter);
+}
+
+// Of the four tiles of 17 by 17 the last has one pixel, and the second is one wide and 16 high.
+fn is_in_order<R: Abort + AllocGlobal>(rt: &R, painter: &mut Painter)
+    requires { (painter.old.width ≡ 17) × (painter.old.height ≡ 17) }
+{
+    painter.put(dot(16, 16), &[5]);
+    painter.put(dot(16, 2), &[9]);
+    let nothing = Rect {
+        x: 4,
+        y: 4,
+        w: 0,
+        h: 3,
+    };
+    painter.put(nothing, &[]);
+    painter.put(dot(16, 2), &[7]);
+    let right = Rect {
+        x: 16,
+        y: 0,
+        w: 1,
+        h: 16,
+    };
+    let patch = painter.patch().expect(rt, "a patch");
+    assert!(rt; patch.painted().len() == 2);
+    assert!(rt;
+        is_put(
+            &patch.painted()[0],
+            right,
+            &[0, 0, 7, 0, 0, 0, 0, 0, 0, 0, 0, 0, 0, 0, 0, 0]
+        )
+    );
+    assert!(rt; is_put(&patch.painted()[1], dot(16, 16), &[5]));
+}
+
+#[test]
+fn copies_read_what_stood_before(rt: HostRuntime) {
+    let mut painter = black(&rt, 5, 1);
+    let mut board = Board::new(rt.alloc(), 5, 1).expect(&rt, "a board");
+    is_copied(&rt, &mut painter, &mut board);
+}
+
+// A copy onto a part of its own source (RFC 6143, 7.7.2), in the update of the pixels that it copies.
+fn is_copied<R: Abort + AllocGlobal>(rt: &R, painter: &mut Painter, board: &mut Board)
+    requires painter { (painter.old.width ≡ 5) × (painter.old.height ≡ 1) }
+    requires board { (board.old.width ≡ 5) × (board.old.height ≡ 1) × (board.old.number ≡ 0) }
+{
+    let row = Rect {
+        x: 0,
+        y: 0,
+        w: 5,
+        h: 1,
+    };
+    painter.put(row, &[1, 2, 3, 4, 5]);
+    let right = Rect {
+        x: 1,
+        y: 0,
+        w: 4,
+        h: 1,
+    };
+    painter.copy(right, 0, 0);
+    assert!(rt; painter.row(0) == [1, 1, 2, 3, 4].as_slice());
+    board.apply(&painter.patch().expect(rt, "a patch"));
+    assert!(rt; board.colours() == [1, 1, 2, 3, 4].as_slice());
+}

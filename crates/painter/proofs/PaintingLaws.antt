@@ -1,0 +1,111 @@
+-- A screen that is painted on, and its marks.
+use Rattle.std.proofs.Common.{◌≡◌, ℕ, ◌+◌, ◌*◌, ◌-◌, ◌<◌, ◌≤◌, Bool, true, false, List, [], ◌∷◌, ◌++◌, length, get_or, inl, inr, refl, ap, sym, subst, take, drop, ◌∙◌, arith}
+use Rattle.std.specs.Prelude.{◌||◌, ◌==◌, if◌then◌else◌, slice_index}
+use Rattle.std.proofs.lemmas.Bool.{cases_lt}
+use Rattle.std.proofs.lemmas.List.{get_or_append_left, get_or-append_right, get_or-drop, get_or-take}
+use Rattle.std.proofs.lemmas.List.Folds.{list_any-append}
+use Rattle.raster.specs.declared.rect.Rect.{Rect}
+use Rattle.raster.specs.Painted.{Fits}
+use Rattle.raster.specs.Screen.{Canvas, LooksLike, meets, tile_count, tile_rect, value_at, whole_screen}
+use Rattle.raster.specs.Update.{Paint, Paints, after_paint, after_paints, painted}
+use Rattle.raster.proofs.Places.{Has, meets_at}
+use Rattle.raster.proofs.Rows.{row_before}
+use Rattle.raster.proofs.Screens.{looks_after, after_paints-more}
+use Rattle.tiles.proofs.Ranges.{IsTile, tile_is}
+use Rattle.tiles.specs.Grid.{IsTouched, Stamps}
+use Rattle.tiles.specs.Touched.{touches}
+use Rattle.painter.specs.Painter.{Painting, IsAsLarge, IsPaintedOver, is_touched, worked}
+
+-- ---- marks
+
+-- What a grid of the screen's size says of each tile once a rectangle was touched.
+pub marks_of : (w h n : ℕ) (area : Rect) (old new : Stamps) → old.width ≡ w → old.height ≡ h → IsTouched (λ t. meets area (tile_rect old.width old.height t)) n old new
+    → (t : ℕ) → t < tile_count w h → slice_index new.stamps t ≡ (if meets area (tile_rect w h t) then n else slice_index old.stamps t)
+marks_of w h n area old new e f touched =
+    subst (λ (k : ℕ). (t : ℕ) → t < tile_count w k → slice_index new.stamps t ≡ (if meets area (tile_rect w k t) then n else slice_index old.stamps t)) f
+    (subst (λ (k : ℕ). (t : ℕ) → t < tile_count k old.height → slice_index new.stamps t ≡ (if meets area (tile_rect k old.height t) then n else slice_index old.stamps t)) e touched.each)
+
+-- ---- a paint more
+
+mark_is : (b a : Bool) (m : ℕ) → (m == 1) ≡ a → ((if b then 1 else m) == 1) ≡ (a || (b || false))
+mark_is true true m e = refl
+mark_is true false m e = refl
+mark_is false true m e = e
+mark_is false false m e = e
+
+touches_more : (r : Rect) (ps : List Paint) (p : Paint) → touches r (Paints (ps ++ p ∷ [])) ≡ (touches r (Paints ps) || (meets (painted p) r || false))
+touches_more r ps p = list_any-append (λ q. meets (painted q) r) ps (p ∷ [])
+
+-- Where one more paint is painted, and the tiles that it meets are marked, it is painted over the same start.
+pub painted_more : (old new : Painting) (p : Paint) → Fits old.width old.height p → IsAsLarge old new → LooksLike old.width old.height (worked new) (after_paint (worked old) p)
+    → ((t : ℕ) → t < tile_count old.width old.height → slice_index new.marks t ≡ (if meets (painted p) (tile_rect old.width old.height t) then 1 else slice_index old.marks t))
+    → (start : Canvas) (ps : List Paint) → IsPaintedOver start ps old → IsPaintedOver start (ps ++ p ∷ []) new
+painted_more old new p fits large shows marks start ps stands =
+    record {
+      shows = by_size (λ w h. LooksLike w h (worked new) (after_paints start (ps ++ p ∷ []))) looks;
+      touched = by_size (λ w h. (t : ℕ) → t < tile_count w h → is_touched new t ≡ touches (tile_rect w h t) (Paints (ps ++ p ∷ []))) tiles;
+    }
+  where
+    by_size : (P : ℕ → ℕ → Type 0) → P old.width old.height → P new.width new.height
+    by_size P there = rw (large.width, large.height) there
+
+    looks : LooksLike old.width old.height (worked new) (after_paints start (ps ++ p ∷ []))
+    looks x y lx ly =
+        shows x y lx ly
+        ∙ (looks_after old.width old.height (worked old) (after_paints start ps) p fits stands.shows x y lx ly
+        ∙ ap (λ (c : Canvas). c x y) (sym (after_paints-more start ps p)))
+
+    tiles : (t : ℕ) → t < tile_count old.width old.height → is_touched new t ≡ touches (tile_rect old.width old.height t) (Paints (ps ++ p ∷ []))
+    tiles t lt =
+        let r : Rect = tile_rect old.width old.height t in
+        ap (λ k. k == 1) (marks t lt) ∙ (mark_is (meets (painted p) r) (touches r (Paints ps)) (slice_index old.marks t) (stands.touched t lt) ∙ sym (touches_more r ps p))
+
+-- ---- where an update begins
+
+-- A tile has its own first position.
+pub tile_has : (w h t : ℕ) → 0 < w → t < tile_count w h → Has (tile_rect w h t) (tile_rect w h t).x (tile_rect w h t).y
+tile_has w h t lw lt =
+    let is : IsTile w h t = tile_is w h t lw lt in
+    record { left = omega arith; right = omega (arith, is.column); top = omega arith; bottom = omega (arith, is.row) }
+
+pub whole_meets : (w h t : ℕ) → 0 < w → t < tile_count w h → meets (whole_screen w h) (tile_rect w h t) ≡ true
+whole_meets w h t lw lt =
+    let is : IsTile w h t = tile_is w h t lw lt in
+    meets_at (whole_screen w h) (tile_rect w h t) (tile_rect w h t).x (tile_rect w h t).y
+    (record { left = omega arith; right = omega (arith, is.column); top = omega arith; bottom = omega (arith, is.row) }) (tile_has w h t lw lt)
+
+-- Where no tile is marked, no paint has come since what it looks like.
+pub begun : (old new : Painting) → 0 < old.width → IsAsLarge old new → new.colours ≡ old.colours
+    → ((t : ℕ) → t < tile_count old.width old.height → slice_index new.marks t ≡ (if meets (whole_screen old.width old.height) (tile_rect old.width old.height t) then 0 else slice_index old.marks t))
+    → (start : Canvas) → LooksLike old.width old.height (worked old) start → IsPaintedOver start [] new
+begun old new lw large same marks start looks =
+    record {
+      shows = by_size (λ w h. LooksLike w h (value_at w new.colours) start) (rw same looks);
+      touched = by_size (λ w h. (t : ℕ) → t < tile_count w h → is_touched new t ≡ false) tiles;
+    }
+  where
+    by_size : (P : ℕ → ℕ → Type 0) → P old.width old.height → P new.width new.height
+    by_size P there = rw (large.width, large.height) there
+
+    tiles : (t : ℕ) → t < tile_count old.width old.height → is_touched new t ≡ false
+    tiles t lt =
+        ap (λ k. k == 1) (marks t lt ∙ ap (λ b. if b then 0 else slice_index old.marks t) (whole_meets old.width old.height t lw lt))
+
+-- ---- rows that are gathered
+
+-- A row more of a canvas.
+pub rows_more : (w m : ℕ) (c : Canvas) (xs row : List ℕ) → length xs ≡ w * m → ((x : ℕ) → x < w → slice_index row x ≡ c x m)
+    → ((x y : ℕ) → x < w → y < m → value_at w xs x y ≡ c x y) → (x y : ℕ) → x < w → y < m + 1 → value_at w (xs ++ row) x y ≡ c x y
+rows_more w m c xs row e new old x y lx ly =
+    elim (cases_lt y m) [
+      | inl above ↦ get_or_append_left xs row 0 (y * w + x) (omega (arith, e, row_before w x y m lx above)) ∙ old x y lx above
+      | inr from ↦
+          let last : y ≡ m = omega arith in
+          let behind : length xs ≤ y * w + x = omega (arith, e, ap (λ k. k * w) last) in
+          let place : y * w + x - length xs ≡ x = omega (arith, e, ap (λ k. k * w) last) in
+          get_or-append_right xs row (length xs) (y * w + x) 0 refl behind ∙ (ap (λ k. get_or row k 0) place ∙ (new x lx ∙ ap (c x) (sym last)))
+    ]
+
+-- A part of a row.
+pub part_at : (row : List ℕ) (from n k : ℕ) → k < n → slice_index (take n (drop from row)) k ≡ slice_index row (from + k)
+part_at row from n k lt = get_or-take n (drop from row) k 0 lt ∙ get_or-drop from row k 0

@@ -1,0 +1,155 @@
+-- Whole tiles of a screen lie on it, and have together no more colours than it has positions.
+use Rattle.std.proofs.Common.{◌≡◌, ℕ, zero, suc, ◌+◌, ◌*◌, ◌-◌, ◌/◌, ◌%◌, ◌<◌, ◌≤◌, Bool, true, false, List, [], ◌∷◌, length, map, All, get_or, inl, inr, ap, sym, subst, ◌∙◌, arith, zero-add}
+use Rattle.std.specs.Prelude.{filter, if◌then◌else◌, min}
+use Rattle.std.specs.List.{range_with_len, sum_by}
+use Rattle.std.proofs.Math.Nat.{add-mul, mod-lt, mul-add}
+use Rattle.std.proofs.lemmas.Bool.{cases_lt}
+use Rattle.std.proofs.lemmas.List.{length-map, get_or-map}
+use Rattle.std.proofs.lemmas.List.Elements.{All-filter, All-map}
+use Rattle.std.proofs.lemmas.List.FromFn.{get_or-range_with_len, length-range_with_len, sum_by-map-range_with_len_more}
+use Rattle.std.proofs.lemmas.List.Sums.{sum_by-cons}
+use Rattle.std.proofs.lemmas.Nat.{div-add-mod', div-mul-add, mod-mul-add}
+use Rattle.raster.specs.declared.painting.Paint as code
+use Rattle.raster.specs.declared.rect.Rect.{Rect}
+use Rattle.raster.specs.Painted.{Fits, paint_of}
+use Rattle.raster.specs.Screen.{Canvas, IsWithin, part_of, tile_count, tile_rect, tiles_across}
+use Rattle.raster.specs.Update.{Paint}
+use Rattle.raster.proofs.Places.{length_values}
+use Rattle.tiles.proofs.Ranges.{IsTile, tile_is}
+use Rattle.painter.specs.Painter.{colour_count, colours_of, tile_put, tile_puts}
+
+-- ---- they lie on the screen
+
+tile_within : (w h t : ℕ) → 0 < w → t < tile_count w h → IsWithin (tile_rect w h t) w h
+tile_within w h t lw lt = let is : IsTile w h t = tile_is w h t lw lt in record { across = omega (arith, is.column); down = omega (arith, is.row) }
+
+puts_fit : (w h : ℕ) (c : Canvas) (passes : ℕ → Bool) → 0 < w → All (Fits w h) (tile_puts w h c passes)
+puts_fit w h c passes lw =
+    All-map (Fits w h) (tile_put w h c) (filter passes (range_with_len 0 (tile_count w h)))
+    (All-filter passes (λ t. Fits w h (tile_put w h c t)) (range_with_len 0 (tile_count w h)) each)
+  where
+    each : All (λ t. Fits w h (tile_put w h c t)) (range_with_len 0 (tile_count w h))
+    each k d lt =
+        let less : k < tile_count w h = rw (length-range_with_len 0 (tile_count w h)) at lt in
+        let is : get_or (range_with_len 0 (tile_count w h)) k d ≡ k = get_or-range_with_len 0 (tile_count w h) k d less ∙ zero-add k in
+        let r : Rect = tile_rect w h k in
+        subst (λ (t : ℕ). Fits w h (tile_put w h c t)) (sym is) (tile_within w h k lw less, length_values r.w r.h (part_of r c))
+
+all_of_code : (w h : ℕ) (ps : List code.Paint) (qs : List Paint) → map paint_of ps ≡ qs → All (Fits w h) qs → All (λ p. Fits w h (paint_of p)) ps
+all_of_code w h ps qs same fits k d lt =
+    let all : All (Fits w h) (map paint_of ps) = subst (λ (l : List Paint). All (Fits w h) l) (sym same) fits in
+    let within : k < length (map paint_of ps) = rw length-map lt in
+    subst (λ (p : Paint). Fits w h p) (get_or-map paint_of ps k d (paint_of d) lt) (all k (paint_of d) within)
+
+-- Those of the code do too.
+pub tiles_fit : (w h : ℕ) (c : Canvas) (passes : ℕ → Bool) (ps : List code.Paint) → 0 < w → map paint_of ps ≡ tile_puts w h c passes → All (λ p. Fits w h (paint_of p)) ps
+tiles_fit w h c passes ps lw same = all_of_code w h ps (tile_puts w h c passes) same (puts_fit w h c passes lw)
+
+-- ---- their colours
+
+if_le : (f : Paint → ℕ) (p : ℕ → Paint) (b : Bool) (t : ℕ) (ts us : List ℕ) → sum_by f (map p ts) ≤ sum_by f (map p us) → sum_by f (map p (if b then t ∷ ts else ts)) ≤ sum_by f (map p (t ∷ us))
+if_le f p true t ts us le = omega (arith, le, sum_by-cons f (p t) (map p ts), sum_by-cons f (p t) (map p us))
+if_le f p false t ts us le = omega (arith, le, sum_by-cons f (p t) (map p us))
+
+some_le_all : (f : Paint → ℕ) (p : ℕ → Paint) (passes : ℕ → Bool) (ts : List ℕ) → sum_by f (map p (filter passes ts)) ≤ sum_by f (map p ts)
+some_le_all f p passes [] = omega arith
+some_le_all f p passes (t ∷ ts) = if_le f p (passes t) t (filter passes ts) ts (some_le_all f p passes ts)
+
+-- How many positions lie in the rows of tiles above a row, and in that row left of a column.
+abbrev before : ℕ → ℕ → ℕ → ℕ → ℕ
+before w h row column = w * min h (row * 16) + min w (column * 16) * min 16 (h - row * 16)
+
+-- One column on.
+next_column : (w h row column : ℕ) → before w h row (column + 1) ≡ before w h row column + min 16 (w - column * 16) * min 16 (h - row * 16)
+next_column w h row column =
+    let high : ℕ = min 16 (h - row * 16) in
+    let wider : min w ((column + 1) * 16) ≡ min w (column * 16) + min 16 (w - column * 16) = omega arith in
+    let more : min w ((column + 1) * 16) * high ≡ min w (column * 16) * high + min 16 (w - column * 16) * high = ap (λ k. k * high) wider ∙ add-mul (min w (column * 16)) (min 16 (w - column * 16)) high in
+    omega (arith, more)
+
+-- One row on.
+next_row : (w h row across : ℕ) → w ≤ across * 16 → before w h (row + 1) 0 ≡ before w h row across
+next_row w h row across full =
+    let high : ℕ = min 16 (h - row * 16) in
+    let all : min w (across * 16) ≡ w = omega (arith, full) in
+    let none : min w (0 * 16) ≡ 0 = omega arith in
+    let lower : min h ((row + 1) * 16) ≡ min h (row * 16) + high = omega arith in
+    let more : w * min h ((row + 1) * 16) ≡ w * min h (row * 16) + w * high = ap (λ k. w * k) lower ∙ mul-add w (min h (row * 16)) high in
+    let nothing : min w (0 * 16) * min 16 (h - (row + 1) * 16) ≡ 0 = ap (λ k. k * min 16 (h - (row + 1) * 16)) none ∙ zero_times (min 16 (h - (row + 1) * 16)) in
+    let row_of : min w (across * 16) * high ≡ w * high = ap (λ k. k * high) all in
+    omega (arith, more, nothing, row_of)
+  where
+    zero_times : (k : ℕ) → 0 * k ≡ 0
+    zero_times k = omega arith
+
+-- And of a tile's number.
+abbrev before_tile : ℕ → ℕ → ℕ → ℕ
+before_tile w h t = before w h (t / tiles_across w) (t % tiles_across w)
+
+next_tile : (w h t : ℕ) → 0 < w → before_tile w h (t + 1) ≡ before_tile w h t + min 16 (w - t % tiles_across w * 16) * min 16 (h - t / tiles_across w * 16)
+next_tile w h t lw =
+    let across : ℕ = tiles_across w in
+    let row : ℕ = t / across in
+    let column : ℕ = t % across in
+    let some : 0 < across = omega arith in
+    let place : row * across + column ≡ t = div-add-mod' t across in
+    let full : w ≤ across * 16 = omega arith in
+    elim (cases_lt (column + 1) across) [
+      | inl inside ↦
+          let next : t + 1 ≡ row * across + (column + 1) = omega (arith, place) in
+          ap (before_tile w h) next
+          ∙ (ap (λ k. before w h k ((row * across + (column + 1)) % across)) (div-mul-add row across (column + 1) inside)
+          ∙ (ap (before w h row) (mod-mul-add row across (column + 1) inside) ∙ next_column w h row column))
+      | inr last ↦
+          let width : column + 1 ≡ across = omega (arith, last, mod-lt t some) in
+          let times : (row + 1) * across ≡ row * across + across = add-mul row 1 across ∙ ap (λ k. row * across + k) (one_times across) in
+          let next : t + 1 ≡ (row + 1) * across + 0 = omega (arith, place, width, times) in
+          ap (before_tile w h) next
+          ∙ (ap (λ k. before w h k (((row + 1) * across + 0) % across)) (div-mul-add (row + 1) across 0 some)
+          ∙ (ap (before w h (row + 1)) (mod-mul-add (row + 1) across 0 some)
+          ∙ (next_row w h row across full ∙ (ap (before w h row) (sym width) ∙ next_column w h row column))))
+    ]
+  where
+    one_times : (k : ℕ) → 1 * k ≡ k
+    one_times k = omega arith
+
+count_is : (w h : ℕ) (c : Canvas) (t : ℕ) → colour_count (tile_put w h c t) ≡ min 16 (w - t % tiles_across w * 16) * min 16 (h - t / tiles_across w * 16)
+count_is w h c t = let r : Rect = tile_rect w h t in length_values r.w r.h (part_of r c)
+
+sum_before : (w h : ℕ) (c : Canvas) (n : ℕ) → 0 < w → sum_by colour_count (map (tile_put w h c) (range_with_len 0 n)) ≡ before_tile w h n
+sum_before w h c zero lw =
+    let some : 0 < tiles_across w = omega arith in
+    let first : 0 ≡ 0 * tiles_across w + 0 = omega arith in
+    sym (ap (before_tile w h) first
+    ∙ (ap (λ k. before w h k ((0 * tiles_across w + 0) % tiles_across w)) (div-mul-add 0 (tiles_across w) 0 some) ∙ (ap (before w h 0) (mod-mul-add 0 (tiles_across w) 0 some) ∙ none)))
+  where
+    nothing : (a b : ℕ) → a * 0 + 0 * b ≡ 0
+    nothing a b = omega arith
+
+    none : before w h 0 0 ≡ 0
+    none =
+        let high : ℕ = min 16 (h - 0 * 16) in
+        let above : min h (0 * 16) ≡ 0 = omega arith in
+        let left : min w (0 * 16) ≡ 0 = omega arith in
+        ap (λ k. w * k + min w (0 * 16) * high) above ∙ (ap (λ k. w * 0 + k * high) left ∙ nothing w high)
+sum_before w h c (suc n) lw =
+    let next : suc n ≡ n + 1 = omega arith in
+    ap (λ k. sum_by colour_count (map (tile_put w h c) (range_with_len 0 k))) next
+    ∙ (sum_by-map-range_with_len_more colour_count (tile_put w h c) 0 n n (zero-add n)
+    ∙ (ap (λ k. k + colour_count (tile_put w h c n)) (sum_before w h c n lw)
+    ∙ (ap (λ k. before_tile w h n + k) (count_is w h c n) ∙ (sym (next_tile w h n lw) ∙ ap (before_tile w h) (sym next)))))
+
+-- Tiles of a screen have at most as many colours as it has positions.
+pub puts_few : (w h : ℕ) (c : Canvas) (passes : ℕ → Bool) → 0 < w → colours_of (tile_puts w h c passes) ≤ w * h
+puts_few w h c passes lw =
+    let across : ℕ = tiles_across w in
+    let down : ℕ = tiles_across h in
+    let some : 0 < across = omega arith in
+    let n : ℕ = tile_count w h in
+    let place : n ≡ down * across + 0 = omega arith in
+    let last : before_tile w h n ≡ before w h down 0 =
+    ap (before_tile w h) place ∙ (ap (λ k. before w h k ((down * across + 0) % across)) (div-mul-add down across 0 some) ∙ ap (before w h down) (mod-mul-add down across 0 some)) in
+    let all : min h (down * 16) ≡ h = omega arith in
+    let none : min w (0 * 16) ≡ 0 = omega arith in
+    let total : before w h down 0 ≡ w * h + 0 * min 16 (h - down * 16) = ap (λ k. w * k + min w (0 * 16) * min 16 (h - down * 16)) all ∙ ap (λ k. w * h + k * min 16 (h - down * 16)) none in
+    omega (arith, some_le_all colour_count (tile_put w h c) passes (range_with_len 0 n), sum_before w h c n lw, last, total)
