@@ -204,3 +204,30 @@ fn each_byte_counts_as_the_rules_say(rt: HostRuntime) {
         }
     }
 }
+
+/// Whether two pixel values are put as these bytes in a format.
+fn are_put(format: &Format, values: &[u32; 2], wanted: &[u8]) -> bool {
+    let mut room = [0xEE; 8];
+    if wanted.len() != format.bytes() * 2 {
+        return false;
+    }
+    let row = &mut room[..wanted.len()];
+    format.put_values(values, row);
+    &*row == wanted
+}
+
+#[test]
+fn rows_of_values(rt: HostRuntime) -> Result<(), Fail> {
+    let values = [0x1122_3344, 0x0000_ABCD];
+    let host = format_of(HOST)?;
+    let big = format_of(changed(HOST, 2, 1))?;
+    let halves = format_of(RGB565)?;
+    let small = format_of(changed(RGB565, 2, 0))?;
+    assert!(rt; are_put(&host, &values, &[0x44, 0x33, 0x22, 0x11, 0xCD, 0xAB, 0, 0]));
+    assert!(rt; are_put(&big, &values, &[0x11, 0x22, 0x33, 0x44, 0, 0, 0xAB, 0xCD]));
+    assert!(rt; are_put(&halves, &values, &[0x33, 0x44, 0xAB, 0xCD]));
+    assert!(rt; are_put(&small, &values, &[0x44, 0x33, 0xCD, 0xAB]));
+    assert!(rt; are_put(&format_of(BGR233)?, &values, &[0x44, 0xCD]));
+    assert!(rt; host.spells_words() && !big.spells_words() && !small.spells_words());
+    Ok(())
+}

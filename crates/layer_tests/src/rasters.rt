@@ -3,7 +3,7 @@
 ghost use Rattle.std.specs.Prelude.{◌≡◌, ◌<◌};
 ghost use Rattle.raster.specs.Painted.{Fits, paint_of};
 
-use raster::{Canvas, Paint, Raster, Rect, apply_paints};
+use raster::{Canvas, Paint, Raster, Rect, apply_paints, has_runs};
 use std::alloc::Global;
 use std::test::Fail;
 
@@ -176,4 +176,34 @@ fn raster_is_painted(rt: HostRuntime) -> Result<(), Fail> {
     paint_two_rows(rt.alloc(), &mut raster)?;
     assert!(rt; raster.row(0) == [1, 3].as_slice() && raster.row(1) == [1, 3].as_slice());
     Ok(())
+}
+
+// A value in the bytes of each, on the last two positions of row 1 of a canvas of 4 by 3.
+fn draw_bytes<C: Canvas>(canvas: &mut C, values: &[[u8; 4]; 2])
+    requires width { C.width canvas.old ≡ 4 }
+    requires height { C.height canvas.old ≡ 3 }
+    ensures same_width { C.width canvas.new ≡ 4 }
+    ensures same_height { C.height canvas.new ≡ 3 }
+{
+    canvas.put_bytes(2, 1, values);
+}
+
+#[test]
+fn bytes_are_put(rt: HostRuntime) -> Result<(), Fail> {
+    let mut raster = Raster::new(rt.alloc(), 4, 3)?;
+    draw_bytes(&mut raster, &[[0x44, 0x33, 0x22, 0x11], [0xFF, 0, 0, 0]]);
+    assert!(rt; shows(&raster, &[[0; 4], [0, 0, 0x1122_3344, 0xFF], [0; 4]]));
+    Ok(())
+}
+
+// Two rows of six: 1 1 2 2 1 3 has two runs other than of 1, and 1 2 3 3 1 1 two.
+#[test]
+fn runs_are_counted(rt: HostRuntime) {
+    let values = [1, 1, 2, 2, 1, 3, 1, 2, 3, 3, 1, 1];
+    assert!(rt; has_runs(&values, 6, &rect(0, 0, 6, 2), 4));
+    assert!(rt; !has_runs(&values, 6, &rect(0, 0, 6, 2), 5));
+    assert!(rt;
+        has_runs(&values, 6, &rect(2, 0, 3, 2), 3) && has_runs(&values, 6, &rect(0, 0, 1, 2), 0)
+    );
+    assert!(rt; !has_runs(&values, 6, &rect(0, 0, 1, 2), 1));
 }

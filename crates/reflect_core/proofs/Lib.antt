@@ -1,3 +1,3 @@
 pub mod Vectors
-pub mod ShowLaws
+pub mod FillLaws
 pub mod CutLaws

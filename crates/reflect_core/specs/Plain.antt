@@ -1,9 +1,10 @@
 -- What a source for one thread holds.
-use Rattle.std.specs.Prelude.{◌≡◌, ℕ, ◌*◌, ◌^◌, ◌<◌, ◌≤◌, List, length, map, All, ◌⊎◌}
+use Rattle.std.specs.Prelude.{◌≡◌, ℕ, ◌^◌, ◌<◌, ◌≤◌, List, length, map, All, ◌⊎◌}
 use Rattle.pixel_format.specs.declared.fault.Fault.{Fault}
 use Rattle.pixel_format.specs.declared.fault.Fault.TheVariants.{Memory, NumbersOut}
 use Rattle.raster.specs.Size.{IsScreenSize}
 use Rattle.raster.specs.Update.{Update}
+use Rattle.painter.specs.Board.{BoardStands, Posted}
 use Rattle.painter.specs.Patch.{SizedUpdate}
 
 -- The size of its screen, the updates that were put, and the tally.
@@ -21,13 +22,14 @@ updates_of patches = map (λ patch. patch.update) patches
 abbrev pub AreOfSize : ℕ → ℕ → List SizedUpdate → Type 0
 AreOfSize w h patches = All (λ patch. (patch.width ≡ w) × (patch.height ≡ h)) patches
 
--- What stands in its fields: patches of its size, a tally that is at most their number, and room for the colours of one screen.
-pub record IsPlain (w h : ℕ) (patches : List SizedUpdate) (tally room : ℕ) : Type 0 where
+-- What stands in its fields: patches of its size, the board that they make, and a tally that is at most their number.
+pub record IsPlain (w h : ℕ) (patches : List SizedUpdate) (tally : ℕ) (board : Posted) : Type 0 where
   pub size : IsScreenSize w h
   pub fits : AreOfSize w h patches
   pub tally_within : tally ≤ length patches
   pub few : length patches ≤ 2 ^ 62
-  pub room_is : room ≡ w * h
+  pub board_size : (board.width ≡ w) × (board.height ≡ h)
+  pub shows : BoardStands board (updates_of patches)
 
 -- Why an update isn't taken as the next of so many: memory is refused, or there are no more numbers.
 abbrev pub IsPutRefusal : ℕ → Fault → Type 0

@@ -70,7 +70,7 @@ spelled_same format choice a b may_copy before r s e =
     ap (λ c. spelled_by format choice may_copy before r c (colours_in a r)) (repeats_same a b before r s e)
     ∙ ap (λ cs. spelled_by format choice may_copy before r (repeats_one b before r) cs) e
 
-all_same : (format : PixelFormat) (choice : Choice) (a b : Canvas) (may_copy : Bool) (before : Option Rect) (rs : List Rect) → SameInOne a b before → Each (SameIn a b) rs
+pub all_same : (format : PixelFormat) (choice : Choice) (a b : Canvas) (may_copy : Bool) (before : Option Rect) (rs : List Rect) → SameInOne a b before → Each (SameIn a b) rs
     → all_spelled format choice a may_copy before rs ≡ all_spelled format choice b may_copy before rs
 all_same format choice a b may_copy before [] s each = refl
 all_same format choice a b may_copy before (r ∷ rs) s each =
@@ -88,7 +88,7 @@ or_right true b e = refl
 or_right false b e = e
 
 -- Where two screens show the same in all of some rectangles, they do in each.
-each_same : (a b : Canvas) (w h : ℕ) (rs : List Rect) → Each (IsPart w h) rs → ((x y : ℕ) → x < w → y < h → some_holds rs x y ≡ true → a x y ≡ b x y) → Each (SameIn a b) rs
+pub each_same : (a b : Canvas) (w h : ℕ) (rs : List Rect) → Each (IsPart w h) rs → ((x y : ℕ) → x < w → y < h → some_holds rs x y ≡ true → a x y ≡ b x y) → Each (SameIn a b) rs
 each_same a b w h [] parts same = tt
 each_same a b w h (r ∷ rs) parts same = (
   colours_same a b r

@@ -1,0 +1,298 @@
+-- How far a cut is filled from a board, run by run, and that it is a cut of the board's updates in the end.
+use Rattle.std.proofs.Common.{◌≡◌, ℕ, suc, ◌+◌, ◌-◌, ◌*◌, ◌/◌, ◌%◌, ◌<◌, ◌≤◌, Bool, true, false, List, [], ◌∷◌, length, get_or, take, Option, Some, refl, ap, sym, ◌∙◌, subst, arith, inl, inr}
+use Rattle.std.specs.Prelude.{◌&&◌, ◌||◌, not, is_some, slice_get, unwrap_or, if◌then◌else◌}
+use Rattle.std.specs.List.{list_all, range_with_len}
+use Rattle.std.proofs.lemmas.Bool.{cases_Bool, cases_lt}
+use Rattle.std.proofs.lemmas.List.{take_all}
+use Rattle.std.proofs.lemmas.List.Folds.{list_all_at}
+use Rattle.std.proofs.lemmas.List.Sums.{list_all-from_AllPass}
+use Rattle.std.proofs.lemmas.List.FromFn.{length-range_with_len, get_or-range_with_len}
+use Rattle.std.proofs.lemmas.Nat.{div-add-mod'}
+use Rattle.painter.specs.Board.{BoardStands, Posted}
+use Rattle.raster.specs.declared.rect.Rect.{Rect}
+use Rattle.raster.specs.Screen.{IsWithin, LooksLike, common, holds, lay, meets, part_of, tile_count, tile_rect, tiles_across, value_at}
+use Rattle.raster.specs.Update.{Update, screen, bells, last_text}
+use Rattle.raster.proofs.Places.{Has, common_has, has_common_left, has_holds, holds_has}
+use Rattle.tiles.specs.Grid.{GridStands, Stamps, due_at}
+use Rattle.tiles.specs.Have.{SentTiles, sent_at}
+use Rattle.tiles.specs.Touched.{is_due_since}
+use Rattle.tiles.specs.Walk.{IsDone, IsNextRun, IsSameWalk, Walking, tiles_rect}
+use Rattle.tiles.specs.declared.walk.Run.{Run}
+use Rattle.tiles.proofs.FoundRuns.{IsPlace, place_of}
+use Rattle.tiles.proofs.GridLaws.{due_stands}
+use Rattle.reflect_core.specs.declared.cut.Cut.{Cut}
+use Rattle.reflect_core.specs.Fill.{IsWhetherSent, RestStays, TookRun}
+use Rattle.reflect_core.specs.Source.{IsCutOf, due_in, marked, was_sent_if_due}
+
+-- Tile t is due by its stamp, and meets the area.
+abbrev pub lacks : Stamps → SentTiles → Rect → ℕ → Bool
+lacks grid have area t = due_at grid have t && meets area (tile_rect have.width have.height t)
+
+-- A walk over the runs of the area, at this tile.
+abbrev pub at_tile : SentTiles → Rect → ℕ → Walking
+at_tile have area next = record { width = have.width; height = have.height; area = area; next = next }
+
+-- Each of the tiles before next that a test lets through was sent, or one of all wasn't.
+abbrev pub AllSent : (ℕ → Bool) → SentTiles → ℕ → Bool → Type 0
+AllSent test have next true = (t : ℕ) → t < next → test t ≡ true → is_some (sent_at have t) ≡ true
+AllSent test have next false = (t : ℕ) × (t < tile_count have.width have.height) × (test t ≡ true) × (is_some (sent_at have t) ≡ false)
+
+-- The cut has taken what is due of the tiles before next.
+pub record IsFilled (grid : Stamps) (colours : List ℕ) (have : SentTiles) (area : Rect) (next : ℕ) (cut : Cut) : Type 0 where
+  pub width : cut.width ≡ have.width
+  pub height : cut.height ≡ have.height
+  pub done : (t : ℕ) → t < next → t < tile_count have.width have.height → slice_get cut.due.items t ≡ Some (lacks grid have area t)
+  pub left : (t : ℕ) → next ≤ t → t < tile_count have.width have.height → slice_get cut.due.items t ≡ Some false
+  pub sent : AllSent (lacks grid have area) have next cut.all_were_sent
+  pub shows : (t x y : ℕ) → t < next → lacks grid have area t ≡ true → Has area x y → Has (tile_rect have.width have.height t) x y → value_at cut.width cut.colours.items x y ≡ value_at cut.width colours x y
+
+-- ---- the walk
+
+pub walk_goes_on : (have : SentTiles) (area : Rect) (old new : Walking) → old ≡ at_tile have area old.next → IsSameWalk old new → new ≡ at_tile have area new.next
+walk_goes_on have area old new is same =
+    let wide : new.width ≡ have.width = same.width ∙ ap (λ (w : Walking). w.width) is in
+    let high : new.height ≡ have.height = same.height ∙ ap (λ (w : Walking). w.height) is in
+    let on : new.area ≡ area = same.area ∙ ap (λ (w : Walking). w.area) is in
+    (λ i. record { width = wide i; height = high i; area = on i; next = new.next })
+
+-- The same of what they are.
+pub next_of : (walk walk' : Walking) (grid grid' : Stamps) (have have' : SentTiles) (run : Run) → walk ≡ walk' → grid ≡ grid' → have ≡ have' → IsNextRun walk (due_at grid have) run → IsNextRun walk' (due_at grid' have') run
+next_of walk walk' grid grid' have have' run p q r is =
+    subst (λ v. IsNextRun walk' (due_at grid' v) run) r (subst (λ g. IsNextRun walk' (due_at g have) run) q (subst (λ w. IsNextRun w (due_at grid have) run) p is))
+
+pub done_of : (walk walk' : Walking) (grid grid' : Stamps) (have have' : SentTiles) → walk ≡ walk' → grid ≡ grid' → have ≡ have' → IsDone walk (due_at grid have) → IsDone walk' (due_at grid' have')
+done_of walk walk' grid grid' have have' p q r is =
+    subst (λ v. IsDone walk' (due_at grid' v)) r (subst (λ g. IsDone walk' (due_at g have)) q (subst (λ w. IsDone w (due_at grid have)) p is))
+
+not_both : {A : Type 0} (b : Bool) → b ≡ true → b ≡ false → A
+not_both true e f = absurd cc
+not_both false e f = absurd cc
+
+-- ---- a run more
+
+-- A position of one of a run's tiles lies in the run.
+tile_in_run : (w h first count t x y : ℕ) → 0 < tiles_across w → first % tiles_across w + count ≤ tiles_across w → first ≤ t → t < first + count → Has (tile_rect w h t) x y → Has (tiles_rect w first count) x y
+tile_in_run w h first count t x y some in_row lo hi has =
+    let across : ℕ = tiles_across w in
+    let row : ℕ = first / across in
+    let place : row * across + first % across ≡ first = div-add-mod' first across in
+    let is : IsPlace row (t - row * across) across t = place_of row across t (omega (arith, place)) (omega (arith, place, in_row)) in
+    let column : t % across ≡ t - row * across = is.column_is in
+    let line : t / across ≡ row = is.row_is in
+    record {
+      left = (let e = has.left in omega (arith, e, column, place));
+      right = (let e = has.right in omega (arith, e, column, place));
+      top = (let e = has.top in omega (arith, e, line));
+      bottom = (let e = has.bottom in omega (arith, e, line));
+    }
+
+all_sent_more : (grid : Stamps) (have : SentTiles) (area : Rect) (next : ℕ) (run : Run) (all sent : Bool) → IsNextRun (at_tile have area next) (due_at grid have) run
+    → IsWhetherSent have run.first (run.first + run.count) sent → AllSent (lacks grid have area) have next all → AllSent (lacks grid have area) have (run.first + run.count) (all && sent)
+all_sent_more grid have area next run true true is whether before = λ t lt due.
+    elim (cases_lt t next) [
+      | inl old ↦ before t old due
+      | inr from ↦ elim (cases_lt t run.first) [
+        | inl skipped ↦ not_both (lacks grid have area t) due (is.skipped t from skipped)
+        | inr inside ↦ whether t inside lt
+      ]
+    ]
+all_sent_more grid have area next run true false is whether before = (whether.0, omega (arith, whether.2, is.there), is.taken whether.0 whether.1 whether.2, whether.3)
+all_sent_more grid have area next run false sent is whether before = before
+
+lay_in : (r : Rect) (w : ℕ) (over under : List ℕ) (x y : ℕ) → Has r x y → lay r (part_of r (value_at w over)) (value_at w under) x y ≡ value_at w over x y
+lay_in r w over under x y has =
+    let across : r.x + (x - r.x) ≡ x = omega (arith, has.left) in
+    let down : r.y + (y - r.y) ≡ y = omega (arith, has.top) in
+    ap (λ b. if b then value_at w over (r.x + (x - r.x)) (r.y + (y - r.y)) else value_at w under x y) (holds_has r x y has) ∙ (λ i. value_at w over (across i) (down i))
+
+lay_kept : (r : Rect) (w : ℕ) (over under : List ℕ) (x y : ℕ) → value_at w under x y ≡ value_at w over x y → lay r (part_of r (value_at w over)) (value_at w under) x y ≡ value_at w over x y
+lay_kept r w over under x y same = elim (cases_Bool (holds r x y)) [
+  | inl inside ↦ lay_in r w over under x y (has_holds r x y inside)
+  | inr outside ↦ ap (λ b. if b then value_at w over (r.x + (x - r.x)) (r.y + (y - r.y)) else value_at w under x y) outside ∙ same
+]
+
+-- What was filled before the tile next, and then took the run that is next, is filled before the tile behind that.
+pub filled_more : (grid : Stamps) (colours : List ℕ) (have : SentTiles) (area : Rect) (next : ℕ) (run : Run) (old new : Cut) → 0 < tiles_across have.width → IsWithin area have.width have.height
+    → IsFilled grid colours have area next old → IsNextRun (at_tile have area next) (due_at grid have) run → TookRun colours have run old new → IsFilled grid colours have area (run.first + run.count) new
+filled_more grid colours have area next run old new some on was is took =
+    record {
+      width = took.width ∙ was.width;
+      height = took.height ∙ was.height;
+      done = λ t lt there. elim (cases_lt t run.first) [
+        | inl before ↦ took.before t before ∙ earlier t before there
+        | inr from ↦ took.inside t from lt ∙ ap (λ (b : Bool). Some b) (sym (is.taken t from lt))
+      ];
+      left = λ t le there. took.behind t le ∙ was.left t (omega (arith, is.from, is.some)) there;
+      sent = subst (AllSent (lacks grid have area) have (run.first + run.count)) (sym took.sent.2) (all_sent_more grid have area next run old.all_were_sent took.sent.0 is took.sent.1 was.sent);
+      shows = λ t x y lt due in_area in_tile.
+          let lx : x < old.width = omega (arith, was.width, in_area.right, on.across) in
+          let ly : y < old.height = omega (arith, was.height, in_area.bottom, on.down) in
+          took.shows x y lx ly ∙ (laid t x y lt due in_area in_tile ∙ ap (λ w. value_at w colours x y) (sym took.width));
+    }
+  where
+    earlier : (t : ℕ) → t < run.first → t < tile_count have.width have.height → slice_get old.due.items t ≡ Some (lacks grid have area t)
+    earlier t before there = elim (cases_lt t next) [
+      | inl done ↦ was.done t done there
+      | inr from ↦ was.left t from there ∙ ap (λ (b : Bool). Some b) (sym (is.skipped t from before))
+    ]
+
+    laid : (t x y : ℕ) → t < run.first + run.count → lacks grid have area t ≡ true → Has area x y → Has (tile_rect have.width have.height t) x y
+        → lay run.area (part_of run.area (value_at old.width colours)) (value_at old.width old.colours.items) x y ≡ value_at old.width colours x y
+    laid t x y lt due in_area in_tile = elim (cases_lt t next) [
+      | inl done ↦ lay_kept run.area old.width colours old.colours.items x y (was.shows t x y done due in_area in_tile)
+      | inr from ↦ elim (cases_lt t run.first) [
+        | inl before ↦ not_both (lacks grid have area t) due (is.skipped t from before)
+        | inr inside ↦
+            lay_in run.area old.width colours old.colours.items x y
+            (subst (λ (r : Rect). Has r x y) (sym is.area) (common_has area (tiles_rect have.width run.first run.count) x y in_area (tile_in_run have.width have.height run.first run.count t x y some is.row inside lt in_tile)))
+      ]
+    ]
+
+-- ---- what is left out
+
+-- What is due of no tile of the area has the colours that it had.
+abbrev pub IsLeft : Stamps → List ℕ → SentTiles → Rect → Cut → Type 0
+IsLeft grid first have area cut =
+    (t x y : ℕ) → t < tile_count have.width have.height → Has (tile_rect have.width have.height t) x y → (lacks grid have area t && holds area x y) ≡ false → value_at cut.width cut.colours.items x y ≡ value_at cut.width first x y
+
+-- A tile of which a position lies in a run is one of the run's.
+run_has_tile : (w h first count t x y : ℕ) → Has (tile_rect w h t) x y → Has (tiles_rect w first count) x y → (first ≤ t) × (t < first + count)
+run_has_tile w h first count t x y tile run =
+    let across : ℕ = tiles_across w in
+    let place : first / across * across + first % across ≡ first = div-add-mod' first across in
+    let here : t / across * across + t % across ≡ t = div-add-mod' t across in
+    let row : t / across ≡ first / across = omega (arith, tile.top, tile.bottom, run.top, run.bottom) in
+    let rows : t / across * across ≡ first / across * across = ap (λ k. k * across) row in
+    let low : first % across ≤ t % across = omega (arith, tile.right, run.left) in
+    let high : t % across < first % across + count = omega (arith, tile.left, run.right) in
+    (omega (arith, place, here, rows, low), omega (arith, place, here, rows, high))
+
+common_right : (r s : Rect) (x y : ℕ) → Has (common r s) x y → Has s x y
+common_right r s x y p = record { left = omega (arith, p.left); right = omega (arith, p.left, p.right); top = omega (arith, p.top); bottom = omega (arith, p.top, p.bottom) }
+
+both_true : (a b : Bool) → a ≡ true → b ≡ true → (a && b) ≡ true
+both_true true true p q = refl
+both_true true false p q = absurd cc
+both_true false b p q = absurd cc
+
+pub left_still : (grid : Stamps) (colours first : List ℕ) (have : SentTiles) (area : Rect) (next : ℕ) (run : Run) (old new : Cut) → IsWithin area have.width have.height
+    → IsFilled grid colours have area next old → IsNextRun (at_tile have area next) (due_at grid have) run → TookRun colours have run old new → IsLeft grid first have area old → IsLeft grid first have area new
+left_still grid colours first have area next run old new on was is took left t x y there in_tile out =
+    let lx : x < old.width = omega (arith, was.width, in_tile.left, in_tile.right) in
+    let ly : y < old.height = omega (arith, was.height, in_tile.top, in_tile.bottom) in
+    took.shows x y lx ly ∙ (elim (cases_Bool (holds run.area x y)) [
+      | inl inside ↦
+          let in_run : Has (common area (tiles_rect have.width run.first run.count)) x y = subst (λ (r : Rect). Has r x y) is.area (has_holds run.area x y inside) in
+          let in_area : Has area x y = has_common_left area (tiles_rect have.width run.first run.count) x y in_run in
+          let near = run_has_tile have.width have.height run.first run.count t x y in_tile (common_right area (tiles_rect have.width run.first run.count) x y in_run) in
+          not_both (lacks grid have area t && holds area x y) (both_true (lacks grid have area t) (holds area x y) (is.taken t near.0 near.1) (holds_has area x y in_area)) out
+      | inr outside ↦
+          ap (λ b. if b then part_of run.area (value_at old.width colours) (x - run.area.x) (y - run.area.y) else value_at old.width old.colours.items x y) outside ∙ left t x y there in_tile out
+    ] ∙ ap (λ w. value_at w first x y) (sym took.width))
+
+-- ---- the end
+
+passes : (due sent : Bool) → (due ≡ true → sent ≡ true) → (not due || sent) ≡ true
+passes true sent h = h refl
+passes false sent h = refl
+
+fails : (due sent : Bool) → due ≡ true → sent ≡ false → (not due || sent) ≡ false
+fails true sent e f = f
+fails false sent e f = absurd cc
+
+number_in_range : (n k d : ℕ) → k < length (range_with_len 0 n) → get_or (range_with_len 0 n) k d ≡ k
+number_in_range n k d lt = get_or-range_with_len 0 n k d (rw (sym (length-range_with_len 0 n)) lt) ∙ omega arith
+
+all_is : (test : ℕ → Bool) (have : SentTiles) (next : ℕ) (all : Bool) → ((t : ℕ) → next ≤ t → t < tile_count have.width have.height → test t ≡ false) → AllSent test have next all
+    → all ≡ list_all (λ t. not (test t) || is_some (sent_at have t)) (range_with_len 0 (tile_count have.width have.height))
+all_is test have next true done sent =
+    let n : ℕ = tile_count have.width have.height in
+    sym (list_all-from_AllPass (λ t. not (test t) || is_some (sent_at have t)) (range_with_len 0 n) (λ k d lt.
+    let lt' : k < n = rw (sym (length-range_with_len 0 n)) lt in
+    ap (λ t. not (test t) || is_some (sent_at have t)) (number_in_range n k d lt)
+    ∙ passes (test k) (is_some (sent_at have k)) (λ due. elim (cases_lt k next) [
+      | inl before ↦ sent k before due
+      | inr from ↦ not_both (test k) due (done k from lt')
+    ])))
+all_is test have next false done sent =
+    let n : ℕ = tile_count have.width have.height in
+    let there : sent.0 < length (range_with_len 0 n) = rw length-range_with_len sent.1 in
+    sym (list_all_at (λ t. not (test t) || is_some (sent_at have t)) (range_with_len 0 n) sent.0 0 there
+    (ap (λ t. not (test t) || is_some (sent_at have t)) (number_in_range n sent.0 0 there) ∙ fails (test sent.0) (is_some (sent_at have sent.0)) sent.2 sent.3))
+
+and_swap : (a b : Bool) → (a && b) ≡ (b && a)
+and_swap true true = refl
+and_swap true false = refl
+and_swap false true = refl
+and_swap false false = refl
+
+-- By the stamps of a grid the same tiles are due as by the updates that it stands for.
+pub lacks_is : (grid : Stamps) (have : SentTiles) (area : Rect) (us : List Update) (t : ℕ) → grid.width ≡ have.width → grid.height ≡ have.height → GridStands grid us → t < tile_count have.width have.height
+    → lacks grid have area t ≡ due_in have area us t
+lacks_is grid have area us t wide high stands lt =
+    let there : t < tile_count grid.width grid.height = rw (wide, high) lt in
+    let due : due_at grid have t ≡ is_due_since (tile_rect have.width have.height t) (sent_at have t) us = due_stands grid have us t stands there ∙ (λ i. is_due_since (tile_rect (wide i) (high i) t) (sent_at have t) us) in
+    ap (λ (b : Bool). b && meets area (tile_rect have.width have.height t)) due ∙ and_swap (is_due_since (tile_rect have.width have.height t) (sent_at have t) us) (meets area (tile_rect have.width have.height t))
+
+list_all_same : (f g : ℕ → Bool) (n : ℕ) → ((t : ℕ) → t < n → f t ≡ g t) → list_all f (range_with_len 0 n) ≡ list_all g (range_with_len 0 n)
+list_all_same f g n same = over (range_with_len 0 n) (λ k lt. ap f (number_in_range n k 0 lt) ∙ (same k (rw (sym (length-range_with_len 0 n)) lt) ∙ sym (ap g (number_in_range n k 0 lt))))
+  where
+    over : (xs : List ℕ) → ((k : ℕ) → k < length xs → f (get_or xs k 0) ≡ g (get_or xs k 0)) → list_all f xs ≡ list_all g xs
+    over [] each = refl
+    over (x ∷ xs) each = (let head : f x ≡ g x = each 0 (omega arith) in let rest = over xs (λ k lt. each (suc k) (omega arith)) in (λ i. head i && rest i))
+
+-- What has taken all that is due of a board is a cut of all the board's updates.
+pub cut_of_board : (board : Posted) (us : List Update) (area : Rect) (have : SentTiles) (next : ℕ) (cut : Cut) → board.width ≡ have.width → board.height ≡ have.height
+    → board.grid.width ≡ have.width → board.grid.height ≡ have.height → IsWithin area have.width have.height → cut.number ≡ board.number → cut.bells ≡ board.bells → cut.text ≡ board.text
+    → IsFilled board.grid board.colours have area next cut → IsDone (at_tile have area next) (due_at board.grid have) → BoardStands board us → IsCutOf us (length us) area have cut
+cut_of_board board us area have next cut wide high grid_wide grid_high on number bell text filled done stands =
+    record {
+      known = omega arith;
+      number = number ∙ stands.number;
+      bells = bell ∙ (stands.bells ∙ ap bells same);
+      text = text ∙ (stands.text ∙ ap last_text same);
+      due = λ t lt. marks t lt ∙ (ap (λ (b : Bool). Some b) (lacks_is board.grid have area us t grid_wide grid_high stands.grid lt) ∙ ap (λ vs. Some (due_in have area vs t)) same);
+      all_were_sent = all_is (lacks board.grid have area) have next cut.all_were_sent done filled.sent
+          ∙ (list_all_same (λ t. not (lacks board.grid have area t) || is_some (sent_at have t)) (was_sent_if_due have area us) (tile_count have.width have.height)
+          (λ t lt. ap (λ (b : Bool). not b || is_some (sent_at have t)) (lacks_is board.grid have area us t grid_wide grid_high stands.grid lt))
+          ∙ ap (λ vs. list_all (was_sent_if_due have area vs) (range_with_len 0 (tile_count have.width have.height))) same);
+      colours = λ t x y lt due in_area in_tile. colour t x y lt (lacks_is board.grid have area us t grid_wide grid_high stands.grid lt ∙ (ap (λ vs. due_in have area vs t) same ∙ due)) (has_holds area x y in_area) (has_holds (tile_rect have.width have.height t) x y in_tile)
+          ∙ ap (λ vs. screen vs x y) same;
+    }
+  where
+    same : us ≡ take (length us) us
+    same = sym (take_all (length us) us (omega arith))
+
+    marks : (t : ℕ) → t < tile_count have.width have.height → slice_get cut.due.items t ≡ Some (lacks board.grid have area t)
+    marks t lt = elim (cases_lt t next) [
+      | inl before ↦ filled.done t before lt
+      | inr from ↦ filled.left t from lt ∙ ap (λ (b : Bool). Some b) (sym (done t from lt))
+    ]
+
+    shown : LooksLike have.width have.height (value_at have.width board.colours) (screen us)
+    shown = subst (λ h. LooksLike have.width h (value_at have.width board.colours) (screen us)) high (subst (λ w. LooksLike w board.height (value_at w board.colours) (screen us)) wide stands.screen)
+
+    colour : (t x y : ℕ) → t < tile_count have.width have.height → lacks board.grid have area t ≡ true → Has area x y → Has (tile_rect have.width have.height t) x y → value_at cut.width cut.colours.items x y ≡ screen us x y
+    colour t x y lt due in_area in_tile = elim (cases_lt t next) [
+      | inl before ↦
+          filled.shows t x y before due in_area in_tile ∙ (ap (λ w. value_at w board.colours x y) filled.width
+          ∙ shown x y (omega (arith, in_area.right, on.across)) (omega (arith, in_area.bottom, on.down)))
+      | inr from ↦ not_both (lacks board.grid have area t) due (done t from lt)
+    ]
+
+-- Of what has taken all that is due of a board the rest is as it was.
+pub rest_stays : (grid : Stamps) (colours : List ℕ) (area : Rect) (have : SentTiles) (next : ℕ) (old new : Cut) → old.width ≡ have.width → old.height ≡ have.height → IsFilled grid colours have area next new
+    → IsDone (at_tile have area next) (due_at grid have) → IsLeft grid old.colours.items have area new → RestStays area old new
+rest_stays grid colours area have next old new wide high filled done left t x y lt in_tile out =
+    left t x y there (has_holds (tile_rect have.width have.height t) x y (subst (λ h. holds (tile_rect have.width h t) x y ≡ true) high (subst (λ w. holds (tile_rect w old.height t) x y ≡ true) wide in_tile)))
+    (ap (λ b. b && holds area x y) (sym marks) ∙ out)
+    ∙ ap (λ w. value_at w old.colours.items x y) (filled.width ∙ sym wide)
+  where
+    there : t < tile_count have.width have.height
+    there = rw (sym wide, sym high) lt
+
+    marks : marked new t ≡ lacks grid have area t
+    marks = elim (cases_lt t next) [
+      | inl before ↦ ap (λ (o : Option Bool). unwrap_or o false) (filled.done t before there)
+      | inr from ↦ ap (λ (o : Option Bool). unwrap_or o false) (filled.left t from there) ∙ sym (done t from there)
+    ]
