@@ -49,12 +49,6 @@ fn loads<R: Clock>(rt: &R, word: &AtomicU64) -> Option<u128> {
     if sum == 0 { Some(time) } else { None }
 }
 
-// What a viewer has to which the whole screen was sent at this cut.
-fn has_all(room: &mut Room) {
-    let number = room.cut.number;
-    room.have.keep(&ALL, number);
-}
-
 // The times of puts, in the order of the names.
 fn puts_once<P: Puts, R: Clock>(
     rt: &R,
@@ -88,10 +82,10 @@ fn cuts_once<P: Puts, S: ScreenSource, R: Clock>(
 {
     let mut room = Room::new(alloc).ok()?;
     best[3] = best[3].min(cut(rt, source, &mut room)?);
-    has_all(&mut room);
+    room.keep_all();
     put(rt, alloc, puts, TILE, 7)?;
     best[4] = best[4].min(cut(rt, source, &mut room)?);
-    has_all(&mut room);
+    room.keep_all();
     best[5] = best[5].min(cut(rt, source, &mut room)?);
     Some(())
 }

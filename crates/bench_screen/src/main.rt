@@ -2,6 +2,7 @@
 //! nothing.
 #![tactic(auto)]
 
+mod answered;
 mod beside;
 mod calls;
 mod scene;
@@ -27,13 +28,20 @@ fn run<J: Naming + Send + Sync, R: Threads + Wait + Clock + Sync + Send + Copy +
     opened: Opened,
     rounds: u64,
     looks: u64,
-) -> Result<([u128; 8], [u128; 5]), Fail>
+) -> Result<([u128; 8], [u128; 2], [u128; 5]), Fail>
     requires { (opened.seen.book ≡ J.book) × (1920 ≡ J.width) × (1080 ≡ J.height) }
 {
     let (mut publisher, mut watchers) = shared::<J, R>(rt, alloc, opened, 1920, 1080, PLACES)?;
     let alone = calls::best(&rt, alloc, &mut publisher, watchers.as_mut_slice(), rounds).ok_or(
         "a call was refused",
     )?;
+    let answered = answered::best(
+        &rt,
+        alloc,
+        &mut publisher,
+        watchers.as_mut_slice(),
+        rounds,
+    ).ok_or("a call was refused")?;
     let both = beside::all(
         &rt,
         alloc,
@@ -43,7 +51,7 @@ fn run<J: Naming + Send + Sync, R: Threads + Wait + Clock + Sync + Send + Copy +
         looks,
     )
     .ok_or("a call of many was refused")?;
-    Ok((alone, both))
+    Ok((alone, answered, both))
 }
 
 // The numbers of rounds and looks that were asked for.
@@ -60,8 +68,11 @@ fn main(rt: HostRuntime) -> Result<(), Fail> {
     let Some((rounds, looks)) = asked(&rt)? else {
         return Ok(());
     };
-    let (alone, both) = run::<Brand, _>(rt, rt.alloc(), Opened::new(), rounds, looks)?;
+    let (alone, answered, both) = run::<Brand, _>(rt, rt.alloc(), Opened::new(), rounds, looks)?;
     for (name, time) in calls::NAMES.iter().zip(alone.iter()) {
+        println!(rt; "{name} {time}")?;
+    }
+    for (name, time) in answered::NAMES.iter().zip(answered.iter()) {
         println!(rt; "{name} {time}")?;
     }
     for (name, time) in beside::NAMES.iter().zip(both.iter()) {

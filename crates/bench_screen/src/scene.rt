@@ -71,6 +71,12 @@ impl Room {
         let cut = Cut::new(alloc, 1920, 1080)?;
         Ok(Room { have, cut })
     }
+
+    /// The whole screen was sent at the last cut.
+    pub fn keep_all(&mut self) {
+        let number = self.cut.number;
+        self.have.keep(&ALL, number);
+    }
 }
 
 /// The time in nanoseconds of one cut of the whole screen, if it was had.

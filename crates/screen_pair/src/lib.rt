@@ -11,9 +11,7 @@ mod eye;
 mod news;
 mod published;
 mod publishing;
-mod show;
 mod stamped;
-mod stamps;
 mod writer;
 
 pub use ends::{eyes, pair};

@@ -7,9 +7,7 @@ ghost use Rattle.raster.specs.Size.{IsScreenSize};
 ghost use Rattle.reflect_core.specs.Source.{IsCutOf};
 ghost use Rattle.tally_word.specs.History.{puts_of};
 
-use crate::show::show;
 use crate::stamped::Stamped;
-use crate::stamps::Stamps;
 use left_right::Absorb;
 use painter::Board;
 use pixel_format::Fault;
@@ -25,7 +23,6 @@ use tiles::Have;
 #[derive(Drop)]
 pub struct Published<J: Naming> {
     board: Board,
-    stamps: Stamps,
     front: Front<J>,
 }
 
@@ -38,7 +35,7 @@ impl<J: Naming> Model for Published<J> {
 
     ghost view = { λ p. p.front };
 
-    ghost invariant = { λ p. IsPublished J.width J.height p.board p.stamps p.front };
+    ghost invariant = { λ p. IsPublished J.width J.height p.board p.front };
 }
 
 impl<J: Naming> Absorb<Stamped<J>> for Published<J> {
@@ -80,7 +77,6 @@ impl<J: Naming> Published<J> {
     {
         Ok(Published {
             board: Board::new(alloc, width, height)?,
-            stamps: Stamps::new(alloc, width, height)?,
             front: front.again(),
         })
     }
@@ -108,7 +104,7 @@ impl<J: Naming> Published<J> {
         ensures size { (into.new.width ≡ into.old.width) × (into.new.height ≡ into.old.height) }
         ensures cut { IsCutOf (puts_of self.now) (length (puts_of self.now)) area.now have.now into.new }
     {
-        show(&self.board, &self.stamps, area, have, into);
+        into.fill(&self.board, area, have);
     }
 
     /// Applies the update that comes next.
@@ -120,7 +116,6 @@ impl<J: Naming> Published<J> {
         let mut both = self.front.again();
         both.learn(&next.front);
         self.board.apply(&next.patch);
-        self.stamps.follow(&next.patch, next.number);
         self.front = next.front.again();
     }
 }
