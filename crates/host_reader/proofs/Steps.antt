@@ -4,25 +4,28 @@ use Rattle.std.proofs.lemmas.List.{append-nil, take_all, take-append-drop}
 use Rattle.std.proofs.lemmas.List.Elements.{filter_map-append}
 use Rattle.std.proofs.lemmas.Bool.{cases_lt}
 use Rattle.std.proofs.Math.Seq.{take-add}
-use Rattle.std.specs.Prelude.{min, option_map, Option, Result, OnOk, IfErr}
+use Rattle.std.specs.Prelude.{min, Option, Result, OnOk, IfErr}
 use Rattle.link.specs.Links.{LinkState, HasRisen, TakesAs, with_end, with_failure}
 use Rattle.link.specs.declared.link.Took.{Took}
 use Rattle.link.specs.declared.link.Took.TheVariants as took
 use Rattle.std.specs.List.{filter_map}
-use Rattle.pixel_format.specs.Reading.{Reading, after, taken, whole_of, fault_of, wants_more, renewed, messages, rest, messages_from, rest_from}
+use Rattle.pixel_format.specs.Reading.{Reading, Done, Faulty, Want, after, taken, whole_of, fault_of, wants_more, renewed, messages, rest, messages_from, rest_from}
 use Rattle.pixel_format.specs.declared.fault.Fault.{Fault}
 use Rattle.pixel_format.specs.declared.fault.Fault.TheVariants.{LinkEnded, LinkFailed, Memory, NumbersOut}
-use Rattle.pixel_format.proofs.ReadingLaws.{after-append, found_is, found_none, messages-append, messages-open, messages-taken, none_whole, renewed_from, rest-append, rest-further, rest-taken, taken-le, taken-open, taken-some, wants_from}
-use Rattle.raster.specs.Update.{Update}
+use Rattle.pixel_format.proofs.ReadingLaws.{after-append, messages-append, messages-open, messages-taken, none_whole, renewed_from, rest-append, rest-further, rest-taken, taken-le, taken-open, taken-some, wants_from}
+use Rattle.raster.specs.Screen.{Canvas}
+use Rattle.raster.specs.Update.{Update, after_updates}
 use Rattle.rfb_wire.specs.ServerMessage.{ServerMessage, FramebufferUpdate, SetColorMapEntries, Bell, ServerCutText, LostText}
 use Rattle.painter.specs.Painter.{Painting}
+use Rattle.painter.specs.Same.{AreSameUpdates}
+use Rattle.painter.proofs.SameLaws.{after_each, behind_each, none_each}
 use Rattle.host_decoder.specs.Decoder.{Decodes, Decoding, Feeds, host_message}
-use Rattle.host_decoder.specs.Events.{brought_by, event_of}
+use Rattle.host_decoder.specs.Events.{Brings, BringsWhole, IsSized, brought_by, changes, event_of, screen_behind}
 use Rattle.host_decoder.specs.Updates.{update_of, updates}
 use Rattle.host_decoder.specs.declared.event.HostEvent.{HostEvent}
 use Rattle.reflect_core.specs.Plain.{IsPutRefusal}
 use Rattle.reflect_core.specs.Sequential.{Begins}
-use Rattle.host_reader.specs.Running.{AtFault, CanRead, EndsAt, EndsBetween, EndsWith, IsEventFor, IsInside, HasRead, Stops, outcome}
+use Rattle.host_reader.specs.Running.{ArePut, AtFault, CanRead, EndsAt, EndsBetween, EndsWith, IsInside, HasRead, Stops, outcome}
 
 -- ---- what a message brings
 
@@ -33,18 +36,30 @@ brings w h Bell = refl
 brings w h (ServerCutText text) = refl
 brings w h (LostText len) = refl
 
-suited : (w h : ℕ) (m : ServerMessage) → IsEventFor w h (event_of w h m)
-suited w h (FramebufferUpdate paints) = (refl, refl)
-suited w h SetColorMapEntries = tt
-suited w h Bell = (refl, refl)
-suited w h (ServerCutText text) = (refl, refl)
-suited w h (LostText len) = tt
+-- The message of an event, and that there is none where there is no event.
+pub brought : (w h : ℕ) (screen : Canvas) (answer : Option HostEvent) (event : HostEvent) (now : Reading ServerMessage) → answer ≡ Some event → BringsWhole w h screen answer (whole_of now)
+    → (m : ServerMessage) × (now ≡ Done m) × Brings w h screen event m
+brought w h screen answer event now is gives = brought_by_one now (subst (λ (o : Option HostEvent). BringsWhole w h screen o (whole_of now)) is gives)
+  where
+    brought_by_one : (r : Reading ServerMessage) → BringsWhole w h screen (Some event) (whole_of r) → (m : ServerMessage) × (r ≡ Done m) × Brings w h screen event m
+    brought_by_one (Done m) b = (m, refl, b)
+    brought_by_one (Faulty f) b = absurd b
+    brought_by_one (Want more) b = absurd b
+
+pub unbrought : (w h : ℕ) (screen : Canvas) (answer : Option HostEvent) (now : Reading ServerMessage) → answer ≡ None → BringsWhole w h screen answer (whole_of now) → whole_of now ≡ None
+unbrought w h screen answer now is gives = none_of now (subst (λ (o : Option HostEvent). BringsWhole w h screen o (whole_of now)) is gives)
+  where
+    none_of : (r : Reading ServerMessage) → BringsWhole w h screen None (whole_of r) → whole_of r ≡ None
+    none_of (Done m) b = absurd b
+    none_of (Faulty f) b = refl
+    none_of (Want more) b = refl
 
 -- An event is for the publisher's screen, which is the decoder's.
-pub event_suits : (w h dw dh pw ph : ℕ) (event : HostEvent) (now : Reading ServerMessage) → dw ≡ w → dh ≡ h → pw ≡ w → ph ≡ h → Some event ≡ option_map (event_of dw dh) (whole_of now) → IsEventFor pw ph event
-event_suits w h dw dh pw ph event now a b c d e =
-    let f = found_is (event_of dw dh) event now e in
-    rw (c ∙ sym a, d ∙ sym b) (subst (λ (v : HostEvent). IsEventFor dw dh v) (sym f.2) (suited dw dh f.0))
+pub event_suits : (w h dw dh pw ph : ℕ) (screen : Canvas) (answer : Option HostEvent) (event : HostEvent) (now : Reading ServerMessage) → dw ≡ w → dh ≡ h → pw ≡ w → ph ≡ h → answer ≡ Some event
+    → BringsWhole dw dh screen answer (whole_of now) → IsSized pw ph event
+event_suits w h dw dh pw ph screen answer event now a b c d is gives =
+    let f = brought dw dh screen answer event now is gives in
+    rw (c ∙ sym a, d ∙ sym b) f.2.sized
 
 -- ---- the updates of more bytes
 
@@ -106,84 +121,116 @@ to_the_end stream piece left used e =
     append_assoc stream (take used piece) left ∙ ap (λ (xs : List ℕ). stream ++ xs) (ap (λ (xs : List ℕ). take used piece ++ xs) e ∙ take-append-drop used piece)
 
 -- A decoder for which more is wanted uses some of what it is fed, and no more than there is.
-pub uses_some : (decoder fed : Decoding) (old new : Painting) (now : Reading ServerMessage) (left : List ℕ) (count : ℕ) → wants_more now ≡ true → 0 < length left → Feeds fed new now left (Ok count) → (0 < count) × (count ≤ length left)
-uses_some decoder fed old new now left count w some f =
+pub uses_some : (decoder fed : Decoding) (old new : Painting) (screen : Canvas) (now : Reading ServerMessage) (left : List ℕ) (count : ℕ) → wants_more now ≡ true → 0 < length left → Feeds fed new screen now left (Ok count) → (0 < count) × (count ≤ length left)
+uses_some decoder fed old new screen now left count w some f =
     let least = taken-some now left w some in
     let most = taken-le now left in
     (omega (arith, least, f.1), omega (arith, most, f.1))
 
 -- A message was whole, and its update was put.
-pub read_whole : (w h : ℕ) (decoder fed new : Decoding) (painter other : Painting) (is_between : Bool) (stream left : List ℕ) (old now next : List Update) (count : ℕ) (event : HostEvent)
-    → fed.width ≡ w → fed.height ≡ h → HasRead w h decoder painter is_between stream old now → Feeds fed other (rest (host_message w h) stream) left (Ok count)
-    → Some event ≡ option_map (event_of fed.width fed.height) (whole_of (after (rest (host_message w h) stream) left))
-    → Decodes new other (renewed (host_message fed.width fed.height) (after (rest (host_message w h) stream) left))
-    → next ≡ now ++ brought_by event → HasRead w h new other true (stream ++ take count left) old next
-read_whole w h decoder fed new painter other is_between stream left old now next count event wide high read feeds gives decodes put =
+pub read_whole : (w h : ℕ) (screen : Canvas) (decoder fed new : Decoding) (painter other : Painting) (is_between : Bool) (stream left : List ℕ) (old now next : List Update) (count : ℕ) (answer : Option HostEvent) (event : HostEvent)
+    → fed.width ≡ w → fed.height ≡ h → HasRead w h screen decoder painter is_between stream old now → Feeds fed other (after_updates screen (updates w h stream)) (rest (host_message w h) stream) left (Ok count) → answer ≡ Some event
+    → BringsWhole fed.width fed.height (after_updates screen (updates w h stream)) answer (whole_of (after (rest (host_message w h) stream) left))
+    → Decodes new other (screen_behind fed.width fed.height (after_updates screen (updates w h stream)) (whole_of (after (rest (host_message w h) stream) left))) (renewed (host_message fed.width fed.height) (after (rest (host_message w h) stream) left))
+    → next ≡ now ++ brought_by event → HasRead w h screen new other true (stream ++ take count left) old next
+read_whole w h screen decoder fed new painter other is_between stream left old now next count answer event wide high read feeds is gives decodes put =
     let form = host_message w h in
     let r = rest form stream in
-    let f = found_is (event_of fed.width fed.height) event (after r left) gives in
+    let before : Canvas = after_updates screen (updates w h stream) in
+    let given : BringsWhole w h before answer (whole_of (after r left)) =
+    subst (λ (a : ℕ). BringsWhole a h before answer (whole_of (after r left))) wide (subst (λ (b : ℕ). BringsWhole fed.width b before answer (whole_of (after r left))) high gives) in
+    let f = brought w h before answer event (after r left) is given in
     let n : take count left ≡ take (taken r left) left = ap (λ k. take k left) feeds.1 in
     let ends : rest form (stream ++ take count left) ≡ form =
     rest-append form form stream (take count left) ∙ (ap (λ (xs : List ℕ). rest_from form r xs) n ∙ rest-taken form r left f.0 read.wants f.1) in
     let one : messages_from form r (take count left) ≡ f.0 ∷ [] = ap (λ (xs : List ℕ). messages_from form r xs) n ∙ messages-taken form r left f.0 read.wants f.1 in
-    let more : updates w h (stream ++ take count left) ≡ updates w h stream ++ brought_by event =
+    let more : updates w h (stream ++ take count left) ≡ updates w h stream ++ changes w h f.0 =
     updates_more w h stream (take count left)
-    ∙ (ap (λ (ms : List ServerMessage). updates w h stream ++ filter_map update_of ms) one ∙ ap (λ (us : List Update). updates w h stream ++ us) (sym (ap brought_by f.2 ∙ brings fed.width fed.height f.0))) in
+    ∙ (ap (λ (ms : List ServerMessage). updates w h stream ++ filter_map update_of ms) one ∙ ap (λ (us : List Update). updates w h stream ++ us) (sym (brings w h f.0))) in
+    let behind : screen_behind fed.width fed.height before (whole_of (after r left)) ≡ after_updates screen (updates w h (stream ++ take count left)) =
+    ap (λ (a : ℕ). screen_behind a fed.height before (whole_of (after r left))) wide
+    ∙ (ap (λ (b : ℕ). screen_behind w b before (whole_of (after r left))) high
+    ∙ (ap (λ (q : Reading ServerMessage). screen_behind w h before (whole_of q)) f.1
+    ∙ (sym (after_each screen (updates w h stream) (changes w h f.0)) ∙ ap (after_updates screen) (sym more)))) in
     let anew : renewed (host_message fed.width fed.height) (after r left) ≡ form = ap (λ (q : Reading ServerMessage). renewed (host_message fed.width fed.height) q) f.1 ∙ (ap (λ a. host_message a fed.height) wide ∙ ap (host_message w) high) in
     record {
-      reads = subst (λ (q : Reading ServerMessage). Decodes new other q) (anew ∙ sym ends) decodes;
+      reads = subst (λ (c : Canvas). Decodes new other c (rest form (stream ++ take count left))) behind
+          (subst (λ (q : Reading ServerMessage). Decodes new other (screen_behind fed.width fed.height before (whole_of (after r left))) q) (anew ∙ sym ends) decodes);
       wants = ap wants_more ends;
       ends = ends;
-      put = put ∙ (ap (λ (us : List Update). us ++ brought_by event) read.put ∙ (append_assoc old (updates w h stream) (brought_by event) ∙ ap (λ (us : List Update). old ++ us) (sym more)));
+      put = record {
+        put = read.put.put ++ brought_by event;
+        added = put ∙ (ap (λ (us : List Update). us ++ brought_by event) read.put.added ∙ append_assoc old read.put.put (brought_by event));
+        same = subst (λ (us : List Update). AreSameUpdates w h screen us (read.put.put ++ brought_by event)) (sym more)
+            (behind_each w h screen (updates w h stream) read.put.put (changes w h f.0) (brought_by event) read.put.same f.2.same);
+      };
     }
 
+-- What was put is what the same bytes bring, where some more bring nothing.
+put_same : (w h : ℕ) (screen : Canvas) (stream other : List ℕ) (old now : List Update) → updates w h other ≡ updates w h stream → ArePut w h screen stream old now → ArePut w h screen other old now
+put_same w h screen stream other old now same put = record { put = put.put; added = put.added; same = subst (λ (us : List Update). AreSameUpdates w h screen us put.put) (sym same) put.same }
+
 -- None was.
-pub read_open : (w h : ℕ) (decoder fed new : Decoding) (painter other : Painting) (is_between : Bool) (stream left : List ℕ) (old now : List Update) (count : ℕ)
-    → 0 < length left → HasRead w h decoder painter is_between stream old now → Feeds fed other (rest (host_message w h) stream) left (Ok count)
-    → None ≡ option_map (event_of fed.width fed.height) (whole_of (after (rest (host_message w h) stream) left))
-    → Decodes new other (renewed (host_message fed.width fed.height) (after (rest (host_message w h) stream) left))
-    → HasRead w h new other false (stream ++ take count left) old now
-read_open w h decoder fed new painter other is_between stream left old now count some read feeds gives decodes =
+pub read_open : (w h : ℕ) (screen : Canvas) (decoder fed new : Decoding) (painter other : Painting) (is_between : Bool) (stream left : List ℕ) (old now : List Update) (count : ℕ) (answer : Option HostEvent)
+    → 0 < length left → HasRead w h screen decoder painter is_between stream old now → Feeds fed other (after_updates screen (updates w h stream)) (rest (host_message w h) stream) left (Ok count) → answer ≡ None
+    → BringsWhole fed.width fed.height (after_updates screen (updates w h stream)) answer (whole_of (after (rest (host_message w h) stream) left))
+    → Decodes new other (screen_behind fed.width fed.height (after_updates screen (updates w h stream)) (whole_of (after (rest (host_message w h) stream) left))) (renewed (host_message fed.width fed.height) (after (rest (host_message w h) stream) left))
+    → HasRead w h screen new other false (stream ++ take count left) old now
+read_open w h screen decoder fed new painter other is_between stream left old now count answer some read feeds is gives decodes =
     let form = host_message w h in
     let r = rest form stream in
-    let none : whole_of (after r left) ≡ None = found_none (event_of fed.width fed.height) (after r left) gives in
+    let before : Canvas = after_updates screen (updates w h stream) in
+    let none : whole_of (after r left) ≡ None = unbrought fed.width fed.height before answer (after r left) is gives in
     let wants : wants_more (after r left) ≡ true = wants_from (after r left) none feeds.2 in
     let all : count ≡ length left = feeds.1 ∙ taken-open r left wants in
     let whole : take count left ≡ left = take_all count left (omega (arith, all)) in
     let goes : rest form (stream ++ left) ≡ after r left = rest-further (host_message w h) (host_message w h) stream left none in
-    let inside : HasRead w h new other false (stream ++ left) old now =
+    let same : updates w h (stream ++ left) ≡ updates w h stream = updates_same w h stream left none in
+    let behind : screen_behind fed.width fed.height before (whole_of (after r left)) ≡ after_updates screen (updates w h (stream ++ left)) =
+    ap (screen_behind fed.width fed.height before) none ∙ ap (after_updates screen) (sym same) in
+    let inside : HasRead w h screen new other false (stream ++ left) old now =
     record {
-      reads = subst (λ (q : Reading ServerMessage). Decodes new other q) (renewed_from (host_message fed.width fed.height) (after r left) none ∙ sym goes) decodes;
+      reads = subst (λ (c : Canvas). Decodes new other c (rest form (stream ++ left))) behind
+          (subst (λ (q : Reading ServerMessage). Decodes new other (screen_behind fed.width fed.height before (whole_of (after r left))) q) (renewed_from (host_message fed.width fed.height) (after r left) none ∙ sym goes) decodes);
       wants = ap wants_more goes ∙ wants;
       ends = goes_inside w h is_between stream left read.ends some wants;
-      put = read.put ∙ ap (λ (us : List Update). old ++ us) (sym (updates_same w h stream left none));
+      put = put_same w h screen stream (stream ++ left) old now same read.put;
     } in
-    subst (λ (xs : List ℕ). HasRead w h new other false (stream ++ xs) old now) (sym whole) inside
+    subst (λ (xs : List ℕ). HasRead w h screen new other false (stream ++ xs) old now) (sym whole) inside
 
 -- The decoder is at a fault, or was refused memory.
-pub read_stops : (w h : ℕ) (decoder fed : Decoding) (painter other : Painting) (is_between : Bool) (stream left whole : List ℕ) (old now : List Update) (fault : Fault)
-    → stream ++ left ≡ whole → HasRead w h decoder painter is_between stream old now → Feeds fed other (rest (host_message w h) stream) left (Err fault) → Stops w h fault whole old now
-read_stops w h decoder fed painter other is_between stream left whole old now fault e read (inl refused) =
-    inl (record { put = updates w h stream; added = read.put; begins = subst (λ (xs : List ℕ). Begins (updates w h stream) (updates w h xs)) e (updates_begin w h stream left); why = inl refused.0 })
-read_stops w h decoder fed painter other is_between stream left whole old now fault e read (inr faulty) =
+pub read_stops : (w h : ℕ) (screen : Canvas) (decoder fed : Decoding) (painter other : Painting) (is_between : Bool) (stream left whole : List ℕ) (old now : List Update) (fault : Fault)
+    → stream ++ left ≡ whole → HasRead w h screen decoder painter is_between stream old now → Feeds fed other (after_updates screen (updates w h stream)) (rest (host_message w h) stream) left (Err fault) → Stops w h screen fault whole old now
+read_stops w h screen decoder fed painter other is_between stream left whole old now fault e read (inl refused) =
+    inl (record {
+      put = read.put.put;
+      added = read.put.added;
+      first = updates w h stream;
+      begins = subst (λ (xs : List ℕ). Begins (updates w h stream) (updates w h xs)) e (updates_begin w h stream left);
+      same = read.put.same;
+      why = inl refused.0;
+    })
+read_stops w h screen decoder fed painter other is_between stream left whole old now fault e read (inr faulty) =
     let r = rest (host_message w h) stream in
     let none : whole_of (after r left) ≡ None = ap whole_of faulty.0 in
-    let at : AtFault w h fault (stream ++ left) old now =
-    record { put = read.put ∙ ap (λ (us : List Update). old ++ us) (sym (updates_same w h stream left none)); rest = rest-further (host_message w h) (host_message w h) stream left none ∙ faulty.0 } in
-    inr (subst (λ (xs : List ℕ). AtFault w h fault xs old now) e at)
+    let at : AtFault w h screen fault (stream ++ left) old now =
+    record { put = put_same w h screen stream (stream ++ left) old now (updates_same w h stream left none) read.put; rest = rest-further (host_message w h) (host_message w h) stream left none ∙ faulty.0 } in
+    inr (subst (λ (xs : List ℕ). AtFault w h screen fault xs old now) e at)
 
 why_refused : (count : ℕ) (fault : Fault) → IsPutRefusal count fault → (fault ≡ Memory) ⊎ ((fault ≡ NumbersOut) × (count ≡ 2 ^ 62))
 why_refused count fault (inl p) = inl p.1
 why_refused count fault (inr p) = inr (p.1, p.0)
 
 -- An update was refused.
-pub put_stops : (w h : ℕ) (decoder : Decoding) (painter : Painting) (is_between : Bool) (stream left whole : List ℕ) (old now next : List Update) (fault : Fault)
-    → stream ++ left ≡ whole → HasRead w h decoder painter is_between stream old now → IsPutRefusal (length now) fault → next ≡ now → Stops w h fault whole old next
-put_stops w h decoder painter is_between stream left whole old now next fault e read refused same =
+pub put_stops : (w h : ℕ) (screen : Canvas) (decoder : Decoding) (painter : Painting) (is_between : Bool) (stream left whole : List ℕ) (old now next : List Update) (fault : Fault)
+    → stream ++ left ≡ whole → HasRead w h screen decoder painter is_between stream old now → IsPutRefusal (length now) fault → next ≡ now → Stops w h screen fault whole old next
+put_stops w h screen decoder painter is_between stream left whole old now next fault e read refused same =
     inl (
     record {
-      put = updates w h stream;
-      added = same ∙ read.put;
+      put = read.put.put;
+      added = same ∙ read.put.added;
+      first = updates w h stream;
+      same = read.put.same;
       begins = subst (λ (xs : List ℕ). Begins (updates w h stream) (updates w h xs)) e (updates_begin w h stream left);
       why = subst (λ (us : List Update). (fault ≡ Memory) ⊎ ((fault ≡ NumbersOut) × (length us ≡ 2 ^ 62))) (sym same) (why_refused (length now) fault refused);
     }
@@ -192,36 +239,46 @@ put_stops w h decoder painter is_between stream left whole old now next fault e 
 -- ---- the loop over pieces
 
 -- Since the link stood as old and the publisher had the updates old, these bytes more were taken, and all was read and put. The link was given nothing, and neither failed nor ended.
-pub record IsRunning (w h : ℕ) (decoder : Decoding) (painter : Painting) (is_between : Bool) (link_old link_now : LinkState) (old now : List Update) : Type 0 where
+pub record IsRunning (w h : ℕ) (screen : Canvas) (decoder : Decoding) (painter : Painting) (is_between : Bool) (link_old link_now : LinkState) (old now : List Update) : Type 0 where
   pub stream : List ℕ
   pub took : link_now ≡ record link_old { taken = link_old.taken ++ stream }
-  pub read : HasRead w h decoder painter is_between stream old now
+  pub read : HasRead w h screen decoder painter is_between stream old now
 
-pub running_begins : (decoder : Decoding) (painter : Painting) (link : LinkState) (old : List Update) → Decodes decoder painter (host_message decoder.width decoder.height)
-    → IsRunning decoder.width decoder.height decoder painter true link link old old
-running_begins decoder painter link old decodes =
+pub running_begins : (screen : Canvas) (decoder : Decoding) (painter : Painting) (link : LinkState) (old : List Update) → Decodes decoder painter screen (host_message decoder.width decoder.height)
+    → IsRunning decoder.width decoder.height screen decoder painter true link link old old
+running_begins screen decoder painter link old decodes =
     record {
       stream = [];
       took = ap (λ (bs : List ℕ). record link { taken = bs }) (sym (append-nil link.taken));
-      read = record { reads = decodes; wants = refl; ends = refl; put = sym (append-nil old) };
+      read = record { reads = decodes; wants = refl; ends = refl; put = record { put = []; added = sym (append-nil old); same = none_each decoder.width decoder.height screen } };
     }
 
 -- ---- more is wanted
 
 -- Behind a whole message another is wanted.
-pub can_whole : (fed new : Decoding) (other : Painting) (now : Reading ServerMessage) (event : HostEvent) → Some event ≡ option_map (event_of fed.width fed.height) (whole_of now)
-    → Decodes new other (renewed (host_message fed.width fed.height) now) → CanRead new other
-can_whole fed new other now event gives decodes =
+pub can_whole : (fed new : Decoding) (other : Painting) (screen : Canvas) (now : Reading ServerMessage) (answer : Option HostEvent) (event : HostEvent) → answer ≡ Some event → BringsWhole fed.width fed.height screen answer (whole_of now)
+    → Decodes new other (screen_behind fed.width fed.height screen (whole_of now)) (renewed (host_message fed.width fed.height) now) → CanRead new other
+can_whole fed new other screen now answer event is gives decodes =
     let form = host_message fed.width fed.height in
-    let f = found_is (event_of fed.width fed.height) event now gives in
-    record { reading = form; reads = subst (λ (q : Reading ServerMessage). Decodes new other q) (ap (λ (q : Reading ServerMessage). renewed form q) f.1) decodes; wants = refl }
+    let f = brought fed.width fed.height screen answer event now is gives in
+    record {
+      screen = screen_behind fed.width fed.height screen (whole_of now);
+      reading = form;
+      reads = subst (λ (q : Reading ServerMessage). Decodes new other (screen_behind fed.width fed.height screen (whole_of now)) q) (ap (λ (q : Reading ServerMessage). renewed form q) f.1) decodes;
+      wants = refl;
+    }
 
 -- And inside one more of it.
-pub can_open : (fed new : Decoding) (other : Painting) (now : Reading ServerMessage) → None ≡ option_map (event_of fed.width fed.height) (whole_of now) → fault_of now ≡ None
-    → Decodes new other (renewed (host_message fed.width fed.height) now) → CanRead new other
-can_open fed new other now gives fine decodes =
-    let none = found_none (event_of fed.width fed.height) now gives in
-    record { reading = now; reads = subst (λ (q : Reading ServerMessage). Decodes new other q) (renewed_from (host_message fed.width fed.height) now none) decodes; wants = wants_from now none fine }
+pub can_open : (fed new : Decoding) (other : Painting) (screen : Canvas) (now : Reading ServerMessage) (answer : Option HostEvent) → answer ≡ None → BringsWhole fed.width fed.height screen answer (whole_of now) → fault_of now ≡ None
+    → Decodes new other (screen_behind fed.width fed.height screen (whole_of now)) (renewed (host_message fed.width fed.height) now) → CanRead new other
+can_open fed new other screen now answer is gives fine decodes =
+    let none = unbrought fed.width fed.height screen answer now is gives in
+    record {
+      screen = screen_behind fed.width fed.height screen (whole_of now);
+      reading = now;
+      reads = subst (λ (q : Reading ServerMessage). Decodes new other (screen_behind fed.width fed.height screen (whole_of now)) q) (renewed_from (host_message fed.width fed.height) now none) decodes;
+      wants = wants_from now none fine;
+    }
 
 -- What stands at the front of the buffer was taken.
 pub took_piece : (old new : LinkState) (into seen piece : List ℕ) (count : ℕ) → piece ≡ take count seen → seen ≡ into → new ≡ record old { taken = old.taken ++ take count into } → new ≡ record old { taken = old.taken ++ piece }
@@ -233,31 +290,31 @@ took_more old now next stream piece first took =
     took ∙ (ap (λ (l : LinkState). record l { taken = l.taken ++ piece }) first ∙ ap (λ (bs : List ℕ). record old { taken = bs }) (append_assoc old.taken stream piece))
 
 -- A piece more was taken, and read to its end.
-pub running_goes_on : (w h : ℕ) (decoder new : Decoding) (painter other : Painting) (is_between goes_between : Bool) (link_old link_now link_next : LinkState) (piece : List ℕ) (old now next : List Update)
-    → decoder.width ≡ w → decoder.height ≡ h → IsRunning w h decoder painter is_between link_old link_now old now → link_next ≡ record link_now { taken = link_now.taken ++ piece }
-    → ((stream : List ℕ) → (since : List Update) → HasRead decoder.width decoder.height decoder painter is_between stream since now → HasRead decoder.width decoder.height new other goes_between (stream ++ piece) since next)
-    → IsRunning w h new other goes_between link_old link_next old next
-running_goes_on w h decoder new painter other is_between goes_between link_old link_now link_next piece old now next wide high running took puts =
-    let read = subst (λ a. HasRead a decoder.height decoder painter is_between running.stream old now) (sym wide) (subst (λ b. HasRead w b decoder painter is_between running.stream old now) (sym high) running.read) in
+pub running_goes_on : (w h : ℕ) (screen : Canvas) (decoder new : Decoding) (painter other : Painting) (is_between goes_between : Bool) (link_old link_now link_next : LinkState) (piece : List ℕ) (old now next : List Update)
+    → decoder.width ≡ w → decoder.height ≡ h → IsRunning w h screen decoder painter is_between link_old link_now old now → link_next ≡ record link_now { taken = link_now.taken ++ piece }
+    → ((stream : List ℕ) → (since : List Update) → HasRead decoder.width decoder.height screen decoder painter is_between stream since now → HasRead decoder.width decoder.height screen new other goes_between (stream ++ piece) since next)
+    → IsRunning w h screen new other goes_between link_old link_next old next
+running_goes_on w h screen decoder new painter other is_between goes_between link_old link_now link_next piece old now next wide high running took puts =
+    let read = subst (λ a. HasRead a decoder.height screen decoder painter is_between running.stream old now) (sym wide) (subst (λ b. HasRead w b screen decoder painter is_between running.stream old now) (sym high) running.read) in
     let more = puts running.stream old read in
     record {
       stream = running.stream ++ piece;
       took = took_more link_old link_now link_next running.stream piece running.took took;
-      read = subst (λ a. HasRead a h new other goes_between (running.stream ++ piece) old next) wide (subst (λ b. HasRead decoder.width b new other goes_between (running.stream ++ piece) old next) high more);
+      read = subst (λ a. HasRead a h screen new other goes_between (running.stream ++ piece) old next) wide (subst (λ b. HasRead decoder.width b screen new other goes_between (running.stream ++ piece) old next) high more);
     }
 
 -- Or it wasn't.
-pub running_stops : (w h : ℕ) (decoder : Decoding) (painter : Painting) (is_between : Bool) (link_old link_now link_next : LinkState) (piece : List ℕ) (old now next : List Update) (fault : Fault)
-    → decoder.width ≡ w → decoder.height ≡ h → IsRunning w h decoder painter is_between link_old link_now old now → link_next ≡ record link_now { taken = link_now.taken ++ piece }
-    → ((stream : List ℕ) → (since : List Update) → HasRead decoder.width decoder.height decoder painter is_between stream since now → Stops decoder.width decoder.height fault (stream ++ piece) since next)
-    → EndsWith w h fault link_old link_next old next
-running_stops w h decoder painter is_between link_old link_now link_next piece old now next fault wide high running took stops =
-    let read = subst (λ a. HasRead a decoder.height decoder painter is_between running.stream old now) (sym wide) (subst (λ b. HasRead w b decoder painter is_between running.stream old now) (sym high) running.read) in
+pub running_stops : (w h : ℕ) (screen : Canvas) (decoder : Decoding) (painter : Painting) (is_between : Bool) (link_old link_now link_next : LinkState) (piece : List ℕ) (old now next : List Update) (fault : Fault)
+    → decoder.width ≡ w → decoder.height ≡ h → IsRunning w h screen decoder painter is_between link_old link_now old now → link_next ≡ record link_now { taken = link_now.taken ++ piece }
+    → ((stream : List ℕ) → (since : List Update) → HasRead decoder.width decoder.height screen decoder painter is_between stream since now → Stops decoder.width decoder.height screen fault (stream ++ piece) since next)
+    → EndsWith w h screen fault link_old link_next old next
+running_stops w h screen decoder painter is_between link_old link_now link_next piece old now next fault wide high running took stops =
+    let read = subst (λ a. HasRead a decoder.height screen decoder painter is_between running.stream old now) (sym wide) (subst (λ b. HasRead w b screen decoder painter is_between running.stream old now) (sym high) running.read) in
     let stopped = stops running.stream old read in
     record {
       stream = running.stream ++ piece;
       taken = ap (λ (l : LinkState). l.taken) (took_more link_old link_now link_next running.stream piece running.took took);
-      stops = inr (subst (λ a. Stops a h fault (running.stream ++ piece) old next) wide (subst (λ b. Stops decoder.width b fault (running.stream ++ piece) old next) high stopped));
+      stops = inr (subst (λ a. Stops a h screen fault (running.stream ++ piece) old next) wide (subst (λ b. Stops decoder.width b screen fault (running.stream ++ piece) old next) high stopped));
     }
 
 rises_by : (limit old new : ℕ) → new ≡ min limit (old + 1) → (old < limit) ⊎ (limit ≤ old) → (old < new) ⊎ (new ≡ limit)
@@ -268,16 +325,16 @@ rises : (old new : ℕ) → new ≡ min (2 ^ 62) (old + 1) → HasRisen old new
 rises old new next = rises_by (2 ^ 62) old new next (cases_lt old (2 ^ 62))
 
 -- The link failed.
-running_fails : (w h : ℕ) (decoder : Decoding) (painter : Painting) (is_between : Bool) (link_old link_now link_next : LinkState) (old now : List Update)
-    → IsRunning w h decoder painter is_between link_old link_now old now → link_next ≡ with_failure link_now → EndsWith w h LinkFailed link_old link_next old now
-running_fails w h decoder painter is_between link_old link_now link_next old now running failed =
+running_fails : (w h : ℕ) (screen : Canvas) (decoder : Decoding) (painter : Painting) (is_between : Bool) (link_old link_now link_next : LinkState) (old now : List Update)
+    → IsRunning w h screen decoder painter is_between link_old link_now old now → link_next ≡ with_failure link_now → EndsWith w h screen LinkFailed link_old link_next old now
+running_fails w h screen decoder painter is_between link_old link_now link_next old now running failed =
     let last : link_next ≡ with_failure (record link_old { taken = link_old.taken ++ running.stream }) = failed ∙ ap with_failure running.took in
     record { stream = running.stream; taken = ap (λ (l : LinkState). l.taken) last; stops = inl (running.read.put, rises link_old.failed link_next.failed (ap (λ (l : LinkState). l.failed) last)) }
 
 -- The link said that it ended, between two messages.
-running_ends : (w h : ℕ) (decoder : Decoding) (painter : Painting) (link_old link_now link_next : LinkState) (old now : List Update)
-    → IsRunning w h decoder painter true link_old link_now old now → link_next ≡ with_end link_now → EndsBetween w h link_old link_next old now
-running_ends w h decoder painter link_old link_now link_next old now running ended =
+running_ends : (w h : ℕ) (screen : Canvas) (decoder : Decoding) (painter : Painting) (link_old link_now link_next : LinkState) (old now : List Update)
+    → IsRunning w h screen decoder painter true link_old link_now old now → link_next ≡ with_end link_now → EndsBetween w h screen link_old link_next old now
+running_ends w h screen decoder painter link_old link_now link_next old now running ended =
     let last : link_next ≡ with_end (record link_old { taken = link_old.taken ++ running.stream }) = ended ∙ ap with_end running.took in
     record {
       stream = running.stream;
@@ -289,9 +346,9 @@ running_ends w h decoder painter link_old link_now link_next old now running end
     }
 
 -- Or inside one.
-running_ends_inside : (w h : ℕ) (decoder : Decoding) (painter : Painting) (link_old link_now link_next : LinkState) (old now : List Update)
-    → IsRunning w h decoder painter false link_old link_now old now → link_next ≡ with_end link_now → EndsWith w h LinkEnded link_old link_next old now
-running_ends_inside w h decoder painter link_old link_now link_next old now running ended =
+running_ends_inside : (w h : ℕ) (screen : Canvas) (decoder : Decoding) (painter : Painting) (link_old link_now link_next : LinkState) (old now : List Update)
+    → IsRunning w h screen decoder painter false link_old link_now old now → link_next ≡ with_end link_now → EndsWith w h screen LinkEnded link_old link_next old now
+running_ends_inside w h screen decoder painter link_old link_now link_next old now running ended =
     let last : link_next ≡ with_end (record link_old { taken = link_old.taken ++ running.stream }) = ended ∙ ap with_end running.took in
     record {
       stream = running.stream;
@@ -318,26 +375,44 @@ gives_nothing took.End old new into takes = ap (λ (l : LinkState). l.given) tak
 gives_nothing took.Failed old new into takes = ap (λ (l : LinkState). l.given) takes
 
 -- Nor was it so far.
-pub running_given : (w h : ℕ) (decoder : Decoding) (painter : Painting) (is_between : Bool) (link_old link_now : LinkState) (old now : List Update) → IsRunning w h decoder painter is_between link_old link_now old now → link_now.given ≡ link_old.given
-running_given w h decoder painter is_between link_old link_now old now running = ap (λ (l : LinkState). l.given) running.took
+pub running_given : (w h : ℕ) (screen : Canvas) (decoder : Decoding) (painter : Painting) (is_between : Bool) (link_old link_now : LinkState) (old now : List Update) → IsRunning w h screen decoder painter is_between link_old link_now old now → link_now.given ≡ link_old.given
+running_given w h screen decoder painter is_between link_old link_now old now running = ap (λ (l : LinkState). l.given) running.took
+
+-- What is wanted is what can be read.
+pub running_reads : (w h : ℕ) (screen : Canvas) (decoder : Decoding) (painter : Painting) (is_between : Bool) (link_old link_now : LinkState) (old now : List Update) → IsRunning w h screen decoder painter is_between link_old link_now old now → CanRead decoder painter
+running_reads w h screen decoder painter is_between link_old link_now old now running =
+    record { screen = after_updates screen (updates w h running.stream); reading = rest (host_message w h) running.stream; reads = running.read.reads; wants = running.read.wants }
+
+-- Nothing was taken, since there was no room.
+pub no_room : (w h : ℕ) (screen : Canvas) (link : LinkState) (old : List Update) → EndsWith w h screen Memory link link old old
+no_room w h screen link old =
+    record {
+      stream = [];
+      taken = sym (append-nil link.taken);
+      stops = inr (inl (record { put = []; added = sym (append-nil old); first = []; begins = (updates w h [], refl); same = none_each w h screen; why = inl refl }));
+    }
 
 -- What the run then answers, and what was put.
-pub record EndsSo (w h : ℕ) (link_old link_new : LinkState) (old new : List Update) (answer : Result (Unit {0}) Fault) : Type 0 where
-  pub ok : OnOk answer (EndsBetween w h link_old link_new old new)
-  pub err : IfErr answer (λ fault. EndsWith w h fault link_old link_new old new)
+pub record EndsSo (w h : ℕ) (Began : Canvas → Type 0) (link_old link_new : LinkState) (old new : List Update) (answer : Result (Unit {0}) Fault) : Type 0 where
+  pub ok : OnOk answer ((screen : Canvas) → Began screen → EndsBetween w h screen link_old link_new old new)
+  pub err : IfErr answer (λ fault. (screen : Canvas) → Began screen → EndsWith w h screen fault link_old link_new old new)
 
 -- The link's answer ends the run.
-pub run_ends : (w h : ℕ) (decoder : Decoding) (painter : Painting) (said : Took) (is_between : Bool) (ends : Option (Result (Unit {0}) Fault)) (answer : Result (Unit {0}) Fault)
+pub run_ends : (w h : ℕ) (Began : Canvas → Type 0) (decoder : Decoding) (painter : Painting) (said : Took) (is_between : Bool) (ends : Option (Result (Unit {0}) Fault)) (answer : Result (Unit {0}) Fault)
     (link_old link_now link_next : LinkState) (into : List ℕ) (old now : List Update)
-    → ends ≡ outcome said is_between → ends ≡ Some answer → IsRunning w h decoder painter is_between link_old link_now old now → TakesAs said link_now link_next into → EndsSo w h link_old link_next old now answer
-run_ends w h decoder painter (took.Bytes count) is_between ends answer link_old link_now link_next into old now is ended running takes = absurd cc
-run_ends w h decoder painter took.Nothing is_between ends answer link_old link_now link_next into old now is ended running takes = absurd cc
-run_ends w h decoder painter took.End true ends answer link_old link_now link_next into old now is ended running takes =
+    → ends ≡ outcome said is_between → ends ≡ Some answer → ((screen : Canvas) → Began screen → IsRunning w h screen decoder painter is_between link_old link_now old now) → TakesAs said link_now link_next into
+    → EndsSo w h Began link_old link_next old now answer
+run_ends w h Began decoder painter (took.Bytes count) is_between ends answer link_old link_now link_next into old now is ended running takes = absurd cc
+run_ends w h Began decoder painter took.Nothing is_between ends answer link_old link_now link_next into old now is ended running takes = absurd cc
+run_ends w h Began decoder painter took.End true ends answer link_old link_now link_next into old now is ended running takes =
     let same : Ok tt ≡ answer = cc in
-    subst (EndsSo w h link_old link_next old now) same (record { ok = running_ends w h decoder painter link_old link_now link_next old now running takes; err = tt })
-run_ends w h decoder painter took.End false ends answer link_old link_now link_next into old now is ended running takes =
+    subst (EndsSo w h Began link_old link_next old now) same
+    (record { ok = λ screen began. running_ends w h screen decoder painter link_old link_now link_next old now (running screen began) takes; err = tt })
+run_ends w h Began decoder painter took.End false ends answer link_old link_now link_next into old now is ended running takes =
     let same : Err LinkEnded ≡ answer = cc in
-    subst (EndsSo w h link_old link_next old now) same (record { ok = tt; err = running_ends_inside w h decoder painter link_old link_now link_next old now running takes })
-run_ends w h decoder painter took.Failed is_between ends answer link_old link_now link_next into old now is ended running takes =
+    subst (EndsSo w h Began link_old link_next old now) same
+    (record { ok = tt; err = λ screen began. running_ends_inside w h screen decoder painter link_old link_now link_next old now (running screen began) takes })
+run_ends w h Began decoder painter took.Failed is_between ends answer link_old link_now link_next into old now is ended running takes =
     let same : Err LinkFailed ≡ answer = cc in
-    subst (EndsSo w h link_old link_next old now) same (record { ok = tt; err = running_fails w h decoder painter is_between link_old link_now link_next old now running takes })
+    subst (EndsSo w h Began link_old link_next old now) same
+    (record { ok = tt; err = λ screen began. running_fails w h screen decoder painter is_between link_old link_now link_next old now (running screen began) takes })

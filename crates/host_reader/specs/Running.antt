@@ -3,14 +3,14 @@ use Rattle.std.specs.Prelude.{◌≡◌, ℕ, ◌^◌, ◌<◌, ◌⊎◌, Bool,
 use Rattle.pixel_format.specs.Reading.{Reading, Faulty, after, rest, wants_more}
 use Rattle.pixel_format.specs.declared.fault.Fault.{Fault}
 use Rattle.pixel_format.specs.declared.fault.Fault.TheVariants.{LinkEnded, LinkFailed, Memory, NumbersOut}
-use Rattle.raster.specs.Update.{Update}
+use Rattle.raster.specs.Screen.{Canvas}
+use Rattle.raster.specs.Update.{Update, after_updates}
 use Rattle.painter.specs.Painter.{Painting}
+use Rattle.painter.specs.Same.{AreSameUpdates}
 use Rattle.link.specs.Links.{LinkState, HasRisen}
 use Rattle.link.specs.declared.link.Took.{Took}
 use Rattle.link.specs.declared.link.Took.TheVariants as took
 use Rattle.rfb_wire.specs.ServerMessage.{ServerMessage}
-use Rattle.host_decoder.specs.declared.event.HostEvent.{HostEvent}
-use Rattle.host_decoder.specs.declared.event.HostEvent.TheVariants as event
 use Rattle.host_decoder.specs.Decoder.{Decodes, Decoding, host_message}
 use Rattle.host_decoder.specs.Updates.{updates}
 use Rattle.reflect_core.specs.Sequential.{Begins}
@@ -29,41 +29,38 @@ abbrev pub EndsAt : Bool → ℕ → ℕ → List ℕ → Type 0
 EndsAt true w h stream = rest (host_message w h) stream ≡ host_message w h
 EndsAt false w h stream = IsInside w h stream
 
--- Each patch is for a screen of w by h.
-abbrev pub IsEventFor : ℕ → ℕ → HostEvent → Type 0
-IsEventFor w h (event.Paint patch) = (patch.width ≡ w) × (patch.height ≡ h)
-IsEventFor w h (event.Bell patch) = (patch.width ≡ w) × (patch.height ≡ h)
-IsEventFor w h (event.Cut patch) = (patch.width ≡ w) × (patch.height ≡ h)
-IsEventFor w h event.Map = Unit {0}
-IsEventFor w h event.LongCut = Unit {0}
-
 -- ---- how it ends
 
--- Since a publisher had the updates old, exactly those of the host's bytes were put, in order.
-abbrev pub ArePut : ℕ → ℕ → (stream : List ℕ) → (old new : List Update) → Type 0
-ArePut w h stream old new = new ≡ old ++ updates w h stream
-
--- Or the first of these, where memory was refused or there were no more numbers.
-pub record AreCut (w h : ℕ) (fault : Fault) (stream : List ℕ) (old new : List Update) : Type 0 where
+-- Since a publisher had the updates old, updates were put that come to the same as those of the host's bytes, one by one: sent over this
+-- screen.
+pub record ArePut (w h : ℕ) (screen : Canvas) (stream : List ℕ) (old new : List Update) : Type 0 where
   pub put : List Update
   pub added : new ≡ old ++ put
-  pub begins : Begins put (updates w h stream)
+  pub same : AreSameUpdates w h screen (updates w h stream) put
+
+-- Or the first of these, where memory was refused or there were no more numbers.
+pub record AreCut (w h : ℕ) (screen : Canvas) (fault : Fault) (stream : List ℕ) (old new : List Update) : Type 0 where
+  pub put : List Update
+  pub added : new ≡ old ++ put
+  pub first : List Update
+  pub begins : Begins first (updates w h stream)
+  pub same : AreSameUpdates w h screen first put
   pub why : (fault ≡ Memory) ⊎ ((fault ≡ NumbersOut) × (length new ≡ 2 ^ 62))
 
 -- The bytes are at fault.
-pub record AtFault (w h : ℕ) (fault : Fault) (stream : List ℕ) (old new : List Update) : Type 0 where
-  pub put : ArePut w h stream old new
+pub record AtFault (w h : ℕ) (screen : Canvas) (fault : Fault) (stream : List ℕ) (old new : List Update) : Type 0 where
+  pub put : ArePut w h screen stream old new
   pub rest : rest (host_message w h) stream ≡ Faulty fault
 
 -- A piece was read to its end unless this came between.
-abbrev pub Stops : ℕ → ℕ → Fault → (stream : List ℕ) → (old new : List Update) → Type 0
-Stops w h fault stream old new = AreCut w h fault stream old new ⊎ AtFault w h fault stream old new
+abbrev pub Stops : ℕ → ℕ → Canvas → Fault → (stream : List ℕ) → (old new : List Update) → Type 0
+Stops w h screen fault stream old new = AreCut w h screen fault stream old new ⊎ AtFault w h screen fault stream old new
 
 -- The link said in the meantime that it ended, between two messages, and it didn't fail.
-pub record EndsBetween (w h : ℕ) (link_old link_new : LinkState) (old new : List Update) : Type 0 where
+pub record EndsBetween (w h : ℕ) (screen : Canvas) (link_old link_new : LinkState) (old new : List Update) : Type 0 where
   pub stream : List ℕ
   pub taken : link_new.taken ≡ link_old.taken ++ stream
-  pub put : ArePut w h stream old new
+  pub put : ArePut w h screen stream old new
   pub between : EndsAt true w h stream
   pub ended : HasRisen link_old.ended link_new.ended
   pub failed : link_new.failed ≡ link_old.failed
@@ -75,10 +72,10 @@ LinkStops w h LinkEnded stream link_old link_new = HasRisen link_old.ended link_
 LinkStops w h _ stream link_old link_new = ⊥
 
 -- Why it ends otherwise. What was put stays.
-pub record EndsWith (w h : ℕ) (fault : Fault) (link_old link_new : LinkState) (old new : List Update) : Type 0 where
+pub record EndsWith (w h : ℕ) (screen : Canvas) (fault : Fault) (link_old link_new : LinkState) (old new : List Update) : Type 0 where
   pub stream : List ℕ
   pub taken : link_new.taken ≡ link_old.taken ++ stream
-  pub stops : (ArePut w h stream old new × LinkStops w h fault stream link_old link_new) ⊎ Stops w h fault stream old new
+  pub stops : (ArePut w h screen stream old new × LinkStops w h fault stream link_old link_new) ⊎ Stops w h screen fault stream old new
 
 -- What is answered where an answer of the link ends the run: the host's bytes so far end between two messages, or inside one.
 abbrev pub outcome : Took → Bool → Option (Result (Unit {0}) Fault)
@@ -92,13 +89,14 @@ outcome took.Failed is_between = Some (Err LinkFailed)
 
 -- The decoder and its painter stand for a message of which more is wanted.
 pub record CanRead (decoder : Decoding) (painter : Painting) : Type 0 where
+  pub screen : Canvas
   pub reading : Reading ServerMessage
-  pub reads : Decodes decoder painter reading
+  pub reads : Decodes decoder painter screen reading
   pub wants : wants_more reading ≡ true
 
--- They stand behind the host's bytes so far, all of whose updates were put.
-pub record HasRead (w h : ℕ) (decoder : Decoding) (painter : Painting) (is_between : Bool) (stream : List ℕ) (old new : List Update) : Type 0 where
-  pub reads : Decodes decoder painter (rest (host_message w h) stream)
+-- They stand behind the host's bytes so far, sent over this screen, all of whose updates were put.
+pub record HasRead (w h : ℕ) (screen : Canvas) (decoder : Decoding) (painter : Painting) (is_between : Bool) (stream : List ℕ) (old new : List Update) : Type 0 where
+  pub reads : Decodes decoder painter (after_updates screen (updates w h stream)) (rest (host_message w h) stream)
   pub wants : wants_more (rest (host_message w h) stream) ≡ true
   pub ends : EndsAt is_between w h stream
-  pub put : ArePut w h stream old new
+  pub put : ArePut w h screen stream old new

@@ -1,11 +1,12 @@
 //! Putting what a host's messages bring.
 
 ghost use Rattle.std.specs.Prelude.{◌≡◌, ℕ, [], ◌∷◌, ◌++◌, Bool, List, length, IfErr, MatchResult, OnOk};
+ghost use Rattle.raster.specs.Screen.{Canvas};
 ghost use Rattle.raster.specs.Update.{Update};
 ghost use Rattle.host_decoder.specs.Decoder.{IsFor};
-ghost use Rattle.host_decoder.specs.Events.{brought_by};
+ghost use Rattle.host_decoder.specs.Events.{IsSized, brought_by};
 ghost use Rattle.reflect_core.specs.Plain.{IsPutRefusal};
-ghost use Rattle.host_reader.specs.Running.{CanRead, HasRead, IsEventFor, Stops};
+ghost use Rattle.host_reader.specs.Running.{CanRead, HasRead, Stops};
 
 use host_decoder::{HostDecoder, HostEvent};
 use painter::{Painter, Patch};
@@ -27,7 +28,7 @@ fn put_patch<P: Puts>(publisher: &mut P, patch: Patch) -> Result<(), Fault>
 
 // Puts the update of a message: a colour map and a text that isn't kept bring none.
 fn put_event<P: Puts>(publisher: &mut P, event: HostEvent) -> Result<(), Fault>
-    requires { IsEventFor (P.width publisher.old) (P.height publisher.old) event }
+    requires { IsSized (P.width publisher.old) (P.height publisher.old) event }
     ensures size { (P.width publisher.new ≡ P.width publisher.old) × (P.height publisher.new ≡ P.height publisher.old) }
     ensures ok { OnOk result (P.updates publisher.new ≡ P.updates publisher.old ++ brought_by event) }
     ensures err { IfErr result (λ fault. IsPutRefusal (length (P.updates publisher.old)) fault × (P.updates publisher.new ≡ P.updates publisher.old)) }
@@ -58,10 +59,10 @@ pub(crate) fn put_piece<P: Puts>(
     ensures decoder { (decoder.new.width ≡ decoder.old.width) × (decoder.new.height ≡ decoder.old.height) }
     ensures painter { IsFor decoder.new painter.new }
     ensures publisher { (P.width publisher.new ≡ P.width publisher.old) × (P.height publisher.new ≡ P.height publisher.old) }
-    ensures puts { (stream : List ℕ) → (old : List Update) → HasRead decoder.old.width decoder.old.height decoder.old painter.old is_between stream old (P.updates publisher.old)
+    ensures puts { (screen : Canvas) (stream : List ℕ) (old : List Update) → HasRead decoder.old.width decoder.old.height screen decoder.old painter.old is_between stream old (P.updates publisher.old)
         → MatchResult result
-        (λ between. HasRead decoder.old.width decoder.old.height decoder.new painter.new between (stream ++ piece.now) old (P.updates publisher.new))
-        (λ fault. Stops decoder.old.width decoder.old.height fault (stream ++ piece.now) old (P.updates publisher.new)) }
+        (λ between. HasRead decoder.old.width decoder.old.height screen decoder.new painter.new between (stream ++ piece.now) old (P.updates publisher.new))
+        (λ fault. Stops decoder.old.width decoder.old.height screen fault (stream ++ piece.now) old (P.updates publisher.new)) }
 {
     let mut used = 0;
     let mut between = is_between;

@@ -2,6 +2,7 @@
 
 ghost use Rattle.std.specs.Prelude.{◌≡◌, IfErr, OnOk};
 ghost use Rattle.host_decoder.specs.Decoder.{Decodes, IsFor, host_message};
+ghost use Rattle.raster.specs.Screen.{Canvas};
 ghost use Rattle.host_reader.specs.Running.{EndsBetween, EndsWith, outcome};
 
 use crate::events::put_piece;
@@ -35,7 +36,8 @@ fn outcome(took: Took, is_between: bool) -> Option<Result<(), Fault>>
 /// `LinkEnded` where the link ends inside a message, and `LinkFailed` where it fails; `UnknownMessage`, `RectOutside`,
 /// `UnknownEncoding`, `SubrectOutside`, `NoBackground`, `NoForeground` or `CopyOutside` at the byte that shows it: all
 /// updates of the messages before that are put. `Memory`, and `NumbersOut` where the publisher has no more numbers: the
-/// updates that were put are the first ones. In each case what was put stays.
+/// updates that were put are the first ones. In each case what was put stays. The updates put come to the same as those of the bytes, one by
+/// one, over the screen that the decoder and the painter began with.
 pub fn run_host<L: Link, P: Puts, R: Wait>(
     rt: &R,
     alloc: Global,
@@ -44,15 +46,15 @@ pub fn run_host<L: Link, P: Puts, R: Wait>(
     painter: &mut Painter,
     publisher: &mut P,
 ) -> Result<(), Fault>
-    requires begins { Decodes decoder.old painter.old (host_message decoder.old.width decoder.old.height) }
+    requires begins { (screen : Canvas) × Decodes decoder.old painter.old screen (host_message decoder.old.width decoder.old.height) }
     requires painter { IsFor decoder.old painter.old }
     requires publisher { (P.width publisher.old ≡ decoder.old.width) × (P.height publisher.old ≡ decoder.old.height) }
     ensures decoder { (decoder.new.width ≡ decoder.old.width) × (decoder.new.height ≡ decoder.old.height) }
     ensures painter { IsFor decoder.new painter.new }
     ensures publisher { (P.width publisher.new ≡ P.width publisher.old) × (P.height publisher.new ≡ P.height publisher.old) }
     ensures given { (L.state link.new).given ≡ (L.state link.old).given }
-    ensures ok { OnOk result (EndsBetween decoder.old.width decoder.old.height (L.state link.old) (L.state link.new) (P.updates publisher.old) (P.updates publisher.new)) }
-    ensures err { IfErr result (λ fault. EndsWith decoder.old.width decoder.old.height fault (L.state link.old) (L.state link.new) (P.updates publisher.old) (P.updates publisher.new)) }
+    ensures ok { OnOk result ((screen : Canvas) → Decodes decoder.old painter.old screen (host_message decoder.old.width decoder.old.height) → EndsBetween decoder.old.width decoder.old.height screen (L.state link.old) (L.state link.new) (P.updates publisher.old) (P.updates publisher.new)) }
+    ensures err { IfErr result (λ fault. (screen : Canvas) → Decodes decoder.old painter.old screen (host_message decoder.old.width decoder.old.height) → EndsWith decoder.old.width decoder.old.height screen fault (L.state link.old) (L.state link.new) (P.updates publisher.old) (P.updates publisher.new)) }
 {
     let mut buffer = vec![in alloc; 0u8; PIECE]?;
     let mut is_between = true;

@@ -1,4 +1,5 @@
 use Rattle.std.proofs.Common.{◌≡◌, ℕ, ◌≤◌, ◌++◌, ◌-◌, List, length, take}
+use Rattle.raster.specs.Screen.{Canvas}
 use Rattle.raster.specs.Update.{Update}
 use Rattle.host_decoder.specs.Decoder.{IsFor}
 use Rattle.host_reader.specs.Running.{CanRead, HasRead}
@@ -14,8 +15,8 @@ invariant-loop-used g l =
       publisher_wide : g.P.Puts.width l.publisher ≡ g.P.Puts.width l.fn.publisher;
       publisher_high : g.P.Puts.height l.publisher ≡ g.P.Puts.height l.fn.publisher;
       can_read : CanRead l.decoder l.painter;
-      has_read : (stream : List ℕ) → (old : List Update) → HasRead l.fn.decoder.width l.fn.decoder.height l.fn.decoder l.fn.painter l.fn.is_between stream old (g.P.Puts.updates l.fn.publisher)
-          → HasRead l.fn.decoder.width l.fn.decoder.height l.decoder l.painter l.between (stream ++ take l.used l.piece) old (g.P.Puts.updates l.publisher);
+      has_read : (screen : Canvas) (stream : List ℕ) (old : List Update) → HasRead l.fn.decoder.width l.fn.decoder.height screen l.fn.decoder l.fn.painter l.fn.is_between stream old (g.P.Puts.updates l.fn.publisher)
+          → HasRead l.fn.decoder.width l.fn.decoder.height screen l.decoder l.painter l.between (stream ++ take l.used l.piece) old (g.P.Puts.updates l.publisher);
     }
 
 abbrev pub decreases-loop-used : goal.decreases-loop-used
