@@ -144,6 +144,18 @@ impl Held {
         }
     }
 
+    /// How many inputs are to be released where the viewer leaves: at most `MOST_KEYS` keys and a pointer event.
+    pub fn releases(&self) -> usize
+        ensures value { result ≡ length (left_in self.now) }
+        ensures most { result ≤ 65 }
+    {
+        let keys = self.keys.len();
+        match self.mask {
+            0 => keys,
+            _ => keys + 1,
+        }
+    }
+
     /// The next input that is to be released where the viewer has left, and `None` once there is none left: the keys that are
     /// down by rising number, then mask 0 at the last position if the last mask wasn't 0. Where there is none nothing has changed.
     /// It takes no memory.

@@ -1,6 +1,7 @@
 //! Where input goes.
 
 ghost use Rattle.std.specs.Prelude.{◌≡◌, List, [], ◌∷◌, ◌++◌, OnOk, IfErr};
+ghost use Rattle.pixel_format.specs.declared.fault.Fault.{Fault};
 ghost use Rattle.roles.specs.Allowed as definitions;
 ghost use Rattle.roles.specs.Held.{input_in};
 
@@ -12,9 +13,12 @@ pub trait InputSink {
     /// What it took, in order.
     ghost sent: { Self → List definitions.Input };
 
+    /// It may refuse an input with this fault.
+    ghost may_refuse: { Fault → Type 0 };
+
     /// Takes an input. Where it is refused nothing has changed, and the input comes back: `QueueFull` where there is no room
     /// now, another fault where there will be none.
     fn send(&mut self, input: Input) -> Result<(), (Fault, Input)>
         ensures ok { OnOk result (sent self.new ≡ sent self.old ++ input_in input ∷ []) }
-        ensures err { IfErr result (λ refused. (sent self.new ≡ sent self.old) × (refused.1 ≡ input)) };
+        ensures err { IfErr result (λ refused. (sent self.new ≡ sent self.old) × (refused.1 ≡ input) × may_refuse refused.0) };
 }

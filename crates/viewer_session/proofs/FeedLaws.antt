@@ -1,23 +1,34 @@
 -- A piece of a viewer's bytes is taken, message by message.
-use Rattle.std.proofs.Common.{◌≡◌, ℕ, true, List, [], ◌∷◌, length, drop, Option, Some, None, Err, refl, sym, ap, subst, ◌∙◌, arith, inl, inr, ◌⊎◌}
+use Rattle.std.proofs.Common.{◌≡◌, ℕ, Bool, true, false, List, [], ◌∷◌, ◌++◌, drop, Option, Some, None, Err, refl, sym, ap, subst, ◌∙◌, append_assoc, append-nil, inl, inr, ◌⊎◌}
 use Rattle.std.specs.Prelude.{if◌then◌else◌, is_some, option_map}
-use Rattle.std.proofs.lemmas.List.{length-drop}
 use Rattle.pixel_format.specs.declared.fault.Fault.{Fault}
-use Rattle.pixel_format.specs.Reading.{Reading, Done, Faulty, Want, after, taken, whole_of, fault_of, wants_more, renewed}
+use Rattle.pixel_format.specs.Reading.{Reading, Done, Faulty, Want, Gives, after, taken, whole_of, fault_of, wants_more, renewed}
 use Rattle.pixel_format.proofs.ReadingLaws.{after-faulty}
-use Rattle.rfb_wire.specs.ClientMessage.{ClientMessage, without_text}
+use Rattle.rfb_wire.specs.ClientMessage.{ClientMessage, SetPixelFormat, SetEncodings, Ask, Key, Pointer, CutText, LostText, without_text}
 use Rattle.rfb_wire.specs.ClientReader.{ahead}
 use Rattle.rfb_wire.specs.Greeting.{Greeting}
 use Rattle.rfb_wire.specs.Message.{viewer_form, IsOrLoses, FeedsOrLoses}
 use Rattle.rfb_wire.proofs.Losing.{goes_on_fed, goes_on_faults, goes_on_taken}
-use Rattle.viewer_session.specs.Viewer.{Setup, Viewer, after_bytes, with_message}
-use Rattle.viewer_session.specs.Session.{State, Stands, HasFed, IsFeeding, IsSameSession, ReadsOne, hello_of, hello_fault, fault_in, is_greeted, after_taking, without_look}
-use Rattle.viewer_session.proofs.Feeding.{past_hello, takes_whole, takes_message, goes_on, stays}
+use Rattle.roles.specs.Allowed.{Input, keys_after, passes}
+use Rattle.roles.specs.Held.{input_for}
+use Rattle.viewer_session.specs.Extent.{Extent, everything}
+use Rattle.viewer_session.specs.Record.{Took}
+use Rattle.viewer_session.specs.Viewer.{Setup, Viewer, after_byte, after_bytes, marked, served, with_input, with_message}
+use Rattle.viewer_session.specs.Session.{State, Serves, Stands, FeedsTo, HasFed, HasKeptShort, IsFeeding, IsSameSession, ReadsOne, at_rest, hello_of, hello_fault, fault_in, is_greeted, marks_in, text_mark, after_taking, with_marks}
+use Rattle.viewer_session.proofs.Feeding.{past_hello, takes_whole, goes_on, stays}
 use Rattle.viewer_session.proofs.HelloLaws.{past}
-use Rattle.viewer_session.proofs.SessionLaws.{stands_look, stands_without_text}
+use Rattle.viewer_session.proofs.KeptShort.{client_message_short, gives_after, marks_told}
+use Rattle.viewer_session.proofs.SessionLaws.{stands_look}
 
-pub feeding_begins : (old : State) (piece : List ℕ) → IsFeeding old old piece piece
-feeding_begins old piece = λ s p k. record { viewer = p; stands = k; rest = refl }
+pub feeding_begins : (old : State) (piece : List ℕ) → IsFeeding old old [] piece piece
+feeding_begins old piece = λ s p more k. record { viewer = p; stands = k; rest = refl }
+
+-- One part of a piece after another.
+pub feeding_on : (old now new : State) (marks others : List Bool) (piece left rest : List ℕ) → IsFeeding old now marks piece left → IsFeeding now new others left rest → IsFeeding old new (marks ++ others) piece rest
+feeding_on old now new marks others piece left rest h l = λ s p more k.
+    let f : HasFed s (record p { lost = marks ++ (others ++ more) }) now (others ++ more) piece left = h s p (others ++ more) k in
+    let g : HasFed s (record f.viewer { lost = others ++ more }) new more left rest = l s f.viewer more f.stands in
+    record { viewer = g.viewer; stands = g.stands; rest = ap (λ (ms : List Bool). after_bytes s (record p { lost = ms }) piece) (append_assoc marks others more) ∙ (f.rest ∙ g.rest) }
 
 -- ---- readings
 
@@ -59,120 +70,163 @@ wants_open (Want more) bs w f = refl
 abbrev with_reading : Viewer → Reading ClientMessage → Viewer
 with_reading p r = record p { reading = r }
 
+abbrev with_lost : Viewer → List Bool → Viewer
+with_lost p marks = record p { lost = marks }
+
 -- Only the reader has gone on.
-read_on : (s : Setup) (now mid : State) (q : Viewer) (r : Reading ClientMessage) → Stands s now q → mid ≡ record now { reader = mid.reader } → IsOrLoses (ahead mid.reader) r → whole_of r ≡ None
+read_on : (s : Setup) (now mid : State) (q : Viewer) (r : Reading ClientMessage) → Stands s now q → mid ≡ record now { reader = mid.reader } → IsOrLoses (ahead mid.reader) r → whole_of r ≡ None → Gives HasKeptShort r
     → Stands s mid (with_reading q r)
-read_on s now mid q r k e reads w =
+read_on s now mid q r both e reads w short =
+    let k : Serves s now q = both.serves in
     let fresh : Stands s (record now { reader = mid.reader }) (with_reading q r) =
     record {
-      width = k.width;
-      height = k.height;
-      extent = k.extent;
-      role = k.role;
-      rests = ap (λ (p : Viewer). with_reading p r) k.rests;
-      greets = k.greets;
-      reading = reads;
-      taken = w;
-      keeps = record { asked = k.keeps.asked; have = k.keeps.have; format = k.keeps.format; choice = k.keeps.choice };
-      written = k.written;
-      unsent = k.unsent;
+      serves = record {
+        width = k.width;
+        height = k.height;
+        extent = k.extent;
+        role = k.role;
+        rests = ap (λ (p : Viewer). with_reading p r) k.rests;
+        greets = k.greets;
+        reading = reads;
+        taken = w;
+        short = short;
+        keeps = record { asked = k.keeps.asked; have = k.keeps.have; format = k.keeps.format; choice = k.keeps.choice };
+        written = k.written;
+        unsent = k.unsent;
+      };
+      relays = record { waiting = both.relays.waiting; keys = both.relays.keys; held = both.relays.held };
     } in
     subst (λ (st : State). Stands s st (with_reading q r)) (sym e) fresh
 
+-- A viewer behind its hello, with these marks.
+past_with : (s : Setup) (st : State) (q : Viewer) (marks : List Bool) → Stands s st q → is_greeted st ≡ true → st.waiting ≡ None → with_lost q marks ≡ past_hello (with_lost q marks)
+past_with s st q marks k greeted none = ap (λ (t : Viewer). with_lost t marks) (past s st q k.serves greeted (k.relays.waiting ∙ none))
+
 -- No message was whole.
-pub feeding_goes_on : (old now mid : State) (piece left : List ℕ) (used : ℕ) → IsFeeding old now piece left → is_greeted now ≡ true → mid ≡ record now { reader = mid.reader } → ReadsOne now mid left used None → IsFeeding old mid piece (drop used left)
-feeding_goes_on old now mid piece left used h g e one = λ s p k.
-    let f : HasFed s p now piece left = h s p k in
-    let q : Viewer = f.viewer in
-    let r : Reading ClientMessage = q.reading in
-    let fed = goes_on_fed r (ahead now.reader) one.begun left used f.stands.reading one.feeds in
+pub feeding_goes_on : (old mid : State) (left : List ℕ) (used : ℕ) → is_greeted old ≡ true → old.waiting ≡ None → mid ≡ record old { reader = mid.reader } → ReadsOne old mid left used None → IsFeeding old mid [] left (drop used left)
+feeding_goes_on old mid left used g none e one = λ s p more k.
+    let r : Reading ClientMessage = p.reading in
+    let fed = goes_on_fed r (ahead old.reader) one.begun left used k.serves.reading one.feeds in
     let gave = goes_on_taken viewer_form (after r left) one.begun (ahead mid.reader) None fed.0 one.gives in
-    let none : whole_of (after r left) ≡ None = none_given (after r left) gave.0 in
-    let reads : IsOrLoses (ahead mid.reader) (after r left) = subst (λ (x : Reading ClientMessage). IsOrLoses (ahead mid.reader) x) (same_renewed (after r left) none) gave.1 in
-    let on : Stands s mid (with_reading q (after r left)) = read_on s now mid q (after r left) f.stands e reads none in
+    let no_whole : whole_of (after r left) ≡ None = none_given (after r left) gave.0 in
+    let reads : IsOrLoses (ahead mid.reader) (after r left) = subst (λ (x : Reading ClientMessage). IsOrLoses (ahead mid.reader) x) (same_renewed (after r left) no_whole) gave.1 in
+    let on : Stands s mid (with_reading p (after r left)) = read_on s old mid p (after r left) k e reads no_whole (gives_after HasKeptShort r left k.serves.short) in
     record {
-      viewer = with_reading q (after r left);
+      viewer = with_reading p (after r left);
       stands = on;
-      rest = f.rest
-          ∙ (ap (λ t. after_bytes s t left) (past s now q f.stands g)
-          ∙ (goes_on s q r left none
-          ∙ (ap (λ n. after_bytes s (past_hello (with_reading q (after r left))) (drop n left)) (sym fed.1)
-          ∙ ap (λ t. after_bytes s t (drop used left)) (sym (past s mid (with_reading q (after r left)) on (ap is_greeted e ∙ g))))));
+      rest = ap (λ t. after_bytes s t left) (past_with s old p more k g none)
+          ∙ (goes_on s (with_lost p more) r left no_whole
+          ∙ (ap (λ n. after_bytes s (past_hello (with_reading (with_lost p more) (after r left))) (drop n left)) (sym fed.1)
+          ∙ ap (λ t. after_bytes s t (drop used left)) (sym (past_with s mid (with_reading p (after r left)) more on (ap is_greeted e ∙ g) (ap (λ (st : State). st.waiting) e ∙ none)))));
     }
 
-given_taken : (s : Setup) (new : State) (q : Viewer) (m x : ClientMessage) → (m ≡ x) ⊎ (m ≡ without_text x) → Stands s new (after_taking s m q) → Stands s new (after_taking s x q)
-given_taken s new q m x (inl e) k = subst (λ (t : ClientMessage). Stands s new (after_taking s t q)) e k
-given_taken s new q m x (inr e) k = stands_without_text s new q x (subst (λ (t : ClientMessage). Stands s new (after_taking s t q)) e k)
+-- ---- a message is taken
+
+served_all : (s : Setup) (m : ClientMessage) → s.extent ≡ everything → served s m ≡ m
+served_all s (SetPixelFormat format) e = refl
+served_all s (SetEncodings choice) e = ap (λ (x : Extent). served (record s { extent = x }) (SetEncodings choice)) e
+served_all s (Ask incremental area) e = refl
+served_all s (Key down key) e = refl
+served_all s (Pointer mask x y) e = refl
+served_all s (CutText text) e = refl
+served_all s (LostText len) e = refl
+
+marks_if : (q : Viewer) (marks : List Bool) (input : Input) (b : Bool)
+    → (if b then record q { lost = marks; keys = keys_after q.keys input; waiting = Some input } else with_lost q marks) ≡ with_lost (if b then record q { keys = keys_after q.keys input; waiting = Some input } else q) marks
+marks_if q marks input true = refl
+marks_if q marks input false = refl
+
+-- Marks have no part in an input.
+marks_stay : (q : Viewer) (marks : List Bool) (o : Option Input) → with_input (with_lost q marks) o ≡ with_lost (with_input q o) marks
+marks_stay q marks None = refl
+marks_stay q marks (Some input) = marks_if q marks input (passes q.keys input)
+
+takes_message : (s : Setup) (q : Viewer) (m : ClientMessage) (more : List Bool) → s.extent ≡ everything
+    → with_message s q (m, more) ≡ with_lost (after_taking m (with_reading q viewer_form)) more
+takes_message s q m more e =
+    let noted : ClientMessage → Option Input → Viewer = λ t o. with_input (record q { entries = Took t ∷ q.entries; lost = more; reading = viewer_form }) o in
+    ap (λ (x : Extent). with_input (record q { entries = Took (served s m) ∷ q.entries; lost = more; reading = x.from_viewer }) (if x.relays_input then input_for q.role m else None)) e
+    ∙ (ap (λ (t : ClientMessage). noted t (input_for q.role m)) (served_all s m e)
+    ∙ marks_stay (record q { entries = Took m ∷ q.entries; reading = viewer_form }) more (input_for q.role m))
 
 -- A message was whole, and was taken.
-pub feeding_takes : (old now mid new : State) (piece left : List ℕ) (used : ℕ) (m : ClientMessage) → IsFeeding old now piece left → is_greeted now ≡ true → is_greeted new ≡ true → mid ≡ record now { reader = mid.reader } → ReadsOne now mid left used (Some m)
-    → ((s : Setup) (p : Viewer) → Stands s mid p → Stands s new (after_taking s m p)) → IsFeeding old new piece (drop used left)
-feeding_takes old now mid new piece left used m h g gn e one takes = λ s p k.
-    let f : HasFed s p now piece left = h s p k in
-    let q : Viewer = f.viewer in
-    let r : Reading ClientMessage = q.reading in
-    let fed = goes_on_fed r (ahead now.reader) one.begun left used f.stands.reading one.feeds in
+pub feeding_takes : (old mid new : State) (left : List ℕ) (used : ℕ) (m : ClientMessage) → is_greeted old ≡ true → old.waiting ≡ None → mid ≡ record old { reader = mid.reader } → ReadsOne old mid left used (Some m)
+    → ((s : Setup) (p : Viewer) → Stands s mid p → Stands s new (after_taking m p)) → IsFeeding old new (marks_in (text_mark m)) left (drop used left)
+feeding_takes old mid new left used m g none e one takes = λ s p more k.
+    let r : Reading ClientMessage = p.reading in
+    let marks : List Bool = marks_in (text_mark m) ++ more in
+    let fed = goes_on_fed r (ahead old.reader) one.begun left used k.serves.reading one.feeds in
     let gave = goes_on_taken viewer_form (after r left) one.begun (ahead mid.reader) (Some m) fed.0 one.gives in
     let has : HasGiven (after r left) m = some_given (after r left) m gave.0 in
     let anew : renewed viewer_form (after r left) ≡ viewer_form = ap (renewed viewer_form) has.whole in
     let reads : IsOrLoses (ahead mid.reader) viewer_form = subst (λ (x : Reading ClientMessage). IsOrLoses (ahead mid.reader) x) anew gave.1 in
-    let on : Stands s mid (with_reading q viewer_form) = read_on s now mid q viewer_form f.stands e reads refl in
-    let there : Stands s new (after_taking s has.message (with_reading q viewer_form)) = given_taken s new (with_reading q viewer_form) m has.message has.or_lost (takes s (with_reading q viewer_form) on) in
+    let short : HasKeptShort has.message = subst (λ (x : Reading ClientMessage). Gives HasKeptShort x) has.whole (gives_after HasKeptShort r left k.serves.short) in
+    let on : Stands s mid (with_reading p viewer_form) = read_on s old mid p viewer_form k e reads refl client_message_short in
+    let front : after_bytes s (with_lost p marks) left ≡ after_bytes s (with_message s (past_hello (with_lost p marks)) (m, more)) (drop used left) =
+    ap (λ t. after_bytes s t left) (past_with s old p marks k g none)
+    ∙ (takes_whole s (with_lost p marks) r left has.message (wants_open r left k.serves.taken fed.2) has.whole
+    ∙ (ap (λ n. after_bytes s (with_message s (past_hello (with_lost p marks)) (marked marks has.message)) (drop n left)) (sym fed.1)
+    ∙ ap (λ t. after_bytes s (with_message s (past_hello (with_lost p marks)) t) (drop used left)) (marks_told m has.message more short has.or_lost))) in
     record {
-      viewer = after_taking s has.message (with_reading q viewer_form);
-      stands = there;
-      rest = f.rest
-          ∙ (ap (λ t. after_bytes s t left) (past s now q f.stands g)
-          ∙ (takes_whole s q r left has.message (wants_open r left f.stands.taken fed.2) has.whole
-          ∙ (ap (λ n. after_bytes s (with_message s (past_hello q) (has.message, [])) (drop n left)) (sym fed.1)
-          ∙ (ap (λ t. after_bytes s t (drop used left)) (takes_message s q has.message f.stands.extent)
-          ∙ ap (λ t. after_bytes s t (drop used left)) (sym (past s new (after_taking s has.message (with_reading q viewer_form)) there gn))))));
+      viewer = after_taking m (with_reading p viewer_form);
+      stands = takes s (with_reading p viewer_form) on;
+      rest = front
+          ∙ (ap (λ t. after_bytes s (with_message s t (m, more)) (drop used left)) (sym (past_with s old p marks k g none))
+          ∙ ap (λ t. after_bytes s t (drop used left)) (takes_message s (with_lost p marks) m more k.serves.extent ∙ lost_again p m marks more));
+    }
+  where
+    lost_again : (p : Viewer) (m : ClientMessage) (marks more : List Bool) → with_lost (after_taking m (with_reading (with_lost p marks) viewer_form)) more ≡ with_lost (after_taking m (with_reading p viewer_form)) more
+    lost_again p m marks more = ap (λ (t : Viewer). with_lost t more) (marks_stay (record p { entries = Took m ∷ p.entries; reading = viewer_form }) marks (input_for p.role m))
+
+-- A fault was met.
+pub feeding_faults : (old new : State) (left : List ℕ) (fault : Fault) → is_greeted old ≡ true → old.waiting ≡ None → new ≡ record old { reader = new.reader } → FeedsOrLoses (ahead old.reader) (ahead new.reader) left (Err fault) → IsFeeding old new [] left []
+feeding_faults old new left fault g none e fed = λ s p more k.
+    let r : Reading ClientMessage = p.reading in
+    let met = goes_on_faults r (ahead old.reader) (ahead new.reader) left fault k.serves.reading fed in
+    let q : Viewer = with_reading p (Faulty fault) in
+    let on : Stands s new q = read_on s old new p (Faulty fault) k e (inl met.0) refl tt in
+    record {
+      viewer = q;
+      stands = on;
+      rest = ap (λ t. after_bytes s t left) (past_with s old p more k g none)
+          ∙ (goes_on s (with_lost p more) r left (ap whole_of met.1)
+          ∙ (ap (λ x. after_bytes s (past_hello (with_reading (with_lost p more) x)) (drop (taken r left) left)) met.1
+          ∙ (stays s (with_lost p more) fault (drop (taken r left) left)
+          ∙ ap (λ (t : Viewer). record t { unread = [] }) (sym (past_with s new q more on (ap is_greeted e ∙ g) (ap (λ (st : State). st.waiting) e ∙ none))))));
     }
 
--- All of the piece was taken.
-pub feeding_ends : (old new : State) (piece left : List ℕ) → IsFeeding old new piece left → length left ≡ 0 → (s : Setup) (p : Viewer) → Stands s old p → Stands s new (after_bytes s (p) piece)
-feeding_ends old new piece [] h e s p k =
-    let f : HasFed s p new piece [] = h s p k in
-    let same : after_bytes s (p) piece ≡ f.viewer = f.rest ∙ (ap (λ (t : Viewer). record t { unread = [] }) f.stands.rests ∙ sym f.stands.rests) in
-    subst (λ (t : Viewer). Stands s new t) (sym same) f.stands
-feeding_ends old new piece (b ∷ bs) h e s p k = absurd (omega arith)
+-- ---- all of a piece
 
--- The hello's bytes were taken, and then those behind them.
-pub fed_through : (old mid new : State) (piece left : List ℕ) (used : ℕ) → IsFeeding old mid piece (drop used piece) → left ≡ drop used piece
-    → ((s : Setup) (p : Viewer) → Stands s mid p → Stands s new (after_bytes s p left)) → (s : Setup) (p : Viewer) → Stands s old p → Stands s new (after_bytes s (without_look p) piece)
-fed_through old mid new piece left used h same messages s p k =
-    let f : HasFed s (without_look p) mid piece (drop used piece) = h s (without_look p) (stands_look s old p None k) in
-    let there : Stands s new (after_bytes s f.viewer (drop used piece)) = subst (λ l. Stands s new (after_bytes s f.viewer l)) same (messages s f.viewer f.stands) in
-    subst (λ t. Stands s new t) (sym f.rest) there
+left_unread : (s : Setup) (q : Viewer) (left : List ℕ) → (left ≡ []) ⊎ (is_some q.waiting ≡ true) → after_bytes s q left ≡ record q { unread = left }
+left_unread s q left (inl e) = ap (after_bytes s q) e ∙ ap (λ (bs : List ℕ). record q { unread = bs }) (sym e)
+left_unread s q [] (inr e) = refl
+left_unread s q (b ∷ bs) (inr e) = ap (λ (w : Bool). if w then record q { unread = b ∷ bs } else after_bytes s (after_byte s q b) bs) e
 
--- All were the hello's.
-pub fed_hello : (old mid : State) (piece : List ℕ) (used : ℕ) → IsFeeding old mid piece (drop used piece) → used ≡ length piece
-    → (s : Setup) (p : Viewer) → Stands s old p → Stands s mid (after_bytes s (without_look p) piece)
-fed_hello old mid piece used h all s p k =
-    feeding_ends old mid piece (drop used piece) h (omega (arith, length-drop used piece)) s (without_look p) (stands_look s old p None k)
+ends_by : (st : State) (q : Viewer) (left : List ℕ) → q.waiting ≡ st.waiting → (left ≡ []) ⊎ (is_some st.waiting ≡ true) → (left ≡ []) ⊎ (is_some q.waiting ≡ true)
+ends_by st q left same (inl e) = inl e
+ends_by st q left same (inr e) = inr (ap is_some same ∙ e)
+
+-- All of it was taken, or an input waits.
+pub feeds_to : (old new : State) (marks : List Bool) (piece left : List ℕ) → IsFeeding old new marks piece left → (left ≡ []) ⊎ (is_some new.waiting ≡ true) → FeedsTo old new marks piece left
+feeds_to old new marks piece left h ends = λ s p k.
+    let f : HasFed s (with_marks (marks ++ []) p) new [] piece left = h s (record p { looked = None }) [] (stands_look s old p None k) in
+    let q : Viewer = f.viewer in
+    let rests : q ≡ at_rest q = f.stands.serves.rests in
+    let bare : with_lost q [] ≡ q = ap (λ (t : Viewer). with_lost t []) rests ∙ sym rests in
+    let all : after_bytes s (with_marks marks p) piece ≡ record q { unread = left } =
+    ap (λ (ms : List Bool). after_bytes s (with_marks ms p) piece) (sym (append-nil marks))
+    ∙ (f.rest ∙ (ap (λ t. after_bytes s t left) bare ∙ left_unread s q left (ends_by new q left f.stands.relays.waiting ends))) in
+    record {
+      stands = subst (λ (t : Viewer). Stands s new (at_rest t)) (sym all) (subst (λ (t : Viewer). Stands s new t) rests f.stands);
+      unread = ap (λ (t : Viewer). t.unread) all;
+      marks = ap (λ (t : Viewer). t.lost) all ∙ ap (λ (t : Viewer). t.lost) rests;
+    }
 
 abbrev first_fault : Option Fault → Option Fault → Option Fault
 first_fault o q = if is_some o then o else q
 
 pub no_fault_at : (st : State) → hello_fault st ≡ None → fault_of (ahead st.reader) ≡ None → fault_in st ≡ None
 no_fault_at st hello reader = ap (λ o. first_fault o (fault_of (ahead st.reader))) hello ∙ reader
-
--- A fault was met.
-pub feeding_faults : (old now new : State) (piece left : List ℕ) (fault : Fault) → IsFeeding old now piece left → is_greeted now ≡ true → new ≡ record now { reader = new.reader } → FeedsOrLoses (ahead now.reader) (ahead new.reader) left (Err fault)
-    → (s : Setup) (p : Viewer) → Stands s old p → Stands s new (after_bytes s (p) piece)
-feeding_faults old now new piece left fault h g e fed s p k =
-    let f : HasFed s p now piece left = h s p k in
-    let q : Viewer = f.viewer in
-    let r : Reading ClientMessage = q.reading in
-    let met = goes_on_faults r (ahead now.reader) (ahead new.reader) left fault f.stands.reading fed in
-    let on : Stands s new (with_reading q (Faulty fault)) = read_on s now new q (Faulty fault) f.stands e (inl met.0) refl in
-    let same : after_bytes s (p) piece ≡ with_reading q (Faulty fault) =
-    f.rest
-    ∙ (ap (λ t. after_bytes s t left) (past s now q f.stands g)
-    ∙ (goes_on s q r left (ap whole_of met.1)
-    ∙ (ap (λ x. after_bytes s (past_hello (with_reading q x)) (drop (taken r left) left)) met.1
-    ∙ (stays s q fault (drop (taken r left) left) ∙ sym (past s new (with_reading q (Faulty fault)) on (ap is_greeted e ∙ g)))))) in
-    subst (λ (t : Viewer). Stands s new t) (sym same) on
 
 -- The screen's size, the role and the last cut stay.
 pub same_session : (st : State) → IsSameSession st st
@@ -197,3 +251,7 @@ greeted_by old now same greeted = ap (λ (o : Option Greeting). is_some (whole_o
 
 pub greeting_read : (old now mid : State) → now.greeting ≡ old.greeting → mid ≡ record now { reader = mid.reader } → mid.greeting ≡ old.greeting
 greeting_read old now mid same e = ap (λ (t : State). t.greeting) e ∙ same
+
+pub fault_met : (old new : Reading ClientMessage) (piece : List ℕ) (fault : Fault) → FeedsOrLoses old new piece (Err fault) → fault_of new ≡ Some fault
+fault_met old new piece fault (inl h) = ap fault_of h.1
+fault_met old new piece fault (inr h) = ap fault_of h.1

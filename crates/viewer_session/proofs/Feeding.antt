@@ -4,17 +4,14 @@ use Rattle.std.specs.Prelude.{option_map}
 use Rattle.pixel_format.specs.declared.fault.Fault.{Fault}
 use Rattle.pixel_format.specs.Reading.{Reading, Done, Faulty, Want, after, taken, fault_of, whole_of, wants_more, renewed, Feeds, GivesWhole}
 use Rattle.pixel_format.proofs.ReadingLaws.{after-done, after-faulty, taken-le, taken-some}
-use Rattle.rfb_wire.specs.ClientMessage.{ClientMessage, SetPixelFormat, SetEncodings, Ask, Key, Pointer, CutText, LostText, without_text}
+use Rattle.rfb_wire.specs.ClientMessage.{ClientMessage, without_text}
 use Rattle.rfb_wire.specs.Message.{viewer_form, losing, FeedsOrLoses}
 use Rattle.rfb_wire.proofs.Losing.{losing-whole}
-use Rattle.viewer_session.specs.Extent.{Extent}
-use Rattle.viewer_session.specs.AllButInput.{all_but_input}
-use Rattle.viewer_session.specs.Record.{Took}
-use Rattle.viewer_session.specs.Viewer.{Setup, Viewer, served, marked, with_message, after_reading, after_bytes}
+use Rattle.viewer_session.specs.Viewer.{Setup, Viewer, marked, with_message, after_reading, after_bytes}
 
--- A viewer whose hello is done, of which no byte waits.
+-- A viewer whose hello is done, of which no byte is unread and no input waits.
 abbrev pub past_hello : Viewer → Viewer
-past_hello p = record p { hello = Done tt; unread = []; lost = []; waiting = None }
+past_hello p = record p { hello = Done tt; unread = []; waiting = None }
 
 abbrev with_reading : Viewer → Reading ClientMessage → Viewer
 with_reading p r = record p { reading = r }
@@ -25,27 +22,18 @@ done_is x y e = cc
 is_not : (f : Fault) (m : ClientMessage) → Faulty f ≡ Done m → ⊥
 is_not f m e = cc
 
-marked_none : (m : ClientMessage) → marked [] m ≡ (m, [])
-marked_none (SetPixelFormat format) = refl
-marked_none (SetEncodings choice) = refl
-marked_none (Ask incremental area) = refl
-marked_none (Key down key) = refl
-marked_none (Pointer mask x y) = refl
-marked_none (CutText text) = refl
-marked_none (LostText len) = refl
-
 -- The bytes up to the end of a message: it is taken, and the bytes behind it are left.
 whole_from : (s : Setup) (p : Viewer) (r : Reading ClientMessage) (bs : List ℕ) (m : ClientMessage) → after r bs ≡ Done m
-    → after_bytes s (after_reading s (past_hello p) r) bs ≡ after_bytes s (with_message s (past_hello p) (m, [])) (drop (taken r bs) bs)
+    → after_bytes s (after_reading s (past_hello p) r) bs ≡ after_bytes s (with_message s (past_hello p) (marked p.lost m)) (drop (taken r bs) bs)
 whole_from s p (Done x) bs m e =
     let same : x ≡ m = done_is x m (sym (after-done x bs) ∙ e) in
-    ap (λ t. after_bytes s (with_message s (past_hello p) t) bs) (marked_none x ∙ ap (λ y. (y, [])) same)
+    ap (λ y. after_bytes s (with_message s (past_hello p) (marked p.lost y)) bs) same
 whole_from s p (Faulty f) bs m e = absurd (is_not f m (sym (after-faulty f bs) ∙ e))
 whole_from s p (Want more) [] m e = absurd cc
 whole_from s p (Want more) (b ∷ bs) m e = whole_from s p (more b) bs m e
 
 pub takes_whole : (s : Setup) (p : Viewer) (r : Reading ClientMessage) (bs : List ℕ) (m : ClientMessage) → wants_more r ≡ true → after r bs ≡ Done m
-    → after_bytes s (past_hello (with_reading p r)) bs ≡ after_bytes s (with_message s (past_hello p) (m, [])) (drop (taken r bs) bs)
+    → after_bytes s (past_hello (with_reading p r)) bs ≡ after_bytes s (with_message s (past_hello p) (marked p.lost m)) (drop (taken r bs) bs)
 takes_whole s p (Done x) bs m w e = absurd cc
 takes_whole s p (Faulty f) bs m w e = absurd cc
 takes_whole s p (Want more) [] m w e = absurd cc
@@ -73,14 +61,6 @@ goes_on s p (Want more) (b ∷ bs) e = goes_on_from s p (more b) bs e
 pub stays : (s : Setup) (p : Viewer) (f : Fault) (bs : List ℕ) → after_bytes s (past_hello (with_reading p (Faulty f))) bs ≡ past_hello (with_reading p (Faulty f))
 stays s p f [] = refl
 stays s p f (b ∷ bs) = stays s p f bs
-
--- A message is taken into the record, and nothing else of the viewer changes.
-pub takes_message : (s : Setup) (p : Viewer) (m : ClientMessage) → s.extent ≡ all_but_input s.extent.from_host
-    → with_message s (past_hello p) (m, []) ≡ past_hello (record p { entries = Took (served s m) ∷ p.entries; reading = viewer_form })
-takes_message s p m e =
-    let with_extent : Extent → Viewer = λ x. with_message (record s { extent = x }) (past_hello p) (m, []) in
-    let taken_by : Extent → Viewer = λ x. past_hello (record p { entries = Took (served (record s { extent = x }) m) ∷ p.entries; reading = viewer_form }) in
-    ap with_extent e ∙ sym (ap taken_by e)
 
 -- A reader in which no whole message waits uses some byte of a piece, where it meets no fault.
 fed_some : (r new : Reading ClientMessage) (piece : List ℕ) (used : ℕ) → whole_of r ≡ None → Feeds r new piece (Ok used) → (used ≤ length piece) × (0 < length piece → 0 < used)

@@ -1,5 +1,5 @@
 -- A viewer's hello in its session, byte by byte.
-use Rattle.std.proofs.Common.{◌≡◌, ℕ, suc, ◌+◌, ◌<◌, ◌≤◌, Bool, true, false, List, [], ◌∷◌, ◌++◌, length, take, drop, get_or, Option, Some, None, refl, sym, ap, subst, ◌∙◌, arith, length-append, append-nil, drop-cons, add-one}
+use Rattle.std.proofs.Common.{◌≡◌, ℕ, zero, suc, ◌+◌, ◌<◌, ◌≤◌, Bool, true, false, List, [], ◌∷◌, ◌++◌, length, take, drop, get_or, Option, Some, None, refl, sym, ap, subst, ◌∙◌, arith, length-append, append-nil, drop-cons, add-one}
 use Rattle.std.specs.Prelude.{is_some, is_none, nat_le, if◌then◌else◌}
 use Rattle.std.proofs.lemmas.Bool.Decides.{nat_tests}
 use Rattle.std.proofs.lemmas.List.{drop-append-le}
@@ -10,10 +10,11 @@ use Rattle.pixel_format.proofs.ReadingLaws.{taken-cons, taken-nil}
 use Rattle.rfb_wire.specs.Greeting.{Greeting, ahead, to_send}
 use Rattle.rfb_wire.specs.Handshake.{version, server_init, said_to_viewer}
 use Rattle.rfb_wire.proofs.Greetings.{greeting_steps}
+use Rattle.roles.specs.Allowed.{Input}
 use Rattle.roles.specs.declared.role.Role.{Role}
 use Rattle.viewer_session.specs.Outgoing.{Sending}
 use Rattle.viewer_session.specs.Viewer.{Setup, Viewer, out_bytes, viewer_fault, after_byte, after_bytes, after_hello, after_reading}
-use Rattle.viewer_session.specs.Session.{State, Stands, Greets, GreetsAs, IsSpoken, IsBegun, IsGreeting, IsSaid, HasFed, IsFeeding, at_rest, hello_of, hello_fault, is_greeted}
+use Rattle.viewer_session.specs.Session.{State, Serves, Relays, Stands, Greets, GreetsAs, IsSpoken, IsBegun, IsGreeting, IsSaid, HasFed, IsFeeding, hello_of, hello_fault, is_greeted}
 use Rattle.viewer_session.proofs.Feeding.{past_hello}
 
 -- ---- how the hello goes on
@@ -22,8 +23,8 @@ hello_is : (s : Setup) (o : Option Greeting) (greet : Bool) (hello : Reading (Un
 hello_is s None greet hello said said_after k = k.1
 hello_is s (Some g) greet hello said said_after k = k.goes_on
 
-pub hello_stands : (s : Setup) (st : State) (p : Viewer) → Stands s st p → p.hello ≡ hello_of st.greeting
-hello_stands s st p k = hello_is s st.greeting p.greet p.hello p.said p.said_after k.greets
+pub hello_served : (s : Setup) (st : State) (p : Viewer) → Serves s st p → p.hello ≡ hello_of st.greeting
+hello_served s st p k = hello_is s st.greeting p.greet p.hello p.said p.said_after k.greets
 
 done_is : (r : Reading (Unit {0})) → is_some (whole_of r) ≡ true → r ≡ Done tt
 done_is (Done x) e = refl
@@ -31,10 +32,12 @@ done_is (Faulty f) e = absurd cc
 done_is (Want more) e = absurd cc
 
 -- A hello that is done is passed.
-pub past : (s : Setup) (st : State) (p : Viewer) → Stands s st p → is_greeted st ≡ true → p ≡ past_hello p
-past s st p k greeted =
-    let done : p.hello ≡ Done tt = hello_stands s st p k ∙ done_is (hello_of st.greeting) greeted in
-    k.rests ∙ ap (λ (r : Reading (Unit {0})). record (at_rest p) { hello = r }) done
+pub past : (s : Setup) (st : State) (p : Viewer) → Serves s st p → is_greeted st ≡ true → p.waiting ≡ None → p ≡ past_hello p
+past s st p k greeted none =
+    let done : p.hello ≡ Done tt = hello_served s st p k ∙ done_is (hello_of st.greeting) greeted in
+    let read : p.unread ≡ [] = ap (λ (q : Viewer). q.unread) k.rests in
+    ap (λ (bs : List ℕ). record p { unread = bs }) read
+    ∙ (ap (λ (r : Reading (Unit {0})). record p { unread = []; hello = r }) done ∙ ap (λ (o : Option Input). record p { unread = []; hello = Done tt; waiting = o }) none)
 
 -- ---- what is said
 
@@ -172,10 +175,10 @@ takes_it : (s : Setup) (p : Viewer) (b : ℕ) → wants_more p.hello ≡ true �
 takes_it s p b wants = ap (λ w. if w then after_hello p (step p.hello b) else (if is_some (viewer_fault p) then p else after_reading s p (step p.reading b))) wants
 
 -- Only the hello and what is said in it went on.
-stands_hello : (s : Setup) (st : State) (p : Viewer) (g : Greeting) (hello : Reading (Unit {0})) (said : ℕ) (piece unsent : List ℕ) → Stands s st p → GreetsAs s g p.greet hello said p.said_after
+serves_hello : (s : Setup) (st : State) (p : Viewer) (g : Greeting) (hello : Reading (Unit {0})) (said : ℕ) (piece unsent : List ℕ) → Serves s st p → GreetsAs s g p.greet hello said p.said_after
     → p.written ≤ length (out_bytes s (record p { said = said })) → unsent ≡ drop p.written (out_bytes s (record p { said = said }))
-    → Stands s (record st { greeting = Some g; piece = piece; unsent = unsent }) (record p { hello = hello; said = said })
-stands_hello s st p g hello said piece unsent k greets written left =
+    → Serves s (record st { greeting = Some g; piece = piece; unsent = unsent }) (record p { hello = hello; said = said })
+serves_hello s st p g hello said piece unsent k greets written left =
     record {
       width = k.width;
       height = k.height;
@@ -185,6 +188,7 @@ stands_hello s st p g hello said piece unsent k greets written left =
       greets = greets;
       reading = k.reading;
       taken = k.taken;
+      short = k.short;
       keeps = record { asked = k.keeps.asked; have = k.keeps.have; format = k.keeps.format; choice = k.keeps.choice };
       written = written;
       unsent = left;
@@ -207,13 +211,13 @@ says_as s p g b greets said sent =
     ∙ ap (λ name. (said_grows s.w s.h name p.said).0) greets.name)))
 
 -- A fault is answered by nothing, any other byte by what comes behind.
-stands_byte_by : (s : Setup) (st : State) (p : Viewer) (g : Greeting) (b : ℕ) (o : Option Fault) (piece : List ℕ) → Stands s st p → GreetsAs s g p.greet p.hello p.said p.said_after → wants_more p.hello ≡ true
+serves_byte_by : (s : Setup) (st : State) (p : Viewer) (g : Greeting) (b : ℕ) (o : Option Fault) (piece : List ℕ) → Serves s st p → GreetsAs s g p.greet p.hello p.said p.said_after → wants_more p.hello ≡ true
     → g.sent ≡ length (said_to_viewer g.w g.h g.name (length g.begun)) → step p.hello b ≡ ahead (with_byte g b) → fault_of (ahead (with_byte g b)) ≡ o
-    → Stands s (record st { greeting = Some (with_said (with_byte g b)); piece = piece; unsent = st.unsent ++ to_send (with_byte g b) })
+    → Serves s (record st { greeting = Some (with_said (with_byte g b)); piece = piece; unsent = st.unsent ++ to_send (with_byte g b) })
     (record p { hello = step p.hello b; said = if is_some o then p.said else p.said + 1 })
-stands_byte_by s st p g b (Some f) piece k greets wants sent steps e =
+serves_byte_by s st p g b (Some f) piece k greets wants sent steps e =
     let nothing : to_send (with_byte g b) ≡ [] = says g b (Some f) e in
-    stands_hello s st p (with_said (with_byte g b)) (step p.hello b) p.said piece (st.unsent ++ to_send (with_byte g b)) k
+    serves_hello s st p (with_said (with_byte g b)) (step p.hello b) p.said piece (st.unsent ++ to_send (with_byte g b)) k
     (record {
       w = greets.w;
       h = greets.h;
@@ -224,7 +228,7 @@ stands_byte_by s st p g b (Some f) piece k greets wants sent steps e =
     })
     k.written
     (ap (λ t. st.unsent ++ t) nothing ∙ (append-nil st.unsent ∙ k.unsent))
-stands_byte_by s st p g b None piece k greets wants sent steps e =
+serves_byte_by s st p g b None piece k greets wants sent steps e =
     let before : List ℕ = said_to_viewer s.w s.h s.name p.said in
     let grows = said_grows s.w s.h s.name p.said in
     let so_far : (p.said ≡ length g.begun) × (p.said_after ≡ []) = greets.taken wants in
@@ -235,7 +239,7 @@ stands_byte_by s st p g b None piece k greets wants sent steps e =
     let left : st.unsent ++ to_send (with_byte g b) ≡ drop p.written (out_bytes s (record p { said = p.said + 1 })) =
     ap (λ t. t ++ to_send (with_byte g b)) (k.unsent ∙ ap (drop p.written) was)
     ∙ (ap (λ t. drop p.written before ++ t) say ∙ (sym (drop-append-le p.written before grows.0 within) ∙ ap (drop p.written) (sym is))) in
-    stands_hello s st p (with_said (with_byte g b)) (step p.hello b) (p.said + 1) piece (st.unsent ++ to_send (with_byte g b)) k
+    serves_hello s st p (with_said (with_byte g b)) (step p.hello b) (p.said + 1) piece (st.unsent ++ to_send (with_byte g b)) k
     (record {
       w = greets.w;
       h = greets.h;
@@ -251,31 +255,52 @@ stands_byte_by s st p g b None piece k greets wants sent steps e =
 takes_with : (p : Viewer) (r : Reading (Unit {0})) (o : Option Fault) → fault_of r ≡ o → after_hello p r ≡ record p { hello = r; said = if is_some o then p.said else p.said + 1 }
 takes_with p r o e = ap (λ q. record p { hello = r; said = if is_some q then p.said else p.said + 1 }) e
 
-pub stands_byte : (s : Setup) (st : State) (p : Viewer) (g : Greeting) (b : ℕ) (piece : List ℕ) → st.greeting ≡ Some g → wants_more (ahead g) ≡ true → g.sent ≡ length (said_to_viewer g.w g.h g.name (length g.begun)) → Stands s st p
-    → Stands s (record st { greeting = Some (with_said (with_byte g b)); piece = piece; unsent = st.unsent ++ to_send (with_byte g b) }) (after_byte s p b)
-stands_byte s st p g b piece is wants sent k =
+pub serves_byte : (s : Setup) (st : State) (p : Viewer) (g : Greeting) (b : ℕ) (piece : List ℕ) → st.greeting ≡ Some g → wants_more (ahead g) ≡ true → g.sent ≡ length (said_to_viewer g.w g.h g.name (length g.begun)) → Serves s st p
+    → Serves s (record st { greeting = Some (with_said (with_byte g b)); piece = piece; unsent = st.unsent ++ to_send (with_byte g b) }) (after_byte s p b)
+serves_byte s st p g b piece is wants sent k =
     let greets : GreetsAs s g p.greet p.hello p.said p.said_after = subst (λ (o : Option Greeting). Greets s o p.greet p.hello p.said p.said_after) is k.greets in
     let wanted : wants_more p.hello ≡ true = ap wants_more greets.goes_on ∙ wants in
     let steps : step p.hello b ≡ ahead (with_byte g b) = ap (λ r. step r b) greets.goes_on ∙ sym (greeting_steps g b) in
     let same : after_byte s p b ≡ record p { hello = step p.hello b; said = if is_some (fault_of (ahead (with_byte g b))) then p.said else p.said + 1 } =
     takes_it s p b wanted ∙ takes_with p (step p.hello b) (fault_of (ahead (with_byte g b))) (ap fault_of steps) in
-    subst (λ q. Stands s (record st { greeting = Some (with_said (with_byte g b)); piece = piece; unsent = st.unsent ++ to_send (with_byte g b) }) q) (sym same)
-    (stands_byte_by s st p g b (fault_of (ahead (with_byte g b))) piece k greets wanted sent steps refl)
+    subst (λ q. Serves s (record st { greeting = Some (with_said (with_byte g b)); piece = piece; unsent = st.unsent ++ to_send (with_byte g b) }) q) (sym same)
+    (serves_byte_by s st p g b (fault_of (ahead (with_byte g b))) piece k greets wanted sent steps refl)
 
 -- ---- byte after byte
 
-waits_for_none : (s : Setup) (q : Viewer) (b : ℕ) (bs : List ℕ) → q ≡ at_rest q → after_bytes s q (b ∷ bs) ≡ after_bytes s (after_byte s q b) bs
-waits_for_none s q b bs rests = ap (λ t. after_bytes s t (b ∷ bs)) rests ∙ ap (λ t. after_bytes s (after_byte s t b) bs) (sym rests)
-
-pub feeding_byte : (old now new : State) (piece : List ℕ) (used : ℕ) → IsFeeding old now piece (drop used piece) → used < length piece
-    → ((s : Setup) (p : Viewer) → Stands s now p → Stands s new (after_byte s p (get_or piece used 0))) → IsFeeding old new piece (drop (used + 1) piece)
-feeding_byte old now new piece used h lt takes = λ s p k.
-    let f : HasFed s p now piece (drop used piece) = h s p k in
-    let q : Viewer = f.viewer in
+-- A byte of the hello leaves the input as it is.
+pub stands_byte : (s : Setup) (st : State) (p : Viewer) (g : Greeting) (b : ℕ) (piece : List ℕ) → st.greeting ≡ Some g → wants_more (ahead g) ≡ true → g.sent ≡ length (said_to_viewer g.w g.h g.name (length g.begun)) → Stands s st p
+    → Stands s (record st { greeting = Some (with_said (with_byte g b)); piece = piece; unsent = st.unsent ++ to_send (with_byte g b) }) (after_byte s p b)
+stands_byte s st p g b piece is wants sent k =
+    let new : State = record st { greeting = Some (with_said (with_byte g b)); piece = piece; unsent = st.unsent ++ to_send (with_byte g b) } in
+    let wanted : wants_more p.hello ≡ true = ap wants_more (hello_served s st p k.serves ∙ ap hello_of is) ∙ wants in
+    let same : after_byte s p b ≡ after_hello p (step p.hello b) = takes_it s p b wanted in
     record {
-      viewer = after_byte s q (get_or piece used 0);
+      serves = serves_byte s st p g b piece is wants sent k.serves;
+      relays = subst (λ (q : Viewer). Relays new q) (sym same) (record { waiting = k.relays.waiting; keys = k.relays.keys; held = k.relays.held });
+    }
+
+waits_for_none : (s : Setup) (q : Viewer) (b : ℕ) (bs : List ℕ) → q.waiting ≡ None → after_bytes s q (b ∷ bs) ≡ after_bytes s (after_byte s q b) bs
+waits_for_none s q b bs none = ap (λ (o : Option Input). if is_some o then record q { unread = b ∷ bs } else after_bytes s (after_byte s q b) bs) none
+
+-- The marks of texts are for what comes behind the hello.
+marked_on : (s : Setup) (q : Viewer) (b : ℕ) (more : List Bool) → wants_more q.hello ≡ true → after_byte s (record q { lost = more }) b ≡ record (after_byte s q b) { lost = more }
+marked_on s q b more wants = takes_it s (record q { lost = more }) b wants ∙ ap (λ (t : Viewer). record t { lost = more }) (sym (takes_it s q b wants))
+
+pub feeding_byte : (old now new : State) (piece : List ℕ) (used : ℕ) → IsFeeding old now [] piece (drop used piece) → used < length piece → wants_more (hello_of now.greeting) ≡ true → now.waiting ≡ None
+    → ((s : Setup) (p : Viewer) → Stands s now p → Stands s new (after_byte s p (get_or piece used 0))) → IsFeeding old new [] piece (drop (used + 1) piece)
+feeding_byte old now new piece used h lt wants none takes = λ s p more k.
+    let f : HasFed s (record p { lost = more }) now more piece (drop used piece) = h s p more k in
+    let q : Viewer = f.viewer in
+    let b : ℕ = get_or piece used 0 in
+    let wanted : wants_more q.hello ≡ true = ap wants_more (hello_served s now q f.stands.serves) ∙ wants in
+    record {
+      viewer = after_byte s q b;
       stands = takes s q f.stands;
-      rest = f.rest ∙ (ap (after_bytes s q) (drop-cons piece used 0 lt) ∙ (waits_for_none s q (get_or piece used 0) (drop (suc used) piece) f.stands.rests ∙ ap (λ n. after_bytes s (after_byte s q (get_or piece used 0)) (drop n piece)) (sym (add-one used))));
+      rest = f.rest
+          ∙ (ap (after_bytes s (record q { lost = more })) (drop-cons piece used 0 lt)
+          ∙ (waits_for_none s (record q { lost = more }) b (drop (suc used) piece) (f.stands.relays.waiting ∙ none)
+          ∙ (ap (λ t. after_bytes s t (drop (suc used) piece)) (marked_on s q b more wanted) ∙ ap (λ n. after_bytes s (record (after_byte s q b) { lost = more }) (drop n piece)) (sym (add-one used)))));
     }
 
 at_fault : (r : Reading (Unit {0})) (f : Fault) → fault_of r ≡ Some f → r ≡ Faulty f
@@ -284,19 +309,32 @@ at_fault (Faulty g) f e = let same : g ≡ f = cc in ap Faulty same
 at_fault (Want more) f e = absurd cc
 
 -- Behind a fault of the hello nothing changes.
-stays_at : (s : Setup) (p : Viewer) (f : Fault) (bs : List ℕ) → after_bytes s (record (at_rest p) { hello = Faulty f }) bs ≡ record (at_rest p) { hello = Faulty f }
+stays_at : (s : Setup) (p : Viewer) (f : Fault) (bs : List ℕ) → after_bytes s (record p { hello = Faulty f; waiting = None }) bs ≡ record p { hello = Faulty f; waiting = None; unread = [] }
 stays_at s p f [] = refl
 stays_at s p f (b ∷ bs) = stays_at s p f bs
 
-pub feeding_hello_faults : (old new : State) (piece left : List ℕ) (fault : Fault) → IsFeeding old new piece left → hello_fault new ≡ Some fault
-    → (s : Setup) (p : Viewer) → Stands s old p → Stands s new (after_bytes s p piece)
-feeding_hello_faults old new piece left fault h e s p k =
-    let f : HasFed s p new piece left = h s p k in
+pub feeding_hello_faults : (old new : State) (piece left : List ℕ) (fault : Fault) → IsFeeding old new [] piece left → hello_fault new ≡ Some fault → new.waiting ≡ None → IsFeeding old new [] piece []
+feeding_hello_faults old new piece left fault h e none = λ s p more k.
+    let f : HasFed s (record p { lost = more }) new more piece left = h s p more k in
     let q : Viewer = f.viewer in
-    let hello : q.hello ≡ Faulty fault = hello_stands s new q f.stands ∙ at_fault (hello_of new.greeting) fault e in
-    let same : q ≡ record (at_rest q) { hello = Faulty fault } = f.stands.rests ∙ ap (λ (r : Reading (Unit {0})). record (at_rest q) { hello = r }) hello in
-    let there : after_bytes s p piece ≡ q = f.rest ∙ (ap (λ t. after_bytes s t left) same ∙ (stays_at s q fault left ∙ sym same)) in
-    subst (λ t. Stands s new t) (sym there) f.stands
+    let hello : q.hello ≡ Faulty fault = hello_served s new q f.stands.serves ∙ at_fault (hello_of new.greeting) fault e in
+    let same : record q { lost = more } ≡ record q { lost = more; hello = Faulty fault; waiting = None } =
+    ap (λ (r : Reading (Unit {0})). record q { lost = more; hello = r }) hello ∙ ap (λ (o : Option Input). record q { lost = more; hello = Faulty fault; waiting = o }) (f.stands.relays.waiting ∙ none) in
+    record {
+      viewer = q;
+      stands = f.stands;
+      rest = f.rest ∙ (ap (λ t. after_bytes s t left) same ∙ (stays_at s (record q { lost = more }) fault left ∙ ap (λ t. after_bytes s t []) (sym same)));
+    }
+
+-- Where there is neither a fault nor an end, a byte is wanted.
+pub never_stuck : (r : Reading (Unit {0})) → wants_more r ≡ false → fault_of r ≡ None → is_some (whole_of r) ≡ false → ⊥
+never_stuck (Done x) w f e = absurd cc
+never_stuck (Faulty fault) w f e = absurd cc
+never_stuck (Want more) w f e = absurd cc
+
+pub some_if : (n : ℕ) → (n ≡ 0 → ⊥) → 0 < n
+some_if zero never = absurd (never refl)
+some_if (suc n) never = omega arith
 
 pub not_yet : (r : Reading (Unit {0})) → wants_more r ≡ true → is_some (whole_of r) ≡ false
 not_yet (Done x) w = absurd cc

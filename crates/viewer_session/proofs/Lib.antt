@@ -5,6 +5,9 @@ pub mod SameRuns
 pub mod SessionLaws
 pub mod HelloLaws
 pub mod FeedLaws
+pub mod KeptShort
+pub mod Relaying
+pub mod Taking
 pub mod TurnLaws
 pub mod Parts
 pub mod Stands

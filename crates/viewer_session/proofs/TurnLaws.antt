@@ -32,14 +32,15 @@ use Rattle.update_encoder.specs.Coming.{shown}
 use Rattle.update_encoder.specs.Written.{is_due_of}
 use Rattle.update_encoder.proofs.CutLaws.{cut_is_answered}
 use Rattle.viewer_session.specs.Extent.{Extent}
-use Rattle.viewer_session.specs.AllButInput.{all_but_input}
+use Rattle.viewer_session.specs.Extent.{everything}
 use Rattle.viewer_session.specs.Found.{answered_at, has_newer, is_newer, rings, update_in, update_of}
 use Rattle.viewer_session.specs.Outgoing.{Sending, text_message}
-use Rattle.viewer_session.specs.Record.{Entry, MadeCut, events, format_of, choice_of}
+use Rattle.roles.specs.Held.{HeldStands}
+use Rattle.viewer_session.specs.Record.{Entry, MadeCut, events, format_of, choice_of, messages_in}
 use Rattle.viewer_session.specs.Turn.{due_tile, due_tile_in, was_sent, all_were_sent, update_for, update_at, update_part, bell_at, newer_text, text_at, began_at, record_after_cut}
 use Rattle.viewer_session.specs.Turn as turn
 use Rattle.viewer_session.specs.Viewer.{Setup, Viewer, out_bytes, after_cut}
-use Rattle.viewer_session.specs.Session.{State, Stands, Greets, Keeps, CutsAt, HasCounted, IsGreeting, at_rest, hello_of, is_greeted, is_ready, fault_in}
+use Rattle.viewer_session.specs.Session.{State, Serves, Relays, Stands, Greets, Keeps, CutsAt, HasCounted, IsGreeting, at_rest, hello_of, is_greeted, is_ready, fault_in}
 use Rattle.viewer_session.proofs.HelloLaws.{not_yet}
 use Rattle.viewer_session.proofs.SameRuns.{runs_same, all_same, any_same, no_run, not_zero}
 
@@ -162,7 +163,7 @@ pub record IsCutFor (st : State) (cut : cutting.Cut) (nowhere : Rect) (known : L
   pub size : IsScreenSize cut.width cut.height
   pub within : IsWithin (unwrap_or st.asked.area nowhere) cut.width cut.height
 
-update_by : (s : Setup) (st : State) (p : Viewer) (cut : cutting.Cut) (known : List Update) (n : ℕ) (nowhere : Rect) (area : Option Rect) → Stands s st p
+update_by : (s : Setup) (st : State) (p : Viewer) (cut : cutting.Cut) (known : List Update) (n : ℕ) (nowhere : Rect) (area : Option Rect) → Serves s st p
     → IsCutOf known n (unwrap_or area nowhere) st.have cut → st.width ≡ cut.width → st.height ≡ cut.height → st.have.width ≡ st.width → st.have.height ≡ st.height → IsScreenSize cut.width cut.height
     → IsWithin (unwrap_or area nowhere) cut.width cut.height → update_in st.format st.choice cut area ≡ update_for s.w s.h p.entries (take n known) area
 update_by s st p cut known n nowhere None k is ew eh hw hh size on = refl
@@ -170,7 +171,7 @@ update_by s st p cut known n nowhere (Some area) k is ew eh hw hh size on =
     update_on s.w s.h known n area st.have cut p.entries st.format st.choice (hw ∙ k.width) (hh ∙ k.height) is (hw ∙ ew) (hh ∙ eh) size on k.keeps.have k.keeps.format k.keeps.choice
 
 -- The update that a session finds in a cut is the one of the definitions.
-pub update_is : (s : Setup) (st : State) (p : Viewer) (cut : cutting.Cut) (known : List Update) (n : ℕ) (nowhere : Rect) → Stands s st p → IsCutFor st cut nowhere known n
+pub update_is : (s : Setup) (st : State) (p : Viewer) (cut : cutting.Cut) (known : List Update) (n : ℕ) (nowhere : Rect) → Serves s st p → IsCutFor st cut nowhere known n
     → update_in st.format st.choice cut st.asked.area ≡ update_at s.w s.h p.entries (take n known)
 update_is s st p cut known n nowhere k c =
     update_by s st p cut known n nowhere st.asked.area k c.is c.width c.height c.have_width c.have_height c.size c.within
@@ -277,10 +278,10 @@ greeting_done None out now done k = tt
 greeting_done (Some g) out now done k =
     record { short = k.short; said = λ wants. absurd (let open_ : is_some (whole_of (ahead g)) ≡ false = not_yet (ahead g) wants in cc) }
 
-stands_cut : (s : Setup) (st : State) (p : Viewer) (us : List Update) (wanted : Wanted) (have : SentTiles) (cut : cutting.Cut) (piece bytes : List ℕ) → Stands s st p → is_ready st ≡ true
+serves_cut : (s : Setup) (st : State) (p : Viewer) (us : List Update) (wanted : Wanted) (have : SentTiles) (cut : cutting.Cut) (piece bytes : List ℕ) → Serves s st p → is_ready st ≡ true
     → turn.sent_at s.extent.tells_news s.w s.h p.entries us ≡ bytes → Keeps s.w s.h (record st { asked = wanted; have = have; cut = cut; piece = piece; unsent = bytes }) (record_after_cut s.w s.h p.entries us)
-    → Stands s (record st { asked = wanted; have = have; cut = cut; piece = piece; unsent = bytes }) (after_cut s us p)
-stands_cut s st p us wanted have cut piece bytes k ready e keeps =
+    → Serves s (record st { asked = wanted; have = have; cut = cut; piece = piece; unsent = bytes }) (after_cut s us p)
+serves_cut s st p us wanted have cut piece bytes k ready e keeps =
     let none : length st.unsent ≡ 0 = sent_all st ready in
     let sent : List ℕ = turn.sent_at s.extent.tells_news s.w s.h p.entries us in
     let over : length (drop p.written (out_bytes s p)) ≡ 0 = ap length (sym k.unsent) ∙ none in
@@ -294,9 +295,24 @@ stands_cut s st p us wanted have cut piece bytes k ready e keeps =
       greets = greets_cut s st.greeting p.greet p.hello p.said p.said_after (p.said_after ++ sent) (greeted_ready st ready) k.greets;
       reading = k.reading;
       taken = k.taken;
+      short = k.short;
       keeps = keeps;
       written = omega (arith, k.written, ap length out, length-append (out_bytes s p) sent);
       unsent = sym (ap (drop p.written) out ∙ (drop_said p.written (out_bytes s p) sent k.written over ∙ e));
+    }
+
+-- No message is taken by it.
+messages_began : (n : ℕ) (found : Option (Rect × List ℕ)) (entries : List Entry) → messages_in (began_at n found (MadeCut n ∷ entries)) ≡ messages_in entries
+messages_began n None entries = refl
+messages_began n (Some found) entries = refl
+
+relays_cut : (s : Setup) (st : State) (p : Viewer) (us : List Update) (wanted : Wanted) (have : SentTiles) (cut : cutting.Cut) (piece bytes : List ℕ) → Relays st p
+    → Relays (record st { asked = wanted; have = have; cut = cut; piece = piece; unsent = bytes }) (after_cut s us p)
+relays_cut s st p us wanted have cut piece bytes k =
+    record {
+      waiting = k.waiting;
+      keys = k.keys;
+      held = subst (λ ms. HeldStands st.role st.held ms) (sym (messages_began (length us) (update_at s.w s.h p.entries us) p.entries)) k.held;
     }
 
 -- ---- the record after it
@@ -335,7 +351,7 @@ count_taken n us le = omega (arith, length-take n us)
 last_is : (n number : ℕ) (o : Option ℕ) → o ≡ Some n → o ≡ Some number → n ≡ number
 last_is n number o e f = cc
 
-tells : (s : Setup) (es : List Entry) (us : List Update) → s.extent ≡ all_but_input s.extent.from_host
+tells : (s : Setup) (es : List Entry) (us : List Update) → s.extent ≡ everything
     → turn.sent_at s.extent.tells_news s.w s.h es us
     ≡ bell_at us (last_cut (events s.w s.h es)) ++ (text_at us (last_cut (events s.w s.h es)) ++ update_part (update_at s.w s.h es us))
 tells s es us e =
@@ -360,7 +376,8 @@ turned st now known least most n cut nowhere wanted have bell text update piece 
       bounded = fresh.1;
       counted = λ number f. let m : n ≡ number = last_is n number wanted.last last f in (omega (arith, c.is.known, m), c.is.bells ∙ ap (λ k. bells (take k known)) m);
       stands = λ s p counted stood.
-          let k : Stands s st p = subst (λ (t : State). Stands s t p) (sym same) stood in
+          let both : Stands s st p = subst (λ (t : State). Stands s t p) (sym same) stood in
+          let k : Serves s st p = both.serves in
           let known_bells : HasCounted st known = subst (λ (t : State). HasCounted t known) (sym same) counted in
           let count : length us ≡ n = count_taken n known c.is.known in
           let update_there : update_in st.format st.choice cut st.asked.area ≡ update_at s.w s.h p.entries us = update_is s st p cut known n nowhere k c in
@@ -378,5 +395,8 @@ turned st now known least most n cut nowhere wanted have bell text update piece 
           keeps_cut s.w s.h n st p.entries (update_in st.format st.choice cut st.asked.area) wanted have cut piece bytes k.keeps asked has in
           let record_is : began_at n (update_in st.format st.choice cut st.asked.area) (MadeCut n ∷ p.entries) ≡ record_after_cut s.w s.h p.entries us =
           ap (λ u. began_at n u (MadeCut n ∷ p.entries)) update_there ∙ ap (λ m. began_at m (update_at s.w s.h p.entries us) (MadeCut m ∷ p.entries)) (sym count) in
-          stands_cut s st p us wanted have cut piece bytes k (ap is_ready same ∙ ready) (sym bytes_there) (subst (λ (l : List Entry). Keeps s.w s.h (record st { asked = wanted; have = have; cut = cut; piece = piece; unsent = bytes }) l) record_is kept);
+          record {
+            serves = serves_cut s st p us wanted have cut piece bytes k (ap is_ready same ∙ ready) (sym bytes_there) (subst (λ (l : List Entry). Keeps s.w s.h (record st { asked = wanted; have = have; cut = cut; piece = piece; unsent = bytes }) l) record_is kept);
+            relays = relays_cut s st p us wanted have cut piece bytes both.relays;
+          };
     }

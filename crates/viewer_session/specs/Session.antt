@@ -1,29 +1,32 @@
 -- What a session keeps, and which viewers it stands for.
-use Rattle.std.specs.Prelude.{◌≡◌, ℕ, ◌+◌, ◌≤◌, Bool, true, false, max, ◌&&◌, ◌||◌, ◌==◌, nat_lt, if◌then◌else◌, is_some, is_none, unwrap_or, List, [], ◌∷◌, length, drop, take, Option, Some, None, Result, Ok, Err}
+use Rattle.std.specs.Prelude.{◌≡◌, ℕ, ◌+◌, ◌≤◌, Bool, true, false, max, ◌&&◌, ◌||◌, ◌==◌, ◌<◌, ◌⊎◌, ◌++◌, nat_le, nat_lt, if◌then◌else◌, is_some, is_none, unwrap_or, List, [], ◌∷◌, length, drop, take, Option, Some, None, Ok}
 use Rattle.pixel_format.specs.declared.fault.Fault.{Fault}
 use Rattle.pixel_format.specs.PixelFormat.{PixelFormat}
-use Rattle.pixel_format.specs.Reading.{Reading, Done, whole_of, fault_of, wants_more, GivesWhole}
+use Rattle.pixel_format.specs.Reading.{Reading, Done, whole_of, fault_of, wants_more, Gives, GivesWhole}
 use Rattle.raster.specs.Size.{IsScreenSize}
 use Rattle.raster.specs.Update.{Update, bells}
 use Rattle.rfb_wire.specs.declared.client_reader.ClientReader.{ClientReader}
 use Rattle.rfb_wire.specs.ClientReader.{ahead}
-use Rattle.rfb_wire.specs.ClientMessage.{ClientMessage, Choice}
+use Rattle.rfb_wire.specs.ClientMessage.{ClientMessage, CutText, LostText, Choice, longest_text}
 use Rattle.rfb_wire.specs.Greeting as handshake
 use Rattle.rfb_wire.specs.Greeting.{Greeting}
 use Rattle.rfb_wire.specs.Handshake.{said_to_viewer}
 use Rattle.rfb_wire.specs.Message.{IsOrLoses, FeedsOrLoses, viewer_form}
+use Rattle.roles.specs.Allowed.{Input, allowed, releases}
+use Rattle.roles.specs.Held.{Kept, HeldStands, input_for, left_in}
 use Rattle.roles.specs.declared.role.Role.{Role}
 use Rattle.tiles.specs.Have.{SentTiles, HaveStands}
 use Rattle.reflect_core.specs.Asked.{Wanted, AskedStands}
 use Rattle.reflect_core.specs.declared.cut.Cut.{Cut}
-use Rattle.viewer_session.specs.AllButInput.{all_but_input}
+use Rattle.viewer_session.specs.Extent.{everything}
 use Rattle.viewer_session.specs.Outgoing.{Sending}
-use Rattle.viewer_session.specs.Record.{Entry, Took, Saw, events, format_of, choice_of}
+use Rattle.viewer_session.specs.Record.{Entry, Took, Saw, events, format_of, choice_of, messages_in}
 use Rattle.viewer_session.specs.Viewer as viewer
-use Rattle.viewer_session.specs.Viewer.{Setup, Viewer, served, out_bytes, new_viewer, after_bytes, after_cut}
+use Rattle.viewer_session.specs.Viewer.{Setup, Viewer, out_bytes, new_viewer, with_input, after_bytes, after_cut}
 
 -- The size of the screen, the viewer's role, its hello where it has one, what has come of its next message, the pixel format and the choice of encodings that hold, what
--- it has asked for, what it has of each tile, the last cut, the piece that is sent next, and all bytes for it that aren't sent yet.
+-- it has asked for, what it has of each tile, the last cut, the piece that is sent next, and all bytes for it that aren't sent yet; what it holds down, and its
+-- input that waits.
 pub record State : Type 0 where
   pub width : ℕ
   pub height : ℕ
@@ -37,6 +40,8 @@ pub record State : Type 0 where
   pub cut : Cut
   pub piece : List ℕ
   pub unsent : List ℕ
+  pub held : Kept
+  pub waiting : Option Input
 
 -- How the hello goes on. A session that begins after it has none, and takes it as done.
 abbrev pub hello_of : Option Greeting → Reading (Unit {0})
@@ -86,9 +91,9 @@ is_greeted st = is_some (whole_of (hello_of st.greeting))
 abbrev pub is_ready : State → Bool
 is_ready st = (length st.unsent == 0) && (is_greeted st && is_none (fault_in st))
 
--- A viewer of which no byte waits.
+-- A viewer of which no byte is unread.
 abbrev pub at_rest : Viewer → Viewer
-at_rest p = record p { unread = []; lost = []; waiting = None }
+at_rest p = record p { unread = []; lost = [] }
 
 -- The hello of the session is the viewer's: its screen and name, and how it goes on. While more of it is to come so many bytes
 -- were taken, and no answer is begun.
@@ -112,20 +117,38 @@ pub record Keeps (w h : ℕ) (st : State) (entries : List Entry) : Type 0 where
   pub format : st.format ≡ format_of entries
   pub choice : st.choice ≡ choice_of entries
 
--- The state stands for a viewer of a build that relays no input.
-pub record Stands (s : Setup) (st : State) (p : Viewer) : Type 0 where
+-- A text that is kept is short, and one that is read past for its length is longer (7.5.6; the bound is this project's own).
+abbrev pub HasKeptShort : ClientMessage → Type 0
+HasKeptShort (CutText text) = length text ≤ longest_text
+HasKeptShort (LostText len) = longest_text < len
+HasKeptShort message = Unit {0}
+
+-- The state stands for all of a viewer but its input.
+pub record Serves (s : Setup) (st : State) (p : Viewer) : Type 0 where
   pub width : st.width ≡ s.w
   pub height : st.height ≡ s.h
-  pub extent : s.extent ≡ all_but_input s.extent.from_host
+  pub extent : s.extent ≡ everything
   pub role : p.role ≡ st.role
   pub rests : p ≡ at_rest p
   pub greets : Greets s st.greeting p.greet p.hello p.said p.said_after
   -- a reader that was refused memory reads a text as one that is lost; no whole message waits
   pub reading : IsOrLoses (ahead st.reader) p.reading
   pub taken : whole_of p.reading ≡ None
+  pub short : Gives HasKeptShort p.reading
   pub keeps : Keeps s.w s.h st p.entries
   pub written : p.written ≤ length (out_bytes s p)
   pub unsent : st.unsent ≡ drop p.written (out_bytes s p)
+
+-- The input that waits is the viewer's, and what is held down stands for the messages taken.
+pub record Relays (st : State) (p : Viewer) : Type 0 where
+  pub waiting : p.waiting ≡ st.waiting
+  pub keys : p.keys ≡ st.held.keys
+  pub held : HeldStands st.role st.held (messages_in p.entries)
+
+-- The state stands for a viewer of which no byte is unread.
+pub record Stands (s : Setup) (st : State) (p : Viewer) : Type 0 where
+  pub serves : Serves s st p
+  pub relays : Relays st p
 
 -- ---- what the calls do
 
@@ -148,27 +171,50 @@ pub record IsSameSession (before now : State) : Type 0 where
   pub cut : now.cut ≡ before.cut
   pub last : now.asked.last ≡ before.asked.last
 
--- The answer of a feed: all of the piece was used, or there is a fault, in this piece or before.
-abbrev pub FedAnswer : State → List ℕ → Result ℕ Fault → Type 0
-FedAnswer st piece (Ok used) = (used ≡ length piece) × (fault_in st ≡ None)
-FedAnswer st piece (Err fault) = fault_in st ≡ Some fault
-
--- Of the piece these bytes are left, and this viewer, for which the state stands, is to take them.
-pub record HasFed (s : Setup) (p : Viewer) (now : State) (piece left : List ℕ) : Type 0 where
+-- Of the piece these bytes are left, and this viewer, for which the state stands, is to take them, with these marks for the texts among them.
+pub record HasFed (s : Setup) (p : Viewer) (now : State) (marks : List Bool) (piece left : List ℕ) : Type 0 where
   pub viewer : Viewer
   pub stands : Stands s now viewer
-  pub rest : after_bytes s p piece ≡ after_bytes s viewer left
+  pub rest : after_bytes s p piece ≡ after_bytes s (record viewer { lost = marks }) left
 
--- What stood for a viewer stands, after these bytes, for one that is to take what is left.
-abbrev pub IsFeeding : State → State → List ℕ → List ℕ → Type 0
-IsFeeding old now piece left = (s : Setup) (p : Viewer) → Stands s old p → HasFed s p now piece left
+-- What stood for a viewer stands, after these bytes, for one that is to take what is left. These marks are those of the texts that became whole:
+-- of each whether it found no memory.
+abbrev pub IsFeeding : State → State → List Bool → List ℕ → List ℕ → Type 0
+IsFeeding old now marks piece left = (s : Setup) (p : Viewer) (more : List Bool) → Stands s old p → HasFed s (record p { lost = marks ++ more }) now more piece left
+
+-- A viewer whose last step was no look, with these marks for its texts.
+abbrev pub with_marks : List Bool → Viewer → Viewer
+with_marks marks p = record p { looked = None; lost = marks }
+
+-- The state stands for this viewer but for the bytes that it left unread, since an input waits.
+pub record StandsBut (s : Setup) (st : State) (p : Viewer) (left : List ℕ) : Type 0 where
+  pub stands : Stands s st (at_rest p)
+  pub unread : p.unread ≡ left
+  pub marks : p.lost ≡ []
+
+-- What stood for a viewer stands for it after these bytes, as far as no input waited. These are left unread.
+abbrev pub FeedsTo : State → State → List Bool → List ℕ → List ℕ → Type 0
+FeedsTo old new marks piece left = (s : Setup) (p : Viewer) → Stands s old p → StandsBut s new (after_bytes s (with_marks marks p) piece) left
+
+-- So many bytes of the piece were used: all of it, and there is no fault; or all up to an input, which waits.
+pub record FeedsUpTo (old new : State) (piece : List ℕ) (used : ℕ) : Type 0 where
+  pub within : used ≤ length piece
+  pub all : ((used ≡ length piece) × (fault_in new ≡ None)) ⊎ (is_some new.waiting ≡ true)
+  pub marks : List Bool
+  pub feeds : FeedsTo old new marks piece (drop used piece)
+
+-- There is a fault, in this piece or before; behind it no byte is looked at.
+pub record FeedsToFault (old new : State) (piece : List ℕ) (fault : Fault) : Type 0 where
+  pub stands_at : fault_in new ≡ Some fault
+  pub marks : List Bool
+  pub feeds : FeedsTo old new marks piece []
 
 -- Bytes of the hello were used: all of the piece, unless it is done.
 pub record ReadsHello (old new : State) (piece : List ℕ) (used : ℕ) : Type 0 where
-  pub fed : IsFeeding old new piece (drop used piece)
+  pub fed : IsFeeding old new [] piece (drop used piece)
   pub within : used ≤ length piece
+  pub some : 0 < length piece → 0 < used
   pub fine : hello_fault new ≡ None
-  pub all : is_greeted new ≡ false → used ≡ length piece
 
 -- A whole message was taken from the reader, or there was none: how it goes on by the bytes, and then with that message taken.
 pub record ReadsOne (old new : State) (piece : List ℕ) (used : ℕ) (message : Option ClientMessage) : Type 0 where
@@ -176,9 +222,32 @@ pub record ReadsOne (old new : State) (piece : List ℕ) (used : ℕ) (message :
   pub feeds : FeedsOrLoses (ahead old.reader) begun piece (Ok used)
   pub gives : GivesWhole viewer_form begun (ahead new.reader) message
 
--- A message was taken.
-abbrev pub after_taking : Setup → ClientMessage → Viewer → Viewer
-after_taking s message p = record p { entries = Took (served s message) ∷ p.entries }
+-- A message was noted.
+abbrev pub after_noting : ClientMessage → Viewer → Viewer
+after_noting message p = record p { entries = Took message ∷ p.entries }
+
+-- And its input waits, where it passes.
+abbrev pub after_taking : ClientMessage → Viewer → Viewer
+after_taking message p = with_input (after_noting message p) (input_for p.role message)
+
+-- The mark of a text that became whole, as a list.
+abbrev pub marks_in : Option Bool → List Bool
+marks_in None = []
+marks_in (Some lost) = lost ∷ []
+
+-- The mark of a message's text, where it isn't longer than the longest: whether it is lost.
+abbrev pub text_mark : ClientMessage → Option Bool
+text_mark (CutText text) = Some false
+text_mark (LostText len) = if nat_le len longest_text then Some true else None
+text_mark message = None
+
+-- The input that waits was taken.
+abbrev pub without_input : Viewer → Viewer
+without_input p = record p { waiting = None }
+
+-- What is still to be released is what follows the input that passed where the viewer leaves.
+abbrev pub HasReleases : State → Type 0
+HasReleases st = (s : Setup) (p : Viewer) → Stands s st p → left_in st.held ≡ releases (allowed p.role (messages_in p.entries) false)
 
 -- A look was taken, with this reply.
 abbrev pub after_look : ℕ → Viewer → Viewer

@@ -7,8 +7,8 @@ use Rattle.raster.specs.Update.{Update}
 use Rattle.rfb_wire.specs.ClientMessage.{ClientMessage, SetEncodings, CutText, without_text}
 use Rattle.rfb_wire.specs.Handshake.{viewer_hello, said_to_viewer}
 use Rattle.roles.specs.declared.role.Role.{Role}
-use Rattle.roles.specs.declared.role.Role.TheVariants.{Full, View}
-use Rattle.roles.specs.Allowed.{Input, input_of, passes, keys_after}
+use Rattle.roles.specs.Allowed.{Input, passes, keys_after}
+use Rattle.roles.specs.Held.{input_for}
 use Rattle.viewer_session.specs.Extent.{Extent}
 use Rattle.viewer_session.specs.Record.{Entry, Took}
 use Rattle.viewer_session.specs.Turn.{sent_at, record_after_cut}
@@ -59,12 +59,7 @@ with_input p (Some input) =
     then record p { keys = keys_after p.keys input; waiting = Some input }
     else p
 
--- The input in a message of a viewer of this role.
-abbrev pub input_for : Role → ClientMessage → Option Input
-input_for View message = None
-input_for Full message = input_of message
-
--- The same, and none where input isn't relayed.
+-- The input in a message of a viewer of this role, and none where input isn't relayed.
 abbrev pub relayed : Setup → Role → ClientMessage → Option Input
 relayed s role message = if s.extent.relays_input then input_for role message else None
 

@@ -1,15 +1,16 @@
 //! One viewer's session: how it begins, and what it shows.
 
-ghost use Rattle.std.specs.Prelude.{◌≡◌, ◌+◌, ◌≤◌, ◌↔◌, Bool, IsTrue, ◌++◌, true, false, [], drop, length, IfOk, IfErr, None};
+ghost use Rattle.std.specs.Prelude.{◌≡◌, ◌+◌, ◌≤◌, ◌↔◌, Bool, IsTrue, ◌++◌, ◌∷◌, true, false, [], drop, length, is_some, option_map, IfOk, IfErr, MatchOption, None};
 ghost use Rattle.pixel_format.specs.declared.fault.Fault.TheVariants.{Memory};
 ghost use Rattle.pixel_format.specs.Reading.{fault_of};
 ghost use Rattle.raster.specs.Size.{IsScreenSize};
 ghost use Rattle.rfb_wire.specs.ClientReader.{ahead};
 ghost use Rattle.rfb_wire.specs.Greeting.{to_send};
 ghost use Rattle.reflect_core.specs.Sequential.{Begins};
-ghost use Rattle.viewer_session.specs.AllButInput.{all_but_input};
+ghost use Rattle.roles.specs.Held.{input_in, left_in};
+ghost use Rattle.viewer_session.specs.Extent.{everything};
 ghost use Rattle.viewer_session.specs.Outgoing.{longest_piece};
-ghost use Rattle.viewer_session.specs.Session.{State, Stands, IsBegun, IsBetween, IsGreeting, IsSameSession, fault_in, hello_fault, is_greeted, is_ready, after_writing};
+ghost use Rattle.viewer_session.specs.Session.{State, Stands, HasReleases, IsBegun, IsBetween, IsGreeting, IsSameSession, fault_in, hello_fault, is_greeted, is_ready, after_writing, without_input};
 ghost use Rattle.viewer_session.specs.Viewer.{Setup, Viewer, new_viewer, may_look};
 
 mod reading;
@@ -18,14 +19,16 @@ mod turning;
 use crate::outgoing::Outgoing;
 use pixel_format::{Fault, Format};
 use raster::Encoding;
+pub use reading::Fed;
 use reflect_core::Asked;
 use rfb_wire::{Choice, ClientReader, ViewerHello};
-use roles::Role;
+use roles::{Held, Input, Role};
 use std::alloc::Global;
 use std::marker::Model;
 use tiles::Have;
 
-/// A viewer's hello and messages are read, and answered from a source of screens (RFC 6143, 7.1 to 7.6). Input is read and dropped.
+/// A viewer's hello and messages are read, and answered from a source of screens (RFC 6143, 7.1 to 7.6). An input that its role allows waits to be
+/// taken, and no further byte is read until it is. What it holds down is released when it leaves.
 ///
 /// What is sent waits in pieces: `out` is the bytes of a hello, a Bell, a text, the head of an update or one rectangle, and once `sent` has
 /// emptied it the next takes its place. An answer keeps the format and the choice that stood at its cut, and what is forgotten while
@@ -42,10 +45,14 @@ pub struct Session {
     asked: Asked,
     have: Have,
     out: Outgoing,
+    held: Held,
+    waiting: Option<Input>,
 }
 
 impl Model for Session {
+    ghost use Rattle.std.specs.Prelude.{option_map};
     ghost use Rattle.rfb_wire.specs.Message.{choice_in};
+    ghost use Rattle.roles.specs.Held.{input_in};
     ghost use Rattle.viewer_session.specs.Session.{State, IsSound};
 
     ghost Value = { State };
@@ -63,6 +70,8 @@ impl Model for Session {
       cut = s.out.cut;
       piece = s.out.piece;
       unsent = s.out.unsent;
+      held = s.held;
+      waiting = option_map input_in s.waiting;
     } };
 
     ghost invariant = { λ s. IsSound s.width s.height s.hello s.reader s.asked s.have s.out };
@@ -76,7 +85,7 @@ impl Session {
         requires name { (1 ≤ length name.now) × (length name.now ≤ 255) }
         ensures size { IfOk result (λ session. (session.width ≡ w) × (session.height ≡ h)) }
         ensures uncut { IfOk result (λ session. session.asked.last ≡ None) }
-        ensures stands { IfOk result (λ session. (s : Setup) → s.w ≡ w → s.h ≡ h → s.name ≡ name.now → s.extent ≡ all_but_input s.extent.from_host → Stands s session (new_viewer s role true)) }
+        ensures stands { IfOk result (λ session. (s : Setup) → s.w ≡ w → s.h ≡ h → s.name ≡ name.now → s.extent ≡ everything → Stands s session (new_viewer s role true)) }
         ensures err { IfErr result (λ fault. fault ≡ Memory) }
     {
         let mut out = Outgoing::new(alloc, w, h)?;
@@ -91,7 +100,7 @@ impl Session {
         requires { IsScreenSize w h }
         ensures size { IfOk result (λ session. (session.width ≡ w) × (session.height ≡ h)) }
         ensures uncut { IfOk result (λ session. session.asked.last ≡ None) }
-        ensures stands { IfOk result (λ session. (s : Setup) → s.w ≡ w → s.h ≡ h → s.extent ≡ all_but_input s.extent.from_host → Stands s session (new_viewer s role false)) }
+        ensures stands { IfOk result (λ session. (s : Setup) → s.w ≡ w → s.h ≡ h → s.extent ≡ everything → Stands s session (new_viewer s role false)) }
         ensures err { IfErr result (λ fault. fault ≡ Memory) }
     {
         let out = Outgoing::new(alloc, w, h)?;
@@ -112,7 +121,7 @@ impl Session {
         requires greets { IsGreeting hello out }
         ensures size { IfOk result (λ session. (session.width ≡ w) × (session.height ≡ h)) }
         ensures uncut { IfOk result (λ session. session.asked.last ≡ None) }
-        ensures stands { IfOk result (λ session. (s : Setup) (greet : Bool) → s.w ≡ w → s.h ≡ h → s.extent ≡ all_but_input s.extent.from_host → IsBegun s role greet hello out → Stands s session (new_viewer s role greet)) }
+        ensures stands { IfOk result (λ session. (s : Setup) (greet : Bool) → s.w ≡ w → s.h ≡ h → s.extent ≡ everything → IsBegun s role greet hello out → Stands s session (new_viewer s role greet)) }
         ensures err { IfErr result (λ fault. fault ≡ Memory) }
     {
         let have = Have::new(alloc, w, h)?;
@@ -130,6 +139,8 @@ impl Session {
             asked: Asked::new(w, h),
             have,
             out,
+            held: Held::new(),
+            waiting: None,
         })
     }
 
@@ -190,6 +201,41 @@ impl Session {
         ensures stands { (s : Setup) (p : Viewer) → Stands s self.now p → result ≡ may_look s p }
     {
         self.out.piece().is_empty() && self.is_greeted() && self.reader.fault().is_none()
+    }
+
+    /// Whether an input waits to be taken.
+    pub fn has_input(&self) -> bool
+        ensures { result ≡ is_some self.now.waiting }
+    {
+        self.waiting.is_some()
+    }
+
+    /// Takes the input that waits: a message's that its role allows. Then none waits, and the bytes behind the message may be fed. Where none waits nothing has
+    /// changed. It takes no memory.
+    pub fn take_input(&mut self) -> Option<Input>
+        ensures value { option_map input_in result ≡ self.old.waiting }
+        ensures others { self.new ≡ record self.old { waiting = None } }
+        ensures stands { (s : Setup) (p : Viewer) → Stands s self.old p → Stands s self.new (without_input p) }
+    {
+        self.waiting.take()
+    }
+
+    /// How many inputs `leave` has still to release: at most 65.
+    pub fn releases(&self) -> usize
+        ensures value { result ≡ length (left_in self.now.held) }
+        ensures most { result ≤ 65 }
+    {
+        self.held.releases()
+    }
+
+    /// The next input that is to be released where the viewer has left, and `None` once there is none left: the keys that are down by rising number,
+    /// then mask 0 at the last position if the last mask wasn't 0. An input that waits is taken before. It takes no memory.
+    pub fn leave(&mut self) -> Option<Input>
+        ensures next { MatchOption result ((left_in self.old.held ≡ []) × (self.new ≡ self.old)) (λ input. left_in self.old.held ≡ input_in input ∷ left_in self.new.held) }
+        ensures others { self.new ≡ record self.old { held = self.new.held } }
+        ensures releases { HasReleases self.old }
+    {
+        self.held.release()
     }
 
     /// Whether the viewer stands between two messages: its hello is done, there is no fault, and no byte was used since the hello's end or

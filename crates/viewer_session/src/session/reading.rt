@@ -1,17 +1,28 @@
 //! What a viewer sends: its hello, then its messages.
 
-ghost use Rattle.std.specs.Prelude.{◌≡◌, ◌<◌, ◌≤◌, true, length, IfOk, IfErr, OnOk, Err, None, Some, option_map};
+ghost use Rattle.std.specs.Prelude.{◌≡◌, ◌<◌, ◌≤◌, true, false, if◌then◌else◌, [], drop, length, IfOk, IfErr, Err, None, Some, option_map};
 ghost use Rattle.pixel_format.specs.Reading.{wants_more, fault_of};
 ghost use Rattle.rfb_wire.specs.ClientReader.{ahead};
 ghost use Rattle.rfb_wire.specs.ClientMessage.{Ask, SetPixelFormat, SetEncodings};
 ghost use Rattle.rfb_wire.specs.Message.{choice_in, message_of, FeedsOrLoses};
-ghost use Rattle.viewer_session.specs.Session.{Stands, IsSameSession, FedAnswer, ReadsHello, ReadsOne, hello_fault, hello_of, is_greeted, without_look, after_taking};
-ghost use Rattle.viewer_session.specs.Viewer.{Setup, Viewer, after_byte, after_bytes};
+ghost use Rattle.roles.specs.Held.{input_in};
+ghost use Rattle.viewer_session.specs.Session.{Serves, Stands, IsSameSession, IsFeeding, FeedsUpTo, FeedsToFault, ReadsHello, ReadsOne, fault_in, hello_fault, hello_of, is_greeted, marks_in, text_mark, after_noting, after_taking};
+ghost use Rattle.viewer_session.specs.Viewer.{Setup, Viewer, after_byte};
 
 use super::{Session, say};
-use pixel_format::{Fault, Format};
+use pixel_format::{Fault, Format, LONGEST_TEXT};
 use raster::Rect;
 use rfb_wire::{Choice, ClientMessage};
+use roles::Input;
+
+/// What a piece of a viewer's bytes was used for.
+#[derive(Clone, Copy)]
+pub struct Fed {
+    /// How many of its bytes were used.
+    pub used: usize,
+    /// Where a text of at most 65,536 bytes is whole now, whether it is lost since it found no memory.
+    pub lost: Option<bool>,
+}
 
 impl Session {
     // Whether another byte of the hello is to come.
@@ -26,8 +37,9 @@ impl Session {
 
     // A byte of the hello is taken. What is to be said to it waits to be sent; where the byte shows a fault that is nothing.
     fn greet(&mut self, byte: u8)
-        requires { wants_more (hello_of self.old.greeting) ≡ true }
-        ensures same { IsSameSession self.old self.new }
+        requires wants { wants_more (hello_of self.old.greeting) ≡ true }
+        requires none { self.old.waiting ≡ None }
+        ensures others { self.new ≡ record self.old { greeting = self.new.greeting; piece = self.new.piece; unsent = self.new.unsent } }
         ensures stands { (s : Setup) (p : Viewer) → Stands s self.old p → Stands s self.new (after_byte s p byte) }
     {
         if let Some(hello) = &mut self.hello {
@@ -38,9 +50,11 @@ impl Session {
 
     // Takes the bytes of the hello, one by one, and answers how many they are. It fails at the byte that shows a fault, and from then on.
     fn read_hello(&mut self, piece: &[u8]) -> Result<usize, Fault>
-        ensures same { IsSameSession self.old self.new }
+        requires open { is_greeted self.old ≡ false }
+        requires none { self.old.waiting ≡ None }
+        ensures others { self.new ≡ record self.old { greeting = self.new.greeting; piece = self.new.piece; unsent = self.new.unsent } }
         ensures ok { IfOk result (λ used. ReadsHello self.old self.new piece.now used) }
-        ensures err { IfErr result (λ fault. (hello_fault self.new ≡ Some fault) × ((s : Setup) (p : Viewer) → Stands s self.old p → Stands s self.new (after_bytes s p piece.now))) }
+        ensures err { IfErr result (λ fault. (hello_fault self.new ≡ Some fault) × IsFeeding self.old self.new [] piece.now []) }
     {
         let mut used = 0;
         while used < piece.len() && self.wants_hello() {
@@ -57,7 +71,8 @@ impl Session {
     fn ask(&mut self, incremental: bool, rect: &Rect)
         ensures same { IsSameSession self.old self.new }
         ensures reader { (self.new.reader ≡ self.old.reader) × (self.new.greeting ≡ self.old.greeting) }
-        ensures stands { (s : Setup) (p : Viewer) → Stands s self.old p → Stands s self.new (after_taking s (Ask incremental rect.now) p) }
+        ensures input { (self.new.held ≡ self.old.held) × (self.new.waiting ≡ self.old.waiting) }
+        ensures serves { (s : Setup) (p : Viewer) → Serves s self.old p → Serves s self.new (after_noting (Ask incremental rect.now) p) }
     {
         let clipped = rect.clip(self.width, self.height);
         self.asked.request(&clipped);
@@ -70,7 +85,8 @@ impl Session {
     fn set_format(&mut self, format: Format)
         ensures same { IsSameSession self.old self.new }
         ensures reader { (self.new.reader ≡ self.old.reader) × (self.new.greeting ≡ self.old.greeting) }
-        ensures stands { (s : Setup) (p : Viewer) → Stands s self.old p → Stands s self.new (after_taking s (SetPixelFormat format) p) }
+        ensures input { (self.new.held ≡ self.old.held) × (self.new.waiting ≡ self.old.waiting) }
+        ensures serves { (s : Setup) (p : Viewer) → Serves s self.old p → Serves s self.new (after_noting (SetPixelFormat format) p) }
     {
         self.format = format;
         self.asked.new_format();
@@ -81,25 +97,39 @@ impl Session {
     fn set_choice(&mut self, choice: Choice)
         ensures same { IsSameSession self.old self.new }
         ensures reader { (self.new.reader ≡ self.old.reader) × (self.new.greeting ≡ self.old.greeting) }
-        ensures stands { (s : Setup) (p : Viewer) → Stands s self.old p → Stands s self.new (after_taking s (SetEncodings (choice_in choice)) p) }
+        ensures input { (self.new.held ≡ self.old.held) × (self.new.waiting ≡ self.old.waiting) }
+        ensures serves { (s : Setup) (p : Viewer) → Serves s self.old p → Serves s self.new (after_noting (SetEncodings (choice_in choice)) p) }
     {
         self.choice = choice;
     }
 
-    // A message is taken. No input is relayed.
+    // An input waits, where it passes.
+    fn wait(&mut self, passes: bool, input: Input)
+        ensures { self.new ≡ record self.old { waiting = if passes then Some (input_in input) else self.old.waiting } }
+    {
+        if passes {
+            self.waiting = Some(input);
+        }
+    }
+
+    // A message is taken: what it asks for or sets holds from now on, and its input waits, where it passes.
     fn take_message(&mut self, message: ClientMessage)
+        requires none { self.old.waiting ≡ None }
         ensures same { IsSameSession self.old self.new }
         ensures reader { (self.new.reader ≡ self.old.reader) × (self.new.greeting ≡ self.old.greeting) }
-        ensures stands { (s : Setup) (p : Viewer) → Stands s self.old p → Stands s self.new (after_taking s (message_of message) p) }
+        ensures stands { (s : Setup) (p : Viewer) → Stands s self.old p → Stands s self.new (after_taking (message_of message) p) }
     {
+        let passes = self.held.passes(self.role, &message);
         match message {
             ClientMessage::Format(format) => self.set_format(format),
             ClientMessage::Ask { incremental, rect } => self.ask(incremental, &rect),
             ClientMessage::Encodings(choice) => self.set_choice(choice),
-            ClientMessage::Key { .. }
-            | ClientMessage::Pointer { .. }
-            | ClientMessage::Cut(_)
-            | ClientMessage::CutLost(_) => {}
+            ClientMessage::Key { down, key } => self.wait(passes, Input::Key { down, key }),
+            ClientMessage::Pointer { mask, x, y } => {
+                self.wait(passes, Input::Pointer { mask, x, y })
+            }
+            ClientMessage::Cut(text) => self.wait(passes, Input::Cut(text)),
+            ClientMessage::CutLost(_) => {}
         }
     }
 
@@ -116,44 +146,70 @@ impl Session {
         Ok((used, message))
     }
 
-    // Takes a piece of the bytes behind the hello, message by message. It fails at the byte that shows a fault, and from then on.
-    fn read_messages(&mut self, piece: &[u8]) -> Result<(), Fault>
-        requires { is_greeted self.old ≡ true }
+    // Takes bytes behind the hello, up to the end of a message.
+    fn read_message(&mut self, piece: &[u8]) -> Result<Fed, Fault>
+        requires greeted { is_greeted self.old ≡ true }
+        requires none { self.old.waiting ≡ None }
         ensures same { IsSameSession self.old self.new }
         ensures greeting { self.new.greeting ≡ self.old.greeting }
-        ensures stands { (s : Setup) (p : Viewer) → Stands s self.old p → Stands s self.new (after_bytes s p piece.now) }
-        ensures ok { OnOk result (fault_of (ahead self.new.reader) ≡ None) }
-        ensures err { IfErr result (λ fault. fault_of (ahead self.new.reader) ≡ Some fault) }
+        ensures ok { IfOk result (λ fed. IsFeeding self.old self.new (marks_in fed.lost) piece.now (drop fed.used piece.now) × (fault_of (ahead self.new.reader) ≡ None)) }
+        ensures progress { IfOk result (λ fed. (fed.used ≤ length piece.now) × (0 < length piece.now → 0 < fed.used)) }
+        ensures err { IfErr result (λ fault. (fault_of (ahead self.new.reader) ≡ Some fault) × IsFeeding self.old self.new [] piece.now []) }
     {
-        let mut left = piece;
-        'messages: loop {
-            let (used, message) = self.read_one(left)?;
-            match message {
-                Some(message) => self.take_message(message),
-                None => {}
-            }
-            let (_, rest) = left.split_at(used);
-            if rest.is_empty() {
-                return Ok(());
-            }
-            left = rest;
-        }
+        let (used, message) = self.read_one(piece)?;
+        let Some(message) = message else {
+            return Ok(Fed { used, lost: None });
+        };
+        let lost = mark_of(&message);
+        self.take_message(message);
+        Ok(Fed { used, lost })
     }
 
-    /// Takes a piece of the viewer's bytes, all of it: first those of its hello, then its messages. It fails at the byte that shows a fault, and from
-    /// then on it uses no byte and fails with the same fault.
+    /// Takes bytes of the hello, or of the messages behind it up to the end of one; at least one byte, where there is one. It fails at the byte that
+    /// shows a fault, and from then on it uses no byte and fails with the same fault: those of `feed`.
+    pub fn feed_message(&mut self, piece: &[u8]) -> Result<Fed, Fault>
+        requires none { self.old.waiting ≡ None }
+        ensures same { IsSameSession self.old self.new }
+        ensures ok { IfOk result (λ fed. IsFeeding self.old self.new (marks_in fed.lost) piece.now (drop fed.used piece.now) × (fault_in self.new ≡ None)) }
+        ensures progress { IfOk result (λ fed. (fed.used ≤ length piece.now) × (0 < length piece.now → 0 < fed.used)) }
+        ensures err { IfErr result (λ fault. (fault_in self.new ≡ Some fault) × IsFeeding self.old self.new [] piece.now []) }
+    {
+        if self.is_greeted() {
+            return self.read_message(piece);
+        }
+        let used = self.read_hello(piece)?;
+        Ok(Fed { used, lost: None })
+    }
+
+    /// Takes a piece of the viewer's bytes: first those of its hello, then its messages, up to one whose input waits; while one waits no byte is used. It fails
+    /// at the byte that shows a fault, and from then on it uses no byte and fails with the same fault.
     ///
     /// `BadVersion` and `BadChoice` in the hello; `UnknownMessage` at a type that isn't known, `BadFormat` at a pixel format that isn't accepted.
     pub fn feed(&mut self, piece: &[u8]) -> Result<usize, Fault>
         ensures same { IsSameSession self.old self.new }
-        ensures stands { (s : Setup) (p : Viewer) → Stands s self.old p → Stands s self.new (after_bytes s (without_look p) piece.now) }
-        ensures answer { FedAnswer self.new piece.now result }
+        ensures ok { IfOk result (λ used. FeedsUpTo self.old self.new piece.now used) }
+        ensures err { IfErr result (λ fault. FeedsToFault self.old self.new piece.now fault) }
     {
-        let used = self.read_hello(piece)?;
-        if self.is_greeted() {
-            let (_, messages) = piece.split_at(used);
-            self.read_messages(messages)?;
+        let mut used = 0;
+        while used < piece.len() && !self.has_input() {
+            let (_, left) = piece.split_at(used);
+            let fed = self.feed_message(left)?;
+            used += fed.used;
         }
-        Ok(piece.len())
+        match self.fault() {
+            Some(fault) if !self.has_input() => Err(fault),
+            _ => Ok(used),
+        }
+    }
+}
+
+// Where this is a text of at most 65,536 bytes, whether it is lost.
+fn mark_of(message: &ClientMessage) -> Option<bool>
+    ensures { result ≡ text_mark (message_of message.now) }
+{
+    match message {
+        ClientMessage::Cut(_) => Some(false),
+        ClientMessage::CutLost(len) if *len <= LONGEST_TEXT => Some(true),
+        _ => None,
     }
 }

@@ -16,7 +16,7 @@ wanted st o g same is wants = ap (λ q. wants_more (hello_of q)) (sym is ∙ sam
 pub say-requires-clause-room : goal.say-requires-clause-room
 say-requires-clause-room c =
     let g = c.in-Some.hello in
-    let wants = wanted c.args.self.now c.self.inside.hello g (ap (λ (st : State). st.greeting) c.self.view_is) c.in-Some.is c.requires in
+    let wants = wanted c.args.self.now c.self.inside.hello g (ap (λ (st : State). st.greeting) c.self.view_is) c.in-Some.is c.requires.wants in
     let fed : c.feed.new.self ≡ with_byte g c.args.byte = c.feed.ensures.after ∙ takes_byte g c.args.byte wants in
     let room : IsSpoken g c.self.inside.out = subst (λ (o : Option Greeting). IsGreeting o c.self.inside.out) c.in-Some.is c.self.invariant.greets in
     subst (λ (h : Greeting). c.self.inside.out.filled + length (to_send h) ≤ 65544) (sym fed) (has_room g c.args.byte c.self.inside.out wants room)
@@ -24,7 +24,7 @@ say-requires-clause-room c =
 pub invariant_of-self : goal.invariant_of-self
 invariant_of-self c =
     let g = c.in-Some.hello in
-    let wants = wanted c.args.self.now c.self.inside.hello g (ap (λ (st : State). st.greeting) c.self.view_is) c.in-Some.is c.requires in
+    let wants = wanted c.args.self.now c.self.inside.hello g (ap (λ (st : State). st.greeting) c.self.view_is) c.in-Some.is c.requires.wants in
     let fed : c.feed.new.self ≡ with_byte g c.args.byte = c.feed.ensures.after ∙ takes_byte g c.args.byte wants in
     let room : IsSpoken g c.self.inside.out = subst (λ (o : Option Greeting). IsGreeting o c.self.inside.out) c.in-Some.is c.self.invariant.greets in
     let now : IsSpoken (with_said (with_byte g c.args.byte)) c.say.new.out =
@@ -44,7 +44,7 @@ pub returns-in-Some-clause-stands : goal.returns-in-Some-clause-stands
 returns-in-Some-clause-stands c = λ s p k.
     let g = c.in-Some.hello in
     let st = the_view c.self.inside in
-    let wants = wanted c.args.self.now c.self.inside.hello g (ap (λ (t : State). t.greeting) c.self.view_is) c.in-Some.is c.requires in
+    let wants = wanted c.args.self.now c.self.inside.hello g (ap (λ (t : State). t.greeting) c.self.view_is) c.in-Some.is c.requires.wants in
     let fed : c.feed.new.self ≡ with_byte g c.args.byte = c.feed.ensures.after ∙ takes_byte g c.args.byte wants in
     let room : IsSpoken g c.self.inside.out = subst (λ (o : Option Greeting). IsGreeting o c.self.inside.out) c.in-Some.is c.self.invariant.greets in
     let unsent : c.say.new.out.unsent ≡ st.unsent ++ to_send (with_byte g c.args.byte) = c.say.ensures.unsent ∙ ap (λ (h : Greeting). st.unsent ++ to_send h) fed in
