@@ -32,13 +32,13 @@ put_begins us more u e =
     let next = next_is us more u e in
     (next.0, ap (λ t. us ++ t) next.1 ∙ sym (append_assoc us (u ∷ []) next.0))
 
-order_put : (s : Setup) (w : World) (o : Option Update) → slice_get (updates_by (s.extent.from_host s.w s.h) w.host_bytes) (length w.shared.updates) ≡ o → ArePutInOrder s w → ArePutInOrder s (put_next s w o)
+pub order_put : (s : Setup) (w : World) (o : Option Update) → slice_get (updates_by (s.extent.from_host s.w s.h) w.host_bytes) (length w.shared.updates) ≡ o → ArePutInOrder s w → ArePutInOrder s (put_next s w o)
 order_put s w None e k = k
 order_put s w (Some u) e k =
     subst (λ all. Begins (w.shared.updates ++ u ∷ []) all) (sym k.1)
     (put_begins w.shared.updates k.0 u (ap (λ all. slice_get all (length w.shared.updates)) (sym k.1) ∙ e))
 
-order_bytes : (s : Setup) (w : World) (b : List ℕ) → ArePutInOrder s w → ArePutInOrder s (record w { host_bytes = w.host_bytes ++ b })
+pub order_bytes : (s : Setup) (w : World) (b : List ℕ) → ArePutInOrder s w → ArePutInOrder s (record w { host_bytes = w.host_bytes ++ b })
 order_bytes s w b k =
     let form = s.extent.from_host s.w s.h in
     let new : List Update = filter_map update_of (messages_from form (rest form w.host_bytes) b) in

@@ -1,28 +1,74 @@
 -- What a host keeps, as its bytes come and are read.
-use Rattle.std.proofs.Common.{◌≡◌, ℕ, ◌<◌, true, List, [], ◌∷◌, ◌++◌, length, take, drop, Option, Some, None, Ok, Err, inl, inr, refl, ap, sym, ◌∙◌, subst, append_assoc}
-use Rattle.std.specs.Prelude.{IfSome, Result, option_map, slice_get}
+use Rattle.std.proofs.Common.{◌≡◌, ℕ, ◌+◌, ◌<◌, true, List, [], ◌∷◌, ◌++◌, length, take, drop, Option, Some, None, Ok, Err, inl, inr, refl, ap, sym, ◌∙◌, subst, arith, append_assoc, length-append}
+use Rattle.std.specs.Prelude.{IfSome, Result, slice_get}
 use Rattle.std.specs.List.{filter_map}
 use Rattle.std.proofs.lemmas.List.{append-nil, take-append-drop}
 use Rattle.pixel_format.specs.declared.fault.Fault.{Fault}
 use Rattle.pixel_format.specs.declared.fault.Fault.TheVariants.{Memory}
-use Rattle.pixel_format.specs.Reading.{Reading, Done, Faulty, Want, after, taken, fault_of, renewed, rest, whole_of}
-use Rattle.raster.specs.Update.{Update}
+use Rattle.pixel_format.specs.Reading.{Reading, Done, Faulty, Want, after, messages_from, taken, fault_of, renewed, rest, whole_of}
+use Rattle.raster.specs.Screen.{Canvas, LooksLike, opening}
+use Rattle.raster.specs.Update.{Update, after_updates, screen}
 use Rattle.rfb_wire.specs.ServerMessage.{ServerMessage, FramebufferUpdate, SetColorMapEntries, Bell, ServerCutText, LostText}
 use Rattle.painter.specs.Patch.{SizedUpdate}
+use Rattle.painter.specs.Same.{AreSameFrom}
+use Rattle.painter.proofs.SameLaws.{after_each, same_append, same_shows}
 use Rattle.host_decoder.specs.Decoder.{Decoding, Decodes, Feeds, host_message, is_refused}
 use Rattle.painter.specs.Painter.{Painting}
-use Rattle.host_decoder.specs.Events.{event_of}
+use Rattle.host_decoder.proofs.ShortUpdates.{updates-append}
+use Rattle.reflect_core.specs.Sequential.{Begins}
+use Rattle.host_decoder.specs.Events.{Brings, BringsWhole, IsSized, brought_by, changes, screen_behind}
 use Rattle.host_decoder.specs.Updates.{update_of, updates_by}
 use Rattle.host_decoder.specs.declared.event.HostEvent.{HostEvent}
+use Rattle.host_decoder.specs.declared.event.HostEvent.TheVariants as event
 use Rattle.reflect_world.specs.Host.{CanRead, HasReadTo, HostSide, HostStands, IsReadOut, IsSameHost, ReadsMessage, ReadsOn, form_of, patch_in, waiting_list}
 use Rattle.reflect_world.proofs.HostReading.{message_read, message_shortens, next_update, none_read, open_read}
 
+-- ---- what comes to the same
+
+-- Over a screen of another size that is the same.
+same_size : (w h w2 h2 : ℕ) (us vs : List Update) → w ≡ w2 → h ≡ h2 → AreSameFrom w h opening opening us vs → AreSameFrom w2 h2 opening opening us vs
+same_size w h w2 h2 us vs wide high same = subst (λ (n : ℕ). AreSameFrom w2 n opening opening us vs) high (subst (λ (n : ℕ). AreSameFrom n h opening opening us vs) wide same)
+
+-- With none that waits.
+none_waits : (host : HostSide) (all us : List Update) → host.waiting ≡ None → AreSameFrom host.decoder.width host.decoder.height opening opening all (us ++ waiting_list host.waiting)
+    → AreSameFrom host.decoder.width host.decoder.height opening opening all us
+none_waits host all us none same =
+    subst (λ (l : List Update). AreSameFrom host.decoder.width host.decoder.height opening opening all l) (ap (λ o. us ++ waiting_list o) none ∙ append-nil us) same
+
+some_waits : (w h : ℕ) (all us : List Update) (waiting : Option SizedUpdate) → None ≡ waiting → AreSameFrom w h opening opening all us → AreSameFrom w h opening opening all (us ++ waiting_list waiting)
+some_waits w h all us waiting none same = subst (λ (l : List Update). AreSameFrom w h opening opening all l) (sym (append-nil us) ∙ ap (λ o. us ++ waiting_list o) none) same
+
+-- Of two beginnings of one list the one that is longer by one has the next update.
+next_in : (us more all others : List Update) → us ++ more ≡ all ++ others → length all ≡ length us + 1 → (u : Update) × (all ≡ us ++ u ∷ [])
+next_in [] more [] others e count = absurd (omega (arith, count))
+next_in [] more (v ∷ []) others e count = (v, refl)
+next_in [] more (v ∷ x ∷ all) others e count = absurd (omega (arith, count))
+next_in (u ∷ us) more [] others e count = absurd (omega (arith, count))
+next_in (u ∷ us) more (v ∷ all) others e count =
+    let first : u ≡ v = cc in
+    let next = next_in us more all others (let f = e in cc) (omega (arith, count)) in
+    (next.0, ap (λ x. x ∷ all) (sym first) ∙ ap (λ l. u ∷ l) next.1)
+
+-- The next update of the bytes, and what it comes to.
+pub record IsNext (w h : ℕ) (form : Reading ServerMessage) (bytes : List ℕ) (us put : List Update) : Type 0 where
+  pub update : Update
+  pub there : slice_get (updates_by form bytes) (length us) ≡ Some update
+  pub same : AreSameFrom w h opening opening (us ++ update ∷ []) put
+
 -- The update put next, where it was read and none waits.
-pub next_of : (bytes : List ℕ) (us : List Update) (host : HostSide) (u : Update) → host.waiting ≡ None → HasReadTo bytes (us ++ u ∷ []) host
-    → slice_get (updates_by (form_of host) bytes) (length us) ≡ Some u
-next_of bytes us host u none r =
-    let so_far : updates_by (form_of host) r.read ≡ us ++ u ∷ [] = r.updates ∙ (ap (λ o. (us ++ u ∷ []) ++ waiting_list o) none ∙ append-nil (us ++ u ∷ [])) in
-    ap (λ bs. slice_get (updates_by (form_of host) bs) (length us)) r.split ∙ next_update (form_of host) r.read host.unread us u so_far
+pub next_of : (bytes : List ℕ) (us vs : List Update) (host : HostSide) (v : Update) → host.waiting ≡ None → Begins us (updates_by (form_of host) bytes) → length us ≡ length vs → HasReadTo bytes (vs ++ v ∷ []) host
+    → IsNext host.decoder.width host.decoder.height (form_of host) bytes us (vs ++ v ∷ [])
+next_of bytes us vs host v none begins count r =
+    let form = form_of host in
+    let all : List Update = updates_by form r.read in
+    let others : List Update = filter_map update_of (messages_from form (rest form r.read) host.unread) in
+    let so_far : AreSameFrom host.decoder.width host.decoder.height opening opening all (vs ++ v ∷ []) = none_waits host all (vs ++ v ∷ []) none r.updates in
+    let next = next_in us begins.0 all others (sym begins.1 ∙ (ap (updates_by form) r.split ∙ updates-append form r.read host.unread)) (omega (arith, so_far.count, length-append vs (v ∷ []), count)) in
+    record {
+      update = next.0;
+      there = ap (λ bs. slice_get (updates_by form bs) (length us)) r.split ∙ next_update form r.read host.unread us next.0 next.1;
+      same = subst (λ (l : List Update). AreSameFrom host.decoder.width host.decoder.height opening opening l (vs ++ v ∷ [])) next.1 so_far;
+    }
 
 -- ---- before it is read
 
@@ -44,7 +90,7 @@ host_keeps host patch bytes us none r =
     record {
       read = r.read;
       split = r.split;
-      updates = r.updates ∙ (ap (λ o. (us ++ patch.update ∷ []) ++ waiting_list o) none ∙ append-nil (us ++ patch.update ∷ []));
+      updates = none_waits host (updates_by (form_of host) r.read) (us ++ patch.update ∷ []) none r.updates;
       decodes = r.decodes;
     }
 
@@ -52,10 +98,12 @@ host_keeps host patch bytes us none r =
 pub host_hands_on : (host : HostSide) (patch : SizedUpdate) (waiting : Option SizedUpdate) → host.waiting ≡ Some patch → waiting ≡ None → ReadsOn host (record host { waiting = waiting }) (Ok (Some patch))
 host_hands_on host patch waiting is none bytes us (inl refused) = absurd (let e = sym is ∙ refused.1 in cc)
 host_hands_on host patch waiting is none bytes us (inr r) =
+    let all : List Update = updates_by (form_of host) r.read in
     record {
       read = r.read;
       split = r.split;
-      updates = r.updates ∙ (ap (λ o. us ++ waiting_list o) is ∙ (sym (append-nil (us ++ patch.update ∷ [])) ∙ ap (λ o. (us ++ patch.update ∷ []) ++ waiting_list o) (sym none)));
+      updates = some_waits host.decoder.width host.decoder.height all (us ++ patch.update ∷ []) waiting (sym none)
+          (subst (λ (o : Option SizedUpdate). AreSameFrom host.decoder.width host.decoder.height opening opening all (us ++ waiting_list o)) is r.updates);
       decodes = r.decodes;
     }
 
@@ -63,48 +111,65 @@ host_hands_on host patch waiting is none bytes us (inr r) =
 
 -- What the decoder does with the bytes that weren't read, and then with a message that is whole.
 abbrev pub WasFed : HostSide → Decoding → Painting → Result ℕ Fault → Type 0
-WasFed host decoder painter answer = (r : Reading ServerMessage) → Decodes host.decoder host.painter r → Feeds decoder painter r host.unread answer
-
-abbrev pub Gave : Decoding → Decoding → Option HostEvent → Type 0
-Gave old new answer =
-    (painter : Painting) (r : Reading ServerMessage) → Decodes old painter r
-    → (answer ≡ option_map (event_of old.width old.height) (whole_of r)) × Decodes new painter (renewed (host_message old.width old.height) r)
-
-brings_is : (w h : ℕ) (m : ServerMessage) → filter_map update_of (m ∷ []) ≡ waiting_list (patch_in (event_of w h m))
-brings_is w h (FramebufferUpdate ps) = refl
-brings_is w h SetColorMapEntries = refl
-brings_is w h Bell = refl
-brings_is w h (ServerCutText text) = refl
-brings_is w h (LostText len) = refl
+WasFed host decoder painter answer = (start : Canvas) (r : Reading ServerMessage) → Decodes host.decoder host.painter start r → Feeds decoder painter start r host.unread answer
 
 abbrev pub IsOfSize : ℕ → ℕ → SizedUpdate → Type 0
 IsOfSize w h patch = (patch.width ≡ w) × (patch.height ≡ h)
 
-event_size : (w h : ℕ) (m : ServerMessage) → IfSome (patch_in (event_of w h m)) (IsOfSize w h)
-event_size w h (FramebufferUpdate ps) = (refl, refl)
-event_size w h SetColorMapEntries = tt
-event_size w h Bell = (refl, refl)
-event_size w h (ServerCutText text) = (refl, refl)
-event_size w h (LostText len) = tt
+abbrev pub IsSameSize : Decoding → Decoding → Type 0
+IsSameSize old new = (new.width ≡ old.width) × (new.height ≡ old.height)
+
+abbrev pub Gave : Decoding → Decoding → Painting → Option HostEvent → Type 0
+Gave old new painter answer =
+    (start : Canvas) (r : Reading ServerMessage) → Decodes old painter start r
+    → BringsWhole old.width old.height start answer (whole_of r) × Decodes new painter (screen_behind old.width old.height start (whole_of r)) (renewed (host_message old.width old.height) r)
+
+changes_are : (w h : ℕ) (m : ServerMessage) → changes w h m ≡ filter_map update_of (m ∷ [])
+changes_are w h (FramebufferUpdate ps) = refl
+changes_are w h SetColorMapEntries = refl
+changes_are w h Bell = refl
+changes_are w h (ServerCutText text) = refl
+changes_are w h (LostText len) = refl
+
+brought_is : (event : HostEvent) → brought_by event ≡ waiting_list (patch_in event)
+brought_is (event.Paint patch) = refl
+brought_is (event.Bell patch) = refl
+brought_is (event.Cut patch) = refl
+brought_is event.Map = refl
+brought_is event.LongCut = refl
+
+event_size : (w h : ℕ) (event : HostEvent) → IsSized w h event → IfSome (patch_in event) (IsOfSize w h)
+event_size w h (event.Paint patch) k = k
+event_size w h (event.Bell patch) k = k
+event_size w h (event.Cut patch) k = k
+event_size w h event.Map k = tt
+event_size w h event.LongCut k = tt
 
 -- The message behind an event.
-record HasCome (w h : ℕ) (r : Reading ServerMessage) (event : HostEvent) : Type 0 where
+record HasCome (w h : ℕ) (start : Canvas) (r : Reading ServerMessage) (event : HostEvent) : Type 0 where
   message : ServerMessage
   whole : r ≡ Done message
-  is_it : event ≡ event_of w h message
+  brings : Brings w h start event message
 
-some_event : (a b : HostEvent) → Some a ≡ Some b → a ≡ b
-some_event a b e = cc
+come_from : (w h : ℕ) (start : Canvas) (r : Reading ServerMessage) (event : HostEvent) → BringsWhole w h start (Some event) (whole_of r) → HasCome w h start r event
+come_from w h start (Done m) event e = record { message = m; whole = refl; brings = e }
+come_from w h start (Faulty f) event e = absurd e
+come_from w h start (Want more) event e = absurd e
 
-come_from : (w h : ℕ) (r : Reading ServerMessage) (event : HostEvent) → Some event ≡ option_map (event_of w h) (whole_of r) → HasCome w h r event
-come_from w h (Done m) event e = record { message = m; whole = refl; is_it = some_event event (event_of w h m) e }
-come_from w h (Faulty f) event e = absurd cc
-come_from w h (Want more) event e = absurd cc
+none_from : (w h : ℕ) (start : Canvas) (r : Reading ServerMessage) → BringsWhole w h start None (whole_of r) → whole_of r ≡ None
+none_from w h start (Done m) e = absurd e
+none_from w h start (Faulty f) e = refl
+none_from w h start (Want more) e = refl
 
-none_from : (w h : ℕ) (r : Reading ServerMessage) → None ≡ option_map (event_of w h) (whole_of r) → whole_of r ≡ None
-none_from w h (Done m) e = absurd cc
-none_from w h (Faulty f) e = refl
-none_from w h (Want more) e = refl
+-- What it brings over the screen that the updates put made.
+brings_at : (host : HostSide) (fed : Decoding) (start : Canvas) (event : HostEvent) (m : ServerMessage) → IsSameSize host.decoder fed → Brings fed.width fed.height start event m
+    → (other : Canvas) → LooksLike host.decoder.width host.decoder.height start other
+    → AreSameFrom host.decoder.width host.decoder.height start other (filter_map update_of (m ∷ [])) (waiting_list (patch_in event))
+brings_at host fed start event m to_fed brings other =
+    subst (λ (l : List Update). LooksLike host.decoder.width host.decoder.height start other → AreSameFrom host.decoder.width host.decoder.height start other (filter_map update_of (m ∷ [])) l) (brought_is event)
+    (subst (λ (l : List Update). LooksLike host.decoder.width host.decoder.height start other → AreSameFrom host.decoder.width host.decoder.height start other l (brought_by event)) (changes_are fed.width fed.height m)
+    (subst (λ (n : ℕ). LooksLike host.decoder.width n start other → AreSameFrom host.decoder.width n start other (changes fed.width fed.height m) (brought_by event)) to_fed.1
+    (subst (λ (n : ℕ). LooksLike n fed.height start other → AreSameFrom n fed.height start other (changes fed.width fed.height m) (brought_by event)) to_fed.0 (brings.same other))))
 
 renewed_same : (form r : Reading ServerMessage) → whole_of r ≡ None → renewed form r ≡ r
 renewed_same form (Done m) e = absurd cc
@@ -115,9 +180,6 @@ renewed_same form (Want more) e = refl
 abbrev pub read_host : HostSide → Decoding → Painting → ℕ → HostSide
 read_host host decoder painter used = record { decoder = decoder; painter = painter; unread = drop used host.unread; waiting = None }
 
-abbrev pub IsSameSize : Decoding → Decoding → Type 0
-IsSameSize old new = (new.width ≡ old.width) × (new.height ≡ old.height)
-
 message_same : (old new : Decoding) → IsSameSize old new → host_message new.width new.height ≡ host_message old.width old.height
 message_same old new e = ap (λ w. host_message w new.height) e.0 ∙ ap (host_message old.width) e.1
 
@@ -125,86 +187,105 @@ split_read : (bytes read unread : List ℕ) (used : ℕ) → bytes ≡ read ++ u
 split_read bytes read unread used e = e ∙ (ap (λ bs. read ++ bs) (sym (take-append-drop used unread)) ∙ sym (append_assoc read (take used unread) (drop used unread)))
 
 one_message_read : (host : HostSide) (fed new : Decoding) (painter : Painting) (used : ℕ) (event : HostEvent) (bytes : List ℕ) (us : List Update) → host.waiting ≡ None
-    → IsSameSize host.decoder fed → IsSameSize fed new → WasFed host fed painter (Ok used) → Gave fed new (Some event) → HasReadTo bytes us host
+    → IsSameSize host.decoder fed → IsSameSize fed new → WasFed host fed painter (Ok used) → Gave fed new painter (Some event) → HasReadTo bytes us host
     → HasReadTo bytes (us ++ waiting_list (patch_in event)) (read_host host new painter used)
 one_message_read host fed new painter used event bytes us none to_fed to_new was gave r =
     let form = form_of host in
+    let w : ℕ = host.decoder.width in
+    let h : ℕ = host.decoder.height in
     let now = rest form r.read in
-    let f = was now r.decodes in
-    let g = gave painter (after now host.unread) f.0 in
-    let come = come_from fed.width fed.height (after now host.unread) event g.0 in
+    let all : List Update = updates_by form r.read in
+    let f = was (screen all) now r.decodes in
+    let g = gave (screen all) (after now host.unread) f.0 in
+    let come = come_from fed.width fed.height (screen all) (after now host.unread) event g.0 in
+    let one : List Update = filter_map update_of (come.message ∷ []) in
     let read = message_read form r.read host.unread come.message refl come.whole in
-    let part : List ℕ → List ℕ = λ bs. r.read ++ bs in
-    let count : r.read ++ take used host.unread ≡ r.read ++ take (taken now host.unread) host.unread = ap (λ n. r.read ++ take n host.unread) f.1 in
-    let same_form : form_of (read_host host new painter used) ≡ form = message_same fed new to_new ∙ message_same host.decoder fed to_fed in
-    let brings : filter_map update_of (come.message ∷ []) ≡ waiting_list (patch_in event) = brings_is fed.width fed.height come.message ∙ ap (λ e. waiting_list (patch_in e)) (sym come.is_it) in
-    let before : updates_by form r.read ≡ us = r.updates ∙ (ap (λ o. us ++ waiting_list o) none ∙ append-nil us) in
-    let rest_is : renewed (host_message fed.width fed.height) (after now host.unread) ≡ rest (form_of (read_host host new painter used)) (r.read ++ take used host.unread) =
+    let new_host : HostSide = read_host host new painter used in
+    let read_now : List ℕ = r.read ++ take used host.unread in
+    let count : read_now ≡ r.read ++ take (taken now host.unread) host.unread = ap (λ n. r.read ++ take n host.unread) f.1 in
+    let same_form : form_of new_host ≡ form = message_same fed new to_new ∙ message_same host.decoder fed to_fed in
+    let before : AreSameFrom w h opening opening all us = none_waits host all us none r.updates in
+    let brings : AreSameFrom w h (screen all) (screen us) one (waiting_list (patch_in event)) =
+    brings_at host fed (screen all) event come.message to_fed come.brings (screen us) (same_shows w h opening opening all us before) in
+    let now_same : AreSameFrom w h opening opening (all ++ one) (us ++ waiting_list (patch_in event)) = same_append w h opening opening all us one (waiting_list (patch_in event)) before brings in
+    let all_now : all ++ one ≡ updates_by (form_of new_host) read_now = sym (ap (λ x. updates_by x read_now) same_form ∙ (ap (updates_by form) count ∙ read.0)) in
+    let reading_is : renewed (host_message fed.width fed.height) (after now host.unread) ≡ rest (form_of new_host) read_now =
     ap (renewed (host_message fed.width fed.height)) come.whole
     ∙ (message_same host.decoder fed to_fed
-    ∙ (sym read.1 ∙ (ap (rest form) (sym count) ∙ ap (λ x. rest x (r.read ++ take used host.unread)) (sym same_form)))) in
+    ∙ (sym read.1 ∙ (ap (rest form) (sym count) ∙ ap (λ x. rest x read_now) (sym same_form)))) in
+    let start_is : screen_behind fed.width fed.height (screen all) (whole_of (after now host.unread)) ≡ screen (updates_by (form_of new_host) read_now) =
+    ap (λ x. screen_behind fed.width fed.height (screen all) (whole_of x)) come.whole
+    ∙ (ap (after_updates (screen all)) (changes_are fed.width fed.height come.message) ∙ (sym (after_each opening all one) ∙ ap screen all_now)) in
     record {
-      read = r.read ++ take used host.unread;
+      read = read_now;
       split = split_read bytes r.read host.unread used r.split;
-      updates =
-          ap (λ x. updates_by x (r.read ++ take used host.unread)) same_form
-          ∙ (ap (updates_by form) count
-          ∙ (read.0
-          ∙ (ap (λ t. t ++ filter_map update_of (come.message ∷ [])) before
-          ∙ (ap (λ t. us ++ t) brings ∙ sym (append-nil (us ++ waiting_list (patch_in event)))))));
-      decodes = subst (Decodes new painter) rest_is g.1;
+      updates = some_waits new.width new.height (updates_by (form_of new_host) read_now) (us ++ waiting_list (patch_in event)) None refl
+          (subst (λ (l : List Update). AreSameFrom new.width new.height opening opening l (us ++ waiting_list (patch_in event))) all_now
+          (same_size w h new.width new.height (all ++ one) (us ++ waiting_list (patch_in event)) (sym (to_new.0 ∙ to_fed.0)) (sym (to_new.1 ∙ to_fed.1)) now_same));
+      decodes = subst (Decodes new painter (screen (updates_by (form_of new_host) read_now))) reading_is
+          (subst (λ (start : Canvas). Decodes new painter start (renewed (host_message fed.width fed.height) (after now host.unread))) start_is g.1);
     }
 
 -- A message was whole: its update was read, if it brings one.
 pub message_comes : (host : HostSide) (fed new : Decoding) (painter : Painting) (used : ℕ) (event : HostEvent) → host.waiting ≡ None → (is_refused host.decoder.state ≡ true → ⊥)
-    → IsSameSize host.decoder fed → IsSameSize fed new → WasFed host fed painter (Ok used) → Gave fed new (Some event) → ReadsMessage host (read_host host new painter used) (patch_in event)
+    → IsSameSize host.decoder fed → IsSameSize fed new → WasFed host fed painter (Ok used) → Gave fed new painter (Some event) → ReadsMessage host (read_host host new painter used) (patch_in event)
 message_comes host fed new painter used event none fine to_fed to_new was gave bytes us (inl refused) = absurd (fine refused.0)
 message_comes host fed new painter used event none fine to_fed to_new was gave bytes us (inr r) = one_message_read host fed new painter used event bytes us none to_fed to_new was gave r
 
 pub message_is_of_size : (host : HostSide) (fed new : Decoding) (painter : Painting) (used : ℕ) (event : HostEvent) → CanRead host → (is_refused host.decoder.state ≡ true → ⊥)
-    → IsSameSize host.decoder fed → WasFed host fed painter (Ok used) → Gave fed new (Some event)
+    → IsSameSize host.decoder fed → WasFed host fed painter (Ok used) → Gave fed new painter (Some event)
     → IfSome (patch_in event) (IsOfSize host.decoder.width host.decoder.height) × (length (drop used host.unread) < length host.unread)
 message_is_of_size host fed new painter used event can fine to_fed was gave = elim can.2 [
   | inl refused ↦ absurd (fine refused.0)
   | inr r ↦ (
-      let now = rest (form_of host) r.read in
-      let f = was now r.decodes in
-      let g = gave painter (after now host.unread) f.0 in
-      let come = come_from fed.width fed.height (after now host.unread) event g.0 in (
-        subst (λ e. IfSome (patch_in e) (IsOfSize host.decoder.width host.decoder.height)) (sym come.is_it)
-            (subst (λ n. IfSome (patch_in (event_of fed.width fed.height come.message)) (IsOfSize n host.decoder.height)) to_fed.0
-            (subst (λ n. IfSome (patch_in (event_of fed.width fed.height come.message)) (IsOfSize fed.width n)) to_fed.1 (event_size fed.width fed.height come.message))),
-        subst (λ n. length (drop n host.unread) < length host.unread) (sym f.1) (message_shortens (form_of host) r.read host.unread come.message refl come.whole),
+      let form = form_of host in
+      let all : Canvas = screen (updates_by form r.read) in
+      let now = rest form r.read in
+      let f = was all now r.decodes in
+      let g = gave all (after now host.unread) f.0 in
+      let come = come_from fed.width fed.height all (after now host.unread) event g.0 in (
+        subst (λ n. IfSome (patch_in event) (IsOfSize n host.decoder.height)) to_fed.0 (subst (λ n. IfSome (patch_in event) (IsOfSize fed.width n)) to_fed.1 (event_size fed.width fed.height event come.brings.sized)),
+        subst (λ n. length (drop n host.unread) < length host.unread) (sym f.1) (message_shortens form r.read host.unread come.message refl come.whole),
       ))
 ]
 
 -- None was whole: all that came is read.
 pub message_is_missing : (host : HostSide) (fed new : Decoding) (painter : Painting) (used : ℕ) → host.waiting ≡ None → (is_refused host.decoder.state ≡ true → ⊥)
-    → IsSameSize host.decoder fed → IsSameSize fed new → WasFed host fed painter (Ok used) → Gave fed new None → ReadsOn host (read_host host new painter used) (Ok None)
+    → IsSameSize host.decoder fed → IsSameSize fed new → WasFed host fed painter (Ok used) → Gave fed new painter None → ReadsOn host (read_host host new painter used) (Ok None)
 message_is_missing host fed new painter used none fine to_fed to_new was gave bytes us (inl refused) = absurd (fine refused.0)
 message_is_missing host fed new painter used none fine to_fed to_new was gave bytes us (inr r) =
     let form = form_of host in
+    let w : ℕ = host.decoder.width in
+    let h : ℕ = host.decoder.height in
+    let all : List Update = updates_by form r.read in
     let now = rest form r.read in
-    let f = was now r.decodes in
-    let g = gave painter (after now host.unread) f.0 in
-    let open_ : whole_of (after now host.unread) ≡ None = none_from fed.width fed.height (after now host.unread) g.0 in
+    let f = was (screen all) now r.decodes in
+    let g = gave (screen all) (after now host.unread) f.0 in
+    let open_ : whole_of (after now host.unread) ≡ None = none_from fed.width fed.height (screen all) (after now host.unread) g.0 in
     let read = open_read form r.read host.unread open_ in
-    let all = none_read form r.read host.unread open_ in
-    let count : r.read ++ take used host.unread ≡ r.read ++ take (taken now host.unread) host.unread = ap (λ n. r.read ++ take n host.unread) f.1 in
-    let same_form : form_of (read_host host new painter used) ≡ form = message_same fed new to_new ∙ message_same host.decoder fed to_fed in
-    let before : updates_by form r.read ≡ us = r.updates ∙ (ap (λ o. us ++ waiting_list o) none ∙ append-nil us) in
-    let rest_is : renewed (host_message fed.width fed.height) (after now host.unread) ≡ rest (form_of (read_host host new painter used)) (r.read ++ take used host.unread) =
+    let all_read = none_read form r.read host.unread open_ in
+    let new_host : HostSide = read_host host new painter used in
+    let read_now : List ℕ = r.read ++ take used host.unread in
+    let count : read_now ≡ r.read ++ take (taken now host.unread) host.unread = ap (λ n. r.read ++ take n host.unread) f.1 in
+    let same_form : form_of new_host ≡ form = message_same fed new to_new ∙ message_same host.decoder fed to_fed in
+    let before : AreSameFrom w h opening opening all us = none_waits host all us none r.updates in
+    let all_now : all ≡ updates_by (form_of new_host) read_now = sym (ap (λ x. updates_by x read_now) same_form ∙ (ap (updates_by form) count ∙ read.0)) in
+    let reading_is : renewed (host_message fed.width fed.height) (after now host.unread) ≡ rest (form_of new_host) read_now =
     renewed_same (host_message fed.width fed.height) (after now host.unread) open_
-    ∙ (sym read.1 ∙ (ap (rest form) (sym count) ∙ ap (λ x. rest x (r.read ++ take used host.unread)) (sym same_form))) in (
+    ∙ (sym read.1 ∙ (ap (rest form) (sym count) ∙ ap (λ x. rest x read_now) (sym same_form))) in
+    let start_is : screen_behind fed.width fed.height (screen all) (whole_of (after now host.unread)) ≡ screen (updates_by (form_of new_host) read_now) =
+    ap (screen_behind fed.width fed.height (screen all)) open_ ∙ ap screen all_now in (
       record {
-        read = r.read ++ take used host.unread;
+        read = read_now;
         split = split_read bytes r.read host.unread used r.split;
-        updates = ap (λ x. updates_by x (r.read ++ take used host.unread)) same_form ∙ (ap (updates_by form) count ∙ (read.0 ∙ (before ∙ sym (append-nil us))));
-        decodes = subst (Decodes new painter) rest_is g.1;
+        updates = some_waits new.width new.height (updates_by (form_of new_host) read_now) us None refl
+            (subst (λ (l : List Update). AreSameFrom new.width new.height opening opening l us) all_now (same_size w h new.width new.height all us (sym (to_new.0 ∙ to_fed.0)) (sym (to_new.1 ∙ to_fed.1)) before));
+        decodes = subst (Decodes new painter (screen (updates_by (form_of new_host) read_now))) reading_is
+            (subst (λ (start : Canvas). Decodes new painter start (renewed (host_message fed.width fed.height) (after now host.unread))) start_is g.1);
       },
       record {
-        none_left = ap (λ x. updates_by x bytes) same_form ∙ (ap (updates_by form) r.split ∙ (all.0 ∙ before));
-        stands_at = ap (λ x. fault_of (rest x bytes)) same_form ∙ (ap (λ bs. fault_of (rest form bs)) r.split ∙ (ap fault_of all.1 ∙ f.2));
+        none_left = ap (λ x. length (updates_by x bytes)) same_form ∙ (ap (λ bs. length (updates_by form bs)) r.split ∙ (ap length all_read.0 ∙ before.count));
+        stands_at = ap (λ x. fault_of (rest x bytes)) same_form ∙ (ap (λ bs. fault_of (rest form bs)) r.split ∙ (ap fault_of all_read.1 ∙ f.2));
       },
     )
 
@@ -213,24 +294,32 @@ abbrev pub failed_host : HostSide → Decoding → Painting → HostSide
 failed_host host decoder painter = record { decoder = decoder; painter = painter; unread = []; waiting = None }
 
 fault_read : (host : HostSide) (fed : Decoding) (painter : Painting) (fault : Fault) (bytes : List ℕ) (us : List Update) → host.waiting ≡ None → IsSameSize host.decoder fed
-    → (r : HasReadTo bytes us host) → after (rest (form_of host) r.read) host.unread ≡ Faulty fault → Decodes fed painter (after (rest (form_of host) r.read) host.unread)
+    → (r : HasReadTo bytes us host) → after (rest (form_of host) r.read) host.unread ≡ Faulty fault
+    → Decodes fed painter (screen (updates_by (form_of host) r.read)) (after (rest (form_of host) r.read) host.unread)
     → HasReadTo bytes us (failed_host host fed painter) × IsReadOut bytes us (form_of (failed_host host fed painter)) (Some fault)
 fault_read host fed painter fault bytes us none to_fed r at decodes =
     let form = form_of host in
     let now = rest form r.read in
-    let all = none_read form r.read host.unread (ap whole_of at) in
-    let same_form : form_of (failed_host host fed painter) ≡ form = message_same host.decoder fed to_fed in
-    let before : updates_by form r.read ≡ us = r.updates ∙ (ap (λ o. us ++ waiting_list o) none ∙ append-nil us) in
-    let rest_is : after now host.unread ≡ rest (form_of (failed_host host fed painter)) (r.read ++ host.unread) = sym all.1 ∙ ap (λ x. rest x (r.read ++ host.unread)) (sym same_form) in (
+    let all : List Update = updates_by form r.read in
+    let all_read = none_read form r.read host.unread (ap whole_of at) in
+    let new_host : HostSide = failed_host host fed painter in
+    let read_now : List ℕ = r.read ++ host.unread in
+    let same_form : form_of new_host ≡ form = message_same host.decoder fed to_fed in
+    let before : AreSameFrom host.decoder.width host.decoder.height opening opening all us = none_waits host all us none r.updates in
+    let all_now : all ≡ updates_by (form_of new_host) read_now = sym (ap (λ x. updates_by x read_now) same_form ∙ all_read.0) in
+    let reading_is : after now host.unread ≡ rest (form_of new_host) read_now = sym all_read.1 ∙ ap (λ x. rest x read_now) (sym same_form) in (
       record {
-        read = r.read ++ host.unread;
-        split = r.split ∙ sym (append-nil (r.read ++ host.unread));
-        updates = ap (λ x. updates_by x (r.read ++ host.unread)) same_form ∙ (all.0 ∙ (before ∙ sym (append-nil us)));
-        decodes = subst (Decodes fed painter) rest_is decodes;
+        read = read_now;
+        split = r.split ∙ sym (append-nil read_now);
+        updates = some_waits fed.width fed.height (updates_by (form_of new_host) read_now) us None refl
+            (subst (λ (l : List Update). AreSameFrom fed.width fed.height opening opening l us) all_now
+            (same_size host.decoder.width host.decoder.height fed.width fed.height all us (sym to_fed.0) (sym to_fed.1) before));
+        decodes = subst (Decodes fed painter (screen (updates_by (form_of new_host) read_now))) reading_is
+            (subst (λ (start : Canvas). Decodes fed painter start (after now host.unread)) (ap screen all_now) decodes);
       },
       record {
-        none_left = ap (λ x. updates_by x bytes) same_form ∙ (ap (updates_by form) r.split ∙ (all.0 ∙ before));
-        stands_at = ap (λ x. fault_of (rest x bytes)) same_form ∙ (ap (λ bs. fault_of (rest form bs)) r.split ∙ (ap fault_of all.1 ∙ ap fault_of at));
+        none_left = ap (λ x. length (updates_by x bytes)) same_form ∙ (ap (λ bs. length (updates_by form bs)) r.split ∙ (ap length all_read.0 ∙ before.count));
+        stands_at = ap (λ x. fault_of (rest x bytes)) same_form ∙ (ap (λ bs. fault_of (rest form bs)) r.split ∙ (ap fault_of all_read.1 ∙ ap fault_of at));
       },
     )
 
@@ -239,7 +328,7 @@ pub message_fails : (host : HostSide) (fed : Decoding) (painter : Painting) (fau
     → (is_refused host.decoder.state ≡ true → (fault ≡ Memory) × (is_refused fed.state ≡ true))
     → IsSameSize host.decoder fed → WasFed host fed painter (Err fault) → ReadsOn host (failed_host host fed painter) (Err fault)
 message_fails host fed painter fault none stays to_fed was bytes us (inl refused) = let so = stays refused.0 in (inl (so.1, refl), inl so.0)
-message_fails host fed painter fault none stays to_fed was bytes us (inr r) = elim (was (rest (form_of host) r.read) r.decodes) [
+message_fails host fed painter fault none stays to_fed was bytes us (inr r) = elim (was (screen (updates_by (form_of host) r.read)) (rest (form_of host) r.read) r.decodes) [
   | inl memory ↦ (inl (memory.1, refl), inl memory.0)
   | inr at ↦ (let it = fault_read host fed painter fault bytes us none to_fed r at.0 at.1 in (inr it.0, inr it.1))
 ]
@@ -261,7 +350,7 @@ pub record HasReadOne (old new : HostSide) (answer : Option HostEvent) : Type 0 
   pub at_end : answer ≡ None → ReadsOn old new (Ok None)
 
 has_read_one : (host : HostSide) (fed new : Decoding) (painter : Painting) (used : ℕ) (answer : Option HostEvent) → CanRead host → host.waiting ≡ None → (is_refused host.decoder.state ≡ true → ⊥)
-    → IsSameSize host.decoder fed → IsSameSize fed new → WasFed host fed painter (Ok used) → Gave fed new answer → HasReadOne host (read_host host new painter used) answer
+    → IsSameSize host.decoder fed → IsSameSize fed new → WasFed host fed painter (Ok used) → Gave fed new painter answer → HasReadOne host (read_host host new painter used) answer
 has_read_one host fed new painter used None can none fine to_fed to_new was gave =
     record { size = tt; message = tt; shorter = tt; at_end = λ e. message_is_missing host fed new painter used none fine to_fed to_new was gave }
 has_read_one host fed new painter used (Some event) can none fine to_fed to_new was gave =
@@ -276,22 +365,23 @@ has_read_one host fed new painter used (Some event) can none fine to_fed to_new 
 -- As the reader's fields stand before and after it.
 pub one_is_read : (host old : HostSide) (fed new : Decoding) (painter : Painting) (piece unread : List ℕ) (waiting : Option SizedUpdate) (used : ℕ) (answer : Option HostEvent) → host ≡ old → CanRead old → old.waiting ≡ None
     → piece ≡ host.unread → (is_refused host.decoder.state ≡ true → ⊥)
-    → IsSameSize host.decoder fed → IsSameSize fed new → ((r : Reading ServerMessage) → Decodes host.decoder host.painter r → Feeds fed painter r piece (Ok used)) → Gave fed new answer
+    → IsSameSize host.decoder fed → IsSameSize fed new
+    → ((start : Canvas) (r : Reading ServerMessage) → Decodes host.decoder host.painter start r → Feeds fed painter start r piece (Ok used)) → Gave fed new painter answer
     → unread ≡ drop used host.unread → waiting ≡ host.waiting → HasReadOne old (record { decoder = new; painter = painter; unread = unread; waiting = waiting }) answer
 one_is_read host old fed new painter piece unread waiting used answer same can none all fine to_fed to_new was gave left kept =
     let none_here : host.waiting ≡ None = ap (λ (h : HostSide). h.waiting) same ∙ none in
-    let fed_all : WasFed host fed painter (Ok used) = λ r d. subst (λ bs. Feeds fed painter r bs (Ok used)) all (was r d) in
+    let fed_all : WasFed host fed painter (Ok used) = λ start r d. subst (λ bs. Feeds fed painter start r bs (Ok used)) all (was start r d) in
     let here = has_read_one host fed new painter used answer (subst CanRead (sym same) can) none_here fine to_fed to_new fed_all gave in
     subst (λ (h : HostSide). HasReadOne h (record { decoder = new; painter = painter; unread = unread; waiting = waiting }) answer) same
     (subst (λ (h : HostSide). HasReadOne host h answer) (stands_so host new painter used unread waiting left (kept ∙ none_here)) here)
 
 pub one_fails : (host old : HostSide) (fed : Decoding) (painter : Painting) (piece unread : List ℕ) (waiting : Option SizedUpdate) (fault : Fault) → host ≡ old → old.waiting ≡ None → piece ≡ host.unread
     → (is_refused host.decoder.state ≡ true → (fault ≡ Memory) × (fed ≡ host.decoder))
-    → IsSameSize host.decoder fed → ((r : Reading ServerMessage) → Decodes host.decoder host.painter r → Feeds fed painter r piece (Err fault)) → unread ≡ [] → waiting ≡ host.waiting
+    → IsSameSize host.decoder fed → ((start : Canvas) (r : Reading ServerMessage) → Decodes host.decoder host.painter start r → Feeds fed painter start r piece (Err fault)) → unread ≡ [] → waiting ≡ host.waiting
     → ReadsOn old (record { decoder = fed; painter = painter; unread = unread; waiting = waiting }) (Err fault)
 one_fails host old fed painter piece unread waiting fault same none all stays to_fed was left kept =
     let none_here : host.waiting ≡ None = ap (λ (h : HostSide). h.waiting) same ∙ none in
-    let fed_all : WasFed host fed painter (Err fault) = λ r d. subst (λ bs. Feeds fed painter r bs (Err fault)) all (was r d) in
+    let fed_all : WasFed host fed painter (Err fault) = λ start r d. subst (λ bs. Feeds fed painter start r bs (Err fault)) all (was start r d) in
     let here = message_fails host fed painter fault none_here
     (λ e. let so = stays e in (so.0, ap (λ (d : Decoding). is_refused d.state) so.1 ∙ e)) to_fed fed_all in
     let with_unread : List ℕ → HostSide = λ bs. record { decoder = fed; painter = painter; unread = bs; waiting = None } in

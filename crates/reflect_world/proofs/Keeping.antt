@@ -9,9 +9,10 @@ use Rattle.pixel_format.specs.declared.fault.Fault.{Fault}
 use Rattle.pixel_format.specs.declared.fault.Fault.TheVariants.{Memory, NumbersOut}
 use Rattle.raster.specs.Size.{IsScreenSize}
 use Rattle.reflect_world.specs.Schedule.{Step, World}
-use Rattle.reflect_world.specs.World.{IsFaithful, IsServed, IsKept, IsRefusal, JoinsUnder, Kept, Leaves, Reached, Shows, ShowsUnder, Standing, StopsAt, entry_of, setup_of, step_of, with_steps, world_of}
+use Rattle.reflect_world.specs.World.{IsFaithful, IsServed, IsKept, IsRefusal, JoinsUnder, Kept, Leaves, Reached, Shows, ShowsUnder, Standing, StopsAt, entry_of, setup_of, step_of, step_with, unmarked, with_steps, world_of}
 use Rattle.reflect_world.specs.declared.step.Entry.{Entry}
 use Rattle.reflect_world.specs.declared.step.Step as declared
+use Rattle.reflect_world.specs.declared.step.Step.TheVariants as code
 use Rattle.reflect_world.proofs.FirstForms.{host_short, viewer_accepted}
 use Rattle.reflect_world.proofs.Holds.{in_every_schedule}
 use Rattle.reflect_world.proofs.Reaching.{play-more, shows_reached}
@@ -99,11 +100,28 @@ size_with old now es is size = same_size old now (ap (λ (k : Kept). k.width) is
 
 -- ---- steps played one after another
 
-pub played_more : (old now next : Kept) (es : List Step) (k : ℕ) (e : Step) → now ≡ with_steps old (take k es) → k < length es → slice_index_or es k e ≡ e → next ≡ with_steps now (e ∷ [])
-    → next ≡ with_steps old (take (k + 1) es)
-played_more old now next es k e so_far room at one =
-    one ∙ ap (λ (w : Kept). with_steps w (e ∷ [])) so_far ∙ ap (λ (more : List Step). record old { steps = more }) (append_assoc old.steps (take k es) (e ∷ []))
-    ∙ ap (λ (more : List Step). with_steps old more) (ap (λ (x : Step). take k es ++ x ∷ []) (sym at) ∙ sym (take_more es k e room))
+pub played_more : (old now next : Kept) (es played : List Step) (k : ℕ) (x e : Step) → map unmarked played ≡ take k es → now ≡ with_steps old played → k < length es → slice_index_or es k x ≡ x → unmarked e ≡ x → next ≡ with_steps now (e ∷ [])
+    → (map unmarked (played ++ e ∷ []) ≡ take (k + 1) es) × (next ≡ with_steps old (played ++ e ∷ []))
+played_more old now next es played k x e so_far is room at bare one = (
+  map-append unmarked played (e ∷ []) ∙ (ap (λ xs. xs ++ unmarked e ∷ []) so_far ∙ (ap (λ t. take k es ++ t ∷ []) (bare ∙ sym at) ∙ sym (take_more es k x room))),
+  one ∙ ap (λ (w : Kept). with_steps w (e ∷ [])) is ∙ ap (λ (more : List Step). record old { steps = more }) (append_assoc old.steps played (e ∷ [])),
+)
+
+-- A step with its marks, without them.
+pub unmarked_with : (step : declared.Step) (lost : List Bool) → unmarked (step_with step lost) ≡ step_of step
+unmarked_with (code.HostBytes bytes) lost = refl
+unmarked_with code.Put lost = refl
+unmarked_with code.Raise lost = refl
+unmarked_with (code.Bytes viewer bytes) lost = refl
+unmarked_with (code.Look viewer) lost = refl
+unmarked_with (code.Cut viewer) lost = refl
+unmarked_with (code.Written viewer count) lost = refl
+unmarked_with (code.Send viewer) lost = refl
+unmarked_with code.Take lost = refl
+
+-- The steps of entries with one more.
+pub steps_pushed : (entries more : List Entry) (entry : Entry) → more ≡ entries ++ entry ∷ [] → map entry_of more ≡ map entry_of entries ++ entry_of entry ∷ []
+steps_pushed entries more entry pushed = ap (map entry_of) pushed ∙ map-append entry_of entries (entry ∷ [])
 
 -- The step at a place, and its definitional step there.
 pub step_at : (steps : List declared.Step) (k : ℕ) (step : declared.Step) → k < length steps → step ≡ slice_index_or steps k step

@@ -16,9 +16,9 @@ use Rattle.reflect_world.proofs.Places.{stands_without_look}
 pub reason_is : (s : Setup) (st : State) (p : Viewer) (looked : ℕ) → Stands s st p → wants_cut st.asked looked ≡ has_reason s.w s.h p.entries looked
 reason_is s st p looked k =
     let es = events s.w s.h p.entries in
-    ap (λ (o : Option ℕ). nat_lt (unwrap_or o 0) looked || (is_some st.asked.area && st.asked.asked)) k.keeps.asked.last
-    ∙ ap (λ (o : Option Rect). nat_lt (unwrap_or (last_cut es) 0) looked || (is_some o && st.asked.asked)) k.keeps.asked.area
-    ∙ ap (λ (b : Bool). nat_lt (unwrap_or (last_cut es) 0) looked || (is_some (pending es) && b)) k.keeps.asked.asked
+    ap (λ (o : Option ℕ). nat_lt (unwrap_or o 0) looked || (is_some st.asked.area && st.asked.asked)) k.serves.keeps.asked.last
+    ∙ ap (λ (o : Option Rect). nat_lt (unwrap_or (last_cut es) 0) looked || (is_some o && st.asked.asked)) k.serves.keeps.asked.area
+    ∙ ap (λ (b : Bool). nat_lt (unwrap_or (last_cut es) 0) looked || (is_some (pending es) && b)) k.serves.keeps.asked.asked
 
 counted_by : (old : Held) (session : State) (us : List Update) (looked : ℕ) (b : Bool) → wants_cut old.session.asked looked ≡ b → (wants_cut old.session.asked looked ≡ false → session ≡ old.session)
     → (wants_cut old.session.asked looked ≡ true → CutsAt old.session session us (length us) (length us)) → HasCounted old.session us → HasCounted session us

@@ -41,7 +41,7 @@ writes_on old now new m n a b =
 pub has_written : (old now : Held) (count left : ℕ) → WritesSome old now (count - left) → count - left ≡ min count (length old.session.unsent) → IsWritten old (record now { looked = None }) (min count (length old.session.unsent))
 has_written old now count left k e =
     record {
-      others = ap (λ (h : Held). record h { looked = None }) k.others ∙ ap (λ n. record { session = now.session; looked = None; written = old.written ++ take n old.session.unsent }) e;
+      others = ap (λ (h : Held). record h { looked = None }) k.others ∙ ap (λ n. record { session = now.session; looked = None; written = old.written ++ take n old.session.unsent; unread = old.unread }) e;
       stands = λ s p stood. subst (λ n. Stands s now.session (after_writing n p)) e (k.stands s p stood);
       counted = k.counted;
     }

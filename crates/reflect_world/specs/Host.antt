@@ -1,13 +1,15 @@
 -- The host of a world: its bytes, and how far they were read.
-use Rattle.std.specs.Prelude.{◌≡◌, ℕ, ◌⊎◌, true, List, [], ◌∷◌, ◌++◌, Option, Some, None, IfSome, Result, Ok, Err}
+use Rattle.std.specs.Prelude.{◌≡◌, ℕ, ◌⊎◌, true, List, [], ◌∷◌, ◌++◌, length, Option, Some, None, IfSome, Result, Ok, Err}
 use Rattle.pixel_format.specs.PixelFormat.{host_format}
 use Rattle.pixel_format.specs.declared.fault.Fault.{Fault}
 use Rattle.pixel_format.specs.declared.fault.Fault.TheVariants.{Memory}
 use Rattle.pixel_format.specs.Reading.{Reading, fault_of, rest}
+use Rattle.raster.specs.Screen.{opening}
 use Rattle.raster.specs.Size.{IsScreenSize}
-use Rattle.raster.specs.Update.{Update}
+use Rattle.raster.specs.Update.{Update, screen}
 use Rattle.rfb_wire.specs.ServerMessage.{ServerMessage, server_message}
 use Rattle.painter.specs.Patch.{SizedUpdate}
+use Rattle.painter.specs.Same.{AreSameFrom}
 use Rattle.painter.specs.Painter.{Painting}
 use Rattle.host_decoder.specs.Decoder.{Decoding, Decodes, is_refused}
 use Rattle.host_decoder.specs.declared.event.HostEvent.{HostEvent}
@@ -34,13 +36,14 @@ abbrev pub waiting_list : Option SizedUpdate → List Update
 waiting_list None = []
 waiting_list (Some patch) = patch.update ∷ []
 
--- Of all bytes of the host those that aren't unread were read. They spell these updates, and the one that waits; and the decoder goes on as
--- the rest behind them.
+-- Of all bytes of the host those that aren't unread were read. The updates that they spell come to the same, from the
+-- opening screen on, as these and the one that waits; and the decoder goes on as the rest behind them, over the screen
+-- that they show.
 pub record HasReadTo (bytes : List ℕ) (us : List Update) (host : HostSide) : Type 0 where
   pub read : List ℕ
   pub split : bytes ≡ read ++ host.unread
-  pub updates : updates_by (form_of host) read ≡ us ++ waiting_list host.waiting
-  pub decodes : Decodes host.decoder host.painter (rest (form_of host) read)
+  pub updates : AreSameFrom host.decoder.width host.decoder.height opening opening (updates_by (form_of host) read) (us ++ waiting_list host.waiting)
+  pub decodes : Decodes host.decoder host.painter (screen (updates_by (form_of host) read)) (rest (form_of host) read)
 
 -- That stands, unless the decoder was refused memory: then it reads nothing more.
 abbrev pub HostStands : List ℕ → List Update → HostSide → Type 0
@@ -50,9 +53,9 @@ HostStands bytes us host = ((is_refused host.decoder.state ≡ true) × (host.wa
 abbrev pub CanRead : HostSide → Type 0
 CanRead host = (bytes : List ℕ) × (us : List Update) × HostStands bytes us host
 
--- The host's bytes spell no further update, and this is the fault at which they stand, if there is one.
+-- The host's bytes spell no update but as many as these, and this is the fault at which they stand, if there is one.
 pub record IsReadOut (bytes : List ℕ) (us : List Update) (form : Reading ServerMessage) (fault : Option Fault) : Type 0 where
-  pub none_left : updates_by form bytes ≡ us
+  pub none_left : length (updates_by form bytes) ≡ length us
   pub stands_at : fault_of (rest form bytes) ≡ fault
 
 -- The next update was read; or there is none, with or without a fault; or memory was refused. What stood for some bytes and updates then stands

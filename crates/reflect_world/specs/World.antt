@@ -1,16 +1,21 @@
 -- A reflector as the code keeps it, and the world of the definitions that it stands for.
-use Rattle.std.specs.Prelude.{◌≡◌, ℕ, ◌^◌, ◌⊎◌, Bool, true, false, if◌then◌else◌, List, [], ◌∷◌, ◌++◌, length, is_some, slice_get, slice_index_or, drop, take, Option, Some, None, ◌≤◌}
+use Rattle.std.specs.Prelude.{◌≡◌, ℕ, ◌^◌, ◌⊎◌, Bool, true, false, if◌then◌else◌, List, [], ◌∷◌, ◌++◌, length, map, is_some, slice_get, slice_index_or, drop, take, Option, Some, None, ◌≤◌}
 use Rattle.pixel_format.specs.declared.fault.Fault.{Fault}
 use Rattle.pixel_format.specs.declared.fault.Fault.TheVariants.{Memory, NumbersOut}
+use Rattle.raster.specs.Screen.{opening}
 use Rattle.raster.specs.Size.{IsScreenSize}
 use Rattle.raster.specs.Update.{Update}
+use Rattle.painter.specs.Same.{AreSameFrom}
 use Rattle.reflect_core.specs.Plain.{Plain}
-use Rattle.viewer_session.specs.AllButInput.{all_but_input}
-use Rattle.viewer_session.specs.Session.{HasCounted, State, fault_in, Stands, is_ready, after_writing, without_look}
+use Rattle.roles.specs.Allowed.{Input}
+use Rattle.roles.specs.Held.{left_in}
+use Rattle.viewer_session.specs.Extent.{everything}
+use Rattle.viewer_session.specs.Session.{HasCounted, IsFeeding, State, fault_in, Stands, StandsBut, at_rest, is_ready, after_writing, with_marks, without_input, without_look}
 use Rattle.viewer_session.specs.Turn.{has_reason}
 use Rattle.viewer_session.specs.Viewer.{Setup, Viewer, out_bytes, after_bytes, after_cut, may_look, viewer_fault}
-use Rattle.reflect_world.specs.Schedule.{Step, World, HostBytes, Put, Raise, Join, Bytes, Look, Cut, Written, happens, play}
-use Rattle.reflect_world.specs.Host.{HasReadTo, HostSide, HostStands, IsSameHost, host_form}
+use Rattle.reflect_world.specs.Relay.{RelaySide}
+use Rattle.reflect_world.specs.Schedule.{Step, World, HostBytes, Put, Raise, Join, Bytes, Look, Cut, Written, Send, Take, Part, happens, play, waiting_list}
+use Rattle.reflect_world.specs.Host.{HasReadTo, HostSide, HostStands, IsSameHost}
 use Rattle.reflect_world.specs.Headline.{Holds}
 use Rattle.reflect_world.specs.Said.{ArePutInOrder, HoldsAfterEachWritten, IsRead, IsSaid}
 use Rattle.reflect_world.specs.declared.step.Step as declared_step
@@ -20,8 +25,7 @@ use Rattle.reflect_world.specs.declared.step.Entry.TheVariants as kept
 
 -- ---- steps
 
--- The step that one in the code stands for. All messages of a viewer are read, and memory may be refused for a text. That isn't noted: where no
--- input is relayed, a text that is lost leaves the same bytes and faults as one that is kept.
+-- The step that one in the code stands for, where no text found no memory.
 abbrev pub step_of : declared_step.Step → Step
 step_of (code.HostBytes bytes) = HostBytes bytes.items
 step_of code.Put = Put
@@ -30,11 +34,31 @@ step_of (code.Bytes viewer bytes) = Bytes viewer bytes.items []
 step_of (code.Look viewer) = Look viewer
 step_of (code.Cut viewer) = Cut viewer
 step_of (code.Written viewer count) = Written viewer count
+step_of (code.Send viewer) = Send viewer
+step_of code.Take = Take
+
+-- With these marks for the texts of a viewer that became whole by it: of each whether it found no memory.
+abbrev pub step_with : declared_step.Step → List Bool → Step
+step_with (code.HostBytes bytes) lost = HostBytes bytes.items
+step_with code.Put lost = Put
+step_with code.Raise lost = Raise
+step_with (code.Bytes viewer bytes) lost = Bytes viewer bytes.items lost
+step_with (code.Look viewer) lost = Look viewer
+step_with (code.Cut viewer) lost = Cut viewer
+step_with (code.Written viewer count) lost = Written viewer count
+step_with (code.Send viewer) lost = Send viewer
+step_with code.Take lost = Take
+
+-- A step without its marks.
+abbrev pub unmarked : Step → Step
+unmarked (Bytes viewer bytes lost) = Bytes viewer bytes []
+unmarked e = e
 
 -- The step that an entry of the world's list stands for.
 abbrev pub entry_of : declared_entry.Entry → Step
 entry_of (kept.Joined viewer role greet) = Join viewer role greet
-entry_of (kept.Played step) = step_of step
+entry_of (kept.Parted viewer) = Part viewer
+entry_of (kept.Played step lost) = step_with step lost.items
 
 -- ---- what contracts see of a world
 
@@ -47,9 +71,9 @@ pub record Kept : Type 0 where
   pub steps : List Step
   pub is_refused : Bool
 
--- The setup of the definitions: its screen, its room, and all of the protocol but relayed input.
+-- The setup of the definitions: its screen and its room, over the whole protocol.
 abbrev pub setup_of : Kept → Setup
-setup_of k = record { w = k.width; h = k.height; name = k.name; room = k.room; extent = all_but_input host_form }
+setup_of k = record { w = k.width; h = k.height; name = k.name; room = k.room; extent = everything }
 
 -- The world that its schedule gives.
 abbrev pub world_of : Kept → World
@@ -57,27 +81,37 @@ world_of k = play (setup_of k) k.steps
 
 -- ---- what stands in the fields
 
--- A viewer: its session, the reply to its last step where that was a look, and what was written to it.
+-- A viewer: its session, the reply to its last step where that was a look, what was written to it, and its bytes that aren't read yet, since an input waits.
 pub record Held : Type 0 where
   pub session : State
   pub looked : Option ℕ
   pub written : List ℕ
+  pub unread : List ℕ
 
--- The screen, the host and the fault that its bytes showed, and the viewers by number.
+-- The screen, the host and the fault that its bytes showed, the viewers by number, the room for inputs, and those on their way to the host.
 pub record Standing : Type 0 where
   pub screen : Plain
   pub host : HostSide
   pub host_fault : Option Fault
   pub places : List (Option Held)
+  pub room : ℕ
+  pub relay : RelaySide
 
 -- The place of a number, if a viewer has it.
 abbrev pub place_at : List (Option Held) → ℕ → Option Held
 place_at places v = slice_index_or places v None
 
+-- An input of the viewer there waits.
+abbrev pub waits_at : Option Held → Bool
+waits_at None = false
+waits_at (Some place) = is_some place.session.waiting
+
 -- A place stands for a viewer, over these updates: its last cut, if there was one, counted the Bells of the first of them. Where its last step
 -- was a look it is ready to go on.
 pub record PlaceStands (s : Setup) (us : List Update) (place : Held) (p : Viewer) : Type 0 where
-  pub session : Stands s place.session p
+  pub session : Stands s place.session (at_rest p)
+  pub unread : place.unread ≡ p.unread
+  pub marks : p.lost ≡ []
   pub counted : HasCounted place.session us
   pub looked : place.looked ≡ p.looked
   pub ready : is_some place.looked ≡ true → is_ready place.session ≡ true
@@ -95,29 +129,35 @@ pub record PlaceShows (s : Setup) (place : Held) (p : Viewer) : Type 0 where
   pub fault : fault_in place.session ≡ viewer_fault p
   pub written : place.written ≡ take p.written (out_bytes s p)
 
--- What is seen of the fields is what the schedule has come to. It stays so where memory was refused in the middle of a step.
+-- What is seen of the fields is what the schedule has come to: the updates put come to the same as its. It stays so
+-- where memory was refused in the middle of a step.
 pub record Shows (s : Setup) (standing : Standing) (w : World) : Type 0 where
   pub size : IsScreenSize s.w s.h
-  pub extent : s.extent ≡ all_but_input host_form
+  pub extent : s.extent ≡ everything
   pub width : standing.screen.width ≡ s.w
   pub height : standing.screen.height ≡ s.h
-  pub updates : standing.screen.updates ≡ w.shared.updates
+  pub updates : AreSameFrom s.w s.h opening opening w.shared.updates standing.screen.updates
   pub fault : standing.host_fault ≡ w.host_fault
+  pub taken : standing.relay.taken ≡ w.taken
   pub room : length standing.places ≡ 65
   pub places : (v : ℕ) → PlaceBy (PlaceShows s) (place_at standing.places v) (w.viewers v)
 
 -- What stands in the fields is what the schedule has come to.
 pub record Reached (s : Setup) (standing : Standing) (w : World) : Type 0 where
   pub size : IsScreenSize s.w s.h
-  pub extent : s.extent ≡ all_but_input host_form
+  pub extent : s.extent ≡ everything
   pub width : standing.screen.width ≡ s.w
   pub height : standing.screen.height ≡ s.h
-  pub updates : standing.screen.updates ≡ w.shared.updates
+  pub in_order : ArePutInOrder s w
+  pub updates : AreSameFrom s.w s.h opening opening w.shared.updates standing.screen.updates
   pub tally : standing.screen.tally ≡ w.shared.tally
   pub host_width : standing.host.decoder.width ≡ s.w
   pub host_height : standing.host.decoder.height ≡ s.h
-  pub host : HostStands w.host_bytes w.shared.updates standing.host
+  pub host : HostStands w.host_bytes standing.screen.updates standing.host
   pub fault : standing.host_fault ≡ w.host_fault
+  pub limit : standing.room ≡ s.room
+  pub queue : standing.relay.queue ≡ w.queue
+  pub taken : standing.relay.taken ≡ w.taken
   pub room : length standing.places ≡ 65
   pub places : (v : ℕ) → PlaceBy (PlaceStands s w.shared.updates) (place_at standing.places v) (w.viewers v)
 
@@ -125,12 +165,20 @@ pub record Reached (s : Setup) (standing : Standing) (w : World) : Type 0 where
 
 -- A place whose session went on, and which has no look.
 abbrev pub with_session : Held → State → Held
-with_session place session = record { session = session; looked = None; written = place.written }
+with_session place session = record { session = session; looked = None; written = place.written; unread = place.unread }
 
--- Bytes of the viewer came.
-pub record IsFed (old new : Held) (bytes : List ℕ) : Type 0 where
-  pub others : new ≡ with_session old new.session
-  pub stands : (s : Setup) (p : Viewer) → Stands s old.session p → Stands s new.session (after_bytes s (without_look p) bytes)
+-- Bytes of the viewer came, behind those that weren't read yet, with these marks for the texts that became whole.
+pub record IsFed (old new : Held) (bytes : List ℕ) (marks : List Bool) : Type 0 where
+  pub others : new ≡ record { session = new.session; looked = None; written = old.written; unread = new.unread }
+  pub stands : (s : Setup) (p : Viewer) → Stands s old.session p → StandsBut s new.session (after_bytes s (with_marks marks p) (old.unread ++ bytes)) new.unread
+  pub counted : (us : List Update) → HasCounted old.session us → HasCounted new.session us
+
+-- Bytes that wait were read, up to the end of a message: the look and what was written stay.
+pub record ReadsMore (old new : Held) (before after : List Bool) : Type 0 where
+  pub others : new ≡ record old { session = new.session; unread = new.unread }
+  pub marks : List Bool
+  pub marked : after ≡ before ++ marks
+  pub feeding : IsFeeding old.session new.session marks old.unread new.unread
   pub counted : (us : List Update) → HasCounted old.session us → HasCounted new.session us
 
 -- It looked at the tally, if it may.
@@ -140,7 +188,7 @@ pub record HasLooked (old new : Held) (tally : ℕ) : Type 0 where
 
 -- So many of its unsent bytes were written.
 pub record IsWritten (old new : Held) (count : ℕ) : Type 0 where
-  pub others : new ≡ record { session = new.session; looked = None; written = old.written ++ take count old.session.unsent }
+  pub others : new ≡ record { session = new.session; looked = None; written = old.written ++ take count old.session.unsent; unread = old.unread }
   pub stands : (s : Setup) (p : Viewer) → Stands s old.session p → Stands s new.session (after_writing count p)
   pub counted : (us : List Update) → HasCounted old.session us → HasCounted new.session us
 
@@ -170,6 +218,16 @@ abbrev pub GoesOn : Option ℕ → Held → Held → List Update → Type 0
 GoesOn None old new us = new ≡ old
 GoesOn (Some looked) old new us = HasTurned old new looked us
 
+-- Its waiting input was taken.
+pub record HasSent (old new : Held) : Type 0 where
+  pub others : new ≡ with_session old new.session
+  pub stands : (s : Setup) (p : Viewer) → Stands s old.session p → Stands s new.session (without_input (without_look p))
+  pub counted : (us : List Update) → HasCounted old.session us → HasCounted new.session us
+
+-- What goes to the host of a viewer that leaves: the input that waits, and the releases of what its session holds.
+abbrev pub left_by : Held → List Input
+left_by place = waiting_list place.session.waiting ++ left_in place.session.held
+
 -- An update was put.
 pub record IsPut (old new : Standing) (u : Update) : Type 0 where
   pub others : new ≡ record old { screen = new.screen }
@@ -182,6 +240,11 @@ pub record IsUnread (old new : Standing) (u : Update) : Type 0 where
   pub others : new ≡ record old { host = new.host }
   pub size : IsSameHost old.host new.host
   pub stands : (bytes : List ℕ) (us : List Update) → HasReadTo bytes (us ++ u ∷ []) old.host → HasReadTo bytes us new.host
+
+-- An input of the viewer waits, if there is one.
+abbrev pub has_waiting : Option Viewer → Bool
+has_waiting None = false
+has_waiting (Some p) = is_some p.waiting
 
 -- ---- what a step does
 
@@ -208,6 +271,10 @@ Leaves old new fault = StaysSeen old new × (fault ≡ NumbersOut → StaysFor o
 -- What was seen of a world is seen of what happens to it by a step, over a screen of this name.
 abbrev pub ShowsUnder : List ℕ → Step → Standing → Standing → Type 0
 ShowsUnder name e old new = (s : Setup) (w : World) → s.name ≡ name → Shows s old w → Shows s new (happens s w e)
+
+-- The same, whatever its name.
+abbrev pub ShowsStep : Step → Standing → Standing → Type 0
+ShowsStep e old new = (s : Setup) (w : World) → Shows s old w → Shows s new (happens s w e)
 
 -- It stands for some world.
 abbrev pub IsReachable : Standing → Type 0
@@ -240,15 +307,15 @@ StopsAt old new e fault =
 abbrev pub with_steps : Kept → List Step → Kept
 with_steps k es = record k { steps = k.steps ++ es }
 
--- All of the steps were played.
+-- All of the steps were played, with marks for texts.
 abbrev pub HasPlayed : Kept → Kept → List Step → Type 0
-HasPlayed old new es = (old.is_refused ≡ false) × (new ≡ with_steps old es)
+HasPlayed old new es = (old.is_refused ≡ false) × ((played : List Step) × (map unmarked played ≡ es) × (new ≡ with_steps old played))
 
 -- None was played, since a step was refused for want of memory before; or so many were played, and the next was refused.
 abbrev pub HasStopped : Kept → Kept → List Step → ℕ → Fault → Type 0
-HasStopped old new es played fault =
-    ((old.is_refused ≡ true) × (new ≡ old) × (played ≡ 0) × (fault ≡ Memory))
-    ⊎ ((old.is_refused ≡ false) × ((e : Step) × (slice_get es played ≡ Some e) × StopsAt (with_steps old (take played es)) new e fault))
+HasStopped old new es count fault =
+    ((old.is_refused ≡ true) × (new ≡ old) × (count ≡ 0) × (fault ≡ Memory))
+    ⊎ ((old.is_refused ≡ false) × ((played : List Step) × (e : Step) × (map unmarked played ≡ take count es) × (slice_get es count ≡ Some e) × StopsAt (with_steps old played) new e fault))
 
 -- What holds of a schedule: the headline, so that after each answer a viewer that follows its answers holds the area asked for, and the puts, raises, looks and
 -- cuts are one legal history, which has the viewers' own; the updates are those of the host's bytes, in order; each viewer is sent its Bells, texts and answers and

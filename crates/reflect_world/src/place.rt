@@ -1,26 +1,30 @@
 //! A viewer of a world.
 
-ghost use Rattle.std.specs.Prelude.{◌≡◌, ℕ, ◌≤◌, ◌<◌, [], ◌++◌, true, false, is_some, min, length, take, None, Some, IfOk, IfErr, OnOk};
+ghost use Rattle.std.specs.Prelude.{◌≡◌, ℕ, ◌+◌, ◌≤◌, ◌<◌, [], ◌++◌, true, false, is_some, option_map, vec_capacity, vec_len, min, length, take, None, Some, IfOk, IfErr, MatchOption, OnOk, ◌∷◌};
 ghost use Rattle.pixel_format.specs.declared.fault.Fault.TheVariants.{Memory};
 ghost use Rattle.raster.specs.Size.{IsScreenSize};
-ghost use Rattle.viewer_session.specs.AllButInput.{all_but_input};
+ghost use Rattle.roles.specs.Held.{input_in};
+ghost use Rattle.viewer_session.specs.Extent.{everything};
 ghost use Rattle.viewer_session.specs.Session.{Stands, fault_in, is_ready};
 ghost use Rattle.viewer_session.specs.Viewer.{Setup, new_viewer};
-ghost use Rattle.reflect_world.specs.World.{GoesOn, HasLooked, IsBrokenOff, IsFed, IsWritten, WritesSome};
+ghost use Rattle.reflect_world.specs.World.{GoesOn, HasLooked, HasSent, IsBrokenOff, IsFed, IsWritten, ReadsMore, WritesSome, left_by};
 
+use crate::unread::Unread;
 use pixel_format::Fault;
 use reflect_core::PlainScreen;
-use roles::Role;
+use roles::{Input, Role};
 use std::alloc::Global;
 use std::marker::Model;
 use viewer_session::Session;
 
-/// A viewer's session, the reply of its last step where that was a look, and all bytes that were written to it.
+/// A viewer's session, the reply of its last step where that was a look, all bytes that were written to it, and those of it that wait to be read
+/// since an input of it waits.
 #[derive(Drop)]
 pub struct Place {
     session: Session,
     looked: Option<u64>,
     written: Vec<u8>,
+    unread: Unread,
 }
 
 impl Model for Place {
@@ -28,7 +32,7 @@ impl Model for Place {
 
     ghost Value = { Held };
 
-    ghost view = { λ p. record { session = p.session; looked = p.looked; written = p.written.items } };
+    ghost view = { λ p. record { session = p.session; looked = p.looked; written = p.written.items; unread = p.unread } };
 }
 
 impl Place {
@@ -44,9 +48,9 @@ impl Place {
     ) -> Result<Self, Fault>
         requires size { IsScreenSize width height }
         requires name { (1 ≤ length name.now) × (length name.now ≤ 255) }
-        ensures fresh { IfOk result (λ place. (place.looked ≡ None) × (place.written ≡ [])) }
+        ensures fresh { IfOk result (λ place. (place.looked ≡ None) × (place.written ≡ []) × (place.unread ≡ [])) }
         ensures uncut { IfOk result (λ place. place.session.asked.last ≡ None) }
-        ensures stands { IfOk result (λ place. (s : Setup) → s.w ≡ width → s.h ≡ height → s.name ≡ name.now → s.extent ≡ all_but_input s.extent.from_host → Stands s place.session (new_viewer s role greet)) }
+        ensures stands { IfOk result (λ place. (s : Setup) → s.w ≡ width → s.h ≡ height → s.name ≡ name.now → s.extent ≡ everything → Stands s place.session (new_viewer s role greet)) }
         ensures err { IfErr result (λ fault. fault ≡ Memory) }
     {
         let session = if greet {
@@ -58,6 +62,7 @@ impl Place {
             session,
             looked: None,
             written: Vec::new(alloc),
+            unread: Unread::new(alloc),
         })
     }
 
@@ -75,12 +80,90 @@ impl Place {
         self.session.fault()
     }
 
-    /// Its bytes come.
-    pub fn feed(&mut self, bytes: &[u8])
-        ensures { IsFed self.old self.new bytes.now }
+    /// Its bytes come, and are read behind those that wait, as far as no input waits. For each text that becomes whole `lost` gets a mark: whether
+    /// it found no memory. Where memory is refused (`Memory`), which comes first, nothing has changed.
+    pub fn feed(&mut self, bytes: &[u8], lost: &mut Vec<bool>) -> Result<(), Fault>
+        requires { lost.old.items ≡ [] }
+        ensures ok { OnOk result (IsFed self.old self.new bytes.now lost.new.items) }
+        ensures err { IfErr result (λ fault. (fault ≡ Memory) × (self.new ≡ self.old)) }
+    {
+        self.unread.add(bytes)?;
+        let Ok(()) = lost.reserve(self.unread.bytes().len()) else {
+            self.unread.take_back(bytes.len());
+            return Err(Fault::Memory);
+        };
+        self.looked = None;
+        while !self.unread.bytes().is_empty() && !self.session.has_input() {
+            self.read_on(lost);
+        }
+        Ok(())
+    }
+
+    // Reads bytes that wait, up to the end of a message. Behind a fault none is looked at.
+    fn read_on(&mut self, lost: &mut Vec<bool>)
+        requires some { 0 < length self.old.unread }
+        requires none { self.old.session.waiting ≡ None }
+        requires room { vec_len lost.old < vec_capacity lost.old }
+        ensures reads { ReadsMore self.old self.new lost.old.items lost.new.items }
+        ensures room { (vec_capacity lost.old ≤ vec_capacity lost.new) × (vec_len lost.new + length self.new.unread ≤ vec_len lost.old + length self.old.unread) }
+        ensures shorter { length self.new.unread < length self.old.unread }
+    {
+        match self.session.feed_message(self.unread.bytes()) {
+            Ok(fed) => {
+                self.unread.take(fed.used);
+                if let Some(mark) = fed.lost {
+                    let Ok(()) = lost.push(mark) else {
+                        unreachable!()
+                    };
+                }
+            }
+            Err(_) => self.unread.clear(),
+        }
+    }
+
+    /// Whether an input of it waits.
+    pub fn is_waiting(&self) -> bool
+        ensures { result ≡ is_some self.now.session.waiting }
+    {
+        self.session.has_input()
+    }
+
+    /// No look is its last step any more.
+    pub fn forget_look(&mut self)
+        ensures { self.new ≡ record self.old { looked = None } }
     {
         self.looked = None;
-        let _ = self.session.feed(bytes);
+    }
+
+    /// Takes the input that waits, if there is one.
+    pub fn send(&mut self) -> Option<Input>
+        ensures value { option_map input_in result ≡ self.old.session.waiting }
+        ensures sent { HasSent self.old self.new }
+    {
+        self.looked = None;
+        self.session.take_input()
+    }
+
+    /// How many inputs go to the host where it leaves: the one that waits, and the releases.
+    pub fn inputs_left(&self) -> usize
+        ensures { result ≡ length (left_by self.now) }
+    {
+        let releases = self.session.releases();
+        if self.session.has_input() {
+            releases + 1
+        } else {
+            releases
+        }
+    }
+
+    /// The next of these, and `None` once there is none left.
+    pub fn leave(&mut self) -> Option<Input>
+        ensures next { MatchOption result (left_by self.old ≡ []) (λ input. left_by self.old ≡ input_in input ∷ left_by self.new) }
+    {
+        match self.session.take_input() {
+            Some(input) => Some(input),
+            None => self.session.leave(),
+        }
     }
 
     /// It looks at the tally, if it may.

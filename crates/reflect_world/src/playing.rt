@@ -6,7 +6,7 @@ ghost use Rattle.raster.specs.Size.{IsScreenSize};
 use crate::step::Step;
 use crate::world::{World, play};
 use pixel_format::Fault;
-use replay_script::{Line, shown};
+use replay_script::{Access, Line, shown};
 use roles::Role;
 use std::alloc::{AllocError, Global};
 use std::io::{BufRead, BufReader, BufWriter, ErrorKind, Read, Write};
@@ -188,10 +188,12 @@ fn play_line<W: Write>(
             play_one(world, Step::Raise)?;
             Ok(true)
         }
-        Line::Open(viewer) => join(world, viewer, false),
-        Line::Greet(viewer) => join(world, viewer, true),
+        Line::Open(viewer, access) => join(world, viewer, access, false),
+        Line::Greet(viewer, access) => join(world, viewer, access, true),
         Line::Viewer(viewer, bytes) => viewer_bytes(alloc, world, output, viewer, bytes),
         Line::Turn(viewer) => turn(alloc, world, output, viewer),
+        Line::Leave(viewer) => leave(world, viewer),
+        Line::Input => input(alloc, world, output),
     }
 }
 
@@ -230,13 +232,17 @@ fn is_open(world: &World, viewer: u64) -> bool {
 }
 
 /// A viewer joins, with its hello or behind it, unless it is there already.
-fn join(world: &mut World, viewer: u64, greet: bool) -> Result<bool, Stop>
+fn join(world: &mut World, viewer: u64, access: Access, greet: bool) -> Result<bool, Stop>
     requires { (1 ≤ viewer) × (viewer ≤ 64) }
 {
     if is_open(world, viewer) {
         return Ok(false);
     }
-    world.join(viewer, Role::Full, greet)?;
+    let role = match access {
+        Access::Full => Role::Full,
+        Access::View => Role::View,
+    };
+    world.join(viewer, role, greet)?;
     Ok(true)
 }
 
@@ -252,10 +258,53 @@ fn viewer_bytes<W: Write>(
         return Ok(false);
     }
     play_one(world, Step::Bytes(viewer, bytes))?;
+    send_inputs(alloc, world, viewer)?;
     if let Some(fault) = world.fault(viewer) {
         let number = fault.number();
         print(output, format!(in alloc; "{viewer}: fault {number}\n")?)?;
+        world.part(viewer)?;
     }
+    Ok(true)
+}
+
+/// While an input of a viewer waits and there is room, it goes into the queue, and the bytes behind it are read.
+fn send_inputs(alloc: Global, world: &mut World, viewer: u64) -> Result<(), Stop> {
+    for _ in 0..ROOM {
+        if !world.is_waiting(viewer) || !world.has_room() {
+            break;
+        }
+        play_one(world, Step::Send(viewer))?;
+        play_one(world, Step::Bytes(viewer, Vec::new(alloc)))?;
+    }
+    Ok(())
+}
+
+/// A viewer leaves, and may be opened again.
+fn leave(world: &mut World, viewer: u64) -> Result<bool, Stop> {
+    if !is_open(world, viewer) {
+        return Ok(false);
+    }
+    world.part(viewer)?;
+    Ok(true)
+}
+
+/// All inputs go to the host. What it is sent is printed.
+fn input<W: Write>(alloc: Global, world: &mut World, output: &mut W) -> Result<bool, Stop> {
+    let before = world.host_sent().len();
+    for _ in 0..ROOM {
+        let sent = world.host_sent().len();
+        play_one(world, Step::Take)?;
+        if world.host_sent().len() == sent {
+            break;
+        }
+    }
+    let sent = world.host_sent().get(before..).unwrap_or(&[]);
+    if sent.is_empty() {
+        print(output, format!(in alloc; "host: -\n")?)?;
+        return Ok(true);
+    }
+    let bytes = shown(alloc, sent)?;
+    print(output, format!(in alloc; "host: {bytes}\n")?)?;
     Ok(true)
 }
 

@@ -1,18 +1,19 @@
 //! What the schedule of a world has come to.
 
-ghost use Rattle.std.specs.Prelude.{◌≡◌, ℕ, ◌<◌, ◌≤◌, false, [], None, length, IfOk, IfErr, OnOk};
+ghost use Rattle.reflect_world.specs.Relay.{inputs_of, relayed_of, spelled};
+ghost use Rattle.std.specs.Prelude.{◌≡◌, ℕ, ◌<◌, ◌≤◌, ◌-◌, ◌++◌, false, nat_lt, [], None, length, take, IfOk, IfErr, OnOk};
 ghost use Rattle.std.specs.Option.{option_copied};
 ghost use Rattle.pixel_format.specs.declared.fault.Fault.TheVariants.{Memory};
-ghost use Rattle.viewer_session.specs.AllButInput.{all_but_input};
+ghost use Rattle.viewer_session.specs.Extent.{everything};
 ghost use Rattle.raster.specs.Size.{IsScreenSize};
 ghost use Rattle.viewer_session.specs.Viewer.{Setup};
-ghost use Rattle.reflect_world.specs.Schedule.{Put, Raise, Join, HostBytes, Bytes, Look, Cut, Written, beginning};
+ghost use Rattle.reflect_world.specs.Schedule.{Put, Raise, Join, HostBytes, Bytes, Look, Cut, Written, Send, Take, Part, beginning};
 ghost use Rattle.reflect_core.specs.Plain.{IsPutRefusal};
-ghost use Rattle.reflect_world.specs.World.{IsPut, IsReachable, IsRefusal, IsSeen, JoinsUnder, Leaves, Reached, ShowsUnder, StaysSeen, TakesStep, place_at, step_of, IsUnread, StaysFor};
-ghost use Rattle.reflect_world.specs.Host.{host_form};
+ghost use Rattle.reflect_world.specs.World.{waits_at, IsPut, IsReachable, IsRefusal, IsSeen, JoinsUnder, Leaves, Reached, ShowsStep, ShowsUnder, StaysSeen, TakesStep, left_by, place_at, step_of, step_with, IsUnread, StaysFor};
 
 use crate::host::Host;
 use crate::place::Place;
+use crate::relay::Relay;
 use crate::step::Step;
 use painter::Patch;
 use pixel_format::Fault;
@@ -24,7 +25,7 @@ use std::marker::Model;
 /// Places are numbered below this. That of number 0 stays free.
 pub const PLACES: u64 = 65;
 
-/// The screen, the host, the fault that its bytes showed, and the viewers by number.
+/// The screen, the host, the fault that its bytes showed, the viewers by number, the room for inputs, and those on their way to the host.
 #[derive(Drop)]
 pub struct Scene {
     alloc: Global,
@@ -32,6 +33,8 @@ pub struct Scene {
     host: Host,
     host_fault: Option<Fault>,
     places: Vec<Option<Place>>,
+    room: u64,
+    relay: Relay,
 }
 
 impl Model for Scene {
@@ -39,14 +42,14 @@ impl Model for Scene {
 
     ghost Value = { Standing };
 
-    ghost view = { λ s. record { screen = s.screen; host = s.host; host_fault = s.host_fault; places = s.places.items } };
+    ghost view = { λ s. record { screen = s.screen; host = s.host; host_fault = s.host_fault; places = s.places.items; room = s.room; relay = s.relay } };
 }
 
 impl Scene {
     /// Before any step. It fails where memory is refused (`Memory`).
-    pub fn new(alloc: Global, width: u64, height: u64) -> Result<Self, Fault>
+    pub fn new(alloc: Global, width: u64, height: u64, room: u64) -> Result<Self, Fault>
         requires { IsScreenSize width height }
-        ensures ok { IfOk result (λ scene. (s : Setup) → s.w ≡ width → s.h ≡ height → s.extent ≡ all_but_input host_form → Reached s scene beginning) }
+        ensures ok { IfOk result (λ scene. (s : Setup) → s.w ≡ width → s.h ≡ height → s.room ≡ room → s.extent ≡ everything → Reached s scene beginning) }
         ensures err { IfErr result (λ fault. fault ≡ Memory) }
     {
         let Ok(places) = free_places(alloc) else {
@@ -58,6 +61,8 @@ impl Scene {
             host: Host::new(alloc, width, height)?,
             host_fault: None,
             places,
+            room,
+            relay: Relay::new(alloc),
         })
     }
 
@@ -100,11 +105,57 @@ impl Scene {
         Ok(())
     }
 
-    /// Takes a step. Where memory is refused (`Memory`), or there are no more numbers of updates (`NumbersOut`), it isn't taken: what is seen
-    /// is that of the steps before, and behind `NumbersOut` further steps may be taken. `Raise`, `Bytes`, `Look` and `Cut` are always taken.
-    pub fn take(&mut self, step: &Step) -> Result<(), Fault>
-        requires { IsReachable self.old }
-        ensures ok { OnOk result (TakesStep (step_of step.now) self.old self.new) }
+    /// A viewer leaves, if it is there: its waiting input and the releases of what it holds down go into the queue, as far as there is room.
+    /// Where memory is refused (`Memory`) nothing has changed.
+    pub fn part(&mut self, viewer: u64) -> Result<(), Fault>
+        requires seen { IsSeen self.old }
+        ensures ok { OnOk result (TakesStep (Part viewer) self.old self.new) }
+        ensures shows { OnOk result (ShowsStep (Part viewer) self.old self.new) }
+        ensures err { IfErr result (λ fault. (fault ≡ Memory) × (self.new ≡ self.old)) }
+    {
+        if viewer >= PLACES {
+            return Ok(());
+        }
+        let slot = &mut self.places[viewer as usize];
+        let Some(place) = slot else {
+            return Ok(());
+        };
+        self.relay.reserve(place.inputs_left())?;
+        relay_left(viewer, place, self.room, &mut self.relay);
+        self.places[viewer as usize] = None;
+        Ok(())
+    }
+
+    /// Whether an input of a viewer waits.
+    pub fn is_waiting(&self, viewer: u64) -> bool
+        ensures { result ≡ waits_at (place_at self.now.places viewer) }
+    {
+        match self.place(viewer) {
+            Some(place) => place.is_waiting(),
+            None => false,
+        }
+    }
+
+    /// Whether there is room for a further input in the queue to the host.
+    pub fn has_room(&self) -> bool
+        ensures { result ≡ nat_lt (length self.now.relay.queue) self.now.room }
+    {
+        self.relay.len() < self.room
+    }
+
+    /// All that the host was sent of the viewers' input.
+    pub fn host_sent(&self) -> &[u8]
+        ensures { result.now ≡ spelled (inputs_of self.now.relay.taken) }
+    {
+        self.relay.sent()
+    }
+
+    /// Takes a step. For each text of a viewer that becomes whole by it `lost` gets a mark: whether it found no memory. Where memory is refused (`Memory`), or there are no more numbers of updates (`NumbersOut`), it isn't taken: what is seen
+    /// is that of the steps before, and behind `NumbersOut` further steps may be taken. `Raise`, `Look` and `Cut` are always taken.
+    pub fn take(&mut self, step: &Step, lost: &mut Vec<bool>) -> Result<(), Fault>
+        requires reachable { IsReachable self.old }
+        requires unmarked { lost.old.items ≡ [] }
+        ensures ok { OnOk result (TakesStep (step_with step.now lost.new.items) self.old self.new) }
         ensures err { IfErr result (λ fault. IsRefusal (step_of step.now) self.old fault × Leaves self.old self.new fault) }
     {
         match step {
@@ -114,10 +165,7 @@ impl Scene {
                 self.raise();
                 Ok(())
             }
-            Step::Bytes(viewer, bytes) => {
-                self.feed(*viewer, bytes.as_slice());
-                Ok(())
-            }
+            Step::Bytes(viewer, bytes) => self.feed(*viewer, bytes.as_slice(), lost),
             Step::Look(viewer) => {
                 self.look(*viewer);
                 Ok(())
@@ -127,6 +175,8 @@ impl Scene {
                 Ok(())
             }
             Step::Written(viewer, count) => self.write(*viewer, *count),
+            Step::Send(viewer) => self.send(*viewer),
+            Step::Take => self.relay.take(),
         }
     }
 
@@ -185,16 +235,44 @@ impl Scene {
     }
 
     // Bytes of a viewer are read, if it is there.
-    fn feed(&mut self, viewer: u64, bytes: &[u8])
-        requires { IsReachable self.old }
-        ensures { TakesStep (Bytes viewer bytes.now []) self.old self.new }
+    fn feed(&mut self, viewer: u64, bytes: &[u8], lost: &mut Vec<bool>) -> Result<(), Fault>
+        requires reachable { IsReachable self.old }
+        requires unmarked { lost.old.items ≡ [] }
+        ensures ok { OnOk result (TakesStep (Bytes viewer bytes.now lost.new.items) self.old self.new) }
+        ensures err { IfErr result (λ fault. (fault ≡ Memory) × StaysSeen self.old self.new) }
     {
         if viewer < PLACES {
             let slot = &mut self.places[viewer as usize];
             if let Some(place) = slot {
-                place.feed(bytes);
+                return place.feed(bytes, lost);
             }
         }
+        Ok(())
+    }
+
+    // A viewer's waiting input goes into the queue, if it is there and there is room.
+    fn send(&mut self, viewer: u64) -> Result<(), Fault>
+        requires { IsReachable self.old }
+        ensures ok { OnOk result (TakesStep (Send viewer) self.old self.new) }
+        ensures err { IfErr result (λ fault. (fault ≡ Memory) × StaysSeen self.old self.new) }
+    {
+        let has_room = self.has_room();
+        if viewer >= PLACES {
+            return Ok(());
+        }
+        let slot = &mut self.places[viewer as usize];
+        let Some(place) = slot else {
+            return Ok(());
+        };
+        if !has_room {
+            place.forget_look();
+            return Ok(());
+        }
+        self.relay.reserve(1)?;
+        if let Some(input) = place.send() {
+            self.relay.push(viewer, input);
+        }
+        Ok(())
     }
 
     // A viewer looks at the tally, if it is there and may look.
@@ -237,6 +315,20 @@ impl Scene {
             }
         }
         Ok(())
+    }
+}
+
+/// What goes to the host of a viewer that leaves goes into the queue, as far as there is room. There is memory for it.
+fn relay_left(viewer: u64, place: &mut Place, room: u64, relay: &mut Relay)
+    requires { length (left_by place.old) ≤ relay.old.spare }
+    ensures queue { relay.new.queue ≡ relay.old.queue ++ take (room - length relay.old.queue) (relayed_of viewer (left_by place.old)) }
+    ensures taken { relay.new.taken ≡ relay.old.taken }
+{
+    while relay.len() < room {
+        let Some(input) = place.leave() else {
+            return;
+        };
+        relay.push(viewer, input);
     }
 }
 

@@ -1,7 +1,7 @@
 //! Steps of a schedule.
 
-ghost use Rattle.std.specs.Prelude.{◌≡◌, IfOk};
-ghost use Rattle.reflect_world.specs.World.{step_of};
+ghost use Rattle.std.specs.Prelude.{◌≡◌, IfOk, List, Bool};
+ghost use Rattle.reflect_world.specs.World.{step_of, step_with};
 
 use roles::Role;
 use std::alloc::{AllocError, Global};
@@ -24,21 +24,28 @@ pub enum Step {
     Cut(u64),
     /// So many more of a viewer's unsent bytes are written, at most those there are.
     Written(u64, u64),
+    /// A viewer's waiting input goes into the queue to the host, if there is room.
+    Send(u64),
+    /// The queue's first input goes to the host, if there is one.
+    Take,
 }
 
-/// What a world keeps: a viewer joined, or a step was played.
+/// What a world keeps: a viewer joined or left, or a step was played, with marks for the texts of a viewer that became whole by it.
 #[derive(Drop)]
 pub enum Entry {
     /// A viewer of this number and role joined; with its hello where the last says so, else behind it.
     Joined(u64, Role, bool),
-    /// This step was played.
-    Played(Step),
+    /// The viewer of this number left.
+    Parted(u64),
+    /// This step was played. Of each text the mark says whether it found no memory.
+    Played(Step, Vec<bool>),
 }
 
 impl Step {
     /// The same step, with bytes of its own. It fails where memory is refused.
     pub fn copy(&self, alloc: Global) -> Result<Step, AllocError>
-        ensures { IfOk result (λ same. step_of same ≡ step_of self.now) }
+        ensures same { IfOk result (λ same. step_of same ≡ step_of self.now) }
+        ensures marked { IfOk result (λ same. (lost : List Bool) → step_with same lost ≡ step_with self.now lost) }
     {
         Ok(match self {
             Step::HostBytes(bytes) => Step::HostBytes(Vec::from_slice(alloc, bytes.as_slice())?),
@@ -51,6 +58,8 @@ impl Step {
             Step::Look(viewer) => Step::Look(*viewer),
             Step::Cut(viewer) => Step::Cut(*viewer),
             Step::Written(viewer, count) => Step::Written(*viewer, *count),
+            Step::Send(viewer) => Step::Send(*viewer),
+            Step::Take => Step::Take,
         })
     }
 }

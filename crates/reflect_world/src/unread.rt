@@ -1,6 +1,6 @@
 //! Bytes that came and wait to be read.
 
-ghost use Rattle.std.specs.Prelude.{◌≡◌, ◌≤◌, [], ◌++◌, length, drop, OnOk, IfErr};
+ghost use Rattle.std.specs.Prelude.{◌≡◌, ◌≤◌, [], ◌++◌, ◌-◌, length, drop, take, OnOk, IfErr};
 ghost use Rattle.pixel_format.specs.declared.fault.Fault.TheVariants.{Memory};
 
 use pixel_format::Fault;
@@ -63,6 +63,15 @@ impl Unread {
             self.bytes.clear();
             self.read = 0;
         }
+    }
+
+    /// The last of them, so many, weren't added.
+    pub fn take_back(&mut self, count: usize)
+        requires { count ≤ length self.old }
+        ensures { self.new ≡ take (length self.old - count) self.old }
+    {
+        let left = self.bytes.len() - count;
+        self.bytes.truncate(left);
     }
 
     /// None of them is read any more.

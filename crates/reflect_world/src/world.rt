@@ -1,10 +1,12 @@
 //! A reflector on one thread, step by step.
 
-ghost use Rattle.std.specs.Prelude.{◌≡◌, ℕ, ◌<◌, ◌≤◌, ◌^◌, ◌↔◌, [], ◌∷◌, ◌++◌, false, length, map, take, IfOk, IfErr, OnOk, OnErr, IsTrue, IsSome};
+ghost use Rattle.std.specs.Prelude.{◌≡◌, ℕ, ◌<◌, ◌≤◌, ◌^◌, ◌↔◌, [], ◌∷◌, ◌++◌, false, nat_lt, length, map, take, IfOk, IfErr, OnOk, OnErr, IsTrue, IsSome};
 ghost use Rattle.pixel_format.specs.declared.fault.Fault.TheVariants.{Memory};
 ghost use Rattle.raster.specs.Size.{IsScreenSize};
-ghost use Rattle.reflect_world.specs.Schedule.{Join, fault_at, written_of};
-ghost use Rattle.reflect_world.specs.World.{HasPlayed, HasStopped, IsFaithful, StopsAt, setup_of, step_of, with_steps, world_of};
+ghost use Rattle.reflect_world.specs.Relay.{spelled};
+ghost use Rattle.reflect_world.specs.Schedule as played;
+ghost use Rattle.reflect_world.specs.Schedule.{Join, Part, fault_at, host_sent, written_of};
+ghost use Rattle.reflect_world.specs.World.{HasPlayed, HasStopped, IsFaithful, StopsAt, has_waiting, setup_of, step_of, unmarked, with_steps, world_of};
 
 use crate::scene::Scene;
 use crate::step::{Entry, Step};
@@ -78,7 +80,7 @@ impl World {
             room,
             schedule: Vec::new(alloc),
             is_refused: false,
-            scene: Scene::new(alloc, width, height)?,
+            scene: Scene::new(alloc, width, height, room)?,
         })
     }
 
@@ -93,6 +95,24 @@ impl World {
             return Err(Fault::Memory);
         };
         match self.scene.join(viewer, role, self.name.as_slice(), greet) {
+            Ok(()) => Ok(()),
+            Err(fault) => {
+                let _ = self.schedule.pop();
+                Err(fault)
+            }
+        }
+    }
+
+    /// A viewer leaves, if it is there: the input of it that waits, and the releases of the keys and buttons that it holds down, go into the queue to
+    /// the host, as far as there is room, and its record ends. Where memory is refused (`Memory`) nothing has changed.
+    pub fn part(&mut self, viewer: u64) -> Result<(), Fault>
+        ensures ok { OnOk result (self.new ≡ with_steps self.old (Part viewer ∷ [])) }
+        ensures err { IfErr result (λ fault. (fault ≡ Memory) × (self.new ≡ self.old)) }
+    {
+        let Ok(()) = self.schedule.push(Entry::Parted(viewer)) else {
+            return Err(Fault::Memory);
+        };
+        match self.scene.part(viewer) {
             Ok(()) => Ok(()),
             Err(fault) => {
                 let _ = self.schedule.pop();
@@ -142,24 +162,50 @@ impl World {
         self.scene.updates()
     }
 
-    /// Takes one step, for whose entry there is room first.
+    /// All that the host was sent of the viewers' input: the spelling of each input taken, in order (RFC 6143, 7.5.4 to 7.5.6).
+    pub fn host_sent(&self) -> &[u8]
+        ensures { result.now ≡ spelled (host_sent (world_of self.now)) }
+    {
+        self.scene.host_sent()
+    }
+
+    /// Whether an input of a viewer waits for `Send`. Where a step was refused for want of memory this says nothing.
+    pub fn is_waiting(&self, viewer: u64) -> bool
+        ensures { self.now.is_refused ≡ false → result ≡ has_waiting ((world_of self.now).viewers viewer) }
+    {
+        self.scene.is_waiting(viewer)
+    }
+
+    /// Whether there is room for a further input in the queue to the host. Where a step was refused for want of memory this says nothing.
+    pub fn has_room(&self) -> bool
+        ensures { self.now.is_refused ≡ false → result ≡ nat_lt (length (world_of self.now).queue) self.now.room }
+    {
+        self.scene.has_room()
+    }
+
+    /// Takes one step, for whose entry and marks there is room first.
     fn step(&mut self, step: &Step) -> Result<(), Fault>
         requires { self.old.is_refused ≡ false }
-        ensures ok { OnOk result (self.new ≡ with_steps self.old (step_of step.now ∷ [])) }
+        ensures ok { OnOk result ((e : played.Step) × (unmarked e ≡ step_of step.now) × (self.new ≡ with_steps self.old (e ∷ []))) }
         ensures err { IfErr result (StopsAt self.old self.new (step_of step.now)) }
     {
-        let Ok(entry) = step.copy(self.alloc) else {
+        let Ok(copy) = step.copy(self.alloc) else {
             self.is_refused = true;
             return Err(Fault::Memory);
         };
-        let Ok(()) = self.schedule.push(Entry::Played(entry)) else {
+        if self.schedule.reserve(1).is_err() {
             self.is_refused = true;
             return Err(Fault::Memory);
-        };
-        match self.scene.take(step) {
-            Ok(()) => Ok(()),
+        }
+        let mut lost = Vec::new(self.alloc);
+        match self.scene.take(step, &mut lost) {
+            Ok(()) => {
+                let Ok(()) = self.schedule.push(Entry::Played(copy, lost)) else {
+                    unreachable!()
+                };
+                Ok(())
+            }
             Err(fault) => {
-                let _ = self.schedule.pop();
                 self.is_refused = matches!(&fault, Fault::Memory);
                 Err(fault)
             }

@@ -1,6 +1,6 @@
 -- Lines of a script: numbers, and words with a blank behind them.
 use Rattle.std.proofs.Common.{◌≡◌, ◌≢◌, ℕ, zero, suc, ◌<◌, ◌≤◌, ◌^◌, ◌⊎◌, inl, inr, Bool, true, false, List, [], ◌∷◌, ◌++◌, length, Option, Some, None, Result, Ok, Err, refl, ap, sym, subst, ◌∙◌, arith}
-use Rattle.std.specs.Prelude.{All, IfSome, IfNone, codes, get_or, ◌==◌, ◌&&◌, ◌||◌, nat_lt, not, if◌then◌else◌}
+use Rattle.std.specs.Prelude.{All, IfSome, IfNone, codes, get_or, ◌==◌, ◌&&◌, ◌||◌, nat_lt, if◌then◌else◌}
 use Rattle.std.specs.Result.{result_ok}
 use Rattle.std.proofs.lemmas.Bool.Decides.{nat_tests}
 use Rattle.std.specs.Fmt.{decimal}
@@ -15,8 +15,10 @@ use Rattle.std.proofs.lemmas.Str.Pattern.{IsSplitOnceResult, split_parts}
 use Rattle.std.specs.Borrow.{Bor}
 use Rattle.replay_script.specs.Script.{blank, IsHex}
 use Rattle.replay_script.specs.declared.line.Line.{Line}
-use Rattle.replay_script.specs.declared.line.Line.TheVariants.{Screen, Host, Raise, Open, Greet, Viewer, Turn}
-use Rattle.replay_script.specs.Line.{IsInRange, ReadsBehind, Says, SaysBehind, word_of}
+use Rattle.replay_script.specs.declared.line.Line.TheVariants.{Screen, Host, Raise, Open, Greet, Viewer, Turn, Leave, Input}
+use Rattle.replay_script.specs.declared.line.Access.{Access}
+use Rattle.replay_script.specs.declared.line.Access.TheVariants.{Full, View}
+use Rattle.replay_script.specs.Line.{IsInRange, ReadsBehind, Says, SaysBehind, access_word, word_of}
 
 -- ---- numbers
 
@@ -130,20 +132,20 @@ plain_word : (bs : List ℕ) → is_plain bs ≡ true → NoBlank bs
 plain_word [] e = All-nil (λ c. c ≢ blank)
 plain_word (b ∷ bs) e = plain_if b bs (b == blank) refl e (plain_word bs)
 
--- ---- a number and full
+-- ---- a number, and what the viewer may do
 
-not_of : (b : Bool) → true ≡ not b → b ≡ true → ⊥
-not_of true e is = absurd cc
-not_of false e is = absurd cc
+-- A text that is a viewer's number and its access.
+pub bad_access : (text viewer word : List ℕ) → text ≡ viewer ++ (blank ∷ word) → NoBlank viewer → ((access : Access) → word ≡ access_word access → ⊥)
+    → (n : ℕ) (access : Access) → 1 ≤ n → n ≤ 64 → text ≡ decimal n ++ (blank ∷ access_word access) → ⊥
+bad_access text viewer word is plain other n access from to e = other access (same_cut viewer word (decimal n) (access_word access) plain (decimal_is_a_word n (omega arith)) (sym is ∙ e)).1
 
-pub other_role : (role : List ℕ) → true ≡ not (bytes_eq role (codes "full")) → role ≡ codes "full" → ⊥
-other_role role e same = not_of (bytes_eq role (codes "full")) e ((bytes_eq-Decides role (codes "full")).1 same)
+pub no_viewer : (text viewer word : List ℕ) → text ≡ viewer ++ (blank ∷ word) → NoBlank viewer → ((n : ℕ) → 1 ≤ n → n ≤ 64 → viewer ≡ decimal n → ⊥)
+    → (n : ℕ) (access : Access) → 1 ≤ n → n ≤ 64 → text ≡ decimal n ++ (blank ∷ access_word access) → ⊥
+no_viewer text viewer word is plain none n access from to e = none n from to (same_cut viewer word (decimal n) (access_word access) plain (decimal_is_a_word n (omega arith)) (sym is ∙ e)).0
 
-pub not_full : (text viewer role : List ℕ) → text ≡ viewer ++ (blank ∷ role) → NoBlank viewer → (role ≡ codes "full" → ⊥) → (n : ℕ) → 1 ≤ n → n ≤ 64 → text ≡ decimal n ++ (blank ∷ codes "full") → ⊥
-not_full text viewer role is plain other n from to e = other (same_cut viewer role (decimal n) (codes "full") plain (decimal_is_a_word n (omega arith)) (sym is ∙ e)).1
-
-pub no_viewer : (text viewer role : List ℕ) → text ≡ viewer ++ (blank ∷ role) → NoBlank viewer → ((n : ℕ) → 1 ≤ n → n ≤ 64 → viewer ≡ decimal n → ⊥) → (n : ℕ) → 1 ≤ n → n ≤ 64 → text ≡ decimal n ++ (blank ∷ codes "full") → ⊥
-no_viewer text viewer role is plain none n from to e = none n from to (same_cut viewer role (decimal n) (codes "full") plain (decimal_is_a_word n (omega arith)) (sym is ∙ e)).0
+pub neither : (word : List ℕ) → (word ≡ codes "full" → ⊥) → (word ≡ codes "view" → ⊥) → (access : Access) → word ≡ access_word access → ⊥
+neither word a b Full e = a e
+neither word a b View e = b e
 
 -- ---- a screen
 
@@ -161,10 +163,12 @@ screen_of text (Screen width height name) r w says =
     record { width = width; height = height; name = name.now; width_fits = (r.0, r.1); height_fits = (r.2, r.3); name_fits = (r.4, r.5); is = says }
 screen_of text (Host bytes) r w says = absurd cc
 screen_of text Raise r w says = absurd says
-screen_of text (Open viewer) r w says = absurd cc
-screen_of text (Greet viewer) r w says = absurd cc
+screen_of text (Open viewer access) r w says = absurd cc
+screen_of text (Greet viewer access) r w says = absurd cc
 screen_of text (Viewer viewer bytes) r w says = absurd (omega (arith, ap (λ t. get_or t 0 0) w))
 screen_of text (Turn viewer) r w says = absurd cc
+screen_of text (Leave viewer) r w says = absurd cc
+screen_of text Input r w says = absurd says
 
 -- The text says no screen in range.
 abbrev NoScreen : List ℕ → Type 0
@@ -222,10 +226,12 @@ viewer_of : (text : List ℕ) (line : Line) → IsInRange line → word_of line 
 viewer_of text (Screen width height name) r w says = absurd (omega (arith, ap (λ t. get_or t 0 0) w))
 viewer_of text (Host bytes) r w says = absurd cc
 viewer_of text Raise r w says = absurd says
-viewer_of text (Open viewer) r w says = absurd cc
-viewer_of text (Greet viewer) r w says = absurd cc
+viewer_of text (Open viewer access) r w says = absurd cc
+viewer_of text (Greet viewer access) r w says = absurd cc
 viewer_of text (Viewer viewer bytes) r w says = record { viewer = viewer; hex = says.0; bytes = bytes.items; fits = r; is = says.1; spells = says.2 }
 viewer_of text (Turn viewer) r w says = absurd cc
+viewer_of text (Leave viewer) r w says = absurd cc
+viewer_of text Input r w says = absurd says
 
 -- The text says no viewer with bytes.
 abbrev NoViewer : List ℕ → Type 0
@@ -256,39 +262,45 @@ word_is_plain : (line : Line) → NoBlank (word_of line)
 word_is_plain (Screen width height name) = plain_word (codes "screen") refl
 word_is_plain (Host bytes) = plain_word (codes "host") refl
 word_is_plain Raise = plain_word (codes "raise") refl
-word_is_plain (Open viewer) = plain_word (codes "open") refl
-word_is_plain (Greet viewer) = plain_word (codes "greet") refl
+word_is_plain (Open viewer access) = plain_word (codes "open") refl
+word_is_plain (Greet viewer access) = plain_word (codes "greet") refl
 word_is_plain (Viewer viewer bytes) = plain_word (codes "viewer") refl
 word_is_plain (Turn viewer) = plain_word (codes "turn") refl
+word_is_plain (Leave viewer) = plain_word (codes "leave") refl
+word_is_plain Input = plain_word (codes "input") refl
 
-begins_so : (line : Line) (text : List ℕ) → (text ≡ codes "raise" → ⊥) → Says line text → (rest : List ℕ) × (text ≡ word_of line ++ (blank ∷ rest)) × SaysBehind line rest
-begins_so (Screen width height name) text other says = says
-begins_so (Host bytes) text other says = says
-begins_so Raise text other says = absurd (other says)
-begins_so (Open viewer) text other says = says
-begins_so (Greet viewer) text other says = says
-begins_so (Viewer viewer bytes) text other says = says
-begins_so (Turn viewer) text other says = says
+begins_so : (line : Line) (text : List ℕ) → (text ≡ codes "raise" → ⊥) → (text ≡ codes "input" → ⊥) → Says line text → (rest : List ℕ) × (text ≡ word_of line ++ (blank ∷ rest)) × SaysBehind line rest
+begins_so (Screen width height name) text other also says = says
+begins_so (Host bytes) text other also says = says
+begins_so Raise text other also says = absurd (other says)
+begins_so (Open viewer access) text other also says = says
+begins_so (Greet viewer access) text other also says = says
+begins_so (Viewer viewer bytes) text other also says = says
+begins_so (Turn viewer) text other also says = says
+begins_so (Leave viewer) text other also says = says
+begins_so Input text other also says = absurd (also says)
 
-pub not_raise : (r : Bool) (text : List ℕ) → r ≡ bytes_eq text (codes "raise") → r ≡ false → text ≡ codes "raise" → ⊥
-not_raise r text is false_ e = let yes = (bytes_eq-Decides text (codes "raise")).1 e in absurd cc
+pub not_word : (r : Bool) (text word : List ℕ) → r ≡ bytes_eq text word → r ≡ false → text ≡ word → ⊥
+not_word r text word is false_ e = let yes = (bytes_eq-Decides text word).1 e in absurd cc
 
-pub no_line : (text : List ℕ) → (text ≡ codes "raise" → ⊥) → NoBlank text → (line : Line) → IsInRange line → Says line text → ⊥
-no_line text other plain line r says = let it = begins_so line text other says in no_cut text (word_of line) it.0 plain it.1
+pub no_line : (text : List ℕ) → (text ≡ codes "raise" → ⊥) → (text ≡ codes "input" → ⊥) → NoBlank text → (line : Line) → IsInRange line → Says line text → ⊥
+no_line text other also plain line r says = let it = begins_so line text other also says in no_cut text (word_of line) it.0 plain it.1
 
 unknown : (line : Line) (text : List ℕ) → SaysBehind line text → (word : List ℕ) → word ≡ word_of line
-    → (word ≡ codes "screen" → ⊥) → (word ≡ codes "host" → ⊥) → (word ≡ codes "open" → ⊥) → (word ≡ codes "greet" → ⊥) → (word ≡ codes "viewer" → ⊥) → (word ≡ codes "turn" → ⊥) → ⊥
-unknown (Screen width height name) text says word is a b c d e f = a is
-unknown (Host bytes) text says word is a b c d e f = b is
-unknown Raise text says word is a b c d e f = says
-unknown (Open viewer) text says word is a b c d e f = c is
-unknown (Greet viewer) text says word is a b c d e f = d is
-unknown (Viewer viewer bytes) text says word is a b c d e f = e is
-unknown (Turn viewer) text says word is a b c d e f = f is
+    → (word ≡ codes "screen" → ⊥) → (word ≡ codes "host" → ⊥) → (word ≡ codes "open" → ⊥) → (word ≡ codes "greet" → ⊥) → (word ≡ codes "viewer" → ⊥) → (word ≡ codes "turn" → ⊥) → (word ≡ codes "leave" → ⊥) → ⊥
+unknown (Screen width height name) text says word is a b c d e f g = a is
+unknown (Host bytes) text says word is a b c d e f g = b is
+unknown Raise text says word is a b c d e f g = says
+unknown (Open viewer access) text says word is a b c d e f g = c is
+unknown (Greet viewer access) text says word is a b c d e f g = d is
+unknown (Viewer viewer bytes) text says word is a b c d e f g = e is
+unknown (Turn viewer) text says word is a b c d e f g = f is
+unknown (Leave viewer) text says word is a b c d e f g = g is
+unknown Input text says word is a b c d e f g = says
 
-pub no_word : (text word rest : List ℕ) → (text ≡ codes "raise" → ⊥) → text ≡ word ++ (blank ∷ rest) → NoBlank word
-    → (word ≡ codes "screen" → ⊥) → (word ≡ codes "host" → ⊥) → (word ≡ codes "open" → ⊥) → (word ≡ codes "greet" → ⊥) → (word ≡ codes "viewer" → ⊥) → (word ≡ codes "turn" → ⊥)
+pub no_word : (text word rest : List ℕ) → (text ≡ codes "raise" → ⊥) → (text ≡ codes "input" → ⊥) → text ≡ word ++ (blank ∷ rest) → NoBlank word
+    → (word ≡ codes "screen" → ⊥) → (word ≡ codes "host" → ⊥) → (word ≡ codes "open" → ⊥) → (word ≡ codes "greet" → ⊥) → (word ≡ codes "viewer" → ⊥) → (word ≡ codes "turn" → ⊥) → (word ≡ codes "leave" → ⊥)
     → (line : Line) → IsInRange line → Says line text → ⊥
-no_word text word rest other is plain a b c d e f line r says =
-    let it = begins_so line text other says in
-    unknown line it.0 it.2 word (same_cut word rest (word_of line) it.0 plain (word_is_plain line) (sym is ∙ it.1)).0 a b c d e f
+no_word text word rest other also is plain a b c d e f g line r says =
+    let it = begins_so line text other also says in
+    unknown line it.0 it.2 word (same_cut word rest (word_of line) it.0 plain (word_is_plain line) (sym is ∙ it.1)).0 a b c d e f g

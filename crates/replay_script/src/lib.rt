@@ -9,4 +9,4 @@ mod hexadecimal;
 mod line;
 
 pub use hexadecimal::{script_bytes, shown};
-pub use line::Line;
+pub use line::{Access, Line};

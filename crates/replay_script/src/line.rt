@@ -4,12 +4,22 @@ ghost use Rattle.std.specs.Prelude.{◌≡◌, ◌≢◌, ◌==◌, ◌≤◌, �
 ghost use Rattle.std.specs.Fmt.{decimal};
 ghost use Rattle.pixel_format.specs.declared.fault.Fault.TheVariants.{Memory};
 ghost use Rattle.replay_script.specs.Script.{blank};
-ghost use Rattle.replay_script.specs.Line.{IsInRange, ReadsBehind, Says};
+ghost use Rattle.replay_script.specs.Line.{IsInRange, ReadsBehind, Says, access_word};
+ghost use Rattle.replay_script.specs.declared.line.Access as declared_access;
 ghost use Rattle.replay_script.specs.declared.line.Line as declared;
 
 use crate::hexadecimal::script_bytes;
 use pixel_format::Fault;
 use std::alloc::Global;
+
+/// What a viewer of a script may do.
+#[derive(Clone, Copy, Debug, PartialEq, Eq)]
+pub enum Access {
+    /// See the screen and send input.
+    Full,
+    /// See the screen.
+    View,
+}
 
 /// What a line of a script says.
 #[derive(Debug, Drop)]
@@ -21,13 +31,17 @@ pub enum Line<'a> {
     /// The tally becomes the number of updates.
     Raise,
     /// A viewer joins, its hello done.
-    Open(u64),
+    Open(u64, Access),
     /// A viewer joins, and begins with its hello.
-    Greet(u64),
+    Greet(u64, Access),
     /// Bytes of a viewer.
     Viewer(u64, Vec<u8>),
     /// A turn of a viewer.
     Turn(u64),
+    /// A viewer leaves.
+    Leave(u64),
+    /// All inputs go to the host.
+    Input,
 }
 
 impl<'a> Line<'a> {
@@ -41,6 +55,9 @@ impl<'a> Line<'a> {
         if line == "raise" {
             return Ok(Some(Line::Raise));
         }
+        if line == "input" {
+            return Ok(Some(Line::Input));
+        }
         let Some((word, rest)) = split(line) else {
             return Ok(None);
         };
@@ -51,6 +68,7 @@ impl<'a> Line<'a> {
             "greet" => Ok(greet_line(rest)),
             "viewer" => viewer_line(alloc, rest),
             "turn" => Ok(turn_line(rest)),
+            "leave" => Ok(leave_line(rest)),
             _ => Ok(None),
         }
     }
@@ -126,30 +144,41 @@ fn host_line(alloc: Global, text: &str) -> Result<Option<Line<'static>>, Fault>
     }
 }
 
-/// `V full`
-fn full_viewer(text: &str) -> Option<u64>
-    ensures found { IfSome result (λ viewer. (1 ≤ viewer) × (viewer ≤ 64) × (text.now ≡ decimal viewer ++ (blank ∷ codes "full"))) }
-    ensures none { IfNone result ((n : ℕ) → 1 ≤ n → n ≤ 64 → text.now ≢ decimal n ++ (blank ∷ codes "full")) }
+/// `full` or `view`
+fn access_of(word: &str) -> Option<Access>
+    ensures found { IfSome result (λ access. word.now ≡ access_word access) }
+    ensures none { IfNone result ((access : declared_access.Access) → word.now ≢ access_word access) }
 {
-    let (viewer, role) = split(text)?;
-    if role != "full" {
-        return None;
+    match word {
+        "full" => Some(Access::Full),
+        "view" => Some(Access::View),
+        _ => None,
     }
-    viewer_number(viewer)
+}
+
+/// `V full` or `V view`
+fn place_of(text: &str) -> Option<(u64, Access)>
+    ensures found { IfSome result (λ place. (1 ≤ place.0) × (place.0 ≤ 64) × (text.now ≡ decimal place.0 ++ (blank ∷ access_word place.1))) }
+    ensures none { IfNone result ((n : ℕ) (access : declared_access.Access) → 1 ≤ n → n ≤ 64 → text.now ≢ decimal n ++ (blank ∷ access_word access)) }
+{
+    let (viewer, word) = split(text)?;
+    let access = access_of(word)?;
+    let viewer = viewer_number(viewer)?;
+    Some((viewer, access))
 }
 
 fn open_line(text: &str) -> Option<Line<'static>>
     ensures { ReadsBehind (codes "open") text.now result }
 {
-    let viewer = full_viewer(text)?;
-    Some(Line::Open(viewer))
+    let (viewer, access) = place_of(text)?;
+    Some(Line::Open(viewer, access))
 }
 
 fn greet_line(text: &str) -> Option<Line<'static>>
     ensures { ReadsBehind (codes "greet") text.now result }
 {
-    let viewer = full_viewer(text)?;
-    Some(Line::Greet(viewer))
+    let (viewer, access) = place_of(text)?;
+    Some(Line::Greet(viewer, access))
 }
 
 /// `V HEX`
@@ -175,4 +204,12 @@ fn turn_line(text: &str) -> Option<Line<'static>>
 {
     let viewer = viewer_number(text)?;
     Some(Line::Turn(viewer))
+}
+
+/// `V`
+fn leave_line(text: &str) -> Option<Line<'static>>
+    ensures { ReadsBehind (codes "leave") text.now result }
+{
+    let viewer = viewer_number(text)?;
+    Some(Line::Leave(viewer))
 }

@@ -9,7 +9,7 @@ take-requires c = rw c.bytes.ensures at c.in-Ok.ensures.within
 read : (c : goal.After-whole) → HasReadOne c.args.self.now (record { decoder = c.whole.new.self; painter = c.feed.new.painter; unread = c.take.new.self; waiting = c.self.inside.waiting }) c.whole.result
 read c =
     one_is_read (the_view c.self.inside) c.args.self.now c.feed.new.self c.whole.new.self c.feed.new.painter c.bytes.result.now c.take.new.self c.self.inside.waiting c.in-Ok.used c.whole.result
-    c.self.view_is c.requires.stands c.requires.none c.bytes.ensures (λ e. let no = (c.in-Ok.ensures.refused e).0 in absurd cc) (c.in-Ok.ensures.size.0, c.in-Ok.ensures.size.1) c.whole.ensures.size c.in-Ok.ensures.feeds c.whole.ensures.given
+    c.self.view_is c.requires.stands c.requires.none c.bytes.ensures (λ e. let no = (c.in-Ok.ensures.refused e).0 in absurd cc) (c.in-Ok.ensures.size.0, c.in-Ok.ensures.size.1) c.whole.ensures.size c.in-Ok.ensures.feeds (c.whole.ensures.given c.feed.new.painter)
     c.take.ensures refl
 
 pub returns-in-Ok-clause-size : goal.returns-in-Ok-clause-size

@@ -8,8 +8,8 @@ use Rattle.reflect_world.proofs.place.Place.cut.Goals as goal
 
 pub returns-clause-goes_on : goal.returns-clause-goes_on
 returns-clause-goes_on c =
-    let old : Held = record { session = c.self.inside.session; looked = c.self.inside.looked; written = c.self.inside.written.items } in
-    let new : Held = record { session = c.turn_at.new.self; looked = None; written = c.self.inside.written.items } in
+    let old : Held = record { session = c.self.inside.session; looked = c.self.inside.looked; written = c.self.inside.written.items; unread = c.self.inside.unread } in
+    let new : Held = record { session = c.turn_at.new.self; looked = None; written = c.self.inside.written.items; unread = c.self.inside.unread } in
     let us : List Update = c.args.screen.now.updates in
     subst (λ (before : Held). GoesOn before.looked before new us) c.self.view_is
     (subst (λ (looked : Option ℕ). GoesOn looked old new us) (sym c.in-Some.is)

@@ -9,7 +9,7 @@ pub returns-clause-ok : goal.returns-clause-ok
 returns-clause-ok c =
     let n : ℕ = c.min-count.result in
     let before : State = c.self.inside.session in
-    let new : Held = record { session = c.sent.new.self; looked = c.self.inside.looked; written = c.extend_from_slice.new.self.items } in
+    let new : Held = record { session = c.sent.new.self; looked = c.self.inside.looked; written = c.extend_from_slice.new.self.items; unread = c.self.inside.unread } in
     let piece = c.out-piece.result.now in
     let begins = c.out-piece.ensures.begins in
     let le : n ≤ length piece = omega (arith, c.min-count.ensures) in
@@ -17,7 +17,7 @@ returns-clause-ok c =
     let grown : c.extend_from_slice.new.self.items ≡ c.self.inside.written.items ++ take n piece = search rules in (
       subst (λ (old : Held). WritesSome old new n) c.self.view_is
           (record {
-            others = ap (λ (t : List ℕ). record { session = c.sent.new.self; looked = c.self.inside.looked; written = t }) (grown ∙ ap (λ (t : List ℕ). c.self.inside.written.items ++ t) first);
+            others = ap (λ (t : List ℕ). record { session = c.sent.new.self; looked = c.self.inside.looked; written = t; unread = c.self.inside.unread }) (grown ∙ ap (λ (t : List ℕ). c.self.inside.written.items ++ t) first);
             within = omega (arith, le, ap length begins.1, length-append piece begins.0);
             left = ap (λ (t : State). t.unsent) c.sent.ensures.unsent;
             fault = ap fault_in c.sent.ensures.unsent;

@@ -7,7 +7,7 @@ use Rattle.reflect_world.proofs.scene.Scene.look.Goals as goal
 pub returns-in-Some : goal.returns-in-Some
 returns-in-Some c =
     λ s w r.
-    subst (λ screen. Reached s (with_screen (with_place (record { screen = c.self.inside.screen; host = c.self.inside.host; host_fault = c.self.inside.host_fault; places = c.self.inside.places.items }) c.args.viewer c.look.new.self) screen) (happens s w (Look c.args.viewer))) (sym c.look-tally.ensures.same)
-    (looked_reaches (record { screen = c.self.inside.screen; host = c.self.inside.host; host_fault = c.self.inside.host_fault; places = c.self.inside.places.items }) c.args.viewer c.look-tally.result
+    subst (λ screen. Reached s (with_screen (with_place (record { screen = c.self.inside.screen; host = c.self.inside.host; host_fault = c.self.inside.host_fault; places = c.self.inside.places.items; room = c.self.inside.room; relay = c.self.inside.relay }) c.args.viewer c.look.new.self) screen) (happens s w (Look c.args.viewer))) (sym c.look-tally.ensures.same)
+    (looked_reaches (record { screen = c.self.inside.screen; host = c.self.inside.host; host_fault = c.self.inside.host_fault; places = c.self.inside.places.items; room = c.self.inside.room; relay = c.self.inside.relay }) c.args.viewer c.look-tally.result
     c.index_mut-slot.result.now c.in-Some.place c.look.new.self c.if-viewer-lt-PLACES.true c.index_mut-slot.ensures.value c.in-Some.is c.look-tally.ensures.value c.look.ensures s w
     (subst (λ (standing : Standing). Reached s standing w) (sym c.self.view_is) r))

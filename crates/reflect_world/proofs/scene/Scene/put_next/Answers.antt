@@ -10,7 +10,7 @@ use Rattle.reflect_world.proofs.scene.Scene.put_next.Goals as goal
 
 pub returns-in-Ok-Some-clause-ok : goal.returns-in-Ok-Some-clause-ok
 returns-in-Ok-Some-clause-ok c =
-    let old : Standing = record { screen = c.self.inside.screen; host = c.self.inside.host; host_fault = c.self.inside.host_fault; places = c.self.inside.places.items } in
+    let old : Standing = record { screen = c.self.inside.screen; host = c.self.inside.host; host_fault = c.self.inside.host_fault; places = c.self.inside.places.items; room = c.self.inside.room; relay = c.self.inside.relay } in
     let reads : ReadsOn old.host c.next_patch.new.self (Ok (Some c.in-Ok-Some.patch)) =
     subst (λ (found : Option SizedUpdate). ReadsOn old.host c.next_patch.new.self (Ok found)) c.in-Ok-Some.field-0-is c.in-Ok-Some.ensures.ok in
     subst (λ (standing : Standing). OnOk c.put.result (TakesStep Put standing c.put.new.self)) c.self.view_is
@@ -21,7 +21,7 @@ returns-in-Ok-Some-clause-ok c =
 pub returns-in-Ok-None-clause-ok : goal.returns-in-Ok-None-clause-ok
 returns-in-Ok-None-clause-ok c =
     λ s w r.
-    let old : Standing = record { screen = c.self.inside.screen; host = c.self.inside.host; host_fault = c.self.inside.host_fault; places = c.self.inside.places.items } in
+    let old : Standing = record { screen = c.self.inside.screen; host = c.self.inside.host; host_fault = c.self.inside.host_fault; places = c.self.inside.places.items; room = c.self.inside.room; relay = c.self.inside.relay } in
     let reads : ReadsOn old.host c.next_patch.new.self (Ok None) =
     subst (λ (found : Option SizedUpdate). ReadsOn old.host c.next_patch.new.self (Ok found)) c.in-Ok-None.field-0-is c.in-Ok-None.ensures.ok in
     none_reaches old c.next_patch.new.self c.in-Ok-None.ensures.same reads s w (subst (λ (standing : Standing). Reached s standing w) (sym c.self.view_is) r)
@@ -31,7 +31,7 @@ returns-in_default c =
     record {
       ok =
           λ s w r.
-          let old : Standing = record { screen = c.self.inside.screen; host = c.self.inside.host; host_fault = c.self.inside.host_fault; places = c.self.inside.places.items } in
+          let old : Standing = record { screen = c.self.inside.screen; host = c.self.inside.host; host_fault = c.self.inside.host_fault; places = c.self.inside.places.items; room = c.self.inside.room; relay = c.self.inside.relay } in
           err_reaches old c.next_patch.new.self c.in-Err.fault c.in-Err.ensures.same c.in_default.not-Memory c.in-Err.ensures.err s w
           (subst (λ (standing : Standing). Reached s standing w) (sym c.self.view_is) r);
       err = tt;

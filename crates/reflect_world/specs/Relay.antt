@@ -1,0 +1,44 @@
+-- Inputs on their way to the host (RFC 6143, 7.5.4 to 7.5.6).
+use Rattle.std.specs.Prelude.{◌≡◌, ℕ, List, [], ◌∷◌, ◌++◌, map}
+use Rattle.std.specs.List.{flat_map}
+use Rattle.rfb_wire.specs.Writing.{key_bytes, pointer_bytes, client_text_bytes}
+use Rattle.roles.specs.Allowed.{Input, Key, Pointer, Cut}
+use Rattle.roles.specs.Held.{input_in}
+use Rattle.reflect_world.specs.Schedule.{Relayed}
+use Rattle.reflect_world.specs.declared.relay.Entry as declared
+
+-- The spelling of an input.
+abbrev pub input_bytes : Input → List ℕ
+input_bytes (Key down key) = key_bytes down key
+input_bytes (Pointer mask x y) = pointer_bytes mask x y
+input_bytes (Cut text) = client_text_bytes text
+
+-- That of inputs, one after another.
+abbrev pub spelled : List Input → List ℕ
+spelled inputs = flat_map input_bytes inputs
+
+-- The input of a viewer that one in the code stands for.
+abbrev pub relayed_in : declared.Entry → Relayed
+relayed_in entry = record { viewer = entry.viewer; input = input_in entry.input }
+
+-- The queue, what was taken of it, and for how many more there is memory.
+pub record RelaySide : Type 0 where
+  pub queue : List Relayed
+  pub taken : List Relayed
+  pub spare : ℕ
+
+-- What was taken, as inputs.
+abbrev pub inputs_of : List Relayed → List Input
+inputs_of relayed = map (λ (it : Relayed). it.input) relayed
+
+-- The first of the queue was taken, if there was one.
+abbrev pub takes_from : List Relayed → List Relayed → (queue taken : List Relayed) → Type 0
+takes_from [] were queue taken = (queue ≡ []) × (taken ≡ were)
+takes_from (first ∷ left) were queue taken = (queue ≡ left) × (taken ≡ were ++ first ∷ [])
+
+abbrev pub TakesFirst : RelaySide → RelaySide → Type 0
+TakesFirst old new = takes_from old.queue old.taken new.queue new.taken
+
+-- Inputs of a viewer.
+abbrev pub relayed_of : ℕ → List Input → List Relayed
+relayed_of v inputs = map (λ i. record { viewer = v; input = i }) inputs

@@ -1,0 +1,157 @@
+//! Inputs on their way to the host.
+
+ghost use Rattle.std.specs.Prelude.{◌≡◌, ◌+◌, ◌<◌, ◌≤◌, [], ◌∷◌, ◌++◌, length, OnOk, IfErr};
+ghost use Rattle.pixel_format.specs.declared.fault.Fault.TheVariants.{Memory};
+ghost use Rattle.roles.specs.Held.{input_in};
+ghost use Rattle.rfb_wire.specs.ClientMessage.{longest_text};
+ghost use Rattle.rfb_wire.specs.Writing.{client_text_bytes};
+ghost use Rattle.reflect_world.specs.Relay.{TakesFirst, input_bytes, inputs_of, spelled};
+
+use pixel_format::Fault;
+use rfb_wire::{CLIENT_CUT_TEXT, write_key, write_pointer};
+use roles::Input;
+use std::alloc::Global;
+use std::marker::Model;
+
+/// An input, and the number of the viewer that it came from.
+#[derive(Drop)]
+pub struct Entry {
+    viewer: u64,
+    input: Input,
+}
+
+/// The inputs of all viewers, in the order in which they came; how many of them went to the host; and the bytes that it was sent.
+#[derive(Drop)]
+pub struct Relay {
+    entries: Vec<Entry>,
+    taken: usize,
+    sent: Vec<u8>,
+}
+
+impl Model for Relay {
+    ghost use Rattle.std.specs.Prelude.{◌≡◌, ◌≤◌, ◌-◌, drop, length, map, take, vec_capacity, vec_len};
+    ghost use Rattle.reflect_world.specs.Relay.{RelaySide, inputs_of, relayed_in, spelled};
+
+    ghost Value = { RelaySide };
+
+    ghost view = { λ r. record {
+      queue = drop r.taken (map relayed_in r.entries.items);
+      taken = take r.taken (map relayed_in r.entries.items);
+      spare = vec_capacity r.entries - vec_len r.entries;
+    } };
+
+    ghost invariant = { λ r. (r.taken ≤ length r.entries.items) × (r.sent.items ≡ spelled (inputs_of (take r.taken (map relayed_in r.entries.items)))) };
+}
+
+impl Relay {
+    /// No input is on its way, and none was sent.
+    pub fn new(alloc: Global) -> Self
+        ensures { (result.queue ≡ []) × (result.taken ≡ []) }
+    {
+        Relay {
+            entries: Vec::new(alloc),
+            taken: 0,
+            sent: Vec::new(alloc),
+        }
+    }
+
+    /// How many inputs are in the queue.
+    pub fn len(&self) -> u64
+        ensures { result ≡ length self.now.queue }
+    {
+        (self.entries.len() - self.taken) as u64
+    }
+
+    /// All that the host was sent: the spellings of the inputs taken, in order.
+    pub fn sent(&self) -> &[u8]
+        ensures { result.now ≡ spelled (inputs_of self.now.taken) }
+    {
+        self.sent.as_slice()
+    }
+
+    /// Makes room for so many more inputs. Where memory is refused (`Memory`) nothing has changed.
+    pub fn reserve(&mut self, more: usize) -> Result<(), Fault>
+        ensures others { self.new ≡ record self.old { spare = self.new.spare } }
+        ensures ok { OnOk result (more ≤ self.new.spare) }
+        ensures err { IfErr result (λ fault. (fault ≡ Memory) × (self.new ≡ self.old)) }
+    {
+        match self.entries.reserve(more) {
+            Ok(()) => Ok(()),
+            Err(_) => Err(Fault::Memory),
+        }
+    }
+
+    /// An input of a viewer goes into the queue, for which there is room.
+    pub fn push(&mut self, viewer: u64, input: Input)
+        requires { 0 < self.old.spare }
+        ensures queue { self.new.queue ≡ self.old.queue ++ record { viewer = viewer; input = input_in input } ∷ [] }
+        ensures taken { self.new.taken ≡ self.old.taken }
+        ensures spare { self.old.spare ≤ self.new.spare + 1 }
+    {
+        let Ok(()) = self.entries.push(Entry { viewer, input }) else {
+            unreachable!()
+        };
+    }
+
+    /// The input that waited longest goes to the host, if there is one. Where memory is refused (`Memory`) nothing has changed.
+    pub fn take(&mut self) -> Result<(), Fault>
+        ensures ok { OnOk result (TakesFirst self.old self.new) }
+        ensures err { IfErr result (λ fault. (fault ≡ Memory) × (self.new ≡ self.old)) }
+    {
+        if self.taken == self.entries.len() {
+            return Ok(());
+        }
+        let entry = &self.entries[self.taken];
+        spell(&entry.input, &mut self.sent)?;
+        self.taken += 1;
+        Ok(())
+    }
+}
+
+// Adds the spelling of an input. Where memory is refused nothing has changed.
+fn spell(input: &Input, out: &mut Vec<u8>) -> Result<(), Fault>
+    ensures ok { OnOk result (out.new.items ≡ out.old.items ++ input_bytes (input_in input.now)) }
+    ensures err { IfErr result (λ fault. (fault ≡ Memory) × (out.new.items ≡ out.old.items)) }
+{
+    match input {
+        Input::Key { down, key } => {
+            let mut bytes = [0; 8];
+            write_key(*down, *key, &mut bytes);
+            add(&bytes, out)
+        }
+        Input::Pointer { mask, x, y } => {
+            let mut bytes = [0; 6];
+            write_pointer(*mask, *x, *y, &mut bytes);
+            add(&bytes, out)
+        }
+        Input::Cut(text) => spell_text(text.as_slice(), out),
+    }
+}
+
+// Adds a ClientCutText: its head, and then the text.
+fn spell_text(text: &[u8], out: &mut Vec<u8>) -> Result<(), Fault>
+    requires { length text.now ≤ longest_text }
+    ensures ok { OnOk result (out.new.items ≡ out.old.items ++ client_text_bytes text.now) }
+    ensures err { IfErr result (λ fault. (fault ≡ Memory) × (out.new.items ≡ out.old.items)) }
+{
+    let before = out.len();
+    let [n3, n2, n1, n0] = (text.len() as u32).to_be_bytes();
+    add(&[CLIENT_CUT_TEXT, 0, 0, 0, n3, n2, n1, n0], out)?;
+    match add(text, out) {
+        Ok(()) => Ok(()),
+        Err(fault) => {
+            out.truncate(before);
+            Err(fault)
+        }
+    }
+}
+
+fn add(bytes: &[u8], out: &mut Vec<u8>) -> Result<(), Fault>
+    ensures ok { OnOk result (out.new.items ≡ out.old.items ++ bytes.now) }
+    ensures err { IfErr result (λ fault. (fault ≡ Memory) × (out.new.items ≡ out.old.items)) }
+{
+    match out.extend_from_slice(bytes) {
+        Ok(()) => Ok(()),
+        Err(_) => Err(Fault::Memory),
+    }
+}
