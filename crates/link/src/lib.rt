@@ -7,7 +7,9 @@
 mod join;
 mod link;
 mod memory_link;
+mod waiting;
 
 pub use join::join_host;
 pub use link::{Gave, Link, Took};
 pub use memory_link::MemoryLink;
+pub use waiting::{Rest, StopFlag};

@@ -1,0 +1,102 @@
+-- What the host is told once it is joined: the input taken of the relay, and a request for each rise of a look
+-- (RFC 6143, 7.5.3 to 7.5.6; own).
+use Rattle.std.specs.Prelude.{◌≡◌, ℕ, ◌≤◌, ◌<◌, ◌⊎◌, max, nat_lt, if◌then◌else◌, Bool, true, false, List, [], ◌∷◌, ◌++◌, length, Result, Ok, Err}
+use Rattle.pixel_format.specs.declared.fault.Fault.{Fault}
+use Rattle.pixel_format.specs.declared.fault.Fault.TheVariants.{LinkEnded, LinkFailed}
+use Rattle.rfb_wire.specs.Writing.{key_bytes, pointer_bytes, client_text_bytes, request_bytes}
+use Rattle.roles.specs.Allowed.{Input, Key, Pointer, Cut}
+use Rattle.roles.specs.Held.{input_in}
+use Rattle.link.specs.Links.{LinkState, HasRisen}
+use Rattle.host_writer.specs.Halting.{HaltsAt}
+use Rattle.host_writer.specs.declared.give.Halt.{Halt}
+use Rattle.host_writer.specs.declared.give.Halt.TheVariants as halt
+use Rattle.input_relay.specs.declared.queue.Message.{Message}
+
+-- The spelling of an input.
+abbrev pub input_bytes : Input → List ℕ
+input_bytes (Key down key) = key_bytes down key
+input_bytes (Pointer mask x y) = pointer_bytes mask x y
+input_bytes (Cut text) = client_text_bytes text
+
+-- One incremental request of the whole screen.
+abbrev pub whole_request : ℕ → ℕ → List ℕ
+whole_request w h = request_bytes true (record { x = 0; y = 0; w = w; h = h })
+
+-- What a writer does: it takes an input of the relay; it looks at its source, with the reply.
+pub data Did : Type 0 where
+  Took : Message → Did
+  Saw : (number : ℕ) → Did
+
+-- A list of these has the latest first.
+
+-- The inputs taken, in order.
+abbrev pub taken_in : List Did → List Message
+taken_in [] = []
+taken_in (Took message ∷ ds) = taken_in ds ++ message ∷ []
+taken_in (Saw number ∷ ds) = taken_in ds
+
+-- What its looks have risen to: the greatest reply, 0 at first.
+abbrev pub risen_to : List Did → ℕ
+risen_to [] = 0
+risen_to (Took message ∷ ds) = risen_to ds
+risen_to (Saw number ∷ ds) = max (risen_to ds) number
+
+-- What it says behind all it did: an input, or where its look has risen a request.
+abbrev pub says : ℕ → ℕ → Did → List Did → List ℕ
+says w h (Took message) ds = input_bytes (input_in message.input)
+says w h (Saw number) ds = if nat_lt (risen_to ds) number then whole_request w h else []
+
+-- All that it says, in order.
+abbrev pub said : ℕ → ℕ → List Did → List ℕ
+said w h [] = []
+said w h (d ∷ ds) = said w h ds ++ says w h d ds
+
+-- The last of it.
+abbrev pub last_said : ℕ → ℕ → List Did → List ℕ
+last_said w h [] = []
+last_said w h (d ∷ ds) = says w h d ds
+
+-- Its looks are all that was done to the source, each with the source's own reply.
+abbrev pub Looked : {S : Type 0} → (S → ℕ → S → Type 0) → S → List Did → S → Type 0
+Looked {S} looks old [] new = new ≡ old
+Looked {S} looks old (Took message ∷ ds) new = Looked looks old ds new
+Looked {S} looks old (Saw number ∷ ds) new = (before : S) × Looked looks old ds before × looks before number new
+
+-- How it ends, where so much of what was said last isn't given. It is Ok where the flag was set, and where the link
+-- said that it ended before the first byte of a spelling; else the link said that inside one, or failed.
+abbrev pub EndsWriting : (was_set : Type 0) → Result (Unit {0}) Fault → (old new : LinkState) → (left last : List ℕ) → Type 0
+EndsWriting was_set (Ok done) old new left last =
+    (was_set × (new.failed ≡ old.failed) × (new.ended ≡ old.ended) × (length left ≤ length last)) ⊎ (HasRisen old.ended new.ended × (new.failed ≡ old.failed) × (left ≡ last) × (0 < length last))
+EndsWriting was_set (Err LinkEnded) old new left last = HasRisen old.ended new.ended × (0 < length left) × (length left < length last)
+EndsWriting was_set (Err LinkFailed) old new left last = HasRisen old.failed new.failed × (0 < length left) × (length left ≤ length last)
+EndsWriting was_set (Err fault) old new left last = ⊥
+
+-- What is answered where giving leaves off so.
+abbrev pub answer_at : Halt → Result (Unit {0}) Fault
+answer_at halt.Stopped = Ok tt
+answer_at halt.Before = Ok tt
+answer_at halt.Inside = Err LinkEnded
+answer_at halt.Failed = Err LinkFailed
+
+-- The host was given what the writer says, but for the end of what it said last.
+pub record Writes {S : Type 0} (looks : S → ℕ → S → Type 0) (was_set : Type 0) (source_old source_new : S) (taken_old taken_new : List Message) (w h : ℕ) (answer : Result (Unit {0}) Fault) (old new : LinkState) : Type 0 where
+  pub did : List Did
+  pub left : List ℕ
+  pub inputs : taken_new ≡ taken_old ++ taken_in did
+  pub looked : Looked looks source_old did source_new
+  pub given : new.given ++ left ≡ old.given ++ said w h did
+  pub taken : new.taken ≡ old.taken
+  pub ends : EndsWriting was_set answer old new left (last_said w h did)
+
+-- ---- on the way
+
+-- An input was taken and given, or there was none.
+abbrev pub Tells : Bool → (taken_old taken_new : List Message) → (old new : LinkState) → Type 0
+Tells true taken_old taken_new old new = (message : Message) × (taken_new ≡ taken_old ++ message ∷ []) × (new ≡ record old { given = old.given ++ input_bytes (input_in message.input) })
+Tells false taken_old taken_new old new = (taken_new ≡ taken_old) × (new ≡ old)
+
+-- Giving left off in the spelling of an input that was taken.
+pub record HaltsTelling (was_set : Type 0) (halt : Halt) (taken_old taken_new : List Message) (old new : LinkState) : Type 0 where
+  pub message : Message
+  pub took : taken_new ≡ taken_old ++ message ∷ []
+  pub halts : HaltsAt was_set halt old new (input_bytes (input_in message.input))

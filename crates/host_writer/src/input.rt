@@ -1,0 +1,79 @@
+//! The input of viewers, taken of the relay and given to the host.
+
+ghost use Rattle.std.specs.Prelude.{◌≡◌, ◌≤◌, ◌++◌, length, IfOk, OnOk, IfErr};
+ghost use Rattle.rfb_wire.specs.ClientMessage.{longest_text};
+ghost use Rattle.rfb_wire.specs.Writing.{client_text_bytes};
+ghost use Rattle.roles.specs.Held.{input_in};
+ghost use Rattle.input_relay.specs.Ends.{taken_of};
+ghost use Rattle.host_writer.specs.Halting.{HaltsAt};
+ghost use Rattle.host_writer.specs.Writing.{HaltsTelling, Tells, input_bytes};
+
+use crate::give::{Halt, give_all};
+use input_relay::Taker;
+use link::{Link, StopFlag};
+use rfb_wire::{CLIENT_CUT_TEXT, write_key, write_pointer};
+use roles::Input;
+use std::sync::Wait;
+
+/// Gives a ClientCutText, its head and then the text, which needn't be copied.
+fn give_text<L: Link, F: StopFlag, R: Wait>(
+    rt: &R,
+    link: &mut L,
+    stop: &F,
+    text: &[u8],
+) -> Result<(), Halt>
+    requires { length text.now ≤ longest_text }
+    ensures ok { OnOk result (L.state link.new ≡ record (L.state link.old) { given = (L.state link.old).given ++ client_text_bytes text.now }) }
+    ensures err { IfErr result (λ halt. HaltsAt (F.was_set stop.now) halt (L.state link.old) (L.state link.new) (client_text_bytes text.now)) }
+{
+    let [n3, n2, n1, n0] = (text.len() as u32).to_be_bytes();
+    give_all(rt, link, stop, &[CLIENT_CUT_TEXT, 0, 0, 0, n3, n2, n1, n0])?;
+    match give_all(rt, link, stop, text) {
+        Err(Halt::Before) => Err(Halt::Inside),
+        answer => answer,
+    }
+}
+
+/// Gives the spelling of an input.
+fn give_input<L: Link, F: StopFlag, R: Wait>(
+    rt: &R,
+    link: &mut L,
+    stop: &F,
+    input: &Input,
+) -> Result<(), Halt>
+    ensures ok { OnOk result (L.state link.new ≡ record (L.state link.old) { given = (L.state link.old).given ++ input_bytes (input_in input.now) }) }
+    ensures err { IfErr result (λ halt. HaltsAt (F.was_set stop.now) halt (L.state link.old) (L.state link.new) (input_bytes (input_in input.now))) }
+{
+    match input {
+        Input::Key { down, key } => {
+            let mut bytes = [0; 8];
+            write_key(*down, *key, &mut bytes);
+            give_all(rt, link, stop, &bytes)
+        }
+        Input::Pointer { mask, x, y } => {
+            let mut bytes = [0; 6];
+            write_pointer(*mask, *x, *y, &mut bytes);
+            give_all(rt, link, stop, &bytes)
+        }
+        Input::Cut(text) => give_text(rt, link, stop, text.as_slice()),
+    }
+}
+
+/// Takes the next input of the relay and gives its spelling. It answers whether there was one.
+pub(crate) fn tell_input<L: Link, T: Wait + Drop, F: StopFlag, R: Wait>(
+    rt: &R,
+    link: &mut L,
+    taker: &mut Taker<T>,
+    stop: &F,
+) -> Result<bool, Halt>
+    ensures ok { IfOk result (λ is_told. Tells is_told (taken_of taker.old) (taken_of taker.new) (L.state link.old) (L.state link.new)) }
+    ensures err { IfErr result (λ halt. HaltsTelling (F.was_set stop.now) halt (taken_of taker.old) (taken_of taker.new) (L.state link.old) (L.state link.new)) }
+{
+    match taker.take() {
+        Some((_, input)) => {
+            give_input(rt, link, stop, &input)?;
+            Ok(true)
+        }
+        None => Ok(false),
+    }
+}

@@ -1,0 +1,84 @@
+//! The loop that tells the host.
+
+ghost use Rattle.std.specs.Prelude.{◌≡◌, ℕ};
+ghost use Rattle.raster.specs.Size.{IsScreenSize};
+ghost use Rattle.input_relay.specs.Ends.{taken_of};
+ghost use Rattle.host_writer.specs.Writing.{Writes, answer_at, whole_request};
+
+use crate::give::{Halt, give_all};
+use crate::input::tell_input;
+use input_relay::Taker;
+use link::{Link, Rest, StopFlag};
+use pixel_format::Fault;
+use raster::Rect;
+use reflect_core::ScreenSource;
+use rfb_wire::write_request;
+use std::sync::Wait;
+
+/// One incremental request of the whole screen.
+fn request_of(width: u64, height: u64) -> [u8; 10]
+    requires { IsScreenSize width height }
+    ensures { result ≡ whole_request width height }
+{
+    let screen = Rect {
+        x: 0,
+        y: 0,
+        w: width,
+        h: height,
+    };
+    let mut request = [0; 10];
+    write_request(true, &screen, &mut request);
+    request
+}
+
+/// What a run answers that leaves off so.
+fn answer_at(halt: Halt) -> Result<(), Fault>
+    ensures { result ≡ answer_at halt }
+{
+    match halt {
+        Halt::Stopped | Halt::Before => Ok(()),
+        Halt::Inside => Err(Fault::LinkEnded),
+        Halt::Failed => Err(Fault::LinkFailed),
+    }
+}
+
+/// Tells the host each input that it takes of the relay, one after another, and asks once for what is new of the whole
+/// screen each time its look has risen, over 0 at first (RFC 6143, 7.5.3). It rests where there was nothing to tell.
+///
+/// It is `Ok` where the flag is set, and where the link ends before the first byte of a spelling. `LinkEnded` where it
+/// ends inside one, and `LinkFailed` where it fails. Of what was said last the link may then lack the end.
+pub fn run_writer<L: Link, S: ScreenSource, T: Wait + Drop, F: StopFlag, Z: Rest, R: Wait>(
+    rt: &R,
+    link: &mut L,
+    source: &mut S,
+    taker: &mut Taker<T>,
+    stop: &F,
+    rest: &Z,
+) -> Result<(), Fault>
+    requires { IsScreenSize (S.width source.old) (S.height source.old) }
+    ensures { Writes S.looks (F.was_set stop.now) source.old source.new (taken_of taker.old) (taken_of taker.new) (S.width source.old) (S.height source.old) result (L.state link.old) (L.state link.new) }
+{
+    let (width, height) = source.size();
+    let request = request_of(width, height);
+    let mut asked = 0;
+    for _ in rt.forever() {
+        if stop.is_set() {
+            return Ok(());
+        }
+        let is_told = match tell_input(rt, link, taker, stop) {
+            Ok(is_told) => is_told,
+            Err(halt) => return answer_at(halt),
+        };
+        let looked = source.look();
+        if asked < looked {
+            asked = looked;
+            match give_all(rt, link, stop, &request) {
+                Ok(()) => {}
+                Err(halt) => return answer_at(halt),
+            }
+        } else if !is_told {
+            rest.rest(rt);
+        }
+    }
+    unreachable!()
+}

@@ -1,0 +1,13 @@
+-- What one who follows a served viewer's answers holds (own).
+use Rattle.std.specs.Prelude.{◌≤◌, Bool, List}
+use Rattle.raster.specs.Update.{Update}
+use Rattle.roles.specs.declared.role.Role.{Role}
+use Rattle.viewer_session.specs.Extent.{GivesAccepted}
+use Rattle.viewer_session.specs.Viewer.{Setup, new_viewer}
+use Rattle.viewer_server.specs.Serving.{Act, AllMayBe, EachAnswerHolds, viewer_after}
+
+-- That, of each viewer for which no more was done than may be.
+abbrev pub HoldsAfterEachAnswer : Type 0
+HoldsAfterEachAnswer =
+    (s : Setup) → s.w ≤ 4096 → s.h ≤ 4096 → GivesAccepted s.extent.from_viewer
+    → (us : List Update) (role : Role) (greet : Bool) (acts : List Act) → AllMayBe s us (new_viewer s role greet) acts → EachAnswerHolds s us (viewer_after s us (new_viewer s role greet) acts)

@@ -1,0 +1,158 @@
+-- Serving one viewer: what is done for it, what it is given, and what of its input goes to the host (the steps are
+-- those of a schedule; own).
+use Rattle.std.specs.Prelude.{◌≡◌, ℕ, ◌+◌, ◌≤◌, ◌<◌, ◌⊎◌, Bool, true, false, is_some, List, [], ◌∷◌, ◌++◌, length, take, drop, Option, Some, None, Result, Ok, Err}
+use Rattle.pixel_format.specs.declared.fault.Fault.{Fault}
+use Rattle.pixel_format.specs.declared.fault.Fault.TheVariants.{LinkEnded, LinkFailed, Gone, QueueFull}
+use Rattle.raster.specs.declared.rect.Rect.{Rect}
+use Rattle.raster.specs.Update.{Update}
+use Rattle.update_encoder.specs.Follower.{follower, HoldsArea}
+use Rattle.roles.specs.Allowed.{Input, allowed}
+use Rattle.roles.specs.Held.{Kept, HeldStands}
+use Rattle.link.specs.Links.{LinkState, HasRisen}
+use Rattle.reflect_core.specs.Sequential.{Begins}
+use Rattle.viewer_session.specs.Record.{Entry, Took, Saw, MadeCut, Began, NumbersUpTo, messages_in, received}
+use Rattle.viewer_session.specs.Turn.{has_reason}
+use Rattle.viewer_session.specs.Viewer.{Setup, Viewer, out_bytes, may_look, viewer_fault, after_bytes, after_cut}
+use Rattle.viewer_session.specs.Session.{State, Stands, IsBetween, after_look, after_writing, with_marks, without_input}
+
+-- What is done for a viewer: bytes of it come, with a mark for each text that becomes whole in them; it has a turn,
+-- with the reply of its look and, where it is cut, the number of the cut; so many more bytes of its hello and answers
+-- are written; its input that waits goes to the sink.
+pub data Act : Type 0 where
+  Bytes : (marks : List Bool) → (bytes : List ℕ) → Act
+  Turn : (looked : ℕ) → (cut : Option ℕ) → Act
+  Written : (count : ℕ) → Act
+  Passed : Act
+
+-- A list of acts has the latest first.
+
+-- What a turn makes of a viewer, where these are the updates: a cut is of the first of them.
+abbrev pub after_turn : Setup → List Update → (looked : ℕ) → Option ℕ → Viewer → Viewer
+after_turn s us looked None p = after_look looked p
+after_turn s us looked (Some n) p = after_cut s (take n us) (after_look looked p)
+
+-- What an act makes of it.
+abbrev pub after_act : Setup → List Update → Act → Viewer → Viewer
+after_act s us (Bytes marks bytes) p = after_bytes s (with_marks marks p) bytes
+after_act s us (Turn looked cut) p = after_turn s us looked cut p
+after_act s us (Written count) p = after_writing count p
+after_act s us Passed p = without_input p
+
+-- What all of them make of it.
+abbrev pub viewer_after : Setup → List Update → Viewer → List Act → Viewer
+viewer_after s us p [] = p
+viewer_after s us p (act ∷ acts) = after_act s us act (viewer_after s us p acts)
+
+-- A turn cuts where there is reason, at a number of updates that is at least each number that was seen or cut at.
+abbrev pub CutsWell : Setup → List Update → Viewer → (looked : ℕ) → Option ℕ → Type 0
+CutsWell s us p looked None = has_reason s.w s.h p.entries looked ≡ false
+CutsWell s us p looked (Some n) = (has_reason s.w s.h p.entries looked ≡ true) × (n ≤ length us) × NumbersUpTo n (Saw looked ∷ p.entries)
+
+-- An act may be done for the viewer. No bytes are read while an input waits. It has a turn only where all of its bytes
+-- are written, its hello is done and it has no fault.
+abbrev pub MayBe : Setup → List Update → Viewer → Act → Type 0
+MayBe s us p (Bytes marks bytes) = p.waiting ≡ None
+MayBe s us p (Turn looked cut) = (may_look s p ≡ true) × (looked ≤ length us) × CutsWell s us p looked cut
+MayBe s us p (Written count) = p.written + count ≤ length (out_bytes s p)
+MayBe s us p Passed = is_some p.waiting ≡ true
+
+-- Each of them may be done behind those before it.
+abbrev pub AllMayBe : Setup → List Update → Viewer → List Act → Type 0
+AllMayBe s us p [] = Unit {0}
+AllMayBe s us p (act ∷ acts) = AllMayBe s us p acts × MayBe s us (viewer_after s us p acts) act
+
+-- The looks of the turns are all that was done to the source, each with the source's own reply, but for the cuts behind
+-- them.
+abbrev pub IsShown : {S : Type 0} → (S → ℕ → S → Type 0) → (S → S → Type 0) → S → List Act → S → Type 0
+IsShown {S} looks moves old [] new = new ≡ old
+IsShown {S} looks moves old (Bytes marks bytes ∷ acts) new = IsShown looks moves old acts new
+IsShown {S} looks moves old (Turn looked cut ∷ acts) new = (before : S) × (behind : S) × IsShown looks moves old acts before × looks before looked behind × moves behind new
+IsShown {S} looks moves old (Written count ∷ acts) new = IsShown looks moves old acts new
+IsShown {S} looks moves old (Passed ∷ acts) new = IsShown looks moves old acts new
+
+-- The bytes that came, in order.
+abbrev pub bytes_in : List Act → List ℕ
+bytes_in [] = []
+bytes_in (Bytes marks bytes ∷ acts) = bytes_in acts ++ bytes
+bytes_in (Turn looked cut ∷ acts) = bytes_in acts
+bytes_in (Written count ∷ acts) = bytes_in acts
+bytes_in (Passed ∷ acts) = bytes_in acts
+
+-- A turn was had since the last message was taken.
+abbrev pub has_turned : List Entry → Bool
+has_turned [] = false
+has_turned (Took message ∷ es) = false
+has_turned (Saw number ∷ es) = true
+has_turned (MadeCut number ∷ es) = has_turned es
+has_turned (Began area number bytes ∷ es) = has_turned es
+
+-- The record before the last message was taken.
+abbrev pub before_last : List Entry → List Entry
+before_last [] = []
+before_last (Took message ∷ es) = es
+before_last (Saw number ∷ es) = before_last es
+before_last (MadeCut number ∷ es) = before_last es
+before_last (Began area number bytes ∷ es) = before_last es
+
+-- All is done for the viewer: it stands between two messages behind its hello, no input waits, a turn was had since the
+-- last message, and all bytes of hello and answers were written.
+pub record IsDone (s : Setup) (p : Viewer) : Type 0 where
+  pub between : IsBetween s p
+  pub passed : p.waiting ≡ None
+  pub turned : has_turned p.entries ≡ true
+  pub written : p.written ≡ length (out_bytes s p)
+
+-- The link ended while bytes were unsent, or elsewhere than between two messages behind the hello; or it failed.
+abbrev pub HaltsBy : Fault → Setup → Viewer → (failed_old failed_new : ℕ) → (ended_old ended_new : ℕ) → Type 0
+HaltsBy LinkEnded s p failed_old failed_new ended_old ended_new = HasRisen ended_old ended_new × ((p.written < length (out_bytes s p)) ⊎ (IsBetween s p → ⊥))
+HaltsBy LinkFailed s p failed_old failed_new ended_old ended_new = HasRisen failed_old failed_new
+HaltsBy fault s p failed_old failed_new ended_old ended_new = ⊥
+
+abbrev pub LinkHalts : Fault → Setup → Viewer → (old new : LinkState) → Type 0
+LinkHalts fault s p old new = HaltsBy fault s p old.failed new.failed old.ended new.ended
+
+-- The sink has refused an input for good.
+abbrev pub IsRefused : (may_refuse : Fault → Type 0) → Fault → Type 0
+IsRefused may_refuse fault = may_refuse fault × (fault ≡ QueueFull → ⊥)
+
+-- The flag was set; the link said that it ended, and all was done; the viewer is at this fault; the source has ended,
+-- which was looked at once more; the sink refused an input for good; or the link halted.
+abbrev pub EndsServing : {S : Type 0} → (refused : S → S → Type 0) → (may_end was_set : Type 0) → (may_refuse : Fault → Type 0) → (behind new : S) → Setup → Viewer → Result (Unit {0}) Fault → (old new : LinkState) → Type 0
+EndsServing {S} refused may_end was_set may_refuse behind source s p (Ok done) old new =
+    (source ≡ behind) × (new.failed ≡ old.failed) × ((was_set × (new.ended ≡ old.ended)) ⊎ (HasRisen old.ended new.ended × IsDone s p))
+EndsServing {S} refused may_end was_set may_refuse behind source s p (Err fault) old new =
+    ((source ≡ behind) × ((viewer_fault p ≡ Some fault) ⊎ (IsRefused may_refuse fault ⊎ LinkHalts fault s p old new))) ⊎ ((fault ≡ Gone) × may_end × refused behind source)
+
+-- The sink took a beginning of what is allowed of the viewer, which has left: first the input of its messages, in
+-- order, then the releases; all that the messages before the last bring; and all of it, unless the flag was set or it
+-- refused for good.
+pub record Relays (was_set : Type 0) (may_refuse : Fault → Type 0) (p : Viewer) (sent_old sent_new : List Input) : Type 0 where
+  pub sent : List Input
+  pub took : sent_new ≡ sent_old ++ sent
+  pub begins : Begins sent (allowed p.role (messages_in p.entries) true)
+  pub all_but_last : Begins (allowed p.role (messages_in (before_last p.entries)) false) sent
+  pub whole : (sent ≡ allowed p.role (messages_in p.entries) true) ⊎ (was_set ⊎ ((fault : Fault) × IsRefused may_refuse fault))
+
+-- After an answer one who follows all answers holds the area asked for, of the screen after the first n of these
+-- updates, in the format last taken before the cut; and n is at least every number that was seen or cut at before.
+abbrev pub EachAnswerHolds : Setup → List Update → Viewer → Type 0
+EachAnswerHolds s us p =
+    (later earlier : List Entry) (area : Rect) (n : ℕ) (bytes : List ℕ) → p.entries ≡ later ++ Began area n bytes ∷ earlier
+    → (n ≤ length us) × NumbersUpTo n earlier × HoldsArea (follower s.w s.h (received (Began area n bytes ∷ earlier))) area (take n us)
+
+-- A viewer was served: the acts that were done for it are such as may be done; all bytes that were taken are read, but
+-- for those behind a message whose input waits; what it was given is the beginning of its hello and answers that counts
+-- as written; one who follows its answers holds what was asked for; and what the sink took is of its input.
+pub record Serves {S : Type 0} (looks : S → ℕ → S → Type 0) (moves refused : S → S → Type 0) (may_end was_set : Type 0) (may_refuse : Fault → Type 0) (source_old source_new : S) (us : List Update) (s : Setup) (p : Viewer)
+    (sent_old sent_new : List Input) (answer : Result (Unit {0}) Fault) (old new : LinkState) : Type 0 where
+  pub acts : List Act
+  pub behind : S
+  pub left : List ℕ
+  pub may_be : AllMayBe s us p acts
+  pub shown : IsShown looks moves source_old acts behind
+  pub taken : new.taken ≡ old.taken ++ (bytes_in acts ++ left)
+  pub unread : (left ≡ []) ⊎ (is_some (viewer_after s us p acts).waiting ≡ true)
+  pub given : new.given ≡ old.given ++ take (viewer_after s us p acts).written (out_bytes s (viewer_after s us p acts))
+  pub holds : s.w ≤ 4096 → s.h ≤ 4096 → EachAnswerHolds s us (viewer_after s us p acts)
+  pub relays : Relays was_set may_refuse (viewer_after s us p acts) sent_old sent_new
+  pub ends : EndsServing refused may_end was_set may_refuse behind source_new s (viewer_after s us p acts) answer old new

@@ -1,0 +1,48 @@
+//! Serving one viewer, and what follows where it has left.
+
+ghost use Rattle.std.specs.Prelude.{◌≡◌, Bool, None};
+ghost use Rattle.roles.specs.declared.role.Role as roles;
+ghost use Rattle.viewer_session.specs.Session.{HasOnlyLooked, Stands};
+ghost use Rattle.viewer_session.specs.Viewer.{Setup, new_viewer};
+ghost use Rattle.viewer_server.specs.Serving.{Serves};
+
+use crate::inbox::Inbox;
+use crate::leave::leave;
+use crate::serve::serve;
+use link::{Link, Rest, StopFlag};
+use pixel_format::Fault;
+use reflect_core::ScreenSource;
+use roles::InputSink;
+use std::sync::Wait;
+use viewer_session::Session;
+
+/// Serves a viewer over a link, from any source, and relays its input to any sink. Once it has left, its input that
+/// waits and then the releases go to the sink, until they are in or the flag is set.
+///
+/// A turn is had before each call of `take` with nothing unsent. While the sink is full no bytes are taken of the
+/// viewer, and updates go on. It rests only where the sink is full.
+///
+/// It is `Ok` where the link ends between two messages with nothing unsent, or where the flag is set. Else it is the
+/// fault of the viewer's bytes, `LinkFailed`, `LinkEnded`, `Gone` where the source has ended, if it may end, or the
+/// fault with which the sink refuses an input for good, any but `QueueFull`.
+pub fn run_viewer<L: Link, S: ScreenSource, K: InputSink, F: StopFlag, Z: Rest, R: Wait>(
+    rt: &R,
+    link: &mut L,
+    source: &mut S,
+    sink: &mut K,
+    session: &mut Session,
+    stop: &F,
+    rest: &Z,
+) -> Result<(), Fault>
+    requires screen { (S.width source.old ≡ session.old.width) × (S.height source.old ≡ session.old.height) }
+    requires uncut { session.old.asked.last ≡ None }
+    ensures { (s : Setup) (role : roles.Role) (greet : Bool) → Stands s session.old (new_viewer s role greet)
+        → Serves S.looks S.moves (λ before after. HasOnlyLooked S.looks S.known S.answered before after) S.may_end (F.was_set stop.now) K.may_refuse source.old source.new (S.known source.new) s (new_viewer s role greet) (K.sent sink.old) (K.sent sink.new) result (L.state link.old) (L.state link.new) }
+{
+    let mut inbox = Inbox::new();
+    let served = serve(rt, link, source, sink, session, &mut inbox, stop, rest);
+    link.flush();
+    let left = leave(rt, sink, session, &mut inbox, stop, rest);
+    served?;
+    left
+}

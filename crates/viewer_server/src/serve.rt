@@ -1,0 +1,127 @@
+//! Serving one viewer, until it leaves.
+
+ghost use Rattle.std.specs.Prelude.{◌≡◌, Bool, None};
+ghost use Rattle.reflect_core.specs.Sequential.{Begins};
+ghost use Rattle.roles.specs.declared.role.Role as roles;
+ghost use Rattle.viewer_session.specs.Session.{HasOnlyLooked, IsSameSession, Stands};
+ghost use Rattle.viewer_session.specs.Viewer.{Setup, new_viewer};
+ghost use Rattle.viewer_server.specs.Steps.{GoesOn, HasServed, Hears, Offers, Says, SaysNoMore, WaitsIfLeft, all_passed};
+
+use crate::inbox::Inbox;
+use link::{Gave, Link, Rest, StopFlag, Took};
+use pixel_format::Fault;
+use reflect_core::ScreenSource;
+use roles::InputSink;
+use std::sync::Wait;
+use viewer_session::Session;
+
+// Has a turn, unless bytes are unsent. It answers whether none were.
+fn offer<S: ScreenSource>(source: &mut S, session: &mut Session) -> Result<bool, Fault>
+    requires { (S.width source.old ≡ session.old.width) × (S.height source.old ≡ session.old.height) }
+    ensures source { (S.width source.new ≡ S.width source.old) × (S.height source.new ≡ S.height source.old) }
+    ensures session { (session.new.width ≡ session.old.width) × (session.new.height ≡ session.old.height) }
+    ensures grows { Begins (S.known source.old) (S.known source.new) }
+    ensures offers { Offers S.looks S.moves (λ before after. HasOnlyLooked S.looks S.known S.answered before after) S.may_end source.old source.new session.old session.new (S.known source.new) (S.answered source.old) (S.answered source.new) result }
+{
+    if !session.out().is_empty() {
+        return Ok(false);
+    }
+    session.turn(source)?;
+    Ok(true)
+}
+
+// Gives what waits to be sent, as far as the link takes it now.
+fn say<L: Link>(link: &mut L, session: &mut Session) -> Result<(), Fault>
+    ensures says { Says session.old session.new (L.state link.old) (L.state link.new) }
+    ensures why { SaysNoMore result session.new (L.state link.old) (L.state link.new) }
+{
+    while !session.out().is_empty() {
+        match link.give(session.out()) {
+            Gave::Bytes(count) => session.sent(count),
+            Gave::Nothing => return Ok(()),
+            Gave::End => return Err(Fault::LinkEnded),
+            Gave::Failed => return Err(Fault::LinkFailed),
+        }
+    }
+    Ok(())
+}
+
+// Passes on an input that waits, and reads the bytes behind it. It answers whether the sink is full.
+fn relay<K: InputSink>(
+    sink: &mut K,
+    session: &mut Session,
+    inbox: &mut Inbox,
+) -> Result<bool, Fault>
+    ensures same { IsSameSession session.old session.new }
+    ensures goes_on { GoesOn K.may_refuse result session.old session.new inbox.old inbox.new (K.sent sink.old) (K.sent sink.new) }
+    ensures left { WaitsIfLeft inbox.new }
+{
+    let is_full = inbox.pass(sink)?;
+    if !is_full && !inbox.unread().is_empty() {
+        inbox.read(session)?;
+    }
+    Ok(is_full)
+}
+
+// Takes what has come and reads it, and answers whether there may be more: not where the link ended between two
+// messages with nothing unsent.
+fn hear<L: Link>(link: &mut L, session: &mut Session, inbox: &mut Inbox) -> Result<bool, Fault>
+    requires { inbox.old ≡ all_passed }
+    ensures same { IsSameSession session.old session.new }
+    ensures hears { Hears result session.old session.new inbox.new (L.state link.old) (L.state link.new) }
+{
+    match inbox.fill(link) {
+        Took::Bytes(_) => {
+            inbox.read(session)?;
+            Ok(true)
+        }
+        Took::Nothing => Ok(true),
+        Took::End => {
+            if session.out().is_empty() && session.between() {
+                Ok(false)
+            } else {
+                Err(Fault::LinkEnded)
+            }
+        }
+        Took::Failed => Err(Fault::LinkFailed),
+    }
+}
+
+/// Serves the viewer until the link ends or the flag is set: passes its input on, has a turn where nothing is unsent,
+/// gives what its session sends, and takes its bytes where no input waits. Where the sink is full it only rests, so
+/// that updates go on. Bytes are taken only where a turn was had or others are unsent.
+pub(crate) fn serve<L: Link, S: ScreenSource, K: InputSink, F: StopFlag, Z: Rest, R: Wait>(
+    rt: &R,
+    link: &mut L,
+    source: &mut S,
+    sink: &mut K,
+    session: &mut Session,
+    inbox: &mut Inbox,
+    stop: &F,
+    rest: &Z,
+) -> Result<(), Fault>
+    requires screen { (S.width source.old ≡ session.old.width) × (S.height source.old ≡ session.old.height) }
+    requires uncut { session.old.asked.last ≡ None }
+    requires empty { inbox.old ≡ all_passed }
+    ensures { (s : Setup) (role : roles.Role) (greet : Bool) → Stands s session.old (new_viewer s role greet)
+        → HasServed S.looks S.moves (λ before after. HasOnlyLooked S.looks S.known S.answered before after) S.may_end (F.was_set stop.now) K.may_refuse source.old source.new (S.known source.new) s (new_viewer s role greet) session.new inbox.new (K.sent sink.old) (K.sent sink.new) result (L.state link.old) (L.state link.new) }
+{
+    for _ in rt.forever() {
+        if stop.is_set() {
+            return Ok(());
+        }
+        let is_full = relay(sink, session, inbox)?;
+        let is_offered = offer(source, session)?;
+        say(link, session)?;
+        if is_full {
+            link.flush();
+            rest.rest(rt);
+        } else if !inbox.waits() && (is_offered || !session.out().is_empty()) {
+            let goes_on = hear(link, session, inbox)?;
+            if !goes_on {
+                return Ok(());
+            }
+        }
+    }
+    unreachable!()
+}
