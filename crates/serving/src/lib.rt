@@ -1,0 +1,33 @@
+//! What `serve` waits with over TCP: bells and seats, links, doors, and the flag that ends a run.
+//!
+//! A place's thread waits in one `epoll` for its viewer's socket and for a bell; the host's writer rests until it is
+//! rung. No contract says that a wait ends, that a ring wakes, or how long anything lasts. Memory: a viewer's link
+//! keeps up to 65,536 bytes. Handles: Wait where a call may wait, Net where a seat is made.
+#![tactic(auto)]
+
+mod account;
+mod bell;
+mod door;
+mod hello;
+mod host;
+mod kept;
+mod lobby;
+mod options;
+mod refusal;
+mod ringing;
+mod seat;
+mod stop;
+mod tcp;
+mod writer_seat;
+
+pub use bell::{Bell, Everyone, NoBell};
+pub use door::Door;
+pub use host::HostLink;
+pub use lobby::{Lobby, TcpDoor, keep_door};
+pub use options::outlast;
+pub use refusal::refusal_bytes;
+pub use ringing::Ringing;
+pub use seat::Seat;
+pub use stop::Stop;
+pub use tcp::TcpLink;
+pub use writer_seat::WriterSeat;

@@ -1,0 +1,188 @@
+//! Who comes in.
+
+ghost use Rattle.std.specs.Prelude.{◌≡◌};
+
+use crate::door::Door;
+use crate::refusal::refusal_bytes;
+use crate::seat::Seat;
+use crate::tcp::TcpLink;
+use std::alloc::{AllocError, Global};
+use std::io::Write;
+use std::net::{TcpListener, TcpStream};
+use std::sync::{Arc, Condvar, Mutex, Wait};
+use std::thread;
+use std::time::{Clock, Duration};
+
+// For how long one who finds no place is kept before he is told so, in milliseconds. A place whose viewer has just left
+// is free by then.
+const PATIENCE_MILLIS: u64 = 50;
+
+// For how long nobody is let in after the system refused to, in milliseconds: it may have no descriptor left.
+const PAUSE_MILLIS: u64 = 100;
+
+#[derive(Drop)]
+struct Waiting {
+    streams: Vec<TcpStream>,
+    // How many places have no viewer, and none on the way.
+    free: u64,
+    is_closed: bool,
+}
+
+/// What became of one who came.
+#[derive(Drop)]
+enum Entrance {
+    Placed,
+    Full(TcpStream),
+    Closed,
+}
+
+/// What the places of one role share: who came in, and how many places are free.
+#[derive(Drop)]
+pub struct Lobby {
+    waiting: Mutex<Waiting>,
+    came: Condvar,
+    freed: Condvar,
+}
+
+impl Lobby {
+    /// All of so many places are free. It fails where memory is refused for the streams on their way.
+    pub fn new(alloc: Global, places: u64) -> Result<Lobby, AllocError> {
+        Ok(Lobby {
+            waiting: Mutex::new(Waiting {
+                streams: Vec::with_capacity(alloc, places as usize)?,
+                free: places,
+                is_closed: false,
+            }),
+            came: Condvar::new(),
+            freed: Condvar::new(),
+        })
+    }
+
+    /// No more viewers come: each door that waits here, or will, has no next one.
+    pub fn close<R: Wait>(&self, rt: &R) {
+        let mut guard = self.waiting.lock(rt);
+        guard.is_closed = true;
+        self.came.notify_all();
+        self.freed.notify_all();
+    }
+
+    // Hands the stream to a place that is free, or gives it back.
+    fn enter<R: Wait + Clock>(&self, rt: &R, stream: TcpStream) -> Entrance {
+        let guard = self.waiting.lock(rt);
+        let patience = Duration::from_millis(PATIENCE_MILLIS);
+        let (mut guard, _) = self
+            .freed
+            .wait_timeout_while(rt, guard, patience, |waiting| {
+                waiting.free == 0 && !waiting.is_closed
+            });
+        let waiting = &mut *guard;
+        if waiting.is_closed {
+            return Entrance::Closed;
+        }
+        if waiting.free == 0 {
+            return Entrance::Full(stream);
+        }
+        if waiting.streams.push(stream).is_ok() {
+            waiting.free -= 1;
+            self.came.notify_one();
+        }
+        Entrance::Placed
+    }
+
+    // One more place is free.
+    fn free<R: Wait>(&self, rt: &R) {
+        let mut guard = self.waiting.lock(rt);
+        guard.free = guard.free.saturating_add(1);
+        self.freed.notify_one();
+    }
+
+    // Waits for a viewer, whoever came first. None where no more come.
+    fn leave<R: Wait>(&self, rt: &R) -> Option<TcpStream> {
+        let guard = self.waiting.lock(rt);
+        let mut guard = self.came.wait_while(rt, guard, |waiting| {
+            waiting.streams.is_empty() && !waiting.is_closed
+        });
+        let waiting = &mut *guard;
+        if waiting.is_closed || waiting.streams.is_empty() {
+            return None;
+        }
+        Some(waiting.streams.remove(0))
+    }
+
+    fn is_closed<R: Wait>(&self, rt: &R) -> bool {
+        self.waiting.lock(rt).is_closed
+    }
+}
+
+/// The door of one place: its viewers come from a lobby, and it waits for them at a seat.
+#[derive(Drop)]
+pub struct TcpDoor<R: Wait + Clock + Drop> {
+    rt: R,
+    alloc: Global,
+    lobby: Arc<Lobby, Global>,
+    seat: Arc<Seat, Global>,
+    // A viewer was let in of whom the lobby hasn't been told that he is gone.
+    has_served: bool,
+}
+
+impl<R: Wait + Clock + Drop> TcpDoor<R> {
+    /// A door that has let nobody in.
+    pub fn new(
+        rt: R,
+        alloc: Global,
+        lobby: Arc<Lobby, Global>,
+        seat: Arc<Seat, Global>,
+    ) -> TcpDoor<R> {
+        TcpDoor {
+            rt,
+            alloc,
+            lobby,
+            seat,
+            has_served: false,
+        }
+    }
+}
+
+impl<R: Wait + Clock + Drop + Copy + Send> Door for TcpDoor<R> {
+    type Viewer = TcpLink<R>;
+
+    // The place is free from this call on. A viewer whose link can't be made is let go, and the next one waited for.
+    fn next(&mut self) -> Option<TcpLink<R>> {
+        for _ in self.rt.forever() {
+            if self.has_served {
+                self.lobby.free(&self.rt);
+                self.has_served = false;
+            }
+            let stream = self.lobby.leave(&self.rt)?;
+            self.has_served = true;
+            if let Ok(link) = TcpLink::new(self.rt, self.alloc, stream, &self.seat) {
+                return Some(link);
+            }
+        }
+        unreachable!()
+    }
+}
+
+/// Lets viewers in while places are free, and tells the others why not. The last of these stays open until the next
+/// comes, so that its text isn't lost. It ends with the first who comes once the lobby is closed.
+pub fn keep_door<R: Wait + Clock>(rt: &R, listener: &TcpListener, lobby: &Lobby) {
+    let mut last: Option<TcpStream> = None;
+    for stream in listener.incoming() {
+        let Ok(stream) = stream else {
+            if lobby.is_closed(rt) {
+                break;
+            }
+            thread::sleep(rt, Duration::from_millis(PAUSE_MILLIS));
+            continue;
+        };
+        match lobby.enter(rt, stream) {
+            Entrance::Placed => {}
+            Entrance::Full(refused) => {
+                let _ = (&refused).write(&refusal_bytes());
+                last = Some(refused);
+            }
+            Entrance::Closed => break,
+        }
+    }
+    drop(last);
+}

@@ -1,0 +1,14 @@
+//! What is said to a viewer for whom there is no place.
+
+ghost use Rattle.std.specs.Prelude.{◌≡◌, codes};
+ghost use Rattle.pixel_format.specs.Reading.{Faulty, after};
+ghost use Rattle.pixel_format.specs.declared.fault.Fault.TheVariants.{HostRefused};
+ghost use Rattle.rfb_wire.specs.Handshake.{host_hello};
+
+/// A handshake of version 3.8 that has no security type, and why (RFC 6143, 7.1.1 and 7.1.2). It is the same whatever
+/// the viewer says, so it can be said at once.
+pub fn refusal_bytes() -> [u8; 37]
+    ensures { after host_hello result ≡ Faulty (HostRefused (codes "all places are taken")) }
+{
+    *b"RFB 003.008\n\0\0\0\0\x14all places are taken"
+}

@@ -1,0 +1,233 @@
+//! A viewer's link.
+
+ghost use Rattle.std.specs.Prelude.{◌≡◌};
+
+use crate::account::{Account, gave_of};
+use crate::hello::{HELLO_LEN, Patience, longest_wait};
+use crate::kept::{Kept, MOST_KEPT};
+use crate::options::outlast;
+use crate::seat::Seat;
+use link::{Gave, Link, Took};
+use mio::net::TcpStream;
+use std::alloc::Global;
+use std::io;
+use std::io::{Read, Write};
+use std::marker::Model;
+use std::sync::{Arc, Wait};
+use std::time::{Clock, Instant};
+
+// A slice of so many bytes is written at once where nothing is kept.
+const LARGE: usize = 16_384;
+
+/// A viewer's connection. `take` waits, until bytes come, until the seat's bell rings, or until bytes that are kept can
+/// go out.
+///
+/// `give` keeps small slices, and `take` writes what is kept before it waits, so an answer of many rectangles is one
+/// call of the system. While what is kept can't go out, rings are left unanswered, so a viewer that takes nothing costs
+/// nothing.
+#[derive(Drop)]
+pub struct TcpLink<R: Wait + Clock + Drop> {
+    rt: R,
+    stream: TcpStream,
+    seat: Arc<Seat, Global>,
+    kept: Kept,
+    // The last `give` had no room.
+    is_full: bool,
+    // Kept bytes were lost: a write of them failed.
+    is_broken: bool,
+    opened: Instant,
+    // So many bytes of the hello are missing.
+    missing: usize,
+    account: Account,
+}
+
+impl<R: Wait + Clock + Drop> Model for TcpLink<R> {
+    ghost use Rattle.std.specs.Prelude.{◌≡◌, ◌-◌, ◌++◌, length};
+    ghost use Rattle.link.specs.Links.{LinkState};
+    ghost use Rattle.serving.specs.Hello.{hello_len};
+
+    ghost Value = { LinkState };
+
+    ghost view = { λ l. l.account };
+
+    // What was given is what has gone out and then what is kept; what is missing of the hello are the bytes that
+    // weren't taken.
+    ghost invariant = { λ l. (l.account.given ≡ l.kept.sent ++ l.kept.bytes) × (l.missing ≡ hello_len - length l.account.taken) };
+}
+
+impl<R: Wait + Clock + Drop> TcpLink<R> {
+    ghost use Rattle.std.specs.Prelude.{◌≡◌, ◌<◌, length, IfOk};
+    ghost use Rattle.link.specs.Links.{TakesAs, GivesAs};
+    ghost use Rattle.serving.specs.Answers.{unused};
+
+    /// A link that has taken and given nothing. It fails where memory is refused, or an option or the clock by the
+    /// system.
+    pub fn new(
+        rt: R,
+        alloc: Global,
+        stream: std::net::TcpStream,
+        seat: &Arc<Seat, Global>,
+    ) -> io::Result<TcpLink<R>>
+        ensures { IfOk result (λ link. link ≡ unused) }
+    {
+        outlast(&stream)?;
+        stream.set_nonblocking(true)?;
+        let opened = Instant::now(&rt)?;
+        let kept = Kept::new(alloc)?;
+        let seat = Arc::try_clone(seat)?;
+        let mut stream = TcpStream::from_std(stream);
+        seat.hear(&rt, &mut stream)?;
+        Ok(TcpLink {
+            rt,
+            stream,
+            seat,
+            kept,
+            is_full: false,
+            is_broken: false,
+            opened,
+            missing: HELLO_LEN,
+            account: Account::new(),
+        })
+    }
+
+    // Writes once of what is kept. False where nothing is left, or nothing more goes out now.
+    fn write_kept(&mut self) -> bool
+        ensures { self.new ≡ self.old }
+    {
+        if self.kept.is_empty() {
+            return false;
+        }
+        let answer = self.kept.write_to(&mut self.stream);
+        match gave_of(&answer) {
+            Gave::Bytes(_) => true,
+            Gave::Nothing => false,
+            _ => {
+                self.is_broken = true;
+                false
+            }
+        }
+    }
+
+    // Writes a large slice at once, where nothing is kept.
+    fn write_large(&mut self, bytes: &[u8]) -> Gave
+        ensures { GivesAs result self.old self.new bytes.now }
+    {
+        if bytes.len() < LARGE || !self.kept.is_empty() {
+            return Gave::Nothing;
+        }
+        let answer = self.stream.write(bytes);
+        let gave = self.account.give(&answer, bytes);
+        if let Gave::Bytes(count) = gave {
+            let (sent, _) = bytes.split_at(count);
+            self.kept.note_sent(sent);
+        }
+        gave
+    }
+
+    // Keeps as many of the bytes as there is room for.
+    fn keep(&mut self, bytes: &[u8]) -> Gave
+        requires { 0 < length bytes.now }
+        ensures { GivesAs result self.old self.new bytes.now }
+    {
+        let count = self.kept.keep(bytes);
+        if count == 0 {
+            self.is_full = true;
+            return Gave::Nothing;
+        }
+        let (kept, _) = bytes.split_at(count);
+        self.account.note_given(kept);
+        Gave::Bytes(count)
+    }
+
+    // Reads without a wait. That the peer has ended is told only once nothing is kept.
+    fn read(&mut self, into: &mut [u8]) -> Took
+        requires { 0 < length into.old }
+        ensures { TakesAs result self.old self.new into.new }
+    {
+        let answer = self.stream.read(into);
+        if !self.kept.is_empty() && matches!(answer, Ok(0)) {
+            return Took::Nothing;
+        }
+        let took = self.account.take(&answer, into);
+        if let Took::Bytes(count) = took {
+            self.missing = self.missing.saturating_sub(count);
+        }
+        took
+    }
+
+    // Waits. False where it can't, or the hello is late. A clock that can't be read is late.
+    fn wait(&mut self) -> bool
+        ensures { self.new ≡ self.old }
+    {
+        let Ok(passed) = self.opened.elapsed(&self.rt) else {
+            return false;
+        };
+        let most = match longest_wait(self.missing, passed) {
+            Patience::Endless => None,
+            Patience::AtMost(left) => Some(left),
+            Patience::Over => return false,
+        };
+        let waited = self.seat.wait(&self.rt, most);
+        if self.kept.is_empty() {
+            self.seat.answer();
+        }
+        waited.is_ok()
+    }
+}
+
+impl<R: Wait + Clock + Drop> Link for TcpLink<R> {
+    ghost state = { λ l. l };
+
+    fn take(&mut self, into: &mut [u8]) -> Took {
+        self.flush();
+        if self.is_broken {
+            self.account.fail();
+            return Took::Failed;
+        }
+        if self.is_full && self.kept.is_empty() {
+            // There is room again: the caller gives on.
+            self.is_full = false;
+            return Took::Nothing;
+        }
+        match self.read(into) {
+            Took::Nothing => {}
+            took => return took,
+        }
+        if self.kept.is_empty() && self.seat.answer() {
+            // It was rung: the caller looks.
+            return Took::Nothing;
+        }
+        if !self.wait() {
+            self.account.fail();
+            return Took::Failed;
+        }
+        self.read(into)
+    }
+
+    fn give(&mut self, bytes: &[u8]) -> Gave {
+        if self.kept.is_full() {
+            self.flush();
+        }
+        if self.is_broken {
+            self.account.fail();
+            return Gave::Failed;
+        }
+        match self.write_large(bytes) {
+            Gave::Nothing => self.keep(bytes),
+            gave => gave,
+        }
+    }
+
+    fn flush(&mut self) {
+        // Each round but the last writes a byte at least.
+        for _ in 0..=MOST_KEPT {
+            if !self.write_kept() {
+                return;
+            }
+        }
+    }
+
+    fn failures(&self) -> u64 {
+        self.account.failures()
+    }
+}

@@ -1,0 +1,16 @@
+//! Tests of `serving`, over loopback alone: bounded in count, and by the ten seconds that a viewer's handshake has.
+//! They stand in a crate of their own so that `serving` is proved once.
+#![tactic(auto)]
+
+#[cfg(test)]
+mod bells;
+#[cfg(test)]
+mod common;
+#[cfg(test)]
+mod doors;
+#[cfg(test)]
+mod hosts;
+#[cfg(test)]
+mod rings;
+#[cfg(test)]
+mod viewers;

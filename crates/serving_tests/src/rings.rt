@@ -1,0 +1,104 @@
+//! What rings after each step.
+
+ghost use Rattle.std.specs.Prelude.{◌≡◌, [], IfOk};
+ghost use Rattle.pixel_format.specs.declared.fault.Fault.TheVariants.{QueueFull};
+
+use input_relay::relay;
+use link::Rest;
+use painter::Patch;
+use pixel_format::Fault;
+use raster::{Paint, Rect};
+use reflect_core::{PlainScreen, Puts};
+use roles::{Input, InputSink};
+use serving::{Bell, Ringing, WriterSeat};
+use std::alloc::Global;
+use std::sync::Arc;
+use std::sync::atomic::{AtomicU64, Ordering};
+use std::test::*;
+
+// A bell that counts its rings.
+#[derive(Drop)]
+struct Count {
+    rings: AtomicU64,
+}
+
+impl Bell for Count {
+    fn ring(&self) {
+        let _ = self.rings.fetch_add(1, Ordering::SeqCst);
+    }
+
+    fn rouse(&self) {}
+}
+
+fn counter() -> Count {
+    Count {
+        rings: AtomicU64::new(0),
+    }
+}
+
+// A sink that is full.
+#[derive(Drop)]
+struct Full;
+
+impl InputSink for Full {
+    ghost sent = { λ _. [] };
+
+    ghost may_refuse = { λ fault. fault ≡ QueueFull };
+
+    fn send(&mut self, input: Input) -> Result<(), (Fault, Input)> {
+        Err((Fault::QueueFull, input))
+    }
+}
+
+fn press() -> Input {
+    Input::Key {
+        down: true,
+        key: 0x61,
+    }
+}
+
+// An update that is put rings once.
+#[test]
+fn put_rings(rt: HostRuntime) -> Result<(), Fail> {
+    let mut screen = Ringing {
+        inner: PlainScreen::new(rt.alloc(), 2, 1)?,
+        bell: counter(),
+    };
+    let patch = Patch::paints(2, 1, Vec::new(rt.alloc()));
+    let put = screen.put(patch).map_err(|(fault, _)| fault);
+    assert!(rt; matches!(put, Ok(1)));
+    assert_eq!(rt; screen.bell.rings.load(Ordering::SeqCst), 1);
+    Ok(())
+}
+
+// An input that is sent rings the host's writer; one that is refused rings nobody.
+#[test]
+fn send_rings(rt: HostRuntime) -> Result<(), Fail> {
+    let (mut senders, mut taker) = relay(rt, rt.alloc(), 1)?;
+    let writer = Arc::new(rt.alloc(), WriterSeat::new())?;
+    let mut sender = Ringing {
+        inner: senders.pop().ok_or("a sender")?,
+        bell: Arc::try_clone(&writer)?,
+    };
+    assert!(rt; sender.send(press()).is_ok());
+    writer.rest(&rt);
+    assert!(rt;
+        matches!(
+            taker.take(),
+            Some((
+                0,
+                Input::Key {
+                    down: true,
+                    key: 0x61
+                }
+            ))
+        )
+    );
+    let mut full = Ringing {
+        inner: Full,
+        bell: counter(),
+    };
+    assert!(rt; matches!(full.send(press()), Err((Fault::QueueFull, _))));
+    assert_eq!(rt; full.bell.rings.load(Ordering::SeqCst), 0);
+    Ok(())
+}
