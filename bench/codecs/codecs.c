@@ -200,7 +200,26 @@ static uint32_t next_random(void) {
     return state >> 8;
 }
 
+/* Letters of dots, most in one ink, some in others. */
+static void draw_desktop(uint32_t *colours) {
+    for (int k = 0; k < COUNT; k++) colours[k] = 0xF0F0F0;
+    for (int top = 0; top + 16 <= HEIGHT; top += 16)
+        for (int left = 0; left < WIDTH; left += 8) {
+            if (next_random() % 4 == 0) continue;
+            uint32_t ink = next_random() % 12 ? 0x202020 : next_random() & 0xFFFFFF;
+            for (int y = 3; y < 13; y++)
+                for (int x = 1; x < 7; x++)
+                    if (next_random() % 3 == 0) colours[(top + y) * WIDTH + left + x] = ink;
+        }
+}
+
+static uint32_t photo(int x, int y) {
+    uint32_t red = (x / 3 + next_random() % 3) & 255, green = (y / 2 + next_random() % 3) & 255;
+    return red << 16 | green << 8 | (((x + y) / 4 + next_random() % 3) & 255);
+}
+
 static void draw(uint32_t *colours, int picture) {
+    if (picture == 3) return draw_desktop(colours);
     static uint8_t glyphs[96][16];
     for (int g = 0; g < 96; g++)
         for (int y = 0; y < 16; y++) glyphs[g][y] = y < 3 || y > 12 ? 0 : next_random() & next_random() & 0x7E;
@@ -212,7 +231,7 @@ static void draw(uint32_t *colours, int picture) {
                 int blank = (x / 8 + y / 16 * 7) % 5 == 0 || x > 1400;
                 value = !blank && glyphs[glyph][y % 16] >> (x % 8) & 1 ? 0x000000 : 0xFFFFFF;
             }
-            colours[y * WIDTH + x] = picture == 2 ? next_random() & 0xFFFFFF : value;
+            colours[y * WIDTH + x] = picture == 2 ? next_random() & 0xFFFFFF : picture == 4 ? photo(x, y) : value;
         }
 }
 
@@ -233,12 +252,12 @@ static void put_record(FILE *file, int encoding, const Format *f, const uint8_t 
 }
 
 int main(int argc, char **argv) {
-    static const char *const PICTURES[] = {"flat", "text", "noise"};
+    static const char *const PICTURES[] = {"flat", "text", "noise", "desktop", "photo"};
     if (argc != 3) return 2;
     FILE *file = fopen(argv[1], "wb");
     uint32_t *colours = malloc(COUNT * 4), *values = malloc(COUNT * 4), *shown = malloc(COUNT * 4);
     uint8_t *data = malloc(COUNT * 13), *out = malloc(COUNT * 13);
-    for (int picture = 0; picture < 3; picture++) {
+    for (int picture = 0; picture < 5; picture++) {
         draw(colours, picture);
         for (int k = 0; k < 2; k++) {
             const Format *f = &FORMATS[k];

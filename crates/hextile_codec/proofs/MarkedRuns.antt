@@ -1,11 +1,13 @@
 -- The runs of a row, found by the bits of their first positions and of their ends.
-use Rattle.std.proofs.Common.{◌≡◌, ℕ, zero, suc, Bool, true, false, not, cond, List, [], ◌∷◌, ◌++◌, length, map, get_or, refl, sym, ap, ◌∙◌, ◌+◌, ◌-◌, ◌/◌, ◌%◌, ◌^◌, ◌<◌, ◌≤◌, append_assoc, w64, inl, inr, arith}
+use Rattle.std.proofs.Common.{◌≡◌, ℕ, zero, suc, Bool, true, false, not, cond, List, [], ◌∷◌, ◌++◌, length, map, get_or, refl, sym, ap, ◌∙◌, ◌+◌, ◌-◌, ◌*◌, ◌/◌, ◌%◌, ◌^◌, ◌<◌, ◌≤◌, append_assoc, w64, inl, inr, arith}
 use Rattle.std.specs.Prelude.{filter, ◌==◌}
 use Rattle.std.specs.List.{range_with_len}
-use Rattle.std.specs.Int.{bit_at, trailing_zeros}
+use Rattle.std.specs.Int.{bit_at, trailing_zeros, bit_not}
+use Rattle.std.specs.Int.Bits.{bit_and}
 use Rattle.std.proofs.lemmas.Bool.{cases_lt, eq-eqb, eqb-true}
 use Rattle.std.proofs.lemmas.List.{map-append}
-use Rattle.std.proofs.lemmas.Nat.Bits.{bit_at-trailing_zeros, bit_at_above, bit_at-zero}
+use Rattle.std.proofs.lemmas.Nat.Bits.{bit_at-trailing_zeros, bit_at_above, bit_at-zero, bit_at_clear_same, bit_at_clear_other}
+use Rattle.std.proofs.lemmas.Nat.{and_le_l}
 use Rattle.std.proofs.Math.Nat.{div-div-eq-div-mul, div-le_self}
 use lib.Pow.{pow-add}
 use Rattle.raster.specs.Screen.{Canvas}
@@ -41,23 +43,64 @@ pub record IsNextBegin (row : List ℕ) (background x first : ℕ) : Type 0 wher
   pub begins : begins_run (row_shows row) background 0 first ≡ true
   pub none : (k : ℕ) → x ≤ k → k < first → begins_run (row_shows row) background 0 k ≡ false
 
-pub next_begin : (row : List ℕ) (background begins x : ℕ) → AreBegins row background begins → begins < 2 ^ 16 → begins / 2 ^ x < 2 ^ 64 → 0 < begins / 2 ^ x → IsNextBegin row background x (x + trailing_zeros w64 (begins / 2 ^ x))
-next_begin row background begins x are few fits some =
-    let t : ℕ = trailing_zeros w64 (begins / 2 ^ x) in
-    let b = bit_at-trailing_zeros w64 (begins / 2 ^ x) some fits in
-    let one : bit_at begins (x + t) ≡ 1 = sym (bit_shift begins x t) ∙ b.1 in
-    let inside : x + t < 16 = elim (cases_lt (x + t) 16) [
+-- Of those, the bits from x on.
+pub record AreLeft (row : List ℕ) (background x begins : ℕ) : Type 0 where
+  pub above : (k : ℕ) → x ≤ k → k < 16 → bit_at begins k ≡ bit_of (begins_run (row_shows row) background 0 k)
+  pub below : (k : ℕ) → k < x → bit_at begins k ≡ 0
+  pub few : begins < 2 ^ 16
+
+pub all_left : (row : List ℕ) (background begins : ℕ) → AreBegins row background begins → begins < 2 ^ 16 → AreLeft row background 0 begins
+all_left row background begins are few = record { above = λ k lo hi. are k hi; below = λ k lt. absurd (omega (arith, lt)); few = few }
+
+pub next_begin : (row : List ℕ) (background x begins : ℕ) → AreLeft row background x begins → 0 < begins → IsNextBegin row background x (trailing_zeros w64 begins)
+next_begin row background x begins are some =
+    let t : ℕ = trailing_zeros w64 begins in
+    let b = bit_at-trailing_zeros w64 begins some (omega (arith, are.few)) in
+    let inside : t < 16 = elim (cases_lt t 16) [
       | inl lt ↦ lt
-      | inr le ↦ let zero_bit = bit_at_above begins 16 (x + t) few le in absurd (omega (arith, one, zero_bit))
+      | inr le ↦ let zero_bit = bit_at_above begins 16 t are.few le in absurd (omega (arith, b.1, zero_bit))
+    ] in
+    let from : x ≤ t = elim (cases_lt t x) [
+      | inl lt ↦ let zero_bit = are.below t lt in absurd (omega (arith, b.1, zero_bit))
+      | inr le ↦ le
     ] in
     record {
       inside = inside;
-      from = omega arith;
-      begins = bit_true _ (sym (are (x + t) inside) ∙ one);
-      none = λ k lo hi.
-          let place : x + (k - x) ≡ k = omega arith in
-          bit_false _ (sym (are k (omega (arith, hi, inside))) ∙ (ap (bit_at begins) (sym place) ∙ (sym (bit_shift begins x (k - x)) ∙ b.2 (k - x) (omega (arith, hi)))));
+      from = from;
+      begins = bit_true _ (sym (are.above t from inside) ∙ b.1);
+      none = λ k lo hi. bit_false _ (sym (are.above k lo (omega (arith, hi, inside))) ∙ b.2 k hi);
     }
+
+-- The lowest is cleared.
+pub one_cleared : (row : List ℕ) (background x begins first : ℕ) → AreLeft row background x begins → IsNextBegin row background x first
+    → AreLeft row background (first + 1) (bit_and begins (bit_not w64 (1 * 2 ^ first % 2 ^ 64)))
+one_cleared row background x begins first are n =
+    let within : first < 64 = omega (arith, n.inside) in
+    let other : (k : ℕ) → k < 64 → (k ≡ first → ⊥) → bit_at (bit_and begins (bit_not w64 (1 * 2 ^ first % 2 ^ 64))) k ≡ bit_at begins k = λ k low apart. bit_at_clear_other w64 begins first within k low apart in
+    record {
+      above = λ k lo hi. other k (omega (arith, hi)) (λ e. omega (arith, e, lo)) ∙ are.above k (omega (arith, lo, n.from)) hi;
+      below = λ k lt. elim (cases_lt k first) [
+        | inl less ↦ other k (omega (arith, less, within)) (λ e. omega (arith, e, less)) ∙ elim (cases_lt k x) [
+          | inl lower ↦ are.below k lower
+          | inr from ↦ are.above k from (omega (arith, less, n.inside)) ∙ ap bit_of (n.none k from less)
+        ]
+        | inr le ↦ let same : k ≡ first = omega (arith, le, lt) in ap (bit_at (bit_and begins (bit_not w64 (1 * 2 ^ first % 2 ^ 64)))) same ∙ bit_at_clear_same w64 begins first within
+      ];
+      few = let le = and_le_l begins (bit_not w64 (1 * 2 ^ first % 2 ^ 64)) in omega (arith, le, are.few);
+    }
+
+-- Then there are fewer.
+pub fewer_left : (begins : ℕ) → 0 < begins → begins < 2 ^ 64 → trailing_zeros w64 begins < 64 → bit_and begins (bit_not w64 (1 * 2 ^ trailing_zeros w64 begins % 2 ^ 64)) < begins
+fewer_left begins some fits within =
+    let t : ℕ = trailing_zeros w64 begins in
+    let left : ℕ = bit_and begins (bit_not w64 (1 * 2 ^ t % 2 ^ 64)) in
+    let b = bit_at-trailing_zeros w64 begins some fits in
+    let le : left ≤ begins = and_le_l begins (bit_not w64 (1 * 2 ^ t % 2 ^ 64)) in
+    let gone : bit_at left t ≡ 0 = bit_at_clear_same w64 begins t within in
+    elim (cases_lt left begins) [
+      | inl lt ↦ lt
+      | inr same ↦ let e : left ≡ begins = omega (arith, le, same) in let both : bit_at left t ≡ bit_at begins t = ap (λ n. bit_at n t) e in absurd (omega (arith, both, gone, b.1))
+    ]
 
 pub next_run : (row : List ℕ) (background y x first : ℕ) → length row ≡ 16 → IsNextBegin row background x first
     → runs_behind (row_shows row) background (length row) y x ≡ run_from (row_shows row) (length row) y first ∷ runs_behind (row_shows row) background (length row) y (first + 1)
@@ -72,12 +115,19 @@ next_run row background y x first size n =
     ∙ (ap (λ k. map f (filter p (range_with_len k (suc m)))) place ∙ ap (λ b. map f (cond b (first ∷ filter p (range_with_len (first + 1) m)) (filter p (range_with_len (first + 1) m)))) n.begins))
 
 -- There is none.
-pub no_run : (row : List ℕ) (background begins y x : ℕ) → length row ≡ 16 → AreBegins row background begins → begins / 2 ^ x ≡ 0 → runs_behind (row_shows row) background (length row) y x ≡ []
+pub no_run : (row : List ℕ) (background begins y x : ℕ) → length row ≡ 16 → AreLeft row background x begins → begins ≡ 0 → runs_behind (row_shows row) background (length row) y x ≡ []
 no_run row background begins y x size are none =
     ap (map (run_from (row_shows row) (length row) y))
     (none_pass (begins_run (row_shows row) background y) x (length row - x) (λ k lo hi.
-    let place : x + (k - x) ≡ k = omega arith in
-    bit_false _ (sym (are k (omega (arith, hi, size))) ∙ (ap (bit_at begins) (sym place) ∙ (sym (bit_shift begins x (k - x)) ∙ (ap (λ m. bit_at m (k - x)) none ∙ bit_at-zero (k - x)))))))
+    bit_false _ (sym (are.above k lo (omega (arith, hi, size))) ∙ (ap (λ m. bit_at m k) none ∙ bit_at-zero k))))
+
+-- The runs in front of x are found, and the bits from x on are left.
+pub record AreMarked (before now : List Run) (row : List ℕ) (background y begins : ℕ) : Type 0 where
+  pub x : ℕ
+  pub inside : x ≤ 16
+  pub few : length now ≤ length before + x
+  pub left : AreLeft row background x begins
+  pub so_far : AreSoFar before now row background y x
 
 -- ---- where it ends
 
@@ -153,6 +203,11 @@ run_ends row ends first y size lt are last fits =
       ],
       upto,
     )
+
+pub none_so_far : (before : List Run) (row : List ℕ) (background y : ℕ) → AreSoFar before before row background y 0
+none_so_far before row background y =
+    let all : length row - 0 ≡ length row = omega arith in
+    ap (λ n. map subrect_of before ++ map (run_from (row_shows row) (length row) y) (filter (begins_run (row_shows row) background y) (range_with_len 0 n))) all
 
 subrect_same : (canvas : Canvas) (w y x v len : ℕ) → v ≡ canvas x y → len ≡ (run_from canvas w y x).area.w → subrect_of (record { value = v; x = x; y = y; len = len }) ≡ run_from canvas w y x
 subrect_same canvas w y x v len a b = rw (a, b) refl

@@ -1,7 +1,7 @@
 -- How reading Hextile goes on (RFC 6143, 7.7.4).
 use Rattle.std.specs.Prelude.{◌≡◌, ℕ, zero, suc, ◌+◌, ◌-◌, ◌*◌, ◌/◌, ◌<◌, ◌≤◌, ◌==◌, ◌%◌, List, [], ◌∷◌, ◌++◌, length, take, drop, Option, Some, Result, Bool, true, false, ◌&&◌, not, nat_lt, if◌then◌else◌, unwrap_or}
 use Rattle.pixel_format.specs.PixelFormat.{PixelFormat, pixel_len, pixel_of}
-use Rattle.pixel_format.specs.Reading.{Reading, Done, Faulty, ◌>>=◌, after, taken, times, Feeds}
+use Rattle.pixel_format.specs.Reading.{Reading, Done, Faulty, ◌>>=◌, after, taken, times, wants_more, Feeds}
 use Rattle.pixel_format.specs.declared.fault.Fault.{Fault}
 use Rattle.pixel_format.specs.declared.fault.Fault.TheVariants.{SubrectOutside, NoBackground, NoForeground}
 use Rattle.raster.specs.declared.rect.Rect.{Rect}
@@ -99,6 +99,10 @@ pub record Stands (keep : ℕ → ℕ) (p : Progress) (canvas : Canvas) (sofar :
   pub count : length sofar.tiles ≡ p.tile
   pub before : (x y : ℕ) → x < p.width → y < p.height → y / 16 * tiles_across p.width + x / 16 < p.tile → canvas x y ≡ keep (tiled p.width p.height sofar.tiles x y)
   pub part : IsDrawn keep (tile_rect p.width p.height p.tile) p.stage canvas sofar.part
+
+-- However that was drawn, another byte is wanted.
+abbrev pub IsWanting : Progress → Type 0
+IsWanting p = (sofar : Sofar) → wants_more (ahead p sofar) ≡ true
 
 -- Readers of rectangles of one size and format.
 pub record IsSameSize (old new : Progress) : Type 0 where

@@ -1,10 +1,10 @@
 //! Reading Hextile, in whatever pieces it comes.
 
-ghost use Rattle.std.specs.Prelude.{◌≡◌, ℕ, ◌+◌, ◌<◌, ◌≤◌, true, List, [], length, take, is_some, Some, None, MatchResult};
+ghost use Rattle.std.specs.Prelude.{◌≡◌, ℕ, ◌+◌, ◌<◌, ◌≤◌, true, List, [], length, take, is_some, Some, None, IfOk, OnOk, MatchResult};
 ghost use Rattle.pixel_format.specs.Reading.{Done, whole_of, fault_of};
 ghost use Rattle.raster.specs.Encoding.{Tile, hextile, tiled};
 ghost use Rattle.raster.specs.Screen.{Map, LooksLike, kept};
-ghost use Rattle.hextile_codec.specs.Ahead.{Part, Sofar, nothing_read, ahead, Stands, Steps, Draws, IsSameSize, is_wanting, needed};
+ghost use Rattle.hextile_codec.specs.Ahead.{Part, Sofar, nothing_read, ahead, Stands, Steps, Draws, IsSameSize, IsWanting, is_wanting, needed};
 
 use crate::colours::Colours;
 use crate::drawing::{draw, is_whole};
@@ -181,6 +181,9 @@ impl Reader {
         ensures width { C.width canvas.new ≡ self.old.width }
         ensures height { C.height canvas.new ≡ self.old.height }
         ensures stays { C.Stays canvas.old canvas.new }
+        ensures within { IfOk result (λ used. used ≤ length piece.now) }
+        ensures some { IsWanting self.old → 0 < length piece.now → IfOk result (λ used. 0 < used) }
+        ensures fine { OnOk result ((sofar : Sofar) → fault_of (ahead self.new sofar) ≡ None) }
         ensures drawn { (sofar : Sofar) → Stands C.keeps self.old (C.shows canvas.old) sofar → Draws C.keeps self.old self.new (C.shows canvas.new) piece.now result sofar }
     {
         let mut left = piece;

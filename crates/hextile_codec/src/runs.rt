@@ -18,7 +18,7 @@ use std::simd::u32x16;
 pub const TILE_AREA: usize = (TILE_SIDE * TILE_SIDE) as usize;
 
 /// So many runs in the first rows of a tile are a reason to count them all.
-const CROWDED: usize = TILE_SIDE as usize;
+const CROWDED: usize = 8;
 
 /// A run: `len` pixels of one value, from column `x` of row `y` of its tile on.
 #[derive(Clone, Copy, Default)]
@@ -68,9 +68,9 @@ fn add_whole_row(row: &[u32], y: usize, background: u32, runs: &mut Runs)
     ensures few { array_vec_len runs.new ≤ array_vec_len runs.old + length row.now }
 {
     let marks = mark_row(row, background);
-    let mut x = 0;
-    while marks.begins >> x != 0 {
-        let first = x + (marks.begins >> x).trailing_zeros() as usize;
+    let mut begins = marks.begins;
+    while begins != 0 {
+        let first = begins.trailing_zeros() as usize;
         let len = (marks.ends >> (first + 1)).trailing_zeros() + 1;
         runs.push(Run {
             value: row[first],
@@ -78,7 +78,7 @@ fn add_whole_row(row: &[u32], y: usize, background: u32, runs: &mut Runs)
             y: y as u8,
             len: len as u8,
         });
-        x = first + 1;
+        begins &= !(1 << first);
     }
 }
 

@@ -22,18 +22,20 @@ fn put_tiles(values: &[u32], w: u64, h: u64, format: &Format, out: &mut [u8]) ->
     requires room { 0 < length out.old }
     ensures { let bytes = hextile_bytes format.now w h (value_at w values.now) in MatchOption result (length out.old ≤ length bytes) (λ n. (n ≡ length bytes) × (n < length out.old) × (take n out.new ≡ bytes)) }
 {
+    // A copy, which nothing that is written to `out` can change, so that it is looked at once.
+    let format = *format;
     let mut runs = Runs::new();
     let mut said = Colours::NOTHING;
     let mut used = 0;
     for k in 0..tile_count(w, h) {
         let tile = tile_rect(w, h, k);
-        let choice = choose(format, values, w as usize, &tile, &said, &mut runs);
+        let choice = choose(&format, values, w as usize, &tile, &said, &mut runs);
         if out.len() - used <= choice.len {
             return None;
         }
         match choice.kind {
-            Kind::Raw => put_raw(format, values, w as usize, &tile, out, used),
-            _ => put_drawn(format, &said, &choice, runs.as_slice(), out, used),
+            Kind::Raw => put_raw(&format, values, w as usize, &tile, out, used),
+            _ => put_drawn(&format, &said, &choice, runs.as_slice(), out, used),
         }
         used += choice.len;
         said = choice.leaves();

@@ -39,7 +39,9 @@ impl Format {
         requires { length values.old ≡ length colours.now }
         ensures { values.new ≡ map (tint self.now) colours.now }
     {
-        if self.has_byte_channels() {
+        if self.is_host() {
+            mask_values(colours, values);
+        } else if self.has_byte_channels() {
             self.tint_values_by::<Shifts>(colours, values);
         } else if self.is_narrow() {
             self.tint_values_by::<Multiplication>(colours, values);
@@ -141,5 +143,15 @@ fn copy_row(colours: &[u32], out: &mut [u8])
 {
     for (i, colour) in colours.iter().enumerate() {
         LittleEndian::write_u32(&mut out[4 * i..], *colour % (1 << 24));
+    }
+}
+
+/// The values of colours in the host's own format: themselves, without what lies above their 24 bits.
+fn mask_values(colours: &[u32], values: &mut [u32])
+    requires { length values.old ≡ length colours.now }
+    ensures { values.new ≡ map (tint host_format) colours.now }
+{
+    for (i, colour) in colours.iter().enumerate() {
+        values[i] = *colour % (1 << 24);
     }
 }

@@ -1,6 +1,7 @@
 -- How many runs there are.
 use Rattle.std.proofs.Common.{◌≡◌, ℕ, zero, suc, Bool, true, false, not, ◌&&◌, ◌||◌, cond, List, [], ◌∷◌, ◌++◌, length, length-append, get_or, refl, sym, ap, ◌∙◌, ◌+◌, ◌-◌, ◌*◌, ◌<◌, ◌≤◌, arith}
 use Rattle.std.specs.Prelude.{◌==◌, filter}
+use Rattle.std.proofs.lemmas.Bool.{eq-eqb, eqb-true, ne_eqb}
 use Rattle.std.specs.List.{flat_map, range_with_len}
 use Rattle.std.proofs.lemmas.List.{length-map, append-nil}
 use Rattle.std.proofs.lemmas.Grind.{flat_map-append}
@@ -37,13 +38,6 @@ begun_more row background y x =
     ap (λ t. length (filter p t)) (rw z at (range_more 0 x))
     ∙ (ap length (filter-append p (range_with_len 0 x) (x ∷ [])) ∙ (length-append (filter p (range_with_len 0 x)) (filter p (x ∷ [])) ∙ ap (λ n. begun row background y x + n) (one_of (p x) x)))
 
-first_begins : (b : Bool) → one_or_none (not b && true) ≡ one_or_none (not b)
-first_begins true = refl
-first_begins false = refl
-
-pub begun_first : (row : List ℕ) (background y : ℕ) → begun row background y 1 ≡ one_or_none (not (get_or row 0 0 == background))
-begun_first row background y = let e = begun_more row background y 0 in let f = first_begins (get_or row 0 0 == background) in omega (arith, e, f)
-
 pub all_begun : (row : List ℕ) (background y : ℕ) → length (runs_of_row (row_shows row) background (length row) y) ≡ begun row background y (length row)
 all_begun row background y = length-map (filter (begins_run (row_shows row) background y) (range_with_len 0 (length row))) _
 
@@ -54,9 +48,30 @@ begins_behind false true false e = refl
 begins_behind false false false e = refl
 begins_behind a b true e = absurd cc
 
-pub begins_first : (a : Bool) → bool_byte (not a) ≡ one_or_none (not a)
-begins_first true = refl
-begins_first false = refl
+-- That of the first, which stands as if behind the background.
+pub begins_first : (a b c : Bool) → b ≡ a → bool_byte (not a && not b) ≡ one_or_none (not a && (true || c))
+begins_first true b c e = refl
+begins_first false true c e = absurd cc
+begins_first false false c e = refl
+
+both_or_neither : (p q : Bool) → (p ≡ true → q ≡ true) → (q ≡ true → p ≡ true) → p ≡ q
+both_or_neither true true f g = refl
+both_or_neither true false f g = sym (f refl)
+both_or_neither false true f g = g refl
+both_or_neither false false f g = refl
+
+same_turned : (a b : ℕ) → (a == b) ≡ (b == a)
+same_turned a b = both_or_neither (a == b) (b == a) (λ e. eq-eqb b a (sym (eqb-true a b e))) (λ e. eq-eqb a b (sym (eqb-true b a e)))
+
+-- Either is the test of where a run begins.
+pub begins_at : (row : List ℕ) (background y x before : ℕ) → (x ≡ 0 → before ≡ background) → (0 < x → before ≡ get_or row (x - 1) 0)
+    → bool_byte (not (get_or row x 0 == background) && not (before == get_or row x 0)) ≡ one_or_none (begins_run (row_shows row) background y x)
+begins_at row background y zero before first behind =
+    begins_first (get_or row 0 0 == background) (before == get_or row 0 0) (not (get_or row 0 0 == get_or row 0 0)) (ap (λ n. n == get_or row 0 0) (first refl) ∙ same_turned background (get_or row 0 0))
+begins_at row background y (suc x) before first behind =
+    let there : suc x - 1 ≡ x = omega arith in
+    ap (λ n. bool_byte (not (get_or row (suc x) 0 == background) && not (n == get_or row (suc x) 0))) (behind (omega arith))
+    ∙ begins_behind (get_or row (suc x) 0 == background) (get_or row (suc x - 1) 0 == get_or row (suc x) 0) (suc x == 0) (ne_eqb (suc x) 0 (λ e. absurd (omega (arith, e))))
 
 pub few_bytes : (b : Bool) → bool_byte b ≤ 1
 few_bytes true = omega arith

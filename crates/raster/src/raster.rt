@@ -1,13 +1,16 @@
 //! Rasters: screens that are held in memory.
 
 ghost use Rattle.std.specs.Prelude.{◌≡◌, ℕ, ◌+◌, ◌*◌, ◌<◌, ◌≤◌, ◌^◌, length, slice_index, map, All, IfOk, IfErr, ⊤};
+ghost use Rattle.std.specs.Int.{w32, from_le_bytes};
 ghost use Rattle.pixel_format.specs.declared.fault.Fault.TheVariants.{Memory};
-ghost use Rattle.raster.specs.Screen.{LooksLike, IsWithin, opening, fill, lay, copy, value_at};
+ghost use Rattle.raster.specs.Colours.{colour_of};
+ghost use Rattle.raster.specs.Screen.{LooksLike, IsWithin, opening, fill, lay, copy, value_at, kept};
 ghost use Rattle.raster.specs.Update.{after_paints};
 ghost use Rattle.raster.specs.Painted.{Fits, paint_of};
 ghost use Rattle.raster.specs.Picture.{Picture, shown, IsPicture, IsRedrawn};
 
 use crate::canvas::{Canvas, VALUE_LEN};
+use crate::colours;
 use crate::painting::{self, Paint};
 use crate::rect::Rect;
 use pixel_format::Fault;
@@ -132,6 +135,22 @@ impl Raster {
             self.height as usize,
             area,
             colours,
+        );
+    }
+
+    /// Puts the colours of a host's pixels, of four bytes each, on a part of row `y`, from column `x` on.
+    pub fn put_colours(&mut self, x: u64, y: u64, pixels: &[[u8; VALUE_LEN]])
+        requires across { x + length pixels.now ≤ self.old.width }
+        requires down { y < self.old.height }
+        ensures { IsRedrawn self.old (lay (record { x = x; y = y; w = length pixels.now; h = 1 }) (kept colour_of (value_at (length pixels.now) (map (from_le_bytes w32) pixels.now))) (shown self.old)) self.new }
+    {
+        colours::put_colours(
+            self.colours.as_mut_slice(),
+            self.width as usize,
+            self.height as usize,
+            x as usize,
+            y as usize,
+            pixels,
         );
     }
 

@@ -14,10 +14,13 @@ fn count_row(row: &[u32], background: u32) -> u32
     ensures value { (y : ℕ) → result ≡ length (runs_of_row (row_shows row.now) background (length row.now) y) }
     ensures few { result ≤ length row.now }
 {
-    let mut count = u32::from(row[0] != background);
-    for x in 1..row.len() {
-        // Both tests of each position are made, so that many are made at once.
-        count += u32::from((row[x] != background) & (row[x - 1] != row[x]));
+    let mut count = 0;
+    let mut before = background;
+    for x in 0..row.len() {
+        // Both tests of each position are made, so that many are made at once; the first behaves as one behind the
+        // background.
+        count += u32::from((row[x] != background) & (before != row[x]));
+        before = row[x];
     }
     count
 }

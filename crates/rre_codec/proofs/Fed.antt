@@ -1,6 +1,6 @@
 -- A reader that takes a piece step by step.
-use Rattle.std.proofs.Common.{◌≡◌, ℕ, ◌+◌, ◌-◌, ◌≤◌, List, ◌++◌, length, take, drop, Result, None, Some, refl, sym, ap, ◌∙◌, arith}
-use Rattle.std.specs.Prelude.{MatchResult}
+use Rattle.std.proofs.Common.{◌≡◌, ℕ, ◌+◌, ◌-◌, ◌≤◌, List, ◌++◌, length, take, drop, Result, Ok, Err, None, Some, refl, sym, ap, subst, ◌∙◌, arith}
+use Rattle.std.specs.Prelude.{MatchResult, IfOk, OnOk}
 use Rattle.std.proofs.lemmas.List.{take-append-drop, length-take, length-drop}
 use Rattle.pixel_format.specs.declared.fault.Fault.{Fault}
 use Rattle.pixel_format.specs.Reading.{Reading, after, taken, fault_of}
@@ -52,3 +52,15 @@ drawn_stops keeps start now canvas piece left answer sofar h none e =
       feeds = feeds_ok (ahead start sofar) (ahead now h.drawing) piece (length piece - length left) answer (sym (h.goes_on ∙ stays.0), omega (arith, h.count, stays.1)) (e h.drawing);
       stands = h.stands;
     }
+
+-- ---- what it answers
+
+-- How many it took.
+pub took_so : (answer : Result ℕ Fault) (now : Progress) (k : ℕ) (P : ℕ → Type 0) → ((d : Drawing) → MatchResult answer (λ n. (n ≡ k) × (fault_of (ahead now d) ≡ None)) (λ fault. fault_of (ahead now d) ≡ Some fault)) → Drawing → P k → IfOk answer P
+took_so (Ok n) now k P e d p = subst P (sym (e d).0) p
+took_so (Err fault) now k P e d p = tt
+
+-- That it stands at no fault.
+pub fine_so : (answer : Result ℕ Fault) (now : Progress) (k : ℕ) → ((d : Drawing) → MatchResult answer (λ n. (n ≡ k) × (fault_of (ahead now d) ≡ None)) (λ fault. fault_of (ahead now d) ≡ Some fault)) → OnOk answer ((d : Drawing) → fault_of (ahead now d) ≡ None)
+fine_so (Ok n) now k e = λ d. (e d).1
+fine_so (Err fault) now k e = tt

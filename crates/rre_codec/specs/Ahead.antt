@@ -1,7 +1,7 @@
 -- How reading RRE goes on (RFC 6143, 7.7.3).
 use Rattle.std.specs.Prelude.{◌≡◌, ℕ, ◌+◌, List, ◌++◌, length, Result, Bool, true, false, nat_lt}
 use Rattle.pixel_format.specs.PixelFormat.{PixelFormat, pixel_len}
-use Rattle.pixel_format.specs.Reading.{Reading, Done, Faulty, ◌>>=◌, after, taken, times, Feeds}
+use Rattle.pixel_format.specs.Reading.{Reading, Done, Faulty, ◌>>=◌, after, taken, times, wants_more, Feeds}
 use Rattle.pixel_format.specs.declared.fault.Fault.{Fault}
 use Rattle.pixel_format.specs.declared.fault.Fault.TheVariants.{SubrectOutside}
 use Rattle.raster.specs.Screen.{Canvas, LooksLike, kept}
@@ -41,6 +41,10 @@ IsDrawn keeps w h Outside canvas sofar = Unit {0}
 -- A canvas shows what it keeps of what a reader has read so far.
 abbrev pub Stands : (keeps : ℕ → ℕ) → Progress → Canvas → Drawing → Type 0
 Stands keeps p canvas sofar = IsDrawn keeps p.width p.height p.stage canvas sofar
+
+-- However that was drawn, another byte is wanted.
+abbrev pub IsWanting : Progress → Type 0
+IsWanting p = (sofar : Drawing) → wants_more (ahead p sofar) ≡ true
 
 -- Readers of rectangles of one size and format.
 pub record IsSameSize (old new : Progress) : Type 0 where

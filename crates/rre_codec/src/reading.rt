@@ -1,11 +1,11 @@
 //! Reading RRE, in whatever pieces it comes.
 
-ghost use Rattle.std.specs.Prelude.{◌≡◌, ℕ, ◌+◌, ◌<◌, ◌≤◌, true, length, take, is_some, Some, None, MatchResult};
+ghost use Rattle.std.specs.Prelude.{◌≡◌, ℕ, ◌+◌, ◌<◌, ◌≤◌, true, length, take, is_some, Some, None, IfOk, OnOk, MatchResult};
 ghost use Rattle.pixel_format.specs.PixelFormat.{pixel_len};
 ghost use Rattle.pixel_format.specs.Reading.{Done, whole_of, fault_of};
 ghost use Rattle.raster.specs.Encoding.{Drawing, drawn, rre};
 ghost use Rattle.raster.specs.Screen.{Map, LooksLike, kept};
-ghost use Rattle.rre_codec.specs.Ahead.{Leads, needed, is_open, ahead, Stands, Steps, Draws, IsSameSize};
+ghost use Rattle.rre_codec.specs.Ahead.{Leads, needed, is_open, ahead, Stands, Steps, Draws, IsSameSize, IsWanting};
 
 use crate::run::COUNT_LEN;
 use crate::stage::{MOST_NEEDED, Stage, is_open, needed};
@@ -238,6 +238,9 @@ impl Reader {
         ensures width { C.width canvas.new ≡ self.old.width }
         ensures height { C.height canvas.new ≡ self.old.height }
         ensures stays { C.Stays canvas.old canvas.new }
+        ensures within { IfOk result (λ used. used ≤ length piece.now) }
+        ensures some { IsWanting self.old → 0 < length piece.now → IfOk result (λ used. 0 < used) }
+        ensures fine { OnOk result ((sofar : Drawing) → fault_of (ahead self.new sofar) ≡ None) }
         ensures drawn { (sofar : Drawing) → Stands C.keeps self.old (C.shows canvas.old) sofar → Draws C.keeps self.old self.new (C.shows canvas.new) piece.now result sofar }
     {
         let mut left = piece;

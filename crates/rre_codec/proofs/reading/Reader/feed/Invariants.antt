@@ -8,6 +8,7 @@ abbrev pub invariant-loop-self : goal.invariant-loop-self
 invariant-loop-self g l =
     record {
       within : length l.left ≤ length l.piece;
+      still : length l.left ≡ length l.piece → l.self ≡ l.fn.self;
       size : IsSameSize l.fn.self l.self;
       width : g.C.Canvas.width l.canvas ≡ l.fn.self.width;
       height : g.C.Canvas.height l.canvas ≡ l.fn.self.height;
