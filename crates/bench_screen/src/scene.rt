@@ -3,9 +3,9 @@
 ghost use Rattle.std.specs.Prelude.{◌≡◌, IfOk};
 ghost use Rattle.raster.specs.Screen.{IsWithin};
 
-use painter::Patch;
+use painter::{Painter, Patch};
 use pixel_format::Fault;
-use raster::{Paint, Rect};
+use raster::Rect;
 use reflect_core::{Cut, Puts, ScreenSource};
 use std::alloc::Global;
 use std::time::{Clock, Instant};
@@ -30,10 +30,10 @@ pub fn painted(alloc: Global, area: Rect, colour: u32) -> Result<Patch, Fault>
     requires { IsWithin area 1920 1080 }
     ensures { IfOk result (λ patch. (patch.width ≡ 1920) × (patch.height ≡ 1080)) }
 {
-    let mut paints = Vec::new(alloc);
+    let mut painter = Painter::new(alloc, 1920, 1080)?;
     let colours = vec![in alloc; colour; (area.w * area.h) as usize]?;
-    paints.push(Paint::Put(area, colours))?;
-    Ok(Patch::paints(1920, 1080, paints))
+    painter.put(area, colours.as_slice());
+    painter.patch()
 }
 
 /// The time in nanoseconds of one put of this colour on a rectangle, if it was taken. The patch was made before.

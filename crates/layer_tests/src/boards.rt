@@ -1,11 +1,10 @@
 //! A board, which knows when each of its tiles was touched, and what a cut takes of it.
 
 ghost use Rattle.std.specs.Prelude.{◌≡◌, IfOk};
-ghost use Rattle.raster.specs.Painted.{Fits, paint_of};
 ghost use Rattle.raster.specs.Screen.{IsWithin};
 
-use painter::{Board, Patch};
-use raster::{Paint, Rect};
+use painter::{Board, Painter, Patch};
+use raster::Rect;
 use reflect_core::Cut;
 use std::alloc::Global;
 use std::test::Fail;
@@ -35,26 +34,17 @@ const EDGE: Rect = Rect {
     h: 1,
 };
 
-// One paint of a screen of 33 by 17.
-fn patch_of(alloc: Global, paint: Paint) -> Result<Patch, Fail>
-    requires { Fits 33 17 (paint_of paint) }
-    ensures { IfOk result (λ patch. (patch.width ≡ 33) × (patch.height ≡ 17)) }
-{
-    let mut paints = Vec::new(alloc);
-    paints.push(paint)?;
-    Ok(Patch::paints(33, 17, paints))
-}
-
 // A board to which a corner was painted, a Bell came, and one pixel was copied to the edge: the updates 1 to 3.
 fn painted(alloc: Global) -> Result<Board, Fail>
     ensures { IfOk result (λ board. (board.width ≡ 33) × (board.height ≡ 17)) }
 {
     let mut board = Board::new(alloc, 33, 17)?;
-    let corner = patch_of(alloc, Paint::Put(CORNER, [5, 6, 7, 8].to_vec(alloc)?))?;
-    let copied = patch_of(alloc, Paint::Copy(EDGE, 16, 15))?;
-    board.apply(&corner);
+    let mut painter = Painter::new(alloc, 33, 17)?;
+    painter.put(CORNER, &[5, 6, 7, 8]);
+    board.apply(&painter.patch()?);
     board.apply(&Patch::bell(33, 17));
-    board.apply(&copied);
+    painter.copy(EDGE, 16, 15);
+    board.apply(&painter.patch()?);
     Ok(board)
 }
 

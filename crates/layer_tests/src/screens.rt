@@ -2,8 +2,8 @@
 
 ghost use Rattle.std.specs.Prelude.{◌≡◌, IfOk};
 
-use painter::Patch;
-use raster::{Paint, Rect};
+use painter::{Painter, Patch};
+use raster::Rect;
 use reflect_core::{Asked, Cut, PlainScreen, Puts, ScreenSource};
 use std::alloc::Global;
 use std::test::Fail;
@@ -20,10 +20,9 @@ const AREA: Rect = Rect {
 fn red_and_blue(alloc: Global) -> Result<Patch, Fail>
     ensures { IfOk result (λ patch. (patch.width ≡ 2) × (patch.height ≡ 1)) }
 {
-    let colours = [0xFF0000, 0x0000FF].to_vec(alloc)?;
-    let mut paints = Vec::new(alloc);
-    paints.push(Paint::Put(AREA, colours))?;
-    Ok(Patch::paints(2, 1, paints))
+    let mut painter = Painter::new(alloc, 2, 1)?;
+    painter.put(AREA, &[0xFF0000, 0x0000FF]);
+    Ok(painter.patch()?)
 }
 
 // The number of an update that was put, and 0 where it was refused.

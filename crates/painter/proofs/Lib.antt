@@ -2,6 +2,8 @@ pub mod PatchLaws
 pub mod TouchLaws
 pub mod ViewLaws
 pub mod PaintingLaws
+pub mod DrawingLaws
 pub mod SameLaws
+pub mod SameVectors
 pub mod TilePuts
 pub mod TileColours

@@ -1,15 +1,16 @@
 -- A screen that is painted on, and its marks.
-use Rattle.std.proofs.Common.{◌≡◌, ℕ, ◌+◌, ◌*◌, ◌-◌, ◌<◌, ◌≤◌, Bool, true, false, List, [], ◌∷◌, ◌++◌, length, get_or, inl, inr, refl, ap, sym, subst, take, drop, ◌∙◌, arith}
+use Rattle.std.proofs.Common.{◌≡◌, ℕ, ◌+◌, ◌*◌, ◌-◌, ◌<◌, ◌≤◌, Bool, true, false, List, [], ◌∷◌, ◌++◌, length, length-append, get_or, inl, inr, refl, ap, sym, subst, take, drop, ◌∙◌, arith}
 use Rattle.std.specs.Prelude.{◌||◌, ◌==◌, if◌then◌else◌, slice_index}
 use Rattle.std.proofs.lemmas.Bool.{cases_lt}
 use Rattle.std.proofs.lemmas.List.{get_or_append_left, get_or-append_right, get_or-drop, get_or-take}
 use Rattle.std.proofs.lemmas.List.Folds.{list_any-append}
 use Rattle.raster.specs.declared.rect.Rect.{Rect}
 use Rattle.raster.specs.Painted.{Fits}
-use Rattle.raster.specs.Screen.{Canvas, LooksLike, meets, tile_count, tile_rect, value_at, whole_screen}
+use Rattle.raster.specs.Screen.{Canvas, LooksLike, meets, tile_count, tile_rect, value_at, values_of, whole_screen}
 use Rattle.raster.specs.Update.{Paint, Paints, after_paint, after_paints, painted}
-use Rattle.raster.proofs.Places.{Has, meets_at}
+use Rattle.raster.proofs.Places.{Has, length_values, meets_at, values_at}
 use Rattle.raster.proofs.Rows.{row_before}
+use Rattle.raster.proofs.Values.{values_back}
 use Rattle.raster.proofs.Screens.{looks_after, after_paints-more}
 use Rattle.tiles.proofs.Ranges.{IsTile, tile_is}
 use Rattle.tiles.specs.Grid.{IsTouched, Stamps}
@@ -27,13 +28,13 @@ marks_of w h n area old new e f touched =
 
 -- ---- a paint more
 
-mark_is : (b a : Bool) (m : ℕ) → (m == 1) ≡ a → ((if b then 1 else m) == 1) ≡ (a || (b || false))
+pub mark_is : (b a : Bool) (m : ℕ) → (m == 1) ≡ a → ((if b then 1 else m) == 1) ≡ (a || (b || false))
 mark_is true true m e = refl
 mark_is true false m e = refl
 mark_is false true m e = e
 mark_is false false m e = e
 
-touches_more : (r : Rect) (ps : List Paint) (p : Paint) → touches r (Paints (ps ++ p ∷ [])) ≡ (touches r (Paints ps) || (meets (painted p) r || false))
+pub touches_more : (r : Rect) (ps : List Paint) (p : Paint) → touches r (Paints (ps ++ p ∷ [])) ≡ (touches r (Paints ps) || (meets (painted p) r || false))
 touches_more r ps p = list_any-append (λ q. meets (painted q) r) ps (p ∷ [])
 
 -- Where one more paint is painted, and the tiles that it meets are marked, it is painted over the same start.
@@ -94,7 +95,7 @@ begun old new lw large same marks start looks =
 -- ---- rows that are gathered
 
 -- A row more of a canvas.
-pub rows_more : (w m : ℕ) (c : Canvas) (xs row : List ℕ) → length xs ≡ w * m → ((x : ℕ) → x < w → slice_index row x ≡ c x m)
+rows_more : (w m : ℕ) (c : Canvas) (xs row : List ℕ) → length xs ≡ w * m → ((x : ℕ) → x < w → slice_index row x ≡ c x m)
     → ((x y : ℕ) → x < w → y < m → value_at w xs x y ≡ c x y) → (x y : ℕ) → x < w → y < m + 1 → value_at w (xs ++ row) x y ≡ c x y
 rows_more w m c xs row e new old x y lx ly =
     elim (cases_lt y m) [
@@ -105,6 +106,13 @@ rows_more w m c xs row e new old x y lx ly =
           let place : y * w + x - length xs ≡ x = omega (arith, e, ap (λ k. k * w) last) in
           get_or-append_right xs row (length xs) (y * w + x) 0 refl behind ∙ (ap (λ k. get_or row k 0) place ∙ (new x lx ∙ ap (c x) (sym last)))
     ]
+
+-- A row behind those above it.
+pub next_row : (w y : ℕ) (c : Canvas) (row : List ℕ) → 0 < w → length row ≡ w → ((x : ℕ) → x < w → slice_index row x ≡ c x y) → values_of w y c ++ row ≡ values_of w (y + 1) c
+next_row w y c row lw count new =
+    let all : w * (y + 1) ≡ w * y + w = omega arith in
+    sym (values_back w (y + 1) c (values_of w y c ++ row) lw (length-append (values_of w y c) row ∙ omega (arith, length_values w y c, count, all))
+    (λ i j li lj. sym (rows_more w y c (values_of w y c) row (length_values w y c) new (λ k m lk lm. values_at w y c k m lk lm) i j li lj)))
 
 -- A part of a row.
 pub part_at : (row : List ℕ) (from n k : ℕ) → k < n → slice_index (take n (drop from row)) k ≡ slice_index row (from + k)

@@ -1,49 +1,76 @@
--- Whole tiles of a screen lie on it, and have together no more colours than it has positions.
-use Rattle.std.proofs.Common.{◌≡◌, ℕ, zero, suc, ◌+◌, ◌*◌, ◌-◌, ◌/◌, ◌%◌, ◌<◌, ◌≤◌, Bool, true, false, List, [], ◌∷◌, length, map, All, get_or, inl, inr, ap, sym, subst, ◌∙◌, arith, zero-add}
+-- The tiles of a screen are those of a patch, and have together no more colours than it has positions.
+use Rattle.std.proofs.Common.{◌≡◌, ℕ, zero, suc, ◌+◌, ◌*◌, ◌-◌, ◌/◌, ◌%◌, ◌<◌, ◌≤◌, Bool, true, false, List, [], ◌∷◌, ◌++◌, length, length-append, take, drop, map, All, get_or, inl, inr, refl, ap, sym, subst, ◌∙◌, arith, zero-add}
 use Rattle.std.specs.Prelude.{filter, if◌then◌else◌, min}
-use Rattle.std.specs.List.{range_with_len, sum_by}
-use Rattle.std.proofs.Math.Nat.{add-mul, mod-lt, mul-add}
+use Rattle.std.specs.List.{flat_map, range_with_len, sum_by}
+use Rattle.std.proofs.Math.Nat.{add-mul, mod-lt, mul-add, mul-le-mul}
+use Rattle.std.proofs.Math.Seq.{drop-append_seam, take-append_seam}
 use Rattle.std.proofs.lemmas.Bool.{cases_lt}
-use Rattle.std.proofs.lemmas.List.{length-map, get_or-map}
-use Rattle.std.proofs.lemmas.List.Elements.{All-filter, All-map}
+use Rattle.std.proofs.lemmas.List.Elements.{All-filter}
 use Rattle.std.proofs.lemmas.List.FromFn.{get_or-range_with_len, length-range_with_len, sum_by-map-range_with_len_more}
 use Rattle.std.proofs.lemmas.List.Sums.{sum_by-cons}
 use Rattle.std.proofs.lemmas.Nat.{div-add-mod', div-mul-add, mod-mul-add}
-use Rattle.raster.specs.declared.painting.Paint as code
 use Rattle.raster.specs.declared.rect.Rect.{Rect}
-use Rattle.raster.specs.Painted.{Fits, paint_of}
-use Rattle.raster.specs.Screen.{Canvas, IsWithin, part_of, tile_count, tile_rect, tiles_across}
-use Rattle.raster.specs.Update.{Paint}
+use Rattle.raster.specs.Screen.{Canvas, part_of, tile_count, tile_rect, tiles_across}
+use Rattle.raster.specs.Update.{Paint, Put}
 use Rattle.raster.proofs.Places.{length_values}
-use Rattle.tiles.proofs.Ranges.{IsTile, tile_is}
-use Rattle.painter.specs.Painter.{colour_count, colours_of, tile_put, tile_puts}
+use Rattle.painter.specs.Painter.{Painting, colour_count, colours_in, colours_of, is_touched, tile_put, tile_puts, touched_below, worked}
+use Rattle.painter.specs.Patch.{AreTiles, tile_area, tile_paints}
 
--- ---- they lie on the screen
+-- ---- they are the tiles of a patch
 
-tile_within : (w h t : ℕ) → 0 < w → t < tile_count w h → IsWithin (tile_rect w h t) w h
-tile_within w h t lw lt = let is : IsTile w h t = tile_is w h t lw lt in record { across = omega (arith, is.column); down = omega (arith, is.row) }
+-- Their paints, where their colours stand one tile after the other.
+pub tiles_are_puts : (w h : ℕ) (c : Canvas) (ts : List ℕ) → tile_paints w h ts (flat_map (λ t. colours_in c (tile_rect w h t)) ts) ≡ map (tile_put w h c) ts
+tiles_are_puts w h c [] = refl
+tiles_are_puts w h c (t ∷ ts) =
+    let r : Rect = tile_rect w h t in
+    let others : List ℕ = flat_map (λ k. colours_in c (tile_rect w h k)) ts in
+    let count : length (colours_in c r) ≡ tile_area w h t = length_values r.w r.h (part_of r c) in
+    let front : take (tile_area w h t) (colours_in c r ++ others) ≡ colours_in c r = ap (λ n. take n (colours_in c r ++ others)) (sym count) ∙ take-append_seam (colours_in c r) others in
+    let rest : drop (tile_area w h t) (colours_in c r ++ others) ≡ others = ap (λ n. drop n (colours_in c r ++ others)) (sym count) ∙ drop-append_seam (colours_in c r) others in
+    ap (λ cs. Put r cs ∷ tile_paints w h ts (drop (tile_area w h t) (colours_in c r ++ others))) front ∙ ap (λ (ps : List Paint). Put r (colours_in c r) ∷ ps) (ap (tile_paints w h ts) rest ∙ tiles_are_puts w h c ts)
 
-puts_fit : (w h : ℕ) (c : Canvas) (passes : ℕ → Bool) → 0 < w → All (Fits w h) (tile_puts w h c passes)
-puts_fit w h c passes lw =
-    All-map (Fits w h) (tile_put w h c) (filter passes (range_with_len 0 (tile_count w h)))
-    (All-filter passes (λ t. Fits w h (tile_put w h c t)) (range_with_len 0 (tile_count w h)) each)
+-- There is a colour for each position.
+pub colours_count : (w h : ℕ) (c : Canvas) (ts : List ℕ) → length (flat_map (λ t. colours_in c (tile_rect w h t)) ts) ≡ sum_by (tile_area w h) ts
+colours_count w h c [] = refl
+colours_count w h c (t ∷ ts) =
+    let r : Rect = tile_rect w h t in
+    length-append (colours_in c r) (flat_map (λ k. colours_in c (tile_rect w h k)) ts)
+    ∙ (ap (λ n. n + length (flat_map (λ k. colours_in c (tile_rect w h k)) ts)) (length_values r.w r.h (part_of r c))
+    ∙ (ap (λ n. tile_area w h t + n) (colours_count w h c ts) ∙ sym (sum_by-cons (tile_area w h) t ts)))
+
+-- Those that were touched are tiles of the screen.
+pub touched_there : (screen : Painting) (n : ℕ) → All (λ t. t < n) (touched_below screen n)
+touched_there screen n = All-filter (is_touched screen) (λ t. t < n) (range_with_len 0 n) each
   where
-    each : All (λ t. Fits w h (tile_put w h c t)) (range_with_len 0 (tile_count w h))
+    each : All (λ t. t < n) (range_with_len 0 n)
     each k d lt =
-        let less : k < tile_count w h = rw (length-range_with_len 0 (tile_count w h)) at lt in
-        let is : get_or (range_with_len 0 (tile_count w h)) k d ≡ k = get_or-range_with_len 0 (tile_count w h) k d less ∙ zero-add k in
-        let r : Rect = tile_rect w h k in
-        subst (λ (t : ℕ). Fits w h (tile_put w h c t)) (sym is) (tile_within w h k lw less, length_values r.w r.h (part_of r c))
+        let less : k < n = rw (length-range_with_len 0 n) at lt in
+        let is : get_or (range_with_len 0 n) k d ≡ k = get_or-range_with_len 0 n k d less ∙ zero-add k in
+        omega (arith, is, less)
 
-all_of_code : (w h : ℕ) (ps : List code.Paint) (qs : List Paint) → map paint_of ps ≡ qs → All (Fits w h) qs → All (λ p. Fits w h (paint_of p)) ps
-all_of_code w h ps qs same fits k d lt =
-    let all : All (Fits w h) (map paint_of ps) = subst (λ (l : List Paint). All (Fits w h) l) (sym same) fits in
-    let within : k < length (map paint_of ps) = rw length-map lt in
-    subst (λ (p : Paint). Fits w h p) (get_or-map paint_of ps k d (paint_of d) lt) (all k (paint_of d) within)
+-- What was touched, with its colours, is a patch of these tiles as they look.
+pub are_tiles : (screen : Painting) (ts colours : List ℕ) → ts ≡ touched_below screen (tile_count screen.width screen.height)
+    → colours ≡ flat_map (λ t. colours_in (worked screen) (tile_rect screen.width screen.height t)) (touched_below screen (tile_count screen.width screen.height)) → AreTiles screen.width screen.height ts colours
+are_tiles screen ts colours is_ts is_colours =
+    let all : List ℕ = touched_below screen (tile_count screen.width screen.height) in
+    record {
+      there = subst (λ (ks : List ℕ). All (λ t. t < tile_count screen.width screen.height) ks) (sym is_ts) (touched_there screen (tile_count screen.width screen.height));
+      count = ap (λ (cs : List ℕ). length cs) is_colours ∙ (colours_count screen.width screen.height (worked screen) all ∙ ap (sum_by (tile_area screen.width screen.height)) (sym is_ts));
+    }
 
--- Those of the code do too.
-pub tiles_fit : (w h : ℕ) (c : Canvas) (passes : ℕ → Bool) (ps : List code.Paint) → 0 < w → map paint_of ps ≡ tile_puts w h c passes → All (λ p. Fits w h (paint_of p)) ps
-tiles_fit w h c passes ps lw same = all_of_code w h ps (tile_puts w h c passes) same (puts_fit w h c passes lw)
+pub patch_paints : (screen : Painting) (ts colours : List ℕ) → ts ≡ touched_below screen (tile_count screen.width screen.height)
+    → colours ≡ flat_map (λ t. colours_in (worked screen) (tile_rect screen.width screen.height t)) (touched_below screen (tile_count screen.width screen.height))
+    → tile_paints screen.width screen.height ts colours ≡ tile_puts screen.width screen.height (worked screen) (is_touched screen)
+patch_paints screen ts colours is_ts is_colours =
+    let all : List ℕ = touched_below screen (tile_count screen.width screen.height) in
+    ap (λ (ks : List ℕ). tile_paints screen.width screen.height ks colours) is_ts ∙ (ap (tile_paints screen.width screen.height all) is_colours ∙ tiles_are_puts screen.width screen.height (worked screen) all)
+
+-- A tile has at most 16 by 16 positions.
+pub area_small : (w h t : ℕ) → tile_area w h t ≤ 256
+area_small w h t =
+    let wide : min 16 (w - t % tiles_across w * 16) ≤ 16 = omega arith in
+    let high : min 16 (h - t / tiles_across w * 16) ≤ 16 = omega arith in
+    mul-le-mul wide high
 
 -- ---- their colours
 

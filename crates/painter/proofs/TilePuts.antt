@@ -4,7 +4,7 @@ use Rattle.std.specs.Prelude.{◌||◌, ◌&&◌, filter, if◌then◌else◌, m
 use Rattle.std.specs.List.{list_any, range_with_len}
 use Rattle.std.proofs.lemmas.Bool.{cases_Bool, or_cases}
 use Rattle.std.proofs.lemmas.Bool.Decides.{nat_tests}
-use Rattle.std.proofs.lemmas.List.{append-nil, map-append}
+use Rattle.std.proofs.lemmas.List.{append-nil}
 use Rattle.std.proofs.lemmas.List.Elements.{filter-append}
 use Rattle.std.proofs.lemmas.List.Folds.{list_any_at, list_any_none}
 use Rattle.std.proofs.lemmas.List.FromFn.{get_or-range_with_len, length-range_with_len}
@@ -16,7 +16,7 @@ use Rattle.raster.proofs.Places.{Has, has_holds, holds_has, meets_at, tile_of, t
 use Rattle.tiles.proofs.Touching.{same_after_paints}
 use Rattle.tiles.specs.Touched.{touches}
 use Rattle.painter.specs.Same.{AreSameFrom}
-use Rattle.painter.specs.Painter.{Painting, IsPaintedOver, is_touched, tile_put, tile_puts, worked}
+use Rattle.painter.specs.Painter.{Painting, IsPaintedOver, is_touched, tile_put, tile_puts, touched_below, worked}
 use Rattle.painter.proofs.PatchLaws.{list_any-map}
 use Rattle.painter.proofs.SameLaws.{same_one}
 use Rattle.painter.proofs.PaintingLaws.{tile_has}
@@ -27,24 +27,19 @@ range_more : (a n : ℕ) → range_with_len a (suc n) ≡ range_with_len a n ++ 
 range_more a zero = let e : a ≡ a + 0 = omega arith in ap (λ k. k ∷ []) e
 range_more a (suc n) = let e : a + 1 + n ≡ a + suc n = omega arith in ap (λ ks. a ∷ ks) (range_more (a + 1) n ∙ ap (λ k. range_with_len (a + 1) n ++ k ∷ []) e)
 
-one_more : (w h : ℕ) (c : Canvas) (passes : ℕ → Bool) (t : ℕ)
-    → map (tile_put w h c) (filter passes (range_with_len 0 (t + 1))) ≡ map (tile_put w h c) (filter passes (range_with_len 0 t)) ++ map (tile_put w h c) (filter passes (t ∷ []))
-one_more w h c passes t =
+one_more : (screen : Painting) (t : ℕ) → touched_below screen (t + 1) ≡ touched_below screen t ++ filter (is_touched screen) (t ∷ [])
+one_more screen t =
     let next : t + 1 ≡ suc t = omega arith in
     let range : range_with_len 0 (t + 1) ≡ range_with_len 0 t ++ t ∷ [] = ap (range_with_len 0) next ∙ (range_more 0 t ∙ ap (λ k. range_with_len 0 t ++ k ∷ []) (zero-add t)) in
-    ap (λ (ts : List ℕ). map (tile_put w h c) (filter passes ts)) range
-    ∙ (ap (map (tile_put w h c)) (filter-append passes (range_with_len 0 t) (t ∷ [])) ∙ map-append (tile_put w h c) (filter passes (range_with_len 0 t)) (filter passes (t ∷ [])))
+    ap (filter (is_touched screen)) range ∙ filter-append (is_touched screen) (range_with_len 0 t) (t ∷ [])
 
--- The next tile, where it passes.
-pub puts_push : (w h : ℕ) (c : Canvas) (passes : ℕ → Bool) (t : ℕ) → passes t ≡ true
-    → map (tile_put w h c) (filter passes (range_with_len 0 (t + 1))) ≡ map (tile_put w h c) (filter passes (range_with_len 0 t)) ++ tile_put w h c t ∷ []
-puts_push w h c passes t e = one_more w h c passes t ∙ ap (λ b. map (tile_put w h c) (filter passes (range_with_len 0 t)) ++ map (tile_put w h c) (if b then t ∷ [] else [])) e
+-- The next tile, where it was touched.
+pub touched_push : (screen : Painting) (t : ℕ) → is_touched screen t ≡ true → touched_below screen (t + 1) ≡ touched_below screen t ++ t ∷ []
+touched_push screen t e = one_more screen t ∙ ap (λ b. touched_below screen t ++ (if b then t ∷ [] else [])) e
 
--- And where it doesn't.
-pub puts_skip : (w h : ℕ) (c : Canvas) (passes : ℕ → Bool) (t : ℕ) → passes t ≡ false
-    → map (tile_put w h c) (filter passes (range_with_len 0 (t + 1))) ≡ map (tile_put w h c) (filter passes (range_with_len 0 t))
-puts_skip w h c passes t e =
-    one_more w h c passes t ∙ (ap (λ b. map (tile_put w h c) (filter passes (range_with_len 0 t)) ++ map (tile_put w h c) (if b then t ∷ [] else [])) e ∙ append-nil (map (tile_put w h c) (filter passes (range_with_len 0 t))))
+-- And where it wasn't.
+pub touched_skip : (screen : Painting) (t : ℕ) → is_touched screen t ≡ false → touched_below screen (t + 1) ≡ touched_below screen t
+touched_skip screen t e = one_more screen t ∙ (ap (λ b. touched_below screen t ++ (if b then t ∷ [] else [])) e ∙ append-nil (touched_below screen t))
 
 -- ---- what they show
 

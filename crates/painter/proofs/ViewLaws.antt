@@ -1,18 +1,16 @@
 -- What one update more makes of a view.
-use Rattle.std.proofs.Common.{◌≡◌, ℕ, ◌+◌, Bool, true, false, List, All, map, length-append, [], ◌∷◌, ◌++◌, length, Option, Some, None, refl, ap, sym, subst, ◌∙◌, arith, add_assoc}
+use Rattle.std.proofs.Common.{◌≡◌, ℕ, ◌+◌, Bool, true, false, List, length-append, [], ◌∷◌, ◌++◌, length, Option, Some, None, refl, ap, sym, subst, ◌∙◌, arith, add_assoc}
 use Rattle.std.specs.Int.{from_bool}
 use Rattle.std.specs.Prelude.{if◌then◌else◌}
-use Rattle.raster.specs.declared.painting.Paint as code
-use Rattle.raster.specs.Painted.{Fits, paint_of}
-use Rattle.raster.specs.Screen.{Canvas, LooksLike, opening, value_at}
-use Rattle.raster.specs.Update.{Paint, Update, Paints, Bell, Cut, NumberedText, after_paints, bells, last_text, last_text_from, paints_of, screen}
+use Rattle.raster.specs.Screen.{Canvas, LooksLike, opening, tile_rect, value_at}
+use Rattle.raster.specs.Update.{Update, Paints, Bell, Cut, NumberedText, after_paints, bells, last_text, last_text_from, paints_of, screen}
 use Rattle.tiles.proofs.Touching.{after_updates-more}
 use Rattle.painter.specs.Board.{BoardStands, Posted}
 pub use Rattle.painter.specs.Kept.{newer}
-use Rattle.painter.specs.Patch.{SizedUpdate, is_bell, text_of}
-use Rattle.painter.proofs.PatchLaws.{shows_over}
-use Rattle.painter.proofs.TouchLaws.{met_by, stands_painted}
+use Rattle.painter.specs.Patch.{ShowsOver, SizedUpdate, is_bell, text_of}
+use Rattle.tiles.proofs.GridLaws.{stands_next}
 use Rattle.tiles.specs.Grid.{IsTouched, Stamps}
+use Rattle.tiles.specs.Touched.{touches}
 
 -- A Bell more.
 pub bells-push : (us : List Update) (u : Update) → bells (us ++ u ∷ []) ≡ bells us + (if is_bell u then 1 else 0)
@@ -41,36 +39,27 @@ last_text_from-push last n (Cut text ∷ us) u =
 pub last_text-push : (us : List Update) (u : Update) → last_text (us ++ u ∷ []) ≡ newer (last_text us) (1 + length us) (text_of u)
 last_text-push us u = last_text_from-push None 1 us u
 
--- Paints of an update over colours that show some updates show those and this one.
-pub screen-push : (w h : ℕ) (old new : List ℕ) (ps : List code.Paint) (us : List Update) (u : Update) → All (λ p. Fits w h (paint_of p)) ps → map paint_of ps ≡ paints_of u
-    → LooksLike w h (value_at w new) (after_paints (value_at w old) (map paint_of ps)) → LooksLike w h (value_at w old) (screen us)
-    → LooksLike w h (value_at w new) (screen (us ++ u ∷ []))
-screen-push w h old new ps us u fits same shows stood x y lx ly =
-    shows_over w h old new ps fits shows (screen us) stood x y lx ly
-    ∙ (ap (λ (qs : List Paint). after_paints (screen us) qs x y) same ∙ sym (ap (λ (s : Canvas). s x y) (after_updates-more opening us u)))
-
 counted : (b : Bool) → from_bool b ≡ (if b then 1 else 0)
 counted true = refl
 counted false = refl
 
 -- A board that stands for some updates does so for one more, where that was painted on it, touched its tiles, was counted, and kept as a text.
-pub stands-push : (board : Posted) (patch : SizedUpdate) (w h n rung count : ℕ) (old seen new : List ℕ) (grid touched : Stamps) (last : Option NumberedText) (text : Option (List ℕ)) (ps : List code.Paint) (us : List Update)
-    → seen ≡ old → record { width = w; height = h; number = n; colours = old; grid = grid; bells = rung; text = last } ≡ board → (patch.width ≡ board.width) × (patch.height ≡ board.height)
-    → All (λ p. Fits patch.width patch.height (paint_of p)) ps → map paint_of ps ≡ paints_of patch.update → LooksLike w h (value_at w new) (after_paints (value_at w seen) (map paint_of ps))
-    → IsTouched (met_by grid ps) (n + 1) grid touched → count ≡ from_bool (is_bell patch.update) → text ≡ text_of patch.update → BoardStands board us
+pub stands-push : (board : Posted) (patch : SizedUpdate) (w h n rung count : ℕ) (old new : List ℕ) (grid touched : Stamps) (last : Option NumberedText) (text : Option (List ℕ)) (us : List Update)
+    → record { width = w; height = h; number = n; colours = old; grid = grid; bells = rung; text = last } ≡ board → (patch.width ≡ board.width) × (patch.height ≡ board.height) → ShowsOver patch old new
+    → IsTouched (λ t. touches (tile_rect grid.width grid.height t) patch.update) (n + 1) grid touched → count ≡ from_bool (is_bell patch.update) → text ≡ text_of patch.update → BoardStands board us
     → BoardStands (record { width = w; height = h; number = n + 1; colours = new; grid = touched; bells = rung + count; text = newer last (n + 1) text }) (us ++ patch.update ∷ [])
-stands-push board patch w h n rung count old seen new grid touched last text ps us is_old is size fits same shows touches is_count is_text stands =
+stands-push board patch w h n rung count old new grid touched last text us is size shows touches is_count is_text stands =
     let u : Update = patch.update in
     let stood : BoardStands (record { width = w; height = h; number = n; colours = old; grid = grid; bells = rung; text = last }) us = subst (λ (b : Posted). BoardStands b us) (sym is) stands in
     let wide : patch.width ≡ w = size.0 ∙ ap (λ (b : Posted). b.width) (sym is) in
     let high : patch.height ≡ h = size.1 ∙ ap (λ (b : Posted). b.height) (sym is) in
-    let fit : All (λ p. Fits w h (paint_of p)) ps = subst (λ v. All (λ p. Fits w v (paint_of p)) ps) high (subst (λ v. All (λ p. Fits v patch.height (paint_of p)) ps) wide fits) in
+    let painted : LooksLike w h (value_at w old) (screen us) → LooksLike w h (value_at w new) (after_paints (screen us) (paints_of u)) = rw (← wide, ← high) (shows (screen us)) in
     let longer : length (us ++ u ∷ []) ≡ length us + 1 = length-append us (u ∷ []) in
     let next : n + 1 ≡ 1 + length us = omega (arith, stood.number) in
     record {
       number = omega (arith, stood.number, longer);
-      screen = screen-push w h seen new ps us u fit same shows (subst (λ (cs : List ℕ). LooksLike w h (value_at w cs) (screen us)) (sym is_old) stood.screen);
-      grid = stands_painted grid touched ps us u (n + 1) (omega (arith, stood.number)) same touches stood.grid;
+      screen = λ x y lx ly. painted stood.screen x y lx ly ∙ sym (ap (λ (s : Canvas). s x y) (after_updates-more opening us u));
+      grid = stands_next grid touched us u (n + 1) (omega (arith, stood.number)) stood.grid touches;
       bells = ap (λ k. k + count) stood.bells ∙ (ap (λ k. bells us + k) (is_count ∙ counted (is_bell u)) ∙ sym (bells-push us u));
       text = ap (λ (t : Option NumberedText). newer t (n + 1) text) stood.text ∙ (ap (λ k. newer (last_text us) k text) next ∙ (ap (λ (t : Option (List ℕ)). newer (last_text us) (1 + length us) t) is_text ∙ sym (last_text-push us u)));
     }

@@ -1,5 +1,6 @@
 pub mod Patch
 pub mod Kept
 pub mod Painter
+pub mod Drawing
 pub mod Board
 pub mod Same

@@ -1,16 +1,19 @@
 -- The screen on which a host's update is painted as it comes, and the tiles that its patch brings.
 use Rattle.std.specs.Prelude.{◌≡◌, ℕ, ◌<◌, Bool, ◌==◌, List, map, filter, length, slice_index}
 use Rattle.std.specs.List.{range_with_len, sum_by}
+use Rattle.raster.specs.declared.rect.Rect.{Rect}
 use Rattle.raster.specs.Screen.{Canvas, LooksLike, part_of, tile_count, tile_rect, value_at, values_of}
 use Rattle.raster.specs.Update.{Paint, Put, Copy, Paints, after_paints}
 use Rattle.tiles.specs.Touched.{touches}
 
--- The size of the screen, its colours row after row, and of each tile a 1 where the update that is being read has touched it.
+-- The size of the screen, its colours row after row, of each tile a 1 where the update that is being read has touched it, and the rectangle
+-- that is drawn on.
 pub record Painting : Type 0 where
   pub width : ℕ
   pub height : ℕ
   pub colours : List ℕ
   pub marks : List ℕ
+  pub area : Rect
 
 -- What it shows.
 abbrev pub worked : Painting → Canvas
@@ -19,6 +22,10 @@ worked screen = value_at screen.width screen.colours
 -- A tile was touched.
 abbrev pub is_touched : Painting → ℕ → Bool
 is_touched screen t = slice_index screen.marks t == 1
+
+-- The tiles below number n that were touched, in rising order.
+abbrev pub touched_below : Painting → ℕ → List ℕ
+touched_below screen n = filter (is_touched screen) (range_with_len 0 n)
 
 -- Over the screen at the update's start it shows these paints, and the tiles that were touched are those that one of them touches.
 pub record IsPaintedOver (start : Canvas) (paints : List Paint) (screen : Painting) : Type 0 where
@@ -32,11 +39,13 @@ pub record IsAsLarge (screen other : Painting) : Type 0 where
 
 -- ---- the patch of an update
 
+-- The colours of a rectangle, row after row.
+abbrev pub colours_in : Canvas → Rect → List ℕ
+colours_in screen r = values_of r.w r.h (part_of r screen)
+
 -- A whole tile of a screen of w by h, as it looks.
 abbrev pub tile_put : ℕ → ℕ → Canvas → ℕ → Paint
-tile_put w h screen t =
-    let r = tile_rect w h t in
-    Put r (values_of r.w r.h (part_of r screen))
+tile_put w h screen t = Put (tile_rect w h t) (colours_in screen (tile_rect w h t))
 
 -- The tiles that a test lets through, each once, in rising order.
 abbrev pub tile_puts : ℕ → ℕ → Canvas → (ℕ → Bool) → List Paint

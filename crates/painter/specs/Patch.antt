@@ -1,8 +1,8 @@
 -- What one whole message of the host changes on a screen.
-use Rattle.std.specs.Prelude.{ℕ, ◌≤◌, Bool, true, false, List, map, length, All, Option, Some, None}
-use Rattle.raster.specs.Painted.{paint_of, Fits}
-use Rattle.raster.specs.Screen.{Canvas, LooksLike, value_at}
-use Rattle.raster.specs.Update.{Update, Paints, Bell, Cut, after_paints, paints_of}
+use Rattle.std.specs.Prelude.{◌≡◌, ℕ, ◌*◌, ◌<◌, ◌≤◌, Bool, true, false, List, [], ◌∷◌, length, take, drop, All, Option, Some, None}
+use Rattle.std.specs.List.{sum_by}
+use Rattle.raster.specs.Screen.{Canvas, LooksLike, tile_count, tile_rect, value_at}
+use Rattle.raster.specs.Update.{Paint, Put, Update, Paints, Bell, Cut, after_paints, paints_of}
 use Rattle.painter.specs.declared.patch.Change.{Change}
 use Rattle.painter.specs.declared.patch.Change.TheVariants as code
 
@@ -12,15 +12,29 @@ pub record SizedUpdate : Type 0 where
   pub height : ℕ
   pub update : Update
 
--- The update that one in the code stands for.
-abbrev pub update_of : Change → Update
-update_of (code.Paints paints) = Paints (map paint_of paints.items)
-update_of code.Bell = Bell
-update_of (code.Text text) = Cut text.items
+-- How many positions tile t of a screen of w by h has.
+abbrev pub tile_area : ℕ → ℕ → ℕ → ℕ
+tile_area w h t = let r = tile_rect w h t in r.w * r.h
 
--- Its paints lie on a screen of w by h; its text has at most 65,536 bytes.
+-- The paints of whole tiles of a screen of w by h, whose colours stand one tile after the other.
+abbrev pub tile_paints : ℕ → ℕ → List ℕ → List ℕ → List Paint
+tile_paints w h [] colours = []
+tile_paints w h (t ∷ ts) colours = Put (tile_rect w h t) (take (tile_area w h t) colours) ∷ tile_paints w h ts (drop (tile_area w h t) colours)
+
+-- They are tiles of that screen, and there is a colour for each of their positions.
+pub record AreTiles (w h : ℕ) (numbers colours : List ℕ) : Type 0 where
+  pub there : All (λ t. t < tile_count w h) numbers
+  pub count : length colours ≡ sum_by (tile_area w h) numbers
+
+-- The update that one in the code stands for.
+abbrev pub update_of : ℕ → ℕ → Change → Update
+update_of w h (code.Tiles numbers colours) = Paints (tile_paints w h numbers.items colours.items)
+update_of w h code.Bell = Bell
+update_of w h (code.Text text) = Cut text.items
+
+-- Its tiles are of a screen of w by h; its text has at most 65,536 bytes.
 abbrev pub IsFor : ℕ → ℕ → Change → Type 0
-IsFor w h (code.Paints paints) = All (λ p. Fits w h (paint_of p)) paints.items
+IsFor w h (code.Tiles numbers colours) = AreTiles w h numbers.items colours.items
 IsFor w h code.Bell = Unit {0}
 IsFor w h (code.Text text) = length text.items ≤ 65536
 

@@ -1,21 +1,16 @@
 //! A screen that is kept.
 
-ghost use Rattle.std.specs.Prelude.{◌≡◌, ℕ, ◌+◌, ◌*◌, ◌<◌, ◌≤◌, ◌^◌, List, [], ◌∷◌, ◌++◌, length, map, All, IfOk, IfErr};
+ghost use Rattle.std.specs.Prelude.{◌≡◌, ℕ, ◌+◌, ◌*◌, ◌<◌, ◌≤◌, ◌^◌, List, [], ◌∷◌, ◌++◌, length, IfOk, IfErr};
 ghost use Rattle.painter.specs.Board.{BoardStands, IsSameScreen};
 ghost use Rattle.painter.specs.Patch.{is_bell};
 ghost use Rattle.pixel_format.specs.declared.fault.Fault.TheVariants.{Memory};
-ghost use Rattle.raster.specs.Painted.{Fits, paint_of};
-ghost use Rattle.raster.specs.Screen.{meets, tile_rect};
 ghost use Rattle.raster.specs.Size.{IsScreenSize};
-ghost use Rattle.raster.specs.Update.{Update, painted};
+ghost use Rattle.raster.specs.Update.{Update};
 ghost use Rattle.std.specs.Int.{from_bool};
-ghost use Rattle.std.specs.List.{list_any};
-ghost use Rattle.tiles.specs.Grid.{IsTouched};
 
 use crate::patch::Patch;
 use crate::text::Text;
 use pixel_format::Fault;
-use raster::{Paint, apply_paints};
 use std::alloc::Global;
 use std::marker::Model;
 use tiles::Grid;
@@ -53,21 +48,6 @@ fn counted(number: u64, bells: u64, patch: &Patch) -> (u64, u64)
     ensures few { result.1 ≤ result.0 }
 {
     (number + 1, bells + u64::from(patch.is_bell()))
-}
-
-/// Update `n` touched the tiles that one of these paints meets.
-fn touch_painted(grid: &mut Grid, paints: &[Paint], n: u64)
-    requires size { IsScreenSize grid.old.width grid.old.height }
-    requires fits { All (λ p. Fits grid.old.width grid.old.height (paint_of p)) paints.now }
-    ensures { IsTouched (λ t. list_any (λ p. meets (painted (paint_of p)) (tile_rect grid.old.width grid.old.height t)) paints.now) n grid.old grid.new }
-{
-    for paint in paints {
-        let area = match paint {
-            Paint::Put(area, _) => area,
-            Paint::Copy(area, _, _) => area,
-        };
-        grid.touch(area, n);
-    }
 }
 
 impl Board {
@@ -146,14 +126,8 @@ impl Board {
         ensures stands { (us : List Update) → BoardStands self.old us → BoardStands self.new (us ++ patch.now.update ∷ []) }
     {
         let (number, bells) = counted(self.number, self.bells, patch);
-        let paints = patch.painted();
-        apply_paints(
-            self.colours.as_mut_slice(),
-            self.width as usize,
-            self.height as usize,
-            paints,
-        );
-        touch_painted(&mut self.grid, paints, number);
+        patch.paint(self.colours.as_mut_slice());
+        patch.touch(&mut self.grid, number);
         self.text.follow(patch.text_bytes(), number);
         self.number = number;
         self.bells = bells;

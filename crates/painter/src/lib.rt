@@ -5,6 +5,7 @@
 #![tactic(auto)]
 
 mod board;
+mod canvas;
 mod law;
 mod painter;
 mod patch;

@@ -1,14 +1,17 @@
 //! A screen that an update is painted on as it comes, and the patch of the tiles that it touched (RFC 6143, 7.6.1).
 
 ghost use Rattle.std.specs.Prelude.{◌≡◌, ℕ, ◌*◌, ◌<◌, ◌≤◌, ◌^◌, map, List, [], ◌∷◌, ◌++◌, length, slice_index, IfOk, IfErr, OnOk};
+ghost use Rattle.painter.specs.Patch.{tile_area};
 ghost use Rattle.painter.specs.Same.{AreSameUpdates};
-ghost use Rattle.painter.specs.Painter.{IsAsLarge, IsPaintedOver, colours_of, is_touched, tile_put, tile_puts, worked};
+ghost use Rattle.painter.specs.Drawing.{IsPaintedAround, drawn};
+ghost use Rattle.painter.specs.Painter.{IsAsLarge, IsPaintedOver, colours_in, colours_of, is_touched, tile_puts, touched_below, worked};
 ghost use Rattle.pixel_format.specs.declared.fault.Fault.TheVariants.{Memory};
 ghost use Rattle.raster.specs.Painted.{Fits, paint_of};
 ghost use Rattle.raster.specs.Picture.{Picture, shown};
-ghost use Rattle.raster.specs.Screen.{Canvas, IsWithin, LooksLike, opening, part_of, tile_count, tile_rect, values_of};
+ghost use Rattle.raster.specs.Screen.{Canvas, IsWithin, LooksLike, opening, tile_count, tile_rect, value_at};
 ghost use Rattle.raster.specs.Size.{IsScreenSize};
 ghost use Rattle.raster.specs.Update as update;
+ghost use Rattle.std.specs.List.{flat_map, sum_by};
 
 use crate::patch::Patch;
 use pixel_format::Fault;
@@ -25,37 +28,39 @@ const UNTOUCHED: u64 = 0;
 /// The host's screen as all bytes so far left it, and the tiles that the update which is being read has touched.
 #[derive(Drop)]
 pub struct Painter {
-    raster: Raster,
+    pub(crate) raster: Raster,
     touched: Grid,
+    /// The rectangle that is drawn on.
+    pub(crate) area: Rect,
     alloc: Global,
 }
 
 impl Model for Painter {
     ghost use Rattle.std.specs.Prelude.{◌≡◌};
+    ghost use Rattle.raster.specs.Screen.{IsWithin};
     ghost use Rattle.raster.specs.Size.{IsScreenSize};
     ghost use Rattle.painter.specs.Painter.{Painting};
 
     ghost Value = { Painting };
 
-    ghost view = { λ s. record { width = s.raster.width; height = s.raster.height; colours = s.raster.colours; marks = s.touched.stamps } };
+    ghost view = { λ s. record { width = s.raster.width; height = s.raster.height; colours = s.raster.colours; marks = s.touched.stamps; area = s.area } };
 
-    ghost invariant = { λ s. IsScreenSize s.raster.width s.raster.height × (s.touched.width ≡ s.raster.width) × (s.touched.height ≡ s.raster.height) };
+    ghost invariant = { λ s. IsScreenSize s.raster.width s.raster.height × (s.touched.width ≡ s.raster.width) × (s.touched.height ≡ s.raster.height) × IsWithin s.area s.raster.width s.raster.height };
 }
 
-/// The colours of a rectangle of a raster, row after row. It fails where memory is refused (`Memory`).
-fn colours_in(alloc: Global, raster: &Raster, area: &Rect) -> Result<Vec<u32>, Fault>
+/// Adds the colours of a rectangle of a raster, row after row. It fails where memory is refused (`Memory`).
+fn add_colours(colours: &mut Vec<u32>, raster: &Raster, area: &Rect) -> Result<(), Fault>
     requires within { IsWithin area.now raster.now.width raster.now.height }
     requires small { raster.now.width * raster.now.height < 2 ^ 32 }
     requires wide { 0 < area.now.w }
-    ensures ok { IfOk result (λ colours. colours.items ≡ values_of area.now.w area.now.h (part_of area.now (shown raster.now))) }
+    ensures ok { OnOk result (colours.new.items ≡ colours.old.items ++ colours_in (shown raster.now) area.now) }
     ensures err { IfErr result (λ fault. fault ≡ Memory) }
 {
-    let mut colours = Vec::with_capacity(alloc, (area.w * area.h) as usize)?;
     for y in 0..area.h {
         let row = raster.row(area.y + y);
         colours.extend_from_slice(&row[area.x as usize..(area.x + area.w) as usize])?;
     }
-    Ok(colours)
+    Ok(())
 }
 
 impl Painter {
@@ -69,6 +74,12 @@ impl Painter {
         Ok(Painter {
             raster: Raster::new(alloc, width, height)?,
             touched: Grid::new(alloc, width, height)?,
+            area: Rect {
+                x: 0,
+                y: 0,
+                w: 0,
+                h: 0,
+            },
             alloc,
         })
     }
@@ -124,28 +135,59 @@ impl Painter {
         }
     }
 
-    /// One whole tile, as it looks now. It fails where memory is refused (`Memory`).
-    fn tile(&self, t: u64) -> Result<Paint, Fault>
-        requires { t < tile_count self.now.width self.now.height }
-        ensures ok { IfOk result (λ paint. paint_of paint ≡ tile_put self.now.width self.now.height (worked self.now) t) }
-        ensures err { IfErr result (λ fault. fault ≡ Memory) }
+    /// Begins to draw on a rectangle, of which the tiles aren't touched before the end.
+    pub fn draw_on(&mut self, area: Rect)
+        requires { IsWithin area self.old.width self.old.height }
+        ensures { self.new ≡ record self.old { area = area } }
     {
-        let area = tile_rect(self.raster.width(), self.raster.height(), t);
-        Ok(Paint::Put(area, colours_in(self.alloc, &self.raster, &area)?))
+        self.area = area;
     }
 
-    /// The tiles that were touched, in rising order. It fails where memory is refused (`Memory`).
-    fn touched_tiles(&self) -> Result<Vec<Paint>, Fault>
-        ensures ok { IfOk result (λ tiles. map paint_of tiles.items ≡ tile_puts self.now.width self.now.height (worked self.now) (is_touched self.now)) }
-        ensures err { IfErr result (λ fault. fault ≡ Memory) }
+    /// Ends drawing on the rectangle: what it shows is one more paint. It always succeeds, and takes no memory.
+    pub fn end_drawing(&mut self)
+        ensures size { IsAsLarge self.old self.new }
+        ensures painted { (start : Canvas) (paints : List update.Paint) (colours : List ℕ) → IsPaintedAround start paints self.old.area self.old
+            → LooksLike self.old.area.w self.old.area.h (drawn self.old) (value_at self.old.area.w colours) → IsPaintedOver start (paints ++ update.Put self.old.area colours ∷ []) self.new }
     {
-        let mut tiles = Vec::new(self.alloc);
-        for t in 0..tile_count(self.raster.width(), self.raster.height()) {
+        self.touched.touch(&self.area, TOUCHED);
+    }
+
+    /// How many tiles were touched, and how many positions they have.
+    fn touched_size(&self) -> (u64, u64)
+        ensures count { result.0 ≡ length (touched_below self.now (tile_count self.now.width self.now.height)) }
+        ensures area { result.1 ≡ sum_by (tile_area self.now.width self.now.height) (touched_below self.now (tile_count self.now.width self.now.height)) }
+    {
+        let (width, height) = (self.raster.width(), self.raster.height());
+        let mut count = 0;
+        let mut positions = 0;
+        for t in 0..tile_count(width, height) {
             if self.touched.stamp(t) == TOUCHED {
-                tiles.push(self.tile(t)?)?;
+                let area = tile_rect(width, height, t);
+                count += 1;
+                positions += area.w * area.h;
             }
         }
-        Ok(tiles)
+        (count, positions)
+    }
+
+    /// The tiles that were touched, in rising order: their numbers, and the colours of each as it looks now, one tile after the
+    /// other. It fails where memory is refused (`Memory`).
+    fn touched_tiles(&self) -> Result<(Vec<u64>, Vec<u32>), Fault>
+        ensures numbers { IfOk result (λ tiles. tiles.0.items ≡ touched_below self.now (tile_count self.now.width self.now.height)) }
+        ensures colours { IfOk result (λ tiles. tiles.1.items ≡ flat_map (λ t. colours_in (worked self.now) (tile_rect self.now.width self.now.height t)) (touched_below self.now (tile_count self.now.width self.now.height))) }
+        ensures err { IfErr result (λ fault. fault ≡ Memory) }
+    {
+        let (width, height) = (self.raster.width(), self.raster.height());
+        let (count, positions) = self.touched_size();
+        let mut numbers = Vec::with_capacity(self.alloc, count as usize)?;
+        let mut colours = Vec::with_capacity(self.alloc, positions as usize)?;
+        for t in 0..tile_count(width, height) {
+            if self.touched.stamp(t) == TOUCHED {
+                numbers.push(t)?;
+                add_colours(&mut colours, &self.raster, &tile_rect(width, height, t))?;
+            }
+        }
+        Ok((numbers, colours))
     }
 
     /// At the end of a FramebufferUpdate (RFC 6143, section 7.6.1): the tiles that it touched, each once, in rising order, with the colours
@@ -161,7 +203,7 @@ impl Painter {
         ensures err { IfErr result (λ fault. fault ≡ Memory) }
     {
         let (width, height) = self.size();
-        let tiles = self.touched_tiles()?;
+        let (numbers, colours) = self.touched_tiles()?;
         let all = Rect {
             x: 0,
             y: 0,
@@ -169,6 +211,6 @@ impl Painter {
             h: height,
         };
         self.touched.touch(&all, UNTOUCHED);
-        Ok(Patch::paints(width, height, tiles))
+        Ok(Patch::of_tiles(width, height, numbers, colours))
     }
 }

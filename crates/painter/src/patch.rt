@@ -1,25 +1,27 @@
 //! What one whole message of the host changes on a screen.
 
-ghost use Rattle.std.specs.Prelude.{◌≡◌, ℕ, ◌<◌, ◌≤◌, ◌*◌, length, map, All, IfOk, IfErr, IsTrue, ◌↔◌, IfSome, IfNone, Option, Some, None};
-ghost use Rattle.painter.specs.Patch.{ShowsOver, is_bell, text_of};
+ghost use Rattle.std.specs.Prelude.{◌≡◌, ℕ, ◌<◌, ◌≤◌, ◌*◌, length, All, IfOk, IfErr, IfSome};
+ghost use Rattle.painter.specs.Patch.{AreTiles, ShowsOver, is_bell, text_of, tile_paints};
 ghost use Rattle.pixel_format.specs.declared.fault.Fault.TheVariants.{Memory};
-ghost use Rattle.raster.specs.Painted.{Fits, paint_of};
-ghost use Rattle.raster.specs.Screen.{IsWithin, meets};
+ghost use Rattle.raster.specs.Screen.{LooksLike, meets, tile_count, tile_rect, value_at};
 ghost use Rattle.raster.specs.Size.{IsScreenSize};
-ghost use Rattle.raster.specs.Update.{Paints, Bell, Cut, painted, paints_of};
+ghost use Rattle.raster.specs.Update.{Paints, Bell, Cut, after_paints, paints_of};
 ghost use Rattle.std.specs.List.{list_any};
 ghost use Rattle.std.specs.Option.{option_copied};
+ghost use Rattle.tiles.specs.Grid.{IsTouched};
 ghost use Rattle.tiles.specs.Touched.{touches};
 
 use pixel_format::Fault;
-use raster::{Paint, Rect, apply_paints};
+use raster::{put, tile_rect};
 use std::alloc::Global;
 use std::marker::Model;
+use tiles::Grid;
 
-/// The paints of a FramebufferUpdate, a Bell, or a text that was cut (RFC 6143, 7.6).
+/// The tiles that a FramebufferUpdate touched: their numbers, and the colours of one whole tile after the other, each row
+/// after row; or a Bell, or a text that was cut (RFC 6143, 7.6).
 #[derive(Drop)]
 enum Change {
-    Paints(Vec<Paint>),
+    Tiles(Vec<u64>, Vec<u32>),
     Bell,
     Text(Vec<u8>),
 }
@@ -38,70 +40,49 @@ impl Model for Patch {
 
     ghost Value = { SizedUpdate };
 
-    ghost view = { λ p. record { width = p.width; height = p.height; update = update_of p.change } };
+    ghost view = { λ p. record { width = p.width; height = p.height; update = update_of p.width p.height p.change } };
 
     ghost invariant = { λ p. IsScreenSize p.width p.height × IsFor p.width p.height p.change };
 }
 
-/// The rectangle that a paint changes.
-fn target(paint: &Paint) -> Rect
-    ensures { result ≡ painted (paint_of paint.now) }
-{
-    match paint {
-        Paint::Put(area, _) => *area,
-        Paint::Copy(area, _, _) => *area,
-    }
-}
-
-/// Whether one of the paints meets a rectangle.
-fn any_meets(paints: &[Paint], width: u64, height: u64, r: &Rect) -> bool
+/// Puts tiles of a screen of `width` by `height` on its colours, row after row.
+fn put_tiles(screen: &mut [u32], width: u64, height: u64, numbers: &[u64], colours: &[u32])
     requires size { IsScreenSize width height }
-    requires fits { All (λ p. Fits width height (paint_of p)) paints.now }
-    requires within { IsWithin r.now 65536 65536 }
-    ensures { result ≡ list_any (λ p. meets (painted (paint_of p)) r.now) paints.now }
+    requires rows { length screen.old ≡ width * height }
+    requires tiles { AreTiles width height numbers.now colours.now }
+    ensures { LooksLike width height (value_at width screen.new) (after_paints (value_at width screen.old) (tile_paints width height numbers.now colours.now)) }
 {
-    for paint in paints {
-        if target(paint).meets(r) {
-            return true;
-        }
-    }
-    false
-}
-
-/// An equal paint. It fails where memory is refused (`Memory`).
-fn copy_of(alloc: Global, paint: &Paint) -> Result<Paint, Fault>
-    ensures ok { IfOk result (λ copied. paint_of copied ≡ paint_of paint.now) }
-    ensures err { IfErr result (λ fault. fault ≡ Memory) }
-{
-    match paint {
-        Paint::Put(area, colours) => Ok(Paint::Put(*area, colours.as_slice().to_vec(alloc)?)),
-        Paint::Copy(area, x, y) => Ok(Paint::Copy(*area, *x, *y)),
+    let mut left = colours;
+    for number in numbers {
+        let area = tile_rect(width, height, *number);
+        let (tile, behind) = left.split_at((area.w * area.h) as usize);
+        put(screen, width as usize, height as usize, area, tile);
+        left = behind;
     }
 }
 
-/// Equal paints. It fails where memory is refused (`Memory`).
-fn copies_of(alloc: Global, paints: &[Paint]) -> Result<Vec<Paint>, Fault>
-    ensures ok { IfOk result (λ copied. map paint_of copied.items ≡ map paint_of paints.now) }
-    ensures err { IfErr result (λ fault. fault ≡ Memory) }
+/// Update `n` touched these tiles of a screen of `width` by `height`.
+fn touch_tiles(grid: &mut Grid, width: u64, height: u64, numbers: &[u64], n: u64)
+    requires size { IsScreenSize width height }
+    requires tiles { All (λ t. t < tile_count width height) numbers.now }
+    ensures { IsTouched (λ t. list_any (λ k. meets (tile_rect width height k) (tile_rect grid.old.width grid.old.height t)) numbers.now) n grid.old grid.new }
 {
-    let mut copied = Vec::new(alloc);
-    for paint in paints {
-        copied.push(copy_of(alloc, paint)?)?;
+    for number in numbers {
+        grid.touch(&tile_rect(width, height, *number), n);
     }
-    Ok(copied)
 }
 
 impl Patch {
-    /// Paints of a FramebufferUpdate, each of which lies on the screen.
-    pub fn paints(width: u64, height: u64, paints: Vec<Paint>) -> Self
+    /// Tiles that a FramebufferUpdate touched, by their numbers, with their colours, one tile after the other.
+    pub(crate) fn of_tiles(width: u64, height: u64, numbers: Vec<u64>, colours: Vec<u32>) -> Self
         requires size { IsScreenSize width height }
-        requires fits { All (λ p. Fits width height (paint_of p)) paints.items }
-        ensures { result ≡ record { width = width; height = height; update = Paints (map paint_of paints.items) } }
+        requires tiles { AreTiles width height numbers.items colours.items }
+        ensures { result ≡ record { width = width; height = height; update = Paints (tile_paints width height numbers.items colours.items) } }
     {
         Patch {
             width,
             height,
-            change: Change::Paints(paints),
+            change: Change::Tiles(numbers, colours),
         }
     }
 
@@ -136,9 +117,10 @@ impl Patch {
         ensures err { IfErr result (λ fault. fault ≡ Memory) }
     {
         match &self.change {
-            Change::Paints(paints) => {
-                let copied = copies_of(alloc, paints.as_slice())?;
-                Ok(Patch::paints(self.width, self.height, copied))
+            Change::Tiles(numbers, colours) => {
+                let numbers = numbers.as_slice().to_vec(alloc)?;
+                let colours = colours.as_slice().to_vec(alloc)?;
+                Ok(Patch::of_tiles(self.width, self.height, numbers, colours))
             }
             Change::Bell => Ok(Patch::bell(self.width, self.height)),
             Change::Text(text) => {
@@ -155,24 +137,16 @@ impl Patch {
         (self.width, self.height)
     }
 
-    /// The rectangles that it paints, in order: none of a Bell or a text.
-    pub fn painted(&self) -> &[Paint]
-        ensures paints { map paint_of result.now ≡ paints_of self.now.update }
-        ensures fits { All (λ p. Fits self.now.width self.now.height (paint_of p)) result.now }
+    /// The numbers of the tiles that it paints, and their colours, one whole tile after the other: none of a Bell or a text.
+    pub fn tiles(&self) -> (&[u64], &[u32])
+        ensures paints { tile_paints self.now.width self.now.height result.0.now result.1.now ≡ paints_of self.now.update }
+        ensures tiles { AreTiles self.now.width self.now.height result.0.now result.1.now }
     {
         match &self.change {
-            Change::Paints(paints) => paints.as_slice(),
-            Change::Bell => &[],
-            Change::Text(_) => &[],
+            Change::Tiles(numbers, colours) => (numbers.as_slice(), colours.as_slice()),
+            Change::Bell => (&[], &[]),
+            Change::Text(_) => (&[], &[]),
         }
-    }
-
-    /// Whether one of its paints meets a rectangle.
-    pub fn touches(&self, r: &Rect) -> bool
-        requires { IsWithin r.now 65536 65536 }
-        ensures { result ≡ touches r.now self.now.update }
-    {
-        any_meets(self.painted(), self.width, self.height, r)
     }
 
     /// Whether it is a Bell.
@@ -188,7 +162,7 @@ impl Patch {
         ensures short { IfSome result (λ text. length text.now ≤ 65536) }
     {
         match &self.change {
-            Change::Paints(_) => None,
+            Change::Tiles(_, _) => None,
             Change::Bell => None,
             Change::Text(text) => Some(text.as_slice()),
         }
@@ -199,11 +173,15 @@ impl Patch {
         requires { length colours.old ≡ self.now.width * self.now.height }
         ensures { ShowsOver self.now colours.old colours.new }
     {
-        apply_paints(
-            colours,
-            self.width as usize,
-            self.height as usize,
-            self.painted(),
-        )
+        let (numbers, tiles) = self.tiles();
+        put_tiles(colours, self.width, self.height, numbers, tiles);
+    }
+
+    /// It is update `n`, and touches the tiles of a grid. It always succeeds, and takes no memory.
+    pub fn touch(&self, grid: &mut Grid, n: u64)
+        ensures { IsTouched (λ t. touches (tile_rect grid.old.width grid.old.height t) self.now.update) n grid.old grid.new }
+    {
+        let (numbers, _) = self.tiles();
+        touch_tiles(grid, self.width, self.height, numbers, n);
     }
 }

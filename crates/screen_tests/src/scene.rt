@@ -2,9 +2,9 @@
 
 ghost use Rattle.std.specs.Prelude.{◌≡◌, ℕ, IfOk};
 
-use painter::Patch;
+use painter::{Painter, Patch};
 use pixel_format::Fault;
-use raster::{Paint, Rect};
+use raster::Rect;
 use reflect_core::{Cut, Puts};
 use std::alloc::Global;
 use std::thread::{Threads, for_each_mut, join};
@@ -24,10 +24,10 @@ pub const MANY: u64 = 1000;
 pub fn painted(alloc: Global, n: u64) -> Result<Patch, Fault>
     ensures { IfOk result (λ patch. (patch.width ≡ 4) × (patch.height ≡ 4)) }
 {
-    let mut paints = Vec::new(alloc);
+    let mut painter = Painter::new(alloc, 4, 4)?;
     let colour = u32::try_from(n).unwrap_or(u32::MAX);
-    paints.push(Paint::Put(ALL, vec![in alloc; colour; 16]?))?;
-    Ok(Patch::paints(4, 4, paints))
+    painter.put(ALL, &[colour; 16]);
+    painter.patch()
 }
 
 /// Puts patch n, and says whether it is answered n.

@@ -19,7 +19,7 @@ fn range_met(start: u64, len: u64, side: u64) -> (u64, u64)
     requires range { start + len ≤ 65536 }
     requires side { side ≤ 4096 }
     ensures within { result.0 + result.1 ≤ tiles_across side }
-    ensures met { (k : ℕ) → k < tiles_across side → ((result.0 ≤ k) × (k < result.0 + result.1)) ↔ (max start (k * 16) < min (start + len) (k * 16 + min 16 (side - k * 16))) }
+    ensures met { (k : ℕ) → k < tiles_across side → ((result.0 ≤ k) × (k < result.0 + result.1)) ↔ (max start (k * TILE_SIDE) < min (start + len) (k * TILE_SIDE + min TILE_SIDE (side - k * TILE_SIDE))) }
 {
     if len == 0 || start >= side {
         return (0, 0);
@@ -35,7 +35,7 @@ fn range_inside(start: u64, len: u64, side: u64) -> (u64, u64)
     requires range { start + len ≤ 65536 }
     requires side { side ≤ 4096 }
     ensures within { result.0 + result.1 ≤ tiles_across side }
-    ensures inside { (k : ℕ) → k < tiles_across side → ((result.0 ≤ k) × (k < result.0 + result.1)) ↔ ((start ≤ k * 16) × (k * 16 + min 16 (side - k * 16) ≤ start + len)) }
+    ensures inside { (k : ℕ) → k < tiles_across side → ((result.0 ≤ k) × (k < result.0 + result.1)) ↔ ((start ≤ k * TILE_SIDE) × (k * TILE_SIDE + min TILE_SIDE (side - k * TILE_SIDE) ≤ start + len)) }
 {
     let tiles = tiles_along(side);
     let first = start.div_ceil(TILE_SIDE).min(tiles);

@@ -3,29 +3,31 @@ use Rattle.std.proofs.lemmas.List.{with_items_is}
 use Rattle.std.specs.Int.{from_bool}
 use Rattle.std.specs.Option.{option_copied}
 use Rattle.std.specs.Vec.{with_items}
+use Rattle.raster.specs.Screen.{tile_rect}
 use Rattle.raster.specs.Update.{NumberedText}
+use Rattle.tiles.specs.Grid.{IsTouched}
+use Rattle.tiles.specs.Touched.{touches}
 use Rattle.painter.specs.Board.{BoardStands}
 use Rattle.painter.specs.Kept.{newer}
-use Rattle.painter.specs.Patch.{is_bell}
+use Rattle.painter.specs.Patch.{ShowsOver, is_bell}
 use Rattle.painter.proofs.ViewLaws.{stands-push}
-use Rattle.painter.proofs.TouchLaws.{met_by}
-use Rattle.tiles.specs.Grid.{IsTouched}
 use Rattle.painter.proofs.board.Board.apply.Goals as goal
 
 pub returns-clause-stands : goal.returns-clause-stands
 returns-clause-stands c us stands =
     let old = c.self.inside in
-    let new : List ℕ = c.apply_paints.new.values in
+    let new : List ℕ = c.paint.new.colours in
     let rung : ℕ = from_bool (is_bell c.args.patch.now.update) in
     let Stands : ℕ → List ℕ → ℕ → Option NumberedText → Type 0 =
-    λ n cs b t. BoardStands (record { width = old.width; height = old.height; number = n; colours = cs; grid = c.touch_painted.new.grid; bells = b; text = t }) (us ++ c.args.patch.now.update ∷ []) in
+    λ n cs b t. BoardStands (record { width = old.width; height = old.height; number = n; colours = cs; grid = c.touch.new.grid; bells = b; text = t }) (us ++ c.args.patch.now.update ∷ []) in
     let rows : (with_items old.colours new).items ≡ new = with_items_is old.colours new (omega arith) in
     let told : c.follow.new.self ≡ newer old.text (old.number + 1) (option_copied c.text_bytes.result) =
     c.follow.ensures ∙ ap (λ (n : ℕ). newer old.text n (option_copied c.text_bytes.result)) c.counted-number.ensures.number in
-    let touched : IsTouched (met_by old.grid c.painted-paints.result.now) (old.number + 1) old.grid c.touch_painted.new.grid = subst (λ n. IsTouched (met_by old.grid c.painted-paints.result.now) n old.grid c.touch_painted.new.grid) c.counted-number.ensures.number c.touch_painted.ensures in
+    let Touched : ℕ → Type 0 = λ n. IsTouched (λ t. touches (tile_rect old.grid.width old.grid.height t) c.args.patch.now.update) n old.grid c.touch.new.grid in
+    let shows : ShowsOver c.args.patch.now old.colours.items new = subst (λ (cs : List ℕ). ShowsOver c.args.patch.now cs new) c.as_mut_slice.ensures.value c.paint.ensures in
     subst (λ (n : ℕ). Stands n (with_items old.colours new).items c.counted-number.result.1 c.follow.new.self) (sym c.counted-number.ensures.number)
     (subst (λ (b : ℕ). Stands (old.number + 1) (with_items old.colours new).items b c.follow.new.self) (sym c.counted-number.ensures.bells)
     (subst (λ (cs : List ℕ). Stands (old.number + 1) cs (old.bells + rung) c.follow.new.self) (sym rows)
     (subst (λ (t : Option NumberedText). Stands (old.number + 1) new (old.bells + rung) t) (sym told)
-    (stands-push c.args.self.now c.args.patch.now old.width old.height old.number old.bells rung old.colours.items c.as_mut_slice.result.now new old.grid c.touch_painted.new.grid old.text (option_copied c.text_bytes.result) c.painted-paints.result.now us
-    c.as_mut_slice.ensures.value c.self.view_is c.requires.size c.painted-paints.ensures.fits c.painted-paints.ensures.paints c.apply_paints.ensures touched refl c.text_bytes.ensures.text stands))))
+    (stands-push c.args.self.now c.args.patch.now old.width old.height old.number old.bells rung old.colours.items new old.grid c.touch.new.grid old.text (option_copied c.text_bytes.result) us
+    c.self.view_is c.requires.size shows (subst Touched c.counted-number.ensures.number c.touch.ensures) refl c.text_bytes.ensures.text stands))))

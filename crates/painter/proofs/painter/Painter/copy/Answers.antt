@@ -10,8 +10,8 @@ pub returns-clause-painted : goal.returns-clause-painted
 returns-clause-painted c =
     let w : ℕ = c.self.inside.raster.width in
     let h : ℕ = c.self.inside.raster.height in
-    let old : Painting = record { width = w; height = h; colours = c.self.inside.raster.colours; marks = c.self.inside.touched.stamps } in
-    let new : Painting = record { width = c.copy.new.self.width; height = c.copy.new.self.height; colours = c.copy.new.self.colours; marks = c.touch.new.self.stamps } in
+    let old : Painting = record { width = w; height = h; colours = c.self.inside.raster.colours; marks = c.self.inside.touched.stamps; area = c.self.inside.area } in
+    let new : Painting = record { width = c.copy.new.self.width; height = c.copy.new.self.height; colours = c.copy.new.self.colours; marks = c.touch.new.self.stamps; area = c.self.inside.area } in
     let within : IsWithin c.args.area w h = subst (λ (v : Painting). IsWithin c.args.area v.width v.height) (sym c.self.view_is) c.requires.within in
     let from : Rect = record { x = c.args.x; y = c.args.y; w = c.args.area.w; h = c.args.area.h } in
     let source : IsWithin from w h = subst (λ (v : Painting). IsWithin from v.width v.height) (sym c.self.view_is) c.requires.source in

@@ -1,29 +1,44 @@
-use Rattle.std.proofs.Common.{◌≡◌, ℕ, List, [], ◌∷◌, ◌++◌, map, ap, subst, sym, ◌∙◌}
-use Rattle.std.specs.Prelude.{◌==◌, filter}
-use Rattle.std.specs.List.{range_with_len}
+use Rattle.std.proofs.Common.{◌≡◌, ℕ, ◌+◌, ◌∷◌, [], ◌++◌, List, refl, ap, subst, sym, ◌∙◌}
+use Rattle.std.specs.Prelude.{◌==◌}
+use Rattle.std.specs.List.{flat_map}
 use Rattle.std.proofs.lemmas.Bool.{ne_eqb}
-use Rattle.std.proofs.lemmas.List.{map-append}
-use Rattle.raster.specs.declared.painting.Paint as code
-use Rattle.raster.specs.Painted.{paint_of}
-use Rattle.raster.specs.Update.{Paint}
-use Rattle.painter.specs.Painter.{Painting, is_touched, tile_put, worked}
-use Rattle.painter.proofs.TilePuts.{puts_push, puts_skip}
+use Rattle.std.proofs.lemmas.List.{append-nil}
+use Rattle.std.proofs.lemmas.List.Concat.{flat_map-append}
+use Rattle.raster.specs.declared.rect.Rect.{Rect}
+use Rattle.raster.specs.Picture.{shown}
+use Rattle.raster.specs.Screen.{tile_rect}
+use Rattle.painter.specs.Painter.{Painting, colours_in, is_touched, touched_below, worked}
+use Rattle.painter.proofs.TilePuts.{touched_push, touched_skip}
 use Rattle.painter.proofs.painter.Painter.touched_tiles.Goals as goal
-use Rattle.painter.proofs.painter.Painter.touched_tiles.Goals.{then-stamp-eq-TOUCHED+in_ok-tile+in_ok-push, else-stamp-eq-TOUCHED}
+use Rattle.painter.proofs.painter.Painter.touched_tiles.Goals.{then-stamp-eq-TOUCHED+in_ok-push+in_ok-add_colours, else-stamp-eq-TOUCHED}
 
 pub loop-t-preserved : goal.loop-t-preserved
 loop-t-preserved c =
     let now : Painting = c.args.self.now in
     let t : ℕ = c.loop-t.t in
+    let below : List ℕ = touched_below now t in
+    let tile : ℕ → List ℕ = λ k. colours_in (worked now) (tile_rect now.width now.height k) in
     let mark : is_touched now t ≡ (c.stamp.result == 1) = subst (λ (v : Painting). is_touched v t ≡ (c.stamp.result == 1)) c.self.view_is (ap (λ k. k == 1) (sym c.stamp.ensures.value)) in
     elim c.if-stamp-eq-TOUCHED.branch [
-      | then-stamp-eq-TOUCHED+in_ok-tile+in_ok-push w ↦
-          ap (λ (v : List code.Paint). map paint_of v) (ap (λ v. v.items) w.tiles-is ∙ w.in_ok-push.ensures.items)
-          ∙ (map-append paint_of c.loop-t.tiles.items (w.in_ok-tile.field-0 ∷ [])
-          ∙ (ap (λ (ps : List Paint). ps ++ paint_of w.in_ok-tile.field-0 ∷ []) c.loop-t.invariant
-          ∙ (ap (λ (p : Paint). map (tile_put now.width now.height (worked now)) (filter (is_touched now) (range_with_len 0 t)) ++ p ∷ []) w.in_ok-tile.ensures.ok
-          ∙ sym (puts_push now.width now.height (worked now) (is_touched now) t (mark ∙ ap (λ k. k == 1) w.if-stamp-eq-TOUCHED.true)))))
+      | then-stamp-eq-TOUCHED+in_ok-push+in_ok-add_colours w ↦
+          let more : touched_below now (t + 1) ≡ below ++ t ∷ [] = touched_push now t (mark ∙ ap (λ k. k == 1) w.if-stamp-eq-TOUCHED.true) in
+          let area : w.tile_rect.result ≡ tile_rect c.self.inside.raster.width c.self.inside.raster.height t =
+          w.tile_rect.ensures ∙ (ap (λ k. tile_rect k c.height-height.result t) c.width-width.ensures ∙ ap (λ k. tile_rect c.self.inside.raster.width k t) c.height-height.ensures) in
+          let here : colours_in (shown c.self.inside.raster) w.tile_rect.result ≡ tile t =
+          ap (λ (r : Rect). colours_in (shown c.self.inside.raster) r) area
+          ∙ subst (λ (v : Painting). colours_in (shown c.self.inside.raster) (tile_rect c.self.inside.raster.width c.self.inside.raster.height t) ≡ colours_in (worked v) (tile_rect v.width v.height t)) c.self.view_is refl in
+          record {
+            numbers = ap (λ v. v.items) w.numbers-is ∙ (w.in_ok-push.ensures.items ∙ (ap (λ (ts : List ℕ). ts ++ t ∷ []) c.loop-t.invariant.numbers ∙ sym more));
+            colours = ap (λ v. v.items) w.colours-is
+                ∙ (w.in_ok-add_colours.ensures.ok
+                ∙ (ap (λ (cs : List ℕ). cs ++ colours_in (shown c.self.inside.raster) w.tile_rect.result) c.loop-t.invariant.colours
+                ∙ (ap (λ (cs : List ℕ). flat_map tile below ++ cs) (here ∙ sym (append-nil (tile t)))
+                ∙ (sym (flat_map-append tile below (t ∷ [])) ∙ ap (flat_map tile) (sym more)))));
+          }
       | else-stamp-eq-TOUCHED w ↦
-          ap (λ v. map paint_of v.items) w.tiles-is
-          ∙ (c.loop-t.invariant ∙ sym (puts_skip now.width now.height (worked now) (is_touched now) t (mark ∙ ne_eqb c.stamp.result 1 w.if-stamp-eq-TOUCHED.false)))
+          let same : touched_below now (t + 1) ≡ below = touched_skip now t (mark ∙ ne_eqb c.stamp.result 1 w.if-stamp-eq-TOUCHED.false) in
+          record {
+            numbers = ap (λ v. v.items) w.numbers-is ∙ (c.loop-t.invariant.numbers ∙ sym same);
+            colours = ap (λ v. v.items) w.colours-is ∙ (c.loop-t.invariant.colours ∙ ap (flat_map tile) (sym same));
+          }
     ]

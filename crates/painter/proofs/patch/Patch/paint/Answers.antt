@@ -1,19 +1,23 @@
-use Rattle.std.proofs.Common.{List, All, map, sym, subst}
-use Rattle.raster.specs.declared.painting.Paint as code
-use Rattle.raster.specs.Painted.{Fits, paint_of}
+use Rattle.std.proofs.Common.{◌≡◌, ℕ, List, ap, sym, subst, ◌∙◌, arith}
 use Rattle.raster.specs.Screen.{Canvas, LooksLike, value_at}
-use Rattle.raster.specs.Update.{Paint, after_paints}
-use Rattle.painter.specs.Patch.{SizedUpdate}
-use Rattle.painter.proofs.PatchLaws.{shows_over}
+use Rattle.raster.specs.Update.{Paint, after_paints, paints_of}
+use Rattle.painter.specs.Patch.{AreTiles, SizedUpdate, tile_paints}
+use Rattle.painter.proofs.PatchLaws.{looks_after_all, tiles_fit}
 use Rattle.painter.proofs.patch.Patch.paint.Goals as goal
 
 pub returns : goal.returns
 returns c =
-    let ps : List code.Paint = c.painted.result.now in
-    let Shows : SizedUpdate → List Paint → Type 0 =
-    λ v us. (before : Canvas) → LooksLike v.width v.height (value_at v.width c.args.colours.now) before → LooksLike v.width v.height (value_at v.width c.apply_paints.new.values) (after_paints before us) in
-    let fits : All (λ p. Fits c.self.inside.width c.self.inside.height (paint_of p)) ps =
-    subst (λ (v : SizedUpdate). All (λ p. Fits v.width v.height (paint_of p)) ps) (sym c.self.view_is) c.painted.ensures.fits in
-    subst (λ (us : List Paint). Shows c.args.self.now us) c.painted.ensures.paints
-    (subst (λ (v : SizedUpdate). Shows v (map paint_of ps)) c.self.view_is
-    (shows_over c.self.inside.width c.self.inside.height c.args.colours.now c.apply_paints.new.values ps fits c.apply_paints.ensures))
+    let now : SizedUpdate = c.args.self.now in
+    let w : ℕ = c.self.inside.width in
+    let h : ℕ = c.self.inside.height in
+    let numbers : List ℕ = c.tiles.result.0.now in
+    let colours : List ℕ = c.tiles.result.1.now in
+    let are : AreTiles w h numbers colours = subst (λ (v : SizedUpdate). AreTiles v.width v.height numbers colours) (sym c.self.view_is) c.tiles.ensures.tiles in
+    let paints : tile_paints w h numbers colours ≡ paints_of now.update = subst (λ (v : SizedUpdate). tile_paints v.width v.height numbers colours ≡ paints_of now.update) (sym c.self.view_is) c.tiles.ensures.paints in
+    let Shows : SizedUpdate → Type 0 =
+    λ v. (before : Canvas) → LooksLike v.width v.height (value_at v.width c.args.colours.now) before → LooksLike v.width v.height (value_at v.width c.put_tiles.new.screen) (after_paints before (paints_of now.update)) in
+    subst Shows c.self.view_is
+    (λ before alike x y lx ly.
+    c.put_tiles.ensures x y lx ly
+    ∙ (looks_after_all w h (value_at w c.args.colours.now) before (tile_paints w h numbers colours) (tiles_fit w h numbers colours (omega (arith, c.self.invariant.0.wide.0)) are) alike x y lx ly
+    ∙ ap (λ (ps : List Paint). after_paints before ps x y) paints))

@@ -1,0 +1,44 @@
+-- Drawing on one rectangle of a screen, as the bytes of its paint come.
+use Rattle.std.specs.Prelude.{◌≡◌, ℕ, ◌<◌, false, List}
+use Rattle.std.proofs.Common.{refl, sym, subst, ◌∙◌}
+use Rattle.raster.specs.declared.rect.Rect.{Rect}
+use Rattle.raster.specs.Screen.{Canvas, holds, part_of, tile_count, tile_rect}
+use Rattle.raster.specs.Update.{Paint, Paints, after_paints}
+use Rattle.tiles.specs.Touched.{touches}
+use Rattle.painter.specs.Painter.{Painting, is_touched, worked}
+
+-- What the rectangle that is drawn on shows.
+abbrev pub drawn : Painting → Canvas
+drawn screen = part_of screen.area (worked screen)
+
+-- Nothing but what that rectangle shows has changed.
+pub record IsSameAround (old new : Painting) : Type 0 where
+  pub width : new.width ≡ old.width
+  pub height : new.height ≡ old.height
+  pub marks : new.marks ≡ old.marks
+  pub area : new.area ≡ old.area
+  pub outside : (x y : ℕ) → x < old.width → y < old.height → holds old.area x y ≡ false → worked new x y ≡ worked old x y
+
+-- Over the screen at the update's start it shows these paints around a rectangle, and the tiles that were touched are those that one of them touches.
+pub record IsPaintedAround (start : Canvas) (paints : List Paint) (area : Rect) (screen : Painting) : Type 0 where
+  pub shows : (x y : ℕ) → x < screen.width → y < screen.height → holds area x y ≡ false → worked screen x y ≡ after_paints start paints x y
+  pub touched : (t : ℕ) → t < tile_count screen.width screen.height → is_touched screen t ≡ touches (tile_rect screen.width screen.height t) (Paints paints)
+
+-- ---- what a canvas owes
+
+-- At once nothing has changed.
+pub around_at_once : (p : Painting) → IsSameAround p p
+around_at_once p = record { width = refl; height = refl; marks = refl; area = refl; outside = λ x y lx ly e. refl }
+
+-- And one change after another is one.
+pub around_then : (a b c : Painting) → IsSameAround a b → IsSameAround b c → IsSameAround a c
+around_then a b c f g =
+    record {
+      width = g.width ∙ f.width;
+      height = g.height ∙ f.height;
+      marks = g.marks ∙ f.marks;
+      area = g.area ∙ f.area;
+      outside = λ x y lx ly e.
+          g.outside x y (subst (λ (n : ℕ). x < n) (sym f.width) lx) (subst (λ (n : ℕ). y < n) (sym f.height) ly) (subst (λ (r : Rect). holds r x y ≡ false) (sym f.area) e)
+          ∙ f.outside x y lx ly e;
+    }
