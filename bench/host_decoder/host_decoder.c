@@ -1,6 +1,7 @@
 /* Megapixels a second of HostDecoder over a whole FramebufferUpdate, against a decoder in C and memcpy, in one run.
  *
- * A screen of 1920 by 1080 as one rectangle: in Raw, random pixels; in Hextile, a page of text of two colours. Then a page that
+ * A screen of 1920 by 1080 as one rectangle: in Raw, random pixels; in Hextile, a page of text of two colours, a desktop of letters in
+ * several inks, and a photo, of which most tiles come as Raw; in RRE, the text and the desktop. Then a page that
  * scrolls: a CopyRect of all rows but the first 16 to the top, and 16 rows of random pixels in Raw below. It comes in pieces. Ours reads a rectangle to its end and then paints it on the working screen, so that no half of an update is ever
  * shown; the decoder in C draws each byte on the screen as it comes. All are timed in turn, many rounds, and the best of each
  * counts. */
@@ -84,6 +85,16 @@ __attribute__((noinline)) static void plain_hextile(Source *s) {
         }
 }
 
+__attribute__((noinline)) static void plain_rre(Source *s) {
+    const uint8_t *head = next(s, 4);
+    uint32_t count = (uint32_t)head[0] << 24 | head[1] << 16 | head[2] << 8 | head[3];
+    fill(0, 0, W, H, pixel(next(s, 4)));
+    for (; count; count--) {
+        const uint8_t *p = next(s, 12);
+        fill(p[4] << 8 | p[5], p[6] << 8 | p[7], p[8] << 8 | p[9], p[10] << 8 | p[11], pixel(p));
+    }
+}
+
 /* The page goes up by a stripe, and Raw comes in below. */
 static void plain_scroll(Source *s) {
     const uint8_t *from = next(s, 4);
@@ -92,13 +103,24 @@ static void plain_scroll(Source *s) {
     plain_raw(s, W * (H - STRIPE));
 }
 
-enum Kind { RAW, HEXTILE, SCROLL, KINDS };
+enum Kind { RAW, HEXTILE, RRE, SCROLL };
 
-static const char *const names[KINDS] = {"Raw", "Hextile, text", "CopyRect, Raw"};
+enum Picture { NOISE, TEXT, DESKTOP, PHOTO };
+
+static const struct {
+    const char *name;
+    enum Kind kind;
+    enum Picture picture;
+} messages[] = {
+    {"Raw, noise", RAW, NOISE},         {"Hextile, text", HEXTILE, TEXT}, {"Hextile, desktop", HEXTILE, DESKTOP},
+    {"Hextile, photo", HEXTILE, PHOTO}, {"RRE, text", RRE, TEXT},         {"RRE, desktop", RRE, DESKTOP},
+    {"CopyRect, Raw", SCROLL, NOISE},
+};
 
 static void plain_message(enum Kind kind, Source *s) {
     if (kind == RAW) plain_raw(s, 0);
     if (kind == HEXTILE) plain_hextile(s);
+    if (kind == RRE) plain_rre(s);
     if (kind == SCROLL) plain_scroll(s);
 }
 
@@ -146,7 +168,33 @@ static void draw_text(uint32_t *page) {
         }
 }
 
-static size_t put_hextile(uint8_t *out, const uint32_t *page) {
+/* Letters of dots, most in one ink, some in others. */
+static void draw_desktop(uint32_t *page) {
+    for (size_t k = 0; k < W * H; k++) page[k] = 0xF0F0F0;
+    for (int y = 0; y + 16 <= H; y += 16)
+        for (int x = 0; x < W; x += 8) {
+            if (random_byte() < 64) continue;
+            uint32_t ink = random_byte() < 235 ? 0x202020 : random_byte() << 16 | random_byte() << 8 | random_byte();
+            for (int j = 3; j < 13; j++)
+                for (int i = 1; i < 7; i++)
+                    if (random_byte() < 85) page[(y + j) * W + x + i] = ink;
+        }
+}
+
+static void draw_photo(uint32_t *page) {
+    for (int y = 0; y < H; y++)
+        for (int x = 0; x < W; x++)
+            page[y * W + x] = ((x / 3 + random_byte() % 3) & 255) << 16 | ((y / 2 + random_byte() % 3) & 255) << 8 | (((x + y) / 4 + random_byte() % 3) & 255);
+}
+
+static void draw(enum Picture picture, uint32_t *page) {
+    if (picture == TEXT) draw_text(page);
+    if (picture == DESKTOP) draw_desktop(page);
+    if (picture == PHOTO) draw_photo(page);
+}
+
+/* Black on white: a background and a foreground that all tiles share. */
+static size_t put_two_colours(uint8_t *out, const uint32_t *page) {
     size_t n = 0;
     bool first = true;
     for (int y = 0; y < H; y += 16)
@@ -174,14 +222,76 @@ static size_t put_hextile(uint8_t *out, const uint32_t *page) {
     return n;
 }
 
-static size_t put_message(enum Kind kind, uint8_t *out, const uint32_t *page) {
+/* The length of the run of one value that begins at x, y, as far as the column `end`. */
+static int run_of(const uint32_t *page, int x, int y, int end) {
+    int len = 1;
+    while (x + len < end && page[y * W + x + len] == page[y * W + x]) len++;
+    return len;
+}
+
+/* A tile over its first pixel's value, its runs with their values, or Raw where that is shorter: each tile says its background. */
+static size_t put_tile(uint8_t *out, const uint32_t *page, int left, int top, int w, int h) {
+    uint32_t background = page[top * W + left];
+    size_t n = 1 + put_pixel(out + 1, background), raw = 1 + 4 * (size_t)w * h;
+    int runs = 0;
+    size_t count = n++;
+    for (int y = top; y < top + h; y++)
+        for (int x = left, len; x < left + w; x += len) {
+            len = run_of(page, x, y, left + w);
+            if (page[y * W + x] == background) continue;
+            if (n + 6 >= raw || runs == 255) {
+                out[0] = 1;
+                for (int j = 0; j < h; j++) memcpy(out + 1 + 4 * w * j, page + (top + j) * W + left, 4 * w);
+                return raw;
+            }
+            n += put_pixel(out + n, page[y * W + x]);
+            out[n++] = (x - left) << 4 | (y - top);
+            out[n++] = (len - 1) << 4;
+            runs++;
+        }
+    out[0] = runs ? 2 | 8 | 16 : 2;
+    out[count] = runs;
+    return runs ? n : count;
+}
+
+static size_t put_hextile(uint8_t *out, const uint32_t *page) {
+    size_t n = 0;
+    for (int y = 0; y < H; y += 16)
+        for (int x = 0; x < W; x += 16) n += put_tile(out + n, page, x, y, W - x < 16 ? W - x : 16, H - y < 16 ? H - y : 16);
+    return n;
+}
+
+static size_t put16(uint8_t *out, int value) {
+    out[0] = value >> 8, out[1] = value;
+    return 2;
+}
+
+static size_t put_rre(uint8_t *out, const uint32_t *page) {
+    size_t n = 4 + put_pixel(out + 4, page[0]);
+    uint32_t runs = 0;
+    for (int y = 0; y < H; y++)
+        for (int x = 0, len; x < W; x += len) {
+            len = run_of(page, x, y, W);
+            if (page[y * W + x] == page[0]) continue;
+            n += put_pixel(out + n, page[y * W + x]);
+            n += put16(out + n, x), n += put16(out + n, y), n += put16(out + n, len), n += put16(out + n, 1);
+            runs++;
+        }
+    put16(out, runs >> 16), put16(out + 2, runs);
+    return n;
+}
+
+static size_t put_message(enum Kind kind, enum Picture picture, uint8_t *out, const uint32_t *page) {
     size_t n = put_update_head(out, kind == SCROLL ? 2 : 1);
     if (kind == RAW) {
         n += put_rectangle_head(out + n, 0, H, 0);
         n += put_noise(out + n, 4 * W * H);
     } else if (kind == HEXTILE) {
         n += put_rectangle_head(out + n, 0, H, 5);
-        n += put_hextile(out + n, page);
+        n += picture == TEXT ? put_two_colours(out + n, page) : put_hextile(out + n, page);
+    } else if (kind == RRE) {
+        n += put_rectangle_head(out + n, 0, H, 2);
+        n += put_rre(out + n, page);
     } else {
         const uint8_t from[] = {0, 0, 0, STRIPE};
         n += put_rectangle_head(out + n, 0, H - STRIPE, 1);
@@ -212,12 +322,13 @@ int main(int argc, char **argv) {
     mallopt(M_TRIM_THRESHOLD, 1 << 30);
     static const uint32_t steps[] = {65536, 4096, 1460};
     uint32_t *page = malloc(4 * W * H), *ours = malloc(4 * W * H);
-    uint8_t *message = malloc(HEAD + 8 * W * H);
-    draw_text(page);
+    uint8_t *message = malloc(HEAD + 13 * W * H);
     printf("a screen of %d by %d; megapixels a second, and ours over theirs\n", W, H);
-    printf("%-14s %6s %8s %8s %6s %8s %6s\n", "rectangle", "piece", "ours", "plain C", "ratio", "memcpy", "ratio");
-    for (enum Kind kind = 0; kind < KINDS; kind++) {
-        size_t length = put_message(kind, message, page);
+    printf("%-16s %6s %8s %8s %6s %8s %6s\n", "rectangle", "piece", "ours", "plain C", "ratio", "memcpy", "ratio");
+    for (size_t m = 0; m < sizeof messages / sizeof *messages; m++) {
+        enum Kind kind = messages[m].kind;
+        draw(messages[m].picture, page);
+        size_t length = put_message(kind, messages[m].picture, message, page);
         for (int k = 0; k < 3; k++) {
             uint32_t step = steps[k];
             double best[3] = {1e9, 1e9, 1e9}, best_once = 1e9;
@@ -242,7 +353,7 @@ int main(int argc, char **argv) {
             /* The first time the screen is made too. */
             best[0] = (best[0] - best_once) / TIMES;
             double pixels = W * H / 1e6;
-            printf("%-14s %6u %8.0f %8.0f %6.2f %8.0f %6.2f\n", names[kind], step, pixels / best[0], pixels / best[1], best[1] / best[0],
+            printf("%-16s %6u %8.0f %8.0f %6.2f %8.0f %6.2f\n", messages[m].name, step, pixels / best[0], pixels / best[1], best[1] / best[0],
                    pixels / best[2], best[2] / best[0]);
         }
     }

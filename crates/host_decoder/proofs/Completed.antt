@@ -8,10 +8,11 @@ use Rattle.raster.specs.declared.rect.Rect.{Rect}
 use Rattle.raster.specs.Screen.{Canvas}
 use Rattle.raster.specs.Update.{Paint}
 use Rattle.painter.specs.Painter.{Painting}
+use Rattle.rfb_wire.specs.ClientMessage.{longest_text}
 use Rattle.rfb_wire.specs.ServerHeads.{colour_map_head, text_head, update_head}
 use Rattle.rfb_wire.specs.ServerMessage.{ServerMessage, SetColorMapEntries, ServerCutText, LostText, data_of, set_color_map_entries}
 use Rattle.host_decoder.specs.declared.part.Part.TheVariants as part
-use Rattle.host_decoder.specs.declared.past.Passed.TheVariants as passed
+use Rattle.host_decoder.specs.declared.passed.Passed.TheVariants as passed
 use Rattle.host_decoder.specs.declared.state.State.{State}
 use Rattle.host_decoder.specs.Decoder.{GoesOn, Holds, StandsUnpainted, form_of, keeping, passing, rectangles, with_others}
 use Rattle.host_decoder.proofs.HostParts.{head_read}
@@ -34,13 +35,13 @@ behind_colours bs count e spells = sym (head_read 5 colour_map_head (λ n. paddi
 
 -- What follows the length of a text.
 abbrev text_of : ℕ → Reading ServerMessage
-text_of len = if nat_le len 65536 then (bytes len >>= λ text. Done (ServerCutText text)) else padding len (Done (LostText len))
+text_of len = if nat_le len longest_text then (bytes len >>= λ text. Done (ServerCutText text)) else padding len (Done (LostText len))
 
-chosen : (b : Bool) (len : ℕ) → nat_le len 65536 ≡ b → text_of len ≡ (if b then (bytes len >>= λ text. Done (ServerCutText text)) else padding len (Done (LostText len)))
+chosen : (b : Bool) (len : ℕ) → nat_le len longest_text ≡ b → text_of len ≡ (if b then (bytes len >>= λ text. Done (ServerCutText text)) else padding len (Done (LostText len)))
 chosen b len e = ap (λ t. if t then (bytes len >>= λ text. Done (ServerCutText text)) else padding len (Done (LostText len))) e
 
-pub long_text : (w h : ℕ) (bs : List ℕ) (len : ℕ) → length bs ≡ 7 → Spells text_head (take 7 bs) len → 65536 < len → passing len (passed.Text len) ≡ after (form_of w h [] part.Length) bs
-long_text w h bs len e spells lt = sym (head_read 7 text_head text_of bs len e spells ∙ chosen false len (lt-leb len 65536 lt))
+pub long_text : (w h : ℕ) (bs : List ℕ) (len : ℕ) → length bs ≡ 7 → Spells text_head (take 7 bs) len → longest_text < len → passing len (passed.Text len) ≡ after (form_of w h [] part.Length) bs
+long_text w h bs len e spells lt = sym (head_read 7 text_head text_of bs len e spells ∙ chosen false len (lt-leb len longest_text lt))
 
-pub short_text : (w h : ℕ) (bs : List ℕ) (len : ℕ) → length bs ≡ 7 → Spells text_head (take 7 bs) len → len ≤ 65536 → keeping [] len ≡ after (form_of w h [] part.Length) bs
-short_text w h bs len e spells le = sym (head_read 7 text_head text_of bs len e spells ∙ chosen true len (le-leb len 65536 le))
+pub short_text : (w h : ℕ) (bs : List ℕ) (len : ℕ) → length bs ≡ 7 → Spells text_head (take 7 bs) len → len ≤ longest_text → keeping [] len ≡ after (form_of w h [] part.Length) bs
+short_text w h bs len e spells le = sym (head_read 7 text_head text_of bs len e spells ∙ chosen true len (le-leb len longest_text le))

@@ -9,8 +9,8 @@ use Rattle.raster.specs.Screen.{Canvas}
 use Rattle.painter.specs.Painter.{Painting}
 use Rattle.rfb_wire.specs.ServerMessage.{ServerMessage}
 use Rattle.host_decoder.specs.declared.state.State.{State}
-use Rattle.host_decoder.specs.declared.state.State.TheVariants.{Fields, Pixels, Spoiled, Keeping, Passing, Whole, Failed, Refused}
-use Rattle.host_decoder.specs.Decoder.{Decoding, Feeds, GoesOn, IsBehind, Judges, Stands, Uses, at_fault, is_open, is_refused}
+use Rattle.host_decoder.specs.declared.state.State.TheVariants.{Fields, Pixels, Keeping, Passing, Whole, Failed}
+use Rattle.host_decoder.specs.Decoder.{Decoding, Feeds, GoesOn, IsBehind, Stands, Uses, answered, is_open, is_refused}
 use Rattle.host_decoder.proofs.Standing.{open_wants, closed_wants}
 
 -- So many bytes of a piece were fed to what stood for r before.
@@ -28,15 +28,13 @@ behind_more r mid next piece m n fine g h =
       count = λ f. let c : taken next (drop n (drop m piece)) ≡ taken next (drop (m + n) piece) = ap (taken next) there in omega (arith, g.count fine, h.count f, c);
     }
 
-open_kept : (state : State) → is_open state ≡ true → is_refused state ≡ true → ⊥
-open_kept (Fields fields) e f = absurd cc
-open_kept (Pixels pending) e f = absurd cc
-open_kept (Spoiled reader) e f = absurd cc
-open_kept (Keeping kept) e f = absurd cc
-open_kept (Passing past) e f = absurd cc
-open_kept (Whole event) e f = absurd cc
-open_kept (Failed what) e f = absurd cc
-open_kept Refused e f = absurd cc
+-- Where memory was refused it failed so.
+refused_is : (state : State) → is_refused state ≡ true → state ≡ Failed Memory
+refused_is (Failed Memory) e = refl
+refused_is _ e = absurd cc
+
+pub refused_closed : (state : State) → is_refused state ≡ true → is_open state ≡ false
+refused_closed state e = ap is_open (refused_is state e)
 
 stands_behind : (old now new : Painting) (next : State) (start : Canvas) (r last : Reading ServerMessage) (piece : List ℕ) (used n : ℕ) → now.width ≡ old.width → now.height ≡ old.height → IsBehind r last piece (used + n)
     → GoesOn now new next start last → HasFed old new next start r piece (used + n)
@@ -46,7 +44,7 @@ stands_behind old now new next start r last piece used n ew eh b (inr s) = inr (
 -- One step more.
 pub fed_more : (old now new : Painting) (state next : State) (start : Canvas) (r : Reading ServerMessage) (piece : List ℕ) (used n : ℕ) → now.width ≡ old.width → now.height ≡ old.height → is_open state ≡ true → HasFed old now state start r piece used
     → ((q : Reading ServerMessage) → Stands now.width now.height state start now q → Uses now new next start q (drop used piece) n) → HasFed old new next start r piece (used + n)
-fed_more old now new state next start r piece used n ew eh o (inl e) step = absurd (open_kept state o e)
+fed_more old now new state next start r piece used n ew eh o (inl e) step = let f : true ≡ false = sym o ∙ refused_closed state e in absurd cc
 fed_more old now new state next start r piece used n ew eh o (inr s) step =
     let q : Reading ServerMessage = s.0 in
     let here : Stands now.width now.height state start now q = subst (λ (a : ℕ). Stands a now.height state start now q) (sym ew) (subst (λ (b : ℕ). Stands old.width b state start now q) (sym eh) s.2) in
@@ -69,67 +67,34 @@ abbrev pub decoding : ℕ → ℕ → State → Decoding
 decoding w h state = record { width = w; height = h; state = state }
 
 -- It stands for what is read after the piece.
-fine_answer : (w h : ℕ) (start : Canvas) (painter : Painting) (state new : State) (r next : Reading ServerMessage) (piece : List ℕ) (used : ℕ) (answer : Result ℕ Fault) → after r piece ≡ next → (fault_of next ≡ None → taken r piece ≡ used) → fault_of next ≡ None
-    → Stands w h state start painter next → new ≡ state → answer ≡ Ok used → Feeds (decoding w h new) painter start r piece answer
-fine_answer w h start painter state new r next piece used answer says count fine s is e = rw (e, is, says) (s, sym (count fine), fine)
+fine_answer : (w h : ℕ) (start : Canvas) (painter : Painting) (state : State) (r next : Reading ServerMessage) (piece : List ℕ) (used : ℕ) (answer : Result ℕ Fault) → after r piece ≡ next → (fault_of next ≡ None → taken r piece ≡ used) → fault_of next ≡ None
+    → Stands w h state start painter next → answer ≡ Ok used → Feeds (decoding w h state) painter start r piece answer
+fine_answer w h start painter state r next piece used answer says count fine s e = rw (e, says) (s, sym (count fine), fine)
 
-faulty_answer : (w h : ℕ) (start : Canvas) (painter : Painting) (new : State) (r : Reading ServerMessage) (piece : List ℕ) (fault : Fault) (answer : Result ℕ Fault) → after r piece ≡ Faulty fault → Stands w h new start painter (Faulty fault) → answer ≡ Err fault → Feeds (decoding w h new) painter start r piece answer
-faulty_answer w h start painter new r piece fault answer says s e = rw (e, says) (inr (refl, s))
+open_answer : (w h : ℕ) (start : Canvas) (painter : Painting) (state : State) (r next : Reading ServerMessage) (piece : List ℕ) (used : ℕ) (answer : Result ℕ Fault) → is_open state ≡ true → after r piece ≡ next → (fault_of next ≡ None → taken r piece ≡ used)
+    → Stands w h state start painter next → answer ≡ Ok used → Feeds (decoding w h state) painter start r piece answer
+open_answer w h start painter state r next piece used answer o says count s e = fine_answer w h start painter state r next piece used answer says count (wants_no_fault next (open_wants w h state start painter next o s)) s e
 
-answered : (w h : ℕ) (start : Canvas) (painter : Painting) (state new : State) (r next : Reading ServerMessage) (piece : List ℕ) (used : ℕ) (answer : Result ℕ Fault) → after r piece ≡ next → (fault_of next ≡ None → taken r piece ≡ used) → Stands w h state start painter next
-    → Judges state new used answer → Feeds (decoding w h new) painter start r piece answer
-answered w h start painter (Fields fields) new r next piece used answer says count s j = fine_answer w h start painter (Fields fields) new r next piece used answer says count (wants_no_fault next (open_wants w h (Fields fields) start painter next refl s)) s j.0 j.1
-answered w h start painter (Pixels pending) new r next piece used answer says count s j = fine_answer w h start painter (Pixels pending) new r next piece used answer says count (wants_no_fault next (open_wants w h (Pixels pending) start painter next refl s)) s j.0 j.1
-answered w h start painter (Spoiled reader) new r next piece used answer says count s j =
-    let named = j.2 s.fault s.stands in
-    let there : Stands w h (Spoiled j.0) start painter (Faulty s.fault) = record { fault = s.fault; stands = named.1; reads = refl } in
-    faulty_answer w h start painter new r piece s.fault answer (says ∙ s.reads) (subst (λ t. Stands w h t start painter (Faulty s.fault)) (sym j.1) there) named.0
-answered w h start painter (Keeping kept) new r next piece used answer says count s j = fine_answer w h start painter (Keeping kept) new r next piece used answer says count (wants_no_fault next (open_wants w h (Keeping kept) start painter next refl s)) s j.0 j.1
-answered w h start painter (Passing past) new r next piece used answer says count s j = fine_answer w h start painter (Passing past) new r next piece used answer says count (wants_no_fault next (open_wants w h (Passing past) start painter next refl s)) s j.0 j.1
-answered w h start painter (Whole event) new r next piece used answer says count s j = fine_answer w h start painter (Whole event) new r next piece used answer says count (ap fault_of s.reads) s j.0 j.1
-answered w h start painter (Failed what) new r next piece used answer says count s j =
-    let there : Stands w h (Failed what) start painter (Faulty (at_fault what)) = refl in
-    faulty_answer w h start painter new r piece (at_fault what) answer (says ∙ s) (subst (λ t. Stands w h t start painter (Faulty (at_fault what))) (sym j.0) there) j.1
-answered w h start painter Refused new r next piece used answer says count s j = absurd s
+is_answered : (w h : ℕ) (start : Canvas) (painter : Painting) (state : State) (r next : Reading ServerMessage) (piece : List ℕ) (used : ℕ) (answer : Result ℕ Fault) → after r piece ≡ next → (fault_of next ≡ None → taken r piece ≡ used) → Stands w h state start painter next
+    → answer ≡ answered state used → Feeds (decoding w h state) painter start r piece answer
+is_answered w h start painter (Fields fields) r next piece used answer says count s e = open_answer w h start painter (Fields fields) r next piece used answer refl says count s e
+is_answered w h start painter (Pixels left reader) r next piece used answer says count s e = open_answer w h start painter (Pixels left reader) r next piece used answer refl says count s e
+is_answered w h start painter (Keeping kept) r next piece used answer says count s e = open_answer w h start painter (Keeping kept) r next piece used answer refl says count s e
+is_answered w h start painter (Passing what left) r next piece used answer says count s e = open_answer w h start painter (Passing what left) r next piece used answer refl says count s e
+is_answered w h start painter (Whole event) r next piece used answer says count s e = fine_answer w h start painter (Whole event) r next piece used answer says count (ap fault_of s.reads) s e
+is_answered w h start painter (Failed fault) r next piece used answer says count s e = rw (e, says ∙ s) (inr (refl, refl))
 
-refused_answer : (w h : ℕ) (start : Canvas) (painter : Painting) (state new : State) (r : Reading ServerMessage) (piece : List ℕ) (used : ℕ) (answer : Result ℕ Fault) → is_refused state ≡ true → Judges state new used answer → Feeds (decoding w h new) painter start r piece answer
-refused_answer w h start painter (Fields fields) new r piece used answer e j = absurd cc
-refused_answer w h start painter (Pixels pending) new r piece used answer e j = absurd cc
-refused_answer w h start painter (Spoiled reader) new r piece used answer e j = absurd cc
-refused_answer w h start painter (Keeping kept) new r piece used answer e j = absurd cc
-refused_answer w h start painter (Passing past) new r piece used answer e j = absurd cc
-refused_answer w h start painter (Whole event) new r piece used answer e j = absurd cc
-refused_answer w h start painter (Failed what) new r piece used answer e j = absurd cc
-refused_answer w h start painter Refused new r piece used answer e j = rw (j.1, j.0) (inl (refl, refl))
-
-pub fed_answer : (old now : Painting) (state new : State) (start : Canvas) (r : Reading ServerMessage) (piece : List ℕ) (used : ℕ) (answer : Result ℕ Fault) → HasFed old now state start r piece used → IsOver state piece used → Judges state new used answer
-    → Feeds (decoding old.width old.height new) now start r piece answer
-fed_answer old now state new start r piece used answer (inl e) over j = refused_answer old.width old.height start now state new r piece used answer e j
-fed_answer old now state new start r piece used answer (inr s) over j =
+pub fed_answer : (old now : Painting) (state : State) (start : Canvas) (r : Reading ServerMessage) (piece : List ℕ) (used : ℕ) (answer : Result ℕ Fault) → HasFed old now state start r piece used → IsOver state piece used → answer ≡ answered state used
+    → Feeds (decoding old.width old.height state) now start r piece answer
+fed_answer old now state start r piece used answer (inl refused) over e = rw (e, refused_is state refused) (inl (refl, refl))
+fed_answer old now state start r piece used answer (inr s) over e =
     let none = is_over old.width old.height state start now s.0 piece used s.2 over in
-    answered old.width old.height start now state new r s.0 piece used answer (s.1.says ∙ none.0) (λ fine. let c = s.1.count fine in omega (arith, c, none.1)) s.2 j
+    is_answered old.width old.height start now state r s.0 piece used answer (s.1.says ∙ none.0) (λ fine. let c = s.1.count fine in omega (arith, c, none.1)) s.2 e
 
 -- ---- where nothing more is read
 
-pub refused_closed : (state : State) → is_refused state ≡ true → is_open state ≡ false
-refused_closed (Fields fields) e = absurd cc
-refused_closed (Pixels pending) e = absurd cc
-refused_closed (Spoiled reader) e = absurd cc
-refused_closed (Keeping kept) e = absurd cc
-refused_closed (Passing past) e = absurd cc
-refused_closed (Whole event) e = absurd cc
-refused_closed (Failed what) e = absurd cc
-refused_closed Refused e = refl
-
-pub judged_refused : (state new : State) (used : ℕ) (answer : Result ℕ Fault) → is_refused state ≡ true → Judges state new used answer → (answer ≡ Err Memory) × (new ≡ state)
-judged_refused (Fields fields) new used answer e j = absurd cc
-judged_refused (Pixels pending) new used answer e j = absurd cc
-judged_refused (Spoiled reader) new used answer e j = absurd cc
-judged_refused (Keeping kept) new used answer e j = absurd cc
-judged_refused (Passing past) new used answer e j = absurd cc
-judged_refused (Whole event) new used answer e j = absurd cc
-judged_refused (Failed what) new used answer e j = absurd cc
-judged_refused Refused new used answer e j = (j.1, j.0)
+pub refused_answer : (state : State) (used : ℕ) → is_refused state ≡ true → answered state used ≡ Err Memory
+refused_answer state used e = ap (λ (s : State). answered s used) (refused_is state e)
 
 open_or_closed : (b : Bool) → (b ≡ true → ⊥) → b ≡ false
 open_or_closed true n = absurd (n refl)
@@ -138,17 +103,7 @@ open_or_closed false n = refl
 pub faulty_closed : (w h : ℕ) (state : State) (start : Canvas) (painter : Painting) (fault : Fault) → Stands w h state start painter (Faulty fault) → is_open state ≡ false
 faulty_closed w h state start painter fault s = open_or_closed (is_open state) (λ o. let e : false ≡ true = open_wants w h state start painter (Faulty fault) o s in absurd cc)
 
-pub judged_faulty : (w h : ℕ) (state new : State) (start : Canvas) (painter : Painting) (used : ℕ) (answer : Result ℕ Fault) (fault : Fault) → is_open state ≡ false → Stands w h state start painter (Faulty fault) → Judges state new used answer
-    → (answer ≡ Err fault) × Stands w h new start painter (Faulty fault)
-judged_faulty w h (Fields fields) new start painter used answer fault o s j = absurd cc
-judged_faulty w h (Pixels pending) new start painter used answer fault o s j = absurd cc
-judged_faulty w h (Spoiled reader) new start painter used answer fault o s j =
-    let named = j.2 s.fault s.stands in
-    let same : fault ≡ s.fault = faulty_is fault s.fault s.reads in
-    let there : Stands w h (Spoiled j.0) start painter (Faulty fault) = record { fault = s.fault; stands = named.1; reads = s.reads } in
-    (named.0 ∙ ap (λ f. Err f) (sym same), subst (λ t. Stands w h t start painter (Faulty fault)) (sym j.1) there)
-judged_faulty w h (Keeping kept) new start painter used answer fault o s j = absurd cc
-judged_faulty w h (Passing past) new start painter used answer fault o s j = absurd cc
-judged_faulty w h (Whole event) new start painter used answer fault o s j = absurd (faulty_is_not fault s.message s.reads)
-judged_faulty w h (Failed what) new start painter used answer fault o s j = (j.1 ∙ ap (λ f. Err f) (sym (faulty_is fault (at_fault what) s)), subst (λ t. Stands w h t start painter (Faulty fault)) (sym j.0) s)
-judged_faulty w h Refused new start painter used answer fault o s j = absurd s
+pub faulty_answer : (w h : ℕ) (state : State) (start : Canvas) (painter : Painting) (used : ℕ) (fault : Fault) → is_open state ≡ false → Stands w h state start painter (Faulty fault) → answered state used ≡ Err fault
+faulty_answer w h (Whole event) start painter used fault o s = absurd (faulty_is_not fault s.message s.reads)
+faulty_answer w h (Failed found) start painter used fault o s = ap (λ f. Err f) (sym (faulty_is fault found s))
+faulty_answer w h _ start painter used fault o s = absurd cc

@@ -1,16 +1,15 @@
 -- The data of a rectangle, and what follows them.
-use Rattle.std.proofs.Common.{◌≡◌, ℕ, suc, true, false, List, [], ◌∷◌, ◌++◌, length, map, drop, None, is_some, inr, refl, sym, ap, subst, ◌∙◌, arith}
+use Rattle.std.proofs.Common.{◌≡◌, ℕ, suc, true, List, [], ◌∷◌, ◌++◌, length, map, drop, inr, refl, sym, ap, subst, ◌∙◌, arith}
 use Rattle.std.proofs.lemmas.List.{drop_all, map-append}
 use Rattle.pixel_format.specs.declared.fault.Fault.{Fault}
-use Rattle.pixel_format.specs.Reading.{Reading, Done, Faulty, Want, ◌>>=◌, after, taken, wants_more, whole_of, fault_of}
+use Rattle.pixel_format.specs.Reading.{Reading, Done, Faulty, Want, ◌>>=◌, after, taken, wants_more}
 use Rattle.pixel_format.proofs.InOrder.{then_done, then_taken, then_faulty}
-use Rattle.pixel_format.proofs.ReadingLaws.{after_bind_open, after-faulty, none_from, taken-nil, taken-open, wants_from, whole_from}
+use Rattle.pixel_format.proofs.ReadingLaws.{after_bind_open, after-faulty, taken-nil, taken-open}
 use Rattle.raster.specs.Screen.{Canvas}
 use Rattle.raster.specs.Update.{Paint}
 use Rattle.painter.specs.Painter.{Painting, IsPaintedOver}
 use Rattle.rfb_wire.specs.ServerMessage.{ServerMessage}
 use Rattle.host_decoder.specs.Data.{DataProgress, DataStands}
-use Rattle.host_decoder.specs.Pendings.{Unread, IsOpen}
 use Rattle.host_decoder.specs.Updates.{in_colours}
 use Rattle.host_decoder.specs.declared.state.State.{State}
 use Rattle.host_decoder.specs.declared.state.State.TheVariants as state
@@ -22,15 +21,7 @@ pub paint_held : (start : Canvas) (painter : Painting) (sofar : List Paint) (pai
 paint_held start painter sofar paint painted is stands =
     subst (λ ps. IsPaintedOver start ps painter) (ap (λ p. map in_colours sofar ++ p ∷ []) is ∙ sym (map-append in_colours sofar (painted ∷ []))) stands
 
--- ---- what was fed to a rectangle's data
-
--- They are whole.
-pub data_whole : (new : DataProgress) (bs : List ℕ) (r : Reading Paint) → DataStands new (after r bs) → is_some (whole_of (after r bs)) ≡ true → (p : Paint) × DataStands new (Done p)
-data_whole new bs r stands e = let whole = whole_from (after r bs) e in (whole.0, subst (λ s. DataStands new s) whole.1 stands)
-
--- They want more.
-pub data_open : (new : DataProgress) (bs : List ℕ) (r : Reading Paint) → DataStands new (after r bs) → is_some (whole_of (after r bs)) ≡ false → fault_of (after r bs) ≡ None → IsOpen new
-data_open new bs r stands e f = record { reading = after r bs; stands = stands; wants = wants_from (after r bs) (none_from (after r bs) e) f }
+-- ---- a step over its data
 
 -- Where all is taken of the first thing, it is of both.
 pub taken_open : {A B : Type 0} (form : Reading A) (next : A → Reading B) (bs : List ℕ) → taken form bs ≡ length bs → taken (form >>= next) bs ≡ length bs
@@ -41,30 +32,20 @@ taken_open (Faulty f) next (b ∷ bs) e = absurd (omega arith)
 taken_open (Want more) next [] e = refl
 taken_open (Want more) next (b ∷ bs) e = ap suc (taken_open (more b) next bs (omega (arith, e)))
 
--- ---- a step over them
-
-pub uses_whole : (old new : Painting) (state : State) (left used : ℕ) (bs : List ℕ) (start : Canvas) (sofar : List Paint) (r : Reading Paint) → used ≡ taken r bs → is_some (whole_of (after r bs)) ≡ true
-    → ((p : Paint) → after r bs ≡ Done p → GoesOn old new state start (behind old.width old.height sofar left p)) → Uses old new state start (with_others old.width old.height sofar left r) bs used
-uses_whole old new state left used bs start sofar r count e next =
-    let whole = whole_from (after r bs) e in
+pub uses_whole : (old new : Painting) (state : State) (left used : ℕ) (bs : List ℕ) (start : Canvas) (sofar : List Paint) (r : Reading Paint) (p : Paint) → used ≡ taken r bs → after r bs ≡ Done p
+    → GoesOn old new state start (behind old.width old.height sofar left p) → Uses old new state start (with_others old.width old.height sofar left r) bs used
+uses_whole old new state left used bs start sofar r p count is next =
     let b : Paint → Reading ServerMessage = behind old.width old.height sofar left in
     record {
-      next = b whole.0;
-      behind_ = record {
-        says = rw count (then_done r b bs whole.0 whole.1);
-        count = λ fine. rw count (then_taken r b bs whole.0 whole.1);
-      };
-      goes_on = next whole.0 whole.1;
+      next = b p;
+      behind_ = record { says = rw count (then_done r b bs p is); count = λ fine. rw count (then_taken r b bs p is) };
+      goes_on = next;
     }
 
-pub uses_open : (painter : Painting) (pending : Unread) (new : DataProgress) (left used : ℕ) (bs : List ℕ) (start : Canvas) (sofar : List Paint) (r : Reading Paint) → used ≡ taken r bs → fault_of (after r bs) ≡ None → is_some (whole_of (after r bs)) ≡ false
-    → pending ≡ record { left = left; reader = new } → DataStands new (after r bs) → Holds start painter sofar
-    → Uses painter painter (state.Pixels pending) start (with_others painter.width painter.height sofar left r) bs used
-uses_open painter pending new left used bs start sofar r count fine e is stands holds =
-    let w : ℕ = painter.width in
-    let h : ℕ = painter.height in
-    let b : Paint → Reading ServerMessage = behind w h sofar left in
-    let wants : wants_more (after r bs) ≡ true = wants_from (after r bs) (none_from (after r bs) e) fine in
+pub uses_open : (old new : Painting) (reader : DataProgress) (left used : ℕ) (bs : List ℕ) (start : Canvas) (sofar : List Paint) (r : Reading Paint) → used ≡ taken r bs → wants_more (after r bs) ≡ true → DataStands reader start (map in_colours sofar) new (after r bs)
+    → Uses old new (state.Pixels left reader) start (with_others old.width old.height sofar left r) bs used
+uses_open old new reader left used bs start sofar r count wants stands =
+    let b : Paint → Reading ServerMessage = behind old.width old.height sofar left in
     let all : taken r bs ≡ length bs = taken-open r bs wants in
     let over : drop used bs ≡ [] = drop_all used bs (omega (arith, count, all)) in
     let none : taken (after r bs >>= b) (drop used bs) ≡ 0 = ap (taken (after r bs >>= b)) over ∙ taken-nil (after r bs >>= b) in
@@ -74,15 +55,15 @@ uses_open painter pending new left used bs start sofar r count fine e is stands 
         says = after_bind_open r b bs all ∙ ap (after (after r bs >>= b)) (sym over);
         count = λ f. omega (arith, taken_open r b bs all, count, all, none);
       };
-      goes_on = inr (rw is (record { sofar = sofar; holds = holds; reading = after r bs; stands = stands; wants = wants; reads = refl }));
+      goes_on = inr (record { sofar = sofar; reading = after r bs; stands = stands; wants = wants; reads = refl });
     }
 
-pub uses_spoiled : (painter : Painting) (new : DataProgress) (left : ℕ) (bs : List ℕ) (start : Canvas) (sofar : List Paint) (r : Reading Paint) (fault : Fault) → after r bs ≡ Faulty fault → DataStands new (after r bs)
-    → Uses painter painter (state.Spoiled new) start (with_others painter.width painter.height sofar left r) bs (length bs)
-uses_spoiled painter new left bs start sofar r fault e stands =
-    let b : Paint → Reading ServerMessage = behind painter.width painter.height sofar left in
+pub uses_faulty : (old new : Painting) (left : ℕ) (bs : List ℕ) (start : Canvas) (sofar : List Paint) (r : Reading Paint) (fault : Fault) → after r bs ≡ Faulty fault
+    → Uses old new (state.Failed fault) start (with_others old.width old.height sofar left r) bs (length bs)
+uses_faulty old new left bs start sofar r fault e =
+    let b : Paint → Reading ServerMessage = behind old.width old.height sofar left in
     record {
       next = Faulty fault;
       behind_ = record { says = then_faulty r b bs fault e ∙ sym (after-faulty fault (drop (length bs) bs)); count = λ f. absurd cc };
-      goes_on = inr (record { fault = fault; stands = subst (λ s. DataStands new s) e stands; reads = refl });
+      goes_on = inr refl;
     }

@@ -7,10 +7,10 @@ use Rattle.pixel_format.proofs.ReadingLaws.{none_whole, renewed_from}
 use Rattle.raster.specs.Screen.{Canvas}
 use Rattle.painter.specs.Painter.{Painting}
 use Rattle.rfb_wire.specs.ServerMessage.{ServerMessage}
-use Rattle.host_decoder.specs.declared.past.Passed.{Passed}
+use Rattle.host_decoder.specs.declared.passed.Passed.{Passed}
 use Rattle.host_decoder.specs.declared.event.HostEvent.{HostEvent}
 use Rattle.host_decoder.specs.declared.state.State.{State}
-use Rattle.host_decoder.specs.declared.state.State.TheVariants.{Fields, Pixels, Spoiled, Keeping, Passing, Whole, Failed, Refused}
+use Rattle.host_decoder.specs.declared.state.State.TheVariants.{Fields, Pixels, Keeping, Passing, Whole, Failed}
 use Rattle.host_decoder.specs.Decoder.{Stands, behind, host_message, is_open, keeping, passing}
 use Rattle.host_decoder.specs.Decoder.{start as begun}
 use Rattle.host_decoder.specs.Events.{BringsWhole, changes, screen_behind}
@@ -28,35 +28,29 @@ passing_wants (suc left) what lt = refl
 -- An open one wants another byte.
 pub open_wants : (w h : ℕ) (state : State) (start : Canvas) (painter : Painting) (r : Reading ServerMessage) → is_open state ≡ true → Stands w h state start painter r → wants_more r ≡ true
 open_wants w h (Fields fields) start painter r e s = ap wants_more s.reads ∙ part_wants w h s.sofar fields.0 fields.1 s.missing
-open_wants w h (Pixels pending) start painter r e s = ap wants_more s.reads ∙ then_wants s.reading (behind w h s.sofar pending.left) [] s.wants
-open_wants w h (Spoiled reader) start painter r e s = absurd cc
+open_wants w h (Pixels left reader) start painter r e s = ap wants_more s.reads ∙ then_wants s.reading (behind w h s.sofar left) [] s.wants
 open_wants w h (Keeping kept) start painter r e s = ap wants_more s.2 ∙ keeping_wants kept.0 kept.1 s.1
-open_wants w h (Passing past) start painter r e s = ap wants_more s.2 ∙ passing_wants past.0 past.1 s.1
+open_wants w h (Passing what left) start painter r e s = ap wants_more s.2 ∙ passing_wants left what s.1
 open_wants w h (Whole event) start painter r e s = absurd cc
-open_wants w h (Failed what) start painter r e s = absurd cc
-open_wants w h Refused start painter r e s = absurd s
+open_wants w h (Failed fault) start painter r e s = absurd cc
 
 -- And another one doesn't.
 pub closed_wants : (w h : ℕ) (state : State) (start : Canvas) (painter : Painting) (r : Reading ServerMessage) → is_open state ≡ false → Stands w h state start painter r → wants_more r ≡ false
 closed_wants w h (Fields fields) start painter r e s = absurd cc
-closed_wants w h (Pixels pending) start painter r e s = absurd cc
-closed_wants w h (Spoiled reader) start painter r e s = ap wants_more s.reads
+closed_wants w h (Pixels left reader) start painter r e s = absurd cc
 closed_wants w h (Keeping kept) start painter r e s = absurd cc
-closed_wants w h (Passing past) start painter r e s = absurd cc
+closed_wants w h (Passing what left) start painter r e s = absurd cc
 closed_wants w h (Whole event) start painter r e s = ap wants_more s.reads
-closed_wants w h (Failed what) start painter r e s = ap wants_more s
-closed_wants w h Refused start painter r e s = absurd s
+closed_wants w h (Failed fault) start painter r e s = ap wants_more s
 
 -- A message is whole only where its event waits.
 pub not_whole : (w h : ℕ) (state : State) (start : Canvas) (painter : Painting) (r : Reading ServerMessage) → ((event : HostEvent) → state ≡ Whole event → ⊥) → Stands w h state start painter r → whole_of r ≡ None
 not_whole w h (Fields fields) start painter r other s = none_whole r (open_wants w h (Fields fields) start painter r refl s)
-not_whole w h (Pixels pending) start painter r other s = none_whole r (open_wants w h (Pixels pending) start painter r refl s)
-not_whole w h (Spoiled reader) start painter r other s = ap whole_of s.reads
+not_whole w h (Pixels left reader) start painter r other s = none_whole r (open_wants w h (Pixels left reader) start painter r refl s)
 not_whole w h (Keeping kept) start painter r other s = none_whole r (open_wants w h (Keeping kept) start painter r refl s)
-not_whole w h (Passing past) start painter r other s = none_whole r (open_wants w h (Passing past) start painter r refl s)
+not_whole w h (Passing what left) start painter r other s = none_whole r (open_wants w h (Passing what left) start painter r refl s)
 not_whole w h (Whole event) start painter r other s = absurd (other event refl)
-not_whole w h (Failed what) start painter r other s = ap whole_of s
-not_whole w h Refused start painter r other s = absurd s
+not_whole w h (Failed fault) start painter r other s = ap whole_of s
 
 -- Then nothing is given, and it goes on as it did.
 pub nothing_given : (w h : ℕ) (state : State) (start : Canvas) (painter : Painting) (r : Reading ServerMessage) → ((event : HostEvent) → state ≡ Whole event → ⊥) → Stands w h state start painter r

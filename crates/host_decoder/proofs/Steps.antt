@@ -1,7 +1,5 @@
 -- A step of a decoder over some bytes.
-use Rattle.std.proofs.Common.{◌≡◌, ℕ, ◌+◌, ◌-◌, ◌<◌, ◌≤◌, true, List, [], ◌∷◌, ◌++◌, min, length, take, drop, ◌⊎◌, inl, inr, refl, sym, ap, subst, ◌∙◌, arith}
-use Rattle.std.specs.Prelude.{◌==◌}
-use Rattle.std.proofs.lemmas.Bool.{eqb-true}
+use Rattle.std.proofs.Common.{◌≡◌, ℕ, ◌+◌, ◌-◌, ◌<◌, ◌≤◌, true, List, [], ◌++◌, min, length, take, drop, ◌⊎◌, inl, inr, sym, ap, subst, ◌∙◌, arith}
 use Rattle.std.proofs.lemmas.List.{length-append, length-take, take-append-drop}
 use Rattle.pixel_format.specs.Reading.{Reading, Done, after, taken, padding}
 use Rattle.pixel_format.proofs.ReadingLaws.{after-append, padding-after, padding-taken, taken-append}
@@ -63,14 +61,6 @@ fields_end old new state p begun bs next all left n start r len e le f is here t
       behind_ = behind_first r bs n (omega arith) taken_;
       goes_on = subst (λ (q : Reading ServerMessage). GoesOn old new state start q) reads (then_ here.sofar here.holds here.suited);
     }
-
-none_is : (xs : List ℕ) → length xs ≡ 0 → xs ≡ []
-none_is [] e = refl
-none_is (x ∷ xs) e = absurd (omega arith)
-
--- Where none has come, they are all of it.
-pub all_at_once : (begun next : List ℕ) → (length begun == 0) ≡ true → next ≡ begun ++ next
-all_at_once begun next e = ap (λ xs. xs ++ next) (sym (none_is begun (eqb-true (length begun) 0 e)))
 
 -- ---- texts
 

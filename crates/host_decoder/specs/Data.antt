@@ -1,20 +1,20 @@
--- How reading the data of one rectangle of a host goes on (RFC 6143, 7.7).
-use Rattle.std.specs.Prelude.{◌≡◌, ℕ, ◌*◌, ◌-◌, List, ◌++◌, length, map, Result, Ok, Err, None}
-use Rattle.std.specs.Int.{w32, from_le_bytes}
+-- How reading the data of one rectangle of a host goes on, and what of it is painted (RFC 6143, 7.7).
+use Rattle.std.specs.Prelude.{◌≡◌, ℕ, ◌+◌, ◌*◌, ◌-◌, ◌<◌, Bool, true, false, List, [], ◌∷◌, ◌++◌, length, map, Result, Ok, Err, None}
 use Rattle.pixel_format.specs.PixelFormat.{host_format}
-use Rattle.pixel_format.specs.Reading.{Reading, Done, Faulty, ◌>>=◌, after, taken, times, fault_of, Spells}
+use Rattle.pixel_format.specs.Reading.{Reading, Done, Faulty, ◌>>=◌, after, taken, times, wants_more, fault_of, Spells}
 use Rattle.pixel_format.specs.declared.fault.Fault.{Fault}
 use Rattle.raster.specs.declared.rect.Rect.{Rect}
 use Rattle.raster.specs.Encoding.{pixel, Drawing, drawn, tiled}
-use Rattle.raster.specs.Picture.{shown}
-use Rattle.raster.specs.Screen.{values_of}
+use Rattle.raster.specs.Screen.{Canvas, LooksLike, part_of, value_at, values_of}
 use Rattle.raster.specs.Update.{Paint, Put}
+use Rattle.painter.specs.Drawing.{IsPaintedAround}
+use Rattle.painter.specs.Painter.{Painting, IsPaintedOver, worked}
 use Rattle.rfb_wire.specs.ServerHeads.{copy_source}
 use Rattle.rfb_wire.specs.ServerMessage.{copy_rect}
 use Rattle.hextile_codec.specs.Ahead as hextile
 use Rattle.rre_codec.specs.Ahead as rre
 use Rattle.host_decoder.specs.Updates.{colour_of, in_colours}
-use Rattle.host_decoder.specs.DataParts.{RawProgress, RreProgress, HextileProgress}
+use Rattle.host_decoder.specs.DataParts.{RawProgress}
 use Rattle.host_decoder.specs.declared.body.Body.{Body}
 use Rattle.host_decoder.specs.declared.body.Body.TheVariants as body
 
@@ -22,14 +22,17 @@ use Rattle.host_decoder.specs.declared.body.Body.TheVariants as body
 abbrev pub putting : Rect → Reading (List ℕ) → Reading Paint
 putting area values = values >>= λ vs. Done (Put area vs)
 
--- The colour of a pixel.
-abbrev pub colour_in : List ℕ → ℕ
-colour_in bytes = colour_of (from_le_bytes w32 bytes)
+-- A reader that stood for a reading was fed a piece, and answers how many bytes it used, or the fault at which it
+-- stands.
+abbrev pub FedAs : Reading Paint → List ℕ → Result ℕ Fault → Type 0
+FedAs reading piece (Ok used) = (used ≡ taken reading piece) × (fault_of (after reading piece) ≡ None)
+FedAs reading piece (Err fault) = after reading piece ≡ Faulty fault
 
--- These colours, put on the rectangle, are the paint of a host's pixel values.
-pub record IsPaintOf (area : Rect) (colours : List ℕ) (painted : Paint) : Type 0 where
-  pub same : Put area colours ≡ in_colours painted
-  pub count : length colours ≡ area.w * area.h
+-- A rectangle shows the values of a paint, in colours.
+pub record IsDrawnAs (area : Rect) (canvas : Canvas) (painted : Paint) : Type 0 where
+  pub values : List ℕ
+  pub is : painted ≡ Put area values
+  pub shows : LooksLike area.w area.h canvas (value_at area.w (map colour_of values))
 
 -- ---- Raw
 
@@ -37,17 +40,27 @@ pub record IsPaintOf (area : Rect) (colours : List ℕ) (painted : Paint) : Type
 abbrev pub raw_ahead : RawProgress → List ℕ → Reading (List ℕ)
 raw_ahead p values = after (times (p.count - length values) (pixel host_format) >>= λ more. Done (values ++ more)) p.begun
 
--- The values of the pixels that have come are known by their colours alone.
-pub record RawStands (area : Rect) (p : RawProgress) (reading : Reading Paint) : Type 0 where
+-- The first positions of a rectangle, row after row, show these values, in colours.
+abbrev pub ShowsFirst : Rect → Canvas → List ℕ → Type 0
+ShowsFirst area canvas values = (x y : ℕ) → x < area.w → y < area.h → y * area.w + x < length values → canvas x y ≡ colour_of (value_at area.w values x y)
+
+-- The pixels that have come are shown.
+pub record RawStands (area : Rect) (p : RawProgress) (canvas : Canvas) (reading : Reading Paint) : Type 0 where
   pub values : List ℕ
-  pub colours : p.colours ≡ map colour_of values
+  pub done : p.done ≡ length values
   pub count : p.count ≡ area.w * area.h
+  pub shows : ShowsFirst area canvas values
   pub reads : reading ≡ putting area (raw_ahead p values)
 
 -- Bytes were taken, each of which was wanted.
-pub record RawTakes (area : Rect) (new : RawProgress) (reading : Reading Paint) (bytes : List ℕ) : Type 0 where
-  pub stands : RawStands area new (after reading bytes)
+pub record RawTakes (area : Rect) (new : RawProgress) (canvas : Canvas) (reading : Reading Paint) (bytes : List ℕ) : Type 0 where
+  pub stands : RawStands area new canvas (after reading bytes)
   pub all : taken reading bytes ≡ length bytes
+
+-- It reads a rectangle of this size.
+pub record IsRawFor (area : Rect) (p : RawProgress) : Type 0 where
+  pub width : p.width ≡ area.w
+  pub count : p.count ≡ area.w * area.h
 
 -- ---- CopyRect
 
@@ -61,32 +74,32 @@ IsSource area begun source = Spells copy_source begun (source.x, source.y) × (s
 
 -- ---- RRE
 
--- The raster shows what was read so far.
-pub record RreStands (area : Rect) (p : RreProgress) (reading : Reading Paint) : Type 0 where
+-- It reads a rectangle of this size.
+abbrev pub IsRreFor : Rect → rre.Progress → Type 0
+IsRreFor area p = (p.width ≡ area.w) × (p.height ≡ area.h)
+
+-- The rectangle shows what was read so far.
+pub record RreStands (area : Rect) (p : rre.Progress) (canvas : Canvas) (reading : Reading Paint) : Type 0 where
   pub sofar : Drawing
-  pub width : p.reader.width ≡ area.w
-  pub height : p.reader.height ≡ area.h
-  pub stands : rre.Stands (λ value. value) p.reader (shown p.canvas) sofar
-  pub reads : reading ≡ putting area (rre.ahead p.reader sofar >>= λ drawing. Done (values_of area.w area.h (drawn drawing)))
+  pub width : p.width ≡ area.w
+  pub height : p.height ≡ area.h
+  pub stands : rre.Stands colour_of p canvas sofar
+  pub reads : reading ≡ putting area (rre.ahead p sofar >>= λ drawing. Done (values_of area.w area.h (drawn drawing)))
 
 -- ---- Hextile
 
--- The raster shows what was read so far.
-pub record HextileStands (area : Rect) (p : HextileProgress) (reading : Reading Paint) : Type 0 where
+abbrev pub IsHextileFor : Rect → hextile.Progress → Type 0
+IsHextileFor area p = (p.width ≡ area.w) × (p.height ≡ area.h)
+
+-- The rectangle shows what was read so far.
+pub record HextileStands (area : Rect) (p : hextile.Progress) (canvas : Canvas) (reading : Reading Paint) : Type 0 where
   pub sofar : hextile.Sofar
-  pub width : p.reader.width ≡ area.w
-  pub height : p.reader.height ≡ area.h
-  pub stands : hextile.Stands (λ value. value) p.reader (shown p.canvas) sofar
-  pub reads : reading ≡ putting area (hextile.ahead p.reader sofar >>= λ tiles. Done (values_of area.w area.h (tiled area.w area.h tiles)))
+  pub width : p.width ≡ area.w
+  pub height : p.height ≡ area.h
+  pub stands : hextile.Stands colour_of p canvas sofar
+  pub reads : reading ≡ putting area (hextile.ahead p sofar >>= λ tiles. Done (values_of area.w area.h (tiled area.w area.h tiles)))
 
 -- ---- any encoding
-
--- The same for what is kept of any of them.
-abbrev pub BodyStands : ℕ → ℕ → Rect → Body → Reading Paint → Type 0
-BodyStands w h area (body.Raw p) reading = RawStands area p reading
-BodyStands w h area (body.Copy begun) reading = CopyStands w h area begun reading
-BodyStands w h area (body.Rre p) reading = RreStands area p reading
-BodyStands w h area (body.Hextile p) reading = HextileStands area p reading
 
 -- What is kept of the data of a rectangle on a screen of width by height.
 pub record DataProgress : Type 0 where
@@ -95,9 +108,33 @@ pub record DataProgress : Type 0 where
   pub area : Rect
   pub body : Body
 
--- It stands for data that goes on so.
-abbrev pub DataStands : DataProgress → Reading Paint → Type 0
-DataStands d reading = BodyStands d.width d.height d.area d.body reading
+-- It reads a rectangle of this size.
+abbrev pub IsBodyFor : Rect → Body → Type 0
+IsBodyFor area (body.Raw p) = IsRawFor area p
+IsBodyFor area (body.Copy begun) = Unit {0}
+IsBodyFor area (body.Rre p) = IsRreFor area p
+IsBodyFor area (body.Hextile p) = IsHextileFor area p
+
+-- Another byte is wanted, whatever was painted.
+abbrev pub IsBodyWanting : Body → Type 0
+IsBodyWanting (body.Raw p) = p.done < p.count
+IsBodyWanting (body.Copy begun) = length begun < 4
+IsBodyWanting (body.Rre p) = rre.IsWanting p
+IsBodyWanting (body.Hextile p) = hextile.IsWanting p
+
+abbrev pub IsWanting : DataProgress → Type 0
+IsWanting d = IsBodyWanting d.body
+
+-- What was painted before, over the screen at the update's start, and what a rectangle shows so far, which a CopyRect leaves as it is.
+abbrev pub BodyStands : ℕ → ℕ → Rect → Body → Canvas → List Paint → Painting → Reading Paint → Type 0
+BodyStands w h area (body.Raw p) start paints painter reading = IsPaintedAround start paints area painter × RawStands area p (part_of area (worked painter)) reading
+BodyStands w h area (body.Copy begun) start paints painter reading = IsPaintedOver start paints painter × CopyStands w h area begun reading
+BodyStands w h area (body.Rre p) start paints painter reading = IsPaintedAround start paints area painter × RreStands area p (part_of area (worked painter)) reading
+BodyStands w h area (body.Hextile p) start paints painter reading = IsPaintedAround start paints area painter × HextileStands area p (part_of area (worked painter)) reading
+
+-- It stands for data that goes on so, behind these paints.
+abbrev pub DataStands : DataProgress → Canvas → List Paint → Painting → Reading Paint → Type 0
+DataStands d start paints painter reading = BodyStands d.width d.height d.area d.body start paints painter reading
 
 -- Of one rectangle on one screen.
 pub record IsSameArea (old new : DataProgress) : Type 0 where
@@ -105,8 +142,15 @@ pub record IsSameArea (old new : DataProgress) : Type 0 where
   pub height : new.height ≡ old.height
   pub area : new.area ≡ old.area
 
--- A reader that stood for a reading was fed a piece, and answers how many bytes it used, or the fault at which it
--- stands.
-abbrev pub FedAs : Reading Paint → List ℕ → Result ℕ Fault → Type 0
-FedAs reading piece (Ok used) = (used ≡ taken reading piece) × (fault_of (after reading piece) ≡ None)
-FedAs reading piece (Err fault) = after reading piece ≡ Faulty fault
+-- Where the rectangle is whole it is one paint more.
+pub record IsWhole (start : Canvas) (paints : List Paint) (painter : Painting) (reading : Reading Paint) : Type 0 where
+  pub painted : Paint
+  pub reads : reading ≡ Done painted
+  pub shows : IsPaintedOver start (paints ++ in_colours painted ∷ []) painter
+
+-- A reader that stood for a reading, behind these paints, was fed a piece, and answers how many bytes it used and whether the rectangle is
+-- whole, or the fault. Where it isn't whole, it wants another byte.
+abbrev pub Fed : (Stands : Reading Paint → Type 0) → Canvas → List Paint → Painting → Reading Paint → List ℕ → Result (ℕ × Bool) Fault → Type 0
+Fed Stands start paints painter reading piece (Ok (used, true)) = IsWhole start paints painter (after reading piece) × (used ≡ taken reading piece)
+Fed Stands start paints painter reading piece (Ok (used, false)) = Stands (after reading piece) × (wants_more (after reading piece) ≡ true) × (used ≡ taken reading piece)
+Fed Stands start paints painter reading piece (Err fault) = after reading piece ≡ Faulty fault

@@ -2,25 +2,24 @@
 use Rattle.std.specs.Prelude.{◌≡◌, ℕ, ◌+◌, ◌<◌, drop, length, Bool, true, false, List, [], ◌∷◌, ◌++◌, map, None, Result, Ok, Err, ◌⊎◌}
 use Rattle.pixel_format.specs.PixelFormat.{host_format}
 use Rattle.pixel_format.specs.declared.fault.Fault.{Fault}
-use Rattle.pixel_format.specs.declared.fault.Fault.TheVariants.{UnknownMessage, RectOutside, UnknownEncoding, Memory}
-use Rattle.pixel_format.specs.Reading.{Reading, Done, Faulty, ◌>>=◌, after, taken, bytes, padding, times, u32, wants_more, fault_of}
+use Rattle.pixel_format.specs.declared.fault.Fault.TheVariants.{Memory}
+use Rattle.pixel_format.specs.Reading.{Reading, Done, Faulty, ◌>>=◌, after, taken, padding, times, u32, wants_more, fault_of}
 use Rattle.raster.specs.Screen.{Canvas, IsWithin}
 use Rattle.raster.specs.Size.{IsScreenSize}
 use Rattle.raster.specs.Update.{Paint, Update, after_updates}
 use Rattle.painter.specs.Painter.{Painting, IsPaintedOver}
 use Rattle.rfb_wire.specs.ClientMessage.{text}
+use Rattle.rfb_wire.specs.HeldText.{kept_text}
 use Rattle.rfb_wire.specs.ServerMessage.{ServerMessage, FramebufferUpdate, ServerCutText, LostText, rectangle, data_of, framebuffer_update, set_color_map_entries, server_message}
 use Rattle.host_decoder.specs.Updates.{in_colours}
 use Rattle.host_decoder.specs.Events.{Brings, brought_by, changes}
-use Rattle.host_decoder.specs.Data.{DataProgress, DataStands}
+use Rattle.host_decoder.specs.Data.{DataProgress, DataStands, IsWanting}
 use Rattle.host_decoder.specs.Parts.{Passed, len_of, message_of}
 use Rattle.host_decoder.specs.declared.event.HostEvent.{HostEvent}
 use Rattle.host_decoder.specs.declared.part.Part.{Part}
 use Rattle.host_decoder.specs.declared.part.Part.TheVariants.{Kind, Count, Area, Encoding, Colours, Length}
 use Rattle.host_decoder.specs.declared.state.State.{State}
-use Rattle.host_decoder.specs.declared.state.State.TheVariants.{Fields, Pixels, Spoiled, Keeping, Passing, Whole, Failed, Refused}
-use Rattle.host_decoder.specs.declared.state.Wrong as declared_wrong
-use Rattle.host_decoder.specs.declared.state.Wrong.TheVariants as wrong
+use Rattle.host_decoder.specs.declared.state.State.TheVariants.{Fields, Pixels, Keeping, Passing, Whole, Failed}
 
 -- What contracts see of a decoder: the size of the screen in pixels, and what stands in it.
 pub record Decoding : Type 0 where
@@ -66,17 +65,11 @@ IsSuited Length paints = paints ≡ []
 
 -- The rest of a text that is kept, where these bytes have come and so many are left.
 abbrev pub keeping : List ℕ → ℕ → Reading ServerMessage
-keeping kept left = bytes left >>= λ others. Done (ServerCutText (kept ++ others))
+keeping = kept_text ServerCutText
 
 -- And of what is read past.
 abbrev pub passing : ℕ → Passed → Reading ServerMessage
 passing left what = padding left (Done (message_of what))
-
--- The fault of what was found wrong.
-abbrev pub at_fault : declared_wrong.Wrong → Fault
-at_fault (wrong.Kind kind) = UnknownMessage kind
-at_fault wrong.Area = RectOutside
-at_fault wrong.Encoding = UnknownEncoding
 
 -- ---- what stands in a decoder, beside what was painted, over the screen at the start of the message
 
@@ -92,20 +85,13 @@ pub record InPart (w h : ℕ) (part : Part) (begun : List ℕ) (start : Canvas) 
   pub missing : length begun < len_of part
   pub reads : r ≡ after (form_of w h sofar part) begun
 
--- A rectangle's data are being read, and so many rectangles are left behind it.
+-- A rectangle's data are being read, and painted as they come over the paints before it, and so many rectangles are left behind it.
 pub record InData (w h left : ℕ) (reader : DataProgress) (start : Canvas) (painter : Painting) (r : Reading ServerMessage) : Type 0 where
   pub sofar : List Paint
-  pub holds : Holds start painter sofar
   pub reading : Reading Paint
-  pub stands : DataStands reader reading
+  pub stands : DataStands reader start (map in_colours sofar) painter reading
   pub wants : wants_more reading ≡ true
   pub reads : r ≡ with_others w h sofar left reading
-
--- A rectangle's data are at fault.
-pub record AtFault (reader : DataProgress) (r : Reading ServerMessage) : Type 0 where
-  pub fault : Fault
-  pub stands : DataStands reader (Faulty fault)
-  pub reads : r ≡ Faulty fault
 
 -- The event of a whole message waits, and the painter shows the screen behind it.
 pub record AtEnd (w h : ℕ) (event : HostEvent) (start : Canvas) (painter : Painting) (r : Reading ServerMessage) : Type 0 where
@@ -114,24 +100,24 @@ pub record AtEnd (w h : ℕ) (event : HostEvent) (start : Canvas) (painter : Pai
   pub brings : Brings w h start event message
   pub shows : Holds (after_updates start (changes w h message)) painter []
 
--- What stands there stands for a message that goes on so, and that began over a screen. Once memory was refused nothing does.
+-- What stands there stands for a message that goes on so, and that began over a screen. Where memory was refused it
+-- stands for none, since no message has that fault.
 abbrev pub Stands : ℕ → ℕ → State → Canvas → Painting → Reading ServerMessage → Type 0
 Stands w h (Fields fields) start painter r = InPart w h fields.0 fields.1 start painter r
-Stands w h (Pixels pending) start painter r = InData w h pending.left pending.reader start painter r
-Stands w h (Spoiled reader) start painter r = AtFault reader r
+Stands w h (Pixels left reader) start painter r = InData w h left reader start painter r
 Stands w h (Keeping kept) start painter r = Holds start painter [] × (0 < kept.1) × (r ≡ keeping kept.0 kept.1)
-Stands w h (Passing past) start painter r = Holds start painter [] × (0 < past.0) × (r ≡ passing past.0 past.1)
+Stands w h (Passing what left) start painter r = Holds start painter [] × (0 < left) × (r ≡ passing left what)
 Stands w h (Whole event) start painter r = AtEnd w h event start painter r
-Stands w h (Failed what) start painter r = r ≡ Faulty (at_fault what)
-Stands w h Refused start painter r = ⊥
+Stands w h (Failed fault) start painter r = r ≡ Faulty fault
 
--- Outside an update: whatever the painter is, where nothing was painted over a screen, it stands for a message that goes on so.
+-- Outside an update: whatever the painter is, where nothing was painted over a screen, it stands for a message that goes
+-- on so.
 abbrev pub StandsUnpainted : ℕ → ℕ → State → Reading ServerMessage → Type 0
 StandsUnpainted w h state r = (start : Canvas) (painter : Painting) → Holds start painter [] → Stands w h state start painter r
 
--- A decoder and its painter stand for a message of the host that goes on so. At its start the screen was this: what all whole messages before
--- it made. Before the message's first byte, and where it is whole, the painter shows the screen as it then is; inside an update, or at a
--- fault, it may show a part of it.
+-- A decoder and its painter stand for a message of the host that goes on so. At its start the screen was this: what all
+-- whole messages before it made. Before the message's first byte, and where it is whole, the painter shows the screen as
+-- it then is; inside an update, or at a fault, it may show a part of it.
 abbrev pub Decodes : Decoding → Painting → Canvas → Reading ServerMessage → Type 0
 Decodes decoder painter start r = Stands decoder.width decoder.height decoder.state start painter r
 
@@ -139,38 +125,29 @@ Decodes decoder painter start r = Stands decoder.width decoder.height decoder.st
 abbrev pub start : State
 start = Fields (Kind, [])
 
--- Another byte is taken: no message is whole, no fault was met, and no memory refused.
+-- Another byte is taken: no message is whole, and nothing failed.
 abbrev pub is_open : State → Bool
 is_open (Fields fields) = true
-is_open (Pixels pending) = true
-is_open (Spoiled reader) = false
+is_open (Pixels left reader) = true
 is_open (Keeping kept) = true
-is_open (Passing past) = true
+is_open (Passing what left) = true
 is_open (Whole event) = false
-is_open (Failed what) = false
-is_open Refused = false
+is_open (Failed fault) = false
 
 -- Memory was refused: this is final.
 abbrev pub is_refused : State → Bool
-is_refused (Fields fields) = false
-is_refused (Pixels pending) = false
-is_refused (Spoiled reader) = false
-is_refused (Keeping kept) = false
-is_refused (Passing past) = false
-is_refused (Whole event) = false
-is_refused (Failed what) = false
-is_refused Refused = true
+is_refused (Failed Memory) = true
+is_refused _ = false
 
 -- The update, if any, of the message that waits.
 abbrev pub waiting : State → List Update
-waiting (Fields fields) = []
-waiting (Pixels pending) = []
-waiting (Spoiled reader) = []
-waiting (Keeping kept) = []
-waiting (Passing past) = []
 waiting (Whole event) = brought_by event
-waiting (Failed what) = []
-waiting Refused = []
+waiting _ = []
+
+-- What is answered: how many bytes were used, or what failed.
+abbrev pub answered : State → ℕ → Result ℕ Fault
+answered (Failed fault) used = Err fault
+answered _ used = Ok used
 
 -- ---- what a decoder does
 
@@ -196,16 +173,14 @@ SuitsPart w h (Encoding left area) = IsWithin area w h
 SuitsPart w h Colours = Unit {0}
 SuitsPart w h Length = Unit {0}
 
--- And its data are read for this screen.
+-- And its data are read for this screen, and want another byte.
 abbrev pub Suits : ℕ → ℕ → State → Type 0
 Suits w h (Fields fields) = SuitsPart w h fields.0
-Suits w h (Pixels pending) = (pending.reader.width ≡ w) × (pending.reader.height ≡ h)
-Suits w h (Spoiled reader) = Unit {0}
+Suits w h (Pixels left reader) = (reader.width ≡ w) × (reader.height ≡ h) × IsWanting reader
 Suits w h (Keeping kept) = Unit {0}
-Suits w h (Passing past) = Unit {0}
+Suits w h (Passing what left) = Unit {0}
 Suits w h (Whole event) = Unit {0}
-Suits w h (Failed what) = Unit {0}
-Suits w h Refused = Unit {0}
+Suits w h (Failed fault) = Unit {0}
 
 -- What stands in a decoder for a screen of w by h.
 pub record IsDecoding (w h : ℕ) (state : State) : Type 0 where
@@ -232,15 +207,3 @@ pub record Uses (old new : Painting) (state : State) (start : Canvas) (r : Readi
   pub next : Reading ServerMessage
   pub behind_ : IsBehind r next bytes n
   pub goes_on : GoesOn old new state start next
-
--- What is answered at the end. Where a rectangle's data are at fault, they name it again.
-abbrev pub Judges : State → State → ℕ → Result ℕ Fault → Type 0
-Judges (Fields fields) new used answer = (new ≡ Fields fields) × (answer ≡ Ok used)
-Judges (Pixels pending) new used answer = (new ≡ Pixels pending) × (answer ≡ Ok used)
-Judges (Spoiled reader) new used answer =
-    (again : DataProgress) × (new ≡ Spoiled again) × ((fault : Fault) → DataStands reader (Faulty fault) → (answer ≡ Err fault) × DataStands again (Faulty fault))
-Judges (Keeping kept) new used answer = (new ≡ Keeping kept) × (answer ≡ Ok used)
-Judges (Passing past) new used answer = (new ≡ Passing past) × (answer ≡ Ok used)
-Judges (Whole event) new used answer = (new ≡ Whole event) × (answer ≡ Ok used)
-Judges (Failed what) new used answer = (new ≡ Failed what) × (answer ≡ Err (at_fault what))
-Judges Refused new used answer = (new ≡ Refused) × (answer ≡ Err Memory)

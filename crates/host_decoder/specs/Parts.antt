@@ -3,8 +3,8 @@ use Rattle.std.specs.Prelude.{ℕ}
 use Rattle.rfb_wire.specs.ServerMessage.{ServerMessage, SetColorMapEntries, LostText}
 use Rattle.host_decoder.specs.declared.part.Part.{Part}
 use Rattle.host_decoder.specs.declared.part.Part.TheVariants.{Kind, Count, Area, Encoding, Colours, Length}
-use Rattle.host_decoder.specs.declared.past.Passed as declared
-use Rattle.host_decoder.specs.declared.past.Passed.TheVariants as passed
+use Rattle.host_decoder.specs.declared.passed.Passed as declared
+use Rattle.host_decoder.specs.declared.passed.Passed.TheVariants as passed
 
 -- How many bytes each has.
 abbrev pub len_of : Part → ℕ

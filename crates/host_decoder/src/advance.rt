@@ -1,90 +1,92 @@
-//! One step of a decoder.
+//! What becomes of what stands in a decoder with bytes from the front of some: another state, if it doesn't stay, and
+//! how many bytes it takes.
 
-ghost use Rattle.std.specs.Prelude.{◌≡◌, ℕ, ◌<◌, ◌≤◌, true, length, IfOk};
+ghost use Rattle.std.specs.Prelude.{◌≡◌, ◌<◌, ◌≤◌, [], length, unwrap_or};
 ghost use Rattle.pixel_format.specs.Reading.{Reading};
 ghost use Rattle.raster.specs.Screen.{Canvas};
 ghost use Rattle.raster.specs.Size.{IsScreenSize};
+ghost use Rattle.painter.specs.Painter.{Painting};
 ghost use Rattle.rfb_wire.specs.ServerMessage.{ServerMessage};
-ghost use Rattle.host_decoder.specs.Decoder.{InPart, Judges, Stands, Stays, Suits, SuitsPart, Uses, is_open};
+ghost use Rattle.host_decoder.specs.Decoder.{Stands, Stays, SuitsPart, Uses};
+ghost use Rattle.host_decoder.specs.declared.state.State.TheVariants as state;
 
 use crate::complete::complete;
-use crate::fields::Fields;
+use crate::part::Part;
+use crate::passed::Passed;
 use crate::state::State;
-use crate::update_data::read_data;
 use painter::Painter;
-use pixel_format::Fault;
+use rfb_wire::{Fields, FixedPart, KeptText, SkippedBytes};
 use std::alloc::Global;
 
-/// Takes what a part wants from the front of some bytes, and answers how many.
-fn take_fields(alloc: Global, painter: &mut Painter, fields: Fields, bytes: &[u8]) -> (State, usize)
+/// Of fields.
+pub(crate) fn take_fields(
+    alloc: Global,
+    painter: &mut Painter,
+    fields: &mut Fields<Part>,
+    bytes: &[u8],
+) -> (Option<State>, usize)
     requires size { IsScreenSize painter.old.width painter.old.height }
-    requires suits { SuitsPart painter.old.width painter.old.height fields.0 }
+    requires suits { SuitsPart painter.old.width painter.old.height fields.old.0 }
     requires some { 0 < length bytes.now }
-    ensures stays { Stays painter.old painter.new result.0 }
+    ensures stays { Stays painter.old painter.new (unwrap_or result.0 (state.Fields fields.new)) }
     ensures within { (0 < result.1) × (result.1 ≤ length bytes.now) }
-    ensures uses { (start : Canvas) (r : Reading ServerMessage) → InPart painter.old.width painter.old.height fields.0 fields.1 start painter.old r → Uses painter.old painter.new result.0 start r bytes.now result.1 }
+    ensures uses { (start : Canvas) (r : Reading ServerMessage) → Stands painter.old.width painter.old.height (state.Fields fields.old) start painter.old r
+        → Uses painter.old painter.new (unwrap_or result.0 (state.Fields fields.new)) start r bytes.now result.1 }
 {
+    let part = fields.part();
     let count = bytes.len().min(fields.left());
     let (next, _) = bytes.split_at(count);
     if count < fields.left() {
-        return (State::Fields(fields.with_bytes(next)), count);
+        fields.keep(next);
+        return (None, count);
     }
-    let part = fields.part();
-    if fields.is_empty() {
-        return (complete(alloc, painter, part, next), count);
-    }
-    let all = fields.complete(next);
-    (complete(alloc, painter, part, &all[..part.len()]), count)
+    let all = fields.whole(next);
+    (
+        Some(complete(alloc, painter, part, &all[..part.len()])),
+        count,
+    )
 }
 
-/// Takes bytes from the front of some, and answers how many: what its part, its data or its text wants.
-pub(crate) fn advance(
+/// Of a text that is kept. Where memory for it is refused, no more is read.
+pub(crate) fn take_text(
     alloc: Global,
-    painter: &mut Painter,
-    state: State,
+    painter: &Painter,
+    kept: &mut KeptText,
     bytes: &[u8],
-) -> (State, usize)
-    requires size { IsScreenSize painter.old.width painter.old.height }
-    requires suits { Suits painter.old.width painter.old.height state }
-    requires wanted { is_open state ≡ true }
+) -> (Option<State>, usize)
+    requires size { IsScreenSize painter.now.width painter.now.height }
     requires some { 0 < length bytes.now }
-    ensures stays { Stays painter.old painter.new result.0 }
+    ensures stays { Stays painter.now painter.now (unwrap_or result.0 (state.Keeping kept.new)) }
     ensures within { (0 < result.1) × (result.1 ≤ length bytes.now) }
-    ensures uses { (start : Canvas) (r : Reading ServerMessage) → Stands painter.old.width painter.old.height state start painter.old r → Uses painter.old painter.new result.0 start r bytes.now result.1 }
+    ensures uses { (start : Canvas) (r : Reading ServerMessage) → Stands painter.now.width painter.now.height (state.Keeping kept.old) start painter.now r
+        → Uses painter.now painter.now (unwrap_or result.0 (state.Keeping kept.new)) start r bytes.now result.1 }
 {
-    match state {
-        State::Fields(fields) => take_fields(alloc, painter, fields, bytes),
-        State::Pixels(pending) => {
-            let (left, reader) = pending.into_parts();
-            read_data(painter, left, reader, bytes)
-        }
-        State::Keeping(kept) => {
-            let (width, height) = painter.size();
-            let count = bytes.len().min(kept.left());
-            let (next, _) = bytes.split_at(count);
-            (kept.with_bytes(width, height, next), count)
-        }
-        State::Passing(past) => {
-            let count = bytes.len().min(past.left());
-            (past.with_bytes(count), count)
-        }
-        _ => unreachable!(),
+    let count = bytes.len().min(kept.left());
+    let (next, _) = bytes.split_at(count);
+    if count < kept.left() {
+        return match kept.keep(next) {
+            Ok(()) => (None, count),
+            Err(fault) => (Some(State::Failed(fault)), count),
+        };
+    }
+    match kept.finish(alloc, next) {
+        Ok(text) => (Some(State::text(painter, text)), count),
+        Err(fault) => (Some(State::Failed(fault)), count),
     }
 }
 
-/// How many bytes were used, or the fault that is shown, or that memory was refused.
-pub(crate) fn judge(state: State, used: usize) -> (State, Result<usize, Fault>)
-    ensures suits { (w h : ℕ) → Suits w h state → Suits w h result.0 }
-    ensures judges { Judges state result.0 used result.1 }
-    ensures ok { IfOk result.1 (λ count. count ≡ used) }
+/// Of what is read past.
+pub(crate) fn skip(what: Passed, past: &mut SkippedBytes, bytes: &[u8]) -> (Option<State>, usize)
+    requires some { 0 < length bytes.now }
+    ensures stays { (painter : Painting) → Stays painter painter (unwrap_or result.0 (state.Passing what past.new)) }
+    ensures within { (0 < result.1) × (result.1 ≤ length bytes.now) }
+    ensures uses { (painter : Painting) (start : Canvas) (r : Reading ServerMessage) → Stands painter.width painter.height (state.Passing what past.old) start painter r
+        → Uses painter painter (unwrap_or result.0 (state.Passing what past.new)) start r bytes.now result.1 }
 {
-    match state {
-        State::Spoiled(mut reader) => match reader.feed(&[]) {
-            Ok(_) => (State::Spoiled(reader), Ok(used)),
-            Err(fault) => (State::Spoiled(reader), Err(fault)),
-        },
-        State::Failed(wrong) => (State::Failed(wrong), Err(wrong.fault())),
-        State::Refused => (State::Refused, Err(Fault::Memory)),
-        state => (state, Ok(used)),
+    let count = bytes.len().min(past.left());
+    if count < past.left() {
+        past.skip(count);
+        return (None, count);
     }
+    (Some(State::Whole(what.event())), count)
 }

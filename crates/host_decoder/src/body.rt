@@ -1,9 +1,9 @@
 //! What is kept of a rectangle's data, by its encoding.
 
 use crate::copy_source::CopySource;
-use crate::hextile_data::HextileData;
 use crate::raw_data::RawPixels;
-use crate::rre_data::RreData;
+use hextile_codec::Reader as HextileReader;
+use rre_codec::Reader as RreReader;
 
 /// What has come of a rectangle's data.
 #[derive(Drop)]
@@ -13,7 +13,7 @@ pub(crate) enum Body {
     /// A source on the screen.
     Copy(CopySource),
     /// A background and subrectangles.
-    Rre(RreData),
+    Rre(RreReader),
     /// Tiles.
-    Hextile(HextileData),
+    Hextile(HextileReader),
 }

@@ -13,18 +13,16 @@ ghost use Rattle.host_decoder.specs.declared.part.Part.TheVariants.{Area};
 ghost use Rattle.host_decoder.specs.Parts.{len_of};
 
 use crate::event::HostEvent;
-use crate::fields::Fields;
-use crate::kept::Kept;
 use crate::part::Part;
-use crate::past::{Passed, Past};
-use crate::state::{State, Wrong};
+use crate::passed::Passed;
+use crate::state::State;
 use crate::update_data::{begin_data, next_rectangle};
 use painter::{Painter, Patch};
-use pixel_format::LONGEST_TEXT;
+use pixel_format::{Fault, LONGEST_TEXT};
 use raster::Rect;
 use rfb_wire::{
-    BELL, FRAMEBUFFER_UPDATE, SERVER_CUT_TEXT, SET_COLOUR_MAP_ENTRIES, read_colour_map_head,
-    read_encoding, read_text_head, read_update_head,
+    BELL, FRAMEBUFFER_UPDATE, Fields, KeptText, SERVER_CUT_TEXT, SET_COLOUR_MAP_ENTRIES, Text,
+    read_colour_map_head, read_encoding, read_text_head, read_update_head,
 };
 use std::alloc::Global;
 
@@ -42,7 +40,7 @@ fn behind_kind(painter: &Painter, kind: u8) -> State
             return State::Whole(HostEvent::Bell(Patch::bell(width, height)));
         }
         SERVER_CUT_TEXT => Part::Length,
-        _ => return State::Failed(Wrong::Kind(kind)),
+        _ => return State::Failed(Fault::UnknownMessage(kind)),
     };
     State::Fields(Fields::of(part))
 }
@@ -59,7 +57,7 @@ fn behind_area(painter: &Painter, left: u16, b: &[u8]) -> State
     if area.within(width, height) {
         State::Fields(Fields::of(Part::Encoding(left, area)))
     } else {
-        State::Failed(Wrong::Area)
+        State::Failed(Fault::RectOutside)
     }
 }
 
@@ -70,7 +68,7 @@ fn behind_colours(b: &[u8]) -> State
     ensures suits { (w h : ℕ) → Suits w h result }
 {
     let count = read_colour_map_head(b);
-    Past::begin(u32::from(count) * 6, Passed::Colours)
+    State::past(Passed::Colours, u32::from(count) * 6)
 }
 
 /// What follows the length of a text.
@@ -82,10 +80,12 @@ fn behind_length(alloc: Global, painter: &Painter, b: &[u8]) -> State
 {
     let len = read_text_head(b);
     if len > LONGEST_TEXT {
-        return Past::begin(len, Passed::Text(len));
+        State::past(Passed::Text(len), len)
+    } else if len == 0 {
+        State::text(painter, Text::from_vec(Vec::new(alloc)))
+    } else {
+        State::Keeping(KeptText::begin(alloc, len as usize))
     }
-    let (width, height) = painter.size();
-    Kept::begin(alloc, width, height, len as usize)
 }
 
 /// How reading goes on behind a part that has these bytes.
@@ -101,7 +101,7 @@ pub(crate) fn complete(alloc: Global, painter: &mut Painter, part: Part, b: &[u8
         Part::Kind => behind_kind(painter, b[0]),
         Part::Count => next_rectangle(painter, read_update_head(b)),
         Part::Area(left) => behind_area(painter, left, b),
-        Part::Encoding(left, area) => { begin_data(alloc, painter, left, area, read_encoding(b)) }
+        Part::Encoding(left, area) => { begin_data(painter, left, area, read_encoding(b)) }
         Part::Colours => behind_colours(b),
         Part::Length => behind_length(alloc, painter, b),
     }

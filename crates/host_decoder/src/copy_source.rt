@@ -1,10 +1,13 @@
 //! The source of a CopyRect, in whatever pieces it comes (RFC 6143, section 7.7.2).
 
-ghost use Rattle.std.specs.Prelude.{◌≡◌, ◌-◌, ◌≤◌, ◌++◌, ◌==◌, [], length, min, take, is_some};
-ghost use Rattle.pixel_format.specs.Reading.{Reading, after, whole_of};
+ghost use Rattle.std.specs.Prelude.{◌≡◌, ◌-◌, ◌<◌, ◌≤◌, ◌++◌, ◌==◌, [], List, false, length, min, take, IfOk};
+ghost use Rattle.pixel_format.specs.Reading.{Reading};
+ghost use Rattle.raster.specs.Screen.{Canvas, IsWithin};
 ghost use Rattle.raster.specs.Update.{Paint};
-ghost use Rattle.host_decoder.specs.Data.{CopyStands, FedAs, IsSource};
+ghost use Rattle.painter.specs.Painter.{IsAsLarge, IsPaintedOver};
+ghost use Rattle.host_decoder.specs.Data.{CopyStands, Fed, IsSource};
 
+use painter::Painter;
 use pixel_format::Fault;
 use raster::Rect;
 use rfb_wire::read_copy_source;
@@ -63,8 +66,9 @@ impl CopySource {
     }
 
     /// The source of a rectangle, once all of its bytes have come.
-    pub(crate) fn source(&self, area: &Rect) -> Rect
+    fn source(&self, area: &Rect) -> Rect
         ensures value { length self.now ≡ 4 → IsSource area.now self.now result }
+        ensures size { (result.w ≡ area.now.w) × (result.h ≡ area.now.h) }
         ensures most { length self.now ≤ 4 }
     {
         let (x, y) = read_copy_source(&self.bytes);
@@ -76,23 +80,34 @@ impl CopySource {
         }
     }
 
-    /// Takes the next piece, up to the end of the source, and answers how many bytes it used.
+    /// Takes the next piece, up to the end of the source, and answers how many bytes it used, and whether all have
+    /// come. Then the rectangle is copied.
     ///
-    /// `CopyOutside` at the last byte of a source that leaves the screen of `w` by `h`. The fault is final.
-    pub(crate) fn feed(&mut self, w: u64, h: u64, area: &Rect, piece: &[u8]) -> Result<usize, Fault>
-        ensures { (reading : Reading Paint) → CopyStands w h area.now self.old reading → CopyStands w h area.now self.new (after reading piece.now) × FedAs reading piece.now result }
+    /// `CopyOutside` at the last byte of a source that leaves the screen.
+    pub(crate) fn feed(
+        &mut self,
+        painter: &mut Painter,
+        area: &Rect,
+        piece: &[u8],
+    ) -> Result<(usize, bool), Fault>
+        requires { IsWithin area.now painter.old.width painter.old.height }
+        ensures size { IsAsLarge painter.old painter.new }
+        ensures within { IfOk result (λ fed. fed.0 ≤ length piece.now) }
+        ensures some { length self.old < 4 → 0 < length piece.now → IfOk result (λ fed. 0 < fed.0) }
+        ensures open_ { IfOk result (λ fed. fed.1 ≡ false → length self.new < 4) }
+        ensures fed { (start : Canvas) (paints : List Paint) (reading : Reading Paint) → IsPaintedOver start paints painter.old → CopyStands painter.old.width painter.old.height area.now self.old reading
+            → Fed (λ next. IsPaintedOver start paints painter.new × CopyStands painter.old.width painter.old.height area.now self.new next) start paints painter.new reading piece.now result }
     {
         let used = self.take_bytes(piece);
-        if self.is_full() && !self.source(area).within(w, h) {
+        if !self.is_full() {
+            return Ok((used, false));
+        }
+        let source = self.source(area);
+        let (width, height) = painter.size();
+        if !source.within(width, height) {
             return Err(Fault::CopyOutside);
         }
-        Ok(used)
-    }
-
-    /// Whether all bytes of a source on the screen of `w` by `h` have come.
-    pub(crate) fn is_whole(&self, w: u64, h: u64, area: &Rect) -> bool
-        ensures { (reading : Reading Paint) → CopyStands w h area.now self.now reading → result ≡ is_some (whole_of reading) }
-    {
-        self.is_full() && self.source(area).within(w, h)
+        painter.copy(*area, source.x, source.y);
+        Ok((used, true))
     }
 }

@@ -1,28 +1,28 @@
-//! The data of one rectangle of a host, in whatever pieces it comes (RFC 6143, section 7.7).
+//! The data of one rectangle of a host, in whatever pieces it comes, painted as it comes (RFC 6143, section 7.7).
 
-ghost use Rattle.std.specs.Prelude.{◌≡◌, ℕ, ◌⊎◌, true, is_some, IfOk, IfErr, IsTrue, IsFalse};
+ghost use Rattle.std.specs.Prelude.{◌≡◌, ◌<◌, ◌≤◌, List, false, length, IfOk, IfErr};
 ghost use Rattle.pixel_format.specs.PixelFormat.{host_format};
-ghost use Rattle.pixel_format.specs.Reading.{Reading, Done, Faulty, after, wants_more, whole_of};
-ghost use Rattle.pixel_format.specs.declared.fault.Fault.TheVariants.{Memory, UnknownEncoding};
-ghost use Rattle.raster.specs.Painted.{paint_of, Fits};
-ghost use Rattle.raster.specs.Screen.{IsWithin};
+ghost use Rattle.pixel_format.specs.Reading.{Reading, Faulty};
+ghost use Rattle.pixel_format.specs.declared.fault.Fault.TheVariants.{UnknownEncoding};
+ghost use Rattle.raster.specs.Screen.{Canvas, IsWithin};
 ghost use Rattle.raster.specs.Size.{IsScreenSize};
-ghost use Rattle.raster.specs.Update as update;
+ghost use Rattle.raster.specs.Update.{Paint};
+ghost use Rattle.painter.specs.Painter.{IsAsLarge, IsPaintedOver, Painting};
 ghost use Rattle.rfb_wire.specs.ServerMessage.{data_of};
-ghost use Rattle.host_decoder.specs.Updates.{in_colours};
-ghost use Rattle.host_decoder.specs.Data.{DataStands, IsSameArea, FedAs};
+ghost use Rattle.host_decoder.specs.Data.{DataStands, Fed, IsSameArea, IsWanting};
 
 use crate::body::Body;
 use crate::copy_source::CopySource;
-use crate::hextile_data::HextileData;
 use crate::raw_data::RawPixels;
-use crate::rre_data::RreData;
+use crate::rect_reader::{RectReader, paint_pixels};
+use hextile_codec::Reader as HextileReader;
+use painter::Painter;
 use pixel_format::Fault;
-use raster::{COPY_RECT, Encoding, Paint, Rect};
-use std::alloc::Global;
+use raster::{COPY_RECT, Encoding, Rect};
+use rre_codec::Reader as RreReader;
 use std::marker::Model;
 
-/// A reader of the data of one rectangle. What memory it needs is taken at the start.
+/// A reader of the data of one rectangle, which paints them as they come. It takes no memory.
 #[derive(Drop)]
 pub(crate) struct Data {
     width: u64,
@@ -33,39 +33,33 @@ pub(crate) struct Data {
 
 impl Model for Data {
     ghost use Rattle.raster.specs.Screen.{IsWithin};
-    ghost use Rattle.host_decoder.specs.Data.{DataProgress};
+    ghost use Rattle.host_decoder.specs.Data.{DataProgress, IsBodyFor};
 
     ghost Value = { DataProgress };
 
     ghost view = { λ r. record { width = r.width; height = r.height; area = r.area; body = r.body } };
 
-    ghost invariant = { λ r. IsWithin r.area r.width r.height };
+    ghost invariant = { λ r. IsWithin r.area r.width r.height × IsBodyFor r.area r.body };
 }
 
 impl Data {
     /// A reader to which no byte has come, of the data of the rectangle `area` in an encoding, on a screen of `width`
     /// by `height` pixels.
     ///
-    /// `UnknownEncoding` for any but Raw, CopyRect, RRE and Hextile. `Memory` where there is no room for the pixels.
-    pub(crate) fn new(
-        alloc: Global,
-        width: u64,
-        height: u64,
-        area: Rect,
-        encoding: u32,
-    ) -> Result<Data, Fault>
+    /// `UnknownEncoding` for any but Raw, CopyRect, RRE and Hextile.
+    pub(crate) fn new(width: u64, height: u64, area: Rect, encoding: u32) -> Result<Data, Fault>
         requires size { IsScreenSize width height }
         requires within { IsWithin area width height }
-        ensures stands { IfOk result (λ d. DataStands d (data_of host_format width height area encoding)) }
+        ensures stands { IfOk result (λ d. (start : Canvas) (paints : List Paint) (painter : Painting) → IsPaintedOver start paints painter → DataStands d start paints painter (data_of host_format width height area encoding)) }
         ensures width { IfOk result (λ d. d.width ≡ width) }
         ensures height { IfOk result (λ d. d.height ≡ height) }
         ensures area { IfOk result (λ d. d.area ≡ area) }
-        ensures err { IfErr result (λ fault. (fault ≡ Memory) ⊎ ((fault ≡ UnknownEncoding) × (data_of host_format width height area encoding ≡ Faulty UnknownEncoding))) }
+        ensures err { IfErr result (λ fault. (fault ≡ UnknownEncoding) × (data_of host_format width height area encoding ≡ Faulty UnknownEncoding)) }
     {
         let body = match Encoding::of_number(encoding) {
-            Some(Encoding::Raw) => Body::Raw(RawPixels::new(alloc, (area.w * area.h) as usize)?),
-            Some(Encoding::Rre) => Body::Rre(RreData::new(alloc, area.w, area.h)?),
-            Some(Encoding::Hextile) => Body::Hextile(HextileData::new(alloc, area.w, area.h)?),
+            Some(Encoding::Raw) => Body::Raw(RawPixels::of(&area)),
+            Some(Encoding::Rre) => Body::Rre(RreReader::of(&area)),
+            Some(Encoding::Hextile) => Body::Hextile(HextileReader::of(&area)),
             None if encoding == COPY_RECT => Body::Copy(CopySource::new()),
             None => return Err(Fault::UnknownEncoding),
         };
@@ -77,61 +71,32 @@ impl Data {
         })
     }
 
-    /// Takes the next piece, up to the end of the rectangle, and answers how many bytes it used. It takes no memory.
+    /// Takes the next piece, up to the end of the rectangle, and paints what it says. Answers how many bytes it used,
+    /// and whether the rectangle is whole. It takes no memory.
     ///
-    /// `SubrectOutside`, `NoBackground`, `NoForeground` and `CopyOutside` at the byte that shows it. The fault is
-    /// final.
-    pub(crate) fn feed(&mut self, piece: &[u8]) -> Result<usize, Fault>
+    /// `SubrectOutside`, `NoBackground`, `NoForeground` and `CopyOutside` at the byte that shows it. The painter's
+    /// screen may then show a part of the rectangle, and is of no more use.
+    pub(crate) fn feed(
+        &mut self,
+        painter: &mut Painter,
+        piece: &[u8],
+    ) -> Result<(usize, bool), Fault>
+        requires width { self.old.width ≡ painter.old.width }
+        requires height { self.old.height ≡ painter.old.height }
         ensures area { IsSameArea self.old self.new }
-        ensures fed { (reading : Reading update.Paint) → DataStands self.old reading → DataStands self.new (after reading piece.now) × FedAs reading piece.now result }
+        ensures size { IsAsLarge painter.old painter.new }
+        ensures within { IfOk result (λ fed. fed.0 ≤ length piece.now) }
+        ensures some { IsWanting self.old → 0 < length piece.now → IfOk result (λ fed. 0 < fed.0) }
+        ensures open_ { IfOk result (λ fed. fed.1 ≡ false → IsWanting self.new) }
+        ensures fed { (start : Canvas) (paints : List Paint) (reading : Reading Paint) → DataStands self.old start paints painter.old reading
+            → Fed (DataStands self.new start paints painter.new) start paints painter.new reading piece.now result }
     {
+        painter.draw_on(self.area);
         match &mut self.body {
-            Body::Raw(raw) => raw.feed(piece),
-            Body::Copy(source) => source.feed(self.width, self.height, &self.area, piece),
-            Body::Rre(rre) => rre.feed(piece),
-            Body::Hextile(hextile) => hextile.feed(piece),
-        }
-    }
-
-    /// Takes a piece that ends inside the pixels of a Raw rectangle. Else it takes nothing, and answers false.
-    pub(crate) fn take_pixels(&mut self, piece: &[u8]) -> bool
-        ensures area { IsSameArea self.old self.new }
-        ensures taken { IsTrue result → (reading : Reading update.Paint) → DataStands self.old reading → DataStands self.new (after reading piece.now) × (wants_more (after reading piece.now) ≡ true) }
-        ensures other { IsFalse result → self.new ≡ self.old }
-    {
-        match &mut self.body {
-            Body::Raw(raw) => raw.take_inside(piece),
-            _ => false,
-        }
-    }
-
-    /// Whether the rectangle is read to its end.
-    pub(crate) fn is_whole(&self) -> bool
-        ensures { (reading : Reading update.Paint) → DataStands self.now reading → result ≡ is_some (whole_of reading) }
-    {
-        match &self.body {
-            Body::Raw(raw) => raw.is_whole(),
-            Body::Copy(source) => source.is_whole(self.width, self.height, &self.area),
-            Body::Rre(rre) => rre.is_whole(),
-            Body::Hextile(hextile) => hextile.is_whole(),
-        }
-    }
-
-    /// The paint of a rectangle that is read to its end.
-    pub(crate) fn into_paint(self) -> Paint
-        requires whole { (painted : update.Paint) × DataStands self (Done painted) }
-        ensures paint { (painted : update.Paint) → DataStands self (Done painted) → paint_of result ≡ in_colours painted }
-        ensures fits { Fits self.width self.height (paint_of result) }
-    {
-        let area = self.area;
-        match self.body {
-            Body::Raw(raw) => Paint::Put(area, raw.into_colours()),
-            Body::Copy(copy) => {
-                let source = copy.source(&area);
-                Paint::Copy(area, source.x, source.y)
-            }
-            Body::Rre(rre) => Paint::Put(area, rre.into_colours()),
-            Body::Hextile(hextile) => Paint::Put(area, hextile.into_colours()),
+            Body::Raw(raw) => paint_pixels(raw, painter, piece),
+            Body::Copy(source) => source.feed(painter, &self.area, piece),
+            Body::Rre(rre) => paint_pixels(rre, painter, piece),
+            Body::Hextile(hextile) => paint_pixels(hextile, painter, piece),
         }
     }
 }

@@ -1,6 +1,6 @@
 //! Reading what a host sends, in whatever pieces it comes.
 
-ghost use Rattle.std.specs.Prelude.{◌≡◌, true, [], Ok, Err, None, Some, Result, IfNone, IfOk, IfSome, IsTrue, IsFalse, ◌≤◌, length};
+ghost use Rattle.std.specs.Prelude.{◌≡◌, true, [], Err, None, IfNone, IfOk, IfSome, ◌≤◌, length};
 ghost use Rattle.pixel_format.specs.declared.fault.Fault.{Fault};
 ghost use Rattle.pixel_format.specs.declared.fault.Fault.TheVariants.{Memory};
 ghost use Rattle.pixel_format.specs.Reading.{Reading, Faulty, renewed, whole_of};
@@ -8,10 +8,9 @@ ghost use Rattle.raster.specs.Screen.{Canvas};
 ghost use Rattle.raster.specs.Size.{IsScreenSize};
 ghost use Rattle.painter.specs.Painter.{Painting};
 ghost use Rattle.rfb_wire.specs.ServerMessage.{ServerMessage};
-ghost use Rattle.host_decoder.specs.Decoder.{Decodes, Feeds, Holds, IsFor, host_message, is_open, is_refused, start, waiting};
+ghost use Rattle.host_decoder.specs.Decoder.{Decodes, Feeds, Holds, IsFor, host_message, is_refused, start, waiting};
 ghost use Rattle.host_decoder.specs.Events.{BringsWhole, brought_by, screen_behind};
 
-use crate::advance::{advance, judge};
 use crate::event::HostEvent;
 use crate::state::State;
 use painter::Painter;
@@ -23,8 +22,8 @@ use std::mem;
 /// A decoder of what a host sends after its handshake (RFC 6143, 7.6 and 7.7), over a screen of one size, which holds
 /// what has come of the next message. Contracts see the width and the height of the screen in pixels, and what is held.
 ///
-/// Rectangles are painted into the painter's screen as they come. At an update's end its patch is made of the tiles that they touched; of a
-/// message that isn't whole none is ever made.
+/// Rectangles are painted into the painter's screen as they come. At an update's end its patch is made of the tiles that
+/// they touched; of a message that isn't whole none is ever made.
 #[derive(Drop)]
 pub struct HostDecoder {
     alloc: Global,
@@ -65,20 +64,6 @@ impl HostDecoder {
         (self.width, self.height)
     }
 
-    /// Takes a piece that ends inside the pixels of a Raw rectangle. Else it takes nothing, and answers false. Most of a
-    /// host's bytes are such pixels: what stands here stays in its place while they come.
-    fn take_pixels(&mut self, piece: &[u8]) -> bool
-        ensures size { (self.new.width ≡ self.old.width) × (self.new.height ≡ self.old.height) }
-        ensures open_ { IsTrue result → (is_open self.old.state ≡ true) × (is_open self.new.state ≡ true) }
-        ensures feeds { IsTrue result → (painter : Painting) (screen : Canvas) (r : Reading ServerMessage) → Decodes self.old painter screen r → Feeds self.new painter screen r piece.now (Ok (length piece.now)) }
-        ensures other { IsFalse result → self.new ≡ self.old }
-    {
-        match &mut self.state {
-            State::Pixels(pending) => pending.take_pixels(piece),
-            _ => false,
-        }
-    }
-
     /// Takes the next piece, up to the end of a whole message, and answers how many bytes it used. It uses none while
     /// a message waits to be taken, and none after a fault, which it names again.
     ///
@@ -93,20 +78,7 @@ impl HostDecoder {
         ensures refused { is_refused self.old.state ≡ true → (result ≡ Err Memory) × (self.new ≡ self.old) × (painter.new ≡ painter.old) }
         ensures faulty { (screen : Canvas) (fault : Fault) → Decodes self.old painter.old screen (Faulty fault) → (result ≡ Err fault) × Decodes self.new painter.new screen (Faulty fault) × (painter.new ≡ painter.old) }
     {
-        if self.take_pixels(piece) {
-            return Ok(piece.len());
-        }
-        let mut state = mem::replace(&mut self.state, State::start());
-        let mut used = 0;
-        while used < piece.len() && state.is_open() {
-            let (_, left) = piece.split_at(used);
-            let (next, count) = advance(self.alloc, painter, state, left);
-            state = next;
-            used += count;
-        }
-        let (state, answer) = judge(state, used);
-        self.state = state;
-        answer
+        self.state.feed(self.alloc, painter, piece)
     }
 
     /// The event of the message that is whole, if there is one. The next bytes begin another.

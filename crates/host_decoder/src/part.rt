@@ -1,12 +1,9 @@
 //! The parts of a host's message whose length is fixed.
 
-ghost use Rattle.std.specs.Prelude.{◌≡◌, ◌≤◌};
-ghost use Rattle.host_decoder.specs.Parts.{len_of};
+ghost use Rattle.std.specs.Prelude.{◌≡◌};
 
 use raster::Rect;
-
-/// The most bytes that a part has.
-pub const LONGEST: usize = 8;
+use rfb_wire::FixedPart;
 
 /// What is read next, where the number of its bytes is known.
 #[derive(Clone, Copy)]
@@ -25,12 +22,12 @@ pub enum Part {
     Length,
 }
 
-impl Part {
-    /// How many bytes it has: at most `LONGEST`.
-    pub fn len(self) -> usize
-        ensures value { result ≡ len_of self }
-        ensures most { result ≤ LONGEST }
-    {
+impl FixedPart for Part {
+    ghost use Rattle.host_decoder.specs.Parts as parts;
+
+    ghost len_of = { parts.len_of };
+
+    fn len(self) -> usize {
         match self {
             Part::Kind => 1,
             Part::Count => 3,

@@ -1,78 +1,39 @@
-//! A rectangle in RRE, in whatever pieces it comes, and what it is drawn on (RFC 6143, section 7.7.3).
+//! A rectangle in RRE, in whatever pieces it comes (RFC 6143, section 7.7.3).
 
-ghost use Rattle.std.specs.Prelude.{◌≡◌, ◌≤◌, is_some, IfOk, IfErr};
-ghost use Rattle.pixel_format.specs.PixelFormat.{host_format};
-ghost use Rattle.pixel_format.specs.Reading.{Reading, Done, after, whole_of};
-ghost use Rattle.pixel_format.specs.declared.fault.Fault.TheVariants.{Memory};
-ghost use Rattle.raster.specs.declared.rect.Rect as area_of;
+ghost use Rattle.std.specs.Prelude.{◌≡◌, None};
+ghost use Rattle.pixel_format.specs.Reading.{fault_of};
 ghost use Rattle.raster.specs.declared.encoding.Encoding.TheVariants.{Rre};
-ghost use Rattle.raster.specs.Encoding.{pixels};
-ghost use Rattle.raster.specs.Update.{Paint};
-ghost use Rattle.host_decoder.specs.Data.{putting, RreStands, IsPaintOf, FedAs};
+ghost use Rattle.raster.specs.Encoding.{Drawing};
+ghost use Rattle.rre_codec.specs.Ahead.{IsWanting, ahead};
+ghost use Rattle.host_decoder.specs.Data.{IsRreFor, RreStands};
 
-use crate::colours::keep_colours;
+use crate::rect_reader::RectReader;
+use painter::Painter;
 use pixel_format::{Fault, Format};
-use raster::Raster;
+use raster::Rect;
 use rre_codec::Reader;
-use std::alloc::Global;
-use std::marker::Model;
 
-/// A reader of RRE, and a raster of the rectangle's size.
-#[derive(Drop)]
-pub(crate) struct RreData {
-    reader: Reader,
-    canvas: Raster,
-}
+impl RectReader for Reader {
+    ghost encoding = { Rre };
 
-impl Model for RreData {
-    ghost use Rattle.std.specs.Prelude.{◌≡◌};
-    ghost use Rattle.host_decoder.specs.DataParts.{RreProgress};
+    ghost IsFor = { IsRreFor };
 
-    ghost Value = { RreProgress };
+    ghost IsFine = { λ p. (sofar : Drawing) → fault_of (ahead p sofar) ≡ None };
 
-    ghost view = { λ r. record { reader = r.reader; canvas = r.canvas } };
+    ghost IsWanting = { IsWanting };
 
-    ghost invariant = { λ r. (r.canvas.width ≡ r.reader.width) × (r.canvas.height ≡ r.reader.height) };
-}
+    ghost Stands = { RreStands };
 
-impl RreData {
-    /// A reader to which no byte has come, of a rectangle of `w` by `h`. `Memory` where there is no room for a raster.
-    pub(crate) fn new(alloc: Global, w: u64, h: u64) -> Result<RreData, Fault>
-        requires wide { w ≤ 4096 }
-        requires high { h ≤ 4096 }
-        ensures ok { IfOk result (λ r. (area : area_of.Rect) → w ≡ area.w → h ≡ area.h → RreStands area r (putting area (pixels Rre host_format area.w area.h))) }
-        ensures err { IfErr result (λ fault. fault ≡ Memory) }
-    {
-        Ok(RreData {
-            reader: Reader::new(w, h, Format::host()),
-            canvas: Raster::new(alloc, w, h)?,
-        })
+    fn of(area: &Rect) -> Reader {
+        Reader::new(area.w, area.h, Format::host())
     }
 
-    /// Takes the next piece, up to the end of the rectangle, and answers how many bytes it used.
-    ///
-    /// `SubrectOutside` at the last byte of a subrectangle that leaves the rectangle. The fault is final.
-    pub(crate) fn feed(&mut self, piece: &[u8]) -> Result<usize, Fault>
-        ensures { (area : area_of.Rect) (reading : Reading Paint) → RreStands area self.old reading → RreStands area self.new (after reading piece.now) × FedAs reading piece.now result }
-    {
-        self.reader.feed(&mut self.canvas, piece)
+    /// `SubrectOutside` at the last byte of a subrectangle that leaves the rectangle.
+    fn feed(&mut self, painter: &mut Painter, piece: &[u8]) -> Result<usize, Fault> {
+        self.feed(painter, piece)
     }
 
-    /// Whether the rectangle is read to its end.
-    pub(crate) fn is_whole(&self) -> bool
-        ensures { (area : area_of.Rect) (reading : Reading Paint) → RreStands area self.now reading → result ≡ is_some (whole_of reading) }
-    {
-        self.reader.whole()
-    }
-
-    /// The colours of what was drawn.
-    pub(crate) fn into_colours(self) -> Vec<u32>
-        ensures { (area : area_of.Rect) (painted : Paint) → RreStands area self (Done painted) → IsPaintOf area result.items painted }
-    {
-        // Where it is whole, the canvas shows what was read.
-        self.reader.whole();
-        let mut colours = self.canvas.into_colours();
-        keep_colours(&mut colours);
-        colours
+    fn is_whole(&self) -> bool {
+        self.whole()
     }
 }

@@ -1,60 +1,38 @@
 //! How far a decoder has come.
 
-ghost use Rattle.std.specs.Prelude.{◌≡◌, true, length};
-ghost use Rattle.host_decoder.specs.Decoder.{at_fault, is_open, start};
+ghost use Rattle.std.specs.Prelude.{◌≡◌, ℕ, ◌<◌, ◌≤◌, false, true, length, unwrap_or, IfOk, Result};
+ghost use Rattle.pixel_format.specs.Reading.{Reading};
+ghost use Rattle.raster.specs.Screen.{Canvas};
+ghost use Rattle.raster.specs.Size.{IsScreenSize};
+ghost use Rattle.rfb_wire.specs.ServerMessage.{ServerMessage};
+ghost use Rattle.host_decoder.specs.Decoder.{Feeds, Stands, StandsUnpainted, Stays, Suits, Uses, answered, is_open, keeping, passing, start};
 
+use crate::advance::{skip, take_fields, take_text};
 use crate::data::Data;
 use crate::event::HostEvent;
-use crate::fields::Fields;
-use crate::kept::Kept;
 use crate::part::Part;
-use crate::past::Past;
-use crate::pending::Pending;
+use crate::passed::Passed;
+use crate::update_data::read_data;
+use painter::{Painter, Patch};
 use pixel_format::Fault;
-
-/// What was wrong with a message, but for the data of a rectangle.
-#[derive(Clone, Copy)]
-pub enum Wrong {
-    /// Its type.
-    Kind(u8),
-    /// A rectangle leaves the screen.
-    Area,
-    /// The encoding of a rectangle.
-    Encoding,
-}
-
-impl Wrong {
-    /// The fault.
-    pub fn fault(self) -> Fault
-        ensures { result ≡ at_fault self }
-    {
-        match self {
-            Wrong::Kind(kind) => Fault::UnknownMessage(kind),
-            Wrong::Area => Fault::RectOutside,
-            Wrong::Encoding => Fault::UnknownEncoding,
-        }
-    }
-}
+use rfb_wire::{Fields, KeptText, SkippedBytes, Text};
+use std::alloc::Global;
 
 /// What has come of a message.
 #[derive(Drop)]
 pub(crate) enum State {
     /// Some fields of a fixed length.
-    Fields(Fields),
-    /// A part of a rectangle's data.
-    Pixels(Pending),
-    /// What shows that a rectangle's data are at fault.
-    Spoiled(Data),
+    Fields(Fields<Part>),
+    /// A part of a rectangle's data, behind which so many rectangles are left.
+    Pixels(u16, Data),
     /// A part of a text that is kept.
-    Keeping(Kept),
+    Keeping(KeptText),
     /// A part of what is read past.
-    Passing(Past),
+    Passing(Passed, SkippedBytes),
     /// All of it.
     Whole(HostEvent),
-    /// What shows another fault.
-    Failed(Wrong),
-    /// Nothing, since memory was refused.
-    Refused,
+    /// What shows a fault, or nothing, since memory was refused.
+    Failed(Fault),
 }
 
 impl State {
@@ -65,13 +43,106 @@ impl State {
         State::Fields(Fields::of(Part::Kind))
     }
 
+    /// What is read past, of which so many bytes are left.
+    pub(crate) fn past(what: Passed, left: u32) -> State
+        ensures stands { (w h : ℕ) → StandsUnpainted w h result (passing left what) }
+        ensures suits { (w h : ℕ) → Suits w h result }
+    {
+        if left == 0 {
+            State::Whole(what.event())
+        } else {
+            State::Passing(what, SkippedBytes::of(left))
+        }
+    }
+
+    /// A text that is kept, of which all bytes have come.
+    pub(crate) fn text(painter: &Painter, text: Text) -> State
+        requires { IsScreenSize painter.now.width painter.now.height }
+        ensures stands { StandsUnpainted painter.now.width painter.now.height result (keeping text 0) }
+        ensures suits { (w h : ℕ) → Suits w h result }
+    {
+        let (width, height) = painter.size();
+        State::Whole(HostEvent::Cut(Patch::text(width, height, text.into_vec())))
+    }
+
     /// Whether another byte is taken.
     pub(crate) fn is_open(&self) -> bool
         ensures { result ≡ is_open self.now }
     {
         match self {
-            State::Fields(_) | State::Pixels(_) | State::Keeping(_) | State::Passing(_) => true,
-            _ => false,
+            State::Fields(_) | State::Pixels(_, _) | State::Keeping(_) | State::Passing(_, _) => {
+                true
+            }
+            State::Whole(_) | State::Failed(_) => false,
         }
+    }
+
+    /// What becomes of it with bytes from the front of some, if it doesn't stay, and how many bytes it takes.
+    fn step(&mut self, alloc: Global, painter: &mut Painter, bytes: &[u8]) -> (Option<State>, usize)
+        requires size { IsScreenSize painter.old.width painter.old.height }
+        requires suits { Suits painter.old.width painter.old.height self.old }
+        requires wanted { is_open self.old ≡ true }
+        requires some { 0 < length bytes.now }
+        ensures stays { Stays painter.old painter.new (unwrap_or result.0 self.new) }
+        ensures within { (0 < result.1) × (result.1 ≤ length bytes.now) }
+        ensures uses { (start : Canvas) (r : Reading ServerMessage) → Stands painter.old.width painter.old.height self.old start painter.old r → Uses painter.old painter.new (unwrap_or result.0 self.new) start r bytes.now result.1 }
+    {
+        match self {
+            State::Fields(fields) => take_fields(alloc, painter, fields, bytes),
+            State::Pixels(left, reader) => read_data(painter, *left, reader, bytes),
+            State::Keeping(kept) => take_text(alloc, painter, kept, bytes),
+            State::Passing(what, past) => skip(*what, past, bytes),
+            State::Whole(_) | State::Failed(_) => unreachable!(),
+        }
+    }
+
+    /// Takes bytes from the front of some, and answers how many: what its part, its data or its text wants.
+    fn advance(&mut self, alloc: Global, painter: &mut Painter, bytes: &[u8]) -> usize
+        requires size { IsScreenSize painter.old.width painter.old.height }
+        requires suits { Suits painter.old.width painter.old.height self.old }
+        requires wanted { is_open self.old ≡ true }
+        requires some { 0 < length bytes.now }
+        ensures stays { Stays painter.old painter.new self.new }
+        ensures within { (0 < result) × (result ≤ length bytes.now) }
+        ensures uses { (start : Canvas) (r : Reading ServerMessage) → Stands painter.old.width painter.old.height self.old start painter.old r → Uses painter.old painter.new self.new start r bytes.now result }
+    {
+        let (next, count) = self.step(alloc, painter, bytes);
+        if let Some(state) = next {
+            *self = state;
+        }
+        count
+    }
+
+    /// What is answered once so many bytes were used.
+    fn so_far(&self, used: usize) -> Result<usize, Fault>
+        ensures { result ≡ answered self.now used }
+    {
+        match self {
+            State::Failed(fault) => Err(*fault),
+            _ => Ok(used),
+        }
+    }
+
+    /// Takes a piece, up to the end of a whole message, and answers how many bytes it used, or what failed.
+    pub(crate) fn feed(
+        &mut self,
+        alloc: Global,
+        painter: &mut Painter,
+        piece: &[u8],
+    ) -> Result<usize, Fault>
+        requires size { IsScreenSize painter.old.width painter.old.height }
+        requires suits { Suits painter.old.width painter.old.height self.old }
+        ensures stays { Stays painter.old painter.new self.new }
+        ensures within { IfOk result (λ used. used ≤ length piece.now) }
+        ensures feeds { (screen : Canvas) (r : Reading ServerMessage) → Stands painter.old.width painter.old.height self.old screen painter.old r
+            → Feeds (record { width = painter.old.width; height = painter.old.height; state = self.new }) painter.new screen r piece.now result }
+        ensures closed { is_open self.old ≡ false → (result ≡ answered self.old 0) × (self.new ≡ self.old) × (painter.new ≡ painter.old) }
+    {
+        let mut used = 0;
+        while used < piece.len() && self.is_open() {
+            let (_, left) = piece.split_at(used);
+            used += self.advance(alloc, painter, left);
+        }
+        self.so_far(used)
     }
 }

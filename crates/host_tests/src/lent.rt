@@ -15,7 +15,7 @@ pub type Told = (u8, usize);
 
 fn told(event: &HostEvent) -> Told {
     match event {
-        HostEvent::Paint(patch) => (0, patch.painted().len()),
+        HostEvent::Paint(patch) => (0, patch.tiles().0.len()),
         HostEvent::Map => (1, 0),
         HostEvent::Bell(_) => (2, 0),
         HostEvent::Cut(patch) => match patch.text_bytes() {

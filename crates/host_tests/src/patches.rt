@@ -5,8 +5,8 @@ ghost use Rattle.raster.specs.Screen.{IsWithin};
 ghost use Rattle.raster.specs.Size.{IsScreenSize};
 
 use crate::lent::black;
-use painter::{Board, Painter};
-use raster::{Paint, Rect};
+use painter::{Board, Painter, Patch};
+use raster::Rect;
 use std::panic::Expect;
 use std::process::Abort;
 
@@ -16,12 +16,9 @@ fn dot(x: u64, y: u64) -> Rect
     Rect { x, y, w: 1, h: 1 }
 }
 
-// Whether a paint puts these colours on this rectangle.
-fn is_put(paint: &Paint, area: Rect, colours: &[u32]) -> bool {
-    match paint {
-        Paint::Put(place, values) => *place == area && values.as_slice() == colours,
-        Paint::Copy(_, _, _) => false,
-    }
+// Whether a patch paints these tiles, and these colours of one after the other.
+fn paints(patch: &Patch, numbers: &[u64], colours: &[u32]) -> bool {
+    patch.tiles().0 == numbers && patch.tiles().1 == colours
 }
 
 #[test]
@@ -47,18 +44,12 @@ fn is_one_tile<R: Abort + AllocGlobal>(rt: &R, painter: &mut Painter)
     for k in 0..65535u32 {
         put_dot(painter, u64::from(k % 2), k);
     }
-    let whole = Rect {
-        x: 0,
-        y: 0,
-        w: 2,
-        h: 1,
-    };
     let patch = painter.patch().expect(rt, "a patch");
-    assert!(rt; patch.size() == (2, 1) && patch.painted().len() == 1);
-    assert!(rt; is_put(&patch.painted()[0], whole, &[65534, 65533]));
+    assert!(rt; patch.size() == (2, 1));
+    assert!(rt; paints(&patch, &[0], &[65534, 65533]));
     assert!(rt; painter.row(0) == [65534, 65533].as_slice());
     let none = painter.patch().expect(rt, "a patch");
-    assert!(rt; none.painted().is_empty());
+    assert!(rt; paints(&none, &[], &[]));
 }
 
 #[test]
@@ -81,22 +72,14 @@ fn is_in_order<R: Abort + AllocGlobal>(rt: &R, painter: &mut Painter)
     };
     painter.put(nothing, &[]);
     painter.put(dot(16, 2), &[7]);
-    let right = Rect {
-        x: 16,
-        y: 0,
-        w: 1,
-        h: 16,
-    };
     let patch = painter.patch().expect(rt, "a patch");
-    assert!(rt; patch.painted().len() == 2);
     assert!(rt;
-        is_put(
-            &patch.painted()[0],
-            right,
-            &[0, 0, 7, 0, 0, 0, 0, 0, 0, 0, 0, 0, 0, 0, 0, 0]
+        paints(
+            &patch,
+            &[1, 3],
+            &[0, 0, 7, 0, 0, 0, 0, 0, 0, 0, 0, 0, 0, 0, 0, 0, 5]
         )
     );
-    assert!(rt; is_put(&patch.painted()[1], dot(16, 16), &[5]));
 }
 
 #[test]

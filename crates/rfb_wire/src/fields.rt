@@ -1,7 +1,7 @@
 //! Fields of a fixed length, as they come.
 
 ghost use Rattle.rfb_wire.specs.declared.fields.TheConstants.{LONGEST_PART};
-ghost use Rattle.std.specs.Prelude.{◌≡◌, ◌==◌, ◌+◌, ◌<◌, ◌≤◌, ℕ, List, [], ◌++◌, length, take};
+ghost use Rattle.std.specs.Prelude.{◌≡◌, ◌+◌, ◌<◌, ◌≤◌, ℕ, List, [], ◌++◌, length, take};
 
 use std::marker::Model;
 
@@ -65,13 +65,6 @@ impl<P: FixedPart> Fields<P> {
         ensures some { 0 < result }
     {
         self.part.len() - self.filled
-    }
-
-    /// Whether none of its bytes has come.
-    pub fn is_empty(&self) -> bool
-        ensures { result ≡ (length self.now.1 == 0) }
-    {
-        self.filled == 0
     }
 
     /// Keeps its next bytes, of which more are missing.

@@ -1,59 +1,27 @@
-use Rattle.std.proofs.Common.{◌∙◌, sym, subst, arith}
-use Rattle.pixel_format.specs.Reading.{Reading, after}
-use Rattle.pixel_format.proofs.ReadingLaws.{taken-le, taken-some}
-use Rattle.raster.specs.Update.{Paint}
+use Rattle.std.proofs.Common.{[], ◌∷◌, ◌++◌, map, refl}
 use Rattle.host_decoder.specs.Data.{DataStands}
-use Rattle.host_decoder.proofs.RectangleData.{data_whole, data_open, uses_whole, uses_open, uses_spoiled}
+use Rattle.host_decoder.specs.Updates.{in_colours}
+use Rattle.host_decoder.proofs.Drawn.{open_fed, whole_fed}
+use Rattle.host_decoder.proofs.RectangleData.{paint_held, uses_whole, uses_open, uses_faulty}
 use Rattle.host_decoder.proofs.update_data.read_data.Goals as goal
 
-pub put_paint-requires-clause-whole : goal.put_paint-requires-clause-whole
-put_paint-requires-clause-whole c =
-    let r = c.requires.reading.reading in
-    let fed = c.in-Ok.ensures.fed r c.requires.reading.stands in
-    data_whole c.feed.new.self c.args.bytes.now r fed.0 (sym (c.is_whole.ensures (after r c.args.bytes.now) fed.0) ∙ c.if-is_whole.true)
-
-pub of-requires : goal.of-requires
-of-requires c =
-    let r = c.requires.reading.reading in
-    let fed = c.in-Ok.ensures.fed r c.requires.reading.stands in
-    data_open c.feed.new.self c.args.bytes.now r fed.0 (sym (c.is_whole.ensures (after r c.args.bytes.now) fed.0) ∙ c.if-is_whole.false) fed.1.1
-
 pub returns-in-Err-clause-uses : goal.returns-in-Err-clause-uses
-returns-in-Err-clause-uses c start sofar reading holds stands =
-    let fed = c.in-Err.ensures.fed reading stands in
-    uses_spoiled c.args.painter.now c.feed.new.self c.args.left c.args.bytes.now start sofar reading c.in-Err.field-0 fed.1 fed.0
+returns-in-Err-clause-uses c start sofar reading stands =
+    uses_faulty c.args.painter.now c.feed.new.painter c.args.left c.args.bytes.now start sofar reading c.in-Err.fault (c.in-Err.ensures.fed start (map in_colours sofar) reading stands)
 
-pub returns-in-Ok-clause-within : goal.returns-in-Ok-clause-within
-returns-in-Ok-clause-within c =
-    let r = c.requires.reading.reading in
-    let fed = c.in-Ok.ensures.fed r c.requires.reading.stands in
-    omega (arith, fed.1.0, taken-le r c.args.bytes.now)
+pub returns-then-not-whole-clause-uses : goal.returns-then-not-whole-clause-uses
+returns-then-not-whole-clause-uses c start sofar reading stands =
+    let new = c.feed.new.painter in
+    let paints = map in_colours sofar in
+    let f = open_fed (DataStands c.feed.new.self start paints new) start paints new reading c.args.bytes.now c.in-Ok.fed (c.in-Ok.ensures.fed start paints reading stands) c.if-not-whole.true in
+    uses_open c.args.painter.now new c.feed.new.self c.args.left c.in-Ok.fed.0 c.args.bytes.now start sofar reading f.2 f.1 f.0
 
-pub returns-in-Ok-clause-some : goal.returns-in-Ok-clause-some
-returns-in-Ok-clause-some c is_open some =
-    let fed = c.in-Ok.ensures.fed is_open.reading is_open.stands in
-    omega (arith, fed.1.0, taken-some is_open.reading c.args.bytes.now is_open.wants some)
-
-pub returns-in-Ok-clause-uses : goal.returns-in-Ok-clause-uses
-returns-in-Ok-clause-uses c start sofar reading holds stands =
-    let fed = c.in-Ok.ensures.fed reading stands in
-    let whole = sym (c.is_whole.ensures (after reading c.args.bytes.now) fed.0) ∙ c.if-is_whole.true in
-    uses_whole c.args.painter.now c.put_paint.new.painter c.put_paint.result c.args.left c.in-Ok.used c.args.bytes.now start sofar reading fed.1.0 whole
-    (λ painted e. c.put_paint.ensures.goes_on start sofar painted holds (subst (λ (s : Reading Paint). DataStands c.feed.new.self s) e fed.0))
-
-pub returns-in-Ok-2-clause-within : goal.returns-in-Ok-2-clause-within
-returns-in-Ok-2-clause-within c =
-    let r = c.requires.reading.reading in
-    let fed = c.in-Ok.ensures.fed r c.requires.reading.stands in
-    omega (arith, fed.1.0, taken-le r c.args.bytes.now)
-
-pub returns-in-Ok-2-clause-some : goal.returns-in-Ok-2-clause-some
-returns-in-Ok-2-clause-some c is_open some =
-    let fed = c.in-Ok.ensures.fed is_open.reading is_open.stands in
-    omega (arith, fed.1.0, taken-some is_open.reading c.args.bytes.now is_open.wants some)
-
-pub returns-in-Ok-2-clause-uses : goal.returns-in-Ok-2-clause-uses
-returns-in-Ok-2-clause-uses c start sofar reading holds stands =
-    let fed = c.in-Ok.ensures.fed reading stands in
-    let open_ = sym (c.is_whole.ensures (after reading c.args.bytes.now) fed.0) ∙ c.if-is_whole.false in
-    uses_open c.args.painter.now c.of.result c.feed.new.self c.args.left c.in-Ok.used c.args.bytes.now start sofar reading fed.1.0 fed.1.1 open_ c.of.ensures fed.0 holds
+pub returns-clause-uses : goal.returns-clause-uses
+returns-clause-uses c start sofar reading stands =
+    let new = c.feed.new.painter in
+    let paints = map in_colours sofar in
+    let f = whole_fed (DataStands c.feed.new.self start paints new) start paints new reading c.args.bytes.now c.in-Ok.fed (c.in-Ok.ensures.fed start paints reading stands) c.if-not-whole.false in
+    let painted = f.0.painted in
+    let held = paint_held start new sofar (in_colours painted) painted refl f.0.shows in
+    uses_whole c.args.painter.now c.next_rectangle.new.painter c.next_rectangle.result c.args.left c.in-Ok.fed.0 c.args.bytes.now start sofar reading painted f.1 f.0.reads
+    (rw (← c.feed.ensures.size.width, ← c.feed.ensures.size.height) (c.next_rectangle.ensures.goes_on start (sofar ++ painted ∷ []) held))

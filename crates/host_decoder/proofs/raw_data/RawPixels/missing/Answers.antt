@@ -2,5 +2,5 @@ use Rattle.std.proofs.Common.{arith}
 use Rattle.std.proofs.lemmas.List.{length-take}
 use Rattle.host_decoder.proofs.raw_data.RawPixels.missing.Goals as goal
 
-pub returns : goal.returns
-returns c = rw (← c.self.view_is) (omega (arith, length-take c.self.inside.filled c.self.inside.begun, c.self.invariant, c.len.ensures, c.self.inside.colours.ok))
+pub returns-clause-left : goal.returns-clause-left
+returns-clause-left c = rw (← c.self.view_is) (omega (arith, length-take c.self.inside.filled c.self.inside.begun, c.self.invariant))
