@@ -2,7 +2,7 @@
  *
  * On both sides the screen is copied once, as a cut does, and then each row of tiles is written into the same piece: 12 bytes of head, and Raw, or
  * Hextile where that has fewer bytes. In C each pixel is tinted by a division a component. The bytes are compared. All are timed in
- * turn, many rounds, by the processor's time of the thread, and the best of each counts. */
+ * turn, many rounds, by the processor's time of the thread, and the best of each counts; then the same without copying the screen anew. */
 #include <stdbool.h>
 #include <stdint.h>
 #include <stdio.h>
@@ -172,9 +172,9 @@ static inline size_t write_row(int top, int size, int kind) {
     return 12 + len;
 }
 
-static inline size_t plain_answer(int size, int kind, uint8_t *sent) {
+static inline size_t plain_answer(int size, int kind, bool copies, uint8_t *sent) {
     size_t total = 0;
-    memcpy(cut, screen, sizeof cut);
+    if (copies) memcpy(cut, screen, sizeof cut);
     for (int top = 0; top < H; top += 16) {
         size_t len = write_row(top, size, kind);
         if (sent) memcpy(sent + total, piece, len);
@@ -183,8 +183,8 @@ static inline size_t plain_answer(int size, int kind, uint8_t *sent) {
     return total;
 }
 
-__attribute__((noinline)) static size_t plain(int size, int kind, uint8_t *sent) {
-    return size == 4 ? plain_answer(4, kind, sent) : plain_answer(2, kind, sent);
+__attribute__((noinline)) static size_t plain(int size, int kind, bool copies, uint8_t *sent) {
+    return size == 4 ? plain_answer(4, kind, copies, sent) : plain_answer(2, kind, copies, sent);
 }
 
 /* ---- timing */
@@ -217,34 +217,42 @@ static void try_once(Calls *c, int f, int kind, bool all, bool copies) {
 
 static double an_answer(const Calls *c) { return (c->many - c->few) / c->times; }
 
+static double an_answer_in_c(int size, int kind, bool copies) {
+    double start = now();
+    plain(size, kind, copies, NULL);
+    return now() - start;
+}
+
 static bool measure(int picture, int f, int kind, int rounds) {
-    double in_c = 1e9, copied = 1e9;
-    Calls calls = {1e9, 1e9, TIMES};
+    double in_c = 1e9, written_in_c = 1e9, copied = 1e9;
+    Calls answers = {1e9, 1e9, TIMES}, written = {1e9, 1e9, TIMES};
+    int size = FORMATS[f].size;
     draw(picture);
-    size_t len = plain(FORMATS[f].size, kind, theirs);
+    size_t len = plain(size, kind, true, theirs);
     size_t found = bench_answers(FORMATS[f].bytes, kind, W, H, screen, COUNT, true, true, 0, ours, sizeof ours);
     if (found != len || memcmp(ours, theirs, len)) {
         printf("%s, %s: other bytes, %zu and in C %zu\n", PICTURES[picture], FORMATS[f].name, found, len);
         return false;
     }
     for (int k = 0; k < rounds; k++) {
-        try_once(&calls, f, kind, true, true);
-        double a = now();
-        plain(FORMATS[f].size, kind, NULL);
-        double b = now();
+        try_once(&answers, f, kind, true, true);
+        try_once(&written, f, kind, true, false);
+        in_c = least(in_c, an_answer_in_c(size, kind, true));
+        written_in_c = least(written_in_c, an_answer_in_c(size, kind, false));
+        double start = now();
         memcpy(cut, screen, sizeof cut);
-        copied = least(copied, now() - b);
-        in_c = least(in_c, b - a);
+        copied = least(copied, now() - start);
     }
-    double mine = an_answer(&calls);
-    printf("| %s, %s, %s | %.2f | %.2f | %.2f | %.2f | %.2f | %zu |\n", kind ? "Hextile" : "Raw", FORMATS[f].name, PICTURES[picture], mine, in_c, in_c / mine, copied, mine / copied, len);
+    double mine = an_answer(&answers), writes = an_answer(&written);
+    printf("| %s, %s, %s | %.2f | %.2f | %.2f | %.2f | %.2f | %.2f | %.2f | %.2f | %zu |\n", kind ? "Hextile" : "Raw", FORMATS[f].name, PICTURES[picture], mine,
+           in_c, in_c / mine, copied, mine / copied, writes, written_in_c, written_in_c / writes, len);
     return true;
 }
 
 int main(int count, char **words) {
     int rounds = count > 1 ? atoi(words[1]) : 30;
     bool same = true;
-    printf("| Answer | ours, ms | plain C | ratio | memcpy | times memcpy | bytes |\n|---|---|---|---|---|---|---|\n");
+    printf("| Answer | ours, ms | plain C | ratio | memcpy | times memcpy | without the cut | plain C | ratio | bytes |\n|---|---|---|---|---|---|---|---|---|---|\n");
     for (int f = 0; f < 2; f++) same &= measure(3, f, RAW, rounds);
     for (int f = 0; f < 2; f++)
         for (int picture = 0; picture < 5; picture++) same &= measure(picture, f, HEXTILE, rounds);

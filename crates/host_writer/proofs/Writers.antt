@@ -10,7 +10,8 @@ use Rattle.input_relay.specs.declared.queue.Message.{Message}
 use Rattle.host_writer.specs.declared.give.Halt.{Halt}
 use Rattle.host_writer.specs.declared.give.Halt.TheVariants as halt
 use Rattle.host_writer.specs.Halting.{HaltsAt, IsWhy}
-use Rattle.host_writer.specs.Writing.{Tells, HaltsTelling, Did, Took, Saw, Looked, Writes, EndsWriting, answer_at, input_bytes, whole_request, taken_in, risen_to, says, said}
+use Rattle.host_writer.specs.Writing.{Tells, HaltsTelling, Did, Took, Saw, Looked, Writes, EndsWriting, answer_at, whole_request, taken_in, risen_to, says, said}
+use Rattle.roles.specs.Spelling.{input_bytes}
 
 -- What a link is once these bytes were given.
 abbrev pub with_given : LinkState → List ℕ → LinkState

@@ -3,20 +3,14 @@
 use Rattle.std.specs.Prelude.{◌≡◌, ℕ, ◌≤◌, ◌<◌, ◌⊎◌, max, nat_lt, if◌then◌else◌, Bool, true, false, List, [], ◌∷◌, ◌++◌, length, Result, Ok, Err}
 use Rattle.pixel_format.specs.declared.fault.Fault.{Fault}
 use Rattle.pixel_format.specs.declared.fault.Fault.TheVariants.{LinkEnded, LinkFailed}
-use Rattle.rfb_wire.specs.Writing.{key_bytes, pointer_bytes, client_text_bytes, request_bytes}
-use Rattle.roles.specs.Allowed.{Input, Key, Pointer, Cut}
+use Rattle.rfb_wire.specs.Writing.{request_bytes}
 use Rattle.roles.specs.Held.{input_in}
+use Rattle.roles.specs.Spelling.{input_bytes}
 use Rattle.link.specs.Links.{LinkState, HasRisen}
 use Rattle.host_writer.specs.Halting.{HaltsAt}
 use Rattle.host_writer.specs.declared.give.Halt.{Halt}
 use Rattle.host_writer.specs.declared.give.Halt.TheVariants as halt
 use Rattle.input_relay.specs.declared.queue.Message.{Message}
-
--- The spelling of an input.
-abbrev pub input_bytes : Input → List ℕ
-input_bytes (Key down key) = key_bytes down key
-input_bytes (Pointer mask x y) = pointer_bytes mask x y
-input_bytes (Cut text) = client_text_bytes text
 
 -- One incremental request of the whole screen.
 abbrev pub whole_request : ℕ → ℕ → List ℕ

@@ -4,9 +4,10 @@ ghost use Rattle.std.specs.Prelude.{◌≡◌, ◌≤◌, ◌++◌, length, IfOk
 ghost use Rattle.rfb_wire.specs.ClientMessage.{longest_text};
 ghost use Rattle.rfb_wire.specs.Writing.{client_text_bytes};
 ghost use Rattle.roles.specs.Held.{input_in};
-ghost use Rattle.input_relay.specs.Ends.{taken_of};
+ghost use Rattle.input_relay.specs.Ends.{host_of, taken_of};
 ghost use Rattle.host_writer.specs.Halting.{HaltsAt};
-ghost use Rattle.host_writer.specs.Writing.{HaltsTelling, Tells, input_bytes};
+ghost use Rattle.host_writer.specs.Writing.{HaltsTelling, Tells};
+ghost use Rattle.roles.specs.Spelling.{input_bytes};
 
 use crate::give::{Halt, give_all};
 use input_relay::Taker;
@@ -66,6 +67,7 @@ pub(crate) fn tell_input<L: Link, T: Wait + Drop, F: StopFlag, R: Wait>(
     taker: &mut Taker<T>,
     stop: &F,
 ) -> Result<bool, Halt>
+    ensures relay { host_of taker.new ≡ host_of taker.old }
     ensures ok { IfOk result (λ is_told. Tells is_told (taken_of taker.old) (taken_of taker.new) (L.state link.old) (L.state link.new)) }
     ensures err { IfErr result (λ halt. HaltsTelling (F.was_set stop.now) halt (taken_of taker.old) (taken_of taker.new) (L.state link.old) (L.state link.new)) }
 {

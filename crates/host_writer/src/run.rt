@@ -2,7 +2,7 @@
 
 ghost use Rattle.std.specs.Prelude.{◌≡◌, ℕ};
 ghost use Rattle.raster.specs.Size.{IsScreenSize};
-ghost use Rattle.input_relay.specs.Ends.{taken_of};
+ghost use Rattle.input_relay.specs.Ends.{host_of, taken_of};
 ghost use Rattle.host_writer.specs.Writing.{Writes, answer_at, whole_request};
 
 use crate::give::{Halt, give_all};
@@ -56,7 +56,8 @@ pub fn run_writer<L: Link, S: ScreenSource, T: Wait + Drop, F: StopFlag, Z: Rest
     rest: &Z,
 ) -> Result<(), Fault>
     requires { IsScreenSize (S.width source.old) (S.height source.old) }
-    ensures { Writes S.looks (F.was_set stop.now) source.old source.new (taken_of taker.old) (taken_of taker.new) (S.width source.old) (S.height source.old) result (L.state link.old) (L.state link.new) }
+    ensures relay { host_of taker.new ≡ host_of taker.old }
+    ensures writes { Writes S.looks (F.was_set stop.now) source.old source.new (taken_of taker.old) (taken_of taker.new) (S.width source.old) (S.height source.old) result (L.state link.old) (L.state link.new) }
 {
     let (width, height) = source.size();
     let request = request_of(width, height);

@@ -3,9 +3,9 @@
 ghost use Rattle.std.specs.Prelude.{◌≡◌, IfOk};
 
 use link::{Gave, MemoryLink, Rest, StopFlag, Took};
-use painter::Patch;
+use painter::Painter;
 use pixel_format::Fault;
-use raster::{Paint, Rect};
+use raster::Rect;
 use reflect_core::{PlainScreen, Puts};
 use std::alloc::Global;
 use std::sync::Wait;
@@ -55,11 +55,10 @@ pub(crate) fn make_rests() -> Rests {
 pub(crate) fn red_and_blue(alloc: Global) -> Result<PlainScreen, Fail>
     ensures { IfOk result (λ screen. (screen.width ≡ 2) × (screen.height ≡ 1)) }
 {
-    let colours = [0xFF0000, 0x0000FF].to_vec(alloc)?;
-    let mut paints = Vec::new(alloc);
-    paints.push(Paint::Put(AREA, colours))?;
+    let mut painter = Painter::new(alloc, 2, 1)?;
+    painter.put(AREA, &[0xFF0000, 0x0000FF]);
     let mut screen = PlainScreen::new(alloc, 2, 1)?;
-    let _ = screen.put(Patch::paints(2, 1, paints)).is_ok();
+    let _ = screen.put(painter.patch()?).is_ok();
     screen.raise();
     Ok(screen)
 }

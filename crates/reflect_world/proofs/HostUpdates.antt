@@ -12,6 +12,7 @@ use Rattle.viewer_session.specs.Turn.{has_reason}
 use Rattle.viewer_session.specs.Viewer.{Setup, Viewer, may_look}
 use Rattle.reflect_world.specs.Schedule.{World, Relayed, Step, HostBytes, Put, Raise, Join, Bytes, Look, Cut, Written, Send, Take, Part, beginning, happens, play, play_from, put_next, for_viewer, look_at, cut_at, send_waiting, take_first}
 use Rattle.reflect_world.specs.Said.{ArePutInOrder}
+use Rattle.reflect_world.specs.Host.{host_form}
 
 order_if : (s : Setup) (b : Bool) (x y : World) → ArePutInOrder s x → ArePutInOrder s y → ArePutInOrder s (cond b x y)
 order_if s true x y k l = k
@@ -32,7 +33,7 @@ put_begins us more u e =
     let next = next_is us more u e in
     (next.0, ap (λ t. us ++ t) next.1 ∙ sym (append_assoc us (u ∷ []) next.0))
 
-pub order_put : (s : Setup) (w : World) (o : Option Update) → slice_get (updates_by (s.extent.from_host s.w s.h) w.host_bytes) (length w.shared.updates) ≡ o → ArePutInOrder s w → ArePutInOrder s (put_next s w o)
+pub order_put : (s : Setup) (w : World) (o : Option Update) → slice_get (updates_by (host_form s.w s.h) w.host_bytes) (length w.shared.updates) ≡ o → ArePutInOrder s w → ArePutInOrder s (put_next s w o)
 order_put s w None e k = k
 order_put s w (Some u) e k =
     subst (λ all. Begins (w.shared.updates ++ u ∷ []) all) (sym k.1)
@@ -40,7 +41,7 @@ order_put s w (Some u) e k =
 
 pub order_bytes : (s : Setup) (w : World) (b : List ℕ) → ArePutInOrder s w → ArePutInOrder s (record w { host_bytes = w.host_bytes ++ b })
 order_bytes s w b k =
-    let form = s.extent.from_host s.w s.h in
+    let form = host_form s.w s.h in
     let new : List Update = filter_map update_of (messages_from form (rest form w.host_bytes) b) in
     (k.0 ++ new, updates-append form w.host_bytes b ∙ (ap (λ t. t ++ new) k.1 ∙ append_assoc w.shared.updates k.0 new))
 
@@ -58,7 +59,7 @@ order_take s w (i ∷ is) k = k
 
 order_step : (s : Setup) (w : World) (e : Step) → ArePutInOrder s w → ArePutInOrder s (happens s w e)
 order_step s w (HostBytes b) k = order_bytes s w b k
-order_step s w Put k = order_put s w (slice_get (updates_by (s.extent.from_host s.w s.h) w.host_bytes) (length w.shared.updates)) refl k
+order_step s w Put k = order_put s w (slice_get (updates_by (host_form s.w s.h) w.host_bytes) (length w.shared.updates)) refl k
 order_step s w Raise k = k
 order_step s w (Join v role greet) k = k
 order_step s w (Bytes v b lost) k = order_for s w (w.viewers v) _ k (λ p. k)
@@ -74,4 +75,4 @@ order_from s w [] k = k
 order_from s w (e ∷ es) k = order_from s (happens s w e) es (order_step s w e k)
 
 pub put_in_order : (s : Setup) (es : List Step) → ArePutInOrder s (play s es)
-put_in_order s es = order_from s beginning es (updates_by (s.extent.from_host s.w s.h) [], refl)
+put_in_order s es = order_from s beginning es (updates_by (host_form s.w s.h) [], refl)

@@ -13,7 +13,7 @@ use Rattle.reflect_world.specs.World.{IsFaithful, IsServed, IsKept, IsRefusal, J
 use Rattle.reflect_world.specs.declared.step.Entry.{Entry}
 use Rattle.reflect_world.specs.declared.step.Step as declared
 use Rattle.reflect_world.specs.declared.step.Step.TheVariants as code
-use Rattle.reflect_world.proofs.FirstForms.{host_short, viewer_accepted}
+use Rattle.reflect_world.proofs.InputLaws.{relays_allowed}
 use Rattle.reflect_world.proofs.Holds.{in_every_schedule}
 use Rattle.reflect_world.proofs.Reaching.{play-more, shows_reached}
 use Rattle.reflect_world.proofs.Told.{told_in_every_schedule}
@@ -81,8 +81,8 @@ is_served : (k : Kept) → IsScreenSize k.width k.height → (es : List Step) �
 is_served k size es =
     let wide : k.width ≤ 4096 = omega (arith, size.wide.1) in
     let high : k.height ≤ 4096 = omega (arith, size.high.1) in
-    let told = told_in_every_schedule (setup_of k) wide high viewer_accepted (host_short k.width k.height) es in
-    record { holds = in_every_schedule (setup_of k) wide high viewer_accepted es; in_order = told.0; said = told.1; read = told.2; written = told.3 }
+    let told = told_in_every_schedule (setup_of k) wide high es in
+    record { holds = in_every_schedule (setup_of k) wide high es; in_order = told.0; said = told.1; read = told.2; written = told.3; relayed = relays_allowed (setup_of k) es }
 
 pub is_faithful : (k : Kept) → IsScreenSize k.width k.height → IsFaithful k
 is_faithful k size before after split = is_served k size before

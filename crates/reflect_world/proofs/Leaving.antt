@@ -1,20 +1,19 @@
 -- A viewer leaves: what goes into the queue, and what stands in the fields then.
 use Rattle.std.proofs.Common.{◌≡◌, ℕ, suc, zero, ◌-◌, ◌<◌, ◌≤◌, Bool, true, false, cond, List, [], ◌∷◌, ◌++◌, length, take, Option, Some, None, refl, ap, sym, ◌∙◌, subst, arith, append-nil, append_assoc, length-append}
-use Rattle.std.specs.Prelude.{slice_index_or, slice_set, ◌==◌, if◌then◌else◌}
+use Rattle.std.specs.Prelude.{slice_index_or, slice_set, ◌==◌}
 use Rattle.std.proofs.lemmas.Bool.{eqb-true, eqb-false}
 use Rattle.std.proofs.lemmas.List.{get_or-set_same, get_or-set_other, length-set}
-use Rattle.roles.specs.Allowed.{Input, allowed, releases}
+use Rattle.roles.specs.Allowed.{Input}
 use Rattle.roles.specs.Held.{left_in}
-use Rattle.viewer_session.specs.Extent.{Extent}
-use Rattle.viewer_session.specs.Record.{messages_in}
 use Rattle.viewer_session.specs.Session.{at_rest}
 use Rattle.viewer_session.specs.Viewer.{Setup, Viewer}
 use Rattle.viewer_session.proofs.SessionLaws.{releases_are}
 use Rattle.reflect_world.specs.Relay.{RelaySide, relayed_of}
-use Rattle.reflect_world.specs.Schedule.{World, Relayed, Part, for_viewer, leaves_behind, set_viewer, waiting_list}
+use Rattle.reflect_world.specs.Schedule.{World, Relayed, Part, for_viewer, leaves_behind, set_viewer}
 use Rattle.reflect_world.specs.World.{Held, PlaceBy, PlaceShows, PlaceStands, Reached, Shows, ShowsStep, Standing, TakesStep, left_by, place_at}
 use Rattle.reflect_world.proofs.Places.{place_is_some}
 use Rattle.reflect_world.proofs.Reaching.{reached_for, there_is}
+use Rattle.viewer_session.specs.Acts.{waiting_list}
 
 -- ---- the queue
 
@@ -72,14 +71,14 @@ places_unset P places viewers v gone room k u = places_unset_if P places viewers
 still_all : (places : List (Option Held)) (v : ℕ) (gone : Held) → length (slice_set (slice_set places v (Some gone)) v None) ≡ length places
 still_all places v gone = length-set (slice_set places v (Some gone)) v None ∙ length-set places v (Some gone)
 
-left_is : (s : Setup) (standing : Standing) (w : World) (v : ℕ) (place : Held) (p : Viewer) → Reached s standing w → PlaceStands s w.shared.updates place p → relayed_of v (left_by place) ≡ leaves_behind s v p
+left_is : (s : Setup) (standing : Standing) (w : World) (v : ℕ) (place : Held) (p : Viewer) → Reached s standing w → PlaceStands s w.shared.updates place p → relayed_of v (left_by place) ≡ leaves_behind v p
 left_is s standing w v place p r k =
     ap (λ (o : Option Input). relayed_of v (waiting_list o ++ left_in place.session.held)) (sym k.session.relays.waiting)
     ∙ ap (λ (l : List Input). relayed_of v (waiting_list p.waiting ++ l))
-    (releases_are place.session s (at_rest p) k.session ∙ ap (λ (x : Extent). releases (if x.relays_input then allowed p.role (messages_in p.entries) false else [])) (sym r.extent))
+    (releases_are place.session s (at_rest p) k.session)
 
 queue_is : (s : Setup) (standing : Standing) (w : World) (v : ℕ) (place : Held) (p : Viewer) → Reached s standing w → PlaceStands s w.shared.updates place p
-    → standing.relay.queue ++ take (standing.room - length standing.relay.queue) (relayed_of v (left_by place)) ≡ w.queue ++ take (s.room - length w.queue) (leaves_behind s v p)
+    → standing.relay.queue ++ take (standing.room - length standing.relay.queue) (relayed_of v (left_by place)) ≡ w.queue ++ take (s.room - length w.queue) (leaves_behind v p)
 queue_is s standing w v place p r k =
     ap (λ (q : List Relayed). q ++ take (standing.room - length q) (relayed_of v (left_by place))) r.queue
     ∙ (ap (λ n. w.queue ++ take (n - length w.queue) (relayed_of v (left_by place))) r.limit ∙ ap (λ (l : List Relayed). w.queue ++ take (s.room - length w.queue) l) (left_is s standing w v place p r k))
@@ -91,7 +90,6 @@ parted_reaches standing v found place gone relay within at e queue taken s w r =
     reached_for s standing _ w v place _ r (there_is standing v found place r.room within at e)
     (λ p k. record {
       size = r.size;
-      extent = r.extent;
       width = r.width;
       height = r.height;
       in_order = r.in_order;
@@ -114,11 +112,10 @@ pub parted_shows : (standing : Standing) (v : ℕ) (found : Option Held) (place 
 parted_shows standing v found place gone relay within at e taken s w shown =
     let it = place_is_some (PlaceShows s) (place_at standing.places v) (w.viewers v) place (shown.places v) (there_is standing v found place shown.room within at e) in
     subst
-    (λ (o : Option Viewer). Shows s (parted standing v gone relay) (for_viewer w o (λ p. set_viewer (record w { queue = w.queue ++ take (s.room - length w.queue) (leaves_behind s v p) }) v None)))
+    (λ (o : Option Viewer). Shows s (parted standing v gone relay) (for_viewer w o (λ p. set_viewer (record w { queue = w.queue ++ take (s.room - length w.queue) (leaves_behind v p) }) v None)))
     (sym it.1)
     (record {
       size = shown.size;
-      extent = shown.extent;
       width = shown.width;
       height = shown.height;
       updates = shown.updates;

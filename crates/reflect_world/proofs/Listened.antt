@@ -1,5 +1,5 @@
 -- What a viewer reads of its stream, computed.
-use Rattle.std.proofs.Common.{◌≡◌, List, [], ◌∷◌, ◌++◌, true, false, refl}
+use Rattle.std.proofs.Common.{◌≡◌, List, [], ◌∷◌, ◌++◌, false, refl}
 use Rattle.std.specs.Prelude.{Option, Some, None}
 use Rattle.raster.specs.Update.{Update, Put}
 use Rattle.rfb_wire.specs.ServerMessage.{ServerMessage, FramebufferUpdate, Bell, ServerCutText}
@@ -12,7 +12,7 @@ use Rattle.reflect_world.proofs.Vectors.{small, red_blue, ask, turn}
 
 abbrev read_by : List Update → Option Viewer → List ServerMessage
 read_by us None = []
-read_by us (Some p) = (listener 2 1 (heard true 2 1 us p.entries)).messages
+read_by us (Some p) = (listener 2 1 (heard 2 1 us p.entries)).messages
 
 abbrev read : World → List ServerMessage
 read w = read_by w.shared.updates (w.viewers 1)

@@ -10,17 +10,19 @@ use Rattle.std.proofs.lemmas.List.Elements.{filter_map-append}
 use Rattle.pixel_format.specs.Reading.{Reading, Done, Faulty, Want, step, wants_more}
 use Rattle.raster.specs.declared.rect.Rect.{Rect}
 use Rattle.raster.specs.Update.{Update, view}
-use Rattle.rfb_wire.specs.ClientMessage.{ClientMessage}
+use Rattle.rfb_wire.specs.ClientMessage.{ClientMessage, client_message}
 use Rattle.roles.specs.Allowed.{Input, passes}
 use Rattle.host_decoder.specs.Updates.{updates_by}
 use Rattle.reflect_core.specs.Sequential as history
 use Rattle.viewer_session.specs.Record.{Entry, Took, Saw, MadeCut, Began, NumbersUpTo}
 use Rattle.viewer_session.specs.Turn.{began_at, has_reason, record_after_cut, update_at}
-use Rattle.viewer_session.specs.Viewer.{served, relayed, Setup, Viewer, after_bytes, after_byte, after_cut, after_hello, after_reading, with_input, marked, viewer_fault, may_look, new_viewer}
+use Rattle.viewer_session.specs.Viewer.{Setup, Viewer, after_bytes, after_byte, after_cut, after_hello, after_reading, with_input, marked, viewer_fault, may_look, new_viewer}
 use Rattle.viewer_session.proofs.Stands.{numbers_more}
 use Rattle.reflect_world.specs.Schedule.{Act, ByHost, ByViewer, World, Relayed, Step, HostBytes, Put, Raise, Join, Bytes, Look, Cut, Written, Send, Take, Part, beginning, happens, play, play_from, put_next, set_viewer, with_act, for_viewer, look_at, cut_at, send_waiting, take_first}
 use Rattle.reflect_world.specs.Headline.{is_by, step_by, own_steps, replied_in, replies, HasOwnSteps}
 use Rattle.reflect_world.proofs.History.{IsLegal, legal_step, legal_beginning}
+use Rattle.reflect_world.specs.Host.{host_form}
+use Rattle.roles.specs.Held.{input_for}
 
 -- ---- one record
 
@@ -84,22 +86,22 @@ entries_input : (P : List Entry → Type 0) (p : Viewer) (o : Option Input) → 
 entries_input P p None k = k
 entries_input P p (Some input) k = entries_if P (passes p.keys input) _ p k k
 
-entries_reading : (P : List Entry → Type 0) → ((m : ClientMessage) (es : List Entry) → P es → P (Took m ∷ es)) → (s : Setup) (p : Viewer) (r : Reading ClientMessage) → P p.entries → P (after_reading s p r).entries
+entries_reading : (P : List Entry → Type 0) → ((m : ClientMessage) (es : List Entry) → P es → P (Took m ∷ es)) → (s : Setup) (p : Viewer) (r : Reading ClientMessage) → P p.entries → P (after_reading p r).entries
 entries_reading P more s p (Done m) k =
     let taken = marked p.lost m in
-    entries_input P (record p { entries = Took (served s taken.0) ∷ p.entries; lost = taken.1; reading = s.extent.from_viewer }) (relayed s p.role taken.0) (more (served s taken.0) p.entries k)
+    entries_input P (record p { entries = Took taken.0 ∷ p.entries; lost = taken.1; reading = client_message }) (input_for p.role taken.0) (more taken.0 p.entries k)
 entries_reading P more s p (Faulty f) k = k
 entries_reading P more s p (Want next) k = k
 
-entries_byte : (P : List Entry → Type 0) → ((m : ClientMessage) (es : List Entry) → P es → P (Took m ∷ es)) → (s : Setup) (p : Viewer) (b : ℕ) → P p.entries → P (after_byte s p b).entries
+entries_byte : (P : List Entry → Type 0) → ((m : ClientMessage) (es : List Entry) → P es → P (Took m ∷ es)) → (s : Setup) (p : Viewer) (b : ℕ) → P p.entries → P (after_byte p b).entries
 entries_byte P more s p b k =
     entries_if P (wants_more p.hello) (after_hello p (step p.hello b)) _ k
-    (entries_if P (is_some (viewer_fault p)) p (after_reading s p (step p.reading b)) k (entries_reading P more s p (step p.reading b) k))
+    (entries_if P (is_some (viewer_fault p)) p (after_reading p (step p.reading b)) k (entries_reading P more s p (step p.reading b) k))
 
-entries_bytes : (P : List Entry → Type 0) → ((m : ClientMessage) (es : List Entry) → P es → P (Took m ∷ es)) → (s : Setup) (p : Viewer) (bs : List ℕ) → P p.entries → P (after_bytes s p bs).entries
+entries_bytes : (P : List Entry → Type 0) → ((m : ClientMessage) (es : List Entry) → P es → P (Took m ∷ es)) → (s : Setup) (p : Viewer) (bs : List ℕ) → P p.entries → P (after_bytes p bs).entries
 entries_bytes P more s p [] k = k
 entries_bytes P more s p (b ∷ bs) k =
-    entries_if P (is_some p.waiting) (record p { unread = b ∷ bs }) (after_bytes s (after_byte s p b) bs) k (entries_bytes P more s (after_byte s p b) bs (entries_byte P more s p b k))
+    entries_if P (is_some p.waiting) (record p { unread = b ∷ bs }) (after_bytes (after_byte p b) bs) k (entries_bytes P more s (after_byte p b) bs (entries_byte P more s p b k))
 
 -- ---- whose step it is
 
@@ -228,14 +230,14 @@ own_join s w v p none h =
 
 own_step : (s : Setup) (w : World) (e : Step) → IsLegal w → IsOwn w → IsOwn (happens s w e)
 own_step s w (HostBytes b) legal h = record { unused = h.unused; own = h.own }
-own_step s w Put legal h = own_put s w (slice_get (updates_by (s.extent.from_host s.w s.h) w.host_bytes) (length w.shared.updates)) h
+own_step s w Put legal h = own_put s w (slice_get (updates_by (host_form s.w s.h) w.host_bytes) (length w.shared.updates)) h
 own_step s w Raise legal h =
     let step : history.Step = history.Raise (length w.shared.updates) in
     record {
       unused = λ v k lt. host_act v k w.acts step ∙ h.unused v k lt;
       own = λ v. subst (λ mine. OwnIf w.shared.updates mine (w.viewers v)) (sym (host_act v (w.stays v) w.acts step)) (h.own v);
     }
-own_step s w (Join v role greet) legal h = own_join s w v (new_viewer s role greet) refl h
+own_step s w (Join v role greet) legal h = own_join s w v (new_viewer role greet) refl h
 own_step s w (Bytes v b lost) legal h =
     own_for w (own_steps w v) (w.viewers v) _ h (h.own v)
     (λ p k. own_set w v _ h (entries_bytes (λ es. HasOwn w.shared.updates (own_steps w v) es) (own_took w.shared.updates (own_steps w v)) s (record p { looked = None; lost = p.lost ++ lost }) (p.unread ++ b) k))

@@ -1,29 +1,27 @@
 -- Places of viewers.
-use Rattle.std.proofs.Common.{◌≡◌, ℕ, zero, suc, ◌+◌, ◌-◌, ◌<◌, Bool, true, false, cond, List, [], ◌∷◌, ◌++◌, length, take, Option, Some, None, refl, ap, sym, ◌∙◌, subst, arith, append-nil, append_assoc, length-append}
+use Rattle.std.proofs.Common.{◌≡◌, ℕ, zero, suc, ◌+◌, ◌-◌, ◌<◌, Bool, true, false, cond, List, [], ◌∷◌, ◌++◌, length, take, Option, Some, None, refl, ap, sym, ◌∙◌, subst, arith, append_assoc, length-append}
 use Rattle.std.specs.Prelude.{slice_set, is_some, min, ◌==◌, if◌then◌else◌}
 use Rattle.std.proofs.Math.Seq.{take-add}
 use Rattle.std.proofs.lemmas.Bool.{eqb-true, eqb-false}
 use Rattle.std.proofs.lemmas.List.{get_or-set_same, get_or-set_other, length-drop, take-append-le, take-map}
-use Rattle.pixel_format.specs.declared.fault.Fault.{Fault}
-use Rattle.pixel_format.specs.Reading.{Reading, Done, Faulty, Want, step, fault_of, wants_more}
+use Rattle.pixel_format.specs.Reading.{Reading, Done, Faulty, Want, step, wants_more}
 use Rattle.raster.specs.Screen.{opening}
 use Rattle.raster.specs.Update.{Update, bells}
 use Rattle.tiles.specs.Touched.{bell_or_text}
 use Rattle.painter.specs.Same.{AreSameFrom}
 use Rattle.painter.proofs.SameLaws.{same_bells}
-use Rattle.rfb_wire.specs.ClientMessage.{ClientMessage}
-use Rattle.rfb_wire.specs.Greeting.{Greeting}
-use Rattle.rfb_wire.specs.Handshake.{said_to_viewer}
+use Rattle.rfb_wire.specs.ClientMessage.{ClientMessage, client_message}
 use Rattle.roles.specs.Allowed.{Input, passes}
-use Rattle.viewer_session.specs.Viewer.{Setup, Viewer, out_bytes, may_look, after_cut, after_byte, after_bytes, after_hello, after_reading, marked, relayed, served, viewer_fault, with_input}
+use Rattle.viewer_session.specs.Viewer.{Setup, Viewer, out_bytes, may_look, after_cut, after_byte, after_bytes, after_reading, marked, viewer_fault, with_input}
 use Rattle.viewer_session.specs.Record.{Took}
 use Rattle.viewer_session.specs.Turn.{sent_at}
 use Rattle.reflect_core.specs.declared.cut.Cut.{Cut}
-use Rattle.viewer_session.specs.Session.{State, Stands, StandsBut, Greets, HasCounted, IsSameSession, at_rest, is_ready, after_look, with_marks, without_look, without_input, after_writing}
-use Rattle.viewer_session.proofs.HelloLaws.{said_grows}
+use Rattle.viewer_session.specs.Session.{State, Stands, StandsBut, HasCounted, IsSameSession, at_rest, is_ready, after_look, with_marks, without_look, without_input, after_writing}
 use Rattle.viewer_session.proofs.SessionLaws.{fault_stands, stands_look, stands_saw}
 use Rattle.reflect_world.specs.Said.{hello_of}
 use Rattle.reflect_world.specs.World.{Held, PlaceBy, PlaceShows, PlaceStands, place_at}
+use Rattle.viewer_session.proofs.Growing.{early, grown_bytes}
+use Rattle.roles.specs.Held.{input_for}
 
 -- ---- a look, and what forgets it
 
@@ -103,82 +101,6 @@ place_seen s us None (Some p) k = k
 place_seen s us (Some place) None k = k
 place_seen s us (Some place) (Some p) k = record { fault = fault_stands s place.session (at_rest p) k.session; written = k.written }
 
--- ---- a viewer's bytes change neither what was written nor its look, and add to what is said in its hello at most
-
-abbrev Grows : List ℕ → List ℕ → Type 0
-Grows before now = (more : List ℕ) × (now ≡ before ++ more)
-
-grows_none : (before : List ℕ) → Grows before before
-grows_none before = ([], sym (append-nil before))
-
-grows_on : (a b c : List ℕ) → Grows a b → Grows b c → Grows a c
-grows_on a b c k l = (k.0 ++ l.0, l.1 ∙ (ap (λ t. t ++ l.0) k.1 ∙ append_assoc a k.0 l.0))
-
--- While more of a hello is to come, no answer is begun.
-abbrev IsEarly : Viewer → Type 0
-IsEarly p = wants_more p.hello ≡ true → p.said_after ≡ []
-
-early_by : (s : Setup) (o : Option Greeting) (greet : Bool) (hello : Reading (Unit {0})) (said : ℕ) (said_after : List ℕ) → Greets s o greet hello said said_after → wants_more hello ≡ true → said_after ≡ []
-early_by s None greet hello said said_after k wants = absurd (let open_ : wants_more hello ≡ false = ap wants_more k.1 in cc)
-early_by s (Some g) greet hello said said_after k wants = (k.taken wants).1
-
-early : (s : Setup) (st : State) (p : Viewer) → Stands s st p → IsEarly p
-early s st p k = early_by s st.greeting p.greet p.hello p.said p.said_after k.serves.greets
-
-record HasGrown (s : Setup) (p q : Viewer) : Type 0 where
-  looked : q.looked ≡ p.looked
-  written : q.written ≡ p.written
-  out : Grows (out_bytes s p) (out_bytes s q)
-  early : IsEarly q
-
-grown_if : (s : Setup) (b : Bool) (p q r : Viewer) → HasGrown s p q → HasGrown s p r → HasGrown s p (cond b q r)
-grown_if s true p q r k l = k
-grown_if s false p q r k l = l
-
-grown_from : (s : Setup) (p q r : Viewer) → HasGrown s p q → HasGrown s q r → HasGrown s p r
-grown_from s p q r k l =
-    record { looked = l.looked ∙ k.looked; written = l.written ∙ k.written; out = grows_on (out_bytes s p) (out_bytes s q) (out_bytes s r) k.out l.out; early = l.early }
-
-not_grown : (s : Setup) (p : Viewer) → IsEarly p → HasGrown s p p
-not_grown s p e = record { looked = refl; written = refl; out = grows_none (out_bytes s p); early = e }
-
-grown_input : (s : Setup) (p q : Viewer) (o : Option Input) → HasGrown s p q → HasGrown s p (with_input q o)
-grown_input s p q None k = k
-grown_input s p q (Some input) k = grown_if s (passes q.keys input) p _ q (record { looked = k.looked; written = k.written; out = k.out; early = k.early }) k
-
-grown_reading : (s : Setup) (p : Viewer) (r : Reading ClientMessage) → IsEarly p → HasGrown s p (after_reading s p r)
-grown_reading s p (Done m) e =
-    grown_input s p _ (relayed s p.role (marked p.lost m).0) (record { looked = refl; written = refl; out = grows_none (out_bytes s p); early = e })
-grown_reading s p (Faulty f) e = record { looked = refl; written = refl; out = grows_none (out_bytes s p); early = e }
-grown_reading s p (Want more) e = record { looked = refl; written = refl; out = grows_none (out_bytes s p); early = e }
-
--- What is said in a hello by now, and the answers behind it.
-abbrev said_and : Setup → Bool → ℕ → List ℕ → List ℕ
-said_and s greet count after = (if greet then said_to_viewer s.w s.h s.name count else []) ++ after
-
-says_more : (s : Setup) (greet : Bool) (count : ℕ) (o : Option Fault) (after : List ℕ) → after ≡ [] → Grows (said_and s greet count after) (said_and s greet (if is_some o then count else count + 1) after)
-says_more s greet count (Some f) after none = grows_none (said_and s greet count after)
-says_more s false count None after none = grows_none (said_and s false count after)
-says_more s true count None after none =
-    let grows = said_grows s.w s.h s.name count in
-    let alone : (n : ℕ) → said_and s true n after ≡ said_to_viewer s.w s.h s.name n = λ n. ap (λ t. said_to_viewer s.w s.h s.name n ++ t) none ∙ append-nil (said_to_viewer s.w s.h s.name n) in
-    (grows.0, alone (count + 1) ∙ (grows.1 ∙ ap (λ t. t ++ grows.0) (sym (alone count))))
-
-grown_hello : (s : Setup) (p : Viewer) (r : Reading (Unit {0})) → p.said_after ≡ [] → HasGrown s p (after_hello p r)
-grown_hello s p r none = record { looked = refl; written = refl; out = says_more s p.greet p.said (fault_of r) p.said_after none; early = λ wants. none }
-
-grown_byte_if : (s : Setup) (p : Viewer) (b : ℕ) (w : Bool) → wants_more p.hello ≡ w → IsEarly p
-    → HasGrown s p (cond w (after_hello p (step p.hello b)) (cond (is_some (viewer_fault p)) p (after_reading s p (step p.reading b))))
-grown_byte_if s p b true wants e = grown_hello s p (step p.hello b) (e wants)
-grown_byte_if s p b false wants e = grown_if s (is_some (viewer_fault p)) p p _ (not_grown s p e) (grown_reading s p (step p.reading b) e)
-
-grown_bytes : (s : Setup) (p : Viewer) (bs : List ℕ) → IsEarly p → HasGrown s p (after_bytes s p bs)
-grown_bytes s p [] e = record { looked = refl; written = refl; out = grows_none (out_bytes s p); early = e }
-grown_bytes s p (b ∷ bs) e =
-    let one : HasGrown s p (after_byte s p b) = grown_byte_if s p b (wants_more p.hello) refl e in
-    grown_if s (is_some p.waiting) p _ (after_bytes s (after_byte s p b) bs) (record { looked = refl; written = refl; out = grows_none (out_bytes s p); early = e })
-    (grown_from s p (after_byte s p b) (after_bytes s (after_byte s p b) bs) one (grown_bytes s (after_byte s p b) bs one.early))
-
 -- ---- what the steps of a viewer make of its place
 
 -- What was left unread before is read again with the bytes behind it.
@@ -193,37 +115,37 @@ leaving_input : (left : List ℕ) (p : Viewer) (o : Option Input) → with_input
 leaving_input left p None = refl
 leaving_input left p (Some input) = leaving_if left (passes p.keys input) _ _ _ _ refl refl
 
-leaving_reading : (s : Setup) (left : List ℕ) (p : Viewer) (r : Reading ClientMessage) → after_reading s (leaving p left) r ≡ leaving (after_reading s p r) left
+leaving_reading : (s : Setup) (left : List ℕ) (p : Viewer) (r : Reading ClientMessage) → after_reading (leaving p left) r ≡ leaving (after_reading p r) left
 leaving_reading s left p (Done m) =
-    leaving_input left (record p { entries = Took (served s (marked p.lost m).0) ∷ p.entries; lost = (marked p.lost m).1; reading = s.extent.from_viewer }) (relayed s p.role (marked p.lost m).0)
+    leaving_input left (record p { entries = Took (marked p.lost m).0 ∷ p.entries; lost = (marked p.lost m).1; reading = client_message }) (input_for p.role (marked p.lost m).0)
 leaving_reading s left p (Faulty f) = refl
 leaving_reading s left p (Want more) = refl
 
-leaving_byte : (s : Setup) (left : List ℕ) (p : Viewer) (b : ℕ) → after_byte s (leaving p left) b ≡ leaving (after_byte s p b) left
+leaving_byte : (s : Setup) (left : List ℕ) (p : Viewer) (b : ℕ) → after_byte (leaving p left) b ≡ leaving (after_byte p b) left
 leaving_byte s left p b =
     leaving_if left (wants_more p.hello) _ _ _ _ refl (leaving_if left (is_some (viewer_fault p)) _ _ _ _ refl (leaving_reading s left p (step p.reading b)))
 
-unread_apart_if : (s : Setup) (left : List ℕ) (p : Viewer) (b : ℕ) (bs : List ℕ) (w : Bool) → after_bytes s (after_byte s (leaving p left) b) bs ≡ after_bytes s (after_byte s p b) bs
-    → cond w (leaving p (b ∷ bs)) (after_bytes s (after_byte s (leaving p left) b) bs) ≡ cond w (leaving p (b ∷ bs)) (after_bytes s (after_byte s p b) bs)
+unread_apart_if : (s : Setup) (left : List ℕ) (p : Viewer) (b : ℕ) (bs : List ℕ) (w : Bool) → after_bytes (after_byte (leaving p left) b) bs ≡ after_bytes (after_byte p b) bs
+    → cond w (leaving p (b ∷ bs)) (after_bytes (after_byte (leaving p left) b) bs) ≡ cond w (leaving p (b ∷ bs)) (after_bytes (after_byte p b) bs)
 unread_apart_if s left p b bs true e = refl
 unread_apart_if s left p b bs false e = e
 
-unread_apart : (s : Setup) (left : List ℕ) (p : Viewer) (bs : List ℕ) → after_bytes s (leaving p left) bs ≡ after_bytes s p bs
+unread_apart : (s : Setup) (left : List ℕ) (p : Viewer) (bs : List ℕ) → after_bytes (leaving p left) bs ≡ after_bytes p bs
 unread_apart s left p [] = refl
 unread_apart s left p (b ∷ bs) =
-    unread_apart_if s left p b bs (is_some p.waiting) (ap (λ t. after_bytes s t bs) (leaving_byte s left p b) ∙ unread_apart s left (after_byte s p b) bs)
+    unread_apart_if s left p b bs (is_some p.waiting) (ap (λ t. after_bytes t bs) (leaving_byte s left p b) ∙ unread_apart s left (after_byte p b) bs)
 
 -- The viewer's bytes as its session sees them.
 fed_is : (s : Setup) (p : Viewer) (marks : List Bool) (unread bytes : List ℕ) → unread ≡ p.unread → p.lost ≡ []
-    → after_bytes s (record p { looked = None; lost = p.lost ++ marks }) (p.unread ++ bytes) ≡ after_bytes s (with_marks marks (at_rest p)) (unread ++ bytes)
+    → after_bytes (record p { looked = None; lost = p.lost ++ marks }) (p.unread ++ bytes) ≡ after_bytes (with_marks marks (at_rest p)) (unread ++ bytes)
 fed_is s p marks unread bytes same none =
-    ap (λ (ms : List Bool). after_bytes s (with_marks (ms ++ marks) p) (p.unread ++ bytes)) none
-    ∙ (ap (λ (us : List ℕ). after_bytes s (with_marks marks p) (us ++ bytes)) (sym same) ∙ sym (unread_apart s [] (with_marks marks p) (unread ++ bytes)))
+    ap (λ (ms : List Bool). after_bytes (with_marks (ms ++ marks) p) (p.unread ++ bytes)) none
+    ∙ (ap (λ (us : List ℕ). after_bytes (with_marks marks p) (us ++ bytes)) (sym same) ∙ sym (unread_apart s [] (with_marks marks p) (unread ++ bytes)))
 
 -- Its bytes came: the look is forgotten.
 pub place_fed : (s : Setup) (us : List Update) (place : Held) (session : State) (p : Viewer) (marks : List Bool) (bytes unread : List ℕ) → PlaceStands s us place p
-    → ((q : Viewer) → Stands s place.session q → StandsBut s session (after_bytes s (with_marks marks q) (place.unread ++ bytes)) unread) → (HasCounted place.session us → HasCounted session us)
-    → PlaceStands s us (record { session = session; looked = None; written = place.written; unread = unread }) (after_bytes s (record p { looked = None; lost = p.lost ++ marks }) (p.unread ++ bytes))
+    → ((q : Viewer) → Stands s place.session q → StandsBut s session (after_bytes (with_marks marks q) (place.unread ++ bytes)) unread) → (HasCounted place.session us → HasCounted session us)
+    → PlaceStands s us (record { session = session; looked = None; written = place.written; unread = unread }) (after_bytes (record p { looked = None; lost = p.lost ++ marks }) (p.unread ++ bytes))
 place_fed s us place session p marks bytes unread k fed counted =
     let now : Viewer = with_marks marks (at_rest p) in
     let stands = fed (at_rest p) k.session in
@@ -236,7 +158,7 @@ place_fed s us place session p marks bytes unread k fed counted =
       counted = counted k.counted;
       looked = sym grown.looked;
       ready = λ no. absurd cc;
-      written = k.written ∙ (sym (take-append-le p.written (out_bytes s p) grown.out.0 k.session.serves.written) ∙ (ap (take p.written) (sym grown.out.1) ∙ ap (λ n. take n (out_bytes s (after_bytes s now (place.unread ++ bytes)))) (sym grown.written)));
+      written = k.written ∙ (sym (take-append-le p.written (out_bytes s p) grown.out.0 k.session.serves.written) ∙ (ap (take p.written) (sym grown.out.1) ∙ ap (λ n. take n (out_bytes s (after_bytes now (place.unread ++ bytes)))) (sym grown.written)));
     })
 
 -- It looked, if it may.
@@ -289,7 +211,7 @@ place_cut s us place session p k stands counted =
       counted = counted;
       looked = refl;
       ready = λ no. absurd cc;
-      written = k.written ∙ (sym (take-append-le p.written (out_bytes s p) (sent_at s.extent.tells_news s.w s.h p.entries us) k.session.serves.written) ∙ ap (take p.written) (append_assoc (hello_of s p) p.said_after (sent_at s.extent.tells_news s.w s.h p.entries us)));
+      written = k.written ∙ (sym (take-append-le p.written (out_bytes s p) (sent_at s.w s.h p.entries us) k.session.serves.written) ∙ ap (take p.written) (append_assoc (hello_of s p) p.said_after (sent_at s.w s.h p.entries us)));
     }
 
 -- Its waiting input was taken, or none was.

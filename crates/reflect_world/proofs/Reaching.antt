@@ -13,7 +13,6 @@ use Rattle.roles.specs.declared.role.Role.{Role}
 use Rattle.pixel_format.specs.declared.fault.Fault.TheVariants.{Memory, NumbersOut}
 use Rattle.host_decoder.specs.Updates.{updates_by}
 use Rattle.reflect_core.specs.Plain.{Plain}
-use Rattle.viewer_session.specs.Extent.{Extent, everything}
 use Rattle.viewer_session.specs.Turn.{has_reason}
 use Rattle.viewer_session.specs.Viewer.{Setup, Viewer, may_look, after_cut, after_bytes, new_viewer}
 use Rattle.viewer_session.specs.Session.{State, Stands, StandsBut, HasCounted, at_rest, after_look, with_marks, without_look, after_writing, is_ready}
@@ -48,10 +47,9 @@ abbrev pub with_host : Standing → HostSide → Standing
 with_host standing host = record standing { host = host }
 
 -- The host's form that the schedule reads by.
-form_is : (s : Setup) (standing : Standing) (w : World) (host : HostSide) → Reached s standing w → IsSameHost standing.host host → s.extent.from_host s.w s.h ≡ form_of host
+form_is : (s : Setup) (standing : Standing) (w : World) (host : HostSide) → Reached s standing w → IsSameHost standing.host host → host_form s.w s.h ≡ form_of host
 form_is s standing w host r same =
-    ap (λ (x : Extent). x.from_host s.w s.h) r.extent
-    ∙ (ap (λ n. host_form n s.h) (sym (same.width ∙ r.host_width)) ∙ ap (host_form host.decoder.width) (sym (same.height ∙ r.host_height)))
+    ap (λ n. host_form n s.h) (sym (same.width ∙ r.host_width)) ∙ ap (host_form host.decoder.width) (sym (same.height ∙ r.host_height))
 
 -- Bytes of the host came.
 pub bytes_reaches : (standing : Standing) (host : HostSide) (bytes : List ℕ) → IsSameHost standing.host host
@@ -59,7 +57,6 @@ pub bytes_reaches : (standing : Standing) (host : HostSide) (bytes : List ℕ) �
 bytes_reaches standing host bytes same grows s w r =
     record {
       size = r.size;
-      extent = r.extent;
       width = r.width;
       height = r.height;
       in_order = order_bytes s w bytes r.in_order;
@@ -94,12 +91,11 @@ reached_put s standing w host screen v r same none reads width height updates ta
     let next = next_on s standing w host (form_of host) (standing.screen.updates ++ v ∷ []) r same
     (next_of w.host_bytes w.shared.updates standing.screen.updates host v none begins r.updates.count reads) in
     let u : Update = next.update in
-    let there : slice_get (updates_by (s.extent.from_host s.w s.h) w.host_bytes) (length w.shared.updates) ≡ Some u =
+    let there : slice_get (updates_by (host_form s.w s.h) w.host_bytes) (length w.shared.updates) ≡ Some u =
     ap (λ f. slice_get (updates_by f w.host_bytes) (length w.shared.updates)) form ∙ next.there in
     subst (λ o. Reached s (record standing { host = host; screen = screen }) (put_next s w o)) (sym there)
     (record {
       size = r.size;
-      extent = r.extent;
       width = width ∙ r.width;
       height = height ∙ r.height;
       in_order = order_put s w (Some u) there r.in_order;
@@ -122,12 +118,11 @@ reached_no_put : (s : Setup) (standing : Standing) (w : World) (host : HostSide)
 reached_no_put s standing w host fault r same stands out =
     let form = form_is s standing w host r same in
     let all : List Update = updates_by (form_of host) w.host_bytes in
-    let there : slice_get (updates_by (s.extent.from_host s.w s.h) w.host_bytes) (length w.shared.updates) ≡ None =
+    let there : slice_get (updates_by (host_form s.w s.h) w.host_bytes) (length w.shared.updates) ≡ None =
     ap (λ f. slice_get (updates_by f w.host_bytes) (length w.shared.updates)) form ∙ (ap (slice_get all) (r.updates.count ∙ sym out.none_left) ∙ no_next all) in
     subst (λ o. Reached s (record standing { host = host; host_fault = fault }) (put_next s w o)) (sym there)
     (record {
       size = r.size;
-      extent = r.extent;
       width = r.width;
       height = r.height;
       in_order = r.in_order;
@@ -159,7 +154,6 @@ reached_set : (s : Setup) (standing : Standing) (w : World) (acts : List Act) (s
 reached_set s standing w acts stays v place p r within good =
     record {
       size = r.size;
-      extent = r.extent;
       width = r.width;
       height = r.height;
       in_order = r.in_order;
@@ -187,14 +181,14 @@ none_is : (number : ℕ) (o : Option ℕ) → o ≡ None → o ≡ Some number �
 none_is number o e f = cc
 
 -- A viewer joins.
-pub reached_join : (s : Setup) (standing : Standing) (w : World) (v : ℕ) (role : Role) (greet : Bool) (session : State) → Reached s standing w → v < 65 → Stands s session (new_viewer s role greet) → session.asked.last ≡ None
+pub reached_join : (s : Setup) (standing : Standing) (w : World) (v : ℕ) (role : Role) (greet : Bool) (session : State) → Reached s standing w → v < 65 → Stands s session (new_viewer role greet) → session.asked.last ≡ None
     → Reached s (with_place standing v (record { session = session; looked = None; written = []; unread = [] })) (happens s w (Join v role greet))
 reached_join s standing w v role greet session r within stands uncut =
-    reached_set s standing w w.acts (λ u. if u == v then w.stays u + 1 else w.stays u) v (record { session = session; looked = None; written = []; unread = [] }) (new_viewer s role greet) r within
+    reached_set s standing w w.acts (λ u. if u == v then w.stays u + 1 else w.stays u) v (record { session = session; looked = None; written = []; unread = [] }) (new_viewer role greet) r within
     (record { session = subst (λ (q : Viewer). Stands s session q) stands.serves.rests stands; unread = refl; marks = refl; counted = λ number e. absurd (none_is number session.asked.last uncut e); looked = refl; ready = λ no. absurd cc; written = refl })
 
 pub reached_bytes : (s : Setup) (standing : Standing) (w : World) (v : ℕ) (bytes unread : List ℕ) (marks : List Bool) (place : Held) (session : State) → Reached s standing w → v < 65 → place_at standing.places v ≡ Some place
-    → ((q : Viewer) → Stands s place.session q → StandsBut s session (after_bytes s (with_marks marks q) (place.unread ++ bytes)) unread) → ((us : List Update) → HasCounted place.session us → HasCounted session us)
+    → ((q : Viewer) → Stands s place.session q → StandsBut s session (after_bytes (with_marks marks q) (place.unread ++ bytes)) unread) → ((us : List Update) → HasCounted place.session us → HasCounted session us)
     → Reached s (with_place standing v (record { session = session; looked = None; written = place.written; unread = unread })) (happens s w (Bytes v bytes marks))
 reached_bytes s standing w v bytes unread marks place session r within there fed counted =
     reached_for s standing _ w v place _ r there (λ p k. reached_set s standing w w.acts w.stays v _ _ r within (place_fed s w.shared.updates place session p marks bytes unread k fed (counted w.shared.updates)))
@@ -239,7 +233,6 @@ reached_no_look s standing w v place r there none =
     subst (λ o. Reached s standing (cut_at s w v p o)) (sym none ∙ k.looked)
     (record {
       size = r.size;
-      extent = r.extent;
       width = r.width;
       height = r.height;
       in_order = r.in_order;
@@ -342,11 +335,11 @@ held_is new looked written unread =
     ap with_looked looked ∙ (ap with_written written ∙ ap with_unread unread)
 
 pub joined_reaches : (standing : Standing) (v : ℕ) (name : List ℕ) (role : Role) (greet : Bool) (new : Held) → v < 65 → new.looked ≡ None → new.written ≡ [] → new.unread ≡ [] → new.session.asked.last ≡ None
-    → ((s : Setup) → s.w ≡ standing.screen.width → s.h ≡ standing.screen.height → s.name ≡ name → s.extent ≡ everything → Stands s new.session (new_viewer s role greet))
+    → ((s : Setup) → s.w ≡ standing.screen.width → s.h ≡ standing.screen.height → s.name ≡ name → Stands s new.session (new_viewer role greet))
     → JoinsUnder name (Join v role greet) standing (with_place standing v new)
 joined_reaches standing v name role greet new within looked written unread uncut stands s w named r =
     subst (λ h. Reached s (with_place standing v h) (happens s w (Join v role greet))) (sym (held_is new looked written unread))
-    (reached_join s standing w v role greet new.session r within (stands s (sym r.width) (sym r.height) named r.extent) uncut)
+    (reached_join s standing w v role greet new.session r within (stands s (sym r.width) (sym r.height) named) uncut)
 
 -- What a cut asks for.
 pub ready_there : (s : Setup) (standing : Standing) (w : World) (v : ℕ) (found : Option Held) (place : Held) → Reached s standing w → v < 65 → found ≡ slice_index_or standing.places v found → found ≡ Some place
@@ -388,7 +381,6 @@ pub shows_reached : (s : Setup) (standing : Standing) (w : World) → Reached s 
 shows_reached s standing w r =
     record {
       size = r.size;
-      extent = r.extent;
       width = r.width;
       height = r.height;
       updates = r.updates;
@@ -414,7 +406,6 @@ broken_off standing v found place new within at e broken s w r =
     let it = place_is_some (PlaceShows s) (place_at standing.places v) (w.viewers v) place (shown.places v) (there_is standing v found place r.room within at e) in
     record {
       size = shown.size;
-      extent = shown.extent;
       width = shown.width;
       height = shown.height;
       updates = shown.updates;
@@ -426,20 +417,19 @@ broken_off standing v found place new within at e broken s w r =
 
 -- A viewer joins, also where memory was refused before.
 pub joined_shows : (standing : Standing) (v : ℕ) (name : List ℕ) (role : Role) (greet : Bool) (new : Held) → v < 65 → new.written ≡ []
-    → ((s : Setup) → s.w ≡ standing.screen.width → s.h ≡ standing.screen.height → s.name ≡ name → s.extent ≡ everything → Stands s new.session (new_viewer s role greet))
+    → ((s : Setup) → s.w ≡ standing.screen.width → s.h ≡ standing.screen.height → s.name ≡ name → Stands s new.session (new_viewer role greet))
     → ShowsUnder name (Join v role greet) standing (with_place standing v new)
 joined_shows standing v name role greet new within written stands s w named shown =
-    let stood : Stands s new.session (new_viewer s role greet) = stands s (sym shown.width) (sym shown.height) named shown.extent in
+    let stood : Stands s new.session (new_viewer role greet) = stands s (sym shown.width) (sym shown.height) named in
     record {
       size = shown.size;
-      extent = shown.extent;
       width = shown.width;
       height = shown.height;
       updates = shown.updates;
       fault = shown.fault;
       taken = shown.taken;
       room = length-set standing.places v (Some new) ∙ shown.room;
-      places = places_set (PlaceShows s) standing.places w.viewers v new (new_viewer s role greet) (omega (arith, shown.room)) shown.places (record { fault = fault_stands s new.session (new_viewer s role greet) stood; written = written });
+      places = places_set (PlaceShows s) standing.places w.viewers v new (new_viewer role greet) (omega (arith, shown.room)) shown.places (record { fault = fault_stands s new.session (new_viewer role greet) stood; written = written });
     }
 
 -- ---- input
@@ -452,7 +442,6 @@ reached_queued s standing w relay more v place p r within good queue taken =
     let set = reached_set s standing w w.acts w.stays v place p r within good in
     record {
       size = set.size;
-      extent = set.extent;
       width = set.width;
       height = set.height;
       in_order = set.in_order;
@@ -532,7 +521,6 @@ take_reached : (s : Setup) (standing : Standing) (w : World) (relay : RelaySide)
 take_reached s standing w relay [] e took r =
     record {
       size = r.size;
-      extent = r.extent;
       width = r.width;
       height = r.height;
       in_order = r.in_order;
@@ -551,7 +539,6 @@ take_reached s standing w relay [] e took r =
 take_reached s standing w relay (first ∷ left) e took r =
     record {
       size = r.size;
-      extent = r.extent;
       width = r.width;
       height = r.height;
       in_order = r.in_order;

@@ -5,7 +5,8 @@ use Rattle.std.proofs.lemmas.List.{drop_more, length-map, take_more, get_or-map}
 use Rattle.viewer_session.specs.Session.{State, IsFeeding, marks_in}
 use Rattle.reflect_world.specs.Schedule.{Relayed}
 use Rattle.reflect_world.specs.declared.relay.Entry as declared
-use Rattle.reflect_world.specs.Relay.{input_bytes, inputs_of, relayed_in, spelled, takes_from}
+use Rattle.reflect_world.specs.Relay.{inputs_of, relayed_in, spelled, takes_from}
+use Rattle.roles.specs.Spelling.{input_bytes}
 
 -- ---- the relay
 

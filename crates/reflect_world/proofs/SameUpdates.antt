@@ -84,9 +84,9 @@ text_same us vs (Some n) same = ap (newer_text n) (same_texts None 1 us vs same)
 
 -- ---- all of it
 
-said_same : (tells : Bool) (w h : ℕ) (es : List Entry) (us vs : List Update) → AreSameFrom w h opening opening us vs → sent_at tells w h es us ≡ sent_at tells w h es vs
-said_same tells w h es us vs same =
-    let last : Option ℕ = news_since tells w h es in
+said_same : (w h : ℕ) (es : List Entry) (us vs : List Update) → AreSameFrom w h opening opening us vs → sent_at w h es us ≡ sent_at w h es vs
+said_same w h es us vs same =
+    let last : Option ℕ = news_since w h es in
     ap (λ (bs : List ℕ). bs ++ text_at us last ++ update_part (update_at w h es us)) (bell_same us vs last same.kinds)
     ∙ (ap (λ (ts : List ℕ). bell_at vs last ++ ts ++ update_part (update_at w h es us)) (text_same us vs last same.kinds)
     ∙ ap (λ o. bell_at vs last ++ text_at vs last ++ update_part o) (update_at_same w h es us vs same))
@@ -98,5 +98,5 @@ record_same w h es us vs same =
 -- What a cut makes of a viewer is the same.
 pub cut_same : (s : Setup) (us vs : List Update) (p : Viewer) → AreSameFrom s.w s.h opening opening us vs → after_cut s us p ≡ after_cut s vs p
 cut_same s us vs p same =
-    ap (λ (bytes : List ℕ). record p { looked = None; said_after = p.said_after ++ bytes; entries = record_after_cut s.w s.h p.entries us }) (said_same s.extent.tells_news s.w s.h p.entries us vs same)
-    ∙ ap (λ (es : List Entry). record p { looked = None; said_after = p.said_after ++ sent_at s.extent.tells_news s.w s.h p.entries vs; entries = es }) (record_same s.w s.h p.entries us vs same)
+    ap (λ (bytes : List ℕ). record p { looked = None; said_after = p.said_after ++ bytes; entries = record_after_cut s.w s.h p.entries us }) (said_same s.w s.h p.entries us vs same)
+    ∙ ap (λ (es : List Entry). record p { looked = None; said_after = p.said_after ++ sent_at s.w s.h p.entries vs; entries = es }) (record_same s.w s.h p.entries us vs same)

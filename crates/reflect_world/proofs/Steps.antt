@@ -10,7 +10,7 @@ use Rattle.pixel_format.specs.declared.fault.Fault.{Fault}
 use Rattle.pixel_format.specs.Reading.{Reading, Done, Faulty, Want, step, wants_more}
 use Rattle.raster.specs.declared.rect.Rect.{Rect}
 use Rattle.raster.specs.Update.{Update, view}
-use Rattle.rfb_wire.specs.ClientMessage.{ClientMessage}
+use Rattle.rfb_wire.specs.ClientMessage.{ClientMessage, client_message}
 use Rattle.roles.specs.declared.role.Role.{Role}
 use Rattle.roles.specs.Allowed.{Input, passes}
 use Rattle.host_decoder.specs.Updates.{updates_by}
@@ -18,13 +18,15 @@ use Rattle.reflect_core.specs.Asked.{pending, has_asked, last_cut}
 use Rattle.reflect_core.specs.Sequential as history
 use Rattle.viewer_session.specs.Record.{Entry, Took, Saw, events}
 use Rattle.viewer_session.specs.Turn.{has_reason}
-use Rattle.viewer_session.specs.Viewer.{served, relayed, Setup, Viewer, after_bytes, after_byte, after_cut, after_hello, after_reading, with_input, marked, viewer_fault, is_greeted, may_look, out_bytes}
+use Rattle.viewer_session.specs.Viewer.{Setup, Viewer, after_bytes, after_byte, after_cut, after_hello, after_reading, with_input, marked, viewer_fault, is_greeted, may_look, out_bytes}
 use Rattle.reflect_world.specs.Schedule.{Act, ByViewer, World, Relayed, Step, HostBytes, Put, Raise, Join, Bytes, Look, Cut, Written, Send, Take, Part, beginning, happens, play, play_from, put_next, set_viewer, with_act, for_viewer, look_at, cut_at, send_waiting, take_first, leaves_behind}
 use Rattle.reflect_world.specs.Headline.{CanLook, is_step_of, IsReason, CanCut, CanAct, Adds, HasEachStep}
+use Rattle.reflect_world.specs.Host.{host_form}
+use Rattle.roles.specs.Held.{input_for}
 
 -- ---- schedules in two parts
 
-play_from-append : (s : Setup) (w : World) (xs ys : List Step) → play_from s w (xs ++ ys) ≡ play_from s (play_from s w xs) ys
+pub play_from-append : (s : Setup) (w : World) (xs ys : List Step) → play_from s w (xs ++ ys) ≡ play_from s (play_from s w xs) ys
 play_from-append s w [] ys = refl
 play_from-append s w (x ∷ xs) ys = play_from-append s (happens s w x) xs ys
 
@@ -86,7 +88,7 @@ other_take w v (i ∷ is) = refl
 
 other_step : (s : Setup) (w : World) (v : ℕ) (e : Step) → is_step_of v e ≡ false → (happens s w e).viewers v ≡ w.viewers v
 other_step s w v (HostBytes b) apart = refl
-other_step s w v Put apart = other_put s w v (slice_get (updates_by (s.extent.from_host s.w s.h) w.host_bytes) (length w.shared.updates))
+other_step s w v Put apart = other_put s w v (slice_get (updates_by (host_form s.w s.h) w.host_bytes) (length w.shared.updates))
 other_step s w v Raise apart = refl
 other_step s w v (Join u role greet) apart = other_set w u v _ apart
 other_step s w v (Bytes u b lost) apart = other_for w v (w.viewers u) _ (λ p. other_set w u v _ apart)
@@ -132,21 +134,21 @@ reply_input : (o : Option ℕ) (p : Viewer) (i : Option Input) → p.looked ≡ 
 reply_input o p None k = k
 reply_input o p (Some input) k = reply_if o (passes p.keys input) _ p k k
 
-reply_reading : (o : Option ℕ) (s : Setup) (p : Viewer) (r : Reading ClientMessage) → p.looked ≡ o → (after_reading s p r).looked ≡ o
+reply_reading : (o : Option ℕ) (s : Setup) (p : Viewer) (r : Reading ClientMessage) → p.looked ≡ o → (after_reading p r).looked ≡ o
 reply_reading o s p (Done m) k =
     let taken = marked p.lost m in
-    reply_input o (record p { entries = Took (served s taken.0) ∷ p.entries; lost = taken.1; reading = s.extent.from_viewer }) (relayed s p.role taken.0) k
+    reply_input o (record p { entries = Took taken.0 ∷ p.entries; lost = taken.1; reading = client_message }) (input_for p.role taken.0) k
 reply_reading o s p (Faulty f) k = k
 reply_reading o s p (Want next) k = k
 
-reply_byte : (o : Option ℕ) (s : Setup) (p : Viewer) (b : ℕ) → p.looked ≡ o → (after_byte s p b).looked ≡ o
+reply_byte : (o : Option ℕ) (s : Setup) (p : Viewer) (b : ℕ) → p.looked ≡ o → (after_byte p b).looked ≡ o
 reply_byte o s p b k =
     reply_if o (wants_more p.hello) (after_hello p (step p.hello b)) _ k
-    (reply_if o (is_some (viewer_fault p)) p (after_reading s p (step p.reading b)) k (reply_reading o s p (step p.reading b) k))
+    (reply_if o (is_some (viewer_fault p)) p (after_reading p (step p.reading b)) k (reply_reading o s p (step p.reading b) k))
 
-reply_bytes : (o : Option ℕ) (s : Setup) (p : Viewer) (bs : List ℕ) → p.looked ≡ o → (after_bytes s p bs).looked ≡ o
+reply_bytes : (o : Option ℕ) (s : Setup) (p : Viewer) (bs : List ℕ) → p.looked ≡ o → (after_bytes p bs).looked ≡ o
 reply_bytes o s p [] k = k
-reply_bytes o s p (b ∷ bs) k = reply_if o (is_some p.waiting) (record p { unread = b ∷ bs }) (after_bytes s (after_byte s p b) bs) k (reply_bytes o s (after_byte s p b) bs (reply_byte o s p b k))
+reply_bytes o s p (b ∷ bs) k = reply_if o (is_some p.waiting) (record p { unread = b ∷ bs }) (after_bytes (after_byte p b) bs) k (reply_bytes o s (after_byte p b) bs (reply_byte o s p b k))
 
 -- Every step of a viewer but a Look leaves none.
 mine : (w : World) (u v : ℕ) (o : Option Viewer) → (v == u) ≡ true → looked_at ((set_viewer w u o).viewers v) ≡ looked_at o
@@ -216,7 +218,7 @@ reply_step s w v t (Cut u) is k = is_none_of _ t _ (no_reply_for w u v _ is (λ 
 reply_step s w v t (Written u n) is k = is_none_of _ t _ (no_reply_for w u v _ is (λ p. mine w u v _ is)) k
 reply_step s w v t (Send u) is k = is_none_of _ t _ (no_reply_for w u v _ is (λ p. no_reply_send s w u v p p.waiting is)) k
 reply_step s w v t Take is k = absurd cc
-reply_step s w v t (Part u) is k = is_none_of _ t _ (no_reply_for w u v _ is (λ p. mine (record w { queue = w.queue ++ take (s.room - length w.queue) (leaves_behind s u p) }) u v None is)) k
+reply_step s w v t (Part u) is k = is_none_of _ t _ (no_reply_for w u v _ is (λ p. mine (record w { queue = w.queue ++ take (s.room - length w.queue) (leaves_behind u p) }) u v None is)) k
 
 -- So where there is a reply, there was that Look.
 looked_none : (s : Setup) → Looked s []
@@ -362,7 +364,7 @@ idle : (s : Setup) (before : List Step) (e : Step) → ((act : Act) → CanAct s
 idle s before (HostBytes b) f = (refl, refl)
 idle s before Put f =
     let w : World = play s before in
-    idle_put s w (slice_get (updates_by (s.extent.from_host s.w s.h) w.host_bytes) (length w.shared.updates)) (λ u there. f _ (u, there, refl))
+    idle_put s w (slice_get (updates_by (host_form s.w s.h) w.host_bytes) (length w.shared.updates)) (λ u there. f _ (u, there, refl))
 idle s before Raise f = absurd (f _ refl)
 idle s before (Join v role greet) f = (refl, refl)
 idle s before (Bytes v b lost) f = idle_for (play s before) ((play s before).viewers v) _ (λ p there. (refl, refl))

@@ -1,61 +1,60 @@
 -- What each viewer is told in every schedule.
-use Rattle.std.proofs.Common.{◌≡◌, ℕ, ◌+◌, ◌-◌, ◌≤◌, Bool, List, [], ◌∷◌, ◌++◌, length, take, ap, sym, ◌∙◌, subst, arith, append_assoc}
+use Rattle.std.proofs.Common.{◌≡◌, ℕ, ◌+◌, ◌-◌, ◌≤◌, List, [], ◌∷◌, ◌++◌, length, take, ap, sym, ◌∙◌, subst, arith, append_assoc}
 use Rattle.std.proofs.Math.Seq.{take-append-add}
 use Rattle.std.proofs.lemmas.List.{append-nil}
 use Rattle.pixel_format.specs.PixelFormat.{host_format}
-use Rattle.pixel_format.specs.Reading.{Gives}
 use Rattle.raster.specs.Update.{Update}
 use Rattle.raster.proofs.Spellings.{Each}
 use Rattle.rfb_wire.specs.ClientMessage.{SetPixelFormat, SetEncodings, Ask, Key, Pointer, CutText, LostText}
-use Rattle.rfb_wire.specs.Texts.{HasShortText, BringsShortText}
+use Rattle.rfb_wire.specs.Texts.{BringsShortText}
 use Rattle.rfb_wire.proofs.ShortTexts.{server_message_short}
 use Rattle.host_decoder.proofs.ShortUpdates.{updates_short}
 use Rattle.update_encoder.specs.Follower.{HoldsArea}
 use Rattle.viewer_session.specs.Record.{Entry, Took, Saw, MadeCut, Began}
-use Rattle.viewer_session.specs.Extent.{GivesAccepted, everything}
 use Rattle.viewer_session.specs.Turn.{news_since}
 use Rattle.viewer_session.specs.Viewer.{Setup, out_bytes}
 use Rattle.viewer_session.specs.Stream.{Heard, Format, Bytes, news_at, heard, stream_of, Listener}
-use Rattle.viewer_session.proofs.Accepted.{client_message_fine}
 use Rattle.viewer_session.proofs.Stands.{AllAnswered}
 use Rattle.viewer_session.proofs.Streams.{stream-append, is_heard}
 use Rattle.reflect_world.specs.Schedule.{Step, play}
-use Rattle.reflect_world.specs.Said.{IsRead, hello_of, HoldsAfterEachWritten, ToldInEverySchedule, ToldForTheWholeProtocol}
-use Rattle.reflect_world.proofs.Holds.{IsGood, good_in, holds_after_each, answered_behind}
+use Rattle.reflect_world.specs.Said.{IsRead, hello_of, HoldsAfterEachWritten, ToldInEverySchedule}
+use Rattle.reflect_world.proofs.Holds.{good_in, holds_after_each}
 use Rattle.reflect_world.proofs.HostUpdates.{put_in_order}
+use Rattle.viewer_session.proofs.Good.{IsGood, answered_behind}
+use Rattle.reflect_world.specs.Host.{host_form}
 
 each_begins : {A : Type 0} (P : A → Type 0) (xs ys : List A) → Each P (xs ++ ys) → Each P xs
 each_begins P [] ys k = tt
 each_begins P (x ∷ xs) ys k = (k.0, each_begins P xs ys k.1)
 
-short_updates : (s : Setup) (es : List Step) → Gives HasShortText (s.extent.from_host s.w s.h) → Each BringsShortText (play s es).shared.updates
-short_updates s es k =
+short_updates : (s : Setup) (es : List Step) → Each BringsShortText (play s es).shared.updates
+short_updates s es =
     let order = put_in_order s es in
     each_begins BringsShortText (play s es).shared.updates order.0
-    (subst (λ us. Each BringsShortText us) order.1 (updates_short (s.extent.from_host s.w s.h) (play s es).host_bytes k))
+    (subst (λ us. Each BringsShortText us) order.1 (updates_short (host_form s.w s.h) (play s es).host_bytes (server_message_short host_format s.w s.h)))
 
 one_more : (xs all : List Heard) (x : Heard) → (more : List Heard) × (all ≡ xs ++ more) → (more : List Heard) × (all ++ x ∷ [] ≡ xs ++ more)
 one_more xs all x k = (k.0 ++ x ∷ [], ap (λ t. t ++ x ∷ []) k.1 ∙ append_assoc xs k.0 (x ∷ []))
 
 -- What came of the earlier entries begins what came of all.
-heard_begins : (tells : Bool) (w h : ℕ) (us : List Update) (later earlier : List Entry) → (more : List Heard) × (heard tells w h us (later ++ earlier) ≡ heard tells w h us earlier ++ more)
-heard_begins tells w h us [] earlier = ([], sym (append-nil (heard tells w h us earlier)))
-heard_begins tells w h us (Took (SetPixelFormat format) ∷ later) earlier = one_more (heard tells w h us earlier) (heard tells w h us (later ++ earlier)) (Format format) (heard_begins tells w h us later earlier)
-heard_begins tells w h us (Took (SetEncodings choice) ∷ later) earlier = heard_begins tells w h us later earlier
-heard_begins tells w h us (Took (Ask incremental area) ∷ later) earlier = heard_begins tells w h us later earlier
-heard_begins tells w h us (Took (Key down key) ∷ later) earlier = heard_begins tells w h us later earlier
-heard_begins tells w h us (Took (Pointer mask x y) ∷ later) earlier = heard_begins tells w h us later earlier
-heard_begins tells w h us (Took (CutText text) ∷ later) earlier = heard_begins tells w h us later earlier
-heard_begins tells w h us (Took (LostText len) ∷ later) earlier = heard_begins tells w h us later earlier
-heard_begins tells w h us (Saw number ∷ later) earlier = heard_begins tells w h us later earlier
-heard_begins tells w h us (MadeCut number ∷ later) earlier =
-    one_more (heard tells w h us earlier) (heard tells w h us (later ++ earlier)) (Bytes (news_at (take number us) (news_since tells w h (later ++ earlier)))) (heard_begins tells w h us later earlier)
-heard_begins tells w h us (Began area number bytes ∷ later) earlier = one_more (heard tells w h us earlier) (heard tells w h us (later ++ earlier)) (Bytes bytes) (heard_begins tells w h us later earlier)
+heard_begins : (w h : ℕ) (us : List Update) (later earlier : List Entry) → (more : List Heard) × (heard w h us (later ++ earlier) ≡ heard w h us earlier ++ more)
+heard_begins w h us [] earlier = ([], sym (append-nil (heard w h us earlier)))
+heard_begins w h us (Took (SetPixelFormat format) ∷ later) earlier = one_more (heard w h us earlier) (heard w h us (later ++ earlier)) (Format format) (heard_begins w h us later earlier)
+heard_begins w h us (Took (SetEncodings choice) ∷ later) earlier = heard_begins w h us later earlier
+heard_begins w h us (Took (Ask incremental area) ∷ later) earlier = heard_begins w h us later earlier
+heard_begins w h us (Took (Key down key) ∷ later) earlier = heard_begins w h us later earlier
+heard_begins w h us (Took (Pointer mask x y) ∷ later) earlier = heard_begins w h us later earlier
+heard_begins w h us (Took (CutText text) ∷ later) earlier = heard_begins w h us later earlier
+heard_begins w h us (Took (LostText len) ∷ later) earlier = heard_begins w h us later earlier
+heard_begins w h us (Saw number ∷ later) earlier = heard_begins w h us later earlier
+heard_begins w h us (MadeCut number ∷ later) earlier =
+    one_more (heard w h us earlier) (heard w h us (later ++ earlier)) (Bytes (news_at (take number us) (news_since w h (later ++ earlier)))) (heard_begins w h us later earlier)
+heard_begins w h us (Began area number bytes ∷ later) earlier = one_more (heard w h us earlier) (heard w h us (later ++ earlier)) (Bytes bytes) (heard_begins w h us later earlier)
 
-pub read_in : (s : Setup) → s.w ≤ 4096 → s.h ≤ 4096 → GivesAccepted s.extent.from_viewer → Gives HasShortText (s.extent.from_host s.w s.h) → (es : List Step) → IsRead s (play s es)
-read_in s lw lh form short es v p e later earlier split =
-    let good : IsGood s (play s es).shared.updates p = good_in s lw lh form es v p e in
-    is_heard s.extent.tells_news s.w s.h (play s es).shared.updates earlier (short_updates s es short)
+pub read_in : (s : Setup) → s.w ≤ 4096 → s.h ≤ 4096 → (es : List Step) → IsRead s (play s es)
+read_in s lw lh es v p e later earlier split =
+    let good : IsGood s (play s es).shared.updates p = good_in s lw lh es v p e in
+    is_heard s.w s.h (play s es).shared.updates earlier (short_updates s es)
     (answered_behind s.w s.h (play s es).shared.updates later earlier (subst (λ q. AllAnswered s.w s.h (play s es).shared.updates q) split good.record_stands.answers))
 
 -- what was written, where it is at least so long
@@ -64,31 +63,27 @@ written_begins front more n le =
     let whole : length front + (n - length front) ≡ n = omega arith in
     (take (n - length front) more, ap (λ k. take k (front ++ more)) (sym whole) ∙ take-append-add front more (n - length front))
 
-pub holds_after_written : (s : Setup) → s.w ≤ 4096 → s.h ≤ 4096 → GivesAccepted s.extent.from_viewer → Gives HasShortText (s.extent.from_host s.w s.h) → (es : List Step) → HoldsAfterEachWritten s (play s es)
-holds_after_written s lw lh form short es v p e later earlier area n bytes split le =
+pub holds_after_written : (s : Setup) → s.w ≤ 4096 → s.h ≤ 4096 → (es : List Step) → HoldsAfterEachWritten s (play s es)
+holds_after_written s lw lh es v p e later earlier area n bytes split le =
     let us : List Update = (play s es).shared.updates in
     let upto : List Entry = Began area n bytes ∷ earlier in
-    let begins = heard_begins s.extent.tells_news s.w s.h us later upto in
-    let said : p.said_after ≡ stream_of (heard s.extent.tells_news s.w s.h us upto) ++ stream_of begins.0 =
-    (good_in s lw lh form es v p e).said
-    ∙ (ap (λ q. stream_of (heard s.extent.tells_news s.w s.h us q)) split
-    ∙ (ap stream_of begins.1 ∙ stream-append (heard s.extent.tells_news s.w s.h us upto) begins.0)) in
-    let out : out_bytes s p ≡ (hello_of s p ++ stream_of (heard s.extent.tells_news s.w s.h us upto)) ++ stream_of begins.0 =
-    ap (λ t. hello_of s p ++ t) said ∙ sym (append_assoc (hello_of s p) (stream_of (heard s.extent.tells_news s.w s.h us upto)) (stream_of begins.0)) in
-    let written = written_begins (hello_of s p ++ stream_of (heard s.extent.tells_news s.w s.h us upto)) (stream_of begins.0) p.written le in
-    let read = read_in s lw lh form short es v p e later upto split in (
+    let begins = heard_begins s.w s.h us later upto in
+    let said : p.said_after ≡ stream_of (heard s.w s.h us upto) ++ stream_of begins.0 =
+    (good_in s lw lh es v p e).said
+    ∙ (ap (λ q. stream_of (heard s.w s.h us q)) split
+    ∙ (ap stream_of begins.1 ∙ stream-append (heard s.w s.h us upto) begins.0)) in
+    let out : out_bytes s p ≡ (hello_of s p ++ stream_of (heard s.w s.h us upto)) ++ stream_of begins.0 =
+    ap (λ t. hello_of s p ++ t) said ∙ sym (append_assoc (hello_of s p) (stream_of (heard s.w s.h us upto)) (stream_of begins.0)) in
+    let written = written_begins (hello_of s p ++ stream_of (heard s.w s.h us upto)) (stream_of begins.0) p.written le in
+    let read = read_in s lw lh es v p e later upto split in (
       (written.0, ap (take p.written) out ∙ written.1),
-      subst (λ (l : Listener). HoldsArea l.follower area (take n us)) (sym read.2) (holds_after_each s lw lh form es v p e later earlier area n bytes split).held,
+      subst (λ (l : Listener). HoldsArea l.follower area (take n us)) (sym read.2) (holds_after_each s lw lh es v p e later earlier area n bytes split).held,
     )
 
 pub told_in_every_schedule : ToldInEverySchedule
-told_in_every_schedule s lw lh form short es = (
+told_in_every_schedule s lw lh es = (
   put_in_order s es,
-  λ v p e. (good_in s lw lh form es v p e).said,
-  read_in s lw lh form short es,
-  holds_after_written s lw lh form short es,
+  λ v p e. (good_in s lw lh es v p e).said,
+  read_in s lw lh es,
+  holds_after_written s lw lh es,
 )
-
-pub told_of_the_whole_protocol : ToldForTheWholeProtocol
-told_of_the_whole_protocol w h name room lw lh es =
-    told_in_every_schedule (record { w = w; h = h; name = name; room = room; extent = everything }) lw lh client_message_fine (server_message_short host_format w h) es

@@ -20,7 +20,8 @@ use Rattle.host_decoder.specs.Updates.{updates_by}
 abbrev pub host_form : ℕ → ℕ → Reading ServerMessage
 host_form w h = server_message host_format w h
 
--- The decoder, the painter that it fills, the bytes that weren't read yet, and an update that was read and couldn't be put.
+-- The decoder, the painter that it fills, the bytes that weren't read yet, and an update that was read and couldn't be
+-- put.
 pub record HostSide : Type 0 where
   pub decoder : Decoding
   pub painter : Painting
@@ -58,8 +59,8 @@ pub record IsReadOut (bytes : List ℕ) (us : List Update) (form : Reading Serve
   pub none_left : length (updates_by form bytes) ≡ length us
   pub stands_at : fault_of (rest form bytes) ≡ fault
 
--- The next update was read; or there is none, with or without a fault; or memory was refused. What stood for some bytes and updates then stands
--- for the same, with that update.
+-- The next update was read; or there is none, with or without a fault; or memory was refused. What stood for some bytes
+-- and updates then stands for the same, with that update.
 abbrev pub ReadsOn : HostSide → HostSide → Result (Option SizedUpdate) Fault → Type 0
 ReadsOn old new (Ok (Some patch)) = (bytes : List ℕ) (us : List Update) → HostStands bytes us old → HasReadTo bytes (us ++ patch.update ∷ []) new
 ReadsOn old new (Ok None) = (bytes : List ℕ) (us : List Update) → HostStands bytes us old → HasReadTo bytes us new × IsReadOut bytes us (form_of new) None

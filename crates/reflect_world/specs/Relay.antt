@@ -1,17 +1,11 @@
 -- Inputs on their way to the host (RFC 6143, 7.5.4 to 7.5.6).
 use Rattle.std.specs.Prelude.{◌≡◌, ℕ, List, [], ◌∷◌, ◌++◌, map}
 use Rattle.std.specs.List.{flat_map}
-use Rattle.rfb_wire.specs.Writing.{key_bytes, pointer_bytes, client_text_bytes}
-use Rattle.roles.specs.Allowed.{Input, Key, Pointer, Cut}
+use Rattle.roles.specs.Allowed.{Input}
 use Rattle.roles.specs.Held.{input_in}
+use Rattle.roles.specs.Spelling.{input_bytes}
 use Rattle.reflect_world.specs.Schedule.{Relayed}
 use Rattle.reflect_world.specs.declared.relay.Entry as declared
-
--- The spelling of an input.
-abbrev pub input_bytes : Input → List ℕ
-input_bytes (Key down key) = key_bytes down key
-input_bytes (Pointer mask x y) = pointer_bytes mask x y
-input_bytes (Cut text) = client_text_bytes text
 
 -- That of inputs, one after another.
 abbrev pub spelled : List Input → List ℕ

@@ -9,14 +9,15 @@ use Rattle.painter.specs.Same.{AreSameFrom}
 use Rattle.reflect_core.specs.Plain.{Plain}
 use Rattle.roles.specs.Allowed.{Input}
 use Rattle.roles.specs.Held.{left_in}
-use Rattle.viewer_session.specs.Extent.{everything}
+use Rattle.viewer_session.specs.Acts.{waiting_list}
 use Rattle.viewer_session.specs.Session.{HasCounted, IsFeeding, State, fault_in, Stands, StandsBut, at_rest, is_ready, after_writing, with_marks, without_input, without_look}
 use Rattle.viewer_session.specs.Turn.{has_reason}
 use Rattle.viewer_session.specs.Viewer.{Setup, Viewer, out_bytes, after_bytes, after_cut, may_look, viewer_fault}
 use Rattle.reflect_world.specs.Relay.{RelaySide}
-use Rattle.reflect_world.specs.Schedule.{Step, World, HostBytes, Put, Raise, Join, Bytes, Look, Cut, Written, Send, Take, Part, happens, play, waiting_list}
+use Rattle.reflect_world.specs.Schedule.{Step, World, HostBytes, Put, Raise, Join, Bytes, Look, Cut, Written, Send, Take, Part, happens, play}
 use Rattle.reflect_world.specs.Host.{HasReadTo, HostSide, HostStands, IsSameHost}
 use Rattle.reflect_world.specs.Headline.{Holds}
+use Rattle.reflect_world.specs.Input.{RelaysAllowed}
 use Rattle.reflect_world.specs.Said.{ArePutInOrder, HoldsAfterEachWritten, IsRead, IsSaid}
 use Rattle.reflect_world.specs.declared.step.Step as declared_step
 use Rattle.reflect_world.specs.declared.step.Step.TheVariants as code
@@ -62,7 +63,8 @@ entry_of (kept.Played step lost) = step_with step lost.items
 
 -- ---- what contracts see of a world
 
--- The size and the name of its screen, the room for inputs, its schedule, and whether a step was refused for want of memory.
+-- The size and the name of its screen, the room for inputs, its schedule, and whether a step was refused for want of
+-- memory.
 pub record Kept : Type 0 where
   pub width : ℕ
   pub height : ℕ
@@ -71,9 +73,9 @@ pub record Kept : Type 0 where
   pub steps : List Step
   pub is_refused : Bool
 
--- The setup of the definitions: its screen and its room, over the whole protocol.
+-- The setup of the definitions: its screen and its room.
 abbrev pub setup_of : Kept → Setup
-setup_of k = record { w = k.width; h = k.height; name = k.name; room = k.room; extent = everything }
+setup_of k = record { w = k.width; h = k.height; name = k.name; room = k.room }
 
 -- The world that its schedule gives.
 abbrev pub world_of : Kept → World
@@ -81,14 +83,16 @@ world_of k = play (setup_of k) k.steps
 
 -- ---- what stands in the fields
 
--- A viewer: its session, the reply to its last step where that was a look, what was written to it, and its bytes that aren't read yet, since an input waits.
+-- A viewer: its session, the reply to its last step where that was a look, what was written to it, and its bytes that
+-- aren't read yet, since an input waits.
 pub record Held : Type 0 where
   pub session : State
   pub looked : Option ℕ
   pub written : List ℕ
   pub unread : List ℕ
 
--- The screen, the host and the fault that its bytes showed, the viewers by number, the room for inputs, and those on their way to the host.
+-- The screen, the host and the fault that its bytes showed, the viewers by number, the room for inputs, and those on
+-- their way to the host.
 pub record Standing : Type 0 where
   pub screen : Plain
   pub host : HostSide
@@ -106,8 +110,8 @@ abbrev pub waits_at : Option Held → Bool
 waits_at None = false
 waits_at (Some place) = is_some place.session.waiting
 
--- A place stands for a viewer, over these updates: its last cut, if there was one, counted the Bells of the first of them. Where its last step
--- was a look it is ready to go on.
+-- A place stands for a viewer, over these updates: its last cut, if there was one, counted the Bells of the first of
+-- them. Where its last step was a look it is ready to go on.
 pub record PlaceStands (s : Setup) (us : List Update) (place : Held) (p : Viewer) : Type 0 where
   pub session : Stands s place.session (at_rest p)
   pub unread : place.unread ≡ p.unread
@@ -133,7 +137,6 @@ pub record PlaceShows (s : Setup) (place : Held) (p : Viewer) : Type 0 where
 -- where memory was refused in the middle of a step.
 pub record Shows (s : Setup) (standing : Standing) (w : World) : Type 0 where
   pub size : IsScreenSize s.w s.h
-  pub extent : s.extent ≡ everything
   pub width : standing.screen.width ≡ s.w
   pub height : standing.screen.height ≡ s.h
   pub updates : AreSameFrom s.w s.h opening opening w.shared.updates standing.screen.updates
@@ -145,7 +148,6 @@ pub record Shows (s : Setup) (standing : Standing) (w : World) : Type 0 where
 -- What stands in the fields is what the schedule has come to.
 pub record Reached (s : Setup) (standing : Standing) (w : World) : Type 0 where
   pub size : IsScreenSize s.w s.h
-  pub extent : s.extent ≡ everything
   pub width : standing.screen.width ≡ s.w
   pub height : standing.screen.height ≡ s.h
   pub in_order : ArePutInOrder s w
@@ -170,7 +172,7 @@ with_session place session = record { session = session; looked = None; written 
 -- Bytes of the viewer came, behind those that weren't read yet, with these marks for the texts that became whole.
 pub record IsFed (old new : Held) (bytes : List ℕ) (marks : List Bool) : Type 0 where
   pub others : new ≡ record { session = new.session; looked = None; written = old.written; unread = new.unread }
-  pub stands : (s : Setup) (p : Viewer) → Stands s old.session p → StandsBut s new.session (after_bytes s (with_marks marks p) (old.unread ++ bytes)) new.unread
+  pub stands : (s : Setup) (p : Viewer) → Stands s old.session p → StandsBut s new.session (after_bytes (with_marks marks p) (old.unread ++ bytes)) new.unread
   pub counted : (us : List Update) → HasCounted old.session us → HasCounted new.session us
 
 -- Bytes that wait were read, up to the end of a message: the look and what was written stay.
@@ -290,14 +292,15 @@ IsRefusal e standing fault = (fault ≡ Memory) ⊎ ((fault ≡ NumbersOut) × (
 
 -- ---- what a world's calls do
 
--- The fields stand for what the schedule has come to, over a screen with a name of 1 to 255 bytes. Once memory was refused no step is taken any longer, and
--- they only show it.
+-- The fields stand for what the schedule has come to, over a screen with a name of 1 to 255 bytes. Once memory was
+-- refused no step is taken any longer, and they only show it.
 pub record IsKept (k : Kept) (standing : Standing) : Type 0 where
   pub named : (1 ≤ length k.name) × (length k.name ≤ 255)
   pub shows : Shows (setup_of k) standing (world_of k)
   pub reached : k.is_refused ≡ false → Reached (setup_of k) standing (world_of k)
 
--- A step was refused, and isn't in the schedule: for want of memory, which is noted; or at a Put for which there is no more number.
+-- A step was refused, and isn't in the schedule: for want of memory, which is noted; or at a Put for which there is no
+-- more number.
 abbrev pub StopsAt : Kept → Kept → Step → Fault → Type 0
 StopsAt old new e fault =
     ((fault ≡ Memory) × (new ≡ record old { is_refused = true }))
@@ -311,22 +314,27 @@ with_steps k es = record k { steps = k.steps ++ es }
 abbrev pub HasPlayed : Kept → Kept → List Step → Type 0
 HasPlayed old new es = (old.is_refused ≡ false) × ((played : List Step) × (map unmarked played ≡ es) × (new ≡ with_steps old played))
 
--- None was played, since a step was refused for want of memory before; or so many were played, and the next was refused.
+-- None was played, since a step was refused for want of memory before; or so many were played, and the next was
+-- refused.
 abbrev pub HasStopped : Kept → Kept → List Step → ℕ → Fault → Type 0
 HasStopped old new es count fault =
     ((old.is_refused ≡ true) × (new ≡ old) × (count ≡ 0) × (fault ≡ Memory))
     ⊎ ((old.is_refused ≡ false) × ((played : List Step) × (e : Step) × (map unmarked played ≡ take count es) × (slice_get es count ≡ Some e) × StopsAt (with_steps old played) new e fault))
 
--- What holds of a schedule: the headline, so that after each answer a viewer that follows its answers holds the area asked for, and the puts, raises, looks and
--- cuts are one legal history, which has the viewers' own; the updates are those of the host's bytes, in order; each viewer is sent its Bells, texts and answers and
--- nothing else, and reads exactly these; and once an answer is written whole it holds the area.
+-- What holds of a schedule: the headline, so that after each answer a viewer that follows its answers holds the area
+-- asked for, and the puts, raises, looks and cuts are one legal history, which has the viewers' own; the updates are
+-- those of the host's bytes, in order; each viewer is sent its Bells, texts and answers and nothing else, and reads
+-- exactly these; once an answer is written whole it holds the area; and what the host is sent of each viewer is what is
+-- allowed of its messages, in each of its stays.
 pub record IsServed (s : Setup) (es : List Step) : Type 0 where
   pub holds : Holds s es
   pub in_order : ArePutInOrder s (play s es)
   pub said : IsSaid s (play s es)
   pub read : IsRead s (play s es)
   pub written : HoldsAfterEachWritten s (play s es)
+  pub relayed : RelaysAllowed s es
 
--- That holds of a world's schedule, whatever it is, and of each beginning of it: a viewer that left was served as long as it was there.
+-- That holds of a world's schedule, whatever it is, and of each beginning of it: a viewer that left was served as long
+-- as it was there.
 abbrev pub IsFaithful : Kept → Type 0
 IsFaithful k = (before after : List Step) → k.steps ≡ before ++ after → IsServed (setup_of k) before

@@ -59,8 +59,8 @@ impl Host {
         self.unread.add(bytes)
     }
 
-    /// The next update, where it has come whole. It fails at the fault at which the bytes stand; or where memory is refused (`Memory`),
-    /// which is final.
+    /// The next update, where it has come whole. It fails at the fault at which the bytes stand; or where memory is
+    /// refused (`Memory`), which is final.
     pub fn next_patch(&mut self) -> Result<Option<Patch>, Fault>
         requires { CanRead self.old }
         ensures same { IsSameHost self.old self.new }

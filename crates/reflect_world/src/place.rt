@@ -4,7 +4,6 @@ ghost use Rattle.std.specs.Prelude.{◌≡◌, ℕ, ◌+◌, ◌≤◌, ◌<◌,
 ghost use Rattle.pixel_format.specs.declared.fault.Fault.TheVariants.{Memory};
 ghost use Rattle.raster.specs.Size.{IsScreenSize};
 ghost use Rattle.roles.specs.Held.{input_in};
-ghost use Rattle.viewer_session.specs.Extent.{everything};
 ghost use Rattle.viewer_session.specs.Session.{Stands, fault_in, is_ready};
 ghost use Rattle.viewer_session.specs.Viewer.{Setup, new_viewer};
 ghost use Rattle.reflect_world.specs.World.{GoesOn, HasLooked, HasSent, IsBrokenOff, IsFed, IsWritten, ReadsMore, WritesSome, left_by};
@@ -17,8 +16,8 @@ use std::alloc::Global;
 use std::marker::Model;
 use viewer_session::Session;
 
-/// A viewer's session, the reply of its last step where that was a look, all bytes that were written to it, and those of it that wait to be read
-/// since an input of it waits.
+/// A viewer's session, the reply of its last step where that was a look, all bytes that were written to it, and those
+/// of it that wait to be read since an input of it waits.
 #[derive(Drop)]
 pub struct Place {
     session: Session,
@@ -36,8 +35,8 @@ impl Model for Place {
 }
 
 impl Place {
-    /// A viewer that has sent nothing, of a screen with a name of 1 to 255 bytes. It begins with its hello where `greet` says so.
-    /// It fails where memory is refused (`Memory`).
+    /// A viewer that has sent nothing, of a screen with a name of 1 to 255 bytes. It begins with its hello where
+    /// `greet` says so. It fails where memory is refused (`Memory`).
     pub fn new(
         alloc: Global,
         width: u64,
@@ -50,7 +49,7 @@ impl Place {
         requires name { (1 ≤ length name.now) × (length name.now ≤ 255) }
         ensures fresh { IfOk result (λ place. (place.looked ≡ None) × (place.written ≡ []) × (place.unread ≡ [])) }
         ensures uncut { IfOk result (λ place. place.session.asked.last ≡ None) }
-        ensures stands { IfOk result (λ place. (s : Setup) → s.w ≡ width → s.h ≡ height → s.name ≡ name.now → s.extent ≡ everything → Stands s place.session (new_viewer s role greet)) }
+        ensures stands { IfOk result (λ place. (s : Setup) → s.w ≡ width → s.h ≡ height → s.name ≡ name.now → Stands s place.session (new_viewer role greet)) }
         ensures err { IfErr result (λ fault. fault ≡ Memory) }
     {
         let session = if greet {
@@ -80,8 +79,9 @@ impl Place {
         self.session.fault()
     }
 
-    /// Its bytes come, and are read behind those that wait, as far as no input waits. For each text that becomes whole `lost` gets a mark: whether
-    /// it found no memory. Where memory is refused (`Memory`), which comes first, nothing has changed.
+    /// Its bytes come, and are read behind those that wait, as far as no input waits. For each text that becomes whole
+    /// `lost` gets a mark: whether it found no memory. Where memory is refused (`Memory`), which comes first, nothing
+    /// has changed.
     pub fn feed(&mut self, bytes: &[u8], lost: &mut Vec<bool>) -> Result<(), Fault>
         requires { lost.old.items ≡ [] }
         ensures ok { OnOk result (IsFed self.old self.new bytes.now lost.new.items) }
@@ -193,8 +193,8 @@ impl Place {
         self.looked = None;
     }
 
-    /// So many of its unsent bytes are written, piece by piece, at most those there are. Where memory is refused (`Memory`) what was written
-    /// before stands, and no more can be made of the session.
+    /// So many of its unsent bytes are written, piece by piece, at most those there are. Where memory is refused
+    /// (`Memory`) what was written before stands, and no more can be made of the session.
     pub fn write(&mut self, count: u64) -> Result<(), Fault>
         ensures ok { OnOk result (IsWritten self.old self.new (min count (length self.old.session.unsent))) }
         ensures err { IfErr result (λ fault. (fault ≡ Memory) × IsBrokenOff self.old self.new) }

@@ -60,8 +60,8 @@ impl From<io::Error> for Stop {
     }
 }
 
-/// Plays a script, and answers the exit status: 0; 2 at a bad line; 3 after a fault of the host, or where the reader or the writer
-/// fails or the script has no end; 4 where memory is refused.
+/// Plays a script, and answers the exit status: 0; 2 at a bad line; 3 after a fault of the host, or where the reader or
+/// the writer fails or the script has no end; 4 where memory is refused.
 pub fn replay<R: Read + Drop, W: Write + Drop>(alloc: Global, reader: R, writer: W) -> u8
     ensures { (result ≡ 0) ⊎ ((2 ≤ result) × (result ≤ 4)) }
 {

@@ -5,7 +5,8 @@ ghost use Rattle.pixel_format.specs.declared.fault.Fault.TheVariants.{Memory};
 ghost use Rattle.roles.specs.Held.{input_in};
 ghost use Rattle.rfb_wire.specs.ClientMessage.{longest_text};
 ghost use Rattle.rfb_wire.specs.Writing.{client_text_bytes};
-ghost use Rattle.reflect_world.specs.Relay.{TakesFirst, input_bytes, inputs_of, spelled};
+ghost use Rattle.reflect_world.specs.Relay.{TakesFirst, inputs_of, spelled};
+ghost use Rattle.roles.specs.Spelling.{input_bytes};
 
 use pixel_format::Fault;
 use rfb_wire::{CLIENT_CUT_TEXT, write_key, write_pointer};
@@ -20,7 +21,8 @@ pub struct Entry {
     input: Input,
 }
 
-/// The inputs of all viewers, in the order in which they came; how many of them went to the host; and the bytes that it was sent.
+/// The inputs of all viewers, in the order in which they came; how many of them went to the host; and the bytes that it
+/// was sent.
 #[derive(Drop)]
 pub struct Relay {
     entries: Vec<Entry>,
@@ -93,7 +95,8 @@ impl Relay {
         };
     }
 
-    /// The input that waited longest goes to the host, if there is one. Where memory is refused (`Memory`) nothing has changed.
+    /// The input that waited longest goes to the host, if there is one. Where memory is refused (`Memory`) nothing has
+    /// changed.
     pub fn take(&mut self) -> Result<(), Fault>
         ensures ok { OnOk result (TakesFirst self.old self.new) }
         ensures err { IfErr result (λ fault. (fault ≡ Memory) × (self.new ≡ self.old)) }

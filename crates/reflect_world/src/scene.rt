@@ -4,7 +4,6 @@ ghost use Rattle.reflect_world.specs.Relay.{inputs_of, relayed_of, spelled};
 ghost use Rattle.std.specs.Prelude.{◌≡◌, ℕ, ◌<◌, ◌≤◌, ◌-◌, ◌++◌, false, nat_lt, [], None, length, take, IfOk, IfErr, OnOk};
 ghost use Rattle.std.specs.Option.{option_copied};
 ghost use Rattle.pixel_format.specs.declared.fault.Fault.TheVariants.{Memory};
-ghost use Rattle.viewer_session.specs.Extent.{everything};
 ghost use Rattle.raster.specs.Size.{IsScreenSize};
 ghost use Rattle.viewer_session.specs.Viewer.{Setup};
 ghost use Rattle.reflect_world.specs.Schedule.{Put, Raise, Join, HostBytes, Bytes, Look, Cut, Written, Send, Take, Part, beginning};
@@ -25,7 +24,8 @@ use std::marker::Model;
 /// Places are numbered below this. That of number 0 stays free.
 pub const PLACES: u64 = 65;
 
-/// The screen, the host, the fault that its bytes showed, the viewers by number, the room for inputs, and those on their way to the host.
+/// The screen, the host, the fault that its bytes showed, the viewers by number, the room for inputs, and those on
+/// their way to the host.
 #[derive(Drop)]
 pub struct Scene {
     alloc: Global,
@@ -49,7 +49,7 @@ impl Scene {
     /// Before any step. It fails where memory is refused (`Memory`).
     pub fn new(alloc: Global, width: u64, height: u64, room: u64) -> Result<Self, Fault>
         requires { IsScreenSize width height }
-        ensures ok { IfOk result (λ scene. (s : Setup) → s.w ≡ width → s.h ≡ height → s.room ≡ room → s.extent ≡ everything → Reached s scene beginning) }
+        ensures ok { IfOk result (λ scene. (s : Setup) → s.w ≡ width → s.h ≡ height → s.room ≡ room → Reached s scene beginning) }
         ensures err { IfErr result (λ fault. fault ≡ Memory) }
     {
         let Ok(places) = free_places(alloc) else {
@@ -90,7 +90,8 @@ impl Scene {
         }
     }
 
-    /// A viewer begins anew, of a screen with a name of 1 to 255 bytes. Where memory is refused (`Memory`) nothing has changed.
+    /// A viewer begins anew, of a screen with a name of 1 to 255 bytes. Where memory is refused (`Memory`) nothing has
+    /// changed.
     pub fn join(&mut self, viewer: u64, role: Role, name: &[u8], greet: bool) -> Result<(), Fault>
         requires there { viewer < 65 }
         requires name { (1 ≤ length name.now) × (length name.now ≤ 255) }
@@ -105,8 +106,8 @@ impl Scene {
         Ok(())
     }
 
-    /// A viewer leaves, if it is there: its waiting input and the releases of what it holds down go into the queue, as far as there is room.
-    /// Where memory is refused (`Memory`) nothing has changed.
+    /// A viewer leaves, if it is there: its waiting input and the releases of what it holds down go into the queue, as
+    /// far as there is room. Where memory is refused (`Memory`) nothing has changed.
     pub fn part(&mut self, viewer: u64) -> Result<(), Fault>
         requires seen { IsSeen self.old }
         ensures ok { OnOk result (TakesStep (Part viewer) self.old self.new) }
@@ -150,8 +151,10 @@ impl Scene {
         self.relay.sent()
     }
 
-    /// Takes a step. For each text of a viewer that becomes whole by it `lost` gets a mark: whether it found no memory. Where memory is refused (`Memory`), or there are no more numbers of updates (`NumbersOut`), it isn't taken: what is seen
-    /// is that of the steps before, and behind `NumbersOut` further steps may be taken. `Raise`, `Look` and `Cut` are always taken.
+    /// Takes a step. For each text of a viewer that becomes whole by it `lost` gets a mark: whether it found no memory.
+    /// Where memory is refused (`Memory`), or there are no more numbers of updates (`NumbersOut`), it isn't taken: what
+    /// is seen is that of the steps before, and behind `NumbersOut` further steps may be taken. `Raise`, `Look` and
+    /// `Cut` are always taken.
     pub fn take(&mut self, step: &Step, lost: &mut Vec<bool>) -> Result<(), Fault>
         requires reachable { IsReachable self.old }
         requires unmarked { lost.old.items ≡ [] }
@@ -302,7 +305,8 @@ impl Scene {
         }
     }
 
-    // So many of a viewer's unsent bytes are written, if it is there. Where memory is refused what was written before is seen still.
+    // So many of a viewer's unsent bytes are written, if it is there. Where memory is refused what was written before
+    // is seen still.
     fn write(&mut self, viewer: u64, count: u64) -> Result<(), Fault>
         requires { IsReachable self.old }
         ensures ok { OnOk result (TakesStep (Written viewer count) self.old self.new) }

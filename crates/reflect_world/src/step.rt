@@ -6,7 +6,8 @@ ghost use Rattle.reflect_world.specs.World.{step_of, step_with};
 use roles::Role;
 use std::alloc::{AllocError, Global};
 
-/// What may happen next in a reflector. Viewers are named by numbers from 1 to 64; a step of a viewer that isn't there changes nothing.
+/// What may happen next in a reflector. Viewers are named by numbers from 1 to 64; a step of a viewer that isn't there
+/// changes nothing.
 #[derive(Debug, Drop)]
 pub enum Step {
     /// Bytes of the host come. They are kept; `Put` reads on.
@@ -17,10 +18,11 @@ pub enum Step {
     Raise,
     /// Bytes of a viewer come, and are read.
     Bytes(u64, Vec<u8>),
-    /// A viewer's session looks at the tally, where all its bytes are written and it has no fault: the first half of a turn.
+    /// A viewer's session looks at the tally, where all its bytes are written and it has no fault: the first half of a
+    /// turn.
     Look(u64),
-    /// It cuts and answers, where there is reason for it: the second half. It is taken only directly after its `Look`, as far as
-    /// that viewer's steps go.
+    /// It cuts and answers, where there is reason for it: the second half. It is taken only directly after its `Look`,
+    /// as far as that viewer's steps go.
     Cut(u64),
     /// So many more of a viewer's unsent bytes are written, at most those there are.
     Written(u64, u64),
@@ -30,7 +32,8 @@ pub enum Step {
     Take,
 }
 
-/// What a world keeps: a viewer joined or left, or a step was played, with marks for the texts of a viewer that became whole by it.
+/// What a world keeps: a viewer joined or left, or a step was played, with marks for the texts of a viewer that became
+/// whole by it.
 #[derive(Drop)]
 pub enum Entry {
     /// A viewer of this number and role joined; with its hello where the last says so, else behind it.

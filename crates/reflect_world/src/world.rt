@@ -54,8 +54,8 @@ impl Model for World {
 }
 
 impl World {
-    /// A world of a black screen of `width` by `height` pixels, with a name of 1 to 255 bytes and room for so many inputs on their
-    /// way to the host. It fails where memory is refused (`Memory`).
+    /// A world of a black screen of `width` by `height` pixels, with a name of 1 to 255 bytes and room for so many
+    /// inputs on their way to the host. It fails where memory is refused (`Memory`).
     pub fn new(
         alloc: Global,
         width: u64,
@@ -84,8 +84,8 @@ impl World {
         })
     }
 
-    /// A viewer of this number, from 1 to 64, joins, and begins anew: with its hello where `greet` says so, else its hello is done. Where
-    /// memory is refused (`Memory`) nothing has changed.
+    /// A viewer of this number, from 1 to 64, joins, and begins anew: with its hello where `greet` says so, else its
+    /// hello is done. Where memory is refused (`Memory`) nothing has changed.
     pub fn join(&mut self, viewer: u64, role: Role, greet: bool) -> Result<(), Fault>
         requires viewer { (1 ≤ viewer) × (viewer ≤ 64) }
         ensures ok { OnOk result (self.new ≡ with_steps self.old (Join viewer role greet ∷ [])) }
@@ -103,8 +103,9 @@ impl World {
         }
     }
 
-    /// A viewer leaves, if it is there: the input of it that waits, and the releases of the keys and buttons that it holds down, go into the queue to
-    /// the host, as far as there is room, and its record ends. Where memory is refused (`Memory`) nothing has changed.
+    /// A viewer leaves, if it is there: the input of it that waits, and the releases of the keys and buttons that it
+    /// holds down, go into the queue to the host, as far as there is room, and its record ends. Where memory is refused
+    /// (`Memory`) nothing has changed.
     pub fn part(&mut self, viewer: u64) -> Result<(), Fault>
         ensures ok { OnOk result (self.new ≡ with_steps self.old (Part viewer ∷ [])) }
         ensures err { IfErr result (λ fault. (fault ≡ Memory) × (self.new ≡ self.old)) }
@@ -162,7 +163,8 @@ impl World {
         self.scene.updates()
     }
 
-    /// All that the host was sent of the viewers' input: the spelling of each input taken, in order (RFC 6143, 7.5.4 to 7.5.6).
+    /// All that the host was sent of the viewers' input: the spelling of each input taken, in order (RFC 6143, 7.5.4 to
+    /// 7.5.6).
     pub fn host_sent(&self) -> &[u8]
         ensures { result.now ≡ spelled (host_sent (world_of self.now)) }
     {
@@ -176,7 +178,8 @@ impl World {
         self.scene.is_waiting(viewer)
     }
 
-    /// Whether there is room for a further input in the queue to the host. Where a step was refused for want of memory this says nothing.
+    /// Whether there is room for a further input in the queue to the host. Where a step was refused for want of memory
+    /// this says nothing.
     pub fn has_room(&self) -> bool
         ensures { self.now.is_refused ≡ false → result ≡ nat_lt (length (world_of self.now).queue) self.now.room }
     {
@@ -213,12 +216,13 @@ impl World {
     }
 }
 
-/// Plays steps. With a fault the number says how many were played, and the world is as after them: `Memory`, which every later
-/// call names again, playing nothing; or `NumbersOut` at a `Put` for which there is no more number.
+/// Plays steps. With a fault the number says how many were played, and the world is as after them: `Memory`, which
+/// every later call names again, playing nothing; or `NumbersOut` at a `Put` for which there is no more number.
 ///
-/// Whatever was played, the world is faithful to its schedule: after each answer a viewer that follows its answers holds the area asked
-/// for, of the screen after some whole number of updates; the puts, raises, looks and cuts are one legal history; the updates are
-/// those of the host's bytes; and what is written to each viewer is a beginning of the stream of its answers, which reads as them.
+/// Whatever was played, the world is faithful to its schedule: after each answer a viewer that follows its answers
+/// holds the area asked for, of the screen after some whole number of updates; the puts, raises, looks and cuts are one
+/// legal history; the updates are those of the host's bytes; and what is written to each viewer is a beginning of the
+/// stream of its answers, which reads as them.
 pub fn play(world: &mut World, steps: &[Step]) -> Result<(), (usize, Fault)>
     ensures ok { OnOk result (HasPlayed world.old world.new (map step_of steps.now)) }
     ensures err { IfErr result (λ stop. HasStopped world.old world.new (map step_of steps.now) stop.0 stop.1) }

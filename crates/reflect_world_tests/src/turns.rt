@@ -2,8 +2,8 @@
 
 ghost use Rattle.std.specs.Prelude.{◌≡◌, IfOk};
 
-use painter::Patch;
-use raster::{Paint, Rect};
+use painter::{Painter, Patch};
+use raster::Rect;
 use reflect_core::{PlainScreen, Puts};
 use roles::Role;
 use std::alloc::Global;
@@ -24,7 +24,8 @@ const RED_AND_BLUE: [u8; 20] = [
     0, 0, 0, 0, 0, 2, 0, 1, 0, 0, 0, 0, 0, 0, 0xFF, 0, 0xFF, 0, 0, 0,
 ];
 
-// A viewer asks twice. It is answered black, and what was put since only once it is raised, and not while bytes are unsent.
+// A viewer asks twice. It is answered black, and what was put since only once it is raised, and not while bytes are
+// unsent.
 fn answers_twice<R: Abort + AllocGlobal>(
     rt: &R,
     session: &mut Session,
@@ -50,8 +51,8 @@ fn answers_twice<R: Abort + AllocGlobal>(
     Ok(())
 }
 
-// Takes the piece that is shown, and answers whether it is this one.
-fn takes(session: &mut Session, piece: &[u8]) -> bool
+/// Takes the piece that is shown, and answers whether it is this one.
+pub fn takes(session: &mut Session, piece: &[u8]) -> bool
     ensures size { (session.new.width ≡ session.old.width) × (session.new.height ≡ session.old.height) }
 {
     let is_piece = session.out() == piece;
@@ -60,8 +61,8 @@ fn takes(session: &mut Session, piece: &[u8]) -> bool
     is_piece
 }
 
-// A viewer has the screen and asks for changes, of which there are none: a turn cuts and answers nothing. When one is put and raised
-// the next turn answers it, with the raise alone for its reason.
+// A viewer has the screen and asks for changes, of which there are none: a turn cuts and answers nothing. When one is
+// put and raised the next turn answers it, with the raise alone for its reason.
 fn answers_a_raise<R: Abort + AllocGlobal>(
     rt: &R,
     session: &mut Session,
@@ -97,9 +98,9 @@ fn red_and_blue(alloc: Global) -> Result<Patch, Fail>
         w: 2,
         h: 1,
     };
-    let mut paints = Vec::new(alloc);
-    paints.push(Paint::Put(area, [0xFF0000, 0x0000FF].to_vec(alloc)?))?;
-    Ok(Patch::paints(2, 1, paints))
+    let mut painter = Painter::new(alloc, 2, 1)?;
+    painter.put(area, &[0xFF0000, 0x0000FF]);
+    Ok(painter.patch()?)
 }
 
 #[test]

@@ -1,6 +1,14 @@
 //! Worlds of one pixel, step by step, and how a script spells bytes.
 
+ghost use Rattle.raster.specs.Size.{IsScreenSize};
+
+use crate::bytewise::{
+    ACROSS_TILES, BELLS_AND_A_TEXT, COPIED_TILE, Line, PART_OF_A_TILE, TILES_APART,
+    is_written_bytewise,
+};
 use crate::hellos::{is_told_up_to_a_fault, is_told_whole};
+use crate::large::{is_black, is_checkered};
+use crate::leaving::is_released;
 use reflect_world::{Step, World, play};
 use replay_script::{script_bytes, shown};
 use roles::Role;
@@ -32,12 +40,27 @@ enum Check {
     CountedUpdates,
     HelloCutAt(usize),
     HelloUpToAFault,
+    Bytewise(&'static [Line]),
+    BlackRows(u16),
+    EverySecondTile,
+    Released,
 }
 
 // Every world is let go here: proofs of letting one go are long.
-fn in_new_world<R: Abort + AllocGlobal>(rt: &R, check: Check) -> Result<(), Fail> {
-    let mut world = World::new(rt.alloc(), 1, 1, b"T", 0)?;
+fn in_world_of<R: Abort + AllocGlobal>(
+    rt: &R,
+    width: u64,
+    height: u64,
+    check: Check,
+) -> Result<(), Fail>
+    requires { IsScreenSize width height }
+{
+    let mut world = World::new(rt.alloc(), width, height, b"T", 8)?;
     holds(rt, &mut world, check)
+}
+
+fn in_new_world<R: Abort + AllocGlobal>(rt: &R, check: Check) -> Result<(), Fail> {
+    in_world_of(rt, 1, 1, check)
 }
 
 fn holds<R: Abort + AllocGlobal>(rt: &R, world: &mut World, check: Check) -> Result<(), Fail> {
@@ -48,6 +71,10 @@ fn holds<R: Abort + AllocGlobal>(rt: &R, world: &mut World, check: Check) -> Res
         Check::CountedUpdates => counts(rt, world),
         Check::HelloCutAt(place) => is_told_whole(rt, world, place),
         Check::HelloUpToAFault => is_told_up_to_a_fault(rt, world),
+        Check::Bytewise(lines) => is_written_bytewise(rt, world, lines),
+        Check::BlackRows(width) => is_black(rt, world, width),
+        Check::EverySecondTile => is_checkered(rt, world),
+        Check::Released => is_released(rt, world),
     }
 }
 
@@ -82,6 +109,30 @@ fn hello_cut_at_each_place(rt: HostRuntime) -> Result<(), Fail> {
 #[test]
 fn bytes_due_before_a_fault(rt: HostRuntime) -> Result<(), Fail> {
     in_new_world(&rt, Check::HelloUpToAFault)
+}
+
+#[test]
+fn rows_written_byte_by_byte(rt: HostRuntime) -> Result<(), Fail> {
+    in_world_of(&rt, 17, 17, Check::Bytewise(&PART_OF_A_TILE))?;
+    in_world_of(&rt, 48, 16, Check::Bytewise(&ACROSS_TILES))?;
+    in_world_of(&rt, 16, 32, Check::Bytewise(&COPIED_TILE))?;
+    in_world_of(&rt, 2, 1, Check::Bytewise(&BELLS_AND_A_TEXT))?;
+    in_world_of(&rt, 33, 1, Check::Bytewise(&TILES_APART))
+}
+
+#[test]
+fn tallest_screen(rt: HostRuntime) -> Result<(), Fail> {
+    in_world_of(&rt, 1, 4096, Check::BlackRows(1))
+}
+
+#[test]
+fn largest_screen_and_every_second_tile(rt: HostRuntime) -> Result<(), Fail> {
+    in_world_of(&rt, 4096, 4096, Check::EverySecondTile)
+}
+
+#[test]
+fn viewer_that_leaves(rt: HostRuntime) -> Result<(), Fail> {
+    in_new_world(&rt, Check::Released)
 }
 
 /// The pixel becomes blue, and viewer 1 has asked for it.

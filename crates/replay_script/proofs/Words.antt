@@ -19,8 +19,8 @@ abbrev with_first : ℕ → Option (List ℕ) → Option (List ℕ)
 with_first b None = None
 with_first b (Some bytes) = Some (b ∷ bytes)
 
--- All but the blanks of what is left of a text, where a word has to begin, or may go on. None where a word has to begin and a blank or
--- the end stands there.
+-- All but the blanks of what is left of a text, where a word has to begin, or may go on. None where a word has to begin
+-- and a blank or the end stands there.
 abbrev at_blank : (begins : Bool) → Option (List ℕ) → Option (List ℕ)
 at_blank true rest = None
 at_blank false rest = rest

@@ -7,7 +7,8 @@ use Rattle.replay_script.specs.declared.line.Line.TheVariants.{Screen, Host, Rai
 use Rattle.replay_script.specs.declared.line.Access.{Access}
 use Rattle.replay_script.specs.declared.line.Access.TheVariants.{Full, View}
 
--- Its numbers are in range: a screen has from 1 to 4096 pixels each way and a name of 1 to 255 bytes, viewers are 1 to 64.
+-- Its numbers are in range: a screen has from 1 to 4096 pixels each way and a name of 1 to 255 bytes, viewers are 1 to
+-- 64.
 abbrev pub IsInRange : Line → Type 0
 IsInRange (Screen width height name) = (1 ≤ width) × (width ≤ 4096) × (1 ≤ height) × (height ≤ 4096) × (1 ≤ length name.now) × (length name.now ≤ 255)
 IsInRange (Host bytes) = Unit {0}
@@ -36,7 +37,8 @@ abbrev pub access_word : Access → List ℕ
 access_word Full = codes "full"
 access_word View = codes "view"
 
--- What stands behind the blank after that word: W H NAME, HEX, V full or V view, V HEX or V. Numbers are decimal, with neither a sign nor leading zeros.
+-- What stands behind the blank after that word: W H NAME, HEX, V full or V view, V HEX or V. Numbers are decimal, with
+-- neither a sign nor leading zeros.
 abbrev pub SaysBehind : Line → List ℕ → Type 0
 SaysBehind (Screen width height name) rest = rest ≡ decimal width ++ (blank ∷ (decimal height ++ (blank ∷ name.now)))
 SaysBehind (Host bytes) rest = IsHex rest bytes.items

@@ -17,8 +17,8 @@ pub record IsDivided (text : List ℕ) (words : List (List ℕ)) : Type 0 where
   pub each : All IsWord words
   pub divided : text ≡ join_with_byte blank words
 
--- A text is HEX for these bytes: one or more words of hex digits of either case, divided by one blank each; all their digits joined, of which
--- the number is even, are those of the bytes.
+-- A text is HEX for these bytes: one or more words of hex digits of either case, divided by one blank each; all their
+-- digits joined, of which the number is even, are those of the bytes.
 pub record IsHex (text bytes : List ℕ) : Type 0 where
   pub words : List (List ℕ)
   pub divided : IsDivided text words

@@ -11,8 +11,8 @@ use hex::FromHexError;
 use pixel_format::Fault;
 use std::alloc::{AllocError, Global};
 
-/// The bytes of a text in HEX: words of hex digits of either case, divided by one blank each, with an even number of digits in all.
-/// `None` where the text is no HEX. Its only fault is `Memory`.
+/// The bytes of a text in HEX: words of hex digits of either case, divided by one blank each, with an even number of
+/// digits in all. `None` where the text is no HEX. Its only fault is `Memory`.
 pub fn script_bytes(alloc: Global, text: &str) -> Result<Option<Vec<u8>>, Fault>
     ensures found { IfOk result (λ found. IfSome found (λ bytes. IsHex text.now bytes.items)) }
     ensures none { IfOk result (λ found. IfNone found ((bytes : List ℕ) → ¬ IsHex text.now bytes)) }
@@ -32,8 +32,8 @@ pub fn script_bytes(alloc: Global, text: &str) -> Result<Option<Vec<u8>>, Fault>
     }
 }
 
-/// The words of a text that are divided by one blank each, joined; `None` where a blank stands at either end or beside another, or
-/// there is no byte.
+/// The words of a text that are divided by one blank each, joined; `None` where a blank stands at either end or beside
+/// another, or there is no byte.
 fn joined(alloc: Global, text: &[u8]) -> Result<Option<Vec<u8>>, AllocError>
     ensures found { IfOk result (λ found. IfSome found (λ digits. (words : List (List ℕ)) × IsDivided text.now words × (digits.items ≡ concat words))) }
     ensures none { IfOk result (λ found. IfNone found ((words : List (List ℕ)) → ¬ IsDivided text.now words)) }
@@ -75,8 +75,8 @@ fn push_byte(text: &mut String, byte: u8) -> Result<(), AllocError>
     Ok(())
 }
 
-/// Bytes as a script prints them: upper-case hex in words of four bytes, divided by one blank each; the last word may be shorter.
-/// Its only fault is `Memory`.
+/// Bytes as a script prints them: upper-case hex in words of four bytes, divided by one blank each; the last word may
+/// be shorter. Its only fault is `Memory`.
 pub fn shown(alloc: Global, bytes: &[u8]) -> Result<String, Fault>
     ensures value { IfOk result (λ text. string_bytes text ≡ bytes_text bytes.now) }
     ensures memory { IfErr result (λ fault. fault ≡ Memory) }

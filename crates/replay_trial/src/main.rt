@@ -1,7 +1,7 @@
 //! Plays scripts, and counts those that do as they are told.
 //!
-//! `scripts` has whole scripts and `real_hosts` such with what real hosts sent, `bad_lines` lines that no script may have, and `first_lines` lines that none may
-//! begin with.
+//! `scripts` has whole scripts and `real_hosts` such with what real hosts sent, `bad_lines` lines that no script may
+//! have, and `first_lines` lines that none may begin with.
 #![tactic(auto)]
 
 mod case;

@@ -14,7 +14,8 @@ input_in (code.Key down key) = Key down key
 input_in (code.Pointer mask x y) = Pointer mask x y
 input_in (code.Cut text) = Cut text
 
--- The keys that are down by rising number, and the mask and position of the last pointer event (0, 0, 0 before the first).
+-- The keys that are down by rising number, and the mask and position of the last pointer event (0, 0, 0 before the
+-- first).
 pub record Kept : Type 0 where
   pub keys : List ℕ
   pub mask : ℕ

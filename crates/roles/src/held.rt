@@ -109,8 +109,9 @@ impl Held {
 
     /// Whether a message of a viewer of this role passes to the host, and what is held after it. It takes no memory.
     ///
-    /// Of a viewer in full control pass, in order, each pointer event, each text that was kept, the press of a key that is
-    /// down or while fewer than `MOST_KEYS` are, and the release of a key that is down; of a view-only viewer nothing.
+    /// Of a viewer in full control pass, in order, each pointer event, each text that was kept, the press of a key that
+    /// is down or while fewer than `MOST_KEYS` are, and the release of a key that is down; of a view-only viewer
+    /// nothing.
     pub fn passes(&mut self, role: Role, message: &ClientMessage) -> bool
         ensures value { result ≡ passes_if self.old.keys (input_for role (message_of message.now)) }
         ensures kept { self.new ≡ kept_after self.old (input_for role (message_of message.now)) }
@@ -156,9 +157,9 @@ impl Held {
         }
     }
 
-    /// The next input that is to be released where the viewer has left, and `None` once there is none left: the keys that are
-    /// down by rising number, then mask 0 at the last position if the last mask wasn't 0. Where there is none nothing has changed.
-    /// It takes no memory.
+    /// The next input that is to be released where the viewer has left, and `None` once there is none left: the keys
+    /// that are down by rising number, then mask 0 at the last position if the last mask wasn't 0. Where there is none
+    /// nothing has changed. It takes no memory.
     pub fn release(&mut self) -> Option<Input>
         ensures next { MatchOption result ((left_in self.old ≡ []) × (self.new ≡ self.old)) (λ input. left_in self.old ≡ input_in input ∷ left_in self.new) }
     {

@@ -16,8 +16,8 @@ pub trait InputSink {
     /// It may refuse an input with this fault.
     ghost may_refuse: { Fault → Type 0 };
 
-    /// Takes an input. Where it is refused nothing has changed, and the input comes back: `QueueFull` where there is no room
-    /// now, another fault where there will be none.
+    /// Takes an input. Where it is refused nothing has changed, and the input comes back: `QueueFull` where there is no
+    /// room now, another fault where there will be none.
     fn send(&mut self, input: Input) -> Result<(), (Fault, Input)>
         ensures ok { OnOk result (sent self.new ≡ sent self.old ++ input_in input ∷ []) }
         ensures err { IfErr result (λ refused. (sent self.new ≡ sent self.old) × (refused.1 ≡ input) × may_refuse refused.0) };

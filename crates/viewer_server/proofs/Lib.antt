@@ -1,8 +1,6 @@
-pub mod Growing
 pub mod Saying
 pub mod Reading
 pub mod Leaving
-pub mod Passing
 pub mod Following
 pub mod Servings
 pub mod Served

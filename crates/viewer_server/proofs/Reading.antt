@@ -14,41 +14,41 @@ unread_if : (b : Bool) (x y : Viewer) (n : ℕ) → length x.unread ≤ n → le
 unread_if true x y n k l = k
 unread_if false x y n k l = l
 
-unread_short : (s : Setup) (q : Viewer) (bs : List ℕ) → length (after_bytes s q bs).unread ≤ length bs
+unread_short : (s : Setup) (q : Viewer) (bs : List ℕ) → length (after_bytes q bs).unread ≤ length bs
 unread_short s q [] = omega arith
 unread_short s q (b ∷ bs) =
-    let one = unread_short s (after_byte s q b) bs in
-    unread_if (is_some q.waiting) (record q { unread = b ∷ bs }) (after_bytes s (after_byte s q b) bs) (length (b ∷ bs)) (omega arith) (omega (arith, one))
+    let one = unread_short s (after_byte q b) bs in
+    unread_if (is_some q.waiting) (record q { unread = b ∷ bs }) (after_bytes (after_byte q b) bs) (length (b ∷ bs)) (omega arith) (omega (arith, one))
 
 -- All is left where an input waits from the first.
-all_left : (s : Setup) (q : Viewer) (y : ℕ) (ys : List ℕ) (b : Bool) → (cond b (record q { unread = y ∷ ys }) (after_bytes s (after_byte s q y) ys)).unread ≡ y ∷ ys
-    → (cond b (record q { unread = y ∷ ys }) (after_bytes s (after_byte s q y) ys)).lost ≡ [] → at_rest (cond b (record q { unread = y ∷ ys }) (after_bytes s (after_byte s q y) ys)) ≡ record q { unread = [] }
+all_left : (s : Setup) (q : Viewer) (y : ℕ) (ys : List ℕ) (b : Bool) → (cond b (record q { unread = y ∷ ys }) (after_bytes (after_byte q y) ys)).unread ≡ y ∷ ys
+    → (cond b (record q { unread = y ∷ ys }) (after_bytes (after_byte q y) ys)).lost ≡ [] → at_rest (cond b (record q { unread = y ∷ ys }) (after_bytes (after_byte q y) ys)) ≡ record q { unread = [] }
 all_left s q y ys true e f = ap (λ (ls : List Bool). record q { unread = []; lost = ls }) (sym f)
-all_left s q y ys false e f = let short = unread_short s (after_byte s q y) ys in absurd (omega (arith, short, ap length e))
+all_left s q y ys false e f = let short = unread_short s (after_byte q y) ys in absurd (omega (arith, short, ap length e))
 
 some_read : (s : Setup) (q : Viewer) (x : ℕ) (xs ys : List ℕ) (b : Bool)
-    → ((after_bytes s (after_byte s q x) (xs ++ ys)).unread ≡ ys → (after_bytes s (after_byte s q x) (xs ++ ys)).lost ≡ [] → at_rest (after_bytes s (after_byte s q x) (xs ++ ys)) ≡ after_bytes s (after_byte s q x) xs)
-    → (cond b (record q { unread = x ∷ xs ++ ys }) (after_bytes s (after_byte s q x) (xs ++ ys))).unread ≡ ys
-    → (cond b (record q { unread = x ∷ xs ++ ys }) (after_bytes s (after_byte s q x) (xs ++ ys))).lost ≡ []
-    → at_rest (cond b (record q { unread = x ∷ xs ++ ys }) (after_bytes s (after_byte s q x) (xs ++ ys))) ≡ cond b (record q { unread = x ∷ xs }) (after_bytes s (after_byte s q x) xs)
+    → ((after_bytes (after_byte q x) (xs ++ ys)).unread ≡ ys → (after_bytes (after_byte q x) (xs ++ ys)).lost ≡ [] → at_rest (after_bytes (after_byte q x) (xs ++ ys)) ≡ after_bytes (after_byte q x) xs)
+    → (cond b (record q { unread = x ∷ xs ++ ys }) (after_bytes (after_byte q x) (xs ++ ys))).unread ≡ ys
+    → (cond b (record q { unread = x ∷ xs ++ ys }) (after_bytes (after_byte q x) (xs ++ ys))).lost ≡ []
+    → at_rest (cond b (record q { unread = x ∷ xs ++ ys }) (after_bytes (after_byte q x) (xs ++ ys))) ≡ cond b (record q { unread = x ∷ xs }) (after_bytes (after_byte q x) xs)
 some_read s q x xs ys true k e f = absurd (omega (arith, ap length e, length-append xs ys))
 some_read s q x xs ys false k e f = k e f
 
 -- Where these are left, those before them were read, and nothing else happened.
-cut_bytes : (s : Setup) (q : Viewer) (xs ys : List ℕ) → (after_bytes s q (xs ++ ys)).unread ≡ ys → (after_bytes s q (xs ++ ys)).lost ≡ [] → at_rest (after_bytes s q (xs ++ ys)) ≡ after_bytes s q xs
+cut_bytes : (s : Setup) (q : Viewer) (xs ys : List ℕ) → (after_bytes q (xs ++ ys)).unread ≡ ys → (after_bytes q (xs ++ ys)).lost ≡ [] → at_rest (after_bytes q (xs ++ ys)) ≡ after_bytes q xs
 cut_bytes s q [] [] e f = ap (λ (ls : List Bool). record q { unread = []; lost = ls }) (sym f)
 cut_bytes s q [] (y ∷ ys) e f = all_left s q y ys (is_some q.waiting) e f
-cut_bytes s q (x ∷ xs) ys e f = some_read s q x xs ys (is_some q.waiting) (cut_bytes s (after_byte s q x) xs ys) e f
+cut_bytes s q (x ∷ xs) ys e f = some_read s q x xs ys (is_some q.waiting) (cut_bytes s (after_byte q x) xs ys) e f
 
-cut_piece : (s : Setup) (q : Viewer) (piece first left : List ℕ) → piece ≡ first ++ left → (after_bytes s q piece).unread ≡ left → (after_bytes s q piece).lost ≡ [] → at_rest (after_bytes s q piece) ≡ after_bytes s q first
+cut_piece : (s : Setup) (q : Viewer) (piece first left : List ℕ) → piece ≡ first ++ left → (after_bytes q piece).unread ≡ left → (after_bytes q piece).lost ≡ [] → at_rest (after_bytes q piece) ≡ after_bytes q first
 cut_piece s q piece first left split e f =
-    subst (λ (t : List ℕ). at_rest (after_bytes s q t) ≡ after_bytes s q first) (sym split)
-    (cut_bytes s q first left (subst (λ (t : List ℕ). (after_bytes s q t).unread ≡ left) split e) (subst (λ (t : List ℕ). (after_bytes s q t).lost ≡ []) split f))
+    subst (λ (t : List ℕ). at_rest (after_bytes q t) ≡ after_bytes q first) (sym split)
+    (cut_bytes s q first left (subst (λ (t : List ℕ). (after_bytes q t).unread ≡ left) split e) (subst (λ (t : List ℕ). (after_bytes q t).lost ≡ []) split f))
 
 -- ---- reading
 
 reads_by : (old mid : State) (before after : Unpassed) (marks : List Bool) (piece first left : List ℕ) → before.waiting ≡ None → before.unread ≡ piece → piece ≡ first ++ left → after.unread ≡ left → after.waiting ≡ mid.waiting
-    → WaitsIfLeft after → ((s : Setup) (p : Viewer) → Stands s old p → StandsBut s mid (after_bytes s (with_marks marks p) piece) left) → Reads old (record mid { waiting = None }) before after
+    → WaitsIfLeft after → ((s : Setup) (p : Viewer) → Stands s old p → StandsBut s mid (after_bytes (with_marks marks p) piece) left) → Reads old (record mid { waiting = None }) before after
 reads_by old mid before after marks piece first left none same split rest waits all feeds =
     record {
       marks = marks;
@@ -58,9 +58,9 @@ reads_by old mid before after marks piece first left none same split rest waits 
       all = all;
       reads = λ s p k.
           let q : Viewer = with_marks marks p in
-          let b : StandsBut s mid (after_bytes s q piece) left = feeds s p k in
-          let stood : Stands s mid (after_bytes s q first) = subst (λ (t : Viewer). Stands s mid t) (cut_piece s q piece first left split b.unread b.marks) b.stands in
-          record { stands = stands_input s mid (after_bytes s q first) stood; waiting = stood.relays.waiting ∙ sym waits };
+          let b : StandsBut s mid (after_bytes q piece) left = feeds s p k in
+          let stood : Stands s mid (after_bytes q first) = subst (λ (t : Viewer). Stands s mid t) (cut_piece s q piece first left split b.unread b.marks) b.stands in
+          record { stands = stands_input s mid (after_bytes q first) stood; waiting = stood.relays.waiting ∙ sym waits };
     }
 
 none_dropped : (n : ℕ) (piece : List ℕ) → n ≡ length piece → drop n piece ≡ []

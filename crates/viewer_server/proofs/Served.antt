@@ -8,19 +8,20 @@ use Rattle.roles.specs.Held.{HeldStands, left_in}
 use Rattle.roles.proofs.HeldLaws.{all_released}
 use Rattle.link.specs.Links.{LinkState}
 use Rattle.reflect_core.specs.Sequential.{Begins}
-use Rattle.viewer_session.specs.Record.{messages_in}
+use Rattle.viewer_session.specs.Record.{messages_in, before_last}
 use Rattle.viewer_session.specs.Viewer.{Setup, Viewer}
 use Rattle.viewer_session.specs.Session.{State, Stands, without_input}
-use Rattle.viewer_server.specs.Serving.{viewer_after, before_last, EndsServing, IsRefused, Relays, Serves}
-use Rattle.viewer_server.specs.Steps.{Unpassed, HasPassed, HasServed, Leaves, LeavesBy, WaitsIfLeft, waiting_in}
+use Rattle.viewer_server.specs.Serving.{EndsServing, IsRefused, Relays, Serves}
+use Rattle.viewer_server.specs.Steps.{Unpassed, HasServed, Leaves, LeavesBy, WaitsIfLeft}
+use Rattle.viewer_session.specs.Acts.{viewer_after, HasPassed, waiting_list}
 
 -- What the sink took while the viewer was served, what waited, and the releases are all that is allowed.
 all_allowed : (s : Setup) (st : State) (q : Viewer) (box : Unpassed) (sent : List Input) → Stands s st (without_input q) → q.waiting ≡ box.waiting → HasPassed q sent
-    → allowed q.role (messages_in q.entries) true ≡ sent ++ (waiting_in box.waiting ++ left_in st.held)
+    → allowed q.role (messages_in q.entries) true ≡ sent ++ (waiting_list box.waiting ++ left_in st.held)
 all_allowed s st q box sent k waits passed =
     let held : HeldStands q.role st.held (messages_in q.entries) = subst (λ r. HeldStands r st.held (messages_in q.entries)) (sym k.serves.role) k.relays.held in
     all_released q.role st.held (messages_in q.entries) held
-    ∙ (ap (λ t. t ++ left_in st.held) (passed.all ∙ ap (λ o. sent ++ waiting_in o) waits) ∙ append_assoc sent (waiting_in box.waiting) (left_in st.held))
+    ∙ (ap (λ t. t ++ left_in st.held) (passed.all ∙ ap (λ o. sent ++ waiting_list o) waits) ∙ append_assoc sent (waiting_list box.waiting) (left_in st.held))
 
 whole_by : (was_set : Type 0) (may_refuse : Fault → Type 0) (answer : Result (Unit {0}) Fault) (before more all full : List Input) → full ≡ before ++ all → LeavesBy was_set may_refuse answer more all
     → (before ++ more ≡ full) ⊎ (was_set ⊎ ((fault : Fault) × IsRefused may_refuse fault))
@@ -29,9 +30,9 @@ whole_by was_set may_refuse (Ok done) before more all full e (inr set) = inr (in
 whole_by was_set may_refuse (Err fault) before more all full e refused = inr (inr (fault, refused))
 
 relays_by : (was_set : Type 0) (may_refuse : Fault → Type 0) (s : Setup) (st : State) (q : Viewer) (box : Unpassed) (sent x y z : List Input) (answer : Result (Unit {0}) Fault) → Stands s st (without_input q) → q.waiting ≡ box.waiting → HasPassed q sent → y ≡ x ++ sent
-    → Leaves was_set may_refuse (waiting_in box.waiting ++ left_in st.held) y z answer → Relays was_set may_refuse q x z
+    → Leaves was_set may_refuse (waiting_list box.waiting ++ left_in st.held) y z answer → Relays was_set may_refuse q x z
 relays_by was_set may_refuse s st q box sent x y z answer k waits passed took leaves =
-    let all : List Input = waiting_in box.waiting ++ left_in st.held in
+    let all : List Input = waiting_list box.waiting ++ left_in st.held in
     let full : allowed q.role (messages_in q.entries) true ≡ sent ++ all = all_allowed s st q box sent k waits passed in
     record {
       sent = sent ++ leaves.sent;
@@ -46,7 +47,7 @@ unread_by q box waits (inl none) = inl none
 unread_by q box waits (inr some) = inr (ap is_some waits ∙ some)
 
 serves_with : {S : Type 0} (looks : S → ℕ → S → Type 0) (moves refused : S → S → Type 0) (may_end was_set : Type 0) (may_refuse : Fault → Type 0) (a c : S) (us : List Update) (s : Setup) (p : Viewer) (st : State) (box : Unpassed) (x y z : List Input)
-    (answer left final : Result (Unit {0}) Fault) (old now new : LinkState) → (k : HasServed looks moves refused may_end was_set may_refuse a c us s p st box x y answer old now) → new ≡ now → Leaves was_set may_refuse (waiting_in box.waiting ++ left_in st.held) y z left
+    (answer left final : Result (Unit {0}) Fault) (old now new : LinkState) → (k : HasServed looks moves refused may_end was_set may_refuse a c us s p st box x y answer old now) → new ≡ now → Leaves was_set may_refuse (waiting_list box.waiting ++ left_in st.held) y z left
     → EndsServing refused may_end was_set may_refuse k.behind c s (viewer_after s us p k.acts) final old now → Serves looks moves refused may_end was_set may_refuse a c us s p x z final old new
 serves_with looks moves refused may_end was_set may_refuse a c us s p st box x y z answer left final old now new k same leaves ends =
     subst (λ (l : LinkState). Serves looks moves refused may_end was_set may_refuse a c us s p x z final old l) (sym same)
@@ -66,14 +67,14 @@ serves_with looks moves refused may_end was_set may_refuse a c us s p st box x y
 
 -- It ended at a fault.
 pub serves_fault : {S : Type 0} (looks : S → ℕ → S → Type 0) (moves refused : S → S → Type 0) (may_end was_set : Type 0) (may_refuse : Fault → Type 0) (a c : S) (us : List Update) (s : Setup) (p : Viewer) (st : State) (box : Unpassed) (x y z : List Input)
-    (answer left : Result (Unit {0}) Fault) (old now new : LinkState) → HasServed looks moves refused may_end was_set may_refuse a c us s p st box x y answer old now → new ≡ now → Leaves was_set may_refuse (waiting_in box.waiting ++ left_in st.held) y z left
+    (answer left : Result (Unit {0}) Fault) (old now new : LinkState) → HasServed looks moves refused may_end was_set may_refuse a c us s p st box x y answer old now → new ≡ now → Leaves was_set may_refuse (waiting_list box.waiting ++ left_in st.held) y z left
     → Serves looks moves refused may_end was_set may_refuse a c us s p x z answer old new
 serves_fault looks moves refused may_end was_set may_refuse a c us s p st box x y z answer left old now new k same leaves =
     serves_with looks moves refused may_end was_set may_refuse a c us s p st box x y z answer left answer old now new k same leaves k.ends
 
 -- It ended well, and all is as the leaving ended.
 pub serves_left : {S : Type 0} (looks : S → ℕ → S → Type 0) (moves refused : S → S → Type 0) (may_end was_set : Type 0) (may_refuse : Fault → Type 0) (a c : S) (us : List Update) (s : Setup) (p : Viewer) (st : State) (box : Unpassed) (x y z : List Input)
-    (left : Result (Unit {0}) Fault) (old now new : LinkState) → HasServed looks moves refused may_end was_set may_refuse a c us s p st box x y (Ok tt) old now → new ≡ now → Leaves was_set may_refuse (waiting_in box.waiting ++ left_in st.held) y z left
+    (left : Result (Unit {0}) Fault) (old now new : LinkState) → HasServed looks moves refused may_end was_set may_refuse a c us s p st box x y (Ok tt) old now → new ≡ now → Leaves was_set may_refuse (waiting_list box.waiting ++ left_in st.held) y z left
     → Serves looks moves refused may_end was_set may_refuse a c us s p x z left old new
 serves_left looks moves refused may_end was_set may_refuse a c us s p st box x y z (Ok done) old now new k same leaves =
     serves_with looks moves refused may_end was_set may_refuse a c us s p st box x y z (Ok tt) (Ok done) (Ok done) old now new k same leaves k.ends

@@ -17,7 +17,6 @@ use Rattle.roles.specs.Allowed.{Input, allowed}
 use Rattle.link.specs.Links.{LinkState, HasRisen}
 use Rattle.reflect_core.specs.Asked.{pending, last_cut}
 use Rattle.reflect_core.specs.Sequential.{Begins}
-use Rattle.viewer_session.specs.Extent.{Extent}
 use Rattle.viewer_session.specs.Record.{Entry, Saw, MadeCut, NumbersUpTo, events, messages_in}
 use Rattle.viewer_session.specs.Turn.{has_reason, began_at, update_at, sent_at}
 use Rattle.viewer_session.specs.Viewer as viewer
@@ -25,14 +24,13 @@ use Rattle.viewer_session.specs.Viewer.{Setup, Viewer, new_viewer, out_bytes, ma
 use Rattle.viewer_session.specs.Session.{State, Stands, Turns, CutsAt, HasCounted, Greets, IsBetween, after_look, after_writing, with_marks, without_input, IsSameSession, fault_in, hello_of, is_greeted, is_ready, wants_cut}
 use Rattle.viewer_session.proofs.SessionLaws.{fault_stands, stands_saw, unsent_left}
 use Rattle.viewer_session.proofs.Stands.{numbers_more}
-use Rattle.viewer_server.specs.Serving.{EachAnswerHolds, Act, Bytes, Turn, Written, Passed, after_act, viewer_after, CutsWell, MayBe, AllMayBe, IsShown, bytes_in, has_turned, HaltsBy, LinkHalts, EndsServing, IsRefused, Relays, Serves}
-use Rattle.viewer_server.specs.Steps.{Unpassed, all_passed, waiting_in, WaitsIfLeft, Passes, ReadsTo, Reads, ReadsIfAny, GoesOn, Says, Offers, HasHeard, HeardSo, Hears, HasPassed, HasServed, Leaves}
-use Rattle.viewer_server.proofs.Growing.{HasGrown, grown_bytes, early}
-use Rattle.viewer_session.specs.Extent.{GivesAccepted}
-use Rattle.viewer_session.proofs.Accepted.{client_message_fine}
+use Rattle.viewer_server.specs.Serving.{EachAnswerHolds, CutsWell, MayBe, AllMayBe, IsShown, bytes_in, has_turned, HaltsBy, LinkHalts, EndsServing, IsRefused, Relays, Serves}
+use Rattle.viewer_server.specs.Steps.{Unpassed, all_passed, WaitsIfLeft, Passes, ReadsTo, Reads, ReadsIfAny, GoesOn, Says, Offers, HasHeard, HeardSo, Hears, HasServed, Leaves}
 use Rattle.viewer_server.proofs.Following.{holds_after_each_answer}
-use Rattle.viewer_server.proofs.Passing.{passed_as, passed_begins, began_messages, began_last, passed_bytes, passed_on}
 use Rattle.reflect_core.specs.declared.cut.Cut.{Cut}
+use Rattle.viewer_session.specs.Acts.{Act, Bytes, Turn, Written, Passed, after_act, viewer_after, waiting_list, HasPassed}
+use Rattle.viewer_session.proofs.Growing.{HasGrown, grown_bytes, early}
+use Rattle.viewer_session.proofs.Passing.{passed_as, passed_begins, began_messages, began_last, passed_bytes, passed_on}
 
 -- ---- more updates
 
@@ -116,10 +114,10 @@ fine_if (Faulty x) r e f = absurd cc
 fine_if (Want more) r e f = absurd cc
 
 -- Between two messages, with nothing unsent, it is ready.
-ready_between : (s : Setup) (st : State) (p : Viewer) → Stands s st p → length st.unsent ≡ 0 → IsBetween s p → is_ready st ≡ true
+ready_between : (s : Setup) (st : State) (p : Viewer) → Stands s st p → length st.unsent ≡ 0 → IsBetween p → is_ready st ≡ true
 ready_between s st p k none b =
     let out : nat_le (length (out_bytes s p)) p.written ≡ true = sym (all_written (length st.unsent) (length (out_bytes s p)) p.written (unsent_left s st p k.serves)) ∙ ap (λ n. n == 0) none in
-    let fine : is_none (viewer_fault p) ≡ true = fine_if p.hello p.reading b.greeted (ap fault_of (b.begins ∙ ap (λ (x : Extent). x.from_viewer) k.serves.extent)) in
+    let fine : is_none (viewer_fault p) ≡ true = fine_if p.hello p.reading b.greeted (ap fault_of b.begins) in
     ready_is s st p k ∙ (ap (λ x. x && (viewer.is_greeted p && is_none (viewer_fault p))) out ∙ (ap (λ x. x && is_none (viewer_fault p)) b.greeted ∙ fine))
 
 -- ---- numbers
@@ -132,11 +130,11 @@ numbers_began m n (Some found) es le k = (le, (le, k))
 
 -- Where a turn was offered with nothing unsent, one was had if the viewer is between two messages.
 abbrev pub IsTurned : Bool → Setup → Viewer → Type 0
-IsTurned true s p = IsBetween s p → has_turned p.entries ≡ true
+IsTurned true s p = IsBetween p → has_turned p.entries ≡ true
 IsTurned false s p = Unit {0}
 
 pub record IsServing {S : Type 0} (looks : S → ℕ → S → Type 0) (moves : S → S → Type 0) (source_old source_new : S) (us : List Update) (most : ℕ) (s : Setup) (p : Viewer) (st : State) (box : Unpassed) (sent_old sent_new : List Input) (is_offered : Bool) (old new : LinkState) : Type 0 where
-  pub begun : (role : Role) × (greet : Bool) × (p ≡ new_viewer s role greet)
+  pub begun : (role : Role) × (greet : Bool) × (p ≡ new_viewer role greet)
   pub acts : List Act
   pub sent : List Input
   pub may_be : AllMayBe s us p acts
@@ -152,7 +150,7 @@ pub record IsServing {S : Type 0} (looks : S → ℕ → S → Type 0) (moves : 
   pub turned : IsTurned is_offered s (viewer_after s us p acts)
 
 pub serving_begins : {S : Type 0} (looks : S → ℕ → S → Type 0) (moves : S → S → Type 0) (source : S) (us : List Update) (most : ℕ) (s : Setup) (role : Role) (greet : Bool) (st : State) (box : Unpassed) (sent : List Input) (link : LinkState)
-    → st.asked.last ≡ None → box ≡ all_passed → Stands s st (new_viewer s role greet) → IsServing looks moves source source us most s (new_viewer s role greet) st box sent sent false link link
+    → st.asked.last ≡ None → box ≡ all_passed → Stands s st (new_viewer role greet) → IsServing looks moves source source us most s (new_viewer role greet) st box sent sent false link link
 serving_begins looks moves source us most s role greet st box sent link uncut empty k =
     record {
       acts = [];
@@ -165,7 +163,7 @@ serving_begins looks moves source us most s role greet st box sent link uncut em
       stands = k;
       waiting = ap (λ (i : Unpassed). i.waiting) (sym empty);
       took = sym (append-nil sent);
-      passed = passed_begins s role greet;
+      passed = passed_begins role greet;
       numbers = tt;
       counted = uncut_counted st us uncut;
       turned = tt;
@@ -204,7 +202,7 @@ serving_anew looks moves a b us most s p st box x y is_offered old now k =
     record { begun = k.begun; acts = k.acts; sent = k.sent; may_be = k.may_be; shown = k.shown; taken = k.taken; given = k.given; stands = k.stands; waiting = k.waiting; took = k.took; passed = k.passed; numbers = k.numbers; counted = k.counted; turned = tt }
 
 serving_passed_some : {S : Type 0} (looks : S → ℕ → S → Type 0) (moves : S → S → Type 0) (a b : S) (us : List Update) (most : ℕ) (s : Setup) (p : Viewer) (st : State) (box next : Unpassed) (o : Option Input) (x y z : List Input) (old now : LinkState)
-    → IsServing looks moves a b us most s p st box x y false old now → box.waiting ≡ o → next ≡ record box { waiting = None } → z ≡ y ++ waiting_in o → IsServing looks moves a b us most s p st next x z false old now
+    → IsServing looks moves a b us most s p st box x y false old now → box.waiting ≡ o → next ≡ record box { waiting = None } → z ≡ y ++ waiting_list o → IsServing looks moves a b us most s p st next x z false old now
 serving_passed_some looks moves a b us most s p st box next None x y z old now k w same e =
     serving_still looks moves a b us most s p st box next x y z false old now now k (same ∙ ap (λ (t : Option Input). record box { waiting = t }) (sym w)) (e ∙ append-nil y) refl refl
 serving_passed_some looks moves a b us most s p st box next (Some input) x y z old now k w same e =
@@ -213,14 +211,14 @@ serving_passed_some looks moves a b us most s p st box next (Some input) x y z o
     record {
       begun = k.begun;
       acts = Passed ∷ k.acts;
-      sent = k.sent ++ waiting_in q.waiting;
+      sent = k.sent ++ waiting_list q.waiting;
       may_be = (k.may_be, ap is_some waits);
       shown = k.shown;
       taken = k.taken ∙ ap (λ (i : Unpassed). old.taken ++ (bytes_in k.acts ++ i.unread)) (sym same);
       given = k.given;
       stands = k.stands;
       waiting = ap (λ (i : Unpassed). i.waiting) (sym same);
-      took = e ∙ (ap (λ t. t ++ input ∷ []) k.took ∙ (append_assoc x k.sent (input ∷ []) ∙ ap (λ o. x ++ (k.sent ++ waiting_in o)) (sym waits)));
+      took = e ∙ (ap (λ t. t ++ input ∷ []) k.took ∙ (append_assoc x k.sent (input ∷ []) ∙ ap (λ o. x ++ (k.sent ++ waiting_list o)) (sym waits)));
       passed = passed_on q k.sent k.passed;
       numbers = k.numbers;
       counted = k.counted;
@@ -240,7 +238,7 @@ serving_read looks moves a b us most s p st new box next x y is_offered old now 
     let none : q.waiting ≡ None = k.waiting ∙ r.none in
     let bare : without_input q ≡ q = ap (λ (o : Option Input). record q { waiting = o }) (sym none) in
     let stood : Stands s st q = subst (λ (t : Viewer). Stands s st t) bare k.stands in
-    let q2 : Viewer = after_bytes s (with_marks r.marks q) r.bytes in
+    let q2 : Viewer = after_bytes (with_marks r.marks q) r.bytes in
     let to : ReadsTo s q new r.marks r.bytes next.waiting = r.reads s q stood in
     let grown : HasGrown s (with_marks r.marks q) q2 = grown_bytes s (with_marks r.marks q) r.bytes (early s st q stood) in
     record {
@@ -255,7 +253,7 @@ serving_read looks moves a b us most s p st new box next x y is_offered old now 
       stands = to.stands;
       waiting = to.waiting;
       took = k.took;
-      passed = passed_bytes s (with_marks r.marks q) r.bytes k.sent k.stands.serves.extent (passed_as q (with_marks r.marks q) k.sent k.passed refl refl refl refl refl);
+      passed = passed_bytes (with_marks r.marks q) r.bytes k.sent (passed_as q (with_marks r.marks q) k.sent k.passed refl refl refl refl refl);
       numbers = grown.numbers most k.numbers;
       counted = counted_same st new same us k.counted;
       turned = tt;
@@ -282,7 +280,7 @@ turned_began n (Some found) looked es = refl
 cut_front : (s : Setup) (us : List Update) (p : Viewer) → p.written ≤ length (out_bytes s p) → take p.written (out_bytes s (after_cut s us p)) ≡ take p.written (out_bytes s p)
 cut_front s us p le =
     let hello : List ℕ = if p.greet then said_to_viewer s.w s.h s.name p.said else [] in
-    let more : List ℕ = sent_at s.extent.tells_news s.w s.h p.entries us in
+    let more : List ℕ = sent_at s.w s.h p.entries us in
     same_front (out_bytes s p) (out_bytes s (after_cut s us p)) more p.written (sym (append_assoc hello p.said_after more)) le
 
 pub serving_turns : {S : Type 0} (looks : S → ℕ → S → Type 0) (moves : S → S → Type 0) (a b c : S) (us known : List Update) (most now_most : ℕ) (s : Setup) (p : Viewer) (st next : State) (box : Unpassed) (x y : List Input) (w : Bool) (old now : LinkState)
@@ -489,12 +487,11 @@ serving_heard looks moves a b us most s p st next box after x y is_offered answe
 
 -- ---- the end
 
-held_by : (s : Setup) (us : List Update) (p : Viewer) (acts : List Act) (st : State) → s.w ≤ 4096 → s.h ≤ 4096 → ((role : Role) × (greet : Bool) × (p ≡ new_viewer s role greet)) → AllMayBe s us p acts → Stands s st (without_input (viewer_after s us p acts))
+held_by : (s : Setup) (us : List Update) (p : Viewer) (acts : List Act) (st : State) → s.w ≤ 4096 → s.h ≤ 4096 → ((role : Role) × (greet : Bool) × (p ≡ new_viewer role greet)) → AllMayBe s us p acts → Stands s st (without_input (viewer_after s us p acts))
     → EachAnswerHolds s us (viewer_after s us p acts)
 held_by s us p acts st lw lh begun may stands =
-    let form : GivesAccepted s.extent.from_viewer = subst (λ (x : Extent). GivesAccepted x.from_viewer) (sym stands.serves.extent) client_message_fine in
     subst (λ (q : Viewer). EachAnswerHolds s us (viewer_after s us q acts)) (sym begun.2)
-    (holds_after_each_answer s lw lh form us begun.0 begun.1 acts (subst (λ (q : Viewer). AllMayBe s us q acts) begun.2 may))
+    (holds_after_each_answer s lw lh us begun.0 begun.1 acts (subst (λ (q : Viewer). AllMayBe s us q acts) begun.2 may))
 
 served_by : {S : Type 0} (looks : S → ℕ → S → Type 0) (moves refused : S → S → Type 0) (may_end was_set : Type 0) (may_refuse : Fault → Type 0) (a b c : S) (us : List Update) (most : ℕ) (s : Setup) (p : Viewer) (st : State) (box : Unpassed) (x y : List Input) (is_offered : Bool) (answer : Result (Unit {0}) Fault) (old new : LinkState)
     → (k : IsServing looks moves a b us most s p st box x y is_offered old new) → WaitsIfLeft box → EndsServing refused may_end was_set may_refuse b c s (viewer_after s us p k.acts) answer old new
@@ -601,8 +598,8 @@ served_end looks moves refused may_end was_set may_refuse a b us most s p st nex
     serving_still looks moves a b us most s p st box after x y y true old now new k (same.1 ∙ sym empty) refl (h.taken ∙ (ap (λ t. now.taken ++ t) so.0 ∙ append-nil now.taken)) h.given in
     let n : IsServing looks moves a b us most s p next after x y true old new = subst (λ (t : State). IsServing looks moves a b us most s p t after x y true old new) (sym same.0) m in
     let q : Viewer = viewer_after s us p n.acts in
-    let bare : IsBetween s (without_input q) = so.4 s (without_input q) n.stands in
-    let between : IsBetween s q = record { greeted = bare.greeted; begins = bare.begins } in
+    let bare : IsBetween (without_input q) = so.4 s (without_input q) n.stands in
+    let between : IsBetween q = record { greeted = bare.greeted; begins = bare.begins } in
     let left = unsent_left s next (without_input q) n.stands.serves in
     let none = so.3 in
     let written = n.stands.serves.written in

@@ -10,38 +10,13 @@ use Rattle.roles.specs.Allowed.{Input, allowed}
 use Rattle.roles.specs.Held.{Kept, HeldStands}
 use Rattle.link.specs.Links.{LinkState, HasRisen}
 use Rattle.reflect_core.specs.Sequential.{Begins}
-use Rattle.viewer_session.specs.Record.{Entry, Took, Saw, MadeCut, Began, NumbersUpTo, messages_in, received}
+use Rattle.viewer_session.specs.Record.{Entry, Took, Saw, MadeCut, Began, NumbersUpTo, before_last, messages_in, received}
 use Rattle.viewer_session.specs.Turn.{has_reason}
+use Rattle.viewer_session.specs.Acts.{Act, Bytes, Turn, Written, Passed, viewer_after}
 use Rattle.viewer_session.specs.Viewer.{Setup, Viewer, out_bytes, may_look, viewer_fault, after_bytes, after_cut}
 use Rattle.viewer_session.specs.Session.{State, Stands, IsBetween, after_look, after_writing, with_marks, without_input}
 
--- What is done for a viewer: bytes of it come, with a mark for each text that becomes whole in them; it has a turn,
--- with the reply of its look and, where it is cut, the number of the cut; so many more bytes of its hello and answers
--- are written; its input that waits goes to the sink.
-pub data Act : Type 0 where
-  Bytes : (marks : List Bool) → (bytes : List ℕ) → Act
-  Turn : (looked : ℕ) → (cut : Option ℕ) → Act
-  Written : (count : ℕ) → Act
-  Passed : Act
-
 -- A list of acts has the latest first.
-
--- What a turn makes of a viewer, where these are the updates: a cut is of the first of them.
-abbrev pub after_turn : Setup → List Update → (looked : ℕ) → Option ℕ → Viewer → Viewer
-after_turn s us looked None p = after_look looked p
-after_turn s us looked (Some n) p = after_cut s (take n us) (after_look looked p)
-
--- What an act makes of it.
-abbrev pub after_act : Setup → List Update → Act → Viewer → Viewer
-after_act s us (Bytes marks bytes) p = after_bytes s (with_marks marks p) bytes
-after_act s us (Turn looked cut) p = after_turn s us looked cut p
-after_act s us (Written count) p = after_writing count p
-after_act s us Passed p = without_input p
-
--- What all of them make of it.
-abbrev pub viewer_after : Setup → List Update → Viewer → List Act → Viewer
-viewer_after s us p [] = p
-viewer_after s us p (act ∷ acts) = after_act s us act (viewer_after s us p acts)
 
 -- A turn cuts where there is reason, at a number of updates that is at least each number that was seen or cut at.
 abbrev pub CutsWell : Setup → List Update → Viewer → (looked : ℕ) → Option ℕ → Type 0
@@ -86,25 +61,17 @@ has_turned (Saw number ∷ es) = true
 has_turned (MadeCut number ∷ es) = has_turned es
 has_turned (Began area number bytes ∷ es) = has_turned es
 
--- The record before the last message was taken.
-abbrev pub before_last : List Entry → List Entry
-before_last [] = []
-before_last (Took message ∷ es) = es
-before_last (Saw number ∷ es) = before_last es
-before_last (MadeCut number ∷ es) = before_last es
-before_last (Began area number bytes ∷ es) = before_last es
-
 -- All is done for the viewer: it stands between two messages behind its hello, no input waits, a turn was had since the
 -- last message, and all bytes of hello and answers were written.
 pub record IsDone (s : Setup) (p : Viewer) : Type 0 where
-  pub between : IsBetween s p
+  pub between : IsBetween p
   pub passed : p.waiting ≡ None
   pub turned : has_turned p.entries ≡ true
   pub written : p.written ≡ length (out_bytes s p)
 
 -- The link ended while bytes were unsent, or elsewhere than between two messages behind the hello; or it failed.
 abbrev pub HaltsBy : Fault → Setup → Viewer → (failed_old failed_new : ℕ) → (ended_old ended_new : ℕ) → Type 0
-HaltsBy LinkEnded s p failed_old failed_new ended_old ended_new = HasRisen ended_old ended_new × ((p.written < length (out_bytes s p)) ⊎ (IsBetween s p → ⊥))
+HaltsBy LinkEnded s p failed_old failed_new ended_old ended_new = HasRisen ended_old ended_new × ((p.written < length (out_bytes s p)) ⊎ (IsBetween p → ⊥))
 HaltsBy LinkFailed s p failed_old failed_new ended_old ended_new = HasRisen failed_old failed_new
 HaltsBy fault s p failed_old failed_new ended_old ended_new = ⊥
 

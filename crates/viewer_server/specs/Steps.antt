@@ -12,7 +12,8 @@ use Rattle.reflect_core.specs.Sequential.{Begins}
 use Rattle.viewer_session.specs.Record.{messages_in}
 use Rattle.viewer_session.specs.Viewer.{Setup, Viewer, out_bytes, after_bytes}
 use Rattle.viewer_session.specs.Session.{State, Stands, Turns, HasCounted, IsBetween, after_writing, fault_in, is_ready, with_marks, without_input}
-use Rattle.viewer_server.specs.Serving.{Act, AllMayBe, IsShown, bytes_in, viewer_after, before_last, EachAnswerHolds, EndsServing, IsRefused, LinkHalts}
+use Rattle.viewer_session.specs.Acts.{Act, HasPassed, viewer_after, waiting_list}
+use Rattle.viewer_server.specs.Serving.{AllMayBe, IsShown, bytes_in, EachAnswerHolds, EndsServing, IsRefused, LinkHalts}
 
 -- What has come of a viewer and isn't passed on yet: bytes that aren't read, and an input that isn't in the sink.
 pub record Unpassed : Type 0 where
@@ -23,11 +24,6 @@ pub record Unpassed : Type 0 where
 abbrev pub all_passed : Unpassed
 all_passed = record { unread = []; waiting = None }
 
--- An input that waits, as a list.
-abbrev pub waiting_in : Option Input → List Input
-waiting_in None = []
-waiting_in (Some input) = input ∷ []
-
 -- Bytes are left unread only while an input waits.
 abbrev pub WaitsIfLeft : Unpassed → Type 0
 WaitsIfLeft box = (box.unread ≡ []) ⊎ (is_some box.waiting ≡ true)
@@ -35,13 +31,13 @@ WaitsIfLeft box = (box.unread ≡ []) ⊎ (is_some box.waiting ≡ true)
 -- An input that waits went to the sink, which has room or is full; or it refused the input for good.
 abbrev pub Passes : (may_refuse : Fault → Type 0) → Result Bool Fault → (before after : Unpassed) → (sent_old sent_new : List Input) → Type 0
 Passes may_refuse (Ok true) before after sent_old sent_new = (is_some before.waiting ≡ true) × (after ≡ before) × (sent_new ≡ sent_old)
-Passes may_refuse (Ok false) before after sent_old sent_new = (after ≡ record before { waiting = None }) × (sent_new ≡ sent_old ++ waiting_in before.waiting)
+Passes may_refuse (Ok false) before after sent_old sent_new = (after ≡ record before { waiting = None }) × (sent_new ≡ sent_old ++ waiting_list before.waiting)
 Passes may_refuse (Err fault) before after sent_old sent_new = (is_some before.waiting ≡ true) × (after ≡ before) × (sent_new ≡ sent_old) × IsRefused may_refuse fault
 
 -- The session stands for the viewer after these bytes but for the input that waits, which is this.
 pub record ReadsTo (s : Setup) (p : Viewer) (st : State) (marks : List Bool) (bytes : List ℕ) (next : Option Input) : Type 0 where
-  pub stands : Stands s st (without_input (after_bytes s (with_marks marks p) bytes))
-  pub waiting : (after_bytes s (with_marks marks p) bytes).waiting ≡ next
+  pub stands : Stands s st (without_input (after_bytes (with_marks marks p) bytes))
+  pub waiting : (after_bytes (with_marks marks p) bytes).waiting ≡ next
 
 -- Of the unread bytes the first were read, up to an input that waits now, or all.
 pub record Reads (old new : State) (before after : Unpassed) : Type 0 where
@@ -101,7 +97,7 @@ HasHeard (b ∷ bs) old new after = Reads old new (record { unread = b ∷ bs; w
 -- the session is at this fault; or the link halted.
 abbrev pub HeardSo : Result Bool Fault → List ℕ → State → (old new : LinkState) → Type 0
 HeardSo (Ok true) piece st old new = (new.failed ≡ old.failed) × (new.ended ≡ old.ended)
-HeardSo (Ok false) piece st old new = (piece ≡ []) × HasRisen old.ended new.ended × (new.failed ≡ old.failed) × (length st.unsent ≡ 0) × ((s : Setup) (p : Viewer) → Stands s st p → IsBetween s p)
+HeardSo (Ok false) piece st old new = (piece ≡ []) × HasRisen old.ended new.ended × (new.failed ≡ old.failed) × (length st.unsent ≡ 0) × ((s : Setup) (p : Viewer) → Stands s st p → IsBetween p)
 HeardSo (Err fault) piece st old new = ((fault_in st ≡ Some fault) × (new.failed ≡ old.failed) × (new.ended ≡ old.ended)) ⊎ ((piece ≡ []) × ((s : Setup) (p : Viewer) → Stands s st p → LinkHalts fault s p old new))
 
 -- Bytes were taken, if any had come, and read.
@@ -113,15 +109,6 @@ pub record Hears (answer : Result Bool Fault) (before after : State) (box : Unpa
   pub so : HeardSo answer piece after old new
 
 -- ---- all of them
-
--- What the viewer's messages ask of the host is what the sink took, and then what waits; it took all that the messages
--- before the last bring. What is kept stands for the messages.
-pub record HasPassed (p : Viewer) (sent : List Input) : Type 0 where
-  pub kept : Kept
-  pub held : HeldStands p.role kept (messages_in p.entries)
-  pub keys : p.keys ≡ kept.keys
-  pub all : allowed p.role (messages_in p.entries) false ≡ sent ++ waiting_in p.waiting
-  pub all_but_last : Begins (allowed p.role (messages_in (before_last p.entries)) false) sent
 
 -- A viewer was served until it left.
 pub record HasServed {S : Type 0} (looks : S → ℕ → S → Type 0) (moves refused : S → S → Type 0) (may_end was_set : Type 0) (may_refuse : Fault → Type 0) (source_old source_new : S) (us : List Update) (s : Setup) (p : Viewer) (st : State)

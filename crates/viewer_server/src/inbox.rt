@@ -3,7 +3,8 @@
 ghost use Rattle.std.specs.Prelude.{◌≡◌, ◌++◌, [], true, false, None, Some, is_some, IfErr};
 ghost use Rattle.roles.specs.Held.{left_in};
 ghost use Rattle.viewer_session.specs.Session.{IsSameSession, fault_in};
-ghost use Rattle.viewer_server.specs.Steps.{FillsAs, Passes, Reads, all_passed, waiting_in};
+ghost use Rattle.viewer_server.specs.Steps.{FillsAs, Passes, Reads, all_passed};
+ghost use Rattle.viewer_session.specs.Acts.{waiting_list};
 
 use link::{Link, Took};
 use pixel_format::Fault;
@@ -123,7 +124,7 @@ impl Inbox {
     /// Lets the next release wait. It answers whether there is one.
     pub(crate) fn release(&mut self, session: &mut Session) -> bool
         requires { self.old.waiting ≡ None }
-        ensures next { left_in session.old.held ≡ waiting_in self.new.waiting ++ left_in session.new.held }
+        ensures next { left_in session.old.held ≡ waiting_list self.new.waiting ++ left_in session.new.held }
         ensures none { result ≡ false → (self.new.waiting ≡ None) × (left_in session.new.held ≡ []) }
     {
         self.waiting = session.leave();

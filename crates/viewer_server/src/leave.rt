@@ -2,7 +2,8 @@
 
 ghost use Rattle.std.specs.Prelude.{◌++◌};
 ghost use Rattle.roles.specs.Held.{left_in};
-ghost use Rattle.viewer_server.specs.Steps.{Leaves, waiting_in};
+ghost use Rattle.viewer_server.specs.Steps.{Leaves};
+ghost use Rattle.viewer_session.specs.Acts.{waiting_list};
 
 use crate::inbox::Inbox;
 use link::{Rest, StopFlag};
@@ -21,7 +22,7 @@ pub(crate) fn leave<K: InputSink, F: StopFlag, Z: Rest, R: Wait>(
     stop: &F,
     rest: &Z,
 ) -> Result<(), Fault>
-    ensures { Leaves (F.was_set stop.now) K.may_refuse (waiting_in inbox.old.waiting ++ left_in session.old.held) (K.sent sink.old) (K.sent sink.new) result }
+    ensures { Leaves (F.was_set stop.now) K.may_refuse (waiting_list inbox.old.waiting ++ left_in session.old.held) (K.sent sink.old) (K.sent sink.new) result }
 {
     for _ in rt.forever() {
         if !inbox.waits() && !inbox.release(session) {

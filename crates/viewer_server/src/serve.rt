@@ -103,8 +103,8 @@ pub(crate) fn serve<L: Link, S: ScreenSource, K: InputSink, F: StopFlag, Z: Rest
     requires screen { (S.width source.old ≡ session.old.width) × (S.height source.old ≡ session.old.height) }
     requires uncut { session.old.asked.last ≡ None }
     requires empty { inbox.old ≡ all_passed }
-    ensures { (s : Setup) (role : roles.Role) (greet : Bool) → Stands s session.old (new_viewer s role greet)
-        → HasServed S.looks S.moves (λ before after. HasOnlyLooked S.looks S.known S.answered before after) S.may_end (F.was_set stop.now) K.may_refuse source.old source.new (S.known source.new) s (new_viewer s role greet) session.new inbox.new (K.sent sink.old) (K.sent sink.new) result (L.state link.old) (L.state link.new) }
+    ensures { (s : Setup) (role : roles.Role) (greet : Bool) → Stands s session.old (new_viewer role greet)
+        → HasServed S.looks S.moves (λ before after. HasOnlyLooked S.looks S.known S.answered before after) S.may_end (F.was_set stop.now) K.may_refuse source.old source.new (S.known source.new) s (new_viewer role greet) session.new inbox.new (K.sent sink.old) (K.sent sink.new) result (L.state link.old) (L.state link.new) }
 {
     for _ in rt.forever() {
         if stop.is_set() {

@@ -4,16 +4,15 @@ use Rattle.std.specs.Prelude.{if◌then◌else◌, is_some, option_map}
 use Rattle.pixel_format.specs.declared.fault.Fault.{Fault}
 use Rattle.pixel_format.specs.Reading.{Reading, Done, Faulty, Want, Gives, after, taken, whole_of, fault_of, wants_more, renewed}
 use Rattle.pixel_format.proofs.ReadingLaws.{after-faulty}
-use Rattle.rfb_wire.specs.ClientMessage.{ClientMessage, SetPixelFormat, SetEncodings, Ask, Key, Pointer, CutText, LostText, without_text}
+use Rattle.rfb_wire.specs.ClientMessage.{ClientMessage, without_text}
 use Rattle.rfb_wire.specs.ClientReader.{ahead}
 use Rattle.rfb_wire.specs.Greeting.{Greeting}
 use Rattle.rfb_wire.specs.Message.{viewer_form, IsOrLoses, FeedsOrLoses}
 use Rattle.rfb_wire.proofs.Losing.{goes_on_fed, goes_on_faults, goes_on_taken}
 use Rattle.roles.specs.Allowed.{Input, keys_after, passes}
 use Rattle.roles.specs.Held.{input_for}
-use Rattle.viewer_session.specs.Extent.{Extent, everything}
 use Rattle.viewer_session.specs.Record.{Took}
-use Rattle.viewer_session.specs.Viewer.{Setup, Viewer, after_byte, after_bytes, marked, served, with_input, with_message}
+use Rattle.viewer_session.specs.Viewer.{Setup, Viewer, after_byte, after_bytes, marked, with_input, with_message}
 use Rattle.viewer_session.specs.Session.{State, Serves, Stands, FeedsTo, HasFed, HasKeptShort, IsFeeding, IsSameSession, ReadsOne, at_rest, hello_of, hello_fault, fault_in, is_greeted, marks_in, text_mark, after_taking, with_marks}
 use Rattle.viewer_session.proofs.Feeding.{past_hello, takes_whole, goes_on, stays}
 use Rattle.viewer_session.proofs.HelloLaws.{past}
@@ -28,7 +27,7 @@ pub feeding_on : (old now new : State) (marks others : List Bool) (piece left re
 feeding_on old now new marks others piece left rest h l = λ s p more k.
     let f : HasFed s (record p { lost = marks ++ (others ++ more) }) now (others ++ more) piece left = h s p (others ++ more) k in
     let g : HasFed s (record f.viewer { lost = others ++ more }) new more left rest = l s f.viewer more f.stands in
-    record { viewer = g.viewer; stands = g.stands; rest = ap (λ (ms : List Bool). after_bytes s (record p { lost = ms }) piece) (append_assoc marks others more) ∙ (f.rest ∙ g.rest) }
+    record { viewer = g.viewer; stands = g.stands; rest = ap (λ (ms : List Bool). after_bytes (record p { lost = ms }) piece) (append_assoc marks others more) ∙ (f.rest ∙ g.rest) }
 
 -- ---- readings
 
@@ -83,7 +82,6 @@ read_on s now mid q r both e reads w short =
       serves = record {
         width = k.width;
         height = k.height;
-        extent = k.extent;
         role = k.role;
         rests = ap (λ (p : Viewer). with_reading p r) k.rests;
         greets = k.greets;
@@ -114,22 +112,13 @@ feeding_goes_on old mid left used g none e one = λ s p more k.
     record {
       viewer = with_reading p (after r left);
       stands = on;
-      rest = ap (λ t. after_bytes s t left) (past_with s old p more k g none)
-          ∙ (goes_on s (with_lost p more) r left no_whole
-          ∙ (ap (λ n. after_bytes s (past_hello (with_reading (with_lost p more) (after r left))) (drop n left)) (sym fed.1)
-          ∙ ap (λ t. after_bytes s t (drop used left)) (sym (past_with s mid (with_reading p (after r left)) more on (ap is_greeted e ∙ g) (ap (λ (st : State). st.waiting) e ∙ none)))));
+      rest = ap (λ t. after_bytes t left) (past_with s old p more k g none)
+          ∙ (goes_on (with_lost p more) r left no_whole
+          ∙ (ap (λ n. after_bytes (past_hello (with_reading (with_lost p more) (after r left))) (drop n left)) (sym fed.1)
+          ∙ ap (λ t. after_bytes t (drop used left)) (sym (past_with s mid (with_reading p (after r left)) more on (ap is_greeted e ∙ g) (ap (λ (st : State). st.waiting) e ∙ none)))));
     }
 
 -- ---- a message is taken
-
-served_all : (s : Setup) (m : ClientMessage) → s.extent ≡ everything → served s m ≡ m
-served_all s (SetPixelFormat format) e = refl
-served_all s (SetEncodings choice) e = ap (λ (x : Extent). served (record s { extent = x }) (SetEncodings choice)) e
-served_all s (Ask incremental area) e = refl
-served_all s (Key down key) e = refl
-served_all s (Pointer mask x y) e = refl
-served_all s (CutText text) e = refl
-served_all s (LostText len) e = refl
 
 marks_if : (q : Viewer) (marks : List Bool) (input : Input) (b : Bool)
     → (if b then record q { lost = marks; keys = keys_after q.keys input; waiting = Some input } else with_lost q marks) ≡ with_lost (if b then record q { keys = keys_after q.keys input; waiting = Some input } else q) marks
@@ -141,13 +130,8 @@ marks_stay : (q : Viewer) (marks : List Bool) (o : Option Input) → with_input 
 marks_stay q marks None = refl
 marks_stay q marks (Some input) = marks_if q marks input (passes q.keys input)
 
-takes_message : (s : Setup) (q : Viewer) (m : ClientMessage) (more : List Bool) → s.extent ≡ everything
-    → with_message s q (m, more) ≡ with_lost (after_taking m (with_reading q viewer_form)) more
-takes_message s q m more e =
-    let noted : ClientMessage → Option Input → Viewer = λ t o. with_input (record q { entries = Took t ∷ q.entries; lost = more; reading = viewer_form }) o in
-    ap (λ (x : Extent). with_input (record q { entries = Took (served s m) ∷ q.entries; lost = more; reading = x.from_viewer }) (if x.relays_input then input_for q.role m else None)) e
-    ∙ (ap (λ (t : ClientMessage). noted t (input_for q.role m)) (served_all s m e)
-    ∙ marks_stay (record q { entries = Took m ∷ q.entries; reading = viewer_form }) more (input_for q.role m))
+takes_message : (q : Viewer) (m : ClientMessage) (more : List Bool) → with_message q (m, more) ≡ with_lost (after_taking m (with_reading q viewer_form)) more
+takes_message q m more = marks_stay (record q { entries = Took m ∷ q.entries; reading = viewer_form }) more (input_for q.role m)
 
 -- A message was whole, and was taken.
 pub feeding_takes : (old mid new : State) (left : List ℕ) (used : ℕ) (m : ClientMessage) → is_greeted old ≡ true → old.waiting ≡ None → mid ≡ record old { reader = mid.reader } → ReadsOne old mid left used (Some m)
@@ -162,17 +146,17 @@ feeding_takes old mid new left used m g none e one takes = λ s p more k.
     let reads : IsOrLoses (ahead mid.reader) viewer_form = subst (λ (x : Reading ClientMessage). IsOrLoses (ahead mid.reader) x) anew gave.1 in
     let short : HasKeptShort has.message = subst (λ (x : Reading ClientMessage). Gives HasKeptShort x) has.whole (gives_after HasKeptShort r left k.serves.short) in
     let on : Stands s mid (with_reading p viewer_form) = read_on s old mid p viewer_form k e reads refl client_message_short in
-    let front : after_bytes s (with_lost p marks) left ≡ after_bytes s (with_message s (past_hello (with_lost p marks)) (m, more)) (drop used left) =
-    ap (λ t. after_bytes s t left) (past_with s old p marks k g none)
-    ∙ (takes_whole s (with_lost p marks) r left has.message (wants_open r left k.serves.taken fed.2) has.whole
-    ∙ (ap (λ n. after_bytes s (with_message s (past_hello (with_lost p marks)) (marked marks has.message)) (drop n left)) (sym fed.1)
-    ∙ ap (λ t. after_bytes s (with_message s (past_hello (with_lost p marks)) t) (drop used left)) (marks_told m has.message more short has.or_lost))) in
+    let front : after_bytes (with_lost p marks) left ≡ after_bytes (with_message (past_hello (with_lost p marks)) (m, more)) (drop used left) =
+    ap (λ t. after_bytes t left) (past_with s old p marks k g none)
+    ∙ (takes_whole (with_lost p marks) r left has.message (wants_open r left k.serves.taken fed.2) has.whole
+    ∙ (ap (λ n. after_bytes (with_message (past_hello (with_lost p marks)) (marked marks has.message)) (drop n left)) (sym fed.1)
+    ∙ ap (λ t. after_bytes (with_message (past_hello (with_lost p marks)) t) (drop used left)) (marks_told m has.message more short has.or_lost))) in
     record {
       viewer = after_taking m (with_reading p viewer_form);
       stands = takes s (with_reading p viewer_form) on;
       rest = front
-          ∙ (ap (λ t. after_bytes s (with_message s t (m, more)) (drop used left)) (sym (past_with s old p marks k g none))
-          ∙ ap (λ t. after_bytes s t (drop used left)) (takes_message s (with_lost p marks) m more k.serves.extent ∙ lost_again p m marks more));
+          ∙ (ap (λ t. after_bytes (with_message t (m, more)) (drop used left)) (sym (past_with s old p marks k g none))
+          ∙ ap (λ t. after_bytes t (drop used left)) (takes_message (with_lost p marks) m more ∙ lost_again p m marks more));
     }
   where
     lost_again : (p : Viewer) (m : ClientMessage) (marks more : List Bool) → with_lost (after_taking m (with_reading (with_lost p marks) viewer_form)) more ≡ with_lost (after_taking m (with_reading p viewer_form)) more
@@ -188,19 +172,19 @@ feeding_faults old new left fault g none e fed = λ s p more k.
     record {
       viewer = q;
       stands = on;
-      rest = ap (λ t. after_bytes s t left) (past_with s old p more k g none)
-          ∙ (goes_on s (with_lost p more) r left (ap whole_of met.1)
-          ∙ (ap (λ x. after_bytes s (past_hello (with_reading (with_lost p more) x)) (drop (taken r left) left)) met.1
-          ∙ (stays s (with_lost p more) fault (drop (taken r left) left)
+      rest = ap (λ t. after_bytes t left) (past_with s old p more k g none)
+          ∙ (goes_on (with_lost p more) r left (ap whole_of met.1)
+          ∙ (ap (λ x. after_bytes (past_hello (with_reading (with_lost p more) x)) (drop (taken r left) left)) met.1
+          ∙ (stays (with_lost p more) fault (drop (taken r left) left)
           ∙ ap (λ (t : Viewer). record t { unread = [] }) (sym (past_with s new q more on (ap is_greeted e ∙ g) (ap (λ (st : State). st.waiting) e ∙ none))))));
     }
 
 -- ---- all of a piece
 
-left_unread : (s : Setup) (q : Viewer) (left : List ℕ) → (left ≡ []) ⊎ (is_some q.waiting ≡ true) → after_bytes s q left ≡ record q { unread = left }
-left_unread s q left (inl e) = ap (after_bytes s q) e ∙ ap (λ (bs : List ℕ). record q { unread = bs }) (sym e)
-left_unread s q [] (inr e) = refl
-left_unread s q (b ∷ bs) (inr e) = ap (λ (w : Bool). if w then record q { unread = b ∷ bs } else after_bytes s (after_byte s q b) bs) e
+left_unread : (q : Viewer) (left : List ℕ) → (left ≡ []) ⊎ (is_some q.waiting ≡ true) → after_bytes q left ≡ record q { unread = left }
+left_unread q left (inl e) = ap (after_bytes q) e ∙ ap (λ (bs : List ℕ). record q { unread = bs }) (sym e)
+left_unread q [] (inr e) = refl
+left_unread q (b ∷ bs) (inr e) = ap (λ (w : Bool). if w then record q { unread = b ∷ bs } else after_bytes (after_byte q b) bs) e
 
 ends_by : (st : State) (q : Viewer) (left : List ℕ) → q.waiting ≡ st.waiting → (left ≡ []) ⊎ (is_some st.waiting ≡ true) → (left ≡ []) ⊎ (is_some q.waiting ≡ true)
 ends_by st q left same (inl e) = inl e
@@ -213,9 +197,9 @@ feeds_to old new marks piece left h ends = λ s p k.
     let q : Viewer = f.viewer in
     let rests : q ≡ at_rest q = f.stands.serves.rests in
     let bare : with_lost q [] ≡ q = ap (λ (t : Viewer). with_lost t []) rests ∙ sym rests in
-    let all : after_bytes s (with_marks marks p) piece ≡ record q { unread = left } =
-    ap (λ (ms : List Bool). after_bytes s (with_marks ms p) piece) (sym (append-nil marks))
-    ∙ (f.rest ∙ (ap (λ t. after_bytes s t left) bare ∙ left_unread s q left (ends_by new q left f.stands.relays.waiting ends))) in
+    let all : after_bytes (with_marks marks p) piece ≡ record q { unread = left } =
+    ap (λ (ms : List Bool). after_bytes (with_marks ms p) piece) (sym (append-nil marks))
+    ∙ (f.rest ∙ (ap (λ t. after_bytes t left) bare ∙ left_unread q left (ends_by new q left f.stands.relays.waiting ends))) in
     record {
       stands = subst (λ (t : Viewer). Stands s new (at_rest t)) (sym all) (subst (λ (t : Viewer). Stands s new t) rests f.stands);
       unread = ap (λ (t : Viewer). t.unread) all;

@@ -7,7 +7,7 @@ use Rattle.pixel_format.proofs.ReadingLaws.{after-done, after-faulty, taken-le, 
 use Rattle.rfb_wire.specs.ClientMessage.{ClientMessage, without_text}
 use Rattle.rfb_wire.specs.Message.{viewer_form, losing, FeedsOrLoses}
 use Rattle.rfb_wire.proofs.Losing.{losing-whole}
-use Rattle.viewer_session.specs.Viewer.{Setup, Viewer, marked, with_message, after_reading, after_bytes}
+use Rattle.viewer_session.specs.Viewer.{Viewer, marked, with_message, after_reading, after_bytes}
 
 -- A viewer whose hello is done, of which no byte is unread and no input waits.
 abbrev pub past_hello : Viewer → Viewer
@@ -23,44 +23,44 @@ is_not : (f : Fault) (m : ClientMessage) → Faulty f ≡ Done m → ⊥
 is_not f m e = cc
 
 -- The bytes up to the end of a message: it is taken, and the bytes behind it are left.
-whole_from : (s : Setup) (p : Viewer) (r : Reading ClientMessage) (bs : List ℕ) (m : ClientMessage) → after r bs ≡ Done m
-    → after_bytes s (after_reading s (past_hello p) r) bs ≡ after_bytes s (with_message s (past_hello p) (marked p.lost m)) (drop (taken r bs) bs)
-whole_from s p (Done x) bs m e =
+whole_from : (p : Viewer) (r : Reading ClientMessage) (bs : List ℕ) (m : ClientMessage) → after r bs ≡ Done m
+    → after_bytes (after_reading (past_hello p) r) bs ≡ after_bytes (with_message (past_hello p) (marked p.lost m)) (drop (taken r bs) bs)
+whole_from p (Done x) bs m e =
     let same : x ≡ m = done_is x m (sym (after-done x bs) ∙ e) in
-    ap (λ y. after_bytes s (with_message s (past_hello p) (marked p.lost y)) bs) same
-whole_from s p (Faulty f) bs m e = absurd (is_not f m (sym (after-faulty f bs) ∙ e))
-whole_from s p (Want more) [] m e = absurd cc
-whole_from s p (Want more) (b ∷ bs) m e = whole_from s p (more b) bs m e
+    ap (λ y. after_bytes (with_message (past_hello p) (marked p.lost y)) bs) same
+whole_from p (Faulty f) bs m e = absurd (is_not f m (sym (after-faulty f bs) ∙ e))
+whole_from p (Want more) [] m e = absurd cc
+whole_from p (Want more) (b ∷ bs) m e = whole_from p (more b) bs m e
 
-pub takes_whole : (s : Setup) (p : Viewer) (r : Reading ClientMessage) (bs : List ℕ) (m : ClientMessage) → wants_more r ≡ true → after r bs ≡ Done m
-    → after_bytes s (past_hello (with_reading p r)) bs ≡ after_bytes s (with_message s (past_hello p) (marked p.lost m)) (drop (taken r bs) bs)
-takes_whole s p (Done x) bs m w e = absurd cc
-takes_whole s p (Faulty f) bs m w e = absurd cc
-takes_whole s p (Want more) [] m w e = absurd cc
-takes_whole s p (Want more) (b ∷ bs) m w e = whole_from s p (more b) bs m e
+pub takes_whole : (p : Viewer) (r : Reading ClientMessage) (bs : List ℕ) (m : ClientMessage) → wants_more r ≡ true → after r bs ≡ Done m
+    → after_bytes (past_hello (with_reading p r)) bs ≡ after_bytes (with_message (past_hello p) (marked p.lost m)) (drop (taken r bs) bs)
+takes_whole p (Done x) bs m w e = absurd cc
+takes_whole p (Faulty f) bs m w e = absurd cc
+takes_whole p (Want more) [] m w e = absurd cc
+takes_whole p (Want more) (b ∷ bs) m w e = whole_from p (more b) bs m e
 
 some_is_not : (m : ClientMessage) → Some m ≡ None → ⊥
 some_is_not m e = cc
 
-goes_on_from : (s : Setup) (p : Viewer) (r : Reading ClientMessage) (bs : List ℕ) → whole_of (after r bs) ≡ None
-    → after_bytes s (after_reading s (past_hello p) r) bs ≡ after_bytes s (past_hello (with_reading p (after r bs))) (drop (taken r bs) bs)
-goes_on_from s p (Done x) bs e = absurd (some_is_not x (sym (ap whole_of (after-done x bs)) ∙ e))
-goes_on_from s p (Faulty f) bs e = ap (λ r. after_bytes s (past_hello (with_reading p r)) bs) (sym (after-faulty f bs))
-goes_on_from s p (Want more) [] e = refl
-goes_on_from s p (Want more) (b ∷ bs) e = goes_on_from s p (more b) bs e
+goes_on_from : (p : Viewer) (r : Reading ClientMessage) (bs : List ℕ) → whole_of (after r bs) ≡ None
+    → after_bytes (after_reading (past_hello p) r) bs ≡ after_bytes (past_hello (with_reading p (after r bs))) (drop (taken r bs) bs)
+goes_on_from p (Done x) bs e = absurd (some_is_not x (sym (ap whole_of (after-done x bs)) ∙ e))
+goes_on_from p (Faulty f) bs e = ap (λ r. after_bytes (past_hello (with_reading p r)) bs) (sym (after-faulty f bs))
+goes_on_from p (Want more) [] e = refl
+goes_on_from p (Want more) (b ∷ bs) e = goes_on_from p (more b) bs e
 
 -- Bytes that end no message leave the reading of one gone on by them. A fault takes none.
-pub goes_on : (s : Setup) (p : Viewer) (r : Reading ClientMessage) (bs : List ℕ) → whole_of (after r bs) ≡ None
-    → after_bytes s (past_hello (with_reading p r)) bs ≡ after_bytes s (past_hello (with_reading p (after r bs))) (drop (taken r bs) bs)
-goes_on s p (Done x) bs e = absurd (some_is_not x (sym (ap whole_of (after-done x bs)) ∙ e))
-goes_on s p (Faulty f) bs e = ap (λ r. after_bytes s (past_hello (with_reading p r)) bs) (sym (after-faulty f bs))
-goes_on s p (Want more) [] e = refl
-goes_on s p (Want more) (b ∷ bs) e = goes_on_from s p (more b) bs e
+pub goes_on : (p : Viewer) (r : Reading ClientMessage) (bs : List ℕ) → whole_of (after r bs) ≡ None
+    → after_bytes (past_hello (with_reading p r)) bs ≡ after_bytes (past_hello (with_reading p (after r bs))) (drop (taken r bs) bs)
+goes_on p (Done x) bs e = absurd (some_is_not x (sym (ap whole_of (after-done x bs)) ∙ e))
+goes_on p (Faulty f) bs e = ap (λ r. after_bytes (past_hello (with_reading p r)) bs) (sym (after-faulty f bs))
+goes_on p (Want more) [] e = refl
+goes_on p (Want more) (b ∷ bs) e = goes_on_from p (more b) bs e
 
 -- Behind a fault nothing changes.
-pub stays : (s : Setup) (p : Viewer) (f : Fault) (bs : List ℕ) → after_bytes s (past_hello (with_reading p (Faulty f))) bs ≡ past_hello (with_reading p (Faulty f))
-stays s p f [] = refl
-stays s p f (b ∷ bs) = stays s p f bs
+pub stays : (p : Viewer) (f : Fault) (bs : List ℕ) → after_bytes (past_hello (with_reading p (Faulty f))) bs ≡ past_hello (with_reading p (Faulty f))
+stays p f [] = refl
+stays p f (b ∷ bs) = stays p f bs
 
 -- A reader in which no whole message waits uses some byte of a piece, where it meets no fault.
 fed_some : (r new : Reading ClientMessage) (piece : List ℕ) (used : ℕ) → whole_of r ≡ None → Feeds r new piece (Ok used) → (used ≤ length piece) × (0 < length piece → 0 < used)

@@ -171,8 +171,8 @@ spoken_on g b out new wants k filled alone =
 
 -- ---- the viewer that takes it
 
-takes_it : (s : Setup) (p : Viewer) (b : ℕ) → wants_more p.hello ≡ true → after_byte s p b ≡ after_hello p (step p.hello b)
-takes_it s p b wants = ap (λ w. if w then after_hello p (step p.hello b) else (if is_some (viewer_fault p) then p else after_reading s p (step p.reading b))) wants
+takes_it : (s : Setup) (p : Viewer) (b : ℕ) → wants_more p.hello ≡ true → after_byte p b ≡ after_hello p (step p.hello b)
+takes_it s p b wants = ap (λ w. if w then after_hello p (step p.hello b) else (if is_some (viewer_fault p) then p else after_reading p (step p.reading b))) wants
 
 -- Only the hello and what is said in it went on.
 serves_hello : (s : Setup) (st : State) (p : Viewer) (g : Greeting) (hello : Reading (Unit {0})) (said : ℕ) (piece unsent : List ℕ) → Serves s st p → GreetsAs s g p.greet hello said p.said_after
@@ -182,7 +182,6 @@ serves_hello s st p g hello said piece unsent k greets written left =
     record {
       width = k.width;
       height = k.height;
-      extent = k.extent;
       role = k.role;
       rests = ap (λ (q : Viewer). record q { hello = hello; said = said }) k.rests;
       greets = greets;
@@ -256,12 +255,12 @@ takes_with : (p : Viewer) (r : Reading (Unit {0})) (o : Option Fault) → fault_
 takes_with p r o e = ap (λ q. record p { hello = r; said = if is_some q then p.said else p.said + 1 }) e
 
 pub serves_byte : (s : Setup) (st : State) (p : Viewer) (g : Greeting) (b : ℕ) (piece : List ℕ) → st.greeting ≡ Some g → wants_more (ahead g) ≡ true → g.sent ≡ length (said_to_viewer g.w g.h g.name (length g.begun)) → Serves s st p
-    → Serves s (record st { greeting = Some (with_said (with_byte g b)); piece = piece; unsent = st.unsent ++ to_send (with_byte g b) }) (after_byte s p b)
+    → Serves s (record st { greeting = Some (with_said (with_byte g b)); piece = piece; unsent = st.unsent ++ to_send (with_byte g b) }) (after_byte p b)
 serves_byte s st p g b piece is wants sent k =
     let greets : GreetsAs s g p.greet p.hello p.said p.said_after = subst (λ (o : Option Greeting). Greets s o p.greet p.hello p.said p.said_after) is k.greets in
     let wanted : wants_more p.hello ≡ true = ap wants_more greets.goes_on ∙ wants in
     let steps : step p.hello b ≡ ahead (with_byte g b) = ap (λ r. step r b) greets.goes_on ∙ sym (greeting_steps g b) in
-    let same : after_byte s p b ≡ record p { hello = step p.hello b; said = if is_some (fault_of (ahead (with_byte g b))) then p.said else p.said + 1 } =
+    let same : after_byte p b ≡ record p { hello = step p.hello b; said = if is_some (fault_of (ahead (with_byte g b))) then p.said else p.said + 1 } =
     takes_it s p b wanted ∙ takes_with p (step p.hello b) (fault_of (ahead (with_byte g b))) (ap fault_of steps) in
     subst (λ q. Serves s (record st { greeting = Some (with_said (with_byte g b)); piece = piece; unsent = st.unsent ++ to_send (with_byte g b) }) q) (sym same)
     (serves_byte_by s st p g b (fault_of (ahead (with_byte g b))) piece k greets wanted sent steps refl)
@@ -270,37 +269,37 @@ serves_byte s st p g b piece is wants sent k =
 
 -- A byte of the hello leaves the input as it is.
 pub stands_byte : (s : Setup) (st : State) (p : Viewer) (g : Greeting) (b : ℕ) (piece : List ℕ) → st.greeting ≡ Some g → wants_more (ahead g) ≡ true → g.sent ≡ length (said_to_viewer g.w g.h g.name (length g.begun)) → Stands s st p
-    → Stands s (record st { greeting = Some (with_said (with_byte g b)); piece = piece; unsent = st.unsent ++ to_send (with_byte g b) }) (after_byte s p b)
+    → Stands s (record st { greeting = Some (with_said (with_byte g b)); piece = piece; unsent = st.unsent ++ to_send (with_byte g b) }) (after_byte p b)
 stands_byte s st p g b piece is wants sent k =
     let new : State = record st { greeting = Some (with_said (with_byte g b)); piece = piece; unsent = st.unsent ++ to_send (with_byte g b) } in
     let wanted : wants_more p.hello ≡ true = ap wants_more (hello_served s st p k.serves ∙ ap hello_of is) ∙ wants in
-    let same : after_byte s p b ≡ after_hello p (step p.hello b) = takes_it s p b wanted in
+    let same : after_byte p b ≡ after_hello p (step p.hello b) = takes_it s p b wanted in
     record {
       serves = serves_byte s st p g b piece is wants sent k.serves;
       relays = subst (λ (q : Viewer). Relays new q) (sym same) (record { waiting = k.relays.waiting; keys = k.relays.keys; held = k.relays.held });
     }
 
-waits_for_none : (s : Setup) (q : Viewer) (b : ℕ) (bs : List ℕ) → q.waiting ≡ None → after_bytes s q (b ∷ bs) ≡ after_bytes s (after_byte s q b) bs
-waits_for_none s q b bs none = ap (λ (o : Option Input). if is_some o then record q { unread = b ∷ bs } else after_bytes s (after_byte s q b) bs) none
+waits_for_none : (s : Setup) (q : Viewer) (b : ℕ) (bs : List ℕ) → q.waiting ≡ None → after_bytes q (b ∷ bs) ≡ after_bytes (after_byte q b) bs
+waits_for_none s q b bs none = ap (λ (o : Option Input). if is_some o then record q { unread = b ∷ bs } else after_bytes (after_byte q b) bs) none
 
 -- The marks of texts are for what comes behind the hello.
-marked_on : (s : Setup) (q : Viewer) (b : ℕ) (more : List Bool) → wants_more q.hello ≡ true → after_byte s (record q { lost = more }) b ≡ record (after_byte s q b) { lost = more }
+marked_on : (s : Setup) (q : Viewer) (b : ℕ) (more : List Bool) → wants_more q.hello ≡ true → after_byte (record q { lost = more }) b ≡ record (after_byte q b) { lost = more }
 marked_on s q b more wants = takes_it s (record q { lost = more }) b wants ∙ ap (λ (t : Viewer). record t { lost = more }) (sym (takes_it s q b wants))
 
 pub feeding_byte : (old now new : State) (piece : List ℕ) (used : ℕ) → IsFeeding old now [] piece (drop used piece) → used < length piece → wants_more (hello_of now.greeting) ≡ true → now.waiting ≡ None
-    → ((s : Setup) (p : Viewer) → Stands s now p → Stands s new (after_byte s p (get_or piece used 0))) → IsFeeding old new [] piece (drop (used + 1) piece)
+    → ((s : Setup) (p : Viewer) → Stands s now p → Stands s new (after_byte p (get_or piece used 0))) → IsFeeding old new [] piece (drop (used + 1) piece)
 feeding_byte old now new piece used h lt wants none takes = λ s p more k.
     let f : HasFed s (record p { lost = more }) now more piece (drop used piece) = h s p more k in
     let q : Viewer = f.viewer in
     let b : ℕ = get_or piece used 0 in
     let wanted : wants_more q.hello ≡ true = ap wants_more (hello_served s now q f.stands.serves) ∙ wants in
     record {
-      viewer = after_byte s q b;
+      viewer = after_byte q b;
       stands = takes s q f.stands;
       rest = f.rest
-          ∙ (ap (after_bytes s (record q { lost = more })) (drop-cons piece used 0 lt)
+          ∙ (ap (after_bytes (record q { lost = more })) (drop-cons piece used 0 lt)
           ∙ (waits_for_none s (record q { lost = more }) b (drop (suc used) piece) (f.stands.relays.waiting ∙ none)
-          ∙ (ap (λ t. after_bytes s t (drop (suc used) piece)) (marked_on s q b more wanted) ∙ ap (λ n. after_bytes s (record (after_byte s q b) { lost = more }) (drop n piece)) (sym (add-one used)))));
+          ∙ (ap (λ t. after_bytes t (drop (suc used) piece)) (marked_on s q b more wanted) ∙ ap (λ n. after_bytes (record (after_byte q b) { lost = more }) (drop n piece)) (sym (add-one used)))));
     }
 
 at_fault : (r : Reading (Unit {0})) (f : Fault) → fault_of r ≡ Some f → r ≡ Faulty f
@@ -309,7 +308,7 @@ at_fault (Faulty g) f e = let same : g ≡ f = cc in ap Faulty same
 at_fault (Want more) f e = absurd cc
 
 -- Behind a fault of the hello nothing changes.
-stays_at : (s : Setup) (p : Viewer) (f : Fault) (bs : List ℕ) → after_bytes s (record p { hello = Faulty f; waiting = None }) bs ≡ record p { hello = Faulty f; waiting = None; unread = [] }
+stays_at : (s : Setup) (p : Viewer) (f : Fault) (bs : List ℕ) → after_bytes (record p { hello = Faulty f; waiting = None }) bs ≡ record p { hello = Faulty f; waiting = None; unread = [] }
 stays_at s p f [] = refl
 stays_at s p f (b ∷ bs) = stays_at s p f bs
 
@@ -323,7 +322,7 @@ feeding_hello_faults old new piece left fault h e none = λ s p more k.
     record {
       viewer = q;
       stands = f.stands;
-      rest = f.rest ∙ (ap (λ t. after_bytes s t left) same ∙ (stays_at s (record q { lost = more }) fault left ∙ ap (λ t. after_bytes s t []) (sym same)));
+      rest = f.rest ∙ (ap (λ t. after_bytes t left) same ∙ (stays_at s (record q { lost = more }) fault left ∙ ap (λ t. after_bytes t []) (sym same)));
     }
 
 -- Where there is neither a fault nor an end, a byte is wanted.

@@ -13,4 +13,8 @@ pub mod Parts
 pub mod Stands
 pub mod Accepted
 pub mod Streams
+pub mod Bytes
+pub mod Growing
+pub mod Good
+pub mod Passing
 pub mod Vectors

@@ -19,7 +19,6 @@ serves_held s st p held waiting k =
     record {
       width = k.width;
       height = k.height;
-      extent = k.extent;
       role = k.role;
       rests = k.rests;
       greets = k.greets;
@@ -36,7 +35,6 @@ serves_input s st p keys waiting k =
     record {
       width = k.width;
       height = k.height;
-      extent = k.extent;
       role = k.role;
       rests = ap (λ (q : Viewer). record q { keys = keys; waiting = waiting }) k.rests;
       greets = k.greets;
@@ -63,7 +61,7 @@ record Goes (p : Viewer) (now : List ℕ) (next : Option Input) : Type 0 where
   keys : p.keys ≡ now
   waiting : p.waiting ≡ next
 
-keys_with : (kept : Kept) (input : Input) → keys_after kept.keys input ≡ (kept_with kept input).keys
+pub keys_with : (kept : Kept) (input : Input) → keys_after kept.keys input ≡ (kept_with kept input).keys
 keys_with kept (Key down key) = refl
 keys_with kept (Pointer mask x y) = refl
 keys_with kept (Cut text) = refl

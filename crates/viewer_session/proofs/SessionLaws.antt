@@ -18,7 +18,6 @@ use Rattle.rfb_wire.proofs.Losing.{losing-fault}
 use Rattle.tiles.specs.Have.{SentTiles, HaveStands}
 use Rattle.tiles.specs.Touched.{Event, Requested, NewFormat, last_sent}
 use Rattle.reflect_core.specs.Asked.{Wanted, AskedStands}
-use Rattle.viewer_session.specs.Extent.{Extent}
 use Rattle.roles.specs.Allowed.{allowed, releases}
 use Rattle.viewer_session.specs.Record.{Took, events, messages_in}
 use Rattle.viewer_session.specs.Viewer.{Setup, Viewer, viewer_fault, out_bytes}
@@ -39,7 +38,6 @@ serves_taking s m st new p k ew eh er eg er2 eu keeps =
     record {
       width = ew ∙ k.width;
       height = eh ∙ k.height;
-      extent = k.extent;
       role = k.role ∙ sym er;
       rests = resting m p k.rests;
       greets = subst (λ (o : Option Greeting). Greets s o p.greet p.hello p.said p.said_after) (sym eg) k.greets;
@@ -120,7 +118,6 @@ serves_look s st p o k =
     record {
       width = k.width;
       height = k.height;
-      extent = k.extent;
       role = k.role;
       rests = ap (λ (q : Viewer). record q { looked = o }) k.rests;
       greets = k.greets;
@@ -138,7 +135,6 @@ serves_saw s st p n k =
     record {
       width = k.width;
       height = k.height;
-      extent = k.extent;
       role = k.role;
       rests = ap (after_look n) k.rests;
       greets = k.greets;
@@ -174,7 +170,6 @@ serves_written s st p n piece le k =
     record {
       width = k.width;
       height = k.height;
-      extent = k.extent;
       role = k.role;
       rests = ap (after_writing n) k.rests;
       greets = k.greets;
@@ -194,15 +189,14 @@ begins_as now reading begins (inr e) = absurd (nothing_lost reading (sym begins 
 
 -- A reader at the beginning of a message, behind the hello.
 pub between_served : (s : Setup) (st : State) (p : Viewer) (b : Bool) → is_greeted st ≡ true → (IsTrue b → IsOrLoses (ahead st.reader) viewer_form) → (IsOrLoses (ahead st.reader) viewer_form → IsTrue b)
-    → (IsTrue b → ahead st.reader ≡ viewer_form) → Serves s st p → (IsTrue b → IsBetween s p) × (IsBetween s p → IsTrue b)
-between_served s st p b greeted to from begins k =
-    let form : s.extent.from_viewer ≡ viewer_form = ap (λ (x : Extent). x.from_viewer) k.extent in (
-      λ e. record {
-        greeted = ap (λ r. is_some (whole_of r)) (hello_served s st p k) ∙ greeted;
-        begins = begins_as (ahead st.reader) p.reading (begins e) k.reading ∙ sym form;
-      },
-      λ t. from (subst (λ r. IsOrLoses (ahead st.reader) r) (t.begins ∙ form) k.reading),
-    )
+    → (IsTrue b → ahead st.reader ≡ viewer_form) → Serves s st p → (IsTrue b → IsBetween p) × (IsBetween p → IsTrue b)
+between_served s st p b greeted to from begins k = (
+  λ e. record {
+    greeted = ap (λ r. is_some (whole_of r)) (hello_served s st p k) ∙ greeted;
+    begins = begins_as (ahead st.reader) p.reading (begins e) k.reading;
+  },
+  λ t. from (subst (λ r. IsOrLoses (ahead st.reader) r) t.begins k.reading),
+)
 
 -- ---- all of a viewer
 
@@ -220,7 +214,7 @@ pub fault_stands : (s : Setup) (st : State) (p : Viewer) → Stands s st p → f
 fault_stands s st p k = fault_served s st p k.serves
 
 pub between_stands : (s : Setup) (st : State) (p : Viewer) (b : Bool) → is_greeted st ≡ true → (IsTrue b → IsOrLoses (ahead st.reader) viewer_form) → (IsOrLoses (ahead st.reader) viewer_form → IsTrue b)
-    → (IsTrue b → ahead st.reader ≡ viewer_form) → Stands s st p → (IsTrue b → IsBetween s p) × (IsBetween s p → IsTrue b)
+    → (IsTrue b → ahead st.reader ≡ viewer_form) → Stands s st p → (IsTrue b → IsBetween p) × (IsBetween p → IsTrue b)
 between_stands s st p b greeted to from begins k = between_served s st p b greeted to from begins k.serves
 
 -- The input that waits is taken.

@@ -108,32 +108,32 @@ each_take P (suc n) (x ∷ xs) k = (k.0, each_take P n xs k.1)
 abbrev start : ℕ → ℕ → Listener
 start w h = between w h (record { format = host_format; held = unknown }) []
 
-pub is_heard : (tells : Bool) (w h : ℕ) (us : List Update) (es : List Entry) → Each BringsShortText us → AllAnswered w h us es → IsHeard tells w h us es
-is_heard tells w h us [] short k = ([], refl, refl)
-is_heard tells w h us (Took (SetPixelFormat format) ∷ es) short k =
-    let before = is_heard tells w h us es short k in (
+pub is_heard : (w h : ℕ) (us : List Update) (es : List Entry) → Each BringsShortText us → AllAnswered w h us es → IsHeard w h us es
+is_heard w h us [] short k = ([], refl, refl)
+is_heard w h us (Took (SetPixelFormat format) ∷ es) short k =
+    let before = is_heard w h us es short k in (
       before.0,
       before.1,
-      listener-push w h (start w h) (heard tells w h us es) (Format format) ∙ (ap (λ l. hears w h l (Format format)) before.2 ∙ ap (λ f. between w h f before.0) (sym (follows_format w h format es))),
+      listener-push w h (start w h) (heard w h us es) (Format format) ∙ (ap (λ l. hears w h l (Format format)) before.2 ∙ ap (λ f. between w h f before.0) (sym (follows_format w h format es))),
     )
-is_heard tells w h us (Took (SetEncodings choice) ∷ es) short k = is_heard tells w h us es short k
-is_heard tells w h us (Took (Ask incremental area) ∷ es) short k = is_heard tells w h us es short k
-is_heard tells w h us (Took (Key down key) ∷ es) short k = is_heard tells w h us es short k
-is_heard tells w h us (Took (Pointer mask x y) ∷ es) short k = is_heard tells w h us es short k
-is_heard tells w h us (Took (CutText text) ∷ es) short k = is_heard tells w h us es short k
-is_heard tells w h us (Took (LostText len) ∷ es) short k = is_heard tells w h us es short k
-is_heard tells w h us (Saw number ∷ es) short k = is_heard tells w h us es short k
-is_heard tells w h us (MadeCut number ∷ es) short k =
-    let before = is_heard tells w h us es short k in
+is_heard w h us (Took (SetEncodings choice) ∷ es) short k = is_heard w h us es short k
+is_heard w h us (Took (Ask incremental area) ∷ es) short k = is_heard w h us es short k
+is_heard w h us (Took (Key down key) ∷ es) short k = is_heard w h us es short k
+is_heard w h us (Took (Pointer mask x y) ∷ es) short k = is_heard w h us es short k
+is_heard w h us (Took (CutText text) ∷ es) short k = is_heard w h us es short k
+is_heard w h us (Took (LostText len) ∷ es) short k = is_heard w h us es short k
+is_heard w h us (Saw number ∷ es) short k = is_heard w h us es short k
+is_heard w h us (MadeCut number ∷ es) short k =
+    let before = is_heard w h us es short k in
     let now : List Update = take number us in
-    let last : Option ℕ = news_since tells w h es in (
+    let last : Option ℕ = news_since w h es in (
       (before.0 ++ bell_told now last) ++ text_told now last,
       (before.0, before.1, refl),
-      listener-push w h (start w h) (heard tells w h us es) (Bytes (news_at now last))
+      listener-push w h (start w h) (heard w h us es) (Bytes (news_at now last))
           ∙ (ap (λ l. hears_bytes w h l (news_at now last)) before.2 ∙ hears_news w h (follower w h (received es)) before.0 now last (each_take BringsShortText number us short)),
     )
-is_heard tells w h us (Began area number bytes ∷ es) short k =
-    let before = is_heard tells w h us es short k.1 in
+is_heard w h us (Began area number bytes ∷ es) short k =
+    let before = is_heard w h us es short k.1 in
     let f : Follower = follower w h (received es) in
     let message : ServerMessage = FramebufferUpdate k.0.message.0 in
     let spelled : Spells (server_message f.format w h) bytes message = subst (λ format. Spells (server_message format w h) bytes message) (sym (follower_format w h es)) k.0.message.1 in
@@ -141,50 +141,50 @@ is_heard tells w h us (Began area number bytes ∷ es) short k =
     follows_answer w h area number bytes es ∙ ap (λ o. with_message f o) (spells_only f.format w h bytes message spelled) in (
       before.0 ++ message ∷ [],
       (before.0, k.0.message.0, before.1, k.0.message.1, refl),
-      listener-push w h (start w h) (heard tells w h us es) (Bytes bytes)
+      listener-push w h (start w h) (heard w h us es) (Bytes bytes)
           ∙ (ap (λ l. hears_bytes w h l bytes) before.2 ∙ (hears_message w h f before.0 bytes message spelled ∙ ap (λ g. between w h g (before.0 ++ message ∷ [])) (sym followed))),
     )
 
 -- ---- the stream
 
 -- What is put later changes nothing of what has come.
-pub heard_more : (tells : Bool) (w h : ℕ) (us : List Update) (u : Update) (es : List Entry) → NumbersUpTo (length us) es → heard tells w h (us ++ u ∷ []) es ≡ heard tells w h us es
-heard_more tells w h us u [] k = refl
-heard_more tells w h us u (Took (SetPixelFormat format) ∷ es) k = ap (λ t. t ++ Format format ∷ []) (heard_more tells w h us u es k)
-heard_more tells w h us u (Took (SetEncodings choice) ∷ es) k = heard_more tells w h us u es k
-heard_more tells w h us u (Took (Ask incremental area) ∷ es) k = heard_more tells w h us u es k
-heard_more tells w h us u (Took (Key down key) ∷ es) k = heard_more tells w h us u es k
-heard_more tells w h us u (Took (Pointer mask x y) ∷ es) k = heard_more tells w h us u es k
-heard_more tells w h us u (Took (CutText text) ∷ es) k = heard_more tells w h us u es k
-heard_more tells w h us u (Took (LostText len) ∷ es) k = heard_more tells w h us u es k
-heard_more tells w h us u (Saw number ∷ es) k = heard_more tells w h us u es k.1
-heard_more tells w h us u (MadeCut number ∷ es) k =
-    ap (λ t. t ++ Bytes (news_at (take number (us ++ u ∷ [])) (news_since tells w h es)) ∷ []) (heard_more tells w h us u es k.1)
-    ∙ ap (λ now. heard tells w h us es ++ Bytes (news_at now (news_since tells w h es)) ∷ []) (take-append-le number us (u ∷ []) k.0)
-heard_more tells w h us u (Began area number bytes ∷ es) k = ap (λ t. t ++ Bytes bytes ∷ []) (heard_more tells w h us u es k.1)
+pub heard_more : (w h : ℕ) (us : List Update) (u : Update) (es : List Entry) → NumbersUpTo (length us) es → heard w h (us ++ u ∷ []) es ≡ heard w h us es
+heard_more w h us u [] k = refl
+heard_more w h us u (Took (SetPixelFormat format) ∷ es) k = ap (λ t. t ++ Format format ∷ []) (heard_more w h us u es k)
+heard_more w h us u (Took (SetEncodings choice) ∷ es) k = heard_more w h us u es k
+heard_more w h us u (Took (Ask incremental area) ∷ es) k = heard_more w h us u es k
+heard_more w h us u (Took (Key down key) ∷ es) k = heard_more w h us u es k
+heard_more w h us u (Took (Pointer mask x y) ∷ es) k = heard_more w h us u es k
+heard_more w h us u (Took (CutText text) ∷ es) k = heard_more w h us u es k
+heard_more w h us u (Took (LostText len) ∷ es) k = heard_more w h us u es k
+heard_more w h us u (Saw number ∷ es) k = heard_more w h us u es k.1
+heard_more w h us u (MadeCut number ∷ es) k =
+    ap (λ t. t ++ Bytes (news_at (take number (us ++ u ∷ [])) (news_since w h es)) ∷ []) (heard_more w h us u es k.1)
+    ∙ ap (λ now. heard w h us es ++ Bytes (news_at now (news_since w h es)) ∷ []) (take-append-le number us (u ∷ []) k.0)
+heard_more w h us u (Began area number bytes ∷ es) k = ap (λ t. t ++ Bytes bytes ∷ []) (heard_more w h us u es k.1)
 
 -- A message that is taken sends nothing.
-pub stream_took : (tells : Bool) (w h : ℕ) (us : List Update) (m : ClientMessage) (es : List Entry) → stream_of (heard tells w h us (Took m ∷ es)) ≡ stream_of (heard tells w h us es)
-stream_took tells w h us (SetPixelFormat format) es = stream-append (heard tells w h us es) (Format format ∷ []) ∙ append-nil (stream_of (heard tells w h us es))
-stream_took tells w h us (SetEncodings choice) es = refl
-stream_took tells w h us (Ask incremental area) es = refl
-stream_took tells w h us (Key down key) es = refl
-stream_took tells w h us (Pointer mask x y) es = refl
-stream_took tells w h us (CutText text) es = refl
-stream_took tells w h us (LostText len) es = refl
+pub stream_took : (w h : ℕ) (us : List Update) (m : ClientMessage) (es : List Entry) → stream_of (heard w h us (Took m ∷ es)) ≡ stream_of (heard w h us es)
+stream_took w h us (SetPixelFormat format) es = stream-append (heard w h us es) (Format format ∷ []) ∙ append-nil (stream_of (heard w h us es))
+stream_took w h us (SetEncodings choice) es = refl
+stream_took w h us (Ask incremental area) es = refl
+stream_took w h us (Key down key) es = refl
+stream_took w h us (Pointer mask x y) es = refl
+stream_took w h us (CutText text) es = refl
+stream_took w h us (LostText len) es = refl
 
-stream_cut : (tells : Bool) (w h : ℕ) (us : List Update) (es : List Entry) → stream_of (heard tells w h us (MadeCut (length us) ∷ es)) ≡ stream_of (heard tells w h us es) ++ news_at us (news_since tells w h es)
-stream_cut tells w h us es =
-    stream-bytes (heard tells w h us es) (news_at (take (length us) us) (news_since tells w h es))
-    ∙ ap (λ now. stream_of (heard tells w h us es) ++ news_at now (news_since tells w h es)) (take_all (length us) us (omega arith))
+stream_cut : (w h : ℕ) (us : List Update) (es : List Entry) → stream_of (heard w h us (MadeCut (length us) ∷ es)) ≡ stream_of (heard w h us es) ++ news_at us (news_since w h es)
+stream_cut w h us es =
+    stream-bytes (heard w h us es) (news_at (take (length us) us) (news_since w h es))
+    ∙ ap (λ now. stream_of (heard w h us es) ++ news_at now (news_since w h es)) (take_all (length us) us (omega arith))
 
-stream_began : (tells : Bool) (w h : ℕ) (us : List Update) (es : List Entry) (o : Option (Rect × List ℕ))
-    → stream_of (heard tells w h us (began_at (length us) o (MadeCut (length us) ∷ es))) ≡ stream_of (heard tells w h us es) ++ (news_at us (news_since tells w h es) ++ update_part o)
-stream_began tells w h us es None = stream_cut tells w h us es ∙ ap (λ t. stream_of (heard tells w h us es) ++ t) (sym (append-nil (news_at us (news_since tells w h es))))
-stream_began tells w h us es (Some found) =
-    stream-bytes (heard tells w h us (MadeCut (length us) ∷ es)) found.1
-    ∙ (ap (λ t. t ++ found.1) (stream_cut tells w h us es) ∙ append_assoc (stream_of (heard tells w h us es)) (news_at us (news_since tells w h es)) found.1)
+stream_began : (w h : ℕ) (us : List Update) (es : List Entry) (o : Option (Rect × List ℕ))
+    → stream_of (heard w h us (began_at (length us) o (MadeCut (length us) ∷ es))) ≡ stream_of (heard w h us es) ++ (news_at us (news_since w h es) ++ update_part o)
+stream_began w h us es None = stream_cut w h us es ∙ ap (λ t. stream_of (heard w h us es) ++ t) (sym (append-nil (news_at us (news_since w h es))))
+stream_began w h us es (Some found) =
+    stream-bytes (heard w h us (MadeCut (length us) ∷ es)) found.1
+    ∙ (ap (λ t. t ++ found.1) (stream_cut w h us es) ∙ append_assoc (stream_of (heard w h us es)) (news_at us (news_since w h es)) found.1)
 
 -- A cut sends what its record comes to.
-pub stream_after_cut : (tells : Bool) (w h : ℕ) (us : List Update) (es : List Entry) → stream_of (heard tells w h us (record_after_cut w h es us)) ≡ stream_of (heard tells w h us es) ++ sent_at tells w h es us
-stream_after_cut tells w h us es = stream_began tells w h us es (update_at w h es us)
+pub stream_after_cut : (w h : ℕ) (us : List Update) (es : List Entry) → stream_of (heard w h us (record_after_cut w h es us)) ≡ stream_of (heard w h us es) ++ sent_at w h es us
+stream_after_cut w h us es = stream_began w h us es (update_at w h es us)

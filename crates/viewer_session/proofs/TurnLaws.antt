@@ -31,8 +31,6 @@ use Rattle.update_encoder.specs.Answer.{all_spelled, answer_bytes}
 use Rattle.update_encoder.specs.Coming.{shown}
 use Rattle.update_encoder.specs.Written.{is_due_of}
 use Rattle.update_encoder.proofs.CutLaws.{cut_is_answered}
-use Rattle.viewer_session.specs.Extent.{Extent}
-use Rattle.viewer_session.specs.Extent.{everything}
 use Rattle.viewer_session.specs.Found.{answered_at, has_newer, is_newer, rings, update_in, update_of}
 use Rattle.viewer_session.specs.Outgoing.{Sending, text_message}
 use Rattle.roles.specs.Held.{HeldStands}
@@ -279,17 +277,16 @@ greeting_done (Some g) out now done k =
     record { short = k.short; said = λ wants. absurd (let open_ : is_some (whole_of (ahead g)) ≡ false = not_yet (ahead g) wants in cc) }
 
 serves_cut : (s : Setup) (st : State) (p : Viewer) (us : List Update) (wanted : Wanted) (have : SentTiles) (cut : cutting.Cut) (piece bytes : List ℕ) → Serves s st p → is_ready st ≡ true
-    → turn.sent_at s.extent.tells_news s.w s.h p.entries us ≡ bytes → Keeps s.w s.h (record st { asked = wanted; have = have; cut = cut; piece = piece; unsent = bytes }) (record_after_cut s.w s.h p.entries us)
+    → turn.sent_at s.w s.h p.entries us ≡ bytes → Keeps s.w s.h (record st { asked = wanted; have = have; cut = cut; piece = piece; unsent = bytes }) (record_after_cut s.w s.h p.entries us)
     → Serves s (record st { asked = wanted; have = have; cut = cut; piece = piece; unsent = bytes }) (after_cut s us p)
 serves_cut s st p us wanted have cut piece bytes k ready e keeps =
     let none : length st.unsent ≡ 0 = sent_all st ready in
-    let sent : List ℕ = turn.sent_at s.extent.tells_news s.w s.h p.entries us in
+    let sent : List ℕ = turn.sent_at s.w s.h p.entries us in
     let over : length (drop p.written (out_bytes s p)) ≡ 0 = ap length (sym k.unsent) ∙ none in
     let out : out_bytes s (after_cut s us p) ≡ out_bytes s p ++ sent = sym (append_assoc (hello_bytes s p) p.said_after sent) in
     record {
       width = k.width;
       height = k.height;
-      extent = k.extent;
       role = k.role;
       rests = rests_cut s us p k.rests;
       greets = greets_cut s st.greeting p.greet p.hello p.said p.said_after (p.said_after ++ sent) (greeted_ready st ready) k.greets;
@@ -351,12 +348,11 @@ count_taken n us le = omega (arith, length-take n us)
 last_is : (n number : ℕ) (o : Option ℕ) → o ≡ Some n → o ≡ Some number → n ≡ number
 last_is n number o e f = cc
 
-tells : (s : Setup) (es : List Entry) (us : List Update) → s.extent ≡ everything
-    → turn.sent_at s.extent.tells_news s.w s.h es us
+tells : (s : Setup) (es : List Entry) (us : List Update)
+    → turn.sent_at s.w s.h es us
     ≡ bell_at us (last_cut (events s.w s.h es)) ++ (text_at us (last_cut (events s.w s.h es)) ++ update_part (update_at s.w s.h es us))
-tells s es us e =
-    ap (λ (extent : Extent). turn.sent_at extent.tells_news s.w s.h es us) e
-    ∙ append_assoc (bell_at us (last_cut (events s.w s.h es))) (text_at us (last_cut (events s.w s.h es))) (update_part (update_at s.w s.h es us))
+tells s es us =
+    append_assoc (bell_at us (last_cut (events s.w s.h es))) (text_at us (last_cut (events s.w s.h es))) (update_part (update_at s.w s.h es us))
 
 -- A cut, and what of it begins to be sent.
 pub turned : (st now : State) (known : List Update) (least most n : ℕ) (cut : cutting.Cut) (nowhere : Rect) (wanted : Wanted) (have : SentTiles) (bell text : Bool) (update piece bytes : List ℕ)
@@ -386,11 +382,11 @@ turned st now known least most n cut nowhere wanted have bell text update piece 
           ap (λ b. if b then bell_bytes else []) rung ∙ (bell_is st.asked.last st.cut.bells cut.bells known n c.is.bells known_bells ∙ ap (bell_at us) last_there) in
           let text_there : (if text then text_message cut.text else []) ≡ text_at us (last_cut (events s.w s.h p.entries)) =
           ap (λ b. if b then text_message cut.text else []) newer ∙ (text_is st.asked.last cut.text us c.is.text ∙ ap (text_at us) last_there) in
-          let bytes_there : bytes ≡ turn.sent_at s.extent.tells_news s.w s.h p.entries us =
+          let bytes_there : bytes ≡ turn.sent_at s.w s.h p.entries us =
           e
           ∙ (ap (λ t. t ++ ((if text then text_message cut.text else []) ++ update)) bells_there
           ∙ (ap (λ t. bell_at us (last_cut (events s.w s.h p.entries)) ++ (t ++ update)) text_there
-          ∙ (ap (λ t. bell_at us (last_cut (events s.w s.h p.entries)) ++ (text_at us (last_cut (events s.w s.h p.entries)) ++ t)) (found ∙ ap update_part update_there) ∙ sym (tells s p.entries us k.extent)))) in
+          ∙ (ap (λ t. bell_at us (last_cut (events s.w s.h p.entries)) ++ (text_at us (last_cut (events s.w s.h p.entries)) ++ t)) (found ∙ ap update_part update_there) ∙ sym (tells s p.entries us)))) in
           let kept : Keeps s.w s.h (record st { asked = wanted; have = have; cut = cut; piece = piece; unsent = bytes }) (began_at n (update_in st.format st.choice cut st.asked.area) (MadeCut n ∷ p.entries)) =
           keeps_cut s.w s.h n st p.entries (update_in st.format st.choice cut st.asked.area) wanted have cut piece bytes k.keeps asked has in
           let record_is : began_at n (update_in st.format st.choice cut st.asked.area) (MadeCut n ∷ p.entries) ≡ record_after_cut s.w s.h p.entries us =

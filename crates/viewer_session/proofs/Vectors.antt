@@ -1,4 +1,5 @@
--- The definitions compute what a turn makes of a session's record, in which the latest entry stands first, and what is read of it.
+-- The definitions compute what a turn makes of a session's record, in which the latest entry stands first, and what is
+-- read of it.
 use Rattle.std.proofs.Common.{◌≡◌, ℕ, Bool, true, false, List, [], ◌∷◌, ◌++◌, refl}
 use Rattle.std.specs.Prelude.{Some, None}
 use Rattle.pixel_format.specs.PixelFormat.{PixelFormat, host_format}
@@ -70,7 +71,8 @@ no_later_update = refl
 pub later_update : has_reason 2 1 (MadeCut 3 ∷ []) 4 ≡ true
 later_update = refl
 
--- And where there is an area that was asked for since the last cut, by a request or a pixel format. A cut that sent nothing ends the asking.
+-- And where there is an area that was asked for since the last cut, by a request or a pixel format. A cut that sent
+-- nothing ends the asking.
 pub asked : has_reason 2 1 (asks true 2 1 ∷ []) 0 ≡ true
 asked = refl
 
@@ -149,25 +151,23 @@ hi = 3 ∷ 0 ∷ 0 ∷ 0 ∷ 0 ∷ 0 ∷ 0 ∷ 2 ∷ 0x48 ∷ 0x69 ∷ []
 abbrev four : List Update
 four = update.Bell ∷ update.Cut (0x48 ∷ 0x69 ∷ []) ∷ update.Bell ∷ red_blue ∷ []
 
--- The first cut sends neither Bell nor text; a later one sends one Bell, then the text, then the update; where they aren't newer, the update alone.
-pub first_cut : sent_at true 2 1 (asks false 2 1 ∷ []) four ≡ red_blue_bytes
+-- The first cut sends neither Bell nor text; a later one sends one Bell, then the text, then the update; where they
+-- aren't newer, the update alone.
+pub first_cut : sent_at 2 1 (asks false 2 1 ∷ []) four ≡ red_blue_bytes
 first_cut = refl
 
-pub later_cut : sent_at true 2 1 (asks true 2 1 ∷ MadeCut 0 ∷ []) four ≡ (2 ∷ []) ++ hi ++ red_blue_bytes
+pub later_cut : sent_at 2 1 (asks true 2 1 ∷ MadeCut 0 ∷ []) four ≡ (2 ∷ []) ++ hi ++ red_blue_bytes
 later_cut = refl
 
-pub text_was_told : sent_at true 2 1 (asks true 2 1 ∷ MadeCut 2 ∷ []) four ≡ (2 ∷ []) ++ red_blue_bytes
+pub text_was_told : sent_at 2 1 (asks true 2 1 ∷ MadeCut 2 ∷ []) four ≡ (2 ∷ []) ++ red_blue_bytes
 text_was_told = refl
 
-pub all_was_told : sent_at true 2 1 (asks true 2 1 ∷ MadeCut 3 ∷ []) four ≡ red_blue_bytes
+pub all_was_told : sent_at 2 1 (asks true 2 1 ∷ MadeCut 3 ∷ []) four ≡ red_blue_bytes
 all_was_told = refl
 
--- They need no area; and none comes where none are told.
-pub news_alone : sent_at true 2 1 (MadeCut 1 ∷ []) four ≡ (2 ∷ []) ++ hi
+-- They need no area.
+pub news_alone : sent_at 2 1 (MadeCut 1 ∷ []) four ≡ (2 ∷ []) ++ hi
 news_alone = refl
-
-pub no_news_are_told : sent_at false 2 1 (asks true 2 1 ∷ MadeCut 0 ∷ []) four ≡ red_blue_bytes
-no_news_are_told = refl
 
 -- What is written down of it: the cut, and an answer where there is one.
 abbrev answered : List Entry
@@ -187,10 +187,10 @@ answers_in_order = refl
 
 -- ---- a viewer that reads the stream
 
-pub stream_of_the_record : stream_of (heard true 2 1 four answered) ≡ (2 ∷ []) ++ hi ++ red_blue_bytes
+pub stream_of_the_record : stream_of (heard 2 1 four answered) ≡ (2 ∷ []) ++ hi ++ red_blue_bytes
 stream_of_the_record = refl
 
-pub messages_of_the_stream : (listener 2 1 (heard true 2 1 four answered)).messages
+pub messages_of_the_stream : (listener 2 1 (heard 2 1 four answered)).messages
     ≡ server.Bell ∷ ServerCutText (0x48 ∷ 0x69 ∷ []) ∷ FramebufferUpdate (Put (rect 0 0 2 1) (0xFF0000 ∷ 0x0000FF ∷ []) ∷ []) ∷ []
 messages_of_the_stream = refl
 

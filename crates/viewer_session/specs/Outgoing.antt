@@ -12,8 +12,8 @@ pub record Waiting : Type 0 where
   pub filled : ℕ
   pub unsent : List ℕ
 
--- The most bytes of a piece, over a screen of this width: those of the longest text's message (7.6.4), or of a rectangle's head and one
--- row of tiles in the widest format (7.6.1).
+-- The most bytes of a piece, over a screen of this width: those of the longest text's message (7.6.4), or of a
+-- rectangle's head and one row of tiles in the widest format (7.6.1).
 abbrev pub longest_piece : ℕ → ℕ
 longest_piece w = max 65544 (12 + 64 * w)
 

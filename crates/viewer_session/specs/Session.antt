@@ -7,7 +7,7 @@ use Rattle.raster.specs.Size.{IsScreenSize}
 use Rattle.raster.specs.Update.{Update, bells}
 use Rattle.rfb_wire.specs.declared.client_reader.ClientReader.{ClientReader}
 use Rattle.rfb_wire.specs.ClientReader.{ahead}
-use Rattle.rfb_wire.specs.ClientMessage.{ClientMessage, CutText, LostText, Choice, longest_text}
+use Rattle.rfb_wire.specs.ClientMessage.{ClientMessage, CutText, LostText, Choice, client_message, longest_text}
 use Rattle.rfb_wire.specs.Greeting as handshake
 use Rattle.rfb_wire.specs.Greeting.{Greeting}
 use Rattle.rfb_wire.specs.Handshake.{said_to_viewer}
@@ -18,15 +18,14 @@ use Rattle.roles.specs.declared.role.Role.{Role}
 use Rattle.tiles.specs.Have.{SentTiles, HaveStands}
 use Rattle.reflect_core.specs.Asked.{Wanted, AskedStands}
 use Rattle.reflect_core.specs.declared.cut.Cut.{Cut}
-use Rattle.viewer_session.specs.Extent.{everything}
 use Rattle.viewer_session.specs.Outgoing.{Sending}
 use Rattle.viewer_session.specs.Record.{Entry, Took, Saw, events, format_of, choice_of, messages_in}
 use Rattle.viewer_session.specs.Viewer as viewer
 use Rattle.viewer_session.specs.Viewer.{Setup, Viewer, out_bytes, new_viewer, with_input, after_bytes, after_cut}
 
--- The size of the screen, the viewer's role, its hello where it has one, what has come of its next message, the pixel format and the choice of encodings that hold, what
--- it has asked for, what it has of each tile, the last cut, the piece that is sent next, and all bytes for it that aren't sent yet; what it holds down, and its
--- input that waits.
+-- The size of the screen, the viewer's role, its hello where it has one, what has come of its next message, the pixel
+-- format and the choice of encodings that hold, what it has asked for, what it has of each tile, the last cut, the
+-- piece that is sent next, and all bytes for it that aren't sent yet; what it holds down, and its input that waits.
 pub record State : Type 0 where
   pub width : ℕ
   pub height : ℕ
@@ -64,8 +63,8 @@ abbrev pub IsGreeting : Option Greeting → Sending → Type 0
 IsGreeting None out = Unit {0}
 IsGreeting (Some greeting) out = IsSpoken greeting out
 
--- All parts of a session are of the screen's size, no whole message waits in its reader, which no byte reaches before the hello is done, and
--- the hello is said as it goes on.
+-- All parts of a session are of the screen's size, no whole message waits in its reader, which no byte reaches before
+-- the hello is done, and the hello is said as it goes on.
 pub record IsSound (w h : ℕ) (greeting : Option Greeting) (reader : ClientReader) (asked : Wanted) (have : SentTiles) (out : Sending) : Type 0 where
   pub size : IsScreenSize w h
   pub taken : whole_of (ahead reader) ≡ None
@@ -95,8 +94,8 @@ is_ready st = (length st.unsent == 0) && (is_greeted st && is_none (fault_in st)
 abbrev pub at_rest : Viewer → Viewer
 at_rest p = record p { unread = []; lost = [] }
 
--- The hello of the session is the viewer's: its screen and name, and how it goes on. While more of it is to come so many bytes
--- were taken, and no answer is begun.
+-- The hello of the session is the viewer's: its screen and name, and how it goes on. While more of it is to come so
+-- many bytes were taken, and no answer is begun.
 pub record GreetsAs (s : Setup) (greeting : Greeting) (greet : Bool) (hello : Reading (Unit {0})) (said : ℕ) (said_after : List ℕ) : Type 0 where
   pub w : greeting.w ≡ s.w
   pub h : greeting.h ≡ s.h
@@ -117,7 +116,8 @@ pub record Keeps (w h : ℕ) (st : State) (entries : List Entry) : Type 0 where
   pub format : st.format ≡ format_of entries
   pub choice : st.choice ≡ choice_of entries
 
--- A text that is kept is short, and one that is read past for its length is longer (7.5.6; the bound is this project's own).
+-- A text that is kept is short, and one that is read past for its length is longer (7.5.6; the bound is this project's
+-- own).
 abbrev pub HasKeptShort : ClientMessage → Type 0
 HasKeptShort (CutText text) = length text ≤ longest_text
 HasKeptShort (LostText len) = longest_text < len
@@ -127,7 +127,6 @@ HasKeptShort message = Unit {0}
 pub record Serves (s : Setup) (st : State) (p : Viewer) : Type 0 where
   pub width : st.width ≡ s.w
   pub height : st.height ≡ s.h
-  pub extent : s.extent ≡ everything
   pub role : p.role ≡ st.role
   pub rests : p ≡ at_rest p
   pub greets : Greets s st.greeting p.greet p.hello p.said p.said_after
@@ -154,8 +153,8 @@ pub record Stands (s : Setup) (st : State) (p : Viewer) : Type 0 where
 
 -- Before any byte of a viewer: what was said so far waits to be sent, and is all that the viewer is sent by then.
 pub record IsBegun (s : Setup) (role : Role) (greet : Bool) (greeting : Option Greeting) (out : Sending) : Type 0 where
-  pub greets : Greets s greeting greet (new_viewer s role greet).hello 0 []
-  pub unsent : out.unsent ≡ out_bytes s (new_viewer s role greet)
+  pub greets : Greets s greeting greet (new_viewer role greet).hello 0 []
+  pub unsent : out.unsent ≡ out_bytes s (new_viewer role greet)
 
 -- The size of the screen and the role stay.
 pub record IsSameViewer (before now : State) : Type 0 where
@@ -171,14 +170,15 @@ pub record IsSameSession (before now : State) : Type 0 where
   pub cut : now.cut ≡ before.cut
   pub last : now.asked.last ≡ before.asked.last
 
--- Of the piece these bytes are left, and this viewer, for which the state stands, is to take them, with these marks for the texts among them.
+-- Of the piece these bytes are left, and this viewer, for which the state stands, is to take them, with these marks for
+-- the texts among them.
 pub record HasFed (s : Setup) (p : Viewer) (now : State) (marks : List Bool) (piece left : List ℕ) : Type 0 where
   pub viewer : Viewer
   pub stands : Stands s now viewer
-  pub rest : after_bytes s p piece ≡ after_bytes s (record viewer { lost = marks }) left
+  pub rest : after_bytes p piece ≡ after_bytes (record viewer { lost = marks }) left
 
--- What stood for a viewer stands, after these bytes, for one that is to take what is left. These marks are those of the texts that became whole:
--- of each whether it found no memory.
+-- What stood for a viewer stands, after these bytes, for one that is to take what is left. These marks are those of the
+-- texts that became whole: of each whether it found no memory.
 abbrev pub IsFeeding : State → State → List Bool → List ℕ → List ℕ → Type 0
 IsFeeding old now marks piece left = (s : Setup) (p : Viewer) (more : List Bool) → Stands s old p → HasFed s (record p { lost = marks ++ more }) now more piece left
 
@@ -194,7 +194,7 @@ pub record StandsBut (s : Setup) (st : State) (p : Viewer) (left : List ℕ) : T
 
 -- What stood for a viewer stands for it after these bytes, as far as no input waited. These are left unread.
 abbrev pub FeedsTo : State → State → List Bool → List ℕ → List ℕ → Type 0
-FeedsTo old new marks piece left = (s : Setup) (p : Viewer) → Stands s old p → StandsBut s new (after_bytes s (with_marks marks p) piece) left
+FeedsTo old new marks piece left = (s : Setup) (p : Viewer) → Stands s old p → StandsBut s new (after_bytes (with_marks marks p) piece) left
 
 -- So many bytes of the piece were used: all of it, and there is no fault; or all up to an input, which waits.
 pub record FeedsUpTo (old new : State) (piece : List ℕ) (used : ℕ) : Type 0 where
@@ -216,7 +216,8 @@ pub record ReadsHello (old new : State) (piece : List ℕ) (used : ℕ) : Type 0
   pub some : 0 < length piece → 0 < used
   pub fine : hello_fault new ≡ None
 
--- A whole message was taken from the reader, or there was none: how it goes on by the bytes, and then with that message taken.
+-- A whole message was taken from the reader, or there was none: how it goes on by the bytes, and then with that message
+-- taken.
 pub record ReadsOne (old new : State) (piece : List ℕ) (used : ℕ) (message : Option ClientMessage) : Type 0 where
   pub begun : Reading ClientMessage
   pub feeds : FeedsOrLoses (ahead old.reader) begun piece (Ok used)
@@ -257,10 +258,11 @@ after_look number p = record p { looked = Some number; entries = Saw number ∷ 
 abbrev pub without_look : Viewer → Viewer
 without_look p = record p { looked = None }
 
--- A viewer that stands between two messages: its hello is done and it is at no fault, since it is at the beginning of a message.
-pub record IsBetween (s : Setup) (p : Viewer) : Type 0 where
+-- A viewer that stands between two messages: its hello is done and it is at no fault, since it is at the beginning of a
+-- message.
+pub record IsBetween (p : Viewer) : Type 0 where
   pub greeted : viewer.is_greeted p ≡ true
-  pub begins : p.reading ≡ s.extent.from_viewer
+  pub begins : p.reading ≡ client_message
 
 -- So many bytes more were written.
 abbrev pub after_writing : ℕ → Viewer → Viewer
@@ -274,8 +276,9 @@ wants_cut wanted looked = nat_lt (unwrap_or wanted.last 0) looked || (is_some wa
 abbrev pub HasCounted : State → List Update → Type 0
 HasCounted st us = (number : ℕ) → st.asked.last ≡ Some number → (number ≤ length us) × (st.cut.bells ≡ bells (take number us))
 
--- It was cut: at a number that is at least the one and at most the other of these, of the updates that the source knows. The new state stands for the viewers that
--- the cut makes of those of the old, where the cut before it was one of this source.
+-- It was cut: at a number that is at least the one and at most the other of these, of the updates that the source
+-- knows. The new state stands for the viewers that the cut makes of those of the old, where the cut before it was one
+-- of this source.
 pub record CutsAt (old new : State) (us : List Update) (least most : ℕ) : Type 0 where
   pub number : ℕ
   pub known : number ≤ length us
@@ -284,8 +287,9 @@ pub record CutsAt (old new : State) (us : List Update) (least most : ℕ) : Type
   pub counted : HasCounted new us
   pub stands : (s : Setup) (p : Viewer) → HasCounted old us → Stands s old p → Stands s new (after_cut s (take number us) p)
 
--- The source was looked at, with a reply that is known and is the source's own (looks), and then cut where there is reason, at a number that is at least the
--- reply. Behind the look nothing but a cut has moved the source. Reply and number are at most what the source has answered by now.
+-- The source was looked at, with a reply that is known and is the source's own (looks), and then cut where there is
+-- reason, at a number that is at least the reply. Behind the look nothing but a cut has moved the source. Reply and
+-- number are at most what the source has answered by now.
 pub record Turns {S : Type 0} (looks : S → ℕ → S → Type 0) (moves : S → S → Type 0) (before after : S) (old new : State) (us : List Update) (least most : ℕ) : Type 0 where
   pub looked : ℕ
   pub behind : S
@@ -297,7 +301,8 @@ pub record Turns {S : Type 0} (looks : S → ℕ → S → Type 0) (moves : S �
   pub idle : wants_cut old.asked looked ≡ false → new ≡ old
   pub cuts : wants_cut old.asked looked ≡ true → CutsAt old new us (max least looked) most
 
--- The source was looked at, with a reply of its own (looks), and its cut was refused: it knows and has answered what it had behind the look.
+-- The source was looked at, with a reply of its own (looks), and its cut was refused: it knows and has answered what it
+-- had behind the look.
 pub record HasOnlyLooked {S : Type 0} (looks : S → ℕ → S → Type 0) (known : S → List Update) (answered : S → ℕ) (before after : S) : Type 0 where
   pub looked : ℕ
   pub behind : S

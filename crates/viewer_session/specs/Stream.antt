@@ -1,5 +1,5 @@
 -- What comes to a viewer after its hello, and a viewer that reads it byte by byte (RFC 6143, 7.6).
-use Rattle.std.specs.Prelude.{◌≡◌, ℕ, Bool, nat_lt, if◌then◌else◌, List, [], ◌∷◌, ◌++◌, take, Option, Some, None}
+use Rattle.std.specs.Prelude.{◌≡◌, ℕ, nat_lt, if◌then◌else◌, List, [], ◌∷◌, ◌++◌, take, Option, Some, None}
 use Rattle.pixel_format.specs.PixelFormat.{PixelFormat, host_format}
 use Rattle.pixel_format.specs.Reading.{Reading, Done, Faulty, Want, step, Spells}
 use Rattle.raster.specs.Update.{Paint, Update, bells, last_text, NumberedText}
@@ -9,23 +9,25 @@ use Rattle.update_encoder.specs.Follower.{Follower, follower, unknown, after_mes
 use Rattle.viewer_session.specs.Record.{Entry, Took, Saw, MadeCut, Began, format_of, received}
 use Rattle.viewer_session.specs.Turn.{bell_at, text_at, news_since}
 
--- What comes to it, in the order of its session: a pixel format, where its session took one, and the bytes that the session sends.
+-- What comes to it, in the order of its session: a pixel format, where its session took one, and the bytes that the
+-- session sends.
 pub data Heard : Type 0 where
   Format : PixelFormat → Heard
   Bytes : List ℕ → Heard
 
--- Before an answer a cut of updates sends a Bell where Bells have become more since the cut before it, and the last text where that is newer.
+-- Before an answer a cut of updates sends a Bell where Bells have become more since the cut before it, and the last
+-- text where that is newer.
 abbrev pub news_at : List Update → Option ℕ → List ℕ
 news_at us last = bell_at us last ++ text_at us last
 
--- What comes of a record, where these are the updates put; each cut is one of the first of them. Bells and texts come where they are told.
-abbrev pub heard : Bool → ℕ → ℕ → List Update → List Entry → List Heard
-heard tells w h us [] = []
-heard tells w h us (Took (SetPixelFormat format) ∷ es) = heard tells w h us es ++ Format format ∷ []
-heard tells w h us (Took message ∷ es) = heard tells w h us es
-heard tells w h us (Saw number ∷ es) = heard tells w h us es
-heard tells w h us (MadeCut number ∷ es) = heard tells w h us es ++ Bytes (news_at (take number us) (news_since tells w h es)) ∷ []
-heard tells w h us (Began area number bytes ∷ es) = heard tells w h us es ++ Bytes bytes ∷ []
+-- What comes of a record, where these are the updates put; each cut is one of the first of them.
+abbrev pub heard : ℕ → ℕ → List Update → List Entry → List Heard
+heard w h us [] = []
+heard w h us (Took (SetPixelFormat format) ∷ es) = heard w h us es ++ Format format ∷ []
+heard w h us (Took message ∷ es) = heard w h us es
+heard w h us (Saw number ∷ es) = heard w h us es
+heard w h us (MadeCut number ∷ es) = heard w h us es ++ Bytes (news_at (take number us) (news_since w h es)) ∷ []
+heard w h us (Began area number bytes ∷ es) = heard w h us es ++ Bytes bytes ∷ []
 
 -- The bytes among it: the stream.
 abbrev pub stream_of : List Heard → List ℕ
@@ -88,21 +90,21 @@ abbrev pub text_told : List Update → Option ℕ → List ServerMessage
 text_told us None = []
 text_told us (Some number) = newer_told number (last_text us)
 
--- These are the messages that a record comes to: the Bells and texts of its cuts, and for each answer the one FramebufferUpdate that the
--- answer's bytes are in the format last taken before the cut.
-abbrev pub AreTold : Bool → ℕ → ℕ → List Update → List Entry → List ServerMessage → Type 0
-AreTold tells w h us [] messages = messages ≡ []
-AreTold tells w h us (Took message ∷ es) messages = AreTold tells w h us es messages
-AreTold tells w h us (Saw number ∷ es) messages = AreTold tells w h us es messages
-AreTold tells w h us (MadeCut number ∷ es) messages =
-    (before : List ServerMessage) × AreTold tells w h us es before
-    × (messages ≡ (before ++ bell_told (take number us) (news_since tells w h es)) ++ text_told (take number us) (news_since tells w h es))
-AreTold tells w h us (Began area number bytes ∷ es) messages =
-    (before : List ServerMessage) × (paints : List Paint) × AreTold tells w h us es before × Spells (server_message (format_of es) w h) bytes (FramebufferUpdate paints)
+-- These are the messages that a record comes to: the Bells and texts of its cuts, and for each answer the one
+-- FramebufferUpdate that the answer's bytes are in the format last taken before the cut.
+abbrev pub AreTold : ℕ → ℕ → List Update → List Entry → List ServerMessage → Type 0
+AreTold w h us [] messages = messages ≡ []
+AreTold w h us (Took message ∷ es) messages = AreTold w h us es messages
+AreTold w h us (Saw number ∷ es) messages = AreTold w h us es messages
+AreTold w h us (MadeCut number ∷ es) messages =
+    (before : List ServerMessage) × AreTold w h us es before
+    × (messages ≡ (before ++ bell_told (take number us) (news_since w h es)) ++ text_told (take number us) (news_since w h es))
+AreTold w h us (Began area number bytes ∷ es) messages =
+    (before : List ServerMessage) × (paints : List Paint) × AreTold w h us es before × Spells (server_message (format_of es) w h) bytes (FramebufferUpdate paints)
     × (messages ≡ before ++ FramebufferUpdate paints ∷ [])
 
--- A viewer that reads what comes of a record reads exactly these messages, follows exactly what a follower of the answers does, and then
--- stands between two messages.
-abbrev pub IsHeard : Bool → ℕ → ℕ → List Update → List Entry → Type 0
-IsHeard tells w h us es =
-    (messages : List ServerMessage) × AreTold tells w h us es messages × (listener w h (heard tells w h us es) ≡ between w h (follower w h (received es)) messages)
+-- A viewer that reads what comes of a record reads exactly these messages, follows exactly what a follower of the
+-- answers does, and then stands between two messages.
+abbrev pub IsHeard : ℕ → ℕ → List Update → List Entry → Type 0
+IsHeard w h us es =
+    (messages : List ServerMessage) × AreTold w h us es messages × (listener w h (heard w h us es) ≡ between w h (follower w h (received es)) messages)

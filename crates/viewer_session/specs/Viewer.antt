@@ -1,25 +1,22 @@
 -- A viewer as a session keeps it: its hello, the messages in its bytes, and what it is sent (RFC 6143, 7.1 to 7.6).
-use Rattle.std.specs.Prelude.{ℕ, ◌+◌, Bool, false, ◌&&◌, nat_le, if◌then◌else◌, is_some, is_none, List, [], ◌∷◌, ◌++◌, length, Option, Some, None}
+use Rattle.std.specs.Prelude.{ℕ, ◌+◌, Bool, ◌&&◌, nat_le, if◌then◌else◌, is_some, is_none, List, [], ◌∷◌, ◌++◌, length, Option, Some, None}
 use Rattle.pixel_format.specs.declared.fault.Fault.{Fault}
 use Rattle.pixel_format.specs.Reading.{Reading, Done, Faulty, Want, step, fault_of, whole_of, wants_more}
-use Rattle.raster.specs.declared.encoding.Encoding.TheVariants.{Raw}
 use Rattle.raster.specs.Update.{Update}
-use Rattle.rfb_wire.specs.ClientMessage.{ClientMessage, SetEncodings, CutText, without_text}
+use Rattle.rfb_wire.specs.ClientMessage.{ClientMessage, CutText, client_message, without_text}
 use Rattle.rfb_wire.specs.Handshake.{viewer_hello, said_to_viewer}
 use Rattle.roles.specs.declared.role.Role.{Role}
 use Rattle.roles.specs.Allowed.{Input, passes, keys_after}
 use Rattle.roles.specs.Held.{input_for}
-use Rattle.viewer_session.specs.Extent.{Extent}
 use Rattle.viewer_session.specs.Record.{Entry, Took}
 use Rattle.viewer_session.specs.Turn.{sent_at, record_after_cut}
 
--- A screen of w by h named so, with room for so many inputs in the queue to the host, and how much of the protocol is served.
+-- A screen of w by h named so, with room for so many inputs in the queue to the host.
 pub record Setup : Type 0 where
   pub w : ℕ
   pub h : ℕ
   pub name : List ℕ
   pub room : ℕ
-  pub extent : Extent
 
 -- One viewer, from its join on.
 pub record Viewer : Type 0 where
@@ -59,56 +56,48 @@ with_input p (Some input) =
     then record p { keys = keys_after p.keys input; waiting = Some input }
     else p
 
--- The input in a message of a viewer of this role, and none where input isn't relayed.
-abbrev pub relayed : Setup → Role → ClientMessage → Option Input
-relayed s role message = if s.extent.relays_input then input_for role message else None
-
--- A message as it is taken up: where choices aren't followed, a list of encodings comes to Raw without CopyRect.
-abbrev pub served : Setup → ClientMessage → ClientMessage
-served s (SetEncodings choice) = if s.extent.follows_choice then SetEncodings choice else SetEncodings (record { kind = Raw; copy = false })
-served s message = message
-
--- A whole message, with the marks of texts that are left behind it. A text is lost for want of memory where its mark says so.
+-- A whole message, with the marks of texts that are left behind it. A text is lost for want of memory where its mark
+-- says so.
 abbrev pub marked : List Bool → ClientMessage → ClientMessage × List Bool
 marked [] (CutText text) = (CutText text, [])
 marked (lost ∷ marks) (CutText text) = ((if lost then without_text (CutText text) else CutText text), marks)
 marked marks message = (message, marks)
 
 -- It goes into the record, its input waits where it passes, and the next message begins.
-abbrev pub with_message : Setup → Viewer → ClientMessage × List Bool → Viewer
-with_message s p taken =
-    with_input (record p { entries = Took (served s taken.0) ∷ p.entries; lost = taken.1; reading = s.extent.from_viewer }) (relayed s p.role taken.0)
+abbrev pub with_message : Viewer → ClientMessage × List Bool → Viewer
+with_message p taken =
+    with_input (record p { entries = Took taken.0 ∷ p.entries; lost = taken.1; reading = client_message }) (input_for p.role taken.0)
 
 -- Where reading of a message has come to: it is whole, at a fault, or goes on.
-abbrev pub after_reading : Setup → Viewer → Reading ClientMessage → Viewer
-after_reading s p (Done message) = with_message s p (marked p.lost message)
-after_reading s p (Faulty fault) = record p { reading = Faulty fault }
-after_reading s p (Want more) = record p { reading = Want more }
+abbrev pub after_reading : Viewer → Reading ClientMessage → Viewer
+after_reading p (Done message) = with_message p (marked p.lost message)
+after_reading p (Faulty fault) = record p { reading = Faulty fault }
+after_reading p (Want more) = record p { reading = Want more }
 
 -- A byte at which the hello is at fault is answered by nothing.
 abbrev pub after_hello : Viewer → Reading (Unit {0}) → Viewer
 after_hello p hello = record p { hello = hello; said = if is_some (fault_of hello) then p.said else p.said + 1 }
 
 -- One byte: of the hello, or of the messages after it.
-abbrev pub after_byte : Setup → Viewer → ℕ → Viewer
-after_byte s p b =
+abbrev pub after_byte : Viewer → ℕ → Viewer
+after_byte p b =
     if wants_more p.hello then after_hello p (step p.hello b)
-    else (if is_some (viewer_fault p) then p else after_reading s p (step p.reading b))
+    else (if is_some (viewer_fault p) then p else after_reading p (step p.reading b))
 
 -- Bytes are taken as far as no input waits.
-abbrev pub after_bytes : Setup → Viewer → List ℕ → Viewer
-after_bytes s p [] = record p { unread = [] }
-after_bytes s p (b ∷ bs) = if is_some p.waiting then record p { unread = b ∷ bs } else after_bytes s (after_byte s p b) bs
+abbrev pub after_bytes : Viewer → List ℕ → Viewer
+after_bytes p [] = record p { unread = [] }
+after_bytes p (b ∷ bs) = if is_some p.waiting then record p { unread = b ∷ bs } else after_bytes (after_byte p b) bs
 
 -- A viewer of this role that has sent nothing. A hello that isn't read is taken as done.
-abbrev pub new_viewer : Setup → Role → Bool → Viewer
-new_viewer s role greet =
+abbrev pub new_viewer : Role → Bool → Viewer
+new_viewer role greet =
     record {
       role = role;
       greet = greet;
       hello = if greet then viewer_hello else Done tt;
       said = 0;
-      reading = s.extent.from_viewer;
+      reading = client_message;
       unread = [];
       lost = [];
       keys = [];
@@ -128,4 +117,4 @@ may_look s p = nat_le (length (out_bytes s p)) p.written && (is_greeted p && is_
 -- What a cut of these updates makes of a viewer: more to be sent, and more in its record.
 abbrev pub after_cut : Setup → List Update → Viewer → Viewer
 after_cut s us p =
-    record p { looked = None; said_after = p.said_after ++ sent_at s.extent.tells_news s.w s.h p.entries us; entries = record_after_cut s.w s.h p.entries us }
+    record p { looked = None; said_after = p.said_after ++ sent_at s.w s.h p.entries us; entries = record_after_cut s.w s.h p.entries us }

@@ -7,8 +7,8 @@ use crate::piece::Piece;
 use reflect_core::Cut;
 use update_encoder::Answer;
 
-/// What of a cut comes behind the piece: its text where one is news, then an answer. Of the answer the head comes first, and then one
-/// rectangle after the other.
+/// What of a cut comes behind the piece: its text where one is news, then an answer. Of the answer the head comes
+/// first, and then one rectangle after the other.
 #[derive(Drop)]
 pub struct Coming {
     /// The cut's text comes.

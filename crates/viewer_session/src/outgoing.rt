@@ -29,8 +29,8 @@ const RECTANGLE_HEAD: usize = 12;
 /// How many bytes a pixel of the widest format has (RFC 6143, 7.4).
 const WIDEST_PIXEL: usize = 4;
 
-/// A cut of the source, one piece of the bytes that wait to be sent, and what of the cut comes behind it. Contracts see the cut, the
-/// piece's bytes, and all bytes that aren't sent.
+/// A cut of the source, one piece of the bytes that wait to be sent, and what of the cut comes behind it. Contracts see
+/// the cut, the piece's bytes, and all bytes that aren't sent.
 #[derive(Drop)]
 pub struct Outgoing {
     cut: Cut,
@@ -51,8 +51,8 @@ impl Model for Outgoing {
 }
 
 impl Outgoing {
-    /// Nothing waits, over a screen of `width` by `height` pixels. All the room is taken here. It fails where memory is refused
-    /// (`Memory`).
+    /// Nothing waits, over a screen of `width` by `height` pixels. All the room is taken here. It fails where memory is
+    /// refused (`Memory`).
     pub fn new(alloc: Global, width: u64, height: u64) -> Result<Self, Fault>
         requires { IsScreenSize width height }
         ensures size { IfOk result (λ out. (out.cut.width ≡ width) × (out.cut.height ≡ height)) }

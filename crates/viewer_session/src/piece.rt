@@ -12,8 +12,8 @@ use std::alloc::Global;
 use std::marker::Model;
 use update_encoder::Answer;
 
-/// Bytes that wait to be sent, in room that was reserved for them. Contracts see how much room there is and how much of it is
-/// taken, and the bytes that aren't sent yet.
+/// Bytes that wait to be sent, in room that was reserved for them. Contracts see how much room there is and how much of
+/// it is taken, and the bytes that aren't sent yet.
 #[derive(Drop)]
 pub struct Piece {
     bytes: Vec<u8>,
@@ -120,8 +120,8 @@ impl Piece {
         self.sent = 0;
     }
 
-    /// The next rectangle of an answer waits from now on, and nothing else; where there is none, nothing does. It is encoded over a
-    /// strip of pixel values.
+    /// The next rectangle of an answer waits from now on, and nothing else; where there is none, nothing does. It is
+    /// encoded over a strip of pixel values.
     pub fn put_rectangle(&mut self, answer: &mut Answer, cut: &Cut, strip: &mut [u32])
         requires stands { AnswerStands answer.old cut.now }
         requires strip { 16 * cut.now.width ≤ length strip.old }

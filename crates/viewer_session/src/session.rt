@@ -8,7 +8,6 @@ ghost use Rattle.rfb_wire.specs.ClientReader.{ahead};
 ghost use Rattle.rfb_wire.specs.Greeting.{to_send};
 ghost use Rattle.reflect_core.specs.Sequential.{Begins};
 ghost use Rattle.roles.specs.Held.{input_in, left_in};
-ghost use Rattle.viewer_session.specs.Extent.{everything};
 ghost use Rattle.viewer_session.specs.Outgoing.{longest_piece};
 ghost use Rattle.viewer_session.specs.Session.{State, Stands, HasReleases, IsBegun, IsBetween, IsGreeting, IsSameSession, fault_in, hello_fault, is_greeted, is_ready, after_writing, without_input};
 ghost use Rattle.viewer_session.specs.Viewer.{Setup, Viewer, new_viewer, may_look};
@@ -27,12 +26,14 @@ use std::alloc::Global;
 use std::marker::Model;
 use tiles::Have;
 
-/// A viewer's hello and messages are read, and answered from a source of screens (RFC 6143, 7.1 to 7.6). An input that its role allows waits to be
-/// taken, and no further byte is read until it is. What it holds down is released when it leaves.
+/// A viewer's hello and messages are read, and answered from a source of screens (RFC 6143, 7.1 to 7.6). An input that
+/// its role allows waits to be taken, and no further byte is read until it is. What it holds down is released when it
+/// leaves.
 ///
-/// What is sent waits in pieces: `out` is the bytes of a hello, a Bell, a text, the head of an update or one rectangle, and once `sent` has
-/// emptied it the next takes its place. An answer keeps the format and the choice that stood at its cut, and what is forgotten while
-/// pieces are unsent stays forgotten: what the viewer has of each tile changes at the cut.
+/// What is sent waits in pieces: `out` is the bytes of a hello, a Bell, a text, the head of an update or one rectangle,
+/// and once `sent` has emptied it the next takes its place. An answer keeps the format and the choice that stood at its
+/// cut, and what is forgotten while pieces are unsent stays forgotten: what the viewer has of each tile changes at the
+/// cut.
 #[derive(Drop)]
 pub struct Session {
     width: u64,
@@ -47,6 +48,8 @@ pub struct Session {
     out: Outgoing,
     held: Held,
     waiting: Option<Input>,
+    // How many updates were begun, for whoever keeps a log.
+    answers: u64,
 }
 
 impl Model for Session {
@@ -78,14 +81,14 @@ impl Model for Session {
 }
 
 impl Session {
-    /// A session of a viewer that begins with its hello, over a screen of `w` by `h` pixels with a name of 1 to 255 bytes. All the room
-    /// that it needs is taken here. It fails where memory is refused (`Memory`).
+    /// A session of a viewer that begins with its hello, over a screen of `w` by `h` pixels with a name of 1 to 255
+    /// bytes. All the room that it needs is taken here. It fails where memory is refused (`Memory`).
     pub fn open(alloc: Global, w: u64, h: u64, name: &[u8], role: Role) -> Result<Self, Fault>
         requires size { IsScreenSize w h }
         requires name { (1 ≤ length name.now) × (length name.now ≤ 255) }
         ensures size { IfOk result (λ session. (session.width ≡ w) × (session.height ≡ h)) }
         ensures uncut { IfOk result (λ session. session.asked.last ≡ None) }
-        ensures stands { IfOk result (λ session. (s : Setup) → s.w ≡ w → s.h ≡ h → s.name ≡ name.now → s.extent ≡ everything → Stands s session (new_viewer s role true)) }
+        ensures stands { IfOk result (λ session. (s : Setup) → s.w ≡ w → s.h ≡ h → s.name ≡ name.now → Stands s session (new_viewer role true)) }
         ensures err { IfErr result (λ fault. fault ≡ Memory) }
     {
         let mut out = Outgoing::new(alloc, w, h)?;
@@ -94,13 +97,13 @@ impl Session {
         Session::begun(alloc, w, h, role, Some(hello), out)
     }
 
-    /// A session of a viewer whose handshake is done, over a screen of `w` by `h` pixels. All the room that it needs is taken here.
-    /// It fails where memory is refused (`Memory`).
+    /// A session of a viewer whose handshake is done, over a screen of `w` by `h` pixels. All the room that it needs is
+    /// taken here. It fails where memory is refused (`Memory`).
     pub fn ready(alloc: Global, w: u64, h: u64, role: Role) -> Result<Self, Fault>
         requires { IsScreenSize w h }
         ensures size { IfOk result (λ session. (session.width ≡ w) × (session.height ≡ h)) }
         ensures uncut { IfOk result (λ session. session.asked.last ≡ None) }
-        ensures stands { IfOk result (λ session. (s : Setup) → s.w ≡ w → s.h ≡ h → s.extent ≡ everything → Stands s session (new_viewer s role false)) }
+        ensures stands { IfOk result (λ session. (s : Setup) → s.w ≡ w → s.h ≡ h → Stands s session (new_viewer role false)) }
         ensures err { IfErr result (λ fault. fault ≡ Memory) }
     {
         let out = Outgoing::new(alloc, w, h)?;
@@ -121,7 +124,7 @@ impl Session {
         requires greets { IsGreeting hello out }
         ensures size { IfOk result (λ session. (session.width ≡ w) × (session.height ≡ h)) }
         ensures uncut { IfOk result (λ session. session.asked.last ≡ None) }
-        ensures stands { IfOk result (λ session. (s : Setup) (greet : Bool) → s.w ≡ w → s.h ≡ h → s.extent ≡ everything → IsBegun s role greet hello out → Stands s session (new_viewer s role greet)) }
+        ensures stands { IfOk result (λ session. (s : Setup) (greet : Bool) → s.w ≡ w → s.h ≡ h → IsBegun s role greet hello out → Stands s session (new_viewer role greet)) }
         ensures err { IfErr result (λ fault. fault ≡ Memory) }
     {
         let have = Have::new(alloc, w, h)?;
@@ -141,10 +144,12 @@ impl Session {
             out,
             held: Held::new(),
             waiting: None,
+            answers: 0,
         })
     }
 
-    /// The piece that is sent next: the first of the bytes that aren't sent yet, and empty exactly where there are none.
+    /// The piece that is sent next: the first of the bytes that aren't sent yet, and empty exactly where there are
+    /// none.
     pub fn out(&self) -> &[u8]
         ensures value { result.now ≡ self.now.piece }
         ensures begins { Begins result.now self.now.unsent }
@@ -210,8 +215,8 @@ impl Session {
         self.waiting.is_some()
     }
 
-    /// Takes the input that waits: a message's that its role allows. Then none waits, and the bytes behind the message may be fed. Where none waits nothing has
-    /// changed. It takes no memory.
+    /// Takes the input that waits: a message's that its role allows. Then none waits, and the bytes behind the message
+    /// may be fed. Where none waits nothing has changed. It takes no memory.
     pub fn take_input(&mut self) -> Option<Input>
         ensures value { option_map input_in result ≡ self.old.waiting }
         ensures others { self.new ≡ record self.old { waiting = None } }
@@ -228,8 +233,9 @@ impl Session {
         self.held.releases()
     }
 
-    /// The next input that is to be released where the viewer has left, and `None` once there is none left: the keys that are down by rising number,
-    /// then mask 0 at the last position if the last mask wasn't 0. An input that waits is taken before. It takes no memory.
+    /// The next input that is to be released where the viewer has left, and `None` once there is none left: the keys
+    /// that are down by rising number, then mask 0 at the last position if the last mask wasn't 0. An input that waits
+    /// is taken before. It takes no memory.
     pub fn leave(&mut self) -> Option<Input>
         ensures next { MatchOption result ((left_in self.old.held ≡ []) × (self.new ≡ self.old)) (λ input. left_in self.old.held ≡ input_in input ∷ left_in self.new.held) }
         ensures others { self.new ≡ record self.old { held = self.new.held } }
@@ -238,10 +244,15 @@ impl Session {
         self.held.release()
     }
 
-    /// Whether the viewer stands between two messages: its hello is done, there is no fault, and no byte was used since the hello's end or
-    /// the last whole message.
+    /// How many updates were begun to be sent, for a log: no clause speaks of it. It stays at the highest number.
+    pub fn answers(&self) -> u64 {
+        self.answers
+    }
+
+    /// Whether the viewer stands between two messages: its hello is done, there is no fault, and no byte was used since
+    /// the hello's end or the last whole message.
     pub fn between(&self) -> bool
-        ensures { (s : Setup) (p : Viewer) → Stands s self.now p → (IsTrue result ↔ IsBetween s p) }
+        ensures { (s : Setup) (p : Viewer) → Stands s self.now p → (IsTrue result ↔ IsBetween p) }
     {
         self.is_greeted() && self.reader.is_between()
     }

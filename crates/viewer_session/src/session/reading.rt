@@ -35,12 +35,13 @@ impl Session {
         }
     }
 
-    // A byte of the hello is taken. What is to be said to it waits to be sent; where the byte shows a fault that is nothing.
+    // A byte of the hello is taken. What is to be said to it waits to be sent; where the byte shows a fault that is
+    // nothing.
     fn greet(&mut self, byte: u8)
         requires wants { wants_more (hello_of self.old.greeting) ≡ true }
         requires none { self.old.waiting ≡ None }
         ensures others { self.new ≡ record self.old { greeting = self.new.greeting; piece = self.new.piece; unsent = self.new.unsent } }
-        ensures stands { (s : Setup) (p : Viewer) → Stands s self.old p → Stands s self.new (after_byte s p byte) }
+        ensures stands { (s : Setup) (p : Viewer) → Stands s self.old p → Stands s self.new (after_byte p byte) }
     {
         if let Some(hello) = &mut self.hello {
             let _ = hello.feed(&[byte]);
@@ -48,7 +49,8 @@ impl Session {
         }
     }
 
-    // Takes the bytes of the hello, one by one, and answers how many they are. It fails at the byte that shows a fault, and from then on.
+    // Takes the bytes of the hello, one by one, and answers how many they are. It fails at the byte that shows a fault,
+    // and from then on.
     fn read_hello(&mut self, piece: &[u8]) -> Result<usize, Fault>
         requires open { is_greeted self.old ≡ false }
         requires none { self.old.waiting ≡ None }
@@ -165,8 +167,9 @@ impl Session {
         Ok(Fed { used, lost })
     }
 
-    /// Takes bytes of the hello, or of the messages behind it up to the end of one; at least one byte, where there is one. It fails at the byte that
-    /// shows a fault, and from then on it uses no byte and fails with the same fault: those of `feed`.
+    /// Takes bytes of the hello, or of the messages behind it up to the end of one; at least one byte, where there is
+    /// one. It fails at the byte that shows a fault, and from then on it uses no byte and fails with the same fault:
+    /// those of `feed`.
     pub fn feed_message(&mut self, piece: &[u8]) -> Result<Fed, Fault>
         requires none { self.old.waiting ≡ None }
         ensures same { IsSameSession self.old self.new }
@@ -181,10 +184,12 @@ impl Session {
         Ok(Fed { used, lost: None })
     }
 
-    /// Takes a piece of the viewer's bytes: first those of its hello, then its messages, up to one whose input waits; while one waits no byte is used. It fails
-    /// at the byte that shows a fault, and from then on it uses no byte and fails with the same fault.
+    /// Takes a piece of the viewer's bytes: first those of its hello, then its messages, up to one whose input waits;
+    /// while one waits no byte is used. It fails at the byte that shows a fault, and from then on it uses no byte and
+    /// fails with the same fault.
     ///
-    /// `BadVersion` and `BadChoice` in the hello; `UnknownMessage` at a type that isn't known, `BadFormat` at a pixel format that isn't accepted.
+    /// `BadVersion` and `BadChoice` in the hello; `UnknownMessage` at a type that isn't known, `BadFormat` at a pixel
+    /// format that isn't accepted.
     pub fn feed(&mut self, piece: &[u8]) -> Result<usize, Fault>
         ensures same { IsSameSession self.old self.new }
         ensures ok { IfOk result (λ used. FeedsUpTo self.old self.new piece.now used) }

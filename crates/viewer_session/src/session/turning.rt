@@ -44,8 +44,8 @@ impl Session {
             || (self.asked.area().is_some() && self.asked.asked())
     }
 
-    // The answer to a pending area at the cut, where a tile of it is due. Then the area is no longer pending, and each tile that lies
-    // wholly inside it counts as sent.
+    // The answer to a pending area at the cut, where a tile of it is due. Then the area is no longer pending, and each
+    // tile that lies wholly inside it counts as sent.
     fn answer(&mut self, area: Option<Rect>, number: u64) -> Option<Answer>
         requires { LiesOn self.old.cut.width self.old.cut.height area }
         ensures others { self.new ≡ record self.old { asked = self.new.asked; have = self.new.have } }
@@ -62,12 +62,14 @@ impl Session {
         }
         self.asked.answered();
         self.have.keep(&area, number);
+        self.answers = self.answers.saturating_add(1);
         Some(answer)
     }
 
-    /// The second half of a turn, after a look that replied `looked`: where there is reason the source is cut, and what the cut brings begins to be
-    /// sent: one Bell where Bells have become more since the last cut, the text where it is newer, and an update of the pending area where a tile of it is
-    /// due. The first cut brings neither Bell nor text. It answers whether anything is begun.
+    /// The second half of a turn, after a look that replied `looked`: where there is reason the source is cut, and what
+    /// the cut brings begins to be sent: one Bell where Bells have become more since the last cut, the text where it is
+    /// newer, and an update of the pending area where a tile of it is due. The first cut brings neither Bell nor text.
+    /// It answers whether anything is begun.
     ///
     /// It takes no memory, and fails where the source has ended (`Gone`), if it may end; then the session is as it was.
     pub fn turn_at<S: ScreenSource>(&mut self, source: &mut S, looked: u64) -> Result<bool, Fault>
@@ -96,8 +98,9 @@ impl Session {
         Ok(!self.out.piece().is_empty())
     }
 
-    /// One turn. It does nothing and answers false while bytes are unsent, before the hello is done, and after a fault. Otherwise it looks once and goes on as
-    /// `turn_at`. Where that fails (`Gone`) the session is as it was, and the source knows what it knew behind the look.
+    /// One turn. It does nothing and answers false while bytes are unsent, before the hello is done, and after a fault.
+    /// Otherwise it looks once and goes on as `turn_at`. Where that fails (`Gone`) the session is as it was, and the
+    /// source knows what it knew behind the look.
     pub fn turn<S: ScreenSource>(&mut self, source: &mut S) -> Result<bool, Fault>
         requires { (S.width source.old ≡ self.old.width) × (S.height source.old ≡ self.old.height) }
         ensures same { IsSameViewer self.old self.new }

@@ -1,14 +1,15 @@
+use Rattle.std.proofs.Common.{◌∙◌}
 use Rattle.host_writer.proofs.Writers.{writing_ends, writing_told, writing_saw, writing_asked, halts_telling, halts_asking}
 use Rattle.host_writer.proofs.run.run_writer.Goals as goal
 
-pub returns-then-is_set : goal.returns-then-is_set
-returns-then-is_set g c = writing_ends _ _ _ _ _ _ _ _ _ _ (c.is_set.ensures c.if-is_set.true) c.loop.invariant.2.writing
+pub returns-then-is_set-clause-writes : goal.returns-then-is_set-clause-writes
+returns-then-is_set-clause-writes g c = writing_ends _ _ _ _ _ _ _ _ _ _ (c.is_set.ensures c.if-is_set.true) c.loop.invariant.2.writing
 
-pub returns-in-Err : goal.returns-in-Err
-returns-in-Err g c = rw c.answer_at.ensures (halts_telling _ _ _ _ _ _ _ _ _ _ _ _ _ c.loop.invariant.2.writing c.in-Err.ensures.err)
+pub returns-in-Err-clause-writes : goal.returns-in-Err-clause-writes
+returns-in-Err-clause-writes g c = rw c.answer_at.ensures (halts_telling _ _ _ _ _ _ _ _ _ _ _ _ _ c.loop.invariant.2.writing c.in-Err.ensures.err)
 
-pub returns-in-Err-give_all : goal.returns-in-Err-give_all
-returns-in-Err-give_all g c =
+pub returns-in-Err-give_all-clause-writes : goal.returns-in-Err-give_all-clause-writes
+returns-in-Err-give_all-clause-writes g c =
     let told = writing_told g.S.ScreenSource.looks _ _ _ _ _ _ _ _ c.in-Ok.is_told _ _ _ c.loop.invariant.2.writing c.in-Ok.ensures.ok in
     rw c.answer_at-in-Err-give_all.ensures
     (halts_asking g.S.ScreenSource.looks _ _ _ _ _ _ _ _ _ _ _ _ _ _ told c.look-looked.ensures.looks c.if-asked-looked.true c.loop.invariant.2.request c.in-Err-give_all.ensures.err)
@@ -20,6 +21,7 @@ loop-preserved-in-Ok-give_all g c =
       tt,
       record {
         request = c.loop.invariant.2.request;
+        relay = c.tell_input.ensures.relay ∙ c.loop.invariant.2.relay;
         writing = writing_asked g.S.ScreenSource.looks _ _ _ _ _ _ _ _ _ _ _ _ _ told c.look-looked.ensures.looks c.if-asked-looked.true c.loop.invariant.2.request c.in-Ok-give_all.ensures.ok;
       },
     )
@@ -29,7 +31,7 @@ loop-preserved-then-not-is_told g c =
     let told = writing_told g.S.ScreenSource.looks _ _ _ _ _ _ _ _ c.in-Ok.is_told _ _ _ c.loop.invariant.2.writing c.in-Ok.ensures.ok in (
       tt,
       tt,
-      record { request = c.loop.invariant.2.request; writing = writing_saw g.S.ScreenSource.looks _ _ _ _ _ _ _ _ _ _ _ told c.look-looked.ensures.looks c.if-asked-looked.false },
+      record { request = c.loop.invariant.2.request; relay = c.tell_input.ensures.relay ∙ c.loop.invariant.2.relay; writing = writing_saw g.S.ScreenSource.looks _ _ _ _ _ _ _ _ _ _ _ told c.look-looked.ensures.looks c.if-asked-looked.false },
     )
 
 pub loop-preserved : goal.loop-preserved
@@ -37,5 +39,5 @@ loop-preserved g c =
     let told = writing_told g.S.ScreenSource.looks _ _ _ _ _ _ _ _ c.in-Ok.is_told _ _ _ c.loop.invariant.2.writing c.in-Ok.ensures.ok in (
       tt,
       tt,
-      record { request = c.loop.invariant.2.request; writing = writing_saw g.S.ScreenSource.looks _ _ _ _ _ _ _ _ _ _ _ told c.look-looked.ensures.looks c.if-asked-looked.false },
+      record { request = c.loop.invariant.2.request; relay = c.tell_input.ensures.relay ∙ c.loop.invariant.2.relay; writing = writing_saw g.S.ScreenSource.looks _ _ _ _ _ _ _ _ _ _ _ told c.look-looked.ensures.looks c.if-asked-looked.false },
     )

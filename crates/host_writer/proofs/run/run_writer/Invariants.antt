@@ -1,5 +1,5 @@
 use Rattle.std.proofs.Common.{◌≡◌}
-use Rattle.input_relay.specs.Ends.{taken_of}
+use Rattle.input_relay.specs.Ends.{host_of, taken_of}
 use Rattle.host_writer.specs.Writing.{whole_request}
 use Rattle.host_writer.proofs.Writers.{IsWriting}
 use Rattle.host_writer.proofs.run.run_writer.Given as goal
@@ -9,5 +9,6 @@ invariant-loop g l =
     (goal.iterator-loop g).can_next l.iterator' × (goal.iterator-loop g).is_finite l.iterator'
     × record {
       request : l.request ≡ whole_request (g.S.ScreenSource.width l.fn.source) (g.S.ScreenSource.height l.fn.source);
+      relay : host_of l.taker ≡ host_of l.fn.taker;
       writing : IsWriting g.S.ScreenSource.looks l.fn.source l.source (taken_of l.fn.taker) (taken_of l.taker) (g.S.ScreenSource.width l.fn.source) (g.S.ScreenSource.height l.fn.source) l.asked (g.L.Link.state l.fn.link) (g.L.Link.state l.link);
     }

@@ -15,7 +15,7 @@ invariant-loop g l =
       high : g.S.ScreenSource.height l.source ≡ l.session.height;
       failed : (g.L.Link.state l.link).failed ≡ (g.L.Link.state l.fn.link).failed;
       ended : (g.L.Link.state l.link).ended ≡ (g.L.Link.state l.fn.link).ended;
-      serving : (s : Setup) (role : Role) (greet : Bool) → Stands s l.fn.session (new_viewer s role greet)
-          → IsServing g.S.ScreenSource.looks g.S.ScreenSource.moves l.fn.source l.source (g.S.ScreenSource.known l.source) (g.S.ScreenSource.answered l.source) s (new_viewer s role greet) l.session l.inbox
+      serving : (s : Setup) (role : Role) (greet : Bool) → Stands s l.fn.session (new_viewer role greet)
+          → IsServing g.S.ScreenSource.looks g.S.ScreenSource.moves l.fn.source l.source (g.S.ScreenSource.known l.source) (g.S.ScreenSource.answered l.source) s (new_viewer role greet) l.session l.inbox
           (g.K.InputSink.sent l.fn.sink) (g.K.InputSink.sent l.sink) false (g.L.Link.state l.fn.link) (g.L.Link.state l.link);
     }

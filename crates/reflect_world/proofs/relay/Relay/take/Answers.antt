@@ -1,6 +1,7 @@
 use Rattle.std.proofs.Common.{◌<◌, ◌+◌, ◌++◌, ℕ, length, take, sym, ap, subst, ◌∙◌, arith}
 use Rattle.std.specs.Prelude.{map}
-use Rattle.reflect_world.specs.Relay.{RelaySide, TakesFirst, input_bytes, inputs_of, relayed_in, spelled}
+use Rattle.reflect_world.specs.Relay.{RelaySide, TakesFirst, inputs_of, relayed_in, spelled}
+use Rattle.roles.specs.Spelling.{input_bytes}
 use Rattle.reflect_world.specs.contracts.relay.Relay.{the_view}
 use Rattle.reflect_world.proofs.Relays.{one_less, one_more, spelled_on, takes_some}
 use Rattle.reflect_world.proofs.relay.Relay.take.Goals as goal

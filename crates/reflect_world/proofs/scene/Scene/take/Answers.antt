@@ -1,7 +1,7 @@
 use Rattle.std.proofs.Common.{ap, subst, sym, ◌∙◌}
 use Rattle.std.specs.Prelude.{OnOk}
 use Rattle.std.proofs.lemmas.Result.{IfErr-weaker, on_ok_weaker}
-use Rattle.reflect_world.specs.Schedule.{HostBytes, Step, happens}
+use Rattle.reflect_world.specs.Schedule.{Bytes, HostBytes, Step, happens}
 use Rattle.reflect_world.specs.World.{IsRefusal, Reached, Standing, TakesStep, step_of, step_with}
 use Rattle.reflect_world.proofs.Reaching.{leaves_stays, takes_reaches}
 use Rattle.reflect_world.proofs.scene.Scene.take.Goals as goal
@@ -30,3 +30,13 @@ returns-in-Take-clause-ok c =
     (λ took. subst (λ (e : Step). TakesStep e c.args.self.now new) (sym (ap (λ step. step_with step c.args.lost.now.items) c.in-Take.is))
     (λ s w r. takes_reaches old c.take.new.self took s w (subst (λ (standing : Standing). Reached s standing w) (sym c.self.view_is) r)))
     c.take.ensures.ok
+
+pub returns-in-Put-clause-ok : goal.returns-in-Put-clause-ok
+returns-in-Put-clause-ok c =
+    subst (λ (e : Step). OnOk c.put_next.result (TakesStep e c.args.self.now c.put_next.new.self)) (sym (ap (λ step. step_with step c.args.lost.now.items) c.in-Put.is)) c.put_next.ensures.ok
+
+pub returns-in-Bytes-clause-ok : goal.returns-in-Bytes-clause-ok
+returns-in-Bytes-clause-ok c =
+    subst (λ (e : Step). OnOk c.feed.result (TakesStep e c.args.self.now c.feed.new.self))
+    (sym (ap (λ step. step_with step c.feed.new.lost.items) c.in-Bytes.is ∙ ap (λ bytes. Bytes c.in-Bytes.viewer bytes c.feed.new.lost.items) (sym c.as_slice-in-Bytes.ensures.value)))
+    c.feed.ensures.ok

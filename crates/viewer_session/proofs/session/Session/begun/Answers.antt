@@ -1,25 +1,21 @@
-use Rattle.std.proofs.Common.{[], refl, sym, ap, subst, ◌∙◌, inl, arith}
-use Rattle.pixel_format.specs.Reading.{Gives, whole_of}
+use Rattle.std.proofs.Common.{[], refl, sym, ap, subst, inl, arith}
 use Rattle.roles.specs.Held.{Kept, HeldStands}
-use Rattle.viewer_session.specs.Extent.{Extent}
-use Rattle.viewer_session.specs.Session.{HasKeptShort}
 use Rattle.viewer_session.proofs.KeptShort.{client_message_short}
 use Rattle.viewer_session.proofs.Relaying.{nothing_held}
 use Rattle.viewer_session.proofs.session.Session.begun.Goals as goal
 
 pub returns-clause-stands : goal.returns-clause-stands
-returns-clause-stands c = λ s greet ew eh extent b.
+returns-clause-stands c = λ s greet ew eh b.
     record {
       serves = record {
         width = sym ew;
         height = sym eh;
-        extent = extent;
         role = refl;
         rests = refl;
         greets = b.greets;
-        reading = inl (c.new-2.ensures ∙ sym (ap (λ (x : Extent). x.from_viewer) extent));
-        taken = ap (λ (x : Extent). whole_of x.from_viewer) extent;
-        short = subst (λ (x : Extent). Gives HasKeptShort x.from_viewer) (sym extent) client_message_short;
+        reading = inl c.new-2.ensures;
+        taken = refl;
+        short = client_message_short;
         keeps = record { asked = c.new-3.ensures.stands; have = c.in_ok-have.ensures.ok.2; format = refl; choice = refl };
         written = omega arith;
         unsent = b.unsent;

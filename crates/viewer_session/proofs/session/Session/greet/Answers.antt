@@ -51,7 +51,7 @@ returns-in-Some-clause-stands c = λ s p k.
     let piece : List ℕ = c.say.new.out.piece in
     let now : Greeting = with_said (with_byte g c.args.byte) in
     let stood : Stands s st p = subst (λ (t : State). Stands s t p) (sym c.self.view_is) k in
-    subst (λ (cut : Cut). Stands s (record st { greeting = Some c.say.new.hello; cut = cut; piece = piece; unsent = c.say.new.out.unsent }) (after_byte s p c.args.byte)) (sym c.say.ensures.cut)
-    (subst (λ (h : Greeting). Stands s (record st { greeting = Some h; piece = piece; unsent = c.say.new.out.unsent }) (after_byte s p c.args.byte)) (sym (c.say.ensures.hello ∙ ap with_said fed))
-    (subst (λ (u : List ℕ). Stands s (record st { greeting = Some now; piece = piece; unsent = u }) (after_byte s p c.args.byte)) (sym unsent)
+    subst (λ (cut : Cut). Stands s (record st { greeting = Some c.say.new.hello; cut = cut; piece = piece; unsent = c.say.new.out.unsent }) (after_byte p c.args.byte)) (sym c.say.ensures.cut)
+    (subst (λ (h : Greeting). Stands s (record st { greeting = Some h; piece = piece; unsent = c.say.new.out.unsent }) (after_byte p c.args.byte)) (sym (c.say.ensures.hello ∙ ap with_said fed))
+    (subst (λ (u : List ℕ). Stands s (record st { greeting = Some now; piece = piece; unsent = u }) (after_byte p c.args.byte)) (sym unsent)
     (stands_byte s st p g c.args.byte piece c.in-Some.is wants (room.said wants).said stood)))

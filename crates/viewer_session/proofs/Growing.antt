@@ -1,20 +1,22 @@
 -- What a viewer's bytes make of what it is sent.
-use Rattle.std.proofs.Common.{◌≡◌, ℕ, ◌+◌, Bool, true, false, cond, List, [], ◌∷◌, ◌++◌, Option, Some, None, refl, ap, sym, ◌∙◌, append-nil, append_assoc}
+use Rattle.std.proofs.Common.{◌≡◌, ℕ, ◌+◌, Bool, true, false, List, [], ◌++◌, Option, Some, None, refl, ap, sym, ◌∙◌, append-nil, append_assoc}
 use Rattle.std.specs.Prelude.{is_some, if◌then◌else◌}
 use Rattle.pixel_format.specs.declared.fault.Fault.{Fault}
 use Rattle.pixel_format.specs.Reading.{Reading, Done, Faulty, Want, step, fault_of, wants_more}
 use Rattle.rfb_wire.specs.ClientMessage.{ClientMessage}
 use Rattle.rfb_wire.specs.Greeting.{Greeting}
 use Rattle.rfb_wire.specs.Handshake.{said_to_viewer}
-use Rattle.roles.specs.Allowed.{Input, passes}
+use Rattle.roles.specs.Allowed.{Input}
+use Rattle.roles.specs.Held.{input_for}
 use Rattle.viewer_session.specs.Record.{NumbersUpTo}
-use Rattle.viewer_session.specs.Viewer.{Setup, Viewer, out_bytes, after_byte, after_bytes, after_hello, after_reading, marked, relayed, viewer_fault, with_input}
+use Rattle.viewer_session.specs.Viewer.{Setup, Viewer, out_bytes, after_bytes, after_hello, after_reading, marked, with_input}
 use Rattle.viewer_session.specs.Session.{State, Stands, Greets}
+use Rattle.viewer_session.proofs.Bytes.{keeps_bytes, keeps_input}
 use Rattle.viewer_session.proofs.HelloLaws.{said_grows}
 
 -- ---- a viewer's bytes change neither what was written nor its look, and add to what is said in its hello at most
 
-abbrev pub Grows : List ℕ → List ℕ → Type 0
+abbrev Grows : List ℕ → List ℕ → Type 0
 Grows before now = (more : List ℕ) × (now ≡ before ++ more)
 
 grows_none : (before : List ℕ) → Grows before before
@@ -42,10 +44,6 @@ pub record HasGrown (s : Setup) (p q : Viewer) : Type 0 where
   pub numbers : (m : ℕ) → NumbersUpTo m p.entries → NumbersUpTo m q.entries
   pub back : (m : ℕ) → NumbersUpTo m q.entries → NumbersUpTo m p.entries
 
-grown_if : (s : Setup) (b : Bool) (p q r : Viewer) → HasGrown s p q → HasGrown s p r → HasGrown s p (cond b q r)
-grown_if s true p q r k l = k
-grown_if s false p q r k l = l
-
 grown_from : (s : Setup) (p q r : Viewer) → HasGrown s p q → HasGrown s q r → HasGrown s p r
 grown_from s p q r k l =
     record { looked = l.looked ∙ k.looked; written = l.written ∙ k.written; out = grows_on (out_bytes s p) (out_bytes s q) (out_bytes s r) k.out l.out; early = l.early; numbers = λ m n. l.numbers m (k.numbers m n); back = λ m n. k.back m (l.back m n) }
@@ -54,12 +52,12 @@ not_grown : (s : Setup) (p : Viewer) → IsEarly p → HasGrown s p p
 not_grown s p e = record { looked = refl; written = refl; out = grows_none (out_bytes s p); early = e; numbers = λ m n. n; back = λ m n. n }
 
 grown_input : (s : Setup) (p q : Viewer) (o : Option Input) → HasGrown s p q → HasGrown s p (with_input q o)
-grown_input s p q None k = k
-grown_input s p q (Some input) k = grown_if s (passes q.keys input) p _ q (record { looked = k.looked; written = k.written; out = k.out; early = k.early; numbers = k.numbers; back = k.back }) k
+grown_input s p q o k =
+    keeps_input (HasGrown s p) (λ r input l. record { looked = l.looked; written = l.written; out = l.out; early = l.early; numbers = l.numbers; back = l.back }) q o k
 
-grown_reading : (s : Setup) (p : Viewer) (r : Reading ClientMessage) → IsEarly p → HasGrown s p (after_reading s p r)
+grown_reading : (s : Setup) (p : Viewer) (r : Reading ClientMessage) → IsEarly p → HasGrown s p (after_reading p r)
 grown_reading s p (Done m) e =
-    grown_input s p _ (relayed s p.role (marked p.lost m).0) (record { looked = refl; written = refl; out = grows_none (out_bytes s p); early = e; numbers = λ m n. n; back = λ m n. n })
+    grown_input s p _ (input_for p.role (marked p.lost m).0) (record { looked = refl; written = refl; out = grows_none (out_bytes s p); early = e; numbers = λ m n. n; back = λ m n. n })
 grown_reading s p (Faulty f) e = record { looked = refl; written = refl; out = grows_none (out_bytes s p); early = e; numbers = λ m n. n; back = λ m n. n }
 grown_reading s p (Want more) e = record { looked = refl; written = refl; out = grows_none (out_bytes s p); early = e; numbers = λ m n. n; back = λ m n. n }
 
@@ -78,14 +76,8 @@ says_more s true count None after none =
 grown_hello : (s : Setup) (p : Viewer) (r : Reading (Unit {0})) → p.said_after ≡ [] → HasGrown s p (after_hello p r)
 grown_hello s p r none = record { looked = refl; written = refl; out = says_more s p.greet p.said (fault_of r) p.said_after none; early = λ wants. none; numbers = λ m n. n; back = λ m n. n }
 
-grown_byte_if : (s : Setup) (p : Viewer) (b : ℕ) (w : Bool) → wants_more p.hello ≡ w → IsEarly p
-    → HasGrown s p (cond w (after_hello p (step p.hello b)) (cond (is_some (viewer_fault p)) p (after_reading s p (step p.reading b))))
-grown_byte_if s p b true wants e = grown_hello s p (step p.hello b) (e wants)
-grown_byte_if s p b false wants e = grown_if s (is_some (viewer_fault p)) p p _ (not_grown s p e) (grown_reading s p (step p.reading b) e)
-
-pub grown_bytes : (s : Setup) (p : Viewer) (bs : List ℕ) → IsEarly p → HasGrown s p (after_bytes s p bs)
-grown_bytes s p [] e = record { looked = refl; written = refl; out = grows_none (out_bytes s p); early = e; numbers = λ m n. n; back = λ m n. n }
-grown_bytes s p (b ∷ bs) e =
-    let one : HasGrown s p (after_byte s p b) = grown_byte_if s p b (wants_more p.hello) refl e in
-    grown_if s (is_some p.waiting) p _ (after_bytes s (after_byte s p b) bs) (record { looked = refl; written = refl; out = grows_none (out_bytes s p); early = e; numbers = λ m n. n; back = λ m n. n })
-    (grown_from s p (after_byte s p b) (after_bytes s (after_byte s p b) bs) one (grown_bytes s (after_byte s p b) bs one.early))
+pub grown_bytes : (s : Setup) (p : Viewer) (bs : List ℕ) → IsEarly p → HasGrown s p (after_bytes p bs)
+grown_bytes s p bs e =
+    keeps_bytes (HasGrown s p) (λ q unread k. record { looked = k.looked; written = k.written; out = k.out; early = k.early; numbers = k.numbers; back = k.back })
+    (λ q hello wants k. grown_from s p q (after_hello q hello) k (grown_hello s q hello (k.early wants)))
+    (λ q b none k. grown_from s p q (after_reading q (step q.reading b)) k (grown_reading s q (step q.reading b) k.early)) p bs (not_grown s p e)
