@@ -7,10 +7,13 @@ use std::io;
 use std::io::{Read, Write};
 use std::marker::Model;
 use std::net::TcpStream;
-use std::time::Duration;
+use std::time::{Clock, Duration, Instant};
 
 // The seconds for which one `give` waits for a host that takes nothing.
 const PATIENCE_SECONDS: u64 = 1;
+
+// The seconds that a host's side of the handshake may take.
+const HELLO_SECONDS: u64 = 10;
 
 /// One end of the host's connection. `take` waits for bytes, and `give` for at most a second.
 #[derive(Drop)]
@@ -29,6 +32,7 @@ impl Model for HostLink {
 
 impl HostLink {
     ghost use Rattle.std.specs.Prelude.{◌≡◌, IfOk};
+    ghost use Rattle.link.specs.Links.{with_failure};
     ghost use Rattle.serving.specs.Answers.{unused};
 
     /// The two ends of a connection: one to be read, one to be written. It fails where the system refuses an option or
@@ -40,6 +44,13 @@ impl HostLink {
         stream.set_write_timeout(Some(Duration::from_secs(PATIENCE_SECONDS)))?;
         let other = stream.try_clone()?;
         Ok((HostLink::of(stream), HostLink::of(other)))
+    }
+
+    // It failed once more.
+    fn fail(&mut self)
+        ensures { self.new ≡ with_failure self.old }
+    {
+        self.account.fail();
     }
 
     fn of(stream: TcpStream) -> HostLink
@@ -67,5 +78,76 @@ impl Link for HostLink {
 
     fn failures(&self) -> u64 {
         self.account.failures()
+    }
+}
+
+/// The host's link while it is joined: a handshake that isn't done within ten seconds has failed.
+#[derive(Drop)]
+pub struct JoiningLink<R: Clock + Drop> {
+    rt: R,
+    link: HostLink,
+    opened: Instant,
+}
+
+impl<R: Clock + Drop> Model for JoiningLink<R> {
+    ghost use Rattle.link.specs.Links.{LinkState};
+
+    ghost Value = { LinkState };
+
+    ghost view = { λ l. l.link };
+}
+
+impl<R: Clock + Drop> JoiningLink<R> {
+    ghost use Rattle.std.specs.Prelude.{◌≡◌, IfOk};
+
+    /// The same link, with ten seconds from now. It fails where the system refuses an option or the clock.
+    pub fn new(rt: R, link: HostLink) -> io::Result<JoiningLink<R>>
+        ensures { IfOk result (λ joining. joining ≡ link) }
+    {
+        let opened = Instant::now(&rt)?;
+        link.stream
+            .set_read_timeout(Some(Duration::from_secs(PATIENCE_SECONDS)))?;
+        Ok(JoiningLink { rt, link, opened })
+    }
+
+    /// The link, without a limit from now on. It fails where the system refuses the option.
+    pub fn into_link(self) -> io::Result<HostLink>
+        ensures { IfOk result (λ link. link ≡ self) }
+    {
+        let JoiningLink { link, .. } = self;
+        link.stream.set_read_timeout(None)?;
+        Ok(link)
+    }
+
+    // Whether its time is over. A clock that can't be read is late.
+    fn is_late(&self) -> bool {
+        match self.opened.elapsed(&self.rt) {
+            Ok(passed) => passed >= Duration::from_secs(HELLO_SECONDS),
+            Err(_) => true,
+        }
+    }
+}
+
+impl<R: Clock + Drop> Link for JoiningLink<R> {
+    ghost state = { λ l. l };
+
+    fn take(&mut self, into: &mut [u8]) -> Took {
+        if self.is_late() {
+            self.link.fail();
+            return Took::Failed;
+        }
+        self.link.take(into)
+    }
+
+    fn give(&mut self, bytes: &[u8]) -> Gave {
+        if self.is_late() {
+            self.link.fail();
+            return Gave::Failed;
+        }
+        self.link.give(bytes)
+    }
+
+    fn failures(&self) -> u64 {
+        self.link.failures()
     }
 }

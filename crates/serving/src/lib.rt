@@ -8,6 +8,7 @@
 mod account;
 mod bell;
 mod door;
+mod event;
 mod hello;
 mod host;
 mod kept;
@@ -22,7 +23,8 @@ mod writer_seat;
 
 pub use bell::{Bell, Everyone, NoBell};
 pub use door::Door;
-pub use host::HostLink;
+pub use event::{Doorplate, Event, Log, NoLog, Parting, Visit};
+pub use host::{HostLink, JoiningLink};
 pub use lobby::{Lobby, TcpDoor, keep_door};
 pub use options::outlast;
 pub use refusal::refusal_bytes;

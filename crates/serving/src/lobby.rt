@@ -3,12 +3,15 @@
 ghost use Rattle.std.specs.Prelude.{◌≡◌};
 
 use crate::door::Door;
+use crate::event::{Doorplate, Event, Log, Visit};
 use crate::refusal::refusal_bytes;
 use crate::seat::Seat;
 use crate::tcp::TcpLink;
+use pixel_format::Fault;
+use roles::Role;
 use std::alloc::{AllocError, Global};
 use std::io::Write;
-use std::net::{TcpListener, TcpStream};
+use std::net::{SocketAddr, TcpListener, TcpStream};
 use std::sync::{Arc, Condvar, Mutex, Wait};
 use std::thread;
 use std::time::{Clock, Duration};
@@ -25,6 +28,8 @@ struct Waiting {
     streams: Vec<TcpStream>,
     // How many places have no viewer, and none on the way.
     free: u64,
+    // How many places there are.
+    places: u64,
     is_closed: bool,
 }
 
@@ -51,6 +56,7 @@ impl Lobby {
             waiting: Mutex::new(Waiting {
                 streams: Vec::with_capacity(alloc, places as usize)?,
                 free: places,
+                places,
                 is_closed: false,
             }),
             came: Condvar::new(),
@@ -58,12 +64,29 @@ impl Lobby {
         })
     }
 
-    /// No more viewers come: each door that waits here, or will, has no next one.
+    /// No more viewers come: each door that waits here, or will, has no next one. Those on their way to a place are let
+    /// go.
     pub fn close<R: Wait>(&self, rt: &R) {
         let mut guard = self.waiting.lock(rt);
-        guard.is_closed = true;
+        let waiting = &mut *guard;
+        waiting.is_closed = true;
+        let on_their_way = waiting.streams.len() as u64;
+        waiting.streams.clear();
+        waiting.free = waiting.free.saturating_add(on_their_way);
         self.came.notify_all();
         self.freed.notify_all();
+    }
+
+    /// Waits until no place has a viewer, but no longer than this.
+    pub fn await_empty<R: Wait + Clock>(&self, rt: &R, patience: Duration) {
+        let guard = self.waiting.lock(rt);
+        let (guard, _) = self.freed.wait_timeout_while(
+            rt,
+            guard,
+            patience,
+            |waiting| waiting.free < waiting.places,
+        );
+        drop(guard);
     }
 
     // Hands the stream to a place that is free, or gives it back.
@@ -93,7 +116,7 @@ impl Lobby {
     fn free<R: Wait>(&self, rt: &R) {
         let mut guard = self.waiting.lock(rt);
         guard.free = guard.free.saturating_add(1);
-        self.freed.notify_one();
+        self.freed.notify_all();
     }
 
     // Waits for a viewer, whoever came first. None where no more come.
@@ -114,39 +137,49 @@ impl Lobby {
     }
 }
 
-/// The door of one place: its viewers come from a lobby, and it waits for them at a seat.
+/// The door of one place: its viewers come from a lobby, it waits for them at a seat, and a log is told who comes and
+/// who leaves.
 #[derive(Drop)]
-pub struct TcpDoor<R: Wait + Clock + Drop> {
+pub struct TcpDoor<R: Wait + Clock + Drop, G: Log + Drop> {
     rt: R,
     alloc: Global,
     lobby: Arc<Lobby, Global>,
     seat: Arc<Seat, Global>,
+    plate: Doorplate,
+    log: G,
     // A viewer was let in of whom the lobby hasn't been told that he is gone.
     has_served: bool,
+    // Where he came from, if the system told.
+    address: Option<SocketAddr>,
 }
 
-impl<R: Wait + Clock + Drop> TcpDoor<R> {
+impl<R: Wait + Clock + Drop, G: Log + Drop> TcpDoor<R, G> {
     /// A door that has let nobody in.
     pub fn new(
         rt: R,
         alloc: Global,
         lobby: Arc<Lobby, Global>,
         seat: Arc<Seat, Global>,
-    ) -> TcpDoor<R> {
+        plate: Doorplate,
+        log: G,
+    ) -> TcpDoor<R, G> {
         TcpDoor {
             rt,
             alloc,
             lobby,
             seat,
+            plate,
+            log,
             has_served: false,
+            address: None,
         }
     }
 }
 
-impl<R: Wait + Clock + Drop + Copy + Send> Door for TcpDoor<R> {
+impl<R: Wait + Clock + Drop + Copy + Send, G: Log + Drop + Send> Door for TcpDoor<R, G> {
     type Viewer = TcpLink<R>;
 
-    // The place is free from this call on. A viewer whose link can't be made is let go, and the next one waited for.
+    // A viewer whose link can't be made is let go, and the next one waited for.
     fn next(&mut self) -> Option<TcpLink<R>> {
         for _ in self.rt.forever() {
             if self.has_served {
@@ -155,17 +188,49 @@ impl<R: Wait + Clock + Drop + Copy + Send> Door for TcpDoor<R> {
             }
             let stream = self.lobby.leave(&self.rt)?;
             self.has_served = true;
+            self.address = stream.peer_addr().ok();
             if let Ok(link) = TcpLink::new(self.rt, self.alloc, stream, &self.seat) {
+                self.log.tell(&Event::ViewerIn {
+                    plate: self.plate,
+                    address: self.address,
+                });
                 return Some(link);
             }
         }
         unreachable!()
     }
+
+    // The connection is closed before the place is free.
+    fn left(&mut self, viewer: TcpLink<R>, answers: u64, why: Result<(), Fault>) {
+        let visit = Visit {
+            why,
+            parting: viewer.parting(),
+            served: viewer.age(),
+            answers,
+            bytes: viewer.sent(),
+        };
+        drop(viewer);
+        self.log.tell(&Event::ViewerOut {
+            plate: self.plate,
+            address: self.address,
+            visit,
+        });
+        if self.has_served {
+            self.lobby.free(&self.rt);
+            self.has_served = false;
+        }
+    }
 }
 
-/// Lets viewers in while places are free, and tells the others why not. The last of these stays open until the next
-/// comes, so that its text isn't lost. It ends with the first who comes once the lobby is closed.
-pub fn keep_door<R: Wait + Clock>(rt: &R, listener: &TcpListener, lobby: &Lobby) {
+/// Lets viewers of a role in while places are free, and tells the others, and the log, why not. The last of these stays
+/// open until the next comes, so that its text isn't lost. It ends with the first who comes once the lobby is closed.
+pub fn keep_door<R: Wait + Clock, G: Log>(
+    rt: &R,
+    listener: &TcpListener,
+    lobby: &Lobby,
+    role: Role,
+    log: &G,
+) {
     let mut last: Option<TcpStream> = None;
     for stream in listener.incoming() {
         let Ok(stream) = stream else {
@@ -179,6 +244,10 @@ pub fn keep_door<R: Wait + Clock>(rt: &R, listener: &TcpListener, lobby: &Lobby)
             Entrance::Placed => {}
             Entrance::Full(refused) => {
                 let _ = (&refused).write(&refusal_bytes());
+                log.tell(&Event::NoPlace {
+                    role,
+                    address: refused.peer_addr().ok(),
+                });
                 last = Some(refused);
             }
             Entrance::Closed => break,

@@ -3,6 +3,7 @@
 ghost use Rattle.std.specs.Prelude.{◌≡◌};
 
 use crate::account::{Account, gave_of};
+use crate::event::Parting;
 use crate::hello::{HELLO_LEN, Patience, longest_wait};
 use crate::kept::{Kept, MOST_KEPT};
 use crate::options::outlast;
@@ -11,13 +12,26 @@ use link::{Gave, Link, Took};
 use mio::net::TcpStream;
 use std::alloc::Global;
 use std::io;
-use std::io::{Read, Write};
+use std::io::{ErrorKind, Read, Write};
 use std::marker::Model;
 use std::sync::{Arc, Wait};
-use std::time::{Clock, Instant};
+use std::time::{Clock, Duration, Instant};
 
 // A slice of so many bytes is written at once where nothing is kept.
 const LARGE: usize = 16_384;
+
+// How a connection stands after the system answered so.
+fn parting_after(before: Parting, answer: &io::Result<usize>) -> Parting {
+    match answer {
+        Ok(_) => before,
+        Err(error) => match error.kind() {
+            ErrorKind::WouldBlock | ErrorKind::Interrupted => before,
+            ErrorKind::TimedOut => Parting::Stalled,
+            ErrorKind::ConnectionReset | ErrorKind::BrokenPipe => Parting::Closed,
+            _ => Parting::Broken,
+        },
+    }
+}
 
 /// A viewer's connection. `take` waits, until bytes come, until the seat's bell rings, or until bytes that are kept can
 /// go out.
@@ -38,6 +52,9 @@ pub struct TcpLink<R: Wait + Clock + Drop> {
     opened: Instant,
     // So many bytes of the hello are missing.
     missing: usize,
+    // How the connection stands, and how many bytes the system took, for a log.
+    parting: Parting,
+    sent: u64,
     account: Account,
 }
 
@@ -86,8 +103,25 @@ impl<R: Wait + Clock + Drop> TcpLink<R> {
             is_broken: false,
             opened,
             missing: HELLO_LEN,
+            parting: Parting::Open,
+            sent: 0,
             account: Account::new(),
         })
+    }
+
+    /// How the connection stands. No clause says so.
+    pub fn parting(&self) -> Parting {
+        self.parting
+    }
+
+    /// How many bytes the system took. No clause says so.
+    pub fn sent(&self) -> u64 {
+        self.sent
+    }
+
+    /// How long ago the viewer came. Nothing where the clock can't be read.
+    pub fn age(&self) -> Duration {
+        self.opened.elapsed(&self.rt).unwrap_or(Duration::ZERO)
     }
 
     // Writes once of what is kept. False where nothing is left, or nothing more goes out now.
@@ -98,8 +132,12 @@ impl<R: Wait + Clock + Drop> TcpLink<R> {
             return false;
         }
         let answer = self.kept.write_to(&mut self.stream);
+        self.parting = parting_after(self.parting, &answer);
         match gave_of(&answer) {
-            Gave::Bytes(_) => true,
+            Gave::Bytes(count) => {
+                self.sent = self.sent.saturating_add(count as u64);
+                true
+            }
             Gave::Nothing => false,
             _ => {
                 self.is_broken = true;
@@ -117,7 +155,9 @@ impl<R: Wait + Clock + Drop> TcpLink<R> {
         }
         let answer = self.stream.write(bytes);
         let gave = self.account.give(&answer, bytes);
+        self.parting = parting_after(self.parting, &answer);
         if let Gave::Bytes(count) = gave {
+            self.sent = self.sent.saturating_add(count as u64);
             let (sent, _) = bytes.split_at(count);
             self.kept.note_sent(sent);
         }
@@ -149,6 +189,10 @@ impl<R: Wait + Clock + Drop> TcpLink<R> {
             return Took::Nothing;
         }
         let took = self.account.take(&answer, into);
+        self.parting = match took {
+            Took::End => Parting::Closed,
+            _ => parting_after(self.parting, &answer),
+        };
         if let Took::Bytes(count) = took {
             self.missing = self.missing.saturating_sub(count);
         }
@@ -165,7 +209,10 @@ impl<R: Wait + Clock + Drop> TcpLink<R> {
         let most = match longest_wait(self.missing, passed) {
             Patience::Endless => None,
             Patience::AtMost(left) => Some(left),
-            Patience::Over => return false,
+            Patience::Over => {
+                self.parting = Parting::Late;
+                return false;
+            }
         };
         let waited = self.seat.wait(&self.rt, most);
         if self.kept.is_empty() {

@@ -2,7 +2,8 @@
 
 use crate::common::{connect, listen, make_seat};
 use link::{Gave, Link, Took};
-use serving::{Door, Lobby, TcpDoor, keep_door};
+use roles::Role;
+use serving::{Door, Doorplate, Lobby, NoLog, TcpDoor, keep_door};
 use std::io::Read;
 use std::net::{TcpListener, TcpStream};
 use std::sync::Arc;
@@ -27,6 +28,7 @@ fn greets<D: Door>(door: &mut D) -> u64 {
                 break;
             }
         }
+        door.left(link, 0, Ok(()));
     }
     u64::MAX
 }
@@ -66,14 +68,18 @@ fn full_lobby_refuses_and_is_free_again(rt: HostRuntime) -> Result<(), Fail> {
     let listener = listen(&rt)?;
     let lobby = Arc::new(rt.alloc(), Lobby::new(rt.alloc(), 1)?)?;
     let seat = make_seat(&rt)?;
-    let mut door = TcpDoor::new(rt, rt.alloc(), Arc::try_clone(&lobby)?, seat);
+    let plate = Doorplate {
+        place: 1,
+        role: Role::Full,
+    };
+    let mut door = TcpDoor::new(rt, rt.alloc(), Arc::try_clone(&lobby)?, seat, plate, NoLog);
     let ((came, ()), right) = thread::join(
         &rt,
         || {
             thread::join(
                 &rt,
                 || greets(&mut door),
-                || keep_door(&rt, &listener, &lobby),
+                || keep_door(&rt, &listener, &lobby, Role::Full, &NoLog),
             )
         },
         || {

@@ -7,7 +7,6 @@ use input_relay::relay;
 use link::Rest;
 use painter::Patch;
 use pixel_format::Fault;
-use raster::{Paint, Rect};
 use reflect_core::{PlainScreen, Puts};
 use roles::{Input, InputSink};
 use serving::{Bell, Ringing, WriterSeat};
@@ -64,7 +63,7 @@ fn put_rings(rt: HostRuntime) -> Result<(), Fail> {
         inner: PlainScreen::new(rt.alloc(), 2, 1)?,
         bell: counter(),
     };
-    let patch = Patch::paints(2, 1, Vec::new(rt.alloc()));
+    let patch = Patch::bell(2, 1);
     let put = screen.put(patch).map_err(|(fault, _)| fault);
     assert!(rt; matches!(put, Ok(1)));
     assert_eq!(rt; screen.bell.rings.load(Ordering::SeqCst), 1);
