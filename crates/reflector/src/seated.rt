@@ -1,0 +1,69 @@
+//! The sender of one place, whatever it sends.
+
+ghost use Rattle.std.specs.Prelude.{◌≡◌, ◌⊎◌};
+ghost use Rattle.pixel_format.specs.declared.fault.Fault.TheVariants.{QueueFull, NumbersOut};
+ghost use Rattle.input_relay.specs.Ends.{inputs_of, place_of, relay_of};
+
+use input_relay::Sender;
+use pixel_format::Fault;
+use roles::{Input, InputSink};
+use std::marker::{Brand, PhantomData};
+use std::sync::Wait;
+
+/// Names a sender: the relay that it is of, and its place there. A sink of that name stays that sender, whatever it
+/// is lent to. No value of it is made.
+pub(crate) trait Seat {
+    ghost use Rattle.std.specs.Prelude.{ℕ};
+    ghost use Rattle.atomic_table.specs.Seated.{TableId};
+
+    /// The relay.
+    ghost relay: { TableId };
+
+    /// The number of the place.
+    ghost place: { ℕ };
+}
+
+impl Seat for Brand {
+    ghost use Rattle.reflector.specs.Running.{no_relay};
+
+    ghost relay = { no_relay };
+
+    ghost place = { 0 };
+}
+
+/// The sender of that name.
+#[derive(Drop)]
+pub(crate) struct Seated<T: Seat, R: Wait + Drop> {
+    sender: Sender<R>,
+    of: PhantomData<T>,
+    ghost is_named: { (relay_of sender ≡ T.relay) × (place_of sender ≡ T.place) },
+}
+
+impl<T: Seat, R: Wait + Drop> Seated<T, R> {
+    pub(crate) fn new(sender: Sender<R>) -> Self
+        requires { (relay_of sender ≡ T.relay) × (place_of sender ≡ T.place) }
+    {
+        Seated {
+            sender,
+            of: PhantomData,
+        }
+    }
+
+    /// The sender again.
+    pub(crate) fn into_sender(self) -> Sender<R>
+        ensures { (relay_of result ≡ T.relay) × (place_of result ≡ T.place) }
+    {
+        let Seated { sender, of: _ } = self;
+        sender
+    }
+}
+
+impl<T: Seat, R: Wait + Drop> InputSink for Seated<T, R> {
+    ghost sent = { λ seated. inputs_of seated.sender };
+
+    ghost may_refuse = { λ fault. (fault ≡ QueueFull) ⊎ (fault ≡ NumbersOut) };
+
+    fn send(&mut self, input: Input) -> Result<(), (Fault, Input)> {
+        self.sender.send(input)
+    }
+}

@@ -1,0 +1,66 @@
+//! What a viewer is welcomed with.
+
+ghost use Rattle.std.specs.Prelude.{◌≡◌, ◌≤◌, length, None, IfOk, IfErr};
+ghost use Rattle.pixel_format.specs.declared.fault.Fault.TheVariants.{Memory};
+ghost use Rattle.raster.specs.Size.{IsScreenSize};
+
+use pixel_format::Fault;
+use roles::Role;
+use std::alloc::Global;
+use viewer_session::Session;
+
+// The name of a screen whose host has none. A viewer is told at least one byte.
+const NO_NAME: &[u8] = b"reflectord";
+
+/// The size and the name of the screen that the viewers of a place are shown, and their role.
+#[derive(Drop)]
+pub(crate) struct Welcome {
+    alloc: Global,
+    pub(crate) width: u64,
+    pub(crate) height: u64,
+    name: Vec<u8>,
+    role: Role,
+    pub(crate) ghost size: { IsScreenSize width height },
+    pub(crate) ghost named: { (1 ≤ length name.items) × (length name.items ≤ 255) },
+}
+
+impl Welcome {
+    /// It fails where memory is refused for the name (`Memory`).
+    pub(crate) fn new(
+        alloc: Global,
+        width: u64,
+        height: u64,
+        name: &[u8],
+        role: Role,
+    ) -> Result<Welcome, Fault>
+        requires size { IsScreenSize width height }
+        requires name { length name.now ≤ 255 }
+        ensures size { IfOk result (λ welcome. (welcome.width ≡ width) × (welcome.height ≡ height)) }
+        ensures err { IfErr result (λ fault. fault ≡ Memory) }
+    {
+        let name = if name.is_empty() { NO_NAME } else { name };
+        let name = name.to_vec(alloc)?;
+        Ok(Welcome {
+            alloc,
+            width,
+            height,
+            name,
+            role,
+        })
+    }
+
+    /// A viewer's session, which begins with its hello. It fails where memory is refused (`Memory`).
+    pub(crate) fn open(&self) -> Result<Session, Fault>
+        ensures size { IfOk result (λ session. (session.width ≡ self.now.width) × (session.height ≡ self.now.height)) }
+        ensures uncut { IfOk result (λ session. session.asked.last ≡ None) }
+        ensures err { IfErr result (λ fault. fault ≡ Memory) }
+    {
+        Session::open(
+            self.alloc,
+            self.width,
+            self.height,
+            self.name.as_slice(),
+            self.role,
+        )
+    }
+}
