@@ -4,5 +4,5 @@
 use std::process::ExitCode;
 
 fn main(rt: HostRuntime) -> ExitCode {
-    command_line::run(&rt)
+    command_line::run(rt, rt.stdin(), rt.stdout())
 }

@@ -1,0 +1,21 @@
+-- A line of `serve` whose options can't be read.
+use Rattle.std.proofs.Common.{◌∙◌, ◌≡◌, ◌∷◌, ap, arith, inl, inr, subst, sym, List, [], ℕ}
+use Rattle.std.specs.Prelude.{codes}
+use Rattle.clap.specs.Words.{Text, fault_of}
+use Rattle.settings.specs.Serve.{IsBad, serve}
+use Rattle.command_line.specs.Tasks.{IsNoTask}
+
+-- the words behind the first
+abbrev behind : List Text → List Text
+behind [] = []
+behind (first ∷ rest) = rest
+
+pub is_no_task : (words rest : List Text) (status : ℕ) → words ≡ codes "serve" ∷ rest → IsBad (fault_of serve rest) status → IsNoTask words status
+is_no_task words rest status line bad = record {
+  no_replay = λ same. grind arith;
+  no_serve = λ other same. subst (λ (r : List Text). IsBad (fault_of serve r) status) (ap behind (sym line ∙ same)) bad;
+  two_or_four = elim bad [
+    | inl four ↦ inr four
+    | inr two ↦ inl two.0
+  ];
+}

@@ -1,0 +1,29 @@
+-- What a line asks for. Its words are those behind the program's name.
+use Rattle.std.specs.Prelude.{◌≡◌, ◌≢◌, ◌≤◌, ◌⊎◌, ◌∷◌, List, [], codes, ℕ}
+use Rattle.clap.specs.Words.{Text, fault_of}
+use Rattle.settings.specs.Given.{AreSetBy}
+use Rattle.settings.specs.Serve.{IsBad, serve}
+use Rattle.settings.specs.declared.values.Settings.{Settings}
+use Rattle.command_line.specs.declared.task.Task.{Task}
+use Rattle.command_line.specs.declared.task.Task.TheVariants.{Replay, Serve, Explain}
+
+-- From 1 to 32 places for each role.
+abbrev pub HasPlaces : Settings → Type 0
+HasPlaces s = (1 ≤ s.full_places) × (s.full_places ≤ 32) × (1 ≤ s.view_places) × (s.view_places ≤ 32)
+
+-- The line of `replay`, which has no further words.
+abbrev pub replay_line : List Text
+replay_line = codes "replay" ∷ []
+
+-- Nothing can be done: the line isn't that of `replay`, and if it is one of `serve`, then its options are at fault, or
+-- memory was refused. The status is 2, or 4 where memory was refused.
+pub record IsNoTask (words : List Text) (status : ℕ) : Type 0 where
+  pub no_replay : words ≢ replay_line
+  pub no_serve : (rest : List Text) → words ≡ codes "serve" ∷ rest → IsBad (fault_of serve rest) status
+  pub two_or_four : (status ≡ 2) ⊎ (status ≡ 4)
+
+-- What the words ask for: `replay` alone to play a script, and `serve` with its options to reflect a host as they say.
+abbrev pub IsAsked : List Text → Task → Type 0
+IsAsked words Replay = words ≡ replay_line
+IsAsked words (Serve settings) = (rest : List Text) × (words ≡ codes "serve" ∷ rest) × AreSetBy rest settings
+IsAsked words (Explain bad) = IsNoTask words bad.status

@@ -1,0 +1,92 @@
+//! Doing what the words ask for.
+
+ghost use Rattle.command_line.specs.Tasks.{HasPlaces};
+
+use crate::task::{Task, task_of};
+use serve::{Plan, serve};
+use settings::{BadLine, Settings};
+use std::alloc::{AllocGlobal, Global};
+use std::env::Env;
+use std::io::{ErrorKind, Read, Write};
+use std::net::{Net, TcpListener, TcpStream};
+use std::process::ExitCode;
+use std::sync::Wait;
+use std::thread::Threads;
+use std::time::Clock;
+use std::{env, io};
+
+/// The exit status of a command line that can't be read.
+const BAD_COMMAND: u8 = 2;
+
+/// The exit status where memory is refused.
+const NO_MEMORY: u8 = 4;
+
+/// The words behind the program's name.
+fn words<R: Env + AllocGlobal>(rt: &R, alloc: Global) -> io::Result<Vec<String>> {
+    let mut words = Vec::new(alloc);
+    for word in env::args(rt)?.skip(1) {
+        words.push(word)?;
+    }
+    Ok(words)
+}
+
+/// Reflects a host, as the line says.
+fn start<R>(rt: R, alloc: Global, settings: &Settings) -> u8
+where
+    R: Net<Stream = TcpStream, Listener = TcpListener>
+        + Threads
+        + Wait
+        + Clock
+        + Eprint
+        + Copy
+        + Drop
+        + Send
+        + 'static,
+    requires { HasPlaces settings.now }
+{
+    let plan = Plan {
+        host: settings.host.as_str(),
+        bind: settings.bind.as_str(),
+        full: settings.full,
+        view: settings.view,
+        full_places: settings.full_places,
+        view_places: settings.view_places,
+        is_logged: settings.log,
+    };
+    serve(rt, alloc, &plan)
+}
+
+/// Does what the words behind the program's name say, and answers the exit status: that of `reflect_world::replay` or
+/// of `serve`; 2 where the line is no command, with what is wrong with it on standard error; 4 where memory is refused.
+#[tactic(auto, using(crate::proofs::Places::has_places))]
+pub fn run<R, I, O>(rt: R, reader: I, writer: O) -> ExitCode
+where
+    R: Net<Stream = TcpStream, Listener = TcpListener>
+        + Threads
+        + Wait
+        + Clock
+        + Env
+        + AllocGlobal
+        + Eprint
+        + Copy
+        + Drop
+        + Send
+        + 'static,
+    I: Read + Drop,
+    O: Write + Drop,
+{
+    let alloc = rt.alloc();
+    let words = match words(&rt, alloc) {
+        Ok(words) => words,
+        Err(error) if error.kind() == ErrorKind::OutOfMemory => return ExitCode::from(NO_MEMORY),
+        Err(_) => return ExitCode::from(BAD_COMMAND),
+    };
+    ExitCode::from(match task_of(alloc, words.as_slice()) {
+        Task::Replay => reflect_world::replay(alloc, reader, writer),
+        Task::Serve(settings) => start(rt, alloc, &settings),
+        Task::Explain(BadLine { status, text }) => {
+            let _ = rt.eprint(text.as_str());
+            status
+        }
+    })
+}

@@ -1,0 +1,37 @@
+//! What the words ask for.
+
+ghost use Rattle.std.specs.Prelude.{map};
+ghost use Rattle.std.specs.String.{string_bytes};
+ghost use Rattle.command_line.specs.Tasks.{IsAsked};
+
+use settings::{BadLine, Settings, explain, settings};
+use std::alloc::Global;
+
+/// What a command line asks for.
+#[derive(Drop)]
+pub(crate) enum Task {
+    /// To play a script.
+    Replay,
+    /// To reflect a host.
+    Serve(Settings),
+    /// Nothing that can be done.
+    Explain(BadLine),
+}
+
+/// What the words behind the program's name ask for. The first picks the program: `serve` has options, `replay` no
+/// further words; every other line is explained.
+pub(crate) fn task_of(alloc: Global, words: &[String]) -> Task
+    ensures { IsAsked (map string_bytes words.now) result }
+{
+    let Some((first, rest)) = words.split_first() else {
+        return Task::Explain(explain(alloc, words));
+    };
+    match first.as_str() {
+        "replay" if rest.is_empty() => Task::Replay,
+        "serve" => match settings(alloc, rest) {
+            Ok(settings) => Task::Serve(settings),
+            Err(bad) => Task::Explain(bad),
+        },
+        _ => Task::Explain(explain(alloc, words)),
+    }
+}

@@ -1,0 +1,119 @@
+//! What a fault means to whoever runs the program, and what to try: the one place of such texts.
+
+use crate::plan::{Plan, port_of};
+use crate::trouble::{Stage, Trouble};
+use pixel_format::Fault;
+use roles::Role;
+use std::fmt;
+use std::fmt::{Display, Formatter};
+
+/// A trouble in plain words, with the address and the option that it is about.
+#[derive(Drop)]
+pub(crate) struct Advice<'a> {
+    pub(crate) plan: Plan<'a>,
+    pub(crate) trouble: &'a Trouble,
+}
+
+/// What the system said of it, if it said something.
+#[derive(Drop)]
+struct Said<'a> {
+    trouble: &'a Trouble,
+}
+
+impl Display for Said<'_> {
+    fn fmt<W: fmt::Write>(&self, f: &mut Formatter<W>) -> fmt::Result {
+        match &self.trouble.error {
+            Some(error) => write!(f, ": {error}"),
+            None => Ok(()),
+        }
+    }
+}
+
+fn options_of(role: Role) -> (&'static str, &'static str) {
+    match role {
+        Role::Full => ("--full", "viewers with full control"),
+        Role::View => ("--view", "viewers that only look on"),
+    }
+}
+
+/// What a fault of the handshake with a host means.
+fn join_advice(fault: &Fault) -> &'static str {
+    match fault {
+        Fault::BadVersion => "it doesn't begin as a VNC server of RFB 3.8 does; is the port right?",
+        Fault::HostRefused(_) => "it refused the connection; its reason stands above",
+        Fault::NoNone => {
+            "it wants a password or another proof; let it offer security type None, on loopback or behind an SSH tunnel"
+        }
+        Fault::SecurityFailed => "it ended the handshake as failed; see the VNC server's own log",
+        Fault::BadScreen =>
+            "its screen is empty, or over 4096 pixels wide or high; give it a smaller one",
+        Fault::LinkFailed => {
+            "the connection broke, or its handshake took more than 10 seconds; is a VNC server at that port?"
+        }
+        Fault::LinkEnded =>
+            "it closed the connection inside the handshake; see the VNC server's own log",
+        _ => "its handshake failed",
+    }
+}
+
+/// What a fault of a run means.
+fn run_advice(fault: &Fault) -> &'static str {
+    match fault {
+        Fault::LinkFailed =>
+            "the connection to it broke; see whether it and the network are there, and start again",
+        Fault::LinkEnded =>
+            "it closed the connection inside a message; see the VNC server's own log",
+        Fault::NumbersOut => "the numbers of updates have run out; start again",
+        Fault::NoPlace => "no place for a reader of the screen was left; start again",
+        _ =>
+            "it sent bytes that RFB 3.8 doesn't have there, or that weren't asked of it; see whether the VNC server has updates",
+    }
+}
+
+impl Display for Advice<'_> {
+    fn fmt<W: fmt::Write>(&self, f: &mut Formatter<W>) -> fmt::Result {
+        let plan = self.plan;
+        let said = Said {
+            trouble: self.trouble,
+        };
+        let fault = &self.trouble.fault;
+        if let Fault::Memory = fault {
+            return write!(
+                f,
+                "memory was refused; each viewer wants some 4 bytes a pixel of the host's screen"
+            );
+        }
+        match self.trouble.stage {
+            Stage::ReadBind => write!(
+                f,
+                "--bind {} is no IP address of this machine, such as 127.0.0.1",
+                plan.bind
+            ),
+            Stage::ReadHost => write!(
+                f,
+                "--host {} is no IP:PORT, such as 192.0.2.7:5900",
+                plan.host
+            ),
+            Stage::Listen(role) => {
+                let (option, viewers) = options_of(role);
+                let port = port_of(&plan, role);
+                write!(
+                    f,
+                    "can't listen on {} port {port} for {viewers}{said}; end the program that has the port, or choose another by {option}",
+                    plan.bind
+                )
+            }
+            Stage::Connect => write!(
+                f,
+                "can't connect to the host {}{said}; is a VNC server running there, at that port?",
+                plan.host
+            ),
+            Stage::Join => write!(f, "the host {}: {fault}: {}", plan.host, join_advice(fault)),
+            Stage::Start => write!(
+                f,
+                "can't start{said}; the system may be short of threads or descriptors"
+            ),
+            Stage::Run => write!(f, "the host {}: {fault}: {}", plan.host, run_advice(fault)),
+        }
+    }
+}

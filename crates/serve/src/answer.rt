@@ -1,0 +1,52 @@
+//! What `serve` says and answers.
+
+ghost use Rattle.serve.specs.Statuses.{HasPlaces, IsStatus};
+
+use crate::advice::Advice;
+use crate::journal::Journal;
+use crate::plan::Plan;
+use crate::run::run;
+use crate::status::status_of;
+use crate::trouble::Trouble;
+use std::alloc::Global;
+use std::net::{Net, TcpListener, TcpStream};
+use std::sync::Wait;
+use std::thread::Threads;
+use std::time::Clock;
+
+// Says what went wrong: its number, and then what it means.
+fn say<R: Eprint>(rt: &R, plan: &Plan<'_>, trouble: &Trouble) {
+    let advice = Advice {
+        plan: *plan,
+        trouble,
+    };
+    let _ = rt.eprintln(format_args!("fault {}", trouble.fault.number()));
+    let _ = rt.eprintln(format_args!("reflectord: {advice}"));
+}
+
+/// Reflects a host until it ends, and answers the exit status: 0 where the host ended between two messages, 4 where
+/// memory was refused, and 3 for every other fault, also where a port can't be bound or the host can't be reached or
+/// joined. What was at fault is said on standard error: `fault N`, and a line of plain words.
+pub fn serve<R>(rt: R, alloc: Global, plan: &Plan<'_>) -> u8
+where
+    R: Net<Stream = TcpStream, Listener = TcpListener>
+        + Threads
+        + Wait
+        + Clock
+        + Eprint
+        + Copy
+        + Drop
+        + Send
+        + 'static,
+    requires { HasPlaces plan.now }
+    ensures { IsStatus result }
+{
+    let log = Journal::new(rt, alloc, plan.is_logged);
+    match run(rt, alloc, plan, log) {
+        Ok(()) => status_of(&Ok(())),
+        Err(trouble) => {
+            say(&rt, plan, &trouble);
+            status_of(&Err(trouble.fault))
+        }
+    }
+}

@@ -1,0 +1,184 @@
+//! The log: a line an event, on standard error.
+
+use jiff::Timestamp;
+use pixel_format::Fault;
+use roles::Role;
+use serving::{Doorplate, Event, Log, Parting, Visit};
+use std::alloc::Global;
+use std::fmt;
+use std::fmt::{Display, Formatter};
+use std::net::SocketAddr;
+use std::time::Clock;
+
+/// A log on standard error, if it is kept. Each line is written at once, so that the lines of threads don't mix. A line
+/// for which memory is refused is left out.
+#[derive(Clone, Copy, Drop)]
+pub(crate) struct Journal<R: Eprint + Clock + Drop> {
+    rt: R,
+    alloc: Global,
+    is_kept: bool,
+}
+
+impl<R: Eprint + Clock + Drop> Journal<R> {
+    pub(crate) fn new(rt: R, alloc: Global, is_kept: bool) -> Journal<R> {
+        Journal { rt, alloc, is_kept }
+    }
+}
+
+impl<R: Eprint + Clock + Drop> Log for Journal<R> {
+    fn tell(&self, event: &Event<'_>) {
+        if !self.is_kept {
+            return;
+        }
+        let Ok(now) = Timestamp::now(&self.rt) else {
+            return;
+        };
+        let line = Line { event };
+        if let Ok(line) = format!(in self.alloc; "{now:.3} {line}\n") {
+            let _ = self.rt.eprint(line.as_str());
+        }
+    }
+}
+
+/// What a line says behind its time.
+#[derive(Drop)]
+struct Line<'a> {
+    event: &'a Event<'a>,
+}
+
+#[derive(Drop)]
+struct Name {
+    role: Role,
+}
+
+impl Display for Name {
+    fn fmt<W: fmt::Write>(&self, f: &mut Formatter<W>) -> fmt::Result {
+        f.write_str(match self.role {
+            Role::Full => "full",
+            Role::View => "view",
+        })
+    }
+}
+
+/// An address, or `-`.
+#[derive(Drop)]
+struct Place {
+    address: Option<SocketAddr>,
+}
+
+impl Display for Place {
+    fn fmt<W: fmt::Write>(&self, f: &mut Formatter<W>) -> fmt::Result {
+        match self.address {
+            Some(address) => write!(f, "{address}"),
+            None => f.write_str("-"),
+        }
+    }
+}
+
+/// Bytes of a peer, of which each that isn't printable is escaped.
+#[derive(Drop)]
+struct Quoted<'a> {
+    bytes: &'a [u8],
+}
+
+impl Display for Quoted<'_> {
+    fn fmt<W: fmt::Write>(&self, f: &mut Formatter<W>) -> fmt::Result {
+        for byte in self.bytes {
+            write!(f, "{}", byte.escape_ascii())?;
+        }
+        Ok(())
+    }
+}
+
+/// Why serving ended.
+#[derive(Drop)]
+struct Why {
+    why: Result<(), Fault>,
+    parting: Parting,
+}
+
+impl Display for Why {
+    fn fmt<W: fmt::Write>(&self, f: &mut Formatter<W>) -> fmt::Result {
+        match (&self.why, self.parting) {
+            (Ok(()), Parting::Closed) => f.write_str("ended"),
+            (Ok(()), _) => f.write_str("host gone"),
+            (Err(_), Parting::Stalled) => f.write_str("stalled"),
+            (Err(_), Parting::Late) => f.write_str("late handshake"),
+            (Err(fault), _) => write!(f, "fault {}: {fault}", fault.number()),
+        }
+    }
+}
+
+fn viewer_out<W: fmt::Write>(
+    f: &mut Formatter<W>,
+    plate: &Doorplate,
+    address: Option<SocketAddr>,
+    visit: &Visit,
+) -> fmt::Result {
+    let why = Why {
+        why: visit.why,
+        parting: visit.parting,
+    };
+    write!(
+        f,
+        "viewer-out place={} role={} address={} seconds={} answers={} bytes={} why=\"{}\"",
+        plate.place,
+        Name { role: plate.role },
+        Place { address },
+        visit.served.as_secs(),
+        visit.answers,
+        visit.bytes,
+        why
+    )
+}
+
+impl Display for Line<'_> {
+    fn fmt<W: fmt::Write>(&self, f: &mut Formatter<W>) -> fmt::Result {
+        match self.event {
+            Event::Listening {
+                role,
+                address,
+                places,
+            } => write!(
+                f,
+                "listening role={} address={address} places={places}",
+                Name { role: *role }
+            ),
+            Event::HostJoined {
+                address,
+                name,
+                width,
+                height,
+            } => write!(
+                f,
+                "host-joined address={address} width={width} height={height} name=\"{}\"",
+                Quoted { bytes: name }
+            ),
+            Event::ViewerIn { plate, address } => write!(
+                f,
+                "viewer-in place={} role={} address={}",
+                plate.place,
+                Name { role: plate.role },
+                Place { address: *address }
+            ),
+            Event::ViewerOut {
+                plate,
+                address,
+                visit,
+            } => viewer_out(f, plate, *address, visit),
+            Event::NoPlace { role, address } => write!(
+                f,
+                "no-place role={} address={}",
+                Name { role: *role },
+                Place { address: *address }
+            ),
+            Event::HostOut { address, why } => {
+                let why = Why {
+                    why: *why,
+                    parting: Parting::Closed,
+                };
+                write!(f, "host-out address={address} why=\"{why}\"")
+            }
+        }
+    }
+}

@@ -1,0 +1,35 @@
+//! What is to be served, and where.
+
+ghost use Rattle.std.specs.Prelude.{◌≡◌};
+ghost use Rattle.serve.specs.Statuses.{port_for};
+
+use roles::Role;
+
+/// What `serve` is told.
+#[derive(Clone, Copy, Debug)]
+pub struct Plan<'a> {
+    /// The VNC host, `IP:PORT`.
+    pub host: &'a str,
+    /// The address that both ports listen on.
+    pub bind: &'a str,
+    /// The port of viewers with full control.
+    pub full: u16,
+    /// The port of viewers that only look.
+    pub view: u16,
+    /// How many viewers with full control there may be at once.
+    pub full_places: u64,
+    /// How many viewers that only look there may be at once.
+    pub view_places: u64,
+    /// Whether a log is kept on standard error.
+    pub is_logged: bool,
+}
+
+/// The port of the viewers of a role.
+pub(crate) fn port_of(plan: &Plan<'_>, role: Role) -> u16
+    ensures { result ≡ port_for role plan.now }
+{
+    match role {
+        Role::Full => plan.full,
+        Role::View => plan.view,
+    }
+}

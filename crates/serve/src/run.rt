@@ -1,0 +1,113 @@
+//! A run, from its first port to its end.
+
+ghost use Rattle.std.specs.Prelude.{◌≡◌, ◌≤◌, length};
+ghost use Rattle.raster.specs.Size.{IsScreenSize};
+ghost use Rattle.serve.specs.Statuses.{HasPlaces};
+
+use crate::meet::{Met, meet};
+use crate::open::open;
+use crate::plan::Plan;
+use crate::trouble::{Stage, Trouble};
+use crate::welcome::{Rooms, bells, start_porter};
+use link::{Link, Rest};
+use pixel_format::Fault;
+use reflector::{Running, run_all};
+use rfb_wire::Joined;
+use roles::Role;
+use serving::{Bell, Door, Event, Log};
+use std::alloc::Global;
+use std::marker::Brand;
+use std::net::{Net, TcpListener, TcpStream};
+use std::sync::{Arc, Wait};
+use std::thread::Threads;
+use std::time::Clock;
+use tally_word::{Naming, Opened};
+
+// The run over a history that J names.
+fn over<J, L, D, B, W, R>(
+    rt: R,
+    alloc: Global,
+    history: Opened,
+    ends: (L, L),
+    joined: Joined,
+    doors: Vec<(Role, D)>,
+    everyone: Arc<B, Global>,
+    writer: Arc<W, Global>,
+) -> Result<(), Fault>
+where
+    J: Naming + Send + Sync + 'static,
+    L: Link + Send + 'static,
+    D: Door + Send + 'static,
+    B: Bell + Drop + Send + Sync + 'static,
+    W: Bell + Rest + Drop + Send + Sync + 'static,
+    R: Threads + Wait + Clock + Copy + Drop + Send + 'static,
+    requires history { history.seen.book ≡ J.book }
+    requires size { IsScreenSize joined.w joined.h × (joined.w ≡ J.width) × (joined.h ≡ J.height) }
+    requires doors { (1 ≤ length doors.items) × (length doors.items ≤ 64) }
+{
+    let (reader, writer_end) = ends;
+    let Running {
+        result,
+        link: _link,
+        publisher: _publisher,
+        taker: _taker,
+        places: _places,
+    } = run_all::<J, L, D, B, W, R>(
+        rt, alloc, history, reader, writer_end, joined, doors, everyone, writer,
+    )?;
+    result
+}
+
+// Starts all threads, and waits until the host has ended. It answers what reading the host was answered.
+fn reflect<G, R>(rt: R, alloc: Global, met: Met, rooms: Rooms<R, G>) -> Result<(), Fault>
+where
+    G: Log + Drop + Send + 'static,
+    R: Threads + Wait + Clock + Copy + Drop + Send + 'static,
+    requires size { IsScreenSize met.joined.w met.joined.h }
+    requires doors { (1 ≤ length rooms.doors.items) × (length rooms.doors.items ≤ 64) }
+{
+    let (writer, everyone) = bells(alloc, rooms.seats)?;
+    over::<Brand, _, _, _, _, _>(
+        rt,
+        alloc,
+        Opened::new(),
+        (met.reader, met.writer),
+        met.joined,
+        rooms.doors,
+        everyone,
+        writer,
+    )
+}
+
+/// Listens, joins the host, and reflects it until it ends. Then the places are waited for, though not for long.
+pub(crate) fn run<G, R>(rt: R, alloc: Global, plan: &Plan<'_>, log: G) -> Result<(), Trouble>
+where
+    G: Log + Drop + Copy + Send + 'static,
+    R: Net<Stream = TcpStream, Listener = TcpListener>
+        + Threads
+        + Wait
+        + Clock
+        + Copy
+        + Drop
+        + Send
+        + 'static,
+    requires { HasPlaces plan.now }
+{
+    let full = open(&rt, alloc, plan, Role::Full, &log)?;
+    let view = open(&rt, alloc, plan, Role::View, &log)?;
+    let met = meet(rt, plan, &log)?;
+    let mut rooms = Rooms::new(alloc);
+    rooms.add_all(rt, alloc, &full, log)?;
+    rooms.add_all(rt, alloc, &view, log)?;
+    let full = start_porter(rt, alloc, full, log)?;
+    let view = start_porter(rt, alloc, view, log)?;
+    let address = met.address;
+    let why = reflect(rt, alloc, met, rooms);
+    log.tell(&Event::HostOut { address, why });
+    full.close(&rt);
+    view.close(&rt);
+    match &why {
+        Ok(()) => Ok(()),
+        Err(fault) => Err(Trouble::new(Stage::Run, *fault)),
+    }
+}

@@ -1,0 +1,64 @@
+//! What went wrong, and where.
+
+use pixel_format::Fault;
+use roles::Role;
+use std::io;
+use std::io::ErrorKind;
+
+/// What was being done.
+#[derive(Clone, Copy, Debug, PartialEq, Eq)]
+pub(crate) enum Stage {
+    /// Reading the address to listen on.
+    ReadBind,
+    /// Listening for viewers of a role.
+    Listen(Role),
+    /// Reading the host's address.
+    ReadHost,
+    /// Connecting to the host.
+    Connect,
+    /// The handshake with the host.
+    Join,
+    /// Starting the threads.
+    Start,
+    /// Reflecting.
+    Run,
+}
+
+/// A fault, what was being done, and what the system said of it.
+#[derive(Debug, Drop)]
+pub(crate) struct Trouble {
+    pub(crate) fault: Fault,
+    pub(crate) stage: Stage,
+    pub(crate) error: Option<io::Error>,
+}
+
+impl Trouble {
+    ghost use Rattle.std.specs.Prelude.{◌≡◌};
+
+    /// A fault that the system says nothing of.
+    pub(crate) fn new(stage: Stage, fault: Fault) -> Trouble
+        ensures { (result.fault ≡ fault) × (result.stage ≡ stage) }
+    {
+        Trouble {
+            fault,
+            stage,
+            error: None,
+        }
+    }
+
+    /// What the system refused: memory, or a connection.
+    pub(crate) fn of(stage: Stage, error: io::Error) -> Trouble
+        ensures { result.stage ≡ stage }
+    {
+        let fault = if error.kind() == ErrorKind::OutOfMemory {
+            Fault::Memory
+        } else {
+            Fault::LinkFailed
+        };
+        Trouble {
+            fault,
+            stage,
+            error: Some(error),
+        }
+    }
+}

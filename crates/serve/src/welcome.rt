@@ -1,0 +1,152 @@
+//! Places for viewers, and who lets them in.
+
+ghost use Rattle.std.specs.Prelude.{◌≡◌, ◌+◌, ◌<◌, [], length, OnOk};
+
+use crate::open::Entry;
+use crate::trouble::{Stage, Trouble};
+use pixel_format::Fault;
+use roles::Role;
+use serving::{Doorplate, Everyone, Lobby, Log, Seat, TcpDoor, WriterSeat, keep_door};
+use std::alloc::Global;
+use std::io;
+use std::net::{Net, SocketAddr, TcpStream};
+use std::sync::{Arc, Wait};
+use std::thread::{Builder, Threads};
+use std::time::{Clock, Duration};
+
+// The bytes of the stack of whoever keeps a door.
+const STACK: usize = 262_144;
+
+// For how long viewers are waited for once the host has ended, in milliseconds.
+const GOODBYE_MILLIS: u64 = 1_000;
+
+// How long a knock at the own door may take, in milliseconds.
+const KNOCK_MILLIS: u64 = 200;
+
+/// The doors of all places with their roles, and where each place's thread waits.
+#[derive(Drop)]
+pub(crate) struct Rooms<R: Wait + Clock + Drop, G: Log + Drop> {
+    pub(crate) doors: Vec<(Role, TcpDoor<R, G>)>,
+    pub(crate) seats: Vec<Arc<Seat, Global>>,
+}
+
+impl<R: Wait + Clock + Drop + Copy + Net, G: Log + Drop + Copy> Rooms<R, G> {
+    /// No place.
+    pub(crate) fn new(alloc: Global) -> Rooms<R, G>
+        ensures { result.doors.items ≡ [] }
+    {
+        Rooms {
+            doors: Vec::new(alloc),
+            seats: Vec::new(alloc),
+        }
+    }
+
+    // One place more, at which its thread waits on this seat.
+    fn add(&mut self, rt: R, alloc: Global, entry: &Entry, seat: Seat, log: G) -> Result<(), Fault>
+        requires { length self.old.doors.items < 64 }
+        ensures { OnOk result (length self.new.doors.items ≡ length self.old.doors.items + 1) }
+    {
+        let plate = Doorplate {
+            place: self.doors.len() as u64 + 1,
+            role: entry.role,
+        };
+        let seat = Arc::new(alloc, seat)?;
+        self.seats.push(Arc::try_clone(&seat)?)?;
+        let lobby = Arc::try_clone(&entry.lobby)?;
+        let door = TcpDoor::new(rt, alloc, lobby, seat, plate, log);
+        self.doors.push((entry.role, door))?;
+        Ok(())
+    }
+
+    /// The places of one role more.
+    pub(crate) fn add_all(
+        &mut self,
+        rt: R,
+        alloc: Global,
+        entry: &Entry,
+        log: G,
+    ) -> Result<(), Trouble>
+        requires { length self.old.doors.items + entry.now.places < 65 }
+        ensures { OnOk result (length self.new.doors.items ≡ length self.old.doors.items + entry.now.places) }
+    {
+        for _place in 0..entry.places {
+            let seat = match Seat::new(&rt, alloc) {
+                Ok(seat) => seat,
+                Err(error) => return Err(Trouble::of(Stage::Start, error)),
+            };
+            if let Err(fault) = self.add(rt, alloc, entry, seat, log) {
+                return Err(Trouble::new(Stage::Start, fault));
+            }
+        }
+        Ok(())
+    }
+}
+
+/// Where the host's writer rests, and who is woken by news: it and all these seats.
+pub(crate) fn bells(
+    alloc: Global,
+    seats: Vec<Arc<Seat, Global>>,
+) -> Result<(Arc<WriterSeat, Global>, Arc<Everyone, Global>), Fault> {
+    let writer = Arc::new(alloc, WriterSeat::new())?;
+    let everyone = Everyone {
+        writer: Arc::try_clone(&writer)?,
+        seats,
+    };
+    Ok((writer, Arc::new(alloc, everyone)?))
+}
+
+/// What is left to do with a role's viewers while its door is kept: to send them away.
+#[derive(Drop)]
+pub(crate) struct Hall {
+    lobby: Arc<Lobby, Global>,
+    address: io::Result<SocketAddr>,
+}
+
+/// Starts the thread that lets the viewers of a role in.
+pub(crate) fn start_porter<R, G>(
+    rt: R,
+    alloc: Global,
+    entry: Entry,
+    log: G,
+) -> Result<Hall, Trouble>
+where
+    R: Threads + Wait + Clock + Copy + Drop + Send + 'static,
+    G: Log + Drop + Send + 'static,
+{
+    let address = entry.listener.local_addr();
+    let Entry {
+        role,
+        listener,
+        lobby,
+        ..
+    } = entry;
+    let Ok(theirs) = Arc::try_clone(&lobby) else {
+        return Err(Trouble::new(Stage::Start, Fault::Memory));
+    };
+    let started = Builder::new().stack_size(STACK).spawn(
+        &rt,
+        move || keep_door(&rt, &listener, &theirs, role, &log),
+    );
+    match started {
+        Ok(_porter) => Ok(Hall { lobby, address }),
+        Err(error) => Err(Trouble::of(Stage::Start, error)),
+    }
+}
+
+impl Hall {
+    /// No more viewers come, and those that are there are waited for, though not for long. Whoever keeps the door is
+    /// knocked at, so that he sees it.
+    pub(crate) fn close<R: Net + Wait + Clock>(&self, rt: &R) {
+        self.lobby.close(rt);
+        if let Ok(address) = &self.address {
+            let knock = TcpStream::connect_timeout(
+                rt,
+                address,
+                Duration::from_millis(KNOCK_MILLIS),
+            );
+            drop(knock);
+        }
+        self.lobby
+            .await_empty(rt, Duration::from_millis(GOODBYE_MILLIS));
+    }
+}
