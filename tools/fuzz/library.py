@@ -1,0 +1,58 @@
+"""The proved readers, as `crates/fuzz_streams` gives them to C, behind calls that take and answer bytes."""
+
+import contextlib
+import ctypes
+import pathlib
+import shutil
+import subprocess
+import tempfile
+
+TOP = pathlib.Path(__file__).resolve().parents[2]
+ROOM = 1 << 22
+
+
+def build(folder):
+    """Proves and builds the static library, and links it as a shared one."""
+    crate = TOP / "crates" / "fuzz_streams"
+    subprocess.run(["rt", "lib"], cwd=crate, check=True, stdout=subprocess.DEVNULL)
+    kit = pathlib.Path(shutil.which("rt")).resolve().parents[1]
+    shared = pathlib.Path(folder) / "fuzz_streams.so"
+    names = ["viewer_hello", "host_hello", "client", "host", "rectangle", "encode"]
+    keep = [f"-Wl,-u,fuzz_{name}" for name in names]
+    parts = [crate / "out" / "libfuzz_streams.a", kit / "c" / "liblibc_c.a"]
+    subprocess.run(["gcc", "-O2", "-shared", "-fPIC", "-o", shared, *keep, *parts], check=True)
+    return shared
+
+
+class Library:
+    def __init__(self, shared):
+        self.code = ctypes.CDLL(str(shared))
+        self.out = ctypes.create_string_buffer(ROOM)
+
+    def call(self, name, *arguments):
+        """Calls it with numbers and bytes. What it wrote down."""
+        given = []
+        for argument in arguments:
+            if isinstance(argument, int):
+                given.append(ctypes.c_uint32(argument))
+            else:
+                given += [argument, ctypes.c_size_t(len(argument))]
+        function = getattr(self.code, f"fuzz_{name}")
+        function.restype = ctypes.c_size_t
+        length = function(*given, self.out, ctypes.c_size_t(ROOM))
+        return ctypes.string_at(self.out, length)
+
+
+def program():
+    """The path of reflectord, which is proved and built first."""
+    crate = TOP / "crates" / "reflectord"
+    words = ["rt", "run", "--", "replay"]
+    subprocess.run(words, cwd=crate, check=True, stdin=subprocess.DEVNULL, stderr=subprocess.DEVNULL)
+    return crate / "out" / "reflectord"
+
+
+@contextlib.contextmanager
+def built():
+    """The path of the library, which is there until the end of the block."""
+    with tempfile.TemporaryDirectory(prefix="fuzz-") as folder:
+        yield build(folder)
