@@ -1,4 +1,4 @@
--- What is written of a format is read as the same format.
+-- What is written of a format is read as the same format. The law `format_is_read_back` is made of it.
 use Rattle.std.proofs.Common.{◌≡◌, ℕ, ◌+◌, ◌*◌, ◌/◌, ◌%◌, ◌^◌, ◌<◌, ◌≤◌, Bool, true, false, cond, List, [], ◌∷◌, Some, refl, ap, ◌∙◌, arith}
 use Rattle.std.specs.Prelude.{◌==◌, find, unwrap_or}
 use Rattle.std.proofs.Math.Pow.{pow_mono}

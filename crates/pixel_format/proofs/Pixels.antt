@@ -1,4 +1,5 @@
--- A pixel value and its bytes: what they are in each size and order, and that the value is read back.
+-- A pixel value and its bytes: what they are in each size and order, and that the value is read back. Rows of
+-- pixels rest on it, and what is read of them.
 use Rattle.std.proofs.Common.{◌≡◌, ℕ, ◌^◌, ◌*◌, ◌%◌, ◌/◌, Bool, true, false, cond, ◌||◌, List, [], ◌∷◌, length, refl, ◌<◌, arith}
 use Rattle.std.specs.Prelude.{◌==◌}
 use Rattle.std.specs.Int.{Width, w8, w16, w32, byte_len, to_be_bytes, to_le_bytes, from_be_bytes, from_le_bytes}

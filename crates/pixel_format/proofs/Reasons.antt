@@ -1,4 +1,4 @@
--- A reason and the zeros behind it.
+-- A reason and the zeros after it. A `Reason` keeps its bytes in an array of fixed length.
 use Rattle.std.proofs.Common.{◌≡◌, ◌∙◌, ℕ, ◌-◌, List, ◌++◌, length, take, drop, ap, sym, subst}
 use Rattle.std.specs.Prelude.{replicate}
 use Rattle.std.proofs.lemmas.List.{drop-replicate}
@@ -8,7 +8,7 @@ use Rattle.std.proofs.Math.Seq.{take-append_seam}
 abbrev pub IsPadded : (m n : ℕ) → List ℕ → Type 0
 IsPadded m n array = (n ≡ length (take n array)) × (array ≡ take n array ++ replicate (m - n) 0)
 
--- The front of an array was overwritten by a reason, and zeros stand behind.
+-- The front of an array was overwritten by a reason, and zeros stand after.
 padded : (m : ℕ) (xs rest : List ℕ) → rest ≡ replicate (m - length xs) 0 → IsPadded m (length xs) (xs ++ rest)
 padded m xs rest e = (ap length (sym (take-append_seam xs rest)), ap (λ zs. xs ++ zs) e ∙ ap (λ ys. ys ++ replicate (m - length xs) 0) (sym (take-append_seam xs rest)))
 

@@ -1,11 +1,11 @@
--- A row that is written piece by piece.
+-- A row that is written piece by piece. A row is tinted so, and owes the bytes of all its colours.
 use Rattle.std.proofs.Common.{◌≡◌, ℕ, ◌+◌, ◌*◌, ◌<◌, ◌≤◌, List, [], ◌∷◌, ◌++◌, length, get_or, take, refl, ap, sym, ◌∙◌, append_assoc, append-nil, arith}
 use Rattle.std.proofs.lemmas.List.{take_more, length-take-le}
 use Rattle.std.proofs.Math.Seq.{take-append-add, take-append_seam}
 use Rattle.std.proofs.lemmas.Grind.{flat_map-append}
 use Rattle.std.specs.List.{flat_map}
 
--- The front of a list in which a piece was put behind its first k items.
+-- The front of a list in which a piece was put after its first k items.
 pub front_of_put : (k n : ℕ) (out piece rest : List ℕ) → k ≤ length out → length piece ≡ n → take (k + n) (take k out ++ (piece ++ rest)) ≡ take k out ++ piece
 front_of_put k n out piece rest le e =
     let a : length (take k out) ≡ k = length-take-le k out le in
@@ -17,7 +17,7 @@ pub pieces_more : (f : ℕ → List ℕ) (xs : List ℕ) (i : ℕ) → i < lengt
 pieces_more f xs i lt =
     ap (flat_map f) (take_more xs i 0 lt) ∙ flat_map-append f (take i xs) (get_or xs i 0 ∷ []) ∙ ap (λ (t : List ℕ). flat_map f (take i xs) ++ t) (append-nil (f (get_or xs i 0)))
 
--- A row of pieces of n items each, of which the first i are written, once the next is put behind them.
+-- A row of pieces of n items each, of which the first i are written, once the next is put after them.
 pub piece_goes_on : (f : ℕ → List ℕ) (n : ℕ) (xs out rest : List ℕ) (i k : ℕ) → k ≡ n * i → k ≤ length out → length (f (get_or xs i 0)) ≡ n → i < length xs → take (n * i) out ≡ flat_map f (take i xs)
     → take (n * (i + 1)) (take k out ++ (f (get_or xs i 0) ++ rest)) ≡ flat_map f (take (i + 1) xs)
 piece_goes_on f n xs out rest i k ek le e lt h =

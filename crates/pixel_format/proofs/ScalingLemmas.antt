@@ -1,4 +1,5 @@
--- A component is scaled by a multiplication in place of the division by 255.
+-- A component is scaled by a multiplication in place of the division by 255. It is faster, and owes the definition's
+-- number.
 use Rattle.std.proofs.Common.{◌≡◌, ℕ, ◌+◌, ◌*◌, ◌/◌, ◌%◌, ◌<◌, ◌≤◌, ◌∙◌, ap, arith}
 use Rattle.std.proofs.Math.Nat.{mul-le-mul}
 use Rattle.pixel_format.specs.PixelFormat.{host_format, tint}

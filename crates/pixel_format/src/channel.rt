@@ -49,7 +49,7 @@ impl Channel {
         }
     }
 
-    /// Whether the channel has a size, and its bits lie inside a pixel of so many.
+    /// Whether the channel has a size, and its bits lie inside a pixel of this many.
     pub(crate) fn fits(&self, bits_per_pixel: u8) -> bool
         ensures { result ≡ channel_fits bits_per_pixel self.now }
     {

@@ -1,10 +1,10 @@
--- One thing and then another, at the front of some bytes.
+-- One thing and then another, at the front of some bytes. Readers of messages of several parts rest on it.
 use Rattle.std.proofs.Common.{◌≡◌, ℕ, ◌+◌, Bool, true, false, List, [], ◌∷◌, drop, refl, ap, sym, ◌∙◌, arith}
 use Rattle.pixel_format.specs.declared.fault.Fault.{Fault}
-use Rattle.pixel_format.specs.Reading.{Reading, Done, Faulty, Want, ◌>>=◌, after, taken, wants_more, unless}
-use Rattle.pixel_format.proofs.ReadingLaws.{at_fault, done_is, faulty_is, faulty_is_not, after-done, after-faulty}
+use Rattle.byte_reading.specs.Reading.{Reading, Done, Faulty, Want, ◌>>=◌, after, taken, wants_more, unless}
+use Rattle.byte_reading.proofs.ReadingLaws.{at_fault, done_is, faulty_is, faulty_is_not, after-done, after-faulty}
 
--- Where the first is whole, what follows is read behind it.
+-- Where the first is whole, what follows is read after it.
 pub then_done : {A B : Type 0} (form : Reading A) (next : A → Reading B) (bs : List ℕ) (x : A) → after form bs ≡ Done x → after (form >>= next) bs ≡ after (next x) (drop (taken form bs) bs)
 then_done (Done y) next bs x e = let same : y ≡ x = done_is y x (sym (after-done y bs) ∙ e) in ap (λ v. after (next v) bs) same
 then_done (Faulty f) next bs x e = absurd (faulty_is_not f x (sym (after-faulty f bs) ∙ e))
