@@ -1,8 +1,8 @@
--- Hearing a host's handshake byte by byte.
+-- Hearing a host's handshake byte by byte. `join_host` takes no byte after it.
 use Rattle.std.proofs.Common.{◌≡◌, ℕ, ◌+◌, ◌≤◌, true, List, [], ◌∷◌, ◌++◌, length, take, drop, None, Some, sym, ap, subst, ◌∙◌, arith, append_assoc, length-append, length-drop}
 use Rattle.std.proofs.lemmas.List.{length-take, take-take, drop-take, take-append-drop}
-use Rattle.pixel_format.specs.Reading.{Reading, Done, Faulty, after, taken, whole_of, fault_of, wants_more}
-use Rattle.pixel_format.proofs.ReadingLaws.{done_from, taken-append, taken-one, wants_from}
+use Rattle.byte_reading.specs.Reading.{Reading, Done, Faulty, after, taken, whole_of, fault_of, wants_more}
+use Rattle.byte_reading.proofs.ReadingLaws.{done_from, taken-append, taken-one, wants_from}
 use Rattle.rfb_wire.specs.Handshake.{Joined, version, host_hello, said_to_host}
 use Rattle.rfb_wire.specs.Joining.{ahead, to_send, HasHeard}
 use Rattle.rfb_wire.specs.declared.host_talk.HostTalk.{HostTalk}
@@ -32,7 +32,7 @@ with_given link bytes = record link { given = link.given ++ bytes }
 abbrev pub with_taken : LinkState → ℕ → LinkState
 with_taken link b = record link { taken = link.taken ++ b ∷ [] }
 
--- So many and then so many more.
+-- Some bytes, and then some more.
 take_further : (n m : ℕ) (xs : List ℕ) → take n xs ++ take m (drop n xs) ≡ take (n + m) xs
 take_further n m xs =
     ap (λ t. t ++ take m (drop n xs)) (sym (take-take n (n + m) xs (omega arith)))

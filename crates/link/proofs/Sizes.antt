@@ -1,11 +1,11 @@
--- A host that is joined has a screen of 1 to 4096 pixels each way.
+-- A host that is joined has a screen of 1 to 4096 pixels each way. `serve` makes the shared screen of it.
 use Rattle.std.proofs.Common.{◌≡◌, ℕ, ◌-◌, ◌≤◌, Bool, true, false, not, List, [], ◌∷◌, min, refl, subst, arith}
 use Rattle.std.specs.Prelude.{◌&&◌, nat_le}
 use Rattle.std.proofs.lemmas.Bool.{and_parts}
 use Rattle.std.proofs.lemmas.Bool.Decides.{nat_tests}
-use Rattle.pixel_format.specs.Reading.{Reading, Done, ◌>>=◌, step, after, bytes, padding, u16, u32, unless, Gives}
+use Rattle.byte_reading.specs.Reading.{Reading, Done, ◌>>=◌, step, after, bytes, padding, u16, u32, unless, Gives}
 use Rattle.pixel_format.specs.declared.fault.Fault.TheVariants.{BadScreen}
-use Rattle.pixel_format.proofs.ReadingLaws.{gives_bind, gives_padding, gives_step}
+use Rattle.byte_reading.proofs.ReadingLaws.{gives_bind, gives_padding, gives_step}
 use Rattle.rfb_wire.specs.Handshake.{Joined, is_size, kept_name, host_version, security_types, security_result, host_init, host_hello}
 
 pub record HasSize (joined : Joined) : Type 0 where

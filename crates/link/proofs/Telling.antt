@@ -1,4 +1,4 @@
--- What a host is told once its handshake is whole.
+-- What a host is told once its handshake is whole. `join_host` owes just these messages.
 use Rattle.std.proofs.Common.{◌≡◌, ℕ, false, List, [], ◌∷◌, ◌++◌, length, ap, ◌∙◌, arith, append_assoc}
 use Rattle.std.proofs.lemmas.List.{append-nil, drop_all}
 use Rattle.pixel_format.specs.PixelFormat.{host_format}
@@ -15,7 +15,7 @@ writes_whole spelling old new count w e = w.written ∙ (ap (λ t. spelling ++ t
 abbrev pub whole_screen : Joined → List ℕ
 whole_screen joined = request_bytes false (record { x = 0; y = 0; w = joined.w; h = joined.h })
 
--- Behind the handshake the three messages were given in turn.
+-- After the handshake the three messages were given in turn.
 pub joins_then : (old heard told_1 told_2 new : LinkState) (format encodings request : List ℕ) (joined : Joined) → Hears old heard joined
     → told_1 ≡ with_given heard format → told_2 ≡ with_given told_1 encodings → new ≡ with_given told_2 request
     → format ≡ set_pixel_format_bytes host_format → encodings ≡ set_encodings_bytes (1 ∷ 5 ∷ 2 ∷ 0 ∷ []) → request ≡ whole_screen joined

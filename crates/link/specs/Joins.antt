@@ -1,7 +1,7 @@
 -- Joining a host over a link.
 use Rattle.std.specs.Prelude.{◌≡◌, ◌≤◌, ◌⊎◌, ℕ, false, List, [], ◌∷◌, ◌++◌}
 use Rattle.pixel_format.specs.PixelFormat.{host_format}
-use Rattle.pixel_format.specs.Reading.{Faulty, after, Spells}
+use Rattle.byte_reading.specs.Reading.{Faulty, after, Spells}
 use Rattle.pixel_format.specs.declared.fault.Fault.{Fault}
 use Rattle.pixel_format.specs.declared.fault.Fault.TheVariants.{LinkFailed, LinkEnded}
 use Rattle.rfb_wire.specs.Handshake.{Joined, version, host_hello}
@@ -27,7 +27,8 @@ pub record Hears (old new : LinkState) (joined : Joined) : Type 0 where
   pub down : 1 ≤ joined.h
   pub most_down : joined.h ≤ 4096
 
--- One whole handshake of the host was taken, and the client's side and the first messages were given. The link neither failed nor ended.
+-- One whole handshake of the host was taken, and the client's side and the first messages were given. The link neither
+-- failed nor ended.
 pub record Joins (old new : LinkState) (joined : Joined) : Type 0 where
   pub heard : List ℕ
   pub taken : new.taken ≡ old.taken ++ heard
@@ -36,7 +37,8 @@ pub record Joins (old new : LinkState) (joined : Joined) : Type 0 where
   pub failed : new.failed ≡ old.failed
   pub ended : new.ended ≡ old.ended
 
--- What has risen with a fault of the link: how often it failed, or how often it said that it ended. No other fault is the link's.
+-- What has risen with a fault of the link: how often it failed, or how often it said that it ended. No other fault is
+-- the link's.
 abbrev pub Rises : Fault → (failed_old failed_new : ℕ) → (ended_old ended_new : ℕ) → Type 0
 Rises LinkFailed failed_old failed_new ended_old ended_new = HasRisen failed_old failed_new
 Rises LinkEnded failed_old failed_new ended_old ended_new = HasRisen ended_old ended_new

@@ -9,7 +9,7 @@ use raster::{COPY_RECT, Encoding, Rect};
 use rfb_wire::{HostHello, Joined, write_request, write_set_encodings, write_set_pixel_format};
 use std::sync::Wait;
 
-// Gives all of these bytes.
+/// Gives all of these bytes.
 fn give_all<L: Link, R: Wait>(rt: &R, link: &mut L, bytes: &[u8]) -> Result<(), Fault>
     ensures given { OnOk result (L.state link.new ≡ record (L.state link.old) { given = (L.state link.old).given ++ bytes.now }) }
     ensures taken { (L.state link.new).taken ≡ (L.state link.old).taken }
@@ -33,7 +33,7 @@ fn give_all<L: Link, R: Wait>(rt: &R, link: &mut L, bytes: &[u8]) -> Result<(), 
     unreachable!()
 }
 
-// Takes the next byte. A handshake is short, and what comes behind it is left to others.
+/// Takes the next byte. A handshake is short, and what comes after it is left to others.
 fn take_byte<L: Link, R: Wait>(rt: &R, link: &mut L) -> Result<u8, Fault>
     ensures taken { IfOk result (λ byte. L.state link.new ≡ record (L.state link.old) { taken = (L.state link.old).taken ++ byte ∷ [] }) }
     ensures given { (L.state link.new).given ≡ (L.state link.old).given }
@@ -51,7 +51,7 @@ fn take_byte<L: Link, R: Wait>(rt: &R, link: &mut L) -> Result<u8, Fault>
     unreachable!()
 }
 
-// Hears the host's handshake, up to its end and no byte further, and gives the client's side.
+/// Hears the host's handshake, up to its end and no byte further, and gives the client's side.
 fn hear<L: Link, R: Wait>(rt: &R, link: &mut L) -> Result<Joined, Fault>
     ensures joined { IfOk result (λ joined. Hears (L.state link.old) (L.state link.new) joined) }
     ensures err { IfErr result (λ fault. FailsAs fault (L.state link.old) (L.state link.new)) }

@@ -10,9 +10,9 @@ use std::marker::Model;
 
 /// A link whose peer is a list of answers to `take` and a list of answers to `give`.
 ///
-/// `Took::Bytes(n)` brings the next `n` of the bytes that the peer sends. Those that are more than the slice holds come at
-/// the next call. `Gave::Bytes(n)` takes `n` bytes, or all of a shorter slice, and is used up. A call for which no byte is
-/// left answers Nothing, and a list that is used up answers End. No call takes memory.
+/// `Took::Bytes(n)` brings the next `n` of the bytes that the peer sends. Those that are more than the slice holds come
+/// at the next call. `Gave::Bytes(n)` takes `n` bytes, or all of a shorter slice, and is used up. A call for which no
+/// byte is left answers Nothing, and a list that is used up answers End. No call takes memory.
 #[derive(Drop)]
 pub struct MemoryLink {
     sends: Vec<u8>,
@@ -39,7 +39,7 @@ impl Model for MemoryLink {
     ghost invariant = { λ l. (l.taken ≤ length l.sends.items) × (l.given ≤ length l.room.items) × (l.failures ≤ 2 ^ 62) × (l.ends ≤ 2 ^ 62) };
 }
 
-// How many bytes these answers allow in all.
+/// How many bytes these answers allow in all.
 fn most(gives: &[Gave]) -> usize {
     let mut most: usize = 0;
     for answer in gives {
@@ -50,7 +50,7 @@ fn most(gives: &[Gave]) -> usize {
     most
 }
 
-// Puts these bytes into the slice from `start` on.
+/// Puts these bytes into the slice from `start` on.
 fn put_at(slice: &mut [u8], start: usize, bytes: &[u8])
     requires { start + length bytes.now ≤ length slice.old }
     ensures len { length slice.new ≡ length slice.old }
@@ -104,7 +104,8 @@ impl MemoryLink {
         &self.room[..self.given]
     }
 
-    // The next answer to `take`. Of one that brings more bytes than there is room for, the rest is kept for the next call.
+    /// The next answer to `take`. Of one that brings more bytes than there is room for, the rest is kept for the next
+    /// call.
     fn answer_take(&mut self, room: usize) -> Took
         ensures { self.new ≡ self.old }
     {
@@ -121,7 +122,7 @@ impl MemoryLink {
         answer
     }
 
-    // The next answer to `give`.
+    /// The next answer to `give`.
     fn answer_give(&mut self) -> Gave
         ensures { self.new ≡ self.old }
     {
@@ -187,7 +188,7 @@ impl Link for MemoryLink {
 impl MemoryLink {
     ghost use Rattle.link.specs.Links.{TakesAs, GivesAs};
 
-    // Brings so many of the bytes, or as many as there are and as fit.
+    /// Brings this many of the bytes, or as many as there are and as fit.
     fn bring(&mut self, wanted: usize, into: &mut [u8]) -> Took
         ensures { TakesAs result self.old self.new into.new }
     {
@@ -202,7 +203,7 @@ impl MemoryLink {
         Took::Bytes(count)
     }
 
-    // Keeps so many of the bytes, or as many as there are and as fit.
+    /// Keeps this many of the bytes, or as many as there are and as fit.
     fn keep(&mut self, wanted: usize, bytes: &[u8]) -> Gave
         ensures { GivesAs result self.old self.new bytes.now }
     {

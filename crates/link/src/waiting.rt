@@ -6,7 +6,7 @@ use std::sync::Wait;
 
 /// A flag, shared by threads, that ends their loops.
 pub trait StopFlag {
-    /// That it was set, which only `is_set` says. What it is for a flag is of no account.
+    /// That it was set, which only `is_set` says. What this means is up to each flag.
     ghost was_set: { Self → Type 0 };
 
     /// Whether the loops are to end.

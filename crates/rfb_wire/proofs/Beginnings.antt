@@ -1,11 +1,12 @@
--- The beginning of a viewer's message, told from every other place in one.
+-- The beginning of a viewer's message, told from every other place in one. `ClientReader::is_between` tells it from the
+-- fields.
 use Rattle.std.proofs.Common.{◌≡◌, ℕ, zero, suc, ◌+◌, ◌<◌, Bool, true, false, cond, List, [], ◌∷◌, ◌++◌, length, drop, Some, inl, inr, refl, sym, ap, subst, ◌∙◌, arith, length-append}
 use Rattle.std.specs.Prelude.{◌⊎◌, IsTrue, nat_le}
 use Rattle.std.specs.Int.{w32, from_be_bytes}
 use Rattle.std.proofs.lemmas.Bool.{cases_lt}
 use Rattle.pixel_format.specs.declared.fault.Fault.TheVariants.{BadFormat, UnknownMessage}
-use Rattle.pixel_format.specs.Reading.{Reading, Done, Faulty, Want, ◌>>=◌, step, after, fault_of, wants_more, bytes, padding, times, u32, unless}
-use Rattle.pixel_format.proofs.ReadingLaws.{after-append}
+use Rattle.byte_reading.specs.Reading.{Reading, Done, Faulty, Want, ◌>>=◌, step, after, fault_of, wants_more, bytes, padding, times, u32, unless}
+use Rattle.byte_reading.proofs.ReadingLaws.{after-append}
 use Rattle.rfb_wire.specs.ClientMessage.{ClientMessage, SetPixelFormat, SetEncodings, Ask, Key, Pointer, CutText, LostText, client_message, longest_text}
 use Rattle.rfb_wire.specs.ClientReader.{ahead, form_of, KnowsType}
 use Rattle.rfb_wire.specs.Message.{losing, IsOrLoses}

@@ -1,17 +1,18 @@
--- A loop that feeds a piece, some bytes at a time, where memory for a text may be refused.
+-- A loop that feeds a piece, some bytes at a time, where memory for a text may be refused. `ClientReader::feed` is such
+-- a loop.
 use Rattle.std.proofs.Common.{◌≡◌, ℕ, zero, suc, ◌+◌, zero-add, ◌<◌, ◌≤◌, false, List, [], ◌∷◌, ◌++◌, length, take, drop, ◌⊎◌, inl, inr, Some, None, Result, sym, ap, subst, ◌∙◌, arith}
 use Rattle.std.specs.Prelude.{MatchResult}
 use Rattle.std.proofs.lemmas.List.{take-append-drop, length-drop, length-take}
 use Rattle.std.proofs.Math.Seq.{drop-nil}
 use Rattle.pixel_format.specs.declared.fault.Fault.{Fault}
-use Rattle.pixel_format.specs.Reading.{Reading, after, taken, wants_more, fault_of}
-use Rattle.pixel_format.proofs.ReadingLaws.{IsFed, after-append, fed_stops, fed_all, feeds_ok, taken-append}
+use Rattle.byte_reading.specs.Reading.{Reading, after, taken, wants_more, fault_of}
+use Rattle.byte_reading.proofs.ReadingLaws.{IsFed, after-append, fed_stops, fed_all, feeds_ok, taken-append}
 use Rattle.rfb_wire.specs.ClientMessage.{ClientMessage}
 use Rattle.rfb_wire.specs.Message.{losing, FeedsOrLoses}
 use Rattle.rfb_wire.specs.ClientReader.{Uses, UsesOrLoses}
 use Rattle.rfb_wire.proofs.Losing.{losing-twice, losing-after, losing-taken}
 
--- So many bytes of the piece were fed to a reading, or to the same that loses its text.
+-- This many bytes of the piece were fed to a reading, or to the same that loses its text.
 abbrev pub IsFedOrLoses : Reading ClientMessage → Reading ClientMessage → List ℕ → ℕ → Type 0
 IsFedOrLoses start now piece i = IsFed start now piece i ⊎ IsFed (losing start) now piece i
 

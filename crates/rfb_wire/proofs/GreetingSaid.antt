@@ -1,9 +1,9 @@
--- What is to be said to a viewer by now.
+-- What is to be said to a viewer by now. `ViewerHello::out` shows what of it isn't sent.
 use Rattle.std.proofs.Common.{◌≡◌, ℕ, ◌+◌, ◌-◌, ◌<◌, ◌≤◌, Bool, true, false, List, [], ◌∷◌, ◌++◌, length, take, drop, Option, None, Some, inl, inr, refl, sym, ap, ◌∙◌, arith, length-drop}
 use Rattle.std.specs.Prelude.{nat_le, if◌then◌else◌, is_none}
 use Rattle.std.proofs.lemmas.Bool.{le-leb, lt-leb, cases_lt}
 use Rattle.std.proofs.lemmas.List.{length-append, length-take, take_all, drop-take}
-use Rattle.pixel_format.specs.Reading.{fault_of}
+use Rattle.byte_reading.specs.Reading.{fault_of}
 use Rattle.pixel_format.specs.declared.fault.Fault.{Fault}
 use Rattle.rfb_wire.specs.Handshake.{version, server_init, said_to_viewer}
 use Rattle.rfb_wire.specs.Greeting.{Greeting, ahead, due, to_send, IsPrepared}
@@ -92,7 +92,7 @@ said_len w h whole n p =
     let t = length-take (due (length whole) n) whole in
     omega (arith, e, t, fits)
 
--- So many bytes are left to send, and none after a fault.
+-- This many bytes are left to send, and none after a fault.
 left_to_send : (o : Option Fault) (said : List ℕ) (sent all : ℕ) → length said ≡ all → sent ≤ all → length (if is_none o then drop sent said else []) + sent ≤ all
 left_to_send None said sent all e le = omega (arith, length-drop sent said)
 left_to_send (Some f) said sent all e le = omega arith

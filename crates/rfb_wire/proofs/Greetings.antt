@@ -1,4 +1,4 @@
--- How a viewer's handshake goes on after so many bytes of it.
+-- How a viewer's handshake goes on after this many bytes of it. `ViewerHello` counts bytes in place of keeping them.
 use Rattle.std.proofs.lemmas.Option.{none-some}
 use Rattle.std.proofs.Common.{◌≡◌, ℕ, ◌+◌, ◌<◌, ◌≤◌, ◌≢◌, Bool, true, false, not, List, [], ◌∷◌, ◌++◌, length, take, drop, get_or, Option, Some, None, inl, inr, eq-eqb, length-drop, append_assoc, refl, sym, ap, ◌∙◌, arith}
 use Rattle.std.specs.Prelude.{◌==◌, nat_eq, is_some, is_none}
@@ -6,14 +6,14 @@ use Rattle.std.specs.List.{starts_with}
 use Rattle.std.proofs.lemmas.Bool.{ne_eqb, cases_lt}
 use Rattle.std.proofs.lemmas.List.{take_more}
 use Rattle.std.proofs.Math.Seq.{drop-cons}
-use Rattle.pixel_format.specs.Reading.{Reading, Done, Faulty, Want, ◌>>=◌, byte, unless, step, after, whole_of, fault_of, wants_more}
+use Rattle.byte_reading.specs.Reading.{Reading, Done, Faulty, Want, ◌>>=◌, byte, unless, step, after, whole_of, fault_of, wants_more}
 use Rattle.pixel_format.specs.declared.fault.Fault.{Fault}
 use Rattle.pixel_format.specs.declared.fault.Fault.TheVariants.{BadVersion, BadChoice}
-use Rattle.pixel_format.proofs.ReadingLaws.{after-append, after-done, after-faulty}
+use Rattle.byte_reading.proofs.ReadingLaws.{after-append, after-done, after-faulty}
 use Rattle.rfb_wire.specs.Greeting.{Greeting, ahead}
 use Rattle.rfb_wire.specs.Handshake.{version, is_version, viewer_choice, viewer_hello}
 
--- A byte is wanted unless so many have come; and then it is whole.
+-- A byte is wanted unless this many have come; and then it is whole.
 pub record IsSoFar (r : Reading (Unit {0})) (count most : ℕ) : Type 0 where
   pub open_ : count < most → (wants_more r ≡ true) × (is_some (whole_of r) ≡ false)
   pub over : most ≤ count → (wants_more r ≡ false) × (is_some (whole_of r) ≡ true)
@@ -172,7 +172,7 @@ wants_until xs le w =
 pub greeting_steps : (g : Greeting) (b : ℕ) → after viewer_hello (g.begun ++ b ∷ []) ≡ step (ahead g) b
 greeting_steps g b = after-append viewer_hello g.begun (b ∷ [])
 
--- The greeting that has taken so many bytes of a piece takes the next.
+-- The greeting that has taken this many bytes of a piece takes the next.
 pub greeting_grows : (start now new : Greeting) (piece : List ℕ) (i : ℕ) → now ≡ record start { begun = start.begun ++ take i piece } → new ≡ record now { begun = now.begun ++ get_or piece i 0 ∷ [] } → i < length piece
     → new ≡ record start { begun = start.begun ++ take (i + 1) piece }
 greeting_grows start now new piece i e f lt =

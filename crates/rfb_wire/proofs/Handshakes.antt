@@ -1,12 +1,12 @@
--- What each side says in a handshake is what the other side waits for.
+-- What each side says in a handshake is what the other side waits for. The law `handshake_is_read` is made of it.
 use Rattle.std.proofs.Common.{◌≡◌, ℕ, ◌-◌, ◌≤◌, Bool, true, not, List, [], ◌∷◌, ◌++◌, length, min, subst, refl, sym, ap, ◌∙◌, arith}
 use Rattle.std.specs.Prelude.{◌&&◌, if◌then◌else◌}
 use Rattle.std.specs.Int.{w16, w32, to_be_bytes}
 use Rattle.std.proofs.lemmas.Bool.{le-leb, and_from}
 use Rattle.pixel_format.specs.PixelFormat.{host_format}
-use Rattle.pixel_format.specs.Reading.{Reading, Done, Faulty, Want, ◌>>=◌, after, bytes, padding, u16, u32, unless, Spells}
+use Rattle.byte_reading.specs.Reading.{Reading, Done, Faulty, Want, ◌>>=◌, after, bytes, padding, u16, u32, unless, Spells}
 use Rattle.pixel_format.specs.declared.fault.Fault.TheVariants.{BadScreen}
-use Rattle.pixel_format.proofs.ReadingLaws.{after-done, after-faulty, bind_assoc, faulty_is_not, done}
+use Rattle.byte_reading.proofs.ReadingLaws.{after-done, after-faulty, bind_assoc, faulty_is_not, done}
 use Rattle.raster.proofs.Spellings.{spells_bind, spells_then, spells_bytes}
 use Rattle.raster.proofs.Pixels.{spells_u16, spells_u32}
 use Rattle.rfb_wire.specs.Handshake.{Joined, version, is_size, kept_name, host_init, host_version, security_types, security_result, host_hello, viewer_hello, server_init, said_to_viewer, said_to_host, is_past}

@@ -1,9 +1,10 @@
--- Forms that begin with so many bytes, all of which are judged at the last.
+-- Forms that begin with this many bytes, all of which are judged at the last. Readers wait for them, and judge them
+-- together.
 use Rattle.std.proofs.Common.{◌≡◌, ℕ, zero, suc, ◌+◌, ◌<◌, ◌≤◌, true, List, [], ◌∷◌, length, refl, ap, ◌∙◌, arith}
-use Rattle.pixel_format.specs.Reading.{Reading, Done, ◌>>=◌, step, after, taken, bytes, wants_more}
-use Rattle.pixel_format.proofs.ReadingLaws.{bind_assoc, taken-nil}
+use Rattle.byte_reading.specs.Reading.{Reading, Done, ◌>>=◌, step, after, taken, bytes, wants_more}
+use Rattle.byte_reading.proofs.ReadingLaws.{bind_assoc, taken-nil}
 
--- Behind the first byte the rest is such a form again.
+-- After the first byte the rest is such a form again.
 head_step : {A : Type 0} (n : ℕ) (next : List ℕ → Reading A) (b : ℕ) → step (bytes (suc n) >>= next) b ≡ (bytes n >>= λ others. next (b ∷ others))
 head_step n next b = bind_assoc (bytes n) (λ others. Done (b ∷ others)) next
 

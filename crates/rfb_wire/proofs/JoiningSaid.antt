@@ -1,10 +1,10 @@
--- What is to be said to a host by now.
+-- What is to be said to a host by now. `HostHello::out` shows what of it isn't sent.
 use Rattle.std.proofs.Common.{◌≡◌, ℕ, ◌+◌, ◌-◌, ◌<◌, true, List, [], ◌∷◌, ◌++◌, length, take, drop, Option, Some, None, inl, inr, refl, sym, ap, ◌∙◌, arith}
 use Rattle.std.specs.Prelude.{is_some, is_none, if◌then◌else◌}
 use Rattle.std.proofs.lemmas.List.{drop-take, take_min, length-take, drop_all}
 use Rattle.std.proofs.lemmas.Bool.{cases_lt}
 use Rattle.pixel_format.specs.declared.fault.Fault.{Fault}
-use Rattle.pixel_format.specs.Reading.{Reading, ◌>>=◌, after, bytes, u32, whole_of, fault_of}
+use Rattle.byte_reading.specs.Reading.{Reading, ◌>>=◌, after, bytes, u32, whole_of, fault_of}
 use Rattle.rfb_wire.specs.Handshake.{version, refused, host_version, security_types, security_result, said_to_host}
 use Rattle.rfb_wire.specs.Joining.{version_ahead, types_ahead, result_ahead, version_of, types_of, result_of, ahead, said, to_send, is_field, FitsStage, IsSound, HasHeard}
 use Rattle.rfb_wire.specs.declared.host_talk.Stage.{Stage}
@@ -13,7 +13,7 @@ use Rattle.rfb_wire.specs.declared.host_talk.HostTalk.{HostTalk}
 use Rattle.rfb_wire.proofs.OpenFields.{IsOpen, field_open, bind_open}
 use Rattle.rfb_wire.proofs.Joinings.{version_judged, types_judged, reason_judged, reason_length_judged, outcome_judged}
 
--- All that is said, one answer behind the other.
+-- All that is said, one answer after the other.
 abbrev pub all_said : List ℕ
 all_said = version ++ 1 ∷ 1 ∷ []
 
@@ -26,7 +26,7 @@ said_front at.Reason = refl
 said_front at.Refused = refl
 said_front at.Types = refl
 said_front at.NoNone = refl
-said_front at.Outcome = refl
+said_front at.SecurityResult = refl
 said_front at.Failed = refl
 said_front _ = refl
 
@@ -71,7 +71,7 @@ said_at at.Reason rest wanted xs f r = types_open (after (bytes wanted >>= reaso
 said_at at.Refused rest wanted xs f r = refl
 said_at at.Types rest wanted xs f r = types_open (after (bytes wanted >>= types_judged) xs) (field_open wanted types_judged xs (r refl))
 said_at at.NoNone rest wanted xs f r = refl
-said_at at.Outcome rest wanted xs f r = types_past (whole_of (after security_result xs)) (field_open 4 outcome_judged xs (let lt = r refl in omega (arith, f.0))).unfinished
+said_at at.SecurityResult rest wanted xs f r = types_past (whole_of (after security_result xs)) (field_open 4 outcome_judged xs (let lt = r refl in omega (arith, f.0))).unfinished
 said_at at.Failed rest wanted xs f r = refl
 said_at at.Size rest wanted xs f r = refl
 said_at at.Format rest wanted xs f r = refl

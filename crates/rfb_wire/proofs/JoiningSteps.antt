@@ -1,9 +1,9 @@
--- A host's handshake, one byte later.
+-- A host's handshake, one byte later. `HostHello::feed` is such steps.
 use Rattle.std.proofs.Common.{◌≡◌, ℕ, zero, suc, ◌-◌, ◌<◌, ◌≢◌, true, false, List, [], ◌∷◌, ◌++◌, length, refl, sym, ap, subst, ◌∙◌, arith}
 use Rattle.std.specs.Prelude.{◌==◌, if◌then◌else◌}
 use Rattle.std.proofs.lemmas.Bool.{ne_eqb}
-use Rattle.pixel_format.specs.Reading.{Reading, Done, ◌>>=◌, step, after, bytes, padding, u32, wants_more}
-use Rattle.pixel_format.proofs.ReadingLaws.{after-append}
+use Rattle.byte_reading.specs.Reading.{Reading, Done, ◌>>=◌, step, after, bytes, padding, u32, wants_more}
+use Rattle.byte_reading.proofs.ReadingLaws.{after-append}
 use Rattle.rfb_wire.specs.Handshake.{Joined, host_version, security_types, refused, security_result, kept_name, host_init, host_hello}
 use Rattle.rfb_wire.specs.Joining.{version_ahead, types_ahead, result_ahead, init_ahead, version_of, types_of, result_of, init_of, ahead, is_field, FitsStage, IsSound, GoesOnAlike, Steps}
 use Rattle.rfb_wire.specs.declared.host_talk.Stage.{Stage}
@@ -58,7 +58,7 @@ field_forward at.Reason w h rest wanted xs b f lt o =
     rw (after-append (bytes wanted >>= reason_judged) xs (b ∷ [])) (in_types (after (bytes wanted >>= reason_judged) xs) security_result host_init b (field_open wanted reason_judged xs lt).wants)
 field_forward at.Types w h rest wanted xs b f lt o =
     rw (after-append (bytes wanted >>= types_judged) xs (b ∷ [])) (in_types (after (bytes wanted >>= types_judged) xs) security_result host_init b (field_open wanted types_judged xs lt).wants)
-field_forward at.Outcome w h rest wanted xs b f lt o =
+field_forward at.SecurityResult w h rest wanted xs b f lt o =
     rw (after-append security_result xs (b ∷ [])) (in_result (after security_result xs) host_init b (field_open 4 outcome_judged xs (omega (arith, f.0))).wants)
 field_forward at.Size w h rest wanted xs b f lt o = rw (after-append host_init xs (b ∷ [])) (in_init (after host_init xs) b)
 field_forward at.Format w h rest wanted xs b f lt o = rw (after-append (padding 16 (u32 >>= kept_name w h)) xs (b ∷ [])) (in_init (after (padding 16 (u32 >>= kept_name w h)) xs) b)

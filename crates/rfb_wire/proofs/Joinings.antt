@@ -1,9 +1,9 @@
--- How a host's handshake goes on, stage by stage.
+-- How a host's handshake goes on, stage by stage. `HostHello` keeps the stage and one field.
 use Rattle.std.proofs.Common.{◌≡◌, ℕ, zero, suc, ◌<◌, ◌≢◌, Bool, true, false, not, List, [], ◌∷◌, length, None, refl, sym, arith}
 use Rattle.std.specs.Prelude.{◌==◌, ◌&&◌, slice_index}
 use Rattle.std.specs.List.{list_any}
 use Rattle.std.specs.Int.{w16, w32, from_be_bytes}
-use Rattle.pixel_format.specs.Reading.{Reading, Done, Faulty, ◌>>=◌, padding, u32, unless, whole_of, fault_of, wants_more}
+use Rattle.byte_reading.specs.Reading.{Reading, Done, Faulty, ◌>>=◌, padding, u32, unless, whole_of, fault_of, wants_more}
 use Rattle.pixel_format.specs.declared.fault.Fault.TheVariants as fault
 use Rattle.rfb_wire.specs.Handshake.{Joined, is_host_version, is_size, kept_name, refused, security_types, security_result, host_init}
 use Rattle.rfb_wire.specs.Joining.{version_ahead, types_ahead, result_ahead, init_ahead, ahead, is_field, is_open, FitsStage, IsSound}
@@ -58,8 +58,8 @@ opens at.Reason w h rest wanted xs f r o =
     bind_open (types_ahead at.Reason wanted xs) (λ _. security_result >>= λ _. host_init) (field_open wanted reason_judged xs (r refl)).wants
 opens at.Types w h rest wanted xs f r o =
     bind_open (types_ahead at.Types wanted xs) (λ _. security_result >>= λ _. host_init) (field_open wanted types_judged xs (r refl)).wants
-opens at.Outcome w h rest wanted xs f r o =
-    bind_open (result_ahead at.Outcome xs) (λ _. host_init) (field_open 4 outcome_judged xs (let lt = r refl in omega (arith, f.0))).wants
+opens at.SecurityResult w h rest wanted xs f r o =
+    bind_open (result_ahead at.SecurityResult xs) (λ _. host_init) (field_open 4 outcome_judged xs (let lt = r refl in omega (arith, f.0))).wants
 opens at.Size w h rest wanted xs f r o = field_open 4 size_judged xs (let lt = r refl in omega (arith, f.0))
 opens at.Format w h rest wanted xs f r o = field_open 16 (λ _. u32 >>= kept_name w h) xs (let lt = r refl in omega (arith, f.0))
 opens at.NameLength w h rest wanted xs f r o = field_open 4 (name_length_judged w h) xs (let lt = r refl in omega (arith, f.0))

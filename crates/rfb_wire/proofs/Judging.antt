@@ -1,8 +1,8 @@
--- What follows a field of a host's handshake that is whole.
+-- What follows a field of a host's handshake that is whole. The next stage follows, or a fault.
 use Rattle.std.proofs.Common.{◌≡◌, ℕ, ◌<◌, ◌≤◌, true, false, not, [], length, refl, sym, ap, subst, ◌∙◌, arith}
 use Rattle.std.specs.Prelude.{◌==◌, ◌&&◌}
 use Rattle.std.specs.List.{list_any}
-use Rattle.pixel_format.specs.Reading.{Done, ◌>>=◌, padding, u32, unless}
+use Rattle.byte_reading.specs.Reading.{Done, ◌>>=◌, padding, u32, unless}
 use Rattle.pixel_format.specs.declared.fault.Fault.TheVariants as fault
 use Rattle.rfb_wire.specs.Handshake.{Joined, is_host_version, is_size, kept_name}
 use Rattle.rfb_wire.specs.Joining.{said, IsJudged}
@@ -48,10 +48,10 @@ bad_version talk e whole within bad =
     })
 
 pub good_types : (talk : HostTalk) → talk.stage ≡ at.Types → length talk.field.items ≡ talk.wanted → talk.sent ≤ length (said talk.stage) → list_any (λ t. t == 1) talk.field.items ≡ true
-    → IsJudged talk (record talk { stage = at.Outcome; wanted = 4; field = record { items = [] } })
+    → IsJudged talk (record talk { stage = at.SecurityResult; wanted = 4; field = record { items = [] } })
 good_types talk e whole within good =
     let some : talk.sent ≤ 12 = subst (λ (s : Stage). talk.sent ≤ length (said s)) e within in
-    at_stage talk (record talk { stage = at.Outcome; wanted = 4; field = record { items = [] } }) at.Types e
+    at_stage talk (record talk { stage = at.SecurityResult; wanted = 4; field = record { items = [] } }) at.Types e
     (record {
       sound = record { fits = (refl, omega arith); room = λ _. omega arith; within = omega (arith, some) };
       alike = record {

@@ -1,11 +1,11 @@
--- Every message that is written is read back.
+-- Every message that is written is read back. The laws on messages of both directions are made of it.
 use Rattle.std.proofs.Common.{◌≡◌, ℕ, suc, ◌^◌, ◌<◌, ◌≤◌, true, false, not, List, [], ◌∷◌, ◌++◌, length, subst, refl, sym, ap, ◌∙◌, arith}
 use Rattle.std.specs.Prelude.{nat_le, if◌then◌else◌}
 use Rattle.std.specs.List.{All, flat_map}
 use Rattle.std.specs.Int.{w16, w32, to_be_bytes}
 use Rattle.std.proofs.lemmas.Bool.{le-leb, lt-leb}
 use Rattle.std.proofs.lemmas.List.{append-nil}
-use Rattle.pixel_format.specs.Reading.{Reading, Done, Want, ◌>>=◌, bytes, padding, times, u16, u32, unless, Spells}
+use Rattle.byte_reading.specs.Reading.{Reading, Done, Want, ◌>>=◌, bytes, padding, times, u16, u32, unless, Spells}
 use Rattle.raster.proofs.Spellings.{Each, spells_done, spells_bind, spells_then, spells_bytes, spells_times}
 use Rattle.raster.proofs.Pixels.{spells_u16, spells_u32}
 use Rattle.rfb_wire.specs.ClientMessage.{ClientMessage, client_message, choice_of, text, longest_text, SetPixelFormat, SetEncodings}

@@ -1,7 +1,7 @@
--- How a field of so many bytes goes on after some of them.
+-- How a field of this many bytes goes on after some of them. A handshake may be cut anywhere.
 use Rattle.std.proofs.Common.{◌≡◌, ℕ, ◌<◌, true, List, length, None, refl}
-use Rattle.pixel_format.specs.Reading.{Reading, Done, Faulty, Want, ◌>>=◌, step, after, bytes, whole_of, fault_of, wants_more}
-use Rattle.pixel_format.proofs.ReadingLaws.{none_whole, wants_no_fault}
+use Rattle.byte_reading.specs.Reading.{Reading, Done, Faulty, Want, ◌>>=◌, step, after, bytes, whole_of, fault_of, wants_more}
+use Rattle.byte_reading.proofs.ReadingLaws.{none_whole, wants_no_fault}
 use Rattle.rfb_wire.proofs.Heads.{head_wants}
 
 -- Another byte is wanted, and nothing is whole or at fault.

@@ -1,10 +1,10 @@
--- What is read of a host has short texts alone.
+-- What is read of a host has short texts alone. So the updates of a host's bytes may be kept.
 use Rattle.std.proofs.Common.{◌≡◌, ℕ, ◌*◌, Bool, true, false, cond, length, refl, arith}
 use Rattle.std.specs.Prelude.{◌==◌, nat_le, if◌then◌else◌}
 use Rattle.std.proofs.lemmas.Bool.{leb-true}
 use Rattle.pixel_format.specs.PixelFormat.{PixelFormat}
-use Rattle.pixel_format.specs.Reading.{Done, ◌>>=◌, bytes, padding, times, u16, u32, Gives}
-use Rattle.pixel_format.proofs.ReadingLaws.{gives_then, gives_bind, gives_bytes, gives_if, gives_padding}
+use Rattle.byte_reading.specs.Reading.{Done, ◌>>=◌, bytes, padding, times, u16, u32, Gives}
+use Rattle.byte_reading.proofs.ReadingLaws.{gives_then, gives_bind, gives_bytes, gives_if, gives_padding}
 use Rattle.rfb_wire.specs.ClientMessage.{longest_text}
 use Rattle.rfb_wire.specs.ServerMessage.{FramebufferUpdate, SetColorMapEntries, ServerCutText, LostText, rectangle, server_message}
 use Rattle.rfb_wire.specs.Texts.{HasShortText}

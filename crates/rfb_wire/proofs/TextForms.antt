@@ -1,9 +1,10 @@
--- How a text goes on, kept or read past, in a message of either direction.
+-- How a text goes on, kept or read past, in a message of either direction. A reader of either side takes a text by the
+-- same parts.
 use Rattle.std.proofs.Common.{◌≡◌, ℕ, zero, suc, ◌-◌, ◌≤◌, List, [], ◌∷◌, ◌++◌, length, refl, sym, ap, ◌∙◌, append_assoc, arith}
 use mathlib.Core.Path.{fun_ext}
 use Rattle.std.proofs.lemmas.List.{append-nil}
-use Rattle.pixel_format.specs.Reading.{Reading, Done, ◌>>=◌, step, after, taken, bytes}
-use Rattle.pixel_format.proofs.ReadingLaws.{bind_assoc}
+use Rattle.byte_reading.specs.Reading.{Reading, Done, ◌>>=◌, step, after, taken, bytes}
+use Rattle.byte_reading.proofs.ReadingLaws.{bind_assoc}
 use Rattle.rfb_wire.specs.HeldText.{kept_text}
 
 less_none : (n : ℕ) → n - 0 ≡ n

@@ -1,9 +1,9 @@
--- How a text goes on, kept or read past.
+-- How a text goes on, kept or read past. A reader takes a text piece by piece.
 use Rattle.std.proofs.Common.{◌≡◌, ℕ, zero, suc, ◌+◌, ◌-◌, ◌<◌, ◌≤◌, true, List, [], ◌∷◌, ◌++◌, length, take, min, ◌⊎◌, inl, inr, refl, sym, ap, subst, ◌∙◌, arith}
 use mathlib.Core.Path.{fun_ext}
 use Rattle.std.proofs.lemmas.List.{append-nil, length-append, length-take}
-use Rattle.pixel_format.specs.Reading.{Reading, Done, Want, padding, wants_more}
-use Rattle.pixel_format.proofs.ReadingLaws.{padding-after, padding-taken}
+use Rattle.byte_reading.specs.Reading.{Reading, Done, Want, padding, wants_more}
+use Rattle.byte_reading.proofs.ReadingLaws.{padding-after, padding-taken}
 use Rattle.rfb_wire.specs.ClientMessage.{ClientMessage, CutText, LostText}
 use Rattle.rfb_wire.specs.Message.{losing}
 use Rattle.rfb_wire.specs.ClientReader.{keeping, passing, Uses, UsesOrLoses}

@@ -1,4 +1,4 @@
--- The parts of a viewer's message whose length is fixed.
+-- The parts of a viewer's message whose length is fixed. They are judged once their last byte has come.
 use Rattle.std.proofs.Common.{◌≡◌, ℕ, zero, suc, ◌+◌, ◌-◌, ◌<◌, true, false, not, List, [], ◌∷◌, ◌++◌, min, length, take, drop, None, refl, sym, ap, ◌∙◌, arith}
 use Rattle.std.specs.Prelude.{◌==◌, Bool, if◌then◌else◌, nat_le, nat_lt, slice_index}
 use Rattle.std.specs.Int.{w16, w32, from_be_bytes}
@@ -7,8 +7,8 @@ use Rattle.std.proofs.lemmas.Bool.{lt-ltb}
 use Rattle.pixel_format.specs.PixelFormat.{PixelFormat, accepts, format_at}
 use Rattle.std.proofs.lemmas.List.{take_all, length-drop, length-take}
 use Rattle.pixel_format.specs.declared.fault.Fault.TheVariants.{BadFormat}
-use Rattle.pixel_format.specs.Reading.{Reading, Done, Faulty, ◌>>=◌, after, taken, bytes, padding, times, u32, wants_more, unless}
-use Rattle.pixel_format.proofs.ReadingLaws.{bind_assoc, after-append}
+use Rattle.byte_reading.specs.Reading.{Reading, Done, Faulty, ◌>>=◌, after, taken, bytes, padding, times, u32, wants_more, unless}
+use Rattle.byte_reading.proofs.ReadingLaws.{bind_assoc, after-append}
 use Rattle.rfb_wire.proofs.Heads.{head_wants, head_full, head_takes}
 use Rattle.rfb_wire.specs.declared.client_reader.found.Found.{Found}
 use Rattle.rfb_wire.specs.declared.client_reader.part.Part.{Part}
@@ -58,7 +58,7 @@ part_full p xs e = ap (λ r. after r xs) (is_head p).same ∙ head_full (len_of 
 
 -- ---- a list of encodings
 
--- One number is read, and so many are left.
+-- One number is read, and this many are left.
 numbers_noted : (left : ℕ) (found new : Found) (xs : List ℕ) → length xs ≡ 4 → ((others : List ℕ) → choice_with new others ≡ choice_with found (from_be_bytes w32 xs ∷ others)) → after (numbers (suc left) found) xs ≡ numbers left new
 numbers_noted left found new xs e notes =
     let number : ℕ = from_be_bytes w32 xs in

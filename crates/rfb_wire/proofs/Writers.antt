@@ -1,4 +1,4 @@
--- Writing one thing behind another.
+-- Writing one thing after another. The writers of messages of several parts rest on it.
 use Rattle.std.proofs.Common.{ℕ, ◌+◌, List, ◌++◌, length, drop, sym, ap, ◌∙◌, append_assoc, length-append, drop-drop}
 use Rattle.rfb_wire.specs.Writing.{Writes}
 

@@ -2,7 +2,7 @@
 use Rattle.std.specs.Prelude.{◌≡◌, ℕ, suc, Bool, true, false, ◌<◌, ◌≤◌, ◌==◌, ◌||◌, ◌⊎◌, unwrap_or, Some, List, ◌++◌, length, take}
 use Rattle.std.specs.List.{list_any}
 use Rattle.pixel_format.specs.declared.fault.Fault.TheVariants.{UnknownMessage}
-use Rattle.pixel_format.specs.Reading.{Reading, Done, Faulty, ◌>>=◌, step, after, taken, fault_of, bytes, padding, u32, times}
+use Rattle.byte_reading.specs.Reading.{Reading, Done, Faulty, ◌>>=◌, step, after, taken, fault_of, bytes, padding, u32, times}
 use Rattle.rfb_wire.specs.ClientMessage as client
 use Rattle.rfb_wire.specs.ClientMessage.{ClientMessage, SetEncodings, CutText, LostText, client_message, set_pixel_format, set_encodings, key_event, pointer_event, text, kind_of}
 use Rattle.rfb_wire.specs.HeldText.{kept_text}
@@ -19,17 +19,17 @@ use Rattle.rfb_wire.specs.declared.client_reader.state.State.TheVariants.{Fields
 abbrev pub choice_with : Found → List ℕ → client.Choice
 choice_with found es = record { kind = unwrap_or found.kind (kind_of es); copy = found.copy || list_any (λ e. e == 1) es }
 
--- So many numbers are left.
+-- The rest of SetEncodings, of which this many numbers are left.
 abbrev pub numbers : ℕ → Found → Reading ClientMessage
 numbers n found = times n u32 >>= λ es. Done (SetEncodings (choice_with found es))
 
 -- ---- the rest of a text
 
--- Of one that is kept, where these bytes have come and so many are left.
+-- The rest of a text that is kept, of which these bytes have come and this many are left.
 abbrev pub keeping : List ℕ → ℕ → Reading ClientMessage
 keeping = kept_text CutText
 
--- And of one that isn't.
+-- The rest of a text that is read past.
 abbrev pub passing : ℕ → ℕ → Reading ClientMessage
 passing left len = padding left (Done (LostText len))
 

@@ -1,6 +1,6 @@
 -- How a viewer's handshake stands in mid-course.
 use Rattle.std.specs.Prelude.{◌≡◌, ℕ, List, [], length, drop, is_none, nat_le, if◌then◌else◌}
-use Rattle.pixel_format.specs.Reading.{Reading, after, fault_of}
+use Rattle.byte_reading.specs.Reading.{Reading, after, fault_of}
 use Rattle.rfb_wire.specs.Handshake.{viewer_hello, said_to_viewer}
 
 -- The screen and the name that the viewer is told, the bytes that were taken of it, and how many were sent to it.
@@ -20,7 +20,7 @@ abbrev pub to_send : Greeting → List ℕ
 to_send greeting =
     if is_none (fault_of (ahead greeting)) then drop greeting.sent (said_to_viewer greeting.w greeting.h greeting.name (length greeting.begun)) else []
 
--- So many bytes must have been said once so many were taken, of all that are said in a whole handshake.
+-- How many bytes must have been said once `count` were taken, of `all` that are said in a whole handshake.
 abbrev pub due : (all count : ℕ) → ℕ
 due all count = if nat_le 14 count then all else (if nat_le 13 count then 18 else (if nat_le 12 count then 14 else 12))
 

@@ -1,14 +1,14 @@
 -- How a host's handshake stands in mid-course.
 use Rattle.std.specs.Prelude.{◌≡◌, ℕ, ◌==◌, ◌≤◌, ◌<◌, not, Bool, true, false, List, [], ◌∷◌, ◌++◌, length, drop, is_none, if◌then◌else◌}
 use Rattle.std.specs.List.{list_any}
-use Rattle.pixel_format.specs.Reading.{Reading, Done, Faulty, ◌>>=◌, step, after, bytes, padding, u32, unless, fault_of}
+use Rattle.byte_reading.specs.Reading.{Reading, Done, Faulty, ◌>>=◌, step, after, bytes, padding, u32, unless, fault_of}
 use Rattle.pixel_format.specs.declared.fault.Fault.TheVariants as fault
 use Rattle.rfb_wire.specs.Handshake.{Joined, version, host_version, security_types, refused, security_result, kept_name, host_init, host_hello}
 use Rattle.rfb_wire.specs.declared.host_talk.Stage.{Stage}
 use Rattle.rfb_wire.specs.declared.host_talk.Stage.TheVariants as at
 use Rattle.rfb_wire.specs.declared.host_talk.HostTalk.{HostTalk}
 
--- How each part of the handshake goes on, where so much of a field of it has been read: a part behind that field is
+-- How each part of the handshake goes on, where so much of a field of it has been read: a part after that field is
 -- still to come, and a part before it is done. First the version.
 abbrev pub version_ahead : Stage → List ℕ → Reading (Unit {0})
 version_ahead at.Version begun = after host_version begun
@@ -37,7 +37,7 @@ result_ahead at.Reason begun = security_result
 result_ahead at.Refused begun = security_result
 result_ahead at.Types begun = security_result
 result_ahead at.NoNone begun = security_result
-result_ahead at.Outcome begun = after security_result begun
+result_ahead at.SecurityResult begun = after security_result begun
 result_ahead at.Failed begun = Faulty fault.SecurityFailed
 result_ahead _ begun = Done tt
 
@@ -52,7 +52,7 @@ init_ahead at.Rest w h rest wanted begun = padding rest (Done (record { w = w; h
 init_ahead at.Joined w h rest wanted begun = Done (record { w = w; h = h; name = begun })
 init_ahead _ w h rest wanted begun = host_init
 
--- The same of a handshake in the code: its version.
+-- How reading the version goes on, for a handshake in the code.
 abbrev pub version_of : HostTalk → Reading (Unit {0})
 version_of talk = version_ahead talk.stage talk.field.items
 
@@ -89,7 +89,7 @@ said at.Reason = version
 said at.Refused = version
 said at.Types = version
 said at.NoNone = version
-said at.Outcome = version ++ 1 ∷ []
+said at.SecurityResult = version ++ 1 ∷ []
 said at.Failed = version ++ 1 ∷ []
 said _ = version ++ 1 ∷ 1 ∷ []
 
@@ -97,14 +97,14 @@ said _ = version ++ 1 ∷ 1 ∷ []
 abbrev pub to_send : HostTalk → List ℕ
 to_send talk = if is_none (fault_of (ahead talk)) then drop talk.sent (said talk.stage) else []
 
--- So many bytes of a field have come, of so many that it has; and what is left of a name that is too long to be kept.
+-- How many bytes of a field have come and how many it has; and what is left of a name that is too long to be kept.
 abbrev pub FitsStage : Stage → (wanted rest count : ℕ) → Type 0
 FitsStage at.Version wanted rest count = (wanted ≡ 12) × (count ≤ wanted)
 FitsStage at.TypeCount wanted rest count = (wanted ≡ 1) × (count ≤ wanted)
 FitsStage at.ReasonLength wanted rest count = (wanted ≡ 4) × (count ≤ wanted)
 FitsStage at.Reason wanted rest count = (wanted ≤ 255) × (count ≤ wanted)
 FitsStage at.Types wanted rest count = (wanted ≤ 255) × (count ≤ wanted)
-FitsStage at.Outcome wanted rest count = (wanted ≡ 4) × (count ≤ wanted)
+FitsStage at.SecurityResult wanted rest count = (wanted ≡ 4) × (count ≤ wanted)
 FitsStage at.Size wanted rest count = (wanted ≡ 4) × (count ≤ wanted)
 FitsStage at.Format wanted rest count = (wanted ≡ 16) × (count ≤ wanted)
 FitsStage at.NameLength wanted rest count = (wanted ≡ 4) × (count ≤ wanted)

@@ -1,6 +1,6 @@
 -- The fields of fixed length in what a host sends (RFC 6143, 7.6), after the type of a message.
 use Rattle.std.specs.Prelude.{ℕ}
-use Rattle.pixel_format.specs.Reading.{Reading, Done, ◌>>=◌, padding, u16, u32}
+use Rattle.byte_reading.specs.Reading.{Reading, Done, ◌>>=◌, padding, u16, u32}
 
 -- The count of rectangles of a FramebufferUpdate (7.6.1).
 abbrev pub update_head : Reading ℕ

@@ -3,7 +3,7 @@
 //! Each reader reads its fields at the front of `bytes`, which must hold them all. None of them takes memory.
 
 ghost use Rattle.std.specs.Prelude.{◌≤◌, length, take};
-ghost use Rattle.pixel_format.specs.Reading.{Spells, u32};
+ghost use Rattle.byte_reading.specs.Reading.{Spells, u32};
 ghost use Rattle.rfb_wire.specs.ServerHeads.{colour_map_head, copy_source, text_head, update_head};
 
 /// How many rectangles a FramebufferUpdate has: 3 bytes after its type (RFC 6143, 7.6.1).
@@ -15,7 +15,7 @@ pub fn read_update_head(bytes: &[u8]) -> u16
     u16::from_be_bytes([b[1], b[2]])
 }
 
-/// How many colours a SetColorMapEntries has: 5 bytes after its type, 6 bytes a colour behind them (RFC 6143, 7.6.2).
+/// How many colours a SetColorMapEntries has: 5 bytes after its type, 6 bytes a colour after them (RFC 6143, 7.6.2).
 pub fn read_colour_map_head(bytes: &[u8]) -> u16
     requires { 5 ≤ length bytes.now }
     ensures { Spells colour_map_head (take 5 bytes.now) result }

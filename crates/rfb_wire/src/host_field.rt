@@ -20,8 +20,8 @@ pub(crate) const SIZE_LEN: usize = 4;
 /// How many bytes a pixel format has (RFC 6143, 7.4).
 pub(crate) const FORMAT_LEN: usize = 16;
 
-/// The most bytes that are kept of a reason or a name, whose length may be any. A list of security types never has more,
-/// since its length is told in one byte (RFC 6143, 7.1.2).
+/// The most bytes that are kept of a reason or a name, whose length may be any. A list of security types never has
+/// more, since its length is told in one byte (RFC 6143, 7.1.2).
 pub(crate) const MOST_KEPT: usize = 255;
 
 /// The number that three digits spell.

@@ -30,7 +30,7 @@ impl Model for HostHello {
 
 impl HostHello {
     ghost use Rattle.std.specs.Prelude.{◌≡◌, ◌≤◌, ◌+◌, ℕ, List, [], ◌++◌, None, length, take, drop, option_map, MatchResult};
-    ghost use Rattle.pixel_format.specs.Reading.{Feeds, taken, fault_of, whole_of};
+    ghost use Rattle.byte_reading.specs.Reading.{Feeds, taken, fault_of, whole_of};
     ghost use Rattle.rfb_wire.specs.Handshake.{host_hello, said_to_host};
     ghost use Rattle.rfb_wire.specs.Joining.{ahead, to_send, HasHeard};
 
@@ -45,7 +45,7 @@ impl HostHello {
         }
     }
 
-    /// What is answered once so many bytes were used.
+    /// What is answered once this many bytes were used.
     fn so_far(&self, used: usize) -> Result<usize, Fault>
         ensures { MatchResult result (λ n. (n ≡ used) × (fault_of (ahead self.now) ≡ None)) (λ fault. fault_of (ahead self.now) ≡ Some fault) }
     {
@@ -84,7 +84,7 @@ impl HostHello {
         &SAID_TO_HOST[self.talk.sent..self.talk.stage.said()]
     }
 
-    /// So many bytes of `out` have been sent.
+    /// This many bytes of `out` have been sent.
     pub fn sent(&mut self, count: usize)
         requires { count ≤ length (to_send self.old) }
         ensures { self.new ≡ record self.old { sent = self.old.sent + count } }

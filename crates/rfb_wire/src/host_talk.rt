@@ -24,7 +24,7 @@ pub(crate) enum Stage {
     /// Its security types (7.1.2).
     Types,
     /// SecurityResult (7.1.3).
-    Outcome,
+    SecurityResult,
     /// The size of its screen, first in ServerInit (7.3.2).
     Size,
     /// Its pixel format, which is passed over.
@@ -86,7 +86,7 @@ impl Stage {
             | Stage::Refused
             | Stage::Types
             | Stage::NoNone => 12,
-            Stage::Outcome | Stage::Failed => 13,
+            Stage::SecurityResult | Stage::Failed => 13,
             _ => 14,
         }
     }
@@ -112,7 +112,7 @@ pub(crate) struct HostTalk {
 
 impl HostTalk {
     ghost use Rattle.std.specs.Prelude.{◌≡◌, ◌+◌, ◌-◌, ◌≤◌, ◌==◌, if◌then◌else◌, [], ◌∷◌, ◌++◌, true, length};
-    ghost use Rattle.pixel_format.specs.Reading.{wants_more, fault_of, whole_of};
+    ghost use Rattle.byte_reading.specs.Reading.{wants_more, fault_of, whole_of};
     ghost use Rattle.rfb_wire.specs.declared.host_field.TheConstants.{COUNT_LEN, NUMBER_LEN, SIZE_LEN};
     ghost use Rattle.rfb_wire.specs.declared.version.TheConstants.{VERSION_LEN};
     ghost use Rattle.rfb_wire.specs.Joining.{ahead, said, is_field, FitsStage, IsSound, IsJudged, GoesOnAlike, Steps};
@@ -170,7 +170,7 @@ impl HostTalk {
         }
     }
 
-    /// Goes on to a field of so many bytes.
+    /// Goes on to a field of this many bytes.
     fn begin(&mut self, stage: Stage, wanted: usize)
         ensures { self.new ≡ record self.old { stage = stage; wanted = wanted; field = record { items = [] } } }
     {
@@ -179,7 +179,7 @@ impl HostTalk {
         self.wanted = wanted;
     }
 
-    /// Behind a version from 3.8 on come the security types.
+    /// After a version from 3.8 on come the security types.
     fn judge_version(&mut self)
         requires stage { self.old.stage ≡ Stage.Version }
         requires whole { length self.old.field.items ≡ VERSION_LEN }
@@ -193,7 +193,7 @@ impl HostTalk {
         }
     }
 
-    /// Behind a number of security types they come, and behind 0 a reason.
+    /// After a number of security types they come, and after 0 a reason.
     fn judge_type_count(&mut self)
         requires stage { self.old.stage ≡ Stage.TypeCount }
         requires whole { length self.old.field.items ≡ COUNT_LEN }
@@ -206,7 +206,7 @@ impl HostTalk {
         }
     }
 
-    /// Of a reason so much is read as is kept.
+    /// Reads as much of a reason as is kept.
     fn judge_reason_length(&mut self)
         requires stage { self.old.stage ≡ Stage.ReasonLength }
         requires whole { length self.old.field.items ≡ NUMBER_LEN }
@@ -228,7 +228,7 @@ impl HostTalk {
         ensures { IsJudged self.old self.new }
     {
         if self.field.as_slice().contains(&NONE) {
-            self.begin(Stage::Outcome, NUMBER_LEN);
+            self.begin(Stage::SecurityResult, NUMBER_LEN);
         } else {
             self.stage = Stage::NoNone;
         }
@@ -236,7 +236,7 @@ impl HostTalk {
 
     /// SecurityResult 0 is OK.
     fn judge_outcome(&mut self)
-        requires stage { self.old.stage ≡ Stage.Outcome }
+        requires stage { self.old.stage ≡ Stage.SecurityResult }
         requires whole { length self.old.field.items ≡ NUMBER_LEN }
         requires within { self.old.sent ≤ length (said self.old.stage) }
         ensures { IsJudged self.old self.new }
@@ -266,7 +266,7 @@ impl HostTalk {
         }
     }
 
-    /// Of a name so much is read as is kept, and the rest is passed over.
+    /// Reads as much of a name as is kept; the rest is read past.
     fn judge_name_length(&mut self)
         requires stage { self.old.stage ≡ Stage.NameLength }
         requires whole { length self.old.field.items ≡ NUMBER_LEN }
@@ -296,7 +296,7 @@ impl HostTalk {
             Stage::ReasonLength => self.judge_reason_length(),
             Stage::Reason => self.stage = Stage::Refused,
             Stage::Types => self.judge_types(),
-            Stage::Outcome => self.judge_outcome(),
+            Stage::SecurityResult => self.judge_outcome(),
             Stage::Size => self.judge_size(),
             Stage::Format => self.begin(Stage::NameLength, NUMBER_LEN),
             Stage::NameLength => self.judge_name_length(),

@@ -68,8 +68,8 @@ impl KeptText {
         Ok(())
     }
 
-    /// The whole text, of which these are the last bytes. It is handed out, and what stays is a text of the bytes that were
-    /// left. `Memory`: nothing changes.
+    /// The whole text, of which these are the last bytes. It is handed out, and what stays is a text of the bytes that
+    /// were left. `Memory`: nothing changes.
     pub fn finish(&mut self, alloc: Global, last: &[u8]) -> Result<Text, Fault>
         requires { length last.now ≡ self.old.1 }
         ensures text { IfOk result (λ text. text ≡ self.old.0 ++ last.now) }

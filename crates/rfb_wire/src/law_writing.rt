@@ -3,7 +3,7 @@
 ghost use Rattle.std.specs.Prelude.{◌≡◌, ◌≤◌, ◌<◌, ◌+◌, ◌^◌, ℕ, Bool, List, [], ◌∷◌, length};
 ghost use Rattle.std.specs.List.{All};
 ghost use Rattle.pixel_format.specs.PixelFormat.{PixelFormat, IsAccepted};
-ghost use Rattle.pixel_format.specs.Reading.{Done, after, Spells};
+ghost use Rattle.byte_reading.specs.Reading.{Done, after, Spells};
 ghost use Rattle.raster.specs.declared.rect.Rect.{Rect};
 ghost use Rattle.rfb_wire.specs.ClientMessage.{client_message, choice_of, longest_text, SetPixelFormat, SetEncodings, Ask, Key, Pointer, CutText, LostText};
 ghost use Rattle.rfb_wire.specs.ServerMessage as server;

@@ -20,6 +20,7 @@ pub enum ClientMessage {
     Pointer { mask: u8, x: u16, y: u16 },
     /// ClientCutText of at most 65,536 bytes.
     Cut(Text),
-    /// ClientCutText of so many bytes, which were read past: more than 65,536 of them, or memory for them was refused.
+    /// ClientCutText of this many bytes, which were read past: more than 65,536 of them, or memory for them was
+    /// refused.
     CutLost(u32),
 }

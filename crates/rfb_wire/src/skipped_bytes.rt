@@ -21,7 +21,7 @@ impl Model for SkippedBytes {
 }
 
 impl SkippedBytes {
-    /// So many bytes, none of which has come.
+    /// This many bytes, none of which has come.
     pub fn of(left: u32) -> SkippedBytes
         requires { 0 < left }
         ensures { result ≡ left }
@@ -39,7 +39,7 @@ impl SkippedBytes {
         self.left
     }
 
-    /// Reads past so many of them, and not past all.
+    /// Reads past this many of them, and not past all.
     pub fn skip(&mut self, count: usize)
         requires { count < self.old }
         ensures { self.new ≡ self.old - count }

@@ -1,7 +1,7 @@
 //! A viewer's handshake, of which the reflector is the server (RFC 6143, 7.1 to 7.3).
 
 ghost use Rattle.std.specs.Prelude.{◌≡◌, ◌≤◌, ◌+◌, [], ◌++◌, length, take, drop, ◌∷◌, true, is_some, MatchResult};
-ghost use Rattle.pixel_format.specs.Reading.{Feeds, step, taken, wants_more, fault_of, whole_of};
+ghost use Rattle.byte_reading.specs.Reading.{Feeds, step, taken, wants_more, fault_of, whole_of};
 ghost use Rattle.rfb_wire.specs.declared.viewer_hello.TheConstants.{LONGEST_HANDSHAKE, VIEWER_LEN};
 ghost use Rattle.rfb_wire.specs.declared.write.TheConstants.{BEFORE_NAME_LEN};
 ghost use Rattle.rfb_wire.specs.Greeting.{Greeting, IsPrepared, due, ahead, to_send};
@@ -13,18 +13,18 @@ use arrayvec::ArrayVec;
 use pixel_format::Fault;
 use std::marker::Model;
 
-/// How many bytes a viewer says: its version, its choice of a security type, and the shared-flag (RFC 6143, 7.1.1, 7.1.2
-/// and 7.3.1).
+/// How many bytes a viewer says: its version, its choice of a security type, and the shared-flag (RFC 6143, 7.1.1,
+/// 7.1.2 and 7.3.1).
 const VIEWER_LEN: usize = 14;
 
-/// How many bytes are said to a viewer before it chooses a security type: the version, and the one type behind their
+/// How many bytes are said to a viewer before it chooses a security type: the version, and the one type after their
 /// number (RFC 6143, 7.1.1 and 7.1.2).
 const BEFORE_CHOICE_LEN: usize = 14;
 
 /// How many bytes are said to a viewer at most: all before the name, and a name of 255.
 const LONGEST_HANDSHAKE: usize = 297;
 
-/// How many bytes must have been said once so many have come, of `all` that are said in a handshake.
+/// How many bytes must have been said once this many have come, of `all` that are said in a handshake.
 fn due(all: usize, taken: usize) -> usize
     ensures { result ≡ due all taken }
 {
@@ -44,7 +44,7 @@ fn due(all: usize, taken: usize) -> usize
 pub struct ViewerHello {
     w: u16,
     h: u16,
-    /// What is said in a whole handshake, one answer behind the other.
+    /// What is said in a whole handshake, one answer after the other.
     said: ArrayVec<u8, LONGEST_HANDSHAKE>,
     /// What has come.
     begun: ArrayVec<u8, VIEWER_LEN>,
@@ -112,7 +112,7 @@ impl ViewerHello {
         !self.begun.is_full() && self.fault().is_none()
     }
 
-    /// What is answered once so many bytes were used.
+    /// What is answered once this many bytes were used.
     fn so_far(&self, used: usize) -> Result<usize, Fault>
         ensures { MatchResult result (λ n. (n ≡ used) × (fault_of (ahead self.now) ≡ None)) (λ fault. fault_of (ahead self.now) ≡ Some fault) }
     {
@@ -157,7 +157,7 @@ impl ViewerHello {
         &said[self.sent..due(said.len(), self.begun.len())]
     }
 
-    /// So many bytes of `out` have been sent.
+    /// This many bytes of `out` have been sent.
     pub fn sent(&mut self, count: usize)
         requires { count ≤ length (to_send self.old) }
         ensures { self.new ≡ record self.old { sent = self.old.sent + count } }

@@ -1,6 +1,6 @@
 //! Writing messages into a slice (RFC 6143, 7.5 and 7.6).
 //!
-//! Each writer spells one message, or the head of one, at the front of `out`, leaves what lies behind it, and answers
+//! Each writer spells one message, or the header of one, at the front of `out`, leaves what follows it, and answers
 //! how many bytes it wrote. Padding is written as 0, a flag as 0 or 1.
 
 ghost use Rattle.std.specs.Prelude.{◌≡◌, ◌≤◌, ◌<◌, ◌+◌, ◌*◌, ◌^◌, [], ◌∷◌, ◌++◌, length};
@@ -29,7 +29,7 @@ fn put(bytes: &[u8], out: &mut [u8]) -> usize
     bytes.len()
 }
 
-/// The head of a FramebufferUpdate of so many rectangles: 4 bytes (RFC 6143, 7.6.1).
+/// The header of a FramebufferUpdate of this many rectangles: 4 bytes (RFC 6143, 7.6.1).
 pub fn write_update_head(count: u16, out: &mut [u8]) -> usize
     requires { 4 ≤ length out.old }
     ensures { Writes (update_head_bytes count) out.old out.new result }
@@ -38,7 +38,7 @@ pub fn write_update_head(count: u16, out: &mut [u8]) -> usize
     put(&[FRAMEBUFFER_UPDATE, 0, high, low], out)
 }
 
-/// The head of a rectangle, behind which its data come: where it lies, in pixels, and the number of its encoding, 12
+/// A rectangle's header, which its data follow: its position and size in pixels, and the number of its encoding, 12
 /// bytes in all (RFC 6143, 7.6.1).
 pub fn write_rectangle_head(area: &Rect, encoding: u32, out: &mut [u8]) -> usize
     requires room { 12 ≤ length out.old }
@@ -120,7 +120,7 @@ pub fn write_pointer(mask: u8, x: u16, y: u16, out: &mut [u8]) -> usize
     put(&[POINTER_EVENT, mask, x1, x0, y1, y0], out)
 }
 
-/// A text or a name behind the number of its bytes.
+/// A text or a name after the number of its bytes.
 fn put_counted(text: &[u8], out: &mut [u8]) -> usize
     requires few { length text.now < 2 ^ 32 }
     requires room { 4 + length text.now ≤ length out.old }
@@ -130,7 +130,7 @@ fn put_counted(text: &[u8], out: &mut [u8]) -> usize
     4 + put(text, &mut out[4..])
 }
 
-/// A text behind the type of its message.
+/// A text after the type of its message.
 fn put_text(kind: u8, text: &[u8], out: &mut [u8]) -> usize
     requires few { length text.now < 2 ^ 32 }
     requires room { 8 + length text.now ≤ length out.old }
@@ -166,7 +166,7 @@ pub fn write_server_text(text: &[u8], out: &mut [u8]) -> usize
     put_text(SERVER_CUT_TEXT, text, out)
 }
 
-/// The format that viewers are told, and the name behind it.
+/// The format that viewers are told, and the name after it.
 fn put_format_and_name(name: &[u8], out: &mut [u8]) -> usize
     requires few { length name.now < 2 ^ 32 }
     requires room { 20 + length name.now ≤ length out.old }
@@ -193,7 +193,7 @@ pub fn write_server_init(w: u16, h: u16, name: &[u8], out: &mut [u8]) -> usize
     4 + put_format_and_name(name, back)
 }
 
-/// What is said behind the version and before ServerInit: one security type, None, and SecurityResult 0 (RFC
+/// What is said after the version and before ServerInit: one security type, None, and SecurityResult 0 (RFC
 /// 6143, 7.1.2 and 7.1.3).
 const SECURITY: [u8; 6] = [1, NONE, 0, 0, 0, 0];
 
@@ -203,7 +203,7 @@ pub(crate) const BEFORE_INIT_LEN: usize = 18;
 /// How many are said before the name: those before ServerInit, and 24 of it.
 pub(crate) const BEFORE_NAME_LEN: usize = 42;
 
-/// What a server says behind its version.
+/// What a server says after its version.
 fn put_security_and_init(w: u16, h: u16, name: &[u8], out: &mut [u8]) -> usize
     requires few { length name.now < 2 ^ 32 }
     requires room { 30 + length name.now ≤ length out.old }
@@ -214,7 +214,7 @@ fn put_security_and_init(w: u16, h: u16, name: &[u8], out: &mut [u8]) -> usize
     SECURITY.len() + write_server_init(w, h, name, back)
 }
 
-/// All that a server says in a handshake, one answer behind the other: the version, the security types, the
+/// All that a server says in a handshake, one answer after the other: the version, the security types, the
 /// SecurityResult and ServerInit, 42 bytes and the name.
 pub(crate) fn write_handshake(w: u16, h: u16, name: &[u8], out: &mut [u8]) -> usize
     requires few { length name.now < 2 ^ 32 }

@@ -65,7 +65,7 @@ fn gives_nothing(reader: &mut ClientReader) -> bool {
     reader.take().is_none()
 }
 
-/// Whether so many bytes of the piece are used, and no fault is shown.
+/// Whether this many bytes of the piece are used, and no fault is shown.
 fn uses(reader: &mut ClientReader, piece: &[u8], count: usize) -> bool {
     match reader.feed(piece) {
         Ok(used) => used == count,
@@ -185,7 +185,7 @@ fn empty_text(rt: HostRuntime) {
     assert!(rt; used && given);
 }
 
-/// So many numbers of a list, none of which is an encoding that is written.
+/// This many numbers of a list, none of which is an encoding that is written.
 fn uses_unknown_numbers(reader: &mut ClientReader, count: usize) -> bool {
     for _ in 0..count {
         if !uses(reader, &[0, 0, 0, 7], 4) {
@@ -234,7 +234,7 @@ fn text_that_is_too_long(rt: HostRuntime) -> Result<(), Fail> {
     Ok(())
 }
 
-/// So many pieces, each of which is used whole.
+/// This many pieces, each of which is used whole.
 fn uses_pieces(reader: &mut ClientReader, piece: &[u8], count: usize) -> bool {
     for _ in 0..count {
         if !uses(reader, piece, piece.len()) {

@@ -4,7 +4,7 @@ use rfb_wire::{
     read_colour_map_head, read_copy_source, read_encoding, read_text_head, read_update_head,
 };
 
-// The number that a head tells, by every reader that tells one.
+/// The number that a header tells, by every reader that tells one.
 fn reads_numbers() -> bool {
     read_update_head(&[0, 1, 2]) == 258
         && read_colour_map_head(&[0, 9, 9, 1, 2]) == 258

@@ -8,11 +8,11 @@ use rfb_wire::{
     write_server_text,
 };
 
-// A host that offers None, says OK and has a screen of 2 by 1, named T.
+/// A host that offers None, says OK and has a screen of 2 by 1, named T.
 const HOST: [u8; 43] =
     *b"RFB 003.008\n\x01\x01\0\0\0\0\0\x02\0\x01\x20\x18\0\x01\0\xFF\0\xFF\0\xFF\x10\x08\0\0\0\0\0\0\0\x01T";
 
-// The same host with another version, and with a screen of another size.
+/// The same host with another version, and with a screen of another size.
 fn host_with(version: &[u8; 12], size: &[u8; 4]) -> [u8; 43] {
     let mut bytes = HOST;
     bytes[..12].copy_from_slice(version);
@@ -20,7 +20,7 @@ fn host_with(version: &[u8; 12], size: &[u8; 4]) -> [u8; 43] {
     bytes
 }
 
-// The number of the fault that the host's bytes come to, and 0 where there is none.
+/// The number of the fault that the host's bytes come to, and 0 where there is none.
 fn feed_host(hello: &mut HostHello, bytes: &[u8], size: usize) -> u64
     requires { 0 < size }
 {
@@ -37,7 +37,7 @@ fn is_joined(hello: &HostHello) -> bool {
     hello.done().is_some()
 }
 
-// The number of the fault, 0 where the host is joined, and 99 where it is neither.
+/// The number of the fault, 0 where the host is joined, and 99 where it is neither.
 fn host_in_pieces(bytes: &[u8], size: usize) -> u64
     requires { 0 < size }
 {
@@ -102,7 +102,7 @@ fn security(rt: HostRuntime) {
     assert!(rt; host_fault(b"RFB 003.008\n\x02\x02\x01\0\0\0\0") == 99);
 }
 
-// A host that refuses with a reason of so many bytes, of which the first 255 are kept.
+/// A host that refuses with a reason of this many bytes, of which the first 255 are kept.
 fn is_refused(count: u32) -> bool
     requires { count ≤ 300 }
 {
@@ -125,7 +125,7 @@ fn uses_all(hello: &mut HostHello, bytes: &[u8]) -> bool {
     }
 }
 
-// How long the name of a host of 2 by 1 is, where it is joined.
+/// How long the name of a host of 2 by 1 is, where it is joined.
 fn name_length(hello: &HostHello) -> Option<usize> {
     match hello.done() {
         Some(joined) if joined.w == 2 && joined.h == 1 => Some(joined.name.len()),
@@ -138,7 +138,7 @@ fn is_joined_with_name(bytes: &[u8], kept: usize) -> bool {
     uses_all(&mut hello, bytes) && name_length(&hello) == Some(kept)
 }
 
-// A host with a name of so many bytes.
+/// A host with a name of this many bytes.
 fn is_named(count: u32, kept: usize) -> bool
     requires { count ≤ 300 }
 {
@@ -155,7 +155,7 @@ fn long_names(rt: HostRuntime) {
     assert!(rt; is_named(256, 255) && is_named(300, 255));
 }
 
-// Whether the viewer is to be sent exactly this, all of which is then sent.
+/// Whether the viewer is to be sent exactly this, all of which is then sent.
 fn says(hello: &mut ViewerHello, wanted: &[u8]) -> bool {
     let count = hello.out().len();
     let says = hello.out() == wanted;
@@ -163,7 +163,7 @@ fn says(hello: &mut ViewerHello, wanted: &[u8]) -> bool {
     says
 }
 
-// Whether so much of a piece is used, and no fault shown.
+/// Whether so much of a piece is used, and no fault shown.
 fn uses(hello: &mut ViewerHello, piece: &[u8], count: usize) -> bool {
     match hello.feed(piece) {
         Ok(used) => used == count,
@@ -171,7 +171,7 @@ fn uses(hello: &mut ViewerHello, piece: &[u8], count: usize) -> bool {
     }
 }
 
-// Whether this fault is shown.
+/// Whether this fault is shown.
 fn shows(hello: &mut ViewerHello, piece: &[u8], number: u64) -> bool {
     match hello.feed(piece) {
         Ok(_) => false,
@@ -218,10 +218,10 @@ fn a_viewer_is_refused(rt: HostRuntime) {
     assert!(rt; refuses_a_choice(&mut other));
 }
 
-// The viewer's side of a handshake: its version, the choice of None, and a shared-flag.
+/// The viewer's side of a handshake: its version, the choice of None, and a shared-flag.
 const VIEWER: [u8; 14] = *b"RFB 003.008\n\x01\x01";
 
-// That with one byte changed.
+/// That with one byte changed.
 fn changed(position: usize, value: u8) -> [u8; 14] {
     let mut bytes = VIEWER;
     if position < 14 {
@@ -230,7 +230,7 @@ fn changed(position: usize, value: u8) -> [u8; 14] {
     bytes
 }
 
-// The fault that such a change comes to. The shared-flag isn't looked at.
+/// The fault that such a change comes to. The shared-flag isn't looked at.
 fn fault_of_change(position: usize, value: u8) -> u64 {
     match position {
         12 if value != 1 => 13,
@@ -239,7 +239,7 @@ fn fault_of_change(position: usize, value: u8) -> u64 {
     }
 }
 
-// The number of the fault that is shown, and 0 where there is none.
+/// The number of the fault that is shown, and 0 where there is none.
 fn feed_viewer(hello: &mut ViewerHello, piece: &[u8]) -> u64 {
     match hello.feed(piece) {
         Ok(_) => 0,
@@ -247,8 +247,8 @@ fn feed_viewer(hello: &mut ViewerHello, piece: &[u8]) -> u64 {
     }
 }
 
-// The number of the fault that a viewer's bytes, up to so many and then the rest, come to, 0 where the handshake is done, and
-// 99 where it is neither.
+/// The number of the fault that a viewer's bytes, up to this many and then the rest, come to, 0 where the handshake is
+/// done, and 99 where it is neither.
 fn viewer_fault(bytes: &[u8; 14], cut: usize) -> u64 {
     let mut hello = ViewerHello::new(2, 1, b"T");
     let (front, back) = bytes.split_at(cut.min(14));
@@ -271,7 +271,7 @@ fn a_viewer_is_read_in_pieces(rt: HostRuntime) {
     }
 }
 
-// Each other version is refused, and each other choice.
+/// Each other version is refused, and each other choice.
 #[test]
 fn every_byte_of_a_viewer(rt: HostRuntime) {
     for position in 0..14 {
@@ -285,8 +285,8 @@ fn every_byte_of_a_viewer(rt: HostRuntime) {
     }
 }
 
-// What is used of a host's bytes, one at a time, and the number of the fault at which it ends: 0 where there is none, and 99
-// where a byte isn't used.
+/// What is used of a host's bytes, one at a time, and the number of the fault at which it ends: 0 where there is none,
+/// and 99 where a byte isn't used.
 fn feed_until_a_fault(hello: &mut HostHello, bytes: &[u8]) -> (usize, u64) {
     for (used, piece) in bytes.chunks(1).enumerate() {
         match hello.feed(piece) {
@@ -298,7 +298,8 @@ fn feed_until_a_fault(hello: &mut HostHello, bytes: &[u8]) -> (usize, u64) {
     (bytes.len(), 0)
 }
 
-// Whether the last byte but one of these is the one that shows the fault: it comes with the last byte of its field, and no sooner.
+/// Whether the last byte but one of these is the one that shows the fault: it comes with the last byte of its field,
+/// and no sooner.
 fn is_judged_at_its_end(bytes: &[u8], used: usize, number: u64) -> bool {
     let mut hello = HostHello::new();
     feed_until_a_fault(&mut hello, bytes) == (used, number)
@@ -314,7 +315,7 @@ fn a_host_is_judged_at_the_end_of_a_field(rt: HostRuntime) {
     assert!(rt; is_judged_at_its_end(b"RFB 003.008\n\0\0\0\0\0\0", 16, 2));
 }
 
-// Whether so many bytes are these, and stand at the front.
+/// Whether this many bytes are these, and stand at the front.
 fn is_written(out: &[u8], count: usize, wanted: &[u8]) -> bool {
     count == wanted.len() && out.starts_with(wanted)
 }

@@ -9,14 +9,14 @@ use std::alloc::Global;
 use std::sync::Wait;
 use std::test::Fail;
 
-// What the host sends: its version, the type None, OK, and ServerInit. Two bytes of a first update lie behind it.
+/// What the host sends: its version, the type None, OK, and ServerInit. Two bytes of a first update lie after it.
 const SENDS: [u8; 45] =
     *b"RFB 003.008\n\x01\x01\0\0\0\0\0\x02\0\x01\x20\x18\0\x01\0\xFF\0\xFF\0\xFF\x10\x08\0\0\0\0\0\0\0\x01T\0\0";
 
-// How many of these are of the handshake.
+/// How many of these are of the handshake.
 const HANDSHAKE: usize = 43;
 
-// What it is given: the version, the choice of None, shared-flag 1, and the three messages.
+/// What it is given: the version, the choice of None, shared-flag 1, and the three messages.
 const GIVES: [u8; 64] = [
     0x52, 0x46, 0x42, 0x20, 0x30, 0x30, 0x33, 0x2E, 0x30, 0x30, 0x38, 0x0A, 0x01, 0x01, 0x00, 0x00,
     0x00, 0x00, 0x20, 0x18, 0x00, 0x01, 0x00, 0xFF, 0x00, 0xFF, 0x00, 0xFF, 0x10, 0x08, 0x00, 0x00,
@@ -24,21 +24,21 @@ const GIVES: [u8; 64] = [
     0x00, 0x02, 0x00, 0x00, 0x00, 0x00, 0x03, 0x00, 0x00, 0x00, 0x00, 0x00, 0x00, 0x02, 0x00, 0x01,
 ];
 
-// Whether so many of these were taken.
+/// Whether this many of these were taken.
 fn has_taken(link: &MemoryLink, count: usize) -> bool
     requires { count ≤ 45 }
 {
     link.taken() == &SENDS[..count]
 }
 
-// Whether the link was given so many of these.
+/// Whether the link was given this many of these.
 fn has_given(link: &MemoryLink, count: usize) -> bool
     requires { count ≤ 64 }
 {
     link.given() == &GIVES[..count]
 }
 
-// A link that answers a call to take `count` times with the first, and then with the last; so for calls to give.
+/// A link that answers a call to take `count` times with the first, and then with the last; so for calls to give.
 fn link_to(
     alloc: Global,
     takes: (Took, usize, Took),
@@ -59,7 +59,7 @@ fn is_host(answer: &Result<Joined, Fault>) -> bool {
     }
 }
 
-// Whether the host is joined over the link, which never fails.
+/// Whether the host is joined over the link, which never fails.
 fn joins<R: Wait>(rt: &R, link: &mut MemoryLink) -> bool {
     is_host(&join_host(rt, link))
         && has_given(link, 64)
@@ -83,7 +83,7 @@ fn joins_a_host_byte_by_byte(rt: HostRuntime) -> Result<(), Fail> {
     Ok(())
 }
 
-// Whether joining fails with this number.
+/// Whether joining fails with this number.
 fn fails<R: Wait>(rt: &R, link: &mut MemoryLink, number: u64) -> bool {
     match join_host(rt, link) {
         Ok(_) => false,
@@ -91,7 +91,7 @@ fn fails<R: Wait>(rt: &R, link: &mut MemoryLink, number: u64) -> bool {
     }
 }
 
-// What was given before byte `count` of the handshake came.
+/// What was given before byte `count` of the handshake came.
 fn answered(count: usize) -> usize
     ensures { result ≤ 14 }
 {
@@ -159,7 +159,7 @@ fn fails_at_each_byte_given(rt: HostRuntime) -> Result<(), Fail> {
     Ok(())
 }
 
-// Where each call gives a whole answer or message, and the link fails or ends at one of them.
+/// Where each call gives a whole answer or message, and the link fails or ends at one of them.
 #[test]
 fn fails_at_each_message_given(rt: HostRuntime) -> Result<(), Fail> {
     for (last, number, failures) in [(Gave::Failed, 21, 1), (Gave::End, 22, 0)] {
@@ -173,7 +173,7 @@ fn fails_at_each_message_given(rt: HostRuntime) -> Result<(), Fail> {
     Ok(())
 }
 
-// Whether a call to take answers so, with these in front of the slice.
+/// Whether a call to take answers so, with these in front of the slice.
 fn takes(link: &mut MemoryLink, into: &mut [u8; 2], answer: Took, bytes: &[u8; 2]) -> bool {
     link.take(into) == answer && *into == *bytes
 }

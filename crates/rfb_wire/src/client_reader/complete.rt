@@ -2,7 +2,7 @@
 
 ghost use Rattle.std.specs.Prelude.{◌≡◌, length, drop, suc};
 ghost use Rattle.std.specs.Int.{w32, from_be_bytes};
-ghost use Rattle.pixel_format.specs.Reading.{after};
+ghost use Rattle.byte_reading.specs.Reading.{after};
 ghost use Rattle.rfb_wire.specs.ClientMessage.{CutText, LostText, ask, fields_of, key_event, pointer_event, set_encodings, set_pixel_format, text};
 ghost use Rattle.rfb_wire.specs.ClientReader.{ahead, form_of, numbers};
 ghost use Rattle.rfb_wire.specs.Parts.{len_of};
@@ -22,7 +22,7 @@ use pixel_format::{Fault, Format, LONGEST_TEXT};
 use raster::Rect;
 use std::alloc::Global;
 
-/// How reading goes on behind a part that has these bytes.
+/// How reading goes on after a part that has these bytes.
 pub fn complete(alloc: Global, part: Part, b: &[u8]) -> State
     requires { length b.now ≡ len_of part }
     ensures { ahead result ≡ after (form_of part) b.now }
@@ -84,7 +84,7 @@ fn encodings(b: &[u8]) -> State
     }
 }
 
-/// What follows a number of SetEncodings, behind which so many more are left (RFC 6143, 7.5.2).
+/// What follows a number of SetEncodings, after which this many more are left (RFC 6143, 7.5.2).
 fn number(left: u16, found: Found, b: &[u8]) -> State
     requires { length b.now ≡ 4 }
     ensures { ahead result ≡ after (numbers (suc left) found) b.now }
@@ -135,7 +135,7 @@ fn pointer(b: &[u8]) -> State
     })
 }
 
-/// How many bytes a text has, behind three of padding.
+/// How many bytes a text has, after three of padding.
 fn text_length(b: &[u8]) -> u32
     requires { length b.now ≡ 7 }
     ensures { result ≡ from_be_bytes w32 (drop 3 b.now) }

@@ -16,7 +16,7 @@ pub struct Found {
 }
 
 impl Found {
-    /// Of no numbers.
+    /// What is found in no numbers.
     pub const NOTHING: Found = Found {
         kind: None,
         copy: false,

@@ -14,7 +14,7 @@ pub enum Part {
     Format,
     /// Padding and the count of a list of encodings.
     Count,
-    /// A number of such a list, behind which so many more are left.
+    /// A number of such a list, after which this many more are left.
     Number { left: u16, found: Found },
     /// The fields of a FramebufferUpdateRequest.
     Ask,

@@ -1,7 +1,7 @@
 //! How far a reader of a viewer's messages has come.
 
 ghost use Rattle.std.specs.Prelude.{◌≡◌, ◌<◌, ◌↔◌, IsTrue, true, length, unwrap_or, None, Some, MatchResult};
-ghost use Rattle.pixel_format.specs.Reading.{fault_of, wants_more};
+ghost use Rattle.byte_reading.specs.Reading.{fault_of, wants_more};
 ghost use Rattle.rfb_wire.specs.ClientMessage.{client_message};
 ghost use Rattle.rfb_wire.specs.ClientReader.{ahead, is_partial, passing, UsesOrLoses};
 ghost use Rattle.rfb_wire.specs.Message.{FeedsOrLoses, IsOrLoses};
@@ -23,7 +23,7 @@ pub enum State {
     Fields(Fields<Part>),
     /// A part of a text that is kept.
     Keeping(KeptText),
-    /// A part of a text of so many bytes that is read past.
+    /// A part of a text of this many bytes that is read past.
     Passing(u32, SkippedBytes),
     /// All of it.
     Whole(ClientMessage),
@@ -47,7 +47,8 @@ fn take_fields(alloc: Global, fields: &mut Fields<Part>, piece: &[u8]) -> (Optio
     (Some(complete(alloc, part, &all[..part.len()])), count)
 }
 
-/// The same of a text that is kept. Where memory for it is refused it is read past from now on.
+/// What a text that is kept becomes with such bytes, and how many it takes. Where memory for it is refused it is read
+/// past from now on.
 fn take_text(alloc: Global, kept: &mut KeptText, piece: &[u8]) -> (Option<State>, usize)
     requires { 0 < length piece.now }
     ensures { UsesOrLoses (ahead (state.Keeping kept.old)) (ahead (unwrap_or result.0 (state.Keeping kept.new))) piece.now result.1 }
@@ -69,7 +70,7 @@ fn take_text(alloc: Global, kept: &mut KeptText, piece: &[u8]) -> (Option<State>
     }
 }
 
-/// The same of a text of so many bytes that is read past.
+/// What a text of `len` bytes that is read past becomes with such bytes, and how many it takes.
 fn skip(len: u32, bytes: &mut SkippedBytes, piece: &[u8]) -> (Option<State>, usize)
     requires { 0 < length piece.now }
     ensures { UsesOrLoses (ahead (state.Passing len bytes.old)) (ahead (unwrap_or result.0 (state.Passing len bytes.new))) piece.now result.1 }
@@ -90,7 +91,7 @@ impl State {
         State::Fields(Fields::of(Part::Kind))
     }
 
-    /// A text of which so many bytes are left to be read past.
+    /// A text of which this many bytes are left to be read past.
     pub fn past(left: u32, len: u32) -> State
         ensures { ahead result ≡ passing left len }
     {
@@ -158,7 +159,7 @@ impl State {
         count
     }
 
-    /// What is answered once so many bytes were used.
+    /// What is answered once this many bytes were used.
     fn so_far(&self, used: usize) -> Result<usize, Fault>
         ensures { MatchResult result (λ n. (n ≡ used) × (fault_of (ahead self.now) ≡ None)) (λ fault. fault_of (ahead self.now) ≡ Some fault) }
     {

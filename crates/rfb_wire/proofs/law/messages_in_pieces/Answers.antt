@@ -1,4 +1,4 @@
-use Rattle.pixel_format.proofs.ReadingLaws.{messages-append, rest-append}
+use Rattle.byte_reading.proofs.ReadingLaws.{messages-append, rest-append}
 use Rattle.rfb_wire.specs.ClientMessage.{client_message}
 use Rattle.rfb_wire.specs.ServerMessage.{server_message}
 use Rattle.rfb_wire.proofs.law.messages_in_pieces.Goals as goal

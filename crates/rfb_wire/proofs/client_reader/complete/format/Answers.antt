@@ -1,6 +1,6 @@
 use Rattle.std.proofs.Common.{◌∙◌, ap, refl, false, true, ◌≡◌}
 use Rattle.std.specs.Prelude.{take}
-use Rattle.pixel_format.specs.Reading.{Faulty}
+use Rattle.byte_reading.specs.Reading.{Faulty}
 use Rattle.rfb_wire.proofs.ViewerParts.{format_accepted, format_refused}
 use Rattle.rfb_wire.proofs.client_reader.complete.format.Goals as goal
 

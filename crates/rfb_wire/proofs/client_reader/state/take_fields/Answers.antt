@@ -1,5 +1,5 @@
 use Rattle.std.proofs.Common.{◌≡◌, ◌≤◌, ◌++◌, ℕ, List, inl, ap, arith, min, length}
-use Rattle.pixel_format.specs.Reading.{after}
+use Rattle.byte_reading.specs.Reading.{after}
 use Rattle.rfb_wire.specs.ClientReader.{ahead, form_of}
 use Rattle.rfb_wire.specs.declared.client_reader.part.Part.{Part}
 use Rattle.rfb_wire.proofs.ViewerParts.{fields_use}

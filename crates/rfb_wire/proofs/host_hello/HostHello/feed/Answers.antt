@@ -1,6 +1,6 @@
 use Rattle.std.proofs.Common.{arith, ap, sym, ◌∙◌, length}
-use Rattle.pixel_format.specs.Reading.{wants_more}
-use Rattle.pixel_format.proofs.ReadingLaws.{fed_stops, fed_all, feeds_ok}
+use Rattle.byte_reading.specs.Reading.{wants_more}
+use Rattle.byte_reading.proofs.ReadingLaws.{fed_stops, fed_all, feeds_ok}
 use Rattle.rfb_wire.specs.Joining.{ahead}
 use Rattle.rfb_wire.proofs.host_hello.HostHello.feed.Goals as goal
 

@@ -1,5 +1,5 @@
 use Rattle.std.proofs.Common.{◌≡◌, ℕ, List, ◌++◌, take}
-use Rattle.pixel_format.proofs.ReadingLaws.{IsFed}
+use Rattle.byte_reading.proofs.ReadingLaws.{IsFed}
 use Rattle.rfb_wire.specs.Joining.{ahead, HasHeard}
 use Rattle.rfb_wire.proofs.host_hello.HostHello.feed.Given as goal
 

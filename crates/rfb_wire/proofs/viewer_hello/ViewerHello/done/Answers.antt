@@ -1,6 +1,6 @@
 use Rattle.std.proofs.Common.{arith, ap, sym, refl, ◌∙◌, length}
 use Rattle.std.proofs.lemmas.Bool.Decides.{nat_tests}
-use Rattle.pixel_format.specs.Reading.{fault_of, after}
+use Rattle.byte_reading.specs.Reading.{fault_of, after}
 use Rattle.rfb_wire.specs.Handshake.{viewer_hello}
 use Rattle.rfb_wire.proofs.Greetings.{greeting_whole, greeting_not_whole, none_is}
 use Rattle.rfb_wire.proofs.viewer_hello.ViewerHello.done.Goals as goal

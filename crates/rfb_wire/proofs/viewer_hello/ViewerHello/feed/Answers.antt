@@ -1,5 +1,5 @@
 use Rattle.std.proofs.Common.{arith, ap, sym, ◌∙◌, length, get_or}
-use Rattle.pixel_format.proofs.ReadingLaws.{fed_more, fed_stops, fed_all, feeds_ok}
+use Rattle.byte_reading.proofs.ReadingLaws.{fed_more, fed_stops, fed_all, feeds_ok}
 use Rattle.rfb_wire.specs.Greeting.{ahead}
 use Rattle.rfb_wire.proofs.Greetings.{greeting_steps, greeting_grows}
 use Rattle.rfb_wire.proofs.viewer_hello.ViewerHello.feed.Goals as goal

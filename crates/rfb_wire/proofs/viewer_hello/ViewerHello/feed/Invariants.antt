@@ -1,5 +1,5 @@
 use Rattle.std.proofs.Common.{◌≡◌, ◌++◌, take}
-use Rattle.pixel_format.proofs.ReadingLaws.{IsFed}
+use Rattle.byte_reading.proofs.ReadingLaws.{IsFed}
 use Rattle.rfb_wire.specs.Greeting.{ahead}
 use Rattle.rfb_wire.proofs.viewer_hello.ViewerHello.feed.Given as goal
 

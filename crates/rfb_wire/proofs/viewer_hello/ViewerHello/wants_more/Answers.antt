@@ -1,6 +1,6 @@
 use Rattle.std.proofs.Common.{◌≡◌, arith, ap, sym, not, refl, ◌∙◌, length}
 use Rattle.std.proofs.lemmas.Bool.Decides.{nat_tests}
-use Rattle.pixel_format.specs.Reading.{fault_of, after}
+use Rattle.byte_reading.specs.Reading.{fault_of, after}
 use Rattle.rfb_wire.specs.Handshake.{viewer_hello}
 use Rattle.rfb_wire.proofs.Greetings.{greeting_wants, greeting_stops, none_is}
 use Rattle.rfb_wire.proofs.viewer_hello.ViewerHello.wants_more.Goals as goal
