@@ -41,7 +41,8 @@ fn draw_rre(rectangle: &Record<'_>, raster: &mut Raster) -> Result<(usize, bool)
     Ok((used, reader.whole()))
 }
 
-/// How many bytes of the data are used, and whether they are a whole rectangle, which is drawn. Nothing is drawn on a raster of another size.
+/// How many bytes of the data are used, and whether they are a whole rectangle, which is drawn. Nothing is drawn on a
+/// raster of another size.
 pub fn draw(record: &Record<'_>, raster: &mut Raster) -> Result<(usize, bool), Fault> {
     if raster.width() != u64::from(record.width) || raster.height() != u64::from(record.height) {
         return Ok((0, false));
@@ -81,8 +82,8 @@ pub fn is_read(alloc: Global, record: &Record<'_>, values: &[u32]) -> Result<boo
     is_drawn(record, &mut raster, values)
 }
 
-/// What the writer answers for these values: how many bytes stand at the front of `out`, or nothing. Also nothing where the
-/// values, or the room for them, aren't as many as the rectangle has.
+/// What the writer answers for these values: how many bytes stand at the front of `out`, or nothing. Also nothing where
+/// the values, or the room for them, aren't as many as the rectangle has.
 pub fn write(record: &Record<'_>, values: &[u32], out: &mut [u8]) -> Option<usize> {
     let (width, height) = (u64::from(record.width), u64::from(record.height));
     let format = &record.format;

@@ -1,7 +1,8 @@
 //! Runs the codecs over rectangles that other programs spelled.
 //!
-//! Without words: over the files `rectangles` and `libvncserver`, how many there are, how many are read as the other program
-//! told, and of how many the writer answers what it told. With the words `FILE ROUNDS`: how long each rectangle of a file takes.
+//! Without words: over the files `rectangles` and `libvncserver`, how many there are, how many are read as the other
+//! program told, and of how many the writer answers what it told. With the words `FILE ROUNDS`: how long each rectangle
+//! of a file takes.
 #![tactic(auto)]
 
 mod codec;
@@ -16,7 +17,8 @@ use std::test::Fail;
 use std::{env, fs};
 use timing::{reading_micros, writing_micros};
 
-/// How many rectangles there are, how many are read as told, of how many the writer is asked, and how often it answers as told.
+/// How many rectangles there are, how many are read as told, of how many the writer is asked, and how often it answers
+/// as told.
 #[derive(Clone, Copy)]
 struct Tally {
     rectangles: u64,
@@ -81,7 +83,8 @@ fn check(rt: &HostRuntime) -> Result<(), Fail> {
     Ok(())
 }
 
-/// Prints for each rectangle of a file the microseconds in which it is read and written, and the bytes that were written.
+/// Prints for each rectangle of a file the microseconds in which it is read and written, and the bytes that were
+/// written.
 fn time(rt: &HostRuntime, name: &str, rounds: u64) -> Result<(), Fail> {
     let bytes = fs::read(rt, name)?;
     let mut rest = bytes.as_slice();

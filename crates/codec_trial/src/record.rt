@@ -15,7 +15,8 @@ pub enum Answer {
     Nothing,
 }
 
-/// A rectangle: its encoding's number, its pixel format, its size in pixels, what a writer has to answer, its data, and its pixels in Raw.
+/// A rectangle: its encoding's number, its pixel format, its size in pixels, what a writer has to answer, its data, and
+/// its pixels in Raw.
 #[derive(Clone, Copy)]
 pub struct Record<'a> {
     pub encoding: u8,
@@ -30,7 +31,7 @@ pub struct Record<'a> {
 /// How many bytes stand before the data.
 const HEAD_LEN: usize = 26;
 
-/// What stands before the data: all but the data and the pixels, and how many bytes the data has.
+/// The part before the data: all but the data and the pixels, and how many bytes the data has.
 #[derive(Clone, Copy)]
 struct Head {
     encoding: u8,
@@ -63,7 +64,7 @@ fn read_head(head: &[u8]) -> Option<Head>
     })
 }
 
-/// The record at the front of some bytes, and the bytes behind it; `None` where no whole one stands there.
+/// The record at the front of some bytes, and the bytes after it; `None` where no whole one stands there.
 pub fn read_record(bytes: &[u8]) -> Option<(Record<'_>, &[u8])> {
     let (front, rest) = bytes.split_at_checked(HEAD_LEN)?;
     let head = read_head(front)?;

@@ -6,7 +6,7 @@ use raster::Raster;
 use std::test::Fail;
 use std::time::Instant;
 
-/// The least time in microseconds, of so many rounds, in which the data is read and drawn.
+/// The least time in microseconds, of this many rounds, in which the data is read and drawn.
 pub fn reading_micros(rt: &HostRuntime, record: &Record<'_>, rounds: u64) -> Result<u128, Fail> {
     let (width, height) = (u64::from(record.width), u64::from(record.height));
     let mut raster = Raster::new(rt.alloc(), width, height)?;
@@ -19,8 +19,8 @@ pub fn reading_micros(rt: &HostRuntime, record: &Record<'_>, rounds: u64) -> Res
     Ok(least)
 }
 
-/// The least time in microseconds, of so many rounds, in which the pixels are written, and how many bytes that are, 0 where Raw
-/// is as short.
+/// The least time in microseconds, of this many rounds, in which the pixels are written, and how many bytes that are, 0
+/// where Raw is as short.
 pub fn writing_micros(
     rt: &HostRuntime,
     record: &Record<'_>,

@@ -1,12 +1,12 @@
--- How reading goes on from tile to tile.
+-- How reading goes on from tile to tile. A reader stands at a tile, and its contract speaks of the whole rectangle.
 use Rattle.std.proofs.Common.{◌≡◌, ℕ, zero, suc, ◌+◌, ◌-◌, ◌*◌, ◌<◌, ◌≤◌, true, false, List, [], ◌∷◌, ◌++◌, Some, refl, sym, ap, ◌∙◌, append_assoc, arith}
 use Rattle.std.specs.Prelude.{nat_lt}
 use mathlib.Core.Path.{fun_ext}
 use Rattle.std.proofs.lemmas.Bool.{lt-ltb, le-ltb, eqb-true}
 use Rattle.std.proofs.lemmas.List.{append-nil}
 use Rattle.pixel_format.specs.PixelFormat.{PixelFormat}
-use Rattle.pixel_format.specs.Reading.{Reading, Done, ◌>>=◌}
-use Rattle.pixel_format.proofs.ReadingLaws.{bind_assoc, bind_done}
+use Rattle.byte_reading.specs.Reading.{Reading, Done, ◌>>=◌}
+use Rattle.byte_reading.proofs.ReadingLaws.{bind_assoc, bind_done}
 use Rattle.raster.specs.declared.rect.Rect.{Rect}
 use Rattle.raster.specs.Screen.{Canvas, part_of, tile_count, tile_rect}
 use Rattle.raster.specs.Encoding.{Subrect, Carried, nothing_carried, Tile, Pixels, Drawn, tile, tile_shows, tiles_from, hextile}
@@ -17,7 +17,7 @@ use Rattle.hextile_codec.specs.Ahead.{Part, Sofar, blank, nothing_read, IsDrawn,
 
 -- ---- from one tile to the next
 
--- The tiles from number k on, behind those that are whole.
+-- The tiles from number k on, after those that are whole.
 tiles_ahead : (format : PixelFormat) (w h k : ℕ) (carried : Carried) (tiles : List Tile) (part : Part) (n : ℕ) → n ≡ tile_count w h - k
     → (tiles_from format w h carried k n >>= λ others. Done (tiles ++ others)) ≡ next_form format w h k carried Mask (record { tiles = tiles; part = part })
 tiles_ahead format w h k carried tiles part zero e =
@@ -35,7 +35,7 @@ tiles_ahead format w h k carried tiles part (suc n) e =
     (bind_assoc one then_ end
     ∙ ap (λ (f : Tile × Carried → Reading (List Tile)). one >>= f) (fun_ext (λ first. bind_assoc (tiles_from format w h first.1 (k + 1) n) (λ others. Done (first.0 ∷ others)) end ∙ behind first)))
 
--- Behind a tile that is whole the next one is read.
+-- After a tile that is whole the next one is read.
 pub next_tile : (format : PixelFormat) (w h k : ℕ) (tiles : List Tile) (first : Tile) (carried : Carried) → others_behind format w h k tiles (first, carried) ≡ next_form format w h (k + 1) carried Mask (record { tiles = tiles ++ first ∷ []; part = blank })
 next_tile format w h k tiles first carried =
     let n : ℕ = tile_count w h - (k + 1) in

@@ -1,4 +1,5 @@
--- What a tile is written as, how long that is, and what it leaves.
+-- What a tile is written as, how long that is, and what it leaves. `encode` chooses a tile's kind before it writes, and
+-- keeps what it carries on.
 use Rattle.std.proofs.Common.{◌≡◌, ℕ, Bool, true, false, cond, List, [], ◌∷◌, ◌++◌, length, map, Some, None, refl, sym, ap, ◌∙◌, ◌+◌, ◌*◌, ◌<◌, ◌≤◌, length-append, arith}
 use Rattle.std.specs.Prelude.{◌==◌, nat_le}
 use Rattle.std.specs.List.{All, flat_map, list_all}

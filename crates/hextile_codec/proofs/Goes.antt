@@ -1,14 +1,15 @@
--- Bytes that lead from one way of reading to another.
+-- Bytes that lead from one way of reading to another. Each part of a tile is shown to be read by such steps.
 use Rattle.std.proofs.Common.{◌≡◌, ℕ, suc, ◌+◌, ◌≤◌, Bool, true, false, List, [], ◌∷◌, ◌++◌, length, length-append, take, drop, Option, refl, sym, ap, ◌∙◌, append_assoc, arith}
 use mathlib.Core.Path.{fun_ext}
 use Rattle.std.proofs.lemmas.List.{take-append-drop, length-take}
 use Rattle.pixel_format.specs.PixelFormat.{PixelFormat, pixel_len, pixel_of}
-use Rattle.pixel_format.specs.Reading.{Reading, Done, Faulty, Want, ◌>>=◌, after, taken, times, Spells}
-use Rattle.pixel_format.proofs.ReadingLaws.{after-append, taken-append, taken-nil, bind_assoc}
+use Rattle.byte_reading.specs.Reading.{Reading, Done, Faulty, Want, ◌>>=◌, after, taken, times, Spells}
+use Rattle.byte_reading.proofs.ReadingLaws.{after-append, taken-append, taken-nil, bind_assoc}
 use Rattle.raster.specs.Encoding.{pixel, specified}
 use Rattle.raster.proofs.FixedLength.{pixel_says}
 use Rattle.raster.proofs.Spellings.{spells_done}
-use Rattle.hextile_codec.specs.Ahead.{Goes, colour_in, colour_len}
+use Rattle.raster.specs.Reader.{Goes}
+use Rattle.hextile_codec.specs.Ahead.{colour_in, colour_len}
 
 pub goes_none : {A : Type 0} (form : Reading A) → Goes form [] form
 goes_none form = record { all = taken-nil form; leads = refl }
@@ -20,11 +21,11 @@ goes_then a b c xs ys f g =
       leads = after-append a xs ys ∙ (ap (λ t. after t ys) f.leads ∙ g.leads);
     }
 
--- By the bytes in front and those behind.
+-- By the bytes in front and those after.
 pub goes_split : {A : Type 0} (a b c : Reading A) (n : ℕ) (bs : List ℕ) → Goes a (take n bs) b → Goes b (drop n bs) c → Goes a bs c
 goes_split a b c n bs f g = rw (take-append-drop n bs) at (goes_then a b c (take n bs) (drop n bs) f g)
 
--- What comes first goes on under what comes behind it.
+-- What comes first goes on under what comes after it.
 pub goes_under : {A B : Type 0} (form rest : Reading A) (next : A → Reading B) (bs : List ℕ) → Goes form bs rest → Goes (form >>= next) bs (rest >>= next)
 goes_under form rest next [] g = let same : form ≡ rest = g.leads in rw same (goes_none (rest >>= next))
 goes_under (Done x) rest next (b ∷ bs) g = absurd (omega (arith, g.all))
@@ -59,7 +60,7 @@ spells_colour format true carried bs le =
     record { whole = s.all; says = s.leads }
 spells_colour format false carried bs le = spells_done carried
 
--- Behind the bytes that came first.
+-- After the bytes that came first.
 pub goes_behind : {A : Type 0} (a c : Reading A) (xs ys : List ℕ) → Goes a (xs ++ ys) c → Goes (after a xs) ys c
 goes_behind a c [] ys g = g
 goes_behind (Done x) c (b ∷ xs) ys g = absurd (omega (arith, g.all))

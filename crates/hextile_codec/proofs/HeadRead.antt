@@ -1,13 +1,14 @@
--- What a mask announces is read.
+-- What a mask announces is read. `draw_head` reads colours and a count together.
 use Rattle.std.proofs.Common.{◌≡◌, ℕ, Bool, true, false, List, [], ◌∷◌, length, take, drop, Option, refl, arith}
 use Rattle.std.specs.Prelude.{if◌then◌else◌, slice_index, unwrap_or}
 use Rattle.std.proofs.lemmas.List.{length-drop}
 use Rattle.pixel_format.specs.PixelFormat.{PixelFormat}
-use Rattle.pixel_format.specs.Reading.{Reading, Done, ◌>>=◌, byte, times, Spells}
+use Rattle.byte_reading.specs.Reading.{Reading, Done, ◌>>=◌, byte, times, Spells}
 use Rattle.raster.proofs.Spellings.{spells_done}
 use Rattle.raster.specs.Encoding.{Carried, Tile, Drawn, has_bit, specified, hextile_subrect, drawn_tile}
 use Rattle.hextile_codec.specs.declared.stage.Stage.TheVariants.{Head, Subrects}
-use Rattle.hextile_codec.specs.Ahead.{Part, Goes, tile_rest, head_len, colour_in, colour_len}
+use Rattle.raster.specs.Reader.{Goes}
+use Rattle.hextile_codec.specs.Ahead.{Part, tile_rest, head_len, colour_in, colour_len}
 use Rattle.hextile_codec.proofs.Goes.{goes_split, goes_bind, spells_colour}
 
 -- The number of subrectangles, where it is announced.

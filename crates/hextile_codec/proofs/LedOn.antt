@@ -1,4 +1,4 @@
--- Bytes that are drawn part by part.
+-- Bytes that are drawn part by part. So what is drawn of pixels and subrectangles holds of all of them.
 use Rattle.std.proofs.Common.{◌≡◌, ℕ, ◌-◌, List, [], ◌++◌, length, length-append, take, drop, refl, sym, ap, ◌∙◌, append_assoc, arith}
 use Rattle.std.proofs.lemmas.List.{take-append-drop, take_at}
 use Rattle.pixel_format.specs.PixelFormat.{PixelFormat}
@@ -19,7 +19,7 @@ led_then keep format area a b c s t u xs ys mid now part f g =
       shows = h.shows;
     }
 
--- Of some bytes there are left those behind the ones that were drawn.
+-- Of some bytes there are left those after the ones that were drawn.
 pub record HasLed (keep : ℕ → ℕ) (format : PixelFormat) (area : Rect) (a b : Carried) (s t : Stage) (bytes rest : List ℕ) (now : Canvas) (part : Part) : Type 0 where
   pub front : List ℕ
   pub joined : front ++ rest ≡ bytes

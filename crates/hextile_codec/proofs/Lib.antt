@@ -1,5 +1,4 @@
 pub mod Behind
-pub mod Fed
 pub mod Goes
 pub mod HeadRead
 pub mod LedOn
@@ -20,3 +19,5 @@ pub mod RawRows
 pub mod Tiles
 pub mod MaskBits
 pub mod MarkedRuns
+pub mod LowestBit
+pub mod RowMarks

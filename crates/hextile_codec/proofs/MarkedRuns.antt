@@ -1,27 +1,26 @@
--- The runs of a row, found by the bits of their first positions and of their ends.
-use Rattle.std.proofs.Common.{◌≡◌, ℕ, zero, suc, Bool, true, false, not, cond, List, [], ◌∷◌, ◌++◌, length, map, get_or, refl, sym, ap, ◌∙◌, ◌+◌, ◌-◌, ◌*◌, ◌/◌, ◌%◌, ◌^◌, ◌<◌, ◌≤◌, append_assoc, w64, inl, inr, arith}
+-- The runs of four rows, found by the bits of their first positions and of their ends.
+use Rattle.std.proofs.Common.{◌≡◌, ℕ, zero, suc, Bool, true, false, not, cond, List, [], ◌∷◌, ◌++◌, length, map, refl, sym, ap, ◌∙◌, ◌+◌, ◌-◌, ◌*◌, ◌/◌, ◌%◌, ◌^◌, ◌<◌, ◌≤◌, append_assoc, w64, inl, inr, arith}
 use Rattle.std.specs.Prelude.{filter, ◌==◌}
 use Rattle.std.specs.List.{range_with_len}
-use Rattle.std.specs.Int.{bit_at, trailing_zeros, bit_not}
+use Rattle.std.specs.Int.{bit_at, trailing_zeros}
 use Rattle.std.specs.Int.Bits.{bit_and}
 use Rattle.std.proofs.lemmas.Bool.{cases_lt, eq-eqb, eqb-true}
 use Rattle.std.proofs.lemmas.List.{map-append}
-use Rattle.std.proofs.lemmas.Nat.Bits.{bit_at-trailing_zeros, bit_at_above, bit_at-zero, bit_at_clear_same, bit_at_clear_other}
-use Rattle.std.proofs.lemmas.Nat.{and_le_l}
-use Rattle.std.proofs.Math.Nat.{div-div-eq-div-mul, div-le_self}
-use lib.Pow.{pow-add}
+use Rattle.std.proofs.lemmas.List.Elements.{filter-append}
+use Rattle.std.proofs.lemmas.Nat.{and_le_l, div-mul-add, mod-mul-add}
+use Rattle.std.proofs.lemmas.Nat.Bits.{bit_at-trailing_zeros, bit_at-zero}
+use Rattle.std.proofs.Math.Nat.{div-le_self, mod-lt, mod-add-div'}
 use Rattle.raster.specs.Screen.{Canvas}
-use Rattle.raster.specs.Encoding.{Subrect, begins_run, run_from}
-use Rattle.raster.specs.RowShown.{row_shows}
-use Rattle.raster.proofs.RowScan.{runs_behind, filter_skips}
+use Rattle.raster.specs.Encoding.{Subrect, begins_run, run_from, runs_of_row}
+use Rattle.raster.proofs.RowScan.{filter_skips}
 use Rattle.raster.proofs.Runs.{run_within, front_passes, front_stops}
 use Rattle.hextile_codec.specs.declared.runs.Run.{Run}
+use Rattle.hextile_codec.specs.declared.marking.Marks.{Marks}
 use Rattle.hextile_codec.specs.Bits.{bit_of}
 use Rattle.hextile_codec.specs.Kinds.{subrect_of}
-use Rattle.hextile_codec.proofs.RowRuns.{AreSoFar, none_pass}
-
-pub bit_shift : (n x i : ℕ) → bit_at (n / 2 ^ x) i ≡ bit_at n (x + i)
-bit_shift n x i = ap (λ m. m % 2) (div-div-eq-div-mul n (2 ^ x) (2 ^ i) ∙ ap (λ m. n / m) (sym (pow-add 2 x i)))
+use Rattle.hextile_codec.specs.Marks.{AreMarks, runs_of_rows}
+use Rattle.hextile_codec.proofs.RowRuns.{none_pass}
+use Rattle.hextile_codec.proofs.LowestBit.{bit_shift, cleared_same, cleared_other}
 
 bit_true : (b : Bool) → bit_of b ≡ 1 → b ≡ true
 bit_true true e = refl
@@ -31,168 +30,186 @@ bit_false : (b : Bool) → bit_of b ≡ 0 → b ≡ false
 bit_false true e = absurd cc
 bit_false false e = refl
 
+-- ---- positions, counted through the four rows
+
+-- Whether a run begins at position p.
+abbrev pub begins_at : Canvas → ℕ → ℕ → Bool
+begins_at canvas y p = begins_run canvas (canvas 0 0) (y + p / 16) (p % 16)
+
+-- The run that begins there.
+abbrev pub run_at : Canvas → ℕ → ℕ → Subrect
+run_at canvas y p = run_from canvas 16 (y + p / 16) (p % 16)
+
+-- The runs from position p on.
+abbrev pub runs_behind : Canvas → ℕ → ℕ → List Subrect
+runs_behind canvas y p = map (run_at canvas y) (filter (begins_at canvas y) (range_with_len p (64 - p)))
+
+split : (p : ℕ) → 16 * (p / 16) + p % 16 ≡ p
+split p = let e = mod-add-div' p 16 in omega (arith, e)
+
+begin_marked : (canvas : Canvas) (y : ℕ) (marks : Marks) → AreMarks canvas y marks → (p : ℕ) → p < 64 → bit_at marks.begins p ≡ bit_of (begins_at canvas y p)
+begin_marked canvas y marks are p lt =
+    let whole = split p in
+    let low : p % 16 < 16 = mod-lt p (omega arith) in
+    ap (bit_at marks.begins) (sym whole) ∙ are.begins (p / 16) (p % 16) (omega (arith, whole, lt)) low
+
 -- ---- where the next run begins
 
--- Bits of positions at which runs begin.
-abbrev pub AreBegins : List ℕ → ℕ → ℕ → Type 0
-AreBegins row background begins = (x : ℕ) → x < 16 → bit_at begins x ≡ bit_of (begins_run (row_shows row) background 0 x)
+pub record IsNextBegin (canvas : Canvas) (y p first : ℕ) : Type 0 where
+  pub inside : first < 64
+  pub from : p ≤ first
+  pub begins : begins_at canvas y first ≡ true
+  pub none : (k : ℕ) → p ≤ k → k < first → begins_at canvas y k ≡ false
 
-pub record IsNextBegin (row : List ℕ) (background x first : ℕ) : Type 0 where
-  pub inside : first < 16
-  pub from : x ≤ first
-  pub begins : begins_run (row_shows row) background 0 first ≡ true
-  pub none : (k : ℕ) → x ≤ k → k < first → begins_run (row_shows row) background 0 k ≡ false
+-- Of the bits of positions at which runs begin, those from p on.
+pub record AreLeft (canvas : Canvas) (y p begins : ℕ) : Type 0 where
+  pub above : (k : ℕ) → p ≤ k → k < 64 → bit_at begins k ≡ bit_of (begins_at canvas y k)
+  pub below : (k : ℕ) → k < p → bit_at begins k ≡ 0
+  pub few : begins < 2 ^ 64
 
--- Of those, the bits from x on.
-pub record AreLeft (row : List ℕ) (background x begins : ℕ) : Type 0 where
-  pub above : (k : ℕ) → x ≤ k → k < 16 → bit_at begins k ≡ bit_of (begins_run (row_shows row) background 0 k)
-  pub below : (k : ℕ) → k < x → bit_at begins k ≡ 0
-  pub few : begins < 2 ^ 16
+pub all_left : (canvas : Canvas) (y : ℕ) (marks : Marks) → AreMarks canvas y marks → AreLeft canvas y 0 marks.begins
+all_left canvas y marks are = record { above = λ k lo hi. begin_marked canvas y marks are k hi; below = λ k lt. absurd (omega (arith, lt)); few = are.few }
 
-pub all_left : (row : List ℕ) (background begins : ℕ) → AreBegins row background begins → begins < 2 ^ 16 → AreLeft row background 0 begins
-all_left row background begins are few = record { above = λ k lo hi. are k hi; below = λ k lt. absurd (omega (arith, lt)); few = few }
-
-pub next_begin : (row : List ℕ) (background x begins : ℕ) → AreLeft row background x begins → 0 < begins → IsNextBegin row background x (trailing_zeros w64 begins)
-next_begin row background x begins are some =
+pub next_begin : (canvas : Canvas) (y p begins : ℕ) → AreLeft canvas y p begins → 0 < begins → IsNextBegin canvas y p (trailing_zeros w64 begins)
+next_begin canvas y p begins are some =
     let t : ℕ = trailing_zeros w64 begins in
-    let b = bit_at-trailing_zeros w64 begins some (omega (arith, are.few)) in
-    let inside : t < 16 = elim (cases_lt t 16) [
-      | inl lt ↦ lt
-      | inr le ↦ let zero_bit = bit_at_above begins 16 t are.few le in absurd (omega (arith, b.1, zero_bit))
-    ] in
-    let from : x ≤ t = elim (cases_lt t x) [
+    let b = bit_at-trailing_zeros w64 begins some are.few in
+    let from : p ≤ t = elim (cases_lt t p) [
       | inl lt ↦ let zero_bit = are.below t lt in absurd (omega (arith, b.1, zero_bit))
       | inr le ↦ le
     ] in
     record {
-      inside = inside;
+      inside = b.0;
       from = from;
-      begins = bit_true _ (sym (are.above t from inside) ∙ b.1);
-      none = λ k lo hi. bit_false _ (sym (are.above k lo (omega (arith, hi, inside))) ∙ b.2 k hi);
+      begins = bit_true _ (sym (are.above t from b.0) ∙ b.1);
+      none = λ k lo hi. bit_false _ (sym (are.above k lo (omega (arith, hi, b.0))) ∙ b.2 k hi);
     }
 
 -- The lowest is cleared.
-pub one_cleared : (row : List ℕ) (background x begins first : ℕ) → AreLeft row background x begins → IsNextBegin row background x first
-    → AreLeft row background (first + 1) (bit_and begins (bit_not w64 (1 * 2 ^ first % 2 ^ 64)))
-one_cleared row background x begins first are n =
-    let within : first < 64 = omega (arith, n.inside) in
-    let other : (k : ℕ) → k < 64 → (k ≡ first → ⊥) → bit_at (bit_and begins (bit_not w64 (1 * 2 ^ first % 2 ^ 64))) k ≡ bit_at begins k = λ k low apart. bit_at_clear_other w64 begins first within k low apart in
+pub one_cleared : (canvas : Canvas) (y p begins : ℕ) → AreLeft canvas y p begins → 0 < begins → AreLeft canvas y (trailing_zeros w64 begins + 1) (bit_and begins (begins - 1))
+one_cleared canvas y p begins are some =
+    let first : ℕ = trailing_zeros w64 begins in
+    let n = next_begin canvas y p begins are some in
+    let b = bit_at-trailing_zeros w64 begins some are.few in
     record {
-      above = λ k lo hi. other k (omega (arith, hi)) (λ e. omega (arith, e, lo)) ∙ are.above k (omega (arith, lo, n.from)) hi;
+      above = λ k lo hi. cleared_other begins some are.few k (λ e. absurd (omega (arith, e, lo))) ∙ are.above k (omega (arith, lo, n.from)) hi;
       below = λ k lt. elim (cases_lt k first) [
-        | inl less ↦ other k (omega (arith, less, within)) (λ e. omega (arith, e, less)) ∙ elim (cases_lt k x) [
-          | inl lower ↦ are.below k lower
-          | inr from ↦ are.above k from (omega (arith, less, n.inside)) ∙ ap bit_of (n.none k from less)
-        ]
-        | inr le ↦ let same : k ≡ first = omega (arith, le, lt) in ap (bit_at (bit_and begins (bit_not w64 (1 * 2 ^ first % 2 ^ 64)))) same ∙ bit_at_clear_same w64 begins first within
+        | inl less ↦ cleared_other begins some are.few k (λ e. absurd (omega (arith, e, less))) ∙ b.2 k less
+        | inr le ↦ let same : k ≡ first = omega (arith, le, lt) in ap (bit_at (bit_and begins (begins - 1))) same ∙ cleared_same begins some are.few
       ];
-      few = let le = and_le_l begins (bit_not w64 (1 * 2 ^ first % 2 ^ 64)) in omega (arith, le, are.few);
+      few = let le = and_le_l begins (begins - 1) in omega (arith, le, are.few);
     }
 
 -- Then there are fewer.
-pub fewer_left : (begins : ℕ) → 0 < begins → begins < 2 ^ 64 → trailing_zeros w64 begins < 64 → bit_and begins (bit_not w64 (1 * 2 ^ trailing_zeros w64 begins % 2 ^ 64)) < begins
-fewer_left begins some fits within =
+pub fewer_left : (canvas : Canvas) (y p begins : ℕ) → AreLeft canvas y p begins → 0 < begins → bit_and begins (begins - 1) < begins
+fewer_left canvas y p begins are some =
     let t : ℕ = trailing_zeros w64 begins in
-    let left : ℕ = bit_and begins (bit_not w64 (1 * 2 ^ t % 2 ^ 64)) in
-    let b = bit_at-trailing_zeros w64 begins some fits in
-    let le : left ≤ begins = and_le_l begins (bit_not w64 (1 * 2 ^ t % 2 ^ 64)) in
-    let gone : bit_at left t ≡ 0 = bit_at_clear_same w64 begins t within in
+    let left : ℕ = bit_and begins (begins - 1) in
+    let b = bit_at-trailing_zeros w64 begins some are.few in
+    let le : left ≤ begins = and_le_l begins (begins - 1) in
+    let gone : bit_at left t ≡ 0 = cleared_same begins some are.few in
     elim (cases_lt left begins) [
       | inl lt ↦ lt
       | inr same ↦ let e : left ≡ begins = omega (arith, le, same) in let both : bit_at left t ≡ bit_at begins t = ap (λ n. bit_at n t) e in absurd (omega (arith, both, gone, b.1))
     ]
 
-pub next_run : (row : List ℕ) (background y x first : ℕ) → length row ≡ 16 → IsNextBegin row background x first
-    → runs_behind (row_shows row) background (length row) y x ≡ run_from (row_shows row) (length row) y first ∷ runs_behind (row_shows row) background (length row) y (first + 1)
-next_run row background y x first size n =
-    let p : ℕ → Bool = begins_run (row_shows row) background y in
-    let f : ℕ → Subrect = run_from (row_shows row) (length row) y in
-    let m : ℕ = length row - (first + 1) in
-    let count : length row - x ≡ (first - x) + suc m = omega (arith, size, n.inside, n.from) in
-    let place : x + (first - x) ≡ first = omega (arith, n.from) in
-    ap (λ k. map f (filter p (range_with_len x k))) count
-    ∙ (ap (map f) (filter_skips p x (first - x) (suc m) (λ k lo hi. n.none k lo (omega (arith, hi, n.from))))
-    ∙ (ap (λ k. map f (filter p (range_with_len k (suc m)))) place ∙ ap (λ b. map f (cond b (first ∷ filter p (range_with_len (first + 1) m)) (filter p (range_with_len (first + 1) m)))) n.begins))
+pub next_run : (canvas : Canvas) (y p first : ℕ) → IsNextBegin canvas y p first → runs_behind canvas y p ≡ run_at canvas y first ∷ runs_behind canvas y (first + 1)
+next_run canvas y p first n =
+    let q : ℕ → Bool = begins_at canvas y in
+    let f : ℕ → Subrect = run_at canvas y in
+    let m : ℕ = 64 - (first + 1) in
+    let count : 64 - p ≡ (first - p) + suc m = omega (arith, n.inside, n.from) in
+    let place : p + (first - p) ≡ first = omega (arith, n.from) in
+    ap (λ k. map f (filter q (range_with_len p k))) count
+    ∙ (ap (map f) (filter_skips q p (first - p) (suc m) (λ k lo hi. n.none k lo (omega (arith, hi, n.from))))
+    ∙ (ap (λ k. map f (filter q (range_with_len k (suc m)))) place ∙ ap (λ b. map f (cond b (first ∷ filter q (range_with_len (first + 1) m)) (filter q (range_with_len (first + 1) m)))) n.begins))
 
 -- There is none.
-pub no_run : (row : List ℕ) (background begins y x : ℕ) → length row ≡ 16 → AreLeft row background x begins → begins ≡ 0 → runs_behind (row_shows row) background (length row) y x ≡ []
-no_run row background begins y x size are none =
-    ap (map (run_from (row_shows row) (length row) y))
-    (none_pass (begins_run (row_shows row) background y) x (length row - x) (λ k lo hi.
-    bit_false _ (sym (are.above k lo (omega (arith, hi, size))) ∙ (ap (λ m. bit_at m k) none ∙ bit_at-zero k))))
+pub no_run : (canvas : Canvas) (y p begins : ℕ) → AreLeft canvas y p begins → begins ≡ 0 → runs_behind canvas y p ≡ []
+no_run canvas y p begins are none =
+    ap (map (run_at canvas y)) (none_pass (begins_at canvas y) p (64 - p) (λ k lo hi. bit_false _ (sym (are.above k lo (omega (arith, hi, lo))) ∙ (ap (λ m. bit_at m k) none ∙ bit_at-zero k))))
 
--- The runs in front of x are found, and the bits from x on are left.
-pub record AreMarked (before now : List Run) (row : List ℕ) (background y begins : ℕ) : Type 0 where
-  pub x : ℕ
-  pub inside : x ≤ 16
-  pub few : length now ≤ length before + x
-  pub left : AreLeft row background x begins
-  pub so_far : AreSoFar before now row background y x
+-- With the runs from position p on those so far are all of the four rows.
+abbrev pub AreSoFar : List Run → List Run → Canvas → ℕ → ℕ → Type 0
+AreSoFar before now canvas y p = map subrect_of now ++ runs_behind canvas y p ≡ map subrect_of before ++ runs_behind canvas y 0
+
+-- The runs in front of position p are found, and the bits from p on are left.
+pub record AreMarked (before now : List Run) (canvas : Canvas) (y begins : ℕ) : Type 0 where
+  pub p : ℕ
+  pub inside : p ≤ 64
+  pub few : length now ≤ length before + p
+  pub left : AreLeft canvas y p begins
+  pub so_far : AreSoFar before now canvas y p
 
 -- ---- where it ends
 
--- Bits of positions at which there is another value than before, and of the row's end.
-abbrev pub AreEnds : List ℕ → ℕ → Type 0
-AreEnds row ends = (x : ℕ) → 0 < x → x < 16 → bit_at ends x ≡ bit_of (not (get_or row (x - 1) 0 == get_or row x 0))
+not_false : (b : Bool) → not b ≡ false → b ≡ true
+not_false true e = refl
+not_false false e = absurd cc
 
-same_along : (row : List ℕ) (ends first t : ℕ) → AreEnds row ends → ((i : ℕ) → i < t → bit_at ends (first + 1 + i) ≡ 0) → (k : ℕ) → k ≤ t → first + k < 16 → get_or row (first + k) 0 ≡ get_or row first 0
-same_along row ends first t are none zero le lt = let z : first + zero ≡ first = omega arith in ap (λ i. get_or row i 0) z
-same_along row ends first t are none (suc k) le lt =
-    let place : first + 1 + k ≡ first + suc k = omega arith in
-    let back : first + suc k - 1 ≡ first + k = omega arith in
-    let test : (get_or row (first + suc k - 1) 0 == get_or row (first + suc k) 0) ≡ true =
-    not_false (get_or row (first + suc k - 1) 0 == get_or row (first + suc k) 0) (bit_false _ (sym (are (first + suc k) (omega arith) lt) ∙ (ap (bit_at ends) (sym place) ∙ none k (omega arith)))) in
-    let same : get_or row (first + suc k - 1) 0 ≡ get_or row (first + suc k) 0 = eqb-true (get_or row (first + suc k - 1) 0) (get_or row (first + suc k) 0) test in
-    sym same ∙ (ap (λ i. get_or row i 0) back ∙ same_along row ends first t are none k (omega arith) (omega arith))
-  where
-    not_false : (b : Bool) → not b ≡ false → b ≡ true
-    not_false true e = refl
-    not_false false e = absurd cc
+same_along : (canvas : Canvas) (y : ℕ) (marks : Marks) (p t : ℕ) → AreMarks canvas y marks → p < 64 → ((i : ℕ) → i < t → bit_at marks.ends (p + i) ≡ 0) → (k : ℕ) → k ≤ t → p % 16 + k < 16
+    → canvas (p % 16 + k) (y + p / 16) ≡ canvas (p % 16) (y + p / 16)
+same_along canvas y marks p t are lp none zero le lt = let z : p % 16 + zero ≡ p % 16 = omega arith in ap (λ i. canvas i (y + p / 16)) z
+same_along canvas y marks p t are lp none (suc k) le lt =
+    let x : ℕ = p % 16 in
+    let r : ℕ = p / 16 in
+    let whole = split p in
+    let place : 16 * r + (x + k) ≡ p + k = omega (arith, whole) in
+    let next : x + k + 1 ≡ x + suc k = omega arith in
+    let bit : bit_of (not (canvas (x + k) (y + r) == canvas (x + k + 1) (y + r))) ≡ 0 = sym (are.ends r (x + k) (omega (arith, whole, lp)) (omega (arith, lt))) ∙ (ap (bit_at marks.ends) place ∙ none k (omega (arith, le))) in
+    let same : canvas (x + k) (y + r) ≡ canvas (x + k + 1) (y + r) = eqb-true (canvas (x + k) (y + r)) (canvas (x + k + 1) (y + r)) (not_false (canvas (x + k) (y + r) == canvas (x + k + 1) (y + r)) (bit_false _ bit)) in
+    ap (λ i. canvas i (y + r)) (sym next) ∙ (sym same ∙ same_along canvas y marks p t are lp none k (omega (arith, le)) (omega (arith, lt)))
 
--- It has as many positions as that bit tells.
-pub run_ends : (row : List ℕ) (ends first y : ℕ) → length row ≡ 16 → first < 16 → AreEnds row ends → bit_at ends 16 ≡ 1 → ends / 2 ^ (first + 1) < 2 ^ 64
-    → (trailing_zeros w64 (ends / 2 ^ (first + 1)) + 1 ≡ (run_from (row_shows row) (length row) y first).area.w) × (first + (trailing_zeros w64 (ends / 2 ^ (first + 1)) + 1) ≤ 16)
-run_ends row ends first y size lt are last fits =
-    let n : ℕ = ends / 2 ^ (first + 1) in
+-- It has as many positions as the next bit of its row tells.
+pub run_ends : (canvas : Canvas) (y : ℕ) (marks : Marks) (p : ℕ) → AreMarks canvas y marks → p < 64
+    → (trailing_zeros w64 (marks.ends / 2 ^ p) + 1 ≡ (run_at canvas y p).area.w) × (p % 16 + (trailing_zeros w64 (marks.ends / 2 ^ p) + 1) ≤ 16)
+run_ends canvas y marks p are lp =
+    let x : ℕ = p % 16 in
+    let r : ℕ = p / 16 in
+    let row : ℕ = y + r in
+    let n : ℕ = marks.ends / 2 ^ p in
     let t : ℕ = trailing_zeros w64 n in
-    let there : first + 1 + (15 - first) ≡ 16 = omega arith in
-    let set : bit_at n (15 - first) ≡ 1 = bit_shift ends (first + 1) (15 - first) ∙ (ap (bit_at ends) there ∙ last) in
+    let whole = split p in
+    let low : x < 16 = mod-lt p (omega arith) in
+    let four : r < 4 = omega (arith, whole, lp) in
+    let there : p + (15 - x) ≡ 16 * r + 15 = omega (arith, whole, low) in
+    let set : bit_at n (15 - x) ≡ 1 = bit_shift marks.ends p (15 - x) ∙ (ap (bit_at marks.ends) there ∙ are.last r four) in
+    let fits : n < 2 ^ 64 = let le = div-le_self marks.ends (2 ^ p) in omega (arith, le, are.small) in
     let some : 0 < n = elim (cases_lt 0 n) [
       | inl more ↦ more
       | inr le ↦
-          let none : n ≡ 0 = omega arith in
-          let zero_bit : bit_at n (15 - first) ≡ 0 = ap (λ m. bit_at m (15 - first)) none ∙ bit_at-zero (15 - first) in
+          let none : n ≡ 0 = omega (arith, le) in
+          let zero_bit : bit_at n (15 - x) ≡ 0 = ap (λ m. bit_at m (15 - x)) none ∙ bit_at-zero (15 - x) in
           absurd (omega (arith, set, zero_bit))
     ] in
     let b = bit_at-trailing_zeros w64 n some fits in
-    let none : (i : ℕ) → i < t → bit_at ends (first + 1 + i) ≡ 0 = λ i li. sym (bit_shift ends (first + 1) i) ∙ b.2 i li in
-    let upto : first + (t + 1) ≤ 16 = elim (cases_lt (15 - first) t) [
-      | inl beyond ↦ let zero_bit = b.2 (15 - first) beyond in absurd (omega (arith, set, zero_bit))
-      | inr le ↦ omega (arith, le)
+    let none : (i : ℕ) → i < t → bit_at marks.ends (p + i) ≡ 0 = λ i li. sym (bit_shift marks.ends p i) ∙ b.2 i li in
+    let upto : x + (t + 1) ≤ 16 = elim (cases_lt (15 - x) t) [
+      | inl beyond ↦ let zero_bit = b.2 (15 - x) beyond in absurd (omega (arith, set, zero_bit))
+      | inr le ↦ omega (arith, le, low)
     ] in
-    let w : ℕ = length row in
-    let p : ℕ → Bool = λ k. get_or row k 0 == get_or row first 0 in
-    let len : ℕ = (run_from (row_shows row) w y first).area.w in
-    let within = run_within (row_shows row) w y first (omega (arith, size)) in
+    let q : ℕ → Bool = λ k. canvas k row == canvas x row in
+    let len : ℕ = (run_from canvas 16 row x).area.w in
+    let within = run_within canvas 16 row x low in
     let not_less : (len < t + 1) → ⊥ =
     λ less.
-    let stops : p (first + len) ≡ false = front_stops p first (w - first) (omega (arith, less, upto, size)) in
-    let same : get_or row (first + len) 0 ≡ get_or row first 0 = same_along row ends first t are none len (omega (arith, less)) (omega (arith, less, upto)) in
-    let passes : p (first + len) ≡ true = eq-eqb (get_or row (first + len) 0) (get_or row first 0) same in
+    let stops : q (x + len) ≡ false = front_stops q x (16 - x) (omega (arith, less, upto)) in
+    let same : canvas (x + len) row ≡ canvas x row = same_along canvas y marks p t are lp none len (omega (arith, less)) (omega (arith, less, upto)) in
+    let passes : q (x + len) ≡ true = eq-eqb (canvas (x + len) row) (canvas x row) same in
     let both : true ≡ false = sym passes ∙ stops in
     cc in
     let not_more : (t + 1 < len) → ⊥ =
     λ more.
-    let passes : p (first + (t + 1)) ≡ true = front_passes p first (w - first) (first + (t + 1)) (omega arith) (omega (arith, more)) in
-    let inside : first + (t + 1) < 16 = omega (arith, more, within, size) in
-    let place : first + 1 + t ≡ first + (t + 1) = omega arith in
-    let back : first + (t + 1) - 1 ≡ first + t = omega arith in
-    let ended : bit_at ends (first + (t + 1)) ≡ 1 = ap (bit_at ends) (sym place) ∙ (sym (bit_shift ends (first + 1) t) ∙ b.1) in
-    let differs : not (get_or row (first + (t + 1) - 1) 0 == get_or row (first + (t + 1)) 0) ≡ true = bit_true _ (sym (are (first + (t + 1)) (omega arith) inside) ∙ ended) in
-    let before : get_or row (first + (t + 1) - 1) 0 ≡ get_or row first 0 = ap (λ i. get_or row i 0) back ∙ same_along row ends first t are none t (omega arith) (omega (arith, inside)) in
-    let here : get_or row (first + (t + 1)) 0 ≡ get_or row first 0 = eqb-true (get_or row (first + (t + 1)) 0) (get_or row first 0) passes in
-    let same : (get_or row (first + (t + 1) - 1) 0 == get_or row (first + (t + 1)) 0) ≡ true = eq-eqb (get_or row (first + (t + 1) - 1) 0) (get_or row (first + (t + 1)) 0) (before ∙ sym here) in
-    let both : false ≡ true = sym (ap (λ (q : Bool). not q) same) ∙ differs in
+    let passes : q (x + (t + 1)) ≡ true = front_passes q x (16 - x) (x + (t + 1)) (omega arith) (omega (arith, more)) in
+    let inside : x + t + 1 < 16 = omega (arith, more, within) in
+    let place : 16 * r + (x + t) ≡ p + t = omega (arith, whole) in
+    let next : x + t + 1 ≡ x + (t + 1) = omega arith in
+    let ended : bit_at marks.ends (16 * r + (x + t)) ≡ 1 = ap (bit_at marks.ends) place ∙ (sym (bit_shift marks.ends p t) ∙ b.1) in
+    let differs : not (canvas (x + t) row == canvas (x + t + 1) row) ≡ true = bit_true _ (sym (are.ends r (x + t) four inside) ∙ ended) in
+    let here : canvas (x + t) row ≡ canvas x row = same_along canvas y marks p t are lp none t (omega arith) (omega (arith, inside)) in
+    let behind : canvas (x + t + 1) row ≡ canvas x row = ap (λ i. canvas i row) next ∙ eqb-true (canvas (x + (t + 1)) row) (canvas x row) passes in
+    let same : (canvas (x + t) row == canvas (x + t + 1) row) ≡ true = eq-eqb (canvas (x + t) row) (canvas (x + t + 1) row) (here ∙ sym behind) in
+    let both : false ≡ true = sym (ap (λ (c : Bool). not c) same) ∙ differs in
     cc in (
       elim (cases_lt len (t + 1)) [
         | inl less ↦ absurd (not_less less)
@@ -204,25 +221,65 @@ run_ends row ends first y size lt are last fits =
       upto,
     )
 
-pub none_so_far : (before : List Run) (row : List ℕ) (background y : ℕ) → AreSoFar before before row background y 0
-none_so_far before row background y =
-    let all : length row - 0 ≡ length row = omega arith in
-    ap (λ n. map subrect_of before ++ map (run_from (row_shows row) (length row) y) (filter (begins_run (row_shows row) background y) (range_with_len 0 n))) all
-
 subrect_same : (canvas : Canvas) (w y x v len : ℕ) → v ≡ canvas x y → len ≡ (run_from canvas w y x).area.w → subrect_of (record { value = v; x = x; y = y; len = len }) ≡ run_from canvas w y x
 subrect_same canvas w y x v len a b = rw (a, b) refl
 
 -- It is added.
-pub run_marked : (before now : List Run) (row : List ℕ) (background y x first len : ℕ) → length row ≡ 16 → IsNextBegin row background x first → len ≡ (run_from (row_shows row) (length row) y first).area.w
-    → AreSoFar before now row background y x → AreSoFar before (now ++ record { value = get_or row first 0; x = first; y = y; len = len } ∷ []) row background y (first + 1)
-run_marked before now row background y x first len size n long so =
-    let c : Canvas = row_shows row in
-    let w : ℕ = length row in
-    let run : Run = record { value = get_or row first 0; x = first; y = y; len = len } in
-    let same : subrect_of run ≡ run_from c w y first = subrect_same c w y first (get_or row first 0) len refl long in
-    ap (λ t. t ++ runs_behind c background w y (first + 1)) (map-append subrect_of now (run ∷ []))
-    ∙ (append_assoc (map subrect_of now) (subrect_of run ∷ []) (runs_behind c background w y (first + 1))
-    ∙ (ap (λ s. map subrect_of now ++ s ∷ runs_behind c background w y (first + 1)) same ∙ (ap (λ t. map subrect_of now ++ t) (sym (next_run row background y x first size n)) ∙ so)))
+pub run_marked : (before now : List Run) (canvas : Canvas) (y p first value len : ℕ) → IsNextBegin canvas y p first → value ≡ canvas (first % 16) (y + first / 16) → len ≡ (run_at canvas y first).area.w
+    → AreSoFar before now canvas y p → AreSoFar before (now ++ record { value = value; x = first % 16; y = y + first / 16; len = len } ∷ []) canvas y (first + 1)
+run_marked before now canvas y p first value len n is long so =
+    let run : Run = record { value = value; x = first % 16; y = y + first / 16; len = len } in
+    let same : subrect_of run ≡ run_at canvas y first = subrect_same canvas 16 (y + first / 16) (first % 16) value len is long in
+    ap (λ t. t ++ runs_behind canvas y (first + 1)) (map-append subrect_of now (run ∷ []))
+    ∙ (append_assoc (map subrect_of now) (subrect_of run ∷ []) (runs_behind canvas y (first + 1))
+    ∙ (ap (λ s. map subrect_of now ++ s ∷ runs_behind canvas y (first + 1)) same ∙ (ap (λ t. map subrect_of now ++ t) (sym (next_run canvas y p first n)) ∙ so)))
 
-pub shifted_fits : (n x : ℕ) → n < 2 ^ 64 → n / 2 ^ x < 2 ^ 64
-shifted_fits n x lt = let le = div-le_self n (2 ^ x) in omega (arith, le, lt)
+-- ---- the positions of four rows, row after row
+
+pub range_split : (a n m : ℕ) → range_with_len a (n + m) ≡ range_with_len a n ++ range_with_len (a + n) m
+range_split a zero m = let s : 0 + m ≡ m = omega arith in let t : a + 0 ≡ a = omega arith in rw (s, t) refl
+range_split a (suc n) m =
+    let s : suc n + m ≡ suc (n + m) = omega arith in
+    let t : a + suc n ≡ a + 1 + n = omega arith in
+    rw (s, t) (ap (λ l. a ∷ l) (range_split (a + 1) n m))
+
+module _ (canvas : Canvas) (y : ℕ) where
+  -- Those of row r, from column x on.
+  row_positions : (r x n : ℕ) → x + n ≤ 16 → map (run_at canvas y) (filter (begins_at canvas y) (range_with_len (r * 16 + x) n)) ≡ map (run_from canvas 16 (y + r)) (filter (begins_run canvas (canvas 0 0) (y + r)) (range_with_len x n))
+  row_positions r x zero le = refl
+  row_positions r x (suc n) le =
+      let row : (r * 16 + x) / 16 ≡ r = div-mul-add r 16 x (omega (arith, le)) in
+      let column : (r * 16 + x) % 16 ≡ x = mod-mul-add r 16 x (omega (arith, le)) in
+      let next : r * 16 + x + 1 ≡ r * 16 + (x + 1) = omega arith in
+      let others : map (run_at canvas y) (filter (begins_at canvas y) (range_with_len (r * 16 + x + 1) n)) ≡ map (run_from canvas 16 (y + r)) (filter (begins_run canvas (canvas 0 0) (y + r)) (range_with_len (x + 1) n)) =
+      ap (λ i. map (run_at canvas y) (filter (begins_at canvas y) (range_with_len i n))) next ∙ row_positions r (x + 1) n (omega (arith, le)) in
+      by_head (begins_at canvas y (r * 16 + x)) (begins_run canvas (canvas 0 0) (y + r) x) (r * 16 + x) x (filter (begins_at canvas y) (range_with_len (r * 16 + x + 1) n)) (filter (begins_run canvas (canvas 0 0) (y + r)) (range_with_len (x + 1) n)) (rw (row, column) refl)
+      (rw (row, column) refl) others
+    where
+      by_head : (b c : Bool) (i j : ℕ) (is js : List ℕ) → b ≡ c → run_at canvas y i ≡ run_from canvas 16 (y + r) j → map (run_at canvas y) is ≡ map (run_from canvas 16 (y + r)) js
+          → map (run_at canvas y) (cond b (i ∷ is) is) ≡ map (run_from canvas 16 (y + r)) (cond c (j ∷ js) js)
+      by_head true true i j is js e s o = rw (s, o) refl
+      by_head false false i j is js e s o = o
+      by_head true false i j is js e s o = absurd cc
+      by_head false true i j is js e s o = absurd cc
+
+  rows_positions : (n r : ℕ) → map (run_at canvas y) (filter (begins_at canvas y) (range_with_len (r * 16) (n * 16))) ≡ runs_of_rows canvas 16 (y + r) n
+  rows_positions zero r = refl
+  rows_positions (suc n) r =
+      let f : ℕ → Subrect = run_at canvas y in
+      let p : ℕ → Bool = begins_at canvas y in
+      let count : suc n * 16 ≡ 16 + n * 16 = omega arith in
+      let start : r * 16 ≡ r * 16 + 0 = omega arith in
+      let next : r * 16 + 16 ≡ (r + 1) * 16 = omega arith in
+      let below : y + (r + 1) ≡ y + r + 1 = omega arith in
+      ap (λ m. map f (filter p (range_with_len (r * 16) m))) count
+      ∙ (ap (λ l. map f (filter p l)) (range_split (r * 16) 16 (n * 16))
+      ∙ (ap (map f) (filter-append p (range_with_len (r * 16) 16) (range_with_len (r * 16 + 16) (n * 16)))
+      ∙ (map-append f (filter p (range_with_len (r * 16) 16)) (filter p (range_with_len (r * 16 + 16) (n * 16)))
+      ∙ (ap (λ i. map f (filter p (range_with_len i 16)) ++ map f (filter p (range_with_len (r * 16 + 16) (n * 16)))) start
+      ∙ (ap (λ l. l ++ map f (filter p (range_with_len (r * 16 + 16) (n * 16)))) (row_positions r 0 16 (omega arith))
+      ∙ (ap (λ i. runs_of_row canvas (canvas 0 0) 16 (y + r) ++ map f (filter p (range_with_len i (n * 16)))) next
+      ∙ (ap (λ l. runs_of_row canvas (canvas 0 0) 16 (y + r) ++ l) (rows_positions n (r + 1)) ∙ ap (λ i. runs_of_row canvas (canvas 0 0) 16 (y + r) ++ runs_of_rows canvas 16 i n) below)))))))
+
+  pub all_behind : runs_behind canvas y 0 ≡ runs_of_rows canvas 16 y 4
+  all_behind = let here : y + 0 ≡ y = omega arith in rows_positions 4 0 ∙ ap (λ i. runs_of_rows canvas 16 i 4) here

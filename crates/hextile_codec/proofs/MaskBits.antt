@@ -1,4 +1,4 @@
--- Bits of a mask of tests.
+-- Bits of a mask of tests. `mark_row` compares a row's values by such a mask.
 use Rattle.std.proofs.Common.{◌≡◌, ℕ, zero, suc, Bool, true, false, not, cond, min, max, ◌&&◌, ◌||◌, List, ◌∷◌, ◌++◌, length, get_or, eqb, refl, sym, ap, ◌∙◌, ◌+◌, ◌-◌, ◌<◌, arith}
 use Rattle.std.specs.Int.{bit_at}
 use Rattle.std.specs.List.{range_with_len}

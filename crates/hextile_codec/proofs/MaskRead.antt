@@ -1,8 +1,8 @@
--- A mask is read.
+-- A mask is read. `draw_mask` finds the faults of missing colours there.
 use Rattle.std.proofs.Common.{◌≡◌, ℕ, suc, [], ◌∷◌, refl, ap, arith}
 use Rattle.pixel_format.specs.PixelFormat.{PixelFormat}
-use Rattle.pixel_format.specs.Reading.{step}
-use Rattle.pixel_format.proofs.ReadingLaws.{taken-nil}
+use Rattle.byte_reading.specs.Reading.{step}
+use Rattle.byte_reading.proofs.ReadingLaws.{taken-nil}
 use Rattle.raster.specs.declared.rect.Rect.{Rect}
 use Rattle.raster.specs.Screen.{Canvas}
 use Rattle.raster.specs.Encoding.{Carried, tile}

@@ -1,9 +1,9 @@
--- Bytes that are wanted.
+-- Bytes that are wanted. A step waits until they have come, and no longer.
 use Rattle.std.proofs.Common.{◌≡◌, ℕ, zero, suc, ◌+◌, ◌-◌, ◌*◌, ◌<◌, ◌≤◌, Bool, true, false, cond, List, ◌∷◌, length, Option, arith}
 use Rattle.std.specs.Prelude.{if◌then◌else◌, ◌==◌, unwrap_or}
 use Rattle.std.specs.Int.{w8, w16, w32, byte_len}
 use Rattle.pixel_format.specs.PixelFormat.{PixelFormat, pixel_len}
-use Rattle.pixel_format.specs.Reading.{Reading, Done, ◌>>=◌, byte, times, after, taken, wants_more}
+use Rattle.byte_reading.specs.Reading.{Reading, Done, ◌>>=◌, byte, times, after, taken, wants_more}
 use Rattle.raster.specs.declared.rect.Rect.{Rect}
 use Rattle.raster.specs.Screen.{tile_count, tile_rect}
 use Rattle.raster.specs.Encoding.{Carried, Tile, Drawn, has_bit, pixel, specified, subrect_value, hextile_subrect, drawn_tile}

@@ -1,15 +1,16 @@
--- Pixel values in bytes, one after another.
+-- Pixel values in bytes, one after another. Pixels of a Raw tile come and are written so.
 use Rattle.std.proofs.Common.{◌≡◌, ℕ, zero, suc, ◌+◌, ◌-◌, ◌*◌, ◌<◌, ◌≤◌, List, [], ◌∷◌, ◌++◌, length, take, drop, refl, sym, ap, ◌∙◌, append_assoc, arith}
 use Rattle.std.specs.Prelude.{slice_set, map}
 use Rattle.std.specs.Int.{w32, from_le_bytes}
 use Rattle.std.specs.Simd.{first_chunks}
 use Rattle.std.proofs.lemmas.List.{append-nil, take_all, take_more_set, length-take, length-drop, length-set}
 use Rattle.pixel_format.specs.PixelFormat.{PixelFormat, pixel_len, pixel_of}
-use Rattle.pixel_format.specs.Reading.{Reading, Done, ◌>>=◌, times}
+use Rattle.byte_reading.specs.Reading.{Reading, Done, ◌>>=◌, times}
 use Rattle.raster.specs.Encoding.{Carried, Tile, Pixels, pixel}
 use Rattle.raster.proofs.FixedLength.{pixel_says}
 use Rattle.hextile_codec.specs.declared.stage.Stage.TheVariants.{RawPixels}
-use Rattle.hextile_codec.specs.Ahead.{Part, Goes, tile_rest, pixels_in}
+use Rattle.raster.specs.Reader.{Goes}
+use Rattle.hextile_codec.specs.Ahead.{Part, tile_rest, pixels_in}
 use Rattle.hextile_codec.proofs.Goes.{goes_none, goes_split, goes_times}
 
 pixels_cons : (format : PixelFormat) (n : ℕ) (bs : List ℕ) → 0 < n → pixels_in format n bs ≡ pixel_of format (take (pixel_len format) bs) ∷ pixels_in format (n - 1) (drop (pixel_len format) bs)
@@ -63,7 +64,7 @@ more_goes format carried (suc n) left before bs e =
     (one_goes format carried (n + left) before (take p bs) (omega (arith, length-take p bs, e, sizes)))
     (rw joined at (more_goes format carried n left (before ++ v ∷ []) (drop p bs) (omega (arith, length-drop p bs, e, sizes)))))
 
--- So many pixels behind those that have come.
+-- This many pixels after those that have come.
 pub pixels_go : (format : PixelFormat) (carried : Carried) (w h come n : ℕ) (part : Part) (bs : List ℕ) → come + n ≤ w * h → length bs ≡ n * pixel_len format
     → Goes (tile_rest format w h carried (RawPixels come) part) bs (tile_rest format w h carried (RawPixels (come + n)) (record { pixels = part.pixels ++ pixels_in format n bs; drawing = part.drawing }))
 pixels_go format carried w h come n part bs le e =

@@ -1,4 +1,4 @@
--- A tile's pixels, row after row.
+-- A tile's pixels, row after row. `put_raw` writes a tile row by row, and owes its pixels as one list.
 use Rattle.std.proofs.Common.{◌≡◌, ℕ, List, ◌++◌, ◌∷◌, length, take, drop, sym, ap, ◌∙◌, ◌+◌, ◌*◌, ◌<◌, ◌≤◌, append_assoc, arith}
 use Rattle.std.proofs.Math.Seq.{take-add}
 use Rattle.std.proofs.Math.Nat.{mul-le-mul_right}

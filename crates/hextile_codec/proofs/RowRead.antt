@@ -1,4 +1,4 @@
--- A part of a row of a Raw tile is read and drawn.
+-- A part of a row of a Raw tile is read and drawn. A piece may end in the middle of such a row.
 use Rattle.std.proofs.Common.{◌≡◌, ℕ, ◌+◌, ◌-◌, ◌*◌, ◌/◌, ◌%◌, ◌<◌, ◌≤◌, Bool, true, false, cond, List, ◌++◌, length, length-append, sym, ◌∙◌, arith}
 use Rattle.std.specs.Prelude.{◌==◌, min}
 use Rattle.std.specs.Int.{w8, w16, w32, byte_len}

@@ -1,4 +1,4 @@
--- The runs of a tile's row, found in the row's own values.
+-- The runs of a tile's row, found in the row's own values. `add_row` finds them so, and owes those of the definition.
 use Rattle.std.proofs.Common.{◌≡◌, ℕ, zero, suc, Bool, true, false, cond, List, [], ◌∷◌, ◌++◌, length, map, take, drop, get_or, refl, sym, ap, ◌∙◌, ◌+◌, ◌-◌, ◌<◌, ◌≤◌, append_assoc, arith}
 use Rattle.std.specs.Prelude.{filter, ◌==◌, take_while}
 use Rattle.std.specs.List.{list_all, range_with_len}
@@ -23,7 +23,7 @@ run_at row y x lx =
 
 -- ---- runs added one after another
 
--- With the runs behind x those so far are all.
+-- With the runs after x those so far are all.
 abbrev pub AreSoFar : List Run → List Run → List ℕ → ℕ → ℕ → ℕ → Type 0
 AreSoFar before now row background y x =
     map subrect_of now ++ runs_behind (row_shows row) background (length row) y x ≡ map subrect_of before ++ runs_of_row (row_shows row) background (length row) y

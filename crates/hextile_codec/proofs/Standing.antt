@@ -1,10 +1,12 @@
--- Where a reader stands, and what that says of its way of reading.
+-- Where a reader stands, and what that says of its way of reading. `Reader::feed` and `whole` say it of the bytes so
+-- far.
 use Rattle.std.proofs.Common.{◌≡◌, ℕ, ◌<◌, ◌≤◌, Bool, true, false, List, length, Some, None, is_some, refl, sym, ap, ◌∙◌, inl, inr, arith}
 use Rattle.std.specs.Prelude.{◌⊎◌, ◌==◌, nat_lt, not, ◌&&◌}
 use Rattle.std.proofs.lemmas.Bool.{cases_lt, ne_eqb, eq-eqb, lt-ltb}
+use Rattle.std.proofs.lemmas.Bool.Decides.{nat_tests}
 use Rattle.pixel_format.specs.PixelFormat.{PixelFormat}
-use Rattle.pixel_format.specs.Reading.{Reading, Done, Faulty, after, wants_more, whole_of, fault_of}
-use Rattle.pixel_format.proofs.ReadingLaws.{after-done, after-faulty, done_is, wants_no_fault, wants_not_whole}
+use Rattle.byte_reading.specs.Reading.{Reading, Done, Faulty, after, wants_more, whole_of, fault_of}
+use Rattle.byte_reading.proofs.ReadingLaws.{after-done, after-faulty, done_is, wants_no_fault, wants_not_whole}
 use Rattle.raster.specs.declared.rect.Rect.{Rect}
 use Rattle.raster.specs.Screen.{Canvas, LooksLike, tile_count, tile_rect, kept}
 use Rattle.raster.specs.Encoding.{Carried, Tile, tiled}
@@ -16,6 +18,14 @@ use Rattle.hextile_codec.specs.Ahead.{Sofar, IsPlace, IsReady, fault_for, is_fai
 use Rattle.hextile_codec.proofs.Behind.{in_tile, behind_all}
 use Rattle.hextile_codec.proofs.Needed.{form_needs, begun_wants}
 use Rattle.hextile_codec.proofs.TilesShown.{ShowsBefore, all_shown}
+
+pub wanting_lt : (k n : ℕ) (b : Bool) → (nat_lt k n && b) ≡ true → k < n
+wanting_lt k n b e = grind (arith, nat_tests)
+
+pub wanting_fine : (a b : Bool) → (a && not b) ≡ true → b ≡ false
+wanting_fine true false e = refl
+wanting_fine true true e = absurd cc
+wanting_fine false b e = absurd cc
 
 pub either : (b : Bool) → (b ≡ true) ⊎ (b ≡ false)
 either true = inl refl
@@ -44,7 +54,7 @@ failed_stops format w h k (Failed flaw) carried sofar begun lt e =
     let f = at_fault format w h k flaw carried sofar begun lt in
     (ap (λ (r : Reading (List Tile)). wants_more r) f, ap (λ (r : Reading (List Tile)). is_some (whole_of r)) f)
 
--- Behind the last tile.
+-- After the last tile.
 over_there : (format : PixelFormat) (w h tiles k : ℕ) (area : Rect) (stage : Stage) (filled : ℕ) (carried : Carried) (sofar : Sofar) (begun : List ℕ) → IsPlace format w h tiles k area stage filled → tiles ≤ k
     → after (next_form format w h k carried stage sofar) begun ≡ Done sofar.tiles
 over_there format w h tiles k area stage filled carried sofar begun p le =
@@ -59,7 +69,7 @@ open_not_whole format w h tiles k area stage filled carried sofar begun p len lt
       (begun_wants (needed format stage) (next_form format w h k carried stage sofar) begun (needs_there format w h tiles k area stage filled carried sofar p lt fine) (omega (arith, p.room, len)))
 ]
 
--- It is whole behind the last tile.
+-- It is whole after the last tile.
 pub whole_there : (format : PixelFormat) (w h tiles k : ℕ) (area : Rect) (stage : Stage) (filled : ℕ) (carried : Carried) (sofar : Sofar) (begun : List ℕ) → IsPlace format w h tiles k area stage filled → length begun ≤ filled
     → (k == tiles) ≡ is_some (whole_of (after (next_form format w h k carried stage sofar) begun))
 whole_there format w h tiles k area stage filled carried sofar begun p len = elim (cases_lt k tiles) [
@@ -110,6 +120,23 @@ closed_there format w h k stage carried sofar begun e = elim (cases_lt k (tile_c
   ]
   | inr le ↦ ap (λ (r : Reading (List Tile)). wants_more r) (ap (λ (r : Reading (List Tile)). after r begun) (behind_all format w h k carried stage sofar le) ∙ after-done sofar.tiles begun)
 ]
+
+-- So it wants a byte before the end of the last tile where no fault was met, and nowhere else.
+pub open_there : (format : PixelFormat) (w h tiles k : ℕ) (area : Rect) (stage : Stage) (filled : ℕ) (carried : Carried) (sofar : Sofar) (begun : List ℕ) → IsPlace format w h tiles k area stage filled → length begun ≤ filled
+    → (nat_lt k (tile_count w h) && not (is_failed stage)) ≡ wants_more (after (next_form format w h k carried stage sofar) begun)
+open_there format w h tiles k area stage filled carried sofar begun p len = elim (either (nat_lt k (tile_count w h) && not (is_failed stage))) [
+  | inl open_ ↦
+      let lt : k < tiles = omega (arith, wanting_lt k (tile_count w h) (not (is_failed stage)) open_, p.count) in
+      let fine : is_failed stage ≡ false = wanting_fine (nat_lt k (tile_count w h)) (is_failed stage) open_ in
+      open_ ∙ sym (begun_wants (needed format stage) (next_form format w h k carried stage sofar) begun (needs_there format w h tiles k area stage filled carried sofar p lt fine) (omega (arith, p.room, len)))
+  | inr closed ↦ closed ∙ sym (closed_there format w h k stage carried sofar begun closed)
+]
+
+-- In front of the last tile's end that is so where no fault was met.
+pub open_before : (format : PixelFormat) (w h tiles k : ℕ) (area : Rect) (stage : Stage) (filled : ℕ) (carried : Carried) (sofar : Sofar) (begun : List ℕ) → IsPlace format w h tiles k area stage filled → length begun ≤ filled → k < tiles
+    → not (is_failed stage) ≡ wants_more (after (next_form format w h k carried stage sofar) begun)
+open_before format w h tiles k area stage filled carried sofar begun p len lt =
+    sym (ap (λ b. b && not (is_failed stage)) (lt-ltb k (tile_count w h) (omega (arith, lt, p.count)))) ∙ open_there format w h tiles k area stage filled carried sofar begun p len
 
 pub fine_else : (stage : Stage) → ((flaw : Flaw) → stage ≡ Failed flaw → ⊥) → is_failed stage ≡ false
 fine_else Mask f = refl

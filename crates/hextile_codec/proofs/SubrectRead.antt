@@ -1,9 +1,9 @@
--- A subrectangle is read.
+-- A subrectangle is read. `draw_subrects` draws it, or finds that it leaves the tile.
 use Rattle.std.proofs.Common.{◌≡◌, ℕ, zero, suc, ◌+◌, ◌-◌, ◌<◌, Bool, true, false, not, List, [], ◌∷◌, ◌++◌, length, take, drop, refl, ap, arith}
 use Rattle.std.specs.Prelude.{slice_index, unwrap_or}
 use Rattle.std.proofs.lemmas.List.{length-take, length-drop}
 use Rattle.pixel_format.specs.PixelFormat.{PixelFormat, pixel_len}
-use Rattle.pixel_format.specs.Reading.{Reading, Done, Faulty, ◌>>=◌, byte, times, unless, Spells}
+use Rattle.byte_reading.specs.Reading.{Reading, Done, Faulty, ◌>>=◌, byte, times, unless, Spells}
 use Rattle.pixel_format.specs.declared.fault.Fault.TheVariants.{SubrectOutside}
 use Rattle.raster.specs.declared.rect.Rect.{Rect}
 use Rattle.raster.specs.Screen.{Canvas, LooksLike, is_within, fill, part_of}
@@ -13,7 +13,8 @@ use Rattle.raster.proofs.FixedLength.{pixel_says}
 use Rattle.raster.proofs.RreLaws.{with_subrect}
 use Rattle.hextile_codec.specs.declared.stage.Flaw.TheVariants as flaw
 use Rattle.hextile_codec.specs.declared.stage.Stage.TheVariants.{Subrects, Failed}
-use Rattle.hextile_codec.specs.Ahead.{Part, Goes, Led, IsDrawn, tile_rest, colour_in, colour_len, place_in}
+use Rattle.raster.specs.Reader.{Goes}
+use Rattle.hextile_codec.specs.Ahead.{Part, Led, IsDrawn, tile_rest, colour_in, colour_len, place_in}
 use Rattle.hextile_codec.proofs.Goes.{goes_none, goes_split, goes_bind, goes_under, goes_times, goes_to}
 use Rattle.hextile_codec.proofs.TileDrawn.{subrect_drawn}
 

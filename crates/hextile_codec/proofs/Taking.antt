@@ -1,17 +1,16 @@
--- A reader that takes bytes of a tile.
-use Rattle.std.proofs.Common.{◌≡◌, ℕ, ◌+◌, ◌*◌, ◌<◌, ◌≤◌, Bool, true, false, not, List, [], ◌∷◌, ◌++◌, length, length-append, take, refl, sym, ap, ◌∙◌, inl, inr, arith}
-use Rattle.std.specs.Prelude.{◌&&◌, nat_lt}
+-- A reader that takes bytes of a tile. `Reader::feed` says of its steps together what each says of its bytes.
+use Rattle.std.proofs.Common.{◌≡◌, ℕ, ◌+◌, ◌*◌, ◌<◌, ◌≤◌, true, false, List, [], ◌∷◌, ◌++◌, length, length-append, take, refl, sym, ap, ◌∙◌, inl, inr, arith}
 use Rattle.std.proofs.lemmas.Bool.{cases_lt, eq-eqb}
-use Rattle.std.proofs.lemmas.Bool.Decides.{nat_tests}
 use Rattle.std.proofs.lemmas.List.{take_all}
 use Rattle.pixel_format.specs.PixelFormat.{PixelFormat}
-use Rattle.pixel_format.specs.Reading.{Reading, after, ◌>>=◌}
+use Rattle.byte_reading.specs.Reading.{Reading, after, ◌>>=◌}
 use Rattle.raster.specs.declared.rect.Rect.{Rect}
 use Rattle.raster.specs.Screen.{Canvas, tile_count, tile_rect}
 use Rattle.raster.specs.Encoding.{Carried, Tile}
 use Rattle.hextile_codec.specs.declared.stage.Stage.{Stage}
 use Rattle.hextile_codec.specs.declared.stage.Stage.TheVariants.{Mask, RawPixels, Head, Subrects, Failed}
-use Rattle.hextile_codec.specs.Ahead.{Progress, Part, Sofar, blank, ahead, next_form, tile_rest, others_behind, Goes, Led, Leads, Keeps, Stands, Steps, IsLater, IsReady, IsPlace, is_whole, needed}
+use Rattle.raster.specs.Reader.{Goes, Steps}
+use Rattle.hextile_codec.specs.Ahead.{Progress, Part, Sofar, blank, ahead, next_form, tile_rest, others_behind, Led, Leads, Keeps, Stands, IsLater, IsReady, IsPlace, is_whole, needed}
 use Rattle.hextile_codec.proofs.Goes.{goes_to, goes_under, goes_behind}
 use Rattle.hextile_codec.proofs.Behind.{in_tile, next_tile, whole_tile}
 use Rattle.hextile_codec.proofs.RowRead.{pixel_some}
@@ -26,7 +25,7 @@ nothing_begun form begun e = ap (after form) e
 -- It stays in its tile.
 pub stays_in_tile : (keep : ℕ → ℕ) → (format : PixelFormat) (w h k : ℕ) (area : Rect) (carried later : Carried) (stage next : Stage) (begun bytes : List ℕ) (old new : Canvas) (sofar : Sofar) → k < tile_count w h → area ≡ tile_rect w h k → begun ≡ []
     → Keeps area w h old new → ((part : Part) → Leads keep format area carried later stage next bytes old new part)
-    → Stands keep (at_tile format w h k carried stage begun) old sofar → Steps keep (at_tile format w h k carried stage begun) (at_tile format w h k later next begun) new bytes sofar
+    → Stands keep (at_tile format w h k carried stage begun) old sofar → Steps ahead (Stands keep) (at_tile format w h k carried stage begun) (at_tile format w h k later next begun) new bytes sofar
 stays_in_tile keep format w h k area carried later stage next begun bytes old new sofar lt is none keeps leads stands =
     let here : Rect = tile_rect w h k in
     let led : Led keep format here carried later stage next bytes new sofar.part = (rw is at leads) sofar.part stands.part in
@@ -46,7 +45,7 @@ stays_in_tile keep format w h k area carried later stage next begun bytes old ne
 -- Its tile is whole, and it goes on to the next.
 pub leaves_tile : (keep : ℕ → ℕ) → (format : PixelFormat) (w h k : ℕ) (area : Rect) (carried later : Carried) (stage next : Stage) (begun bytes : List ℕ) (old new : Canvas) (sofar : Sofar) → k < tile_count w h → area ≡ tile_rect w h k → begun ≡ []
     → Keeps area w h old new → ((part : Part) → Leads keep format area carried later stage next bytes old new part) → is_whole area.w area.h next ≡ true
-    → Stands keep (at_tile format w h k carried stage begun) old sofar → Steps keep (at_tile format w h k carried stage begun) (at_tile format w h (k + 1) later Mask begun) new bytes sofar
+    → Stands keep (at_tile format w h k carried stage begun) old sofar → Steps ahead (Stands keep) (at_tile format w h k carried stage begun) (at_tile format w h (k + 1) later Mask begun) new bytes sofar
 leaves_tile keep format w h k area carried later stage next begun bytes old new sofar lt is none keeps leads whole stands =
     let here : Rect = tile_rect w h k in
     let led : Led keep format here carried later stage next bytes new sofar.part = (rw is at leads) sofar.part stands.part in
@@ -70,14 +69,6 @@ leaves_tile keep format w h k area carried later stage next begun bytes old new 
     }
 
 -- ---- where it stands then
-
-pub wanting_lt : (k n : ℕ) (b : Bool) → (nat_lt k n && b) ≡ true → k < n
-wanting_lt k n b e = grind (arith, nat_tests)
-
-pub wanting_fine : (a b : Bool) → (a && not b) ≡ true → b ≡ false
-wanting_fine true false e = refl
-wanting_fine true true e = absurd cc
-wanting_fine false b e = absurd cc
 
 later_ready : (format : PixelFormat) (area : Rect) (next : Stage) → IsLater format area next → is_whole area.w area.h next ≡ false → IsReady format area next
 later_ready format area Mask l e = tt
@@ -112,7 +103,7 @@ place_moves format w h tiles k area there stage p lt is =
 
 -- The bytes that were wanted have come in two parts, of which the first was kept.
 pub kept_first : (keep : ℕ → ℕ) → (format : PixelFormat) (w h k : ℕ) (carried : Carried) (stage : Stage) (begun more field : List ℕ) (used : ℕ) (new : Progress) (canvas : Canvas) (sofar : Sofar) → field ≡ begun ++ more → length field ≤ used
-    → Steps keep (at_tile format w h k carried stage []) new canvas (take used field) sofar → Steps keep (at_tile format w h k carried stage begun) new canvas more sofar
+    → Steps ahead (Stands keep) (at_tile format w h k carried stage []) new canvas (take used field) sofar → Steps ahead (Stands keep) (at_tile format w h k carried stage begun) new canvas more sofar
 kept_first keep format w h k carried stage begun more field used new canvas sofar joined le s =
     let all : take used field ≡ begun ++ more = take_all used field le ∙ joined in
     record {

@@ -1,4 +1,4 @@
--- What is drawn in one tile.
+-- What is drawn in one tile. The canvas shows it on top of the tiles before.
 use Rattle.std.proofs.Common.{◌≡◌, ℕ, ◌+◌, ◌-◌, ◌*◌, ◌<◌, ◌≤◌, Bool, true, false, List, [], ◌∷◌, ◌++◌, length, get_or, refl, sym, ap, ◌∙◌, inl, inr, arith}
 use Rattle.std.specs.Prelude.{◌⊎◌, if◌then◌else◌}
 use Rattle.std.proofs.lemmas.Bool.{cases_lt}
@@ -53,7 +53,7 @@ pub lay_keeps : (area r : Rect) (over : Canvas) (w h : ℕ) (old new : Canvas) �
 lay_keeps area r over w h old new i shows x y lx ly e =
     shows x y lx ly ∙ ap (λ (b : Bool). if b then over (x - (area.x + r.x)) (y - (area.y + r.y)) else old x y) (outside area r x y i e)
 
--- A part of a row behind the pixels that have come.
+-- A part of a row after the pixels that have come.
 pub row_grows : (keep : ℕ → ℕ) → (area : Rect) (w h row column n : ℕ) (before more : List ℕ) (old new : Canvas) → IsTile area w h → column + n ≤ area.w → row < area.h → length before ≡ row * area.w + column → length more ≡ n
     → LooksLike w h new (lay (record { x = area.x + column; y = area.y + row; w = n; h = 1 }) (kept keep (value_at n more)) old)
     → ((x y : ℕ) → x < area.w → y < area.h → y * area.w + x < row * area.w + column → part_of area old x y ≡ keep (value_at area.w before x y))

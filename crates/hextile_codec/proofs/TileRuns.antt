@@ -1,16 +1,18 @@
--- The runs of a tile, found row after row.
-use Rattle.std.proofs.Common.{◌≡◌, ℕ, suc, false, ◌&&◌, List, [], ◌∷◌, ◌++◌, length, map, refl, sym, ap, ◌∙◌, ◌+◌, ◌-◌, ◌*◌, ◌<◌, ◌≤◌, append_assoc, length-append, arith}
+-- The runs of a tile, found row after row. `find_runs` owes those of the definition, or that they are many.
+use Rattle.std.proofs.Common.{◌≡◌, ℕ, suc, false, ◌&&◌, List, [], ◌∷◌, ◌++◌, length, map, get_or, refl, sym, ap, ◌∙◌, ◌+◌, ◌-◌, ◌<◌, ◌≤◌, append_assoc, length-append, arith}
 use Rattle.std.specs.Prelude.{◌==◌}
 use Rattle.std.specs.List.{flat_map, range_with_len, list_all}
 use Rattle.std.proofs.lemmas.List.{append-nil, length-map}
+use Rattle.std.proofs.lemmas.Grind.{flat_map-append}
 use Rattle.std.proofs.lemmas.List.Folds.{list_all-append}
-use Rattle.raster.specs.declared.rect.Rect.{Rect}
-use Rattle.raster.specs.Screen.{Canvas, value_at, part_of}
+use Rattle.raster.specs.Screen.{Canvas}
 use Rattle.raster.specs.Encoding.{Subrect, runs, runs_of_row}
 use Rattle.hextile_codec.specs.declared.runs.Run.{Run}
 use Rattle.hextile_codec.specs.Kinds.{subrect_of, has_one_value}
 use Rattle.raster.specs.RowShown.{row_shows}
-use Rattle.raster.proofs.AreaRows.{row_same, tile_row, tile_row_len, tile_row_at}
+use Rattle.hextile_codec.specs.Marks.{runs_of_rows}
+use Rattle.raster.proofs.AreaRows.{row_same}
+use Rattle.hextile_codec.proofs.MarkedRuns.{range_split}
 
 -- ---- row after row
 
@@ -28,22 +30,30 @@ all_above canvas w h y found le a =
     let over : runs_from canvas w h y ≡ [] = rw none refl in
     sym (append-nil (map subrect_of found)) ∙ (ap (λ t. map subrect_of found ++ t) (sym over) ∙ a.all)
 
-pub row_above : (values : List ℕ) (w : ℕ) (tile : Rect) (y background : ℕ) (found now : List Run) → tile.x + tile.w ≤ w → (tile.y + tile.h) * w ≤ length values → y < tile.h
-    → background ≡ part_of tile (value_at w values) 0 0
-    → map subrect_of now ≡ map subrect_of found ++ runs_of_row (row_shows (tile_row values w tile y)) background (length (tile_row values w tile y)) y
-    → AreAbove (part_of tile (value_at w values)) tile.w tile.h y found → AreAbove (part_of tile (value_at w values)) tile.w tile.h (y + 1) now
-row_above values w tile y background found now across down lt first added a =
-    let canvas : Canvas = part_of tile (value_at w values) in
-    let row : List ℕ = tile_row values w tile y in
-    let size : length row ≡ tile.w = tile_row_len values w tile y across down lt in
-    let same : runs_of_row (row_shows row) background (length row) y ≡ runs_of_row canvas (canvas 0 0) tile.w y =
-    ap (λ n. runs_of_row (row_shows row) background n y) size ∙ (ap (λ b. runs_of_row (row_shows row) b tile.w y) first ∙ row_same (row_shows row) canvas (canvas 0 0) tile.w y (λ k lk. tile_row_at values w tile y k lk)) in
-    let next : tile.h - y ≡ suc (tile.h - (y + 1)) = omega arith in
-    let below : runs_from canvas tile.w tile.h y ≡ runs_of_row canvas (canvas 0 0) tile.w y ++ runs_from canvas tile.w tile.h (y + 1) = rw next refl in
+pub row_above : (canvas : Canvas) (w h y background : ℕ) (row : List ℕ) (found now : List Run) → length row ≡ w → ((k : ℕ) → k < w → get_or row k 0 ≡ canvas k y) → y < h → background ≡ canvas 0 0
+    → map subrect_of now ≡ map subrect_of found ++ runs_of_row (row_shows row) background (length row) y → AreAbove canvas w h y found → AreAbove canvas w h (y + 1) now
+row_above canvas w h y background row found now size shows lt first added a =
+    let same : runs_of_row (row_shows row) background (length row) y ≡ runs_of_row canvas (canvas 0 0) w y =
+    ap (λ n. runs_of_row (row_shows row) background n y) size ∙ (ap (λ b. runs_of_row (row_shows row) b w y) first ∙ row_same (row_shows row) canvas (canvas 0 0) w y (λ k lk. shows k lk)) in
+    let next : h - y ≡ suc (h - (y + 1)) = omega (arith, lt) in
+    let below : runs_from canvas w h y ≡ runs_of_row canvas (canvas 0 0) w y ++ runs_from canvas w h (y + 1) = rw next refl in
     record {
       all =
-          ap (λ t. t ++ runs_from canvas tile.w tile.h (y + 1)) (added ∙ ap (λ t. map subrect_of found ++ t) same)
-          ∙ (append_assoc (map subrect_of found) (runs_of_row canvas (canvas 0 0) tile.w y) (runs_from canvas tile.w tile.h (y + 1)) ∙ (ap (λ t. map subrect_of found ++ t) (sym below) ∙ a.all));
+          ap (λ t. t ++ runs_from canvas w h (y + 1)) (added ∙ ap (λ t. map subrect_of found ++ t) same)
+          ∙ (append_assoc (map subrect_of found) (runs_of_row canvas (canvas 0 0) w y) (runs_from canvas w h (y + 1)) ∙ (ap (λ t. map subrect_of found ++ t) (sym below) ∙ a.all));
+    }
+
+-- Those of four rows are added at once.
+pub rows_above : (canvas : Canvas) (y : ℕ) (found now : List Run) → y + 4 ≤ 16 → map subrect_of now ≡ map subrect_of found ++ runs_of_rows canvas 16 y 4 → AreAbove canvas 16 16 y found → AreAbove canvas 16 16 (y + 4) now
+rows_above canvas y found now le added a =
+    let count : 16 - y ≡ 4 + (16 - (y + 4)) = omega (arith, le) in
+    let f : ℕ → List Subrect = runs_of_row canvas (canvas 0 0) 16 in
+    let below : runs_from canvas 16 16 y ≡ runs_of_rows canvas 16 y 4 ++ runs_from canvas 16 16 (y + 4) =
+    ap (λ n. flat_map f (range_with_len y n)) count ∙ (ap (flat_map f) (range_split y 4 (16 - (y + 4))) ∙ flat_map-append f (range_with_len y 4) (range_with_len (y + 4) (16 - (y + 4)))) in
+    record {
+      all =
+          ap (λ t. t ++ runs_from canvas 16 16 (y + 4)) added
+          ∙ (append_assoc (map subrect_of found) (runs_of_rows canvas 16 y 4) (runs_from canvas 16 16 (y + 4)) ∙ (ap (λ t. map subrect_of found ++ t) (sym below) ∙ a.all));
     }
 
 -- ---- some of them are too many

@@ -1,4 +1,4 @@
--- A rectangle's bytes, tile after tile.
+-- A rectangle's bytes, tile after tile. `put_tiles` writes them one by one.
 use Rattle.std.proofs.Common.{◌≡◌, ℕ, suc, List, [], ◌++◌, ◌∷◌, length, take, refl, sym, ap, ◌∙◌, ◌+◌, ◌-◌, ◌*◌, ◌<◌, ◌≤◌, append_assoc, length-append, arith}
 use Rattle.std.proofs.lemmas.List.{length-take, append-nil}
 use Rattle.std.proofs.Math.Nat.{mul-le-mul_right}

@@ -1,4 +1,4 @@
--- What a canvas shows of the tiles.
+-- What a canvas shows of the tiles. `Reader::feed` says it of the tiles read so far.
 use Rattle.std.proofs.Common.{◌≡◌, ℕ, zero, suc, ◌+◌, ◌-◌, ◌*◌, ◌/◌, ◌%◌, ◌<◌, ◌≤◌, Bool, true, false, List, [], ◌∷◌, ◌++◌, length, Some, refl, sym, ap, subst, ◌∙◌, inl, inr, arith}
 use Rattle.std.specs.Prelude.{slice_get, min}
 use Rattle.std.proofs.lemmas.Bool.{cases_lt}
@@ -85,6 +85,6 @@ before_more keep w h k canvas tiles what count before shows x y lx ly lt =
           sym (ap (λ i. canvas i ((tile_rect w h t).y + y % 16)) to_x ∙ ap (λ j. canvas x j) to_y) ∙ (seen ∙ ap (λ o. keep (tile_shows (tile_rect w h t).w o (x % 16) (y % 16))) (sym last_one))
     ]
 
--- Behind the last tile it shows all of them.
+-- After the last tile it shows all of them.
 pub all_shown : (keep : ℕ → ℕ) → (w h k : ℕ) (canvas : Canvas) (tiles : List Tile) → tile_count w h ≤ k → ShowsBefore keep w h k canvas tiles → LooksLike w h canvas (kept keep (tiled w h tiles))
 all_shown keep w h k canvas tiles le before x y lx ly = before x y lx ly (let t = tile_of_there w h x y lx ly in omega (arith, t, le))

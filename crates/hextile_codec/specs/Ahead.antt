@@ -1,12 +1,13 @@
 -- How reading Hextile goes on (RFC 6143, 7.7.4).
-use Rattle.std.specs.Prelude.{◌≡◌, ℕ, zero, suc, ◌+◌, ◌-◌, ◌*◌, ◌/◌, ◌<◌, ◌≤◌, ◌==◌, ◌%◌, List, [], ◌∷◌, ◌++◌, length, take, drop, Option, Some, Result, Bool, true, false, ◌&&◌, not, nat_lt, if◌then◌else◌, unwrap_or}
+use Rattle.std.specs.Prelude.{◌≡◌, ℕ, zero, suc, ◌+◌, ◌-◌, ◌*◌, ◌/◌, ◌<◌, ◌≤◌, ◌==◌, ◌%◌, List, [], ◌∷◌, ◌++◌, length, take, drop, Option, Some, Bool, true, false, ◌&&◌, not, nat_lt, if◌then◌else◌, unwrap_or}
 use Rattle.pixel_format.specs.PixelFormat.{PixelFormat, pixel_len, pixel_of}
-use Rattle.pixel_format.specs.Reading.{Reading, Done, Faulty, ◌>>=◌, after, taken, times, wants_more, Feeds}
+use Rattle.byte_reading.specs.Reading.{Reading, Done, Faulty, ◌>>=◌, after, times, wants_more}
 use Rattle.pixel_format.specs.declared.fault.Fault.{Fault}
 use Rattle.pixel_format.specs.declared.fault.Fault.TheVariants.{SubrectOutside, NoBackground, NoForeground}
 use Rattle.raster.specs.declared.rect.Rect.{Rect}
 use Rattle.raster.specs.Screen.{Canvas, LooksLike, IsWithin, holds, part_of, value_at, tiles_across, tile_count, tile_rect, kept}
 use Rattle.raster.specs.Encoding.{Drawing, drawn, Carried, Tile, Pixels, Drawn, has_bit, pixel, tile, drawn_tile, hextile_subrect, tiles_from, tiled}
+use Rattle.raster.specs.Reader.{Goes}
 use Rattle.hextile_codec.specs.Carried.{carried_by}
 use Rattle.hextile_codec.specs.declared.colours.Colours.{Colours}
 use Rattle.hextile_codec.specs.declared.drawing.Drawn as outcome
@@ -61,12 +62,12 @@ tile_rest format w h carried (Subrects coloured left) part =
     Done (Drawn (record { background = part.drawing.background; subrects = part.drawing.subrects ++ more }), carried)
 tile_rest format w h carried (Failed flaw) part = Faulty (fault_for flaw)
 
--- The tiles behind tile number k, once that is read.
+-- The tiles after tile number k, once that is read.
 abbrev pub others_behind : PixelFormat → ℕ → ℕ → ℕ → List Tile → Tile × Carried → Reading (List Tile)
 others_behind format w h k tiles first =
     tiles_from format w h first.1 (k + 1) (tile_count w h - (k + 1)) >>= λ others. Done (tiles ++ first.0 ∷ others)
 
--- What the next bytes are read as, over what was read so far. Behind the last tile there is nothing more to read.
+-- What the next bytes are read as, over what was read so far. After the last tile there is nothing more to read.
 abbrev pub next_form : PixelFormat → ℕ → ℕ → ℕ → Carried → Stage → Sofar → Reading (List Tile)
 next_form format w h k carried stage sofar =
     if nat_lt k (tile_count w h)
@@ -84,7 +85,8 @@ pub record IsTile (area : Rect) (w h : ℕ) : Type 0 where
   pub within : IsWithin area w h
   pub small : (area.x < 65536) × (area.y < 65536)
 
--- A canvas shows, in a tile at an area, what it keeps of what was read of it so far. Before the first pixel, and after a fault, nothing is said of it.
+-- A canvas shows, in a tile at an area, what it keeps of what was read of it so far. Before the first pixel, and after
+-- a fault, nothing is said of it.
 abbrev pub IsDrawn : (keep : ℕ → ℕ) → Rect → Stage → Canvas → Part → Type 0
 IsDrawn keep area Mask canvas part = Unit {0}
 IsDrawn keep area (RawPixels count) canvas part =
@@ -109,23 +111,6 @@ pub record IsSameSize (old new : Progress) : Type 0 where
   pub format : new.format ≡ old.format
   pub width : new.width ≡ old.width
   pub height : new.height ≡ old.height
-
--- Bytes are all taken, and lead from one way of reading to another.
-pub record Goes {A : Type 0} (form : Reading A) (bytes : List ℕ) (later : Reading A) : Type 0 where
-  pub all : taken form bytes ≡ length bytes
-  pub leads : after form bytes ≡ later
-
--- A reader took bytes, each of which was wanted, and drew what they say.
-pub record Steps (keep : ℕ → ℕ) (old new : Progress) (now : Canvas) (bytes : List ℕ) (sofar : Sofar) : Type 0 where
-  pub drawing : Sofar
-  pub goes : Goes (ahead old sofar) bytes (ahead new drawing)
-  pub stands : Stands keep new now drawing
-
--- A reader was fed a piece, and drew what it took of it.
-pub record Draws (keep : ℕ → ℕ) (old new : Progress) (now : Canvas) (piece : List ℕ) (answer : Result ℕ Fault) (sofar : Sofar) : Type 0 where
-  pub drawing : Sofar
-  pub feeds : Feeds (ahead old sofar) (ahead new drawing) piece answer
-  pub stands : Stands keep new now drawing
 
 -- ---- in one tile
 
@@ -182,7 +167,7 @@ is_failed (Failed flaw) = true
 abbrev pub is_wanting : Progress → Bool
 is_wanting p = nat_lt p.tile (tile_count p.width p.height) && not (is_failed p.stage)
 
--- A stage directly behind a mask.
+-- A stage directly after a mask.
 abbrev pub IsBehindMask : Stage → Type 0
 IsBehindMask Mask = ⊥
 IsBehindMask (RawPixels count) = count ≡ 0
@@ -219,7 +204,7 @@ IsReady format area (Head mask) = 0 < head_len format mask
 IsReady format area (Subrects coloured left) = 0 < left
 IsReady format area (Failed flaw) = Unit {0}
 
--- Where a reader stands: the tile that is read lies at an area. Behind the last tile no byte has come.
+-- Where a reader stands: the tile that is read lies at an area. After the last tile no byte has come.
 pub record IsPlace (format : PixelFormat) (w h tiles k : ℕ) (area : Rect) (stage : Stage) (filled : ℕ) : Type 0 where
   pub wide : w ≤ 65535
   pub high : h ≤ 65535
@@ -230,7 +215,7 @@ pub record IsPlace (format : PixelFormat) (w h tiles k : ℕ) (area : Rect) (sta
   pub over : k ≡ tiles → stage ≡ Mask
   pub room : filled < needed format stage
 
--- The pixel values in some bytes, so many of them.
+-- The pixel values in some bytes, this many of them.
 abbrev pub pixels_in : PixelFormat → ℕ → List ℕ → List ℕ
 pixels_in format zero bytes = []
 pixels_in format (suc n) bytes = pixel_of format (take (pixel_len format) bytes) ∷ pixels_in format n (drop (pixel_len format) bytes)

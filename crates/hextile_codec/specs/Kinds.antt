@@ -7,7 +7,7 @@ use Rattle.raster.specs.Encoding.{Subrect, Carried, nothing_carried, runs, raw_b
 use Rattle.hextile_codec.specs.declared.runs.Run.{Run}
 use Rattle.hextile_codec.specs.declared.kind.Kind.{Kind}
 use Rattle.hextile_codec.specs.declared.kind.Kind.TheVariants.{Raw, Plain, TwoColours, Coloured}
-use Rattle.hextile_codec.specs.declared.kind.Choice.{Choice}
+use Rattle.hextile_codec.specs.declared.kind.TileChoice.{TileChoice}
 
 -- A run is a subrectangle of one row.
 abbrev pub subrect_of : Run → Subrect
@@ -52,7 +52,7 @@ IsWrittenAs format before w h canvas found background kind bytes =
     (bytes ≡ drawn_bytes format before background found) × (kind ≡ kind_of found) × (found ≡ runs canvas w h)
 
 -- A choice says how many bytes a tile has, what it leaves, and what they are.
-pub record IsChosen (format : PixelFormat) (before : Carried) (w h : ℕ) (canvas : Canvas) (found : List Subrect) (choice : Choice) : Type 0 where
+pub record IsChosen (format : PixelFormat) (before : Carried) (w h : ℕ) (canvas : Canvas) (found : List Subrect) (choice : TileChoice) : Type 0 where
   pub len : choice.len ≡ length (tile_bytes format before w h canvas).0
   pub leaves : leaves_of choice.kind choice.background ≡ (tile_bytes format before w h canvas).1
   pub written : IsWrittenAs format before w h canvas found choice.background choice.kind (tile_bytes format before w h canvas).0

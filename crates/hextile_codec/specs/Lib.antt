@@ -2,3 +2,4 @@ pub mod Ahead
 pub mod Carried
 pub mod Kinds
 pub mod Bits
+pub mod Marks

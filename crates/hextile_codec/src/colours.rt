@@ -32,7 +32,7 @@ pub fn is_said(before: Option<u32>, value: u32) -> bool
     }
 }
 
-/// The pixel at the front of some bytes and what lies behind it, where it is specified; else the carried one.
+/// The pixel at the front of some bytes and what follows it, where it is specified; else the carried one.
 pub fn specified<'a>(
     format: &Format,
     given: bool,

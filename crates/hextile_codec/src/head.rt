@@ -2,7 +2,7 @@
 
 ghost use Rattle.std.specs.Prelude.{◌≡◌, ℕ, ◌≤◌, length, take, [], ◌∷◌};
 ghost use Rattle.pixel_format.specs.PixelFormat.{PixelFormat};
-ghost use Rattle.pixel_format.specs.Reading.{step};
+ghost use Rattle.byte_reading.specs.Reading.{step};
 ghost use Rattle.raster.specs.Encoding.{tile};
 ghost use Rattle.hextile_codec.specs.Carried.{carried_by};
 ghost use Rattle.hextile_codec.specs.Ahead.{DrawsIn, DrawsTo, IsTile, IsBehindMask, blank, tile_rest, head_len};
@@ -82,7 +82,7 @@ pub fn draw_head<C: Canvas>(
     }
 }
 
-/// Goes on behind a mask that isn't Raw. Where it announces nothing, the carried background is drawn at once.
+/// Goes on after a mask that isn't Raw. Where it announces nothing, the carried background is drawn at once.
 fn draw_announced<C: Canvas>(
     format: &Format,
     area: Rect,

@@ -26,7 +26,7 @@ pub enum Kind {
 
 /// What is known of a tile before it is written: its kind, its first pixel's value, and how many bytes it has.
 #[derive(Clone, Copy)]
-pub struct Choice {
+pub struct TileChoice {
     pub kind: Kind,
     pub background: u32,
     pub len: usize,
@@ -54,7 +54,7 @@ fn colour_len(format: &Format, before: Option<u32>, value: u32) -> usize
     }
 }
 
-/// How many bytes a tile of so many runs has that isn't Raw.
+/// How many bytes a tile of this many runs has that isn't Raw.
 fn drawn_len(format: &Format, said: &Colours, background: u32, kind: Kind, count: usize) -> usize
     requires { count ≤ TILE_AREA }
     ensures { result ≡ drawn_len format.now (carried_by said.now) background kind count }
@@ -78,7 +78,7 @@ pub fn choose(
     tile: &Rect,
     said: &Colours,
     runs: &mut Runs,
-) -> Choice
+) -> TileChoice
     requires w_some { 0 < tile.now.w }
     requires w_most { tile.now.w ≤ TILE_SIDE }
     requires h_some { 0 < tile.now.h }
@@ -91,12 +91,12 @@ pub fn choose(
 {
     let pixel = format.bytes();
     let background = values[tile.y as usize * w + tile.x as usize];
-    let raw = Choice {
+    let raw = TileChoice {
         kind: Kind::Raw,
         background,
         len: 1 + pixel * (tile.w * tile.h) as usize,
     };
-    // So many coloured runs have more bytes than Raw.
+    // This many coloured runs have more bytes than Raw.
     let enough = raw.len / (pixel + 2) + 1;
     if !find_runs(values, w, tile, enough, runs) {
         return raw;
@@ -106,14 +106,14 @@ pub fn choose(
     if raw.len <= len {
         return raw;
     }
-    Choice {
+    TileChoice {
         kind,
         background,
         len,
     }
 }
 
-impl Choice {
+impl TileChoice {
     /// What the next tile may leave off.
     pub fn leaves(&self) -> Colours
         ensures { carried_by result ≡ leaves_of self.now.kind self.now.background }

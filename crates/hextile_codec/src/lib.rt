@@ -15,6 +15,7 @@ mod mask;
 mod pixels;
 mod put;
 mod reading;
+mod rows;
 mod runs;
 mod stage;
 mod subrects;

@@ -26,7 +26,7 @@ fn get_row(format: &Format, bytes: &[u8], values: &mut [u32])
     }
 }
 
-/// Draws so many pixels of a row, from a position on.
+/// Draws this many pixels of a row, from a position on.
 fn draw_row<C: Canvas>(format: &Format, x: u64, y: u64, count: usize, bytes: &[u8], canvas: &mut C)
     requires few { count ≤ TILE_SIDE }
     requires bytes { length bytes.now ≡ count * pixel_len format.now }
@@ -63,7 +63,7 @@ fn pixels_upto(most: u64, len: usize, size: usize) -> u64
     }
 }
 
-/// Draws the pixels that the bytes have, behind so many that have come, row by row.
+/// Draws the pixels that the bytes have, after those that have come, row by row.
 pub fn draw_pixels<C: Canvas>(
     format: &Format,
     area: Rect,

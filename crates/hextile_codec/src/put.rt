@@ -9,7 +9,7 @@ ghost use Rattle.hextile_codec.specs.Carried.{carried_by};
 ghost use Rattle.hextile_codec.specs.Kinds.{IsSmall, subrect_of, kind_of, drawn_len};
 
 use crate::colours::{Colours, is_said};
-use crate::kind::{Choice, Kind};
+use crate::kind::{Kind, TileChoice};
 use crate::mask::{
     ANY_SUBRECTS, BACKGROUND_SPECIFIED, FOREGROUND_SPECIFIED, RAW, SUBRECTS_COLOURED,
 };
@@ -151,7 +151,7 @@ fn put_coloured(
 pub fn put_drawn(
     format: &Format,
     said: &Colours,
-    choice: &Choice,
+    choice: &TileChoice,
     runs: &[Run],
     out: &mut [u8],
     used: usize,

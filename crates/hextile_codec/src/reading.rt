@@ -1,17 +1,19 @@
 //! Reading Hextile, in whatever pieces it comes.
 
-ghost use Rattle.std.specs.Prelude.{◌≡◌, ℕ, ◌+◌, ◌<◌, ◌≤◌, true, List, [], length, take, is_some, Some, None, IfOk, OnOk, MatchResult};
-ghost use Rattle.pixel_format.specs.Reading.{Done, whole_of, fault_of};
+ghost use Rattle.std.specs.Prelude.{◌≡◌, ℕ, ◌+◌, ◌<◌, ◌≤◌, true, List, [], length, take, is_some, None, IfOk, OnOk};
+ghost use Rattle.byte_reading.specs.Reading.{Done, whole_of, fault_of};
+ghost use Rattle.raster.specs.declared.encoding.Encoding.TheVariants.{Hextile};
 ghost use Rattle.raster.specs.Encoding.{Tile, hextile, tiled};
+ghost use Rattle.raster.specs.Reader.{Steps, Draws};
 ghost use Rattle.raster.specs.Screen.{Map, LooksLike, kept};
-ghost use Rattle.hextile_codec.specs.Ahead.{Part, Sofar, nothing_read, ahead, Stands, Steps, Draws, IsSameSize, IsWanting, is_wanting, needed};
+ghost use Rattle.hextile_codec.specs.Ahead.{Part, Sofar, blank, nothing_read, ahead, Stands, IsSameSize, IsWanting, is_wanting, needed};
 
 use crate::colours::Colours;
 use crate::drawing::{draw, is_whole};
-use crate::stage::{MOST_NEEDED, Stage, needed};
+use crate::stage::{MOST_NEEDED, Stage, is_failed, needed};
 use arrayvec::ArrayVec;
 use pixel_format::{Fault, Format};
-use raster::{Canvas, Rect, TILE_SIDE, tile_count, tile_rect};
+use raster::{Canvas, CodecReader, Rect, TILE_SIDE, read_piece, tile_count, tile_rect};
 use std::marker::Model;
 use std::mem;
 
@@ -57,6 +59,7 @@ impl Reader {
     pub fn new(w: u64, h: u64, format: Format) -> Reader
         requires width { w ≤ 65535 }
         requires height { h ≤ 65535 }
+        ensures format { result.format ≡ format }
         ensures width { result.width ≡ w }
         ensures height { result.height ≡ h }
         ensures begins { (part : Part) → ahead result (nothing_read part) ≡ hextile format w h }
@@ -88,13 +91,6 @@ impl Reader {
         self.tile == self.tiles
     }
 
-    /// Whether another byte is wanted.
-    fn wants_more(&self) -> bool
-        ensures { result ≡ is_wanting self.now }
-    {
-        self.tile < self.tiles && !matches!(self.stage, Stage::Failed(_))
-    }
-
     /// Draws what bytes say that follow those looked at last, and answers how many it took.
     fn take<C: Canvas>(&mut self, canvas: &mut C, bytes: &[u8]) -> usize
         requires wanting { is_wanting self.old ≡ true }
@@ -108,7 +104,7 @@ impl Reader {
         ensures width { C.width canvas.new ≡ self.old.width }
         ensures height { C.height canvas.new ≡ self.old.height }
         ensures stays { C.Stays canvas.old canvas.new }
-        ensures drawn { (sofar : Sofar) → Stands C.keeps self.old (C.shows canvas.old) sofar → Steps C.keeps self.old self.new (C.shows canvas.new) (take result bytes.now) sofar }
+        ensures drawn { (sofar : Sofar) → Stands C.keeps self.old (C.shows canvas.old) sofar → Steps ahead (Stands C.keeps) self.old self.new (C.shows canvas.new) (take result bytes.now) sofar }
     {
         let drawn = draw(
             &self.format,
@@ -131,44 +127,6 @@ impl Reader {
         drawn.used
     }
 
-    /// Takes the front of some bytes, and answers how many. Only where they end too early, they are kept.
-    fn step<C: Canvas>(&mut self, canvas: &mut C, bytes: &[u8]) -> usize
-        requires wanting { is_wanting self.old ≡ true }
-        requires some { 0 < length bytes.now }
-        requires width { C.width canvas.old ≡ self.old.width }
-        requires height { C.height canvas.old ≡ self.old.height }
-        ensures some { 0 < result }
-        ensures within { result ≤ length bytes.now }
-        ensures size { IsSameSize self.old self.new }
-        ensures width { C.width canvas.new ≡ self.old.width }
-        ensures height { C.height canvas.new ≡ self.old.height }
-        ensures stays { C.Stays canvas.old canvas.new }
-        ensures drawn { (sofar : Sofar) → Stands C.keeps self.old (C.shows canvas.old) sofar → Steps C.keeps self.old self.new (C.shows canvas.new) (take result bytes.now) sofar }
-    {
-        let needed = needed(&self.format, self.stage);
-        if self.begun.is_empty() && needed <= bytes.len() {
-            return self.take(canvas, bytes);
-        }
-        let count = bytes.len().min(needed - self.begun.len());
-        // No field needs more bytes than there is room for.
-        let _ = self.begun.try_extend_from_slice(&bytes[..count]);
-        if self.begun.len() == needed {
-            let field = mem::replace(&mut self.begun, ArrayVec::new());
-            self.take(canvas, field.as_slice());
-        }
-        count
-    }
-
-    /// How many bytes were used, or the fault at which it stands.
-    fn answer(&self, used: usize) -> Result<usize, Fault>
-        ensures { (sofar : Sofar) → MatchResult result (λ n. (n ≡ used) × (fault_of (ahead self.now sofar) ≡ None)) (λ fault. fault_of (ahead self.now sofar) ≡ Some fault) }
-    {
-        match self.stage {
-            Stage::Failed(flaw) => Err(flaw.fault()),
-            _ => Ok(used),
-        }
-    }
-
     /// Takes the next piece, up to the end of the rectangle, and draws it on a canvas of the rectangle's size.
     /// Answers how many bytes it used.
     ///
@@ -184,14 +142,64 @@ impl Reader {
         ensures within { IfOk result (λ used. used ≤ length piece.now) }
         ensures some { IsWanting self.old → 0 < length piece.now → IfOk result (λ used. 0 < used) }
         ensures fine { OnOk result ((sofar : Sofar) → fault_of (ahead self.new sofar) ≡ None) }
-        ensures drawn { (sofar : Sofar) → Stands C.keeps self.old (C.shows canvas.old) sofar → Draws C.keeps self.old self.new (C.shows canvas.new) piece.now result sofar }
+        ensures drawn { (sofar : Sofar) → Stands C.keeps self.old (C.shows canvas.old) sofar → Draws ahead (Stands C.keeps) self.old self.new (C.shows canvas.new) piece.now result sofar }
     {
-        let mut left = piece;
-        while !left.is_empty() && self.wants_more() {
-            let used = self.step(canvas, left);
-            let (_, rest) = left.split_at(used);
-            left = rest;
+        read_piece(self, canvas, piece)
+    }
+}
+
+impl CodecReader for Reader {
+    ghost encoding = { Hextile };
+
+    ghost Sofar = { Sofar };
+
+    ghost nothing = { nothing_read blank };
+
+    ghost Read = { List Tile };
+
+    ghost picture = { tiled };
+
+    ghost format_of = { λ p. p.format };
+
+    ghost width = { λ p. p.width };
+
+    ghost height = { λ p. p.height };
+
+    ghost ahead = { ahead };
+
+    ghost Stands = { Stands };
+
+    fn begin(w: u64, h: u64, format: Format) -> Reader {
+        Reader::new(w, h, format)
+    }
+
+    fn whole(&self) -> bool {
+        Reader::whole(self)
+    }
+
+    fn is_open(&self) -> bool {
+        self.tile < self.tiles && !is_failed(self.stage)
+    }
+
+    fn fault(&self) -> Option<Fault> {
+        match self.stage {
+            Stage::Failed(flaw) => Some(flaw.fault()),
+            _ => None,
         }
-        self.answer(piece.len() - left.len())
+    }
+
+    fn step<C: Canvas>(&mut self, canvas: &mut C, bytes: &[u8]) -> usize {
+        let needed = needed(&self.format, self.stage);
+        if self.begun.is_empty() && needed <= bytes.len() {
+            return self.take(canvas, bytes);
+        }
+        let count = bytes.len().min(needed - self.begun.len());
+        // No field needs more bytes than there is room for.
+        let _ = self.begun.try_extend_from_slice(&bytes[..count]);
+        if self.begun.len() == needed {
+            let field = mem::replace(&mut self.begun, ArrayVec::new());
+            self.take(canvas, field.as_slice());
+        }
+        count
     }
 }

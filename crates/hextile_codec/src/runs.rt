@@ -1,14 +1,16 @@
 //! The runs of a tile.
 
-ghost use Rattle.std.specs.Prelude.{◌≡◌, ◌+◌, ◌*◌, ◌<◌, ◌≤◌, ◌^◌, ◌++◌, ◌==◌, false, length, map, take_while, IsTrue};
+ghost use Rattle.std.specs.Prelude.{◌≡◌, ◌+◌, ◌*◌, ◌<◌, ◌≤◌, ◌^◌, ◌++◌, ◌==◌, [], false, length, map, take_while, IsTrue};
 ghost use Rattle.std.specs.List.{list_all};
 ghost use Rattle.arrayvec.specs.ArrayVec.{array_vec_len};
 ghost use Rattle.raster.specs.Screen.{value_at, part_of};
 ghost use Rattle.raster.specs.Encoding.{runs, runs_of_row};
 ghost use Rattle.raster.specs.RowShown.{row_shows};
 ghost use Rattle.hextile_codec.specs.Kinds.{subrect_of, has_one_value};
+ghost use Rattle.hextile_codec.specs.Marks.{AreMarks, LiesAmong, runs_of_rows};
 
-use crate::marking::mark_row;
+use crate::marking::{Marks, mark_rows};
+use crate::rows::row_of;
 use arrayvec::ArrayVec;
 use raster::{Rect, TILE_SIDE, has_runs};
 use std::simd::cmp::SimdPartialEq;
@@ -17,7 +19,7 @@ use std::simd::u32x16;
 /// How many pixels a tile has at most.
 pub const TILE_AREA: usize = (TILE_SIDE * TILE_SIDE) as usize;
 
-/// So many runs in the first rows of a tile are a reason to count them all.
+/// This many runs in the first rows of a tile are a reason to count them all.
 const CROWDED: usize = 8;
 
 /// A run: `len` pixels of one value, from column `x` of row `y` of its tile on.
@@ -59,27 +61,75 @@ fn is_all(row: &[u32], value: u32) -> bool
     row.iter().all(|v| *v == value)
 }
 
-/// Adds the runs of a row of 16, found by its marks.
-fn add_whole_row(row: &[u32], y: usize, background: u32, runs: &mut Runs)
-    requires whole { length row.now ≡ TILE_SIDE }
-    requires high { y < TILE_SIDE }
-    requires room { array_vec_len runs.old + length row.now ≤ TILE_AREA }
-    ensures added { map subrect_of runs.new.items ≡ map subrect_of runs.old.items ++ runs_of_row (row_shows row.now) background (length row.now) y }
-    ensures few { array_vec_len runs.new ≤ array_vec_len runs.old + length row.now }
+/// Whether a tile shows its background alone. A whole row is compared at once, and nothing else is done.
+fn is_plain(values: &[u32], w: usize, tile: &Rect, background: u32) -> bool
+    requires lies { LiesAmong values.now w tile.now }
+    requires background { background ≡ part_of tile.now (value_at w values.now) 0 0 }
+    ensures { IsTrue result → runs (part_of tile.now (value_at w values.now)) tile.now.w tile.now.h ≡ [] }
 {
-    let marks = mark_row(row, background);
+    for y in 0..tile.h as usize {
+        if !is_all(row_of(values, w, tile, y), background) {
+            return false;
+        }
+    }
+    true
+}
+
+/// Adds the runs of four rows of 16, from row `y` on, found by their marks.
+fn add_marked(values: &[u32], w: usize, tile: &Rect, y: usize, marks: Marks, runs: &mut Runs)
+    requires lies { LiesAmong values.now w tile.now }
+    requires wide { tile.now.w ≡ 16 }
+    requires rows { y + 4 ≤ tile.now.h }
+    requires high { tile.now.h ≤ TILE_SIDE }
+    requires marks { AreMarks (part_of tile.now (value_at w values.now)) y marks }
+    requires room { array_vec_len runs.old + 64 ≤ TILE_AREA }
+    ensures added { map subrect_of runs.new.items ≡ map subrect_of runs.old.items ++ runs_of_rows (part_of tile.now (value_at w values.now)) 16 y 4 }
+    ensures few { array_vec_len runs.new ≤ array_vec_len runs.old + 64 }
+{
     let mut begins = marks.begins;
     while begins != 0 {
-        let first = begins.trailing_zeros() as usize;
-        let len = (marks.ends >> (first + 1)).trailing_zeros() + 1;
+        let at = begins.trailing_zeros() as usize;
+        let (x, row) = (at % 16, y + at / 16);
+        let len = (marks.ends >> at).trailing_zeros() + 1;
         runs.push(Run {
-            value: row[first],
-            x: first as u8,
-            y: y as u8,
+            value: row_of(values, w, tile, row)[x],
+            x: x as u8,
+            y: row as u8,
             len: len as u8,
         });
-        begins &= !(1 << first);
+        begins &= begins - 1;
     }
+}
+
+/// Finds the runs of a whole tile by the marks of its rows, where there are fewer than `enough`.
+fn find_marked(
+    values: &[u32],
+    w: usize,
+    tile: &Rect,
+    background: u32,
+    enough: usize,
+    found: &mut Runs,
+) -> bool
+    requires lies { LiesAmong values.now w tile.now }
+    requires wide { tile.now.w ≡ 16 }
+    requires high { tile.now.h ≡ 16 }
+    requires background { background ≡ part_of tile.now (value_at w values.now) 0 0 }
+    ensures { IsTrue result → map subrect_of found.new.items ≡ runs (part_of tile.now (value_at w values.now)) 16 16 }
+{
+    let first = mark_rows(values, w, tile, 0, background);
+    let second = mark_rows(values, w, tile, 4, background);
+    let third = mark_rows(values, w, tile, 8, background);
+    let fourth = mark_rows(values, w, tile, 12, background);
+    let count = first.count() + second.count() + third.count() + fourth.count();
+    if count >= enough {
+        return false;
+    }
+    found.clear();
+    add_marked(values, w, tile, 0, first, found);
+    add_marked(values, w, tile, 4, second, found);
+    add_marked(values, w, tile, 8, third, found);
+    add_marked(values, w, tile, 12, fourth, found);
+    true
 }
 
 /// Adds the runs of row `y` other than the background to those of the rows above.
@@ -93,9 +143,6 @@ fn add_row(row: &[u32], y: usize, background: u32, runs: &mut Runs)
 {
     if row[0] == background && is_all(row, background) {
         return;
-    }
-    if row.len() == TILE_SIDE as usize {
-        return add_whole_row(row, y, background, runs);
     }
     let mut x = 0;
     while x < row.len() {
@@ -111,6 +158,40 @@ fn add_row(row: &[u32], y: usize, background: u32, runs: &mut Runs)
         }
         x += len;
     }
+}
+
+/// Finds the runs of a tile row after row; `false` as `find_runs` answers it.
+fn find_by_rows(
+    values: &[u32],
+    w: usize,
+    tile: &Rect,
+    background: u32,
+    enough: usize,
+    found: &mut Runs,
+) -> bool
+    requires lies { LiesAmong values.now w tile.now }
+    requires w_some { 0 < tile.now.w }
+    requires w_most { tile.now.w ≤ TILE_SIDE }
+    requires h_some { 0 < tile.now.h }
+    requires h_most { tile.now.h ≤ TILE_SIDE }
+    requires background { background ≡ part_of tile.now (value_at w values.now) 0 0 }
+    ensures all { let all = runs (part_of tile.now (value_at w values.now)) tile.now.w tile.now.h in IsTrue result → map subrect_of found.new.items ≡ all }
+    ensures many { let all = runs (part_of tile.now (value_at w values.now)) tile.now.w tile.now.h in result ≡ false → enough ≤ length all }
+    ensures mixed { let all = runs (part_of tile.now (value_at w values.now)) tile.now.w tile.now.h in result ≡ false → has_one_value all ≡ false }
+{
+    found.clear();
+    let mut judged = false;
+    for y in 0..tile.h as usize {
+        add_row(row_of(values, w, tile, y), y, background, found);
+        // A crowded tile shows early, and its runs are counted faster than found.
+        if !judged && found.len() >= CROWDED {
+            judged = true;
+            if !has_one_value(found.as_slice()) && has_runs(values, w, tile, enough as u64) {
+                return false;
+            }
+        }
+    }
+    true
 }
 
 /// Finds the runs of a tile other than its background, the first pixel's value, and puts them into `found`.
@@ -129,25 +210,16 @@ pub fn find_runs(values: &[u32], w: usize, tile: &Rect, enough: usize, found: &m
     ensures many { let all = runs (part_of tile.now (value_at w values.now)) tile.now.w tile.now.h in result ≡ false → enough ≤ length all }
     ensures mixed { let all = runs (part_of tile.now (value_at w values.now)) tile.now.w tile.now.h in result ≡ false → has_one_value all ≡ false }
 {
-    found.clear();
-    let first = tile.y as usize * w + tile.x as usize;
-    let background = values[first];
-    let mut judged = false;
-    for y in 0..tile.h as usize {
-        let start = first + y * w;
-        add_row(
-            &values[start..start + tile.w as usize],
-            y,
-            background,
-            found,
-        );
-        // A crowded tile shows early, and its runs are counted faster than found.
-        if !judged && found.len() >= CROWDED {
-            judged = true;
-            if !has_one_value(found.as_slice()) && has_runs(values, w, tile, enough as u64) {
-                return false;
-            }
-        }
+    let background = row_of(values, w, tile, 0)[0];
+    if is_plain(values, w, tile, background) {
+        found.clear();
+        return true;
     }
-    true
+    if tile.w == TILE_SIDE
+        && tile.h == TILE_SIDE
+        && find_marked(values, w, tile, background, enough, found)
+    {
+        return true;
+    }
+    find_by_rows(values, w, tile, background, enough, found)
 }

@@ -1,7 +1,7 @@
 //! What is read together of a rectangle in Hextile.
 
 ghost use Rattle.std.specs.Prelude.{◌≡◌, ◌≤◌};
-ghost use Rattle.hextile_codec.specs.Ahead.{needed, head_len, fault_for};
+ghost use Rattle.hextile_codec.specs.Ahead.{needed, head_len, is_failed, fault_for};
 
 use crate::mask::{ANY_SUBRECTS, BACKGROUND_SPECIFIED, FOREGROUND_SPECIFIED, has};
 use pixel_format::{Fault, Format};
@@ -32,14 +32,21 @@ impl Flaw {
 pub enum Stage {
     /// Its mask.
     Mask,
-    /// The pixels of a Raw tile, of which so many have come.
+    /// The pixels of a Raw tile, of which this many have come.
     RawPixels(u64),
     /// What this mask announces: background, foreground and the number of subrectangles.
     Head(u8),
-    /// So many subrectangles, which may each have a colour.
+    /// This many subrectangles, which may each have a colour.
     Subrects { coloured: bool, left: u64 },
     /// None: the tile is faulty.
     Failed(Flaw),
+}
+
+/// Whether the tile is faulty.
+pub fn is_failed(stage: Stage) -> bool
+    ensures { result ≡ is_failed stage }
+{
+    matches!(stage, Stage::Failed(_))
 }
 
 /// The most bytes that are looked at together: two colours of 4, and a number of subrectangles.

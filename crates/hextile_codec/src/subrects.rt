@@ -36,7 +36,7 @@ fn draw_subrect<C: Canvas>(area: Rect, value: u32, position: u8, size: u8, canva
     true
 }
 
-/// Draws the subrectangles that the bytes have, of so many that are left.
+/// Draws the subrectangles that the bytes have, and at most as many as are left.
 pub fn draw_subrects<C: Canvas>(
     format: &Format,
     area: Rect,

@@ -1,4 +1,4 @@
--- The rows of a rectangle of values, and their runs.
+-- The rows of a rectangle of values, and their runs. Runs are counted row by row, over the whole rectangle.
 use Rattle.std.proofs.Common.{◌≡◌, ℕ, zero, suc, Bool, true, false, cond, List, [], ◌∷◌, length, map, take, drop, get_or, refl, sym, ap, ◌∙◌, ◌+◌, ◌-◌, ◌*◌, ◌<◌, ◌≤◌, arith}
 use Rattle.std.specs.Prelude.{◌==◌, filter, take_while}
 use Rattle.std.specs.List.{range_with_len}

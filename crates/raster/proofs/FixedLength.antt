@@ -1,12 +1,12 @@
--- Forms of a length that is known before they are read.
+-- Forms of a length that is known before they are read. Readers wait for all of their bytes, and judge them together.
 use Rattle.std.proofs.Common.{◌≡◌, ℕ, zero, suc, ◌+◌, ◌<◌, ◌≤◌, true, List, [], ◌∷◌, length, refl, ap, arith}
 use Rattle.std.specs.Int.{w32, from_be_bytes}
 use Rattle.pixel_format.specs.PixelFormat.{PixelFormat, pixel_len, pixel_of}
-use Rattle.pixel_format.specs.Reading.{Reading, Done, Faulty, Want, ◌>>=◌, after, taken, wants_more, bytes, u32, Spells}
+use Rattle.byte_reading.specs.Reading.{Reading, Done, Faulty, Want, ◌>>=◌, after, taken, wants_more, bytes, u32, Spells}
 use Rattle.raster.specs.Encoding.{rect_in, pixel, rect}
 use Rattle.raster.proofs.Spellings.{spells_bytes_of, spells_then}
 
--- It is done after so many bytes, whatever they are.
+-- It is done after this many bytes, whatever they are.
 abbrev pub Exactly : {A : Type 0} → ℕ → Reading A → Type 0
 Exactly zero (Done x) = Unit {0}
 Exactly zero (Faulty f) = ⊥
@@ -15,7 +15,7 @@ Exactly (suc n) (Done x) = ⊥
 Exactly (suc n) (Faulty f) = ⊥
 Exactly (suc n) (Want more) = (b : ℕ) → Exactly n (more b)
 
--- It takes at least so many bytes, whatever they are.
+-- It takes at least this many bytes, whatever they are.
 abbrev pub Needs : {A : Type 0} → ℕ → Reading A → Type 0
 Needs zero r = Unit {0}
 Needs (suc n) (Done x) = ⊥
@@ -34,7 +34,7 @@ pub exactly_bytes : (n : ℕ) → Exactly n (bytes n)
 exactly_bytes zero = tt
 exactly_bytes (suc n) = λ b. exactly_then n (bytes n) (λ others. Done (b ∷ others)) (exactly_bytes n) (λ others. tt)
 
--- A form that comes first is needed, and the one behind it too.
+-- A form that comes first is needed, and the one after it too.
 pub needs_first : {A B : Type 0} (n : ℕ) (form : Reading A) (next : A → Reading B) → Needs n form → Needs n (form >>= next)
 needs_first zero form next h = tt
 needs_first (suc n) (Done x) next h = absurd h

@@ -1,4 +1,4 @@
--- What is kept of the values of a canvas.
+-- What is kept of the values of a canvas. Codecs are proved once for canvases that mask and for those that don't.
 use Rattle.std.proofs.Common.{◌≡◌, ℕ, Bool, true, false, cond, refl}
 use Rattle.raster.specs.declared.rect.Rect.{Rect}
 use Rattle.raster.specs.Screen.{Canvas, holds, fill, kept}

@@ -20,3 +20,6 @@ pub mod Tiles
 pub mod Puts
 pub mod AreaRows
 pub mod RunCount
+pub mod Parts
+pub mod WholeRows
+pub mod PieceRead

@@ -1,4 +1,4 @@
--- Bytes that are put into a buffer one part after another.
+-- Bytes that are put into a buffer one part after another. Both encoders write so.
 use Rattle.std.proofs.Common.{◌≡◌, ℕ, ◌+◌, ◌-◌, ◌≤◌, List, ◌++◌, take, drop, length, ap, ◌∙◌, append_assoc, length-append, arith}
 use Rattle.std.proofs.lemmas.List.{length-take, length-drop, take_at}
 use Rattle.std.proofs.lemmas.Slice.{take-put_mid}
@@ -19,7 +19,7 @@ part_keeps out now used le kept =
     let over : length post ≡ 0 = omega (arith, length-drop k (drop used out), length-drop used out) in
     omega (arith, length-append (take used out) (now ++ post), length-append now post, length-take used out, over)
 
--- And a second one behind it.
+-- And a second one after it.
 pub two_parts : (out px rest now place : List ℕ) (used p b j n : ℕ) → now ≡ px ++ rest → length px ≡ p → b ≡ p → used + p + n ≤ length out → length now ≡ length out - used → length place ≡ n
     → take (used + p + n) (put_mid (used + b) j (put_mid used (length out - used) out now) place) ≡ take used out ++ (px ++ place)
 two_parts out px rest now place used p b j n is size same le kept count =

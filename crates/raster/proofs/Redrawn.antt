@@ -1,4 +1,4 @@
--- A raster whose colours were changed in place, as a slice.
+-- A raster whose colours were changed in place, as a slice. Each change of a `Raster` owes what it shows afterwards.
 use Rattle.std.proofs.Common.{◌≡◌, ℕ, List, ◌++◌, length, take, refl, arith}
 use Rattle.std.proofs.lemmas.List.{take_at}
 use Rattle.raster.specs.Picture.{Picture, IsPicture, IsRedrawn}

@@ -1,4 +1,4 @@
--- The runs of a row, found from the left one after another.
+-- The runs of a row, found from the left one after another. Both encoders find them so.
 use Rattle.std.proofs.Common.{◌≡◌, ℕ, zero, suc, Bool, true, false, not, cond, ◌&&◌, ◌||◌, List, [], ◌∷◌, ◌++◌, length, map, take, drop, get_or, refl, sym, ap, ◌∙◌, ◌+◌, ◌-◌, ◌*◌, ◌<◌, ◌≤◌, arith, inl, inr}
 use Rattle.std.specs.Prelude.{filter, ◌⊎◌, ◌==◌, take_while}
 use Rattle.std.specs.List.{range_with_len}
@@ -10,7 +10,7 @@ use Rattle.raster.specs.Encoding.{Subrect, begins_run, run_from, runs_of_row}
 use Rattle.raster.proofs.Rows.{row_of, row_at}
 use Rattle.raster.proofs.Runs.{run_some, run_within, front_passes, front_stops}
 
--- The runs of row y that begin at x or behind it.
+-- The runs of row y that begin at x or after it.
 abbrev pub runs_behind : Canvas → ℕ → ℕ → ℕ → ℕ → List Subrect
 runs_behind canvas background w y x = map (run_from canvas w y) (filter (begins_run canvas background y) (range_with_len x (w - x)))
 
@@ -59,7 +59,7 @@ fresh_begins canvas background y x (inr d) = rw (ne_eqb (canvas (x - 1) y) (canv
     or_true false true = refl
     or_true false false = refl
 
--- At a fresh position: the run that begins there, if it is not of the background, and those behind its end.
+-- At a fresh position: the run that begins there, if it is not of the background, and those after its end.
 pub run_found : (canvas : Canvas) (background w y x : ℕ) → x < w → IsFresh canvas y x
     → runs_behind canvas background w y x ≡ cond (not (canvas x y == background)) (run_from canvas w y x ∷ []) [] ++ runs_behind canvas background w y (x + (run_from canvas w y x).area.w)
 run_found canvas background w y x lx fresh =
@@ -79,7 +79,7 @@ run_found canvas background w y x lx fresh =
     map_cond true f x xs = refl
     map_cond false f x xs = refl
 
--- Behind a run the position is fresh, if it is still in the row.
+-- After a run the position is fresh, if it is still in the row.
 pub fresh_behind : (canvas : Canvas) (w y x : ℕ) → x < w → x + (run_from canvas w y x).area.w < w → IsFresh canvas y (x + (run_from canvas w y x).area.w)
 fresh_behind canvas w y x lx inside =
     let p : ℕ → Bool = λ i. canvas i y == canvas x y in

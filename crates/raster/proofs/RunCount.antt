@@ -1,4 +1,4 @@
--- How many runs there are.
+-- How many runs there are. `has_runs` tells it before one is written.
 use Rattle.std.proofs.Common.{◌≡◌, ℕ, zero, suc, Bool, true, false, not, ◌&&◌, ◌||◌, cond, List, [], ◌∷◌, ◌++◌, length, length-append, get_or, refl, sym, ap, ◌∙◌, ◌+◌, ◌-◌, ◌*◌, ◌<◌, ◌≤◌, arith}
 use Rattle.std.specs.Prelude.{◌==◌, filter}
 use Rattle.std.proofs.lemmas.Bool.{eq-eqb, eqb-true, ne_eqb}
@@ -41,14 +41,14 @@ begun_more row background y x =
 pub all_begun : (row : List ℕ) (background y : ℕ) → length (runs_of_row (row_shows row) background (length row) y) ≡ begun row background y (length row)
 all_begun row background y = length-map (filter (begins_run (row_shows row) background y) (range_with_len 0 (length row))) _
 
--- The test of a position behind the first.
+-- The test of a position after the first.
 pub begins_behind : (a b z : Bool) → z ≡ false → bool_byte (not a && not b) ≡ one_or_none (not a && (z || not b))
 begins_behind true b z e = refl
 begins_behind false true false e = refl
 begins_behind false false false e = refl
 begins_behind a b true e = absurd cc
 
--- That of the first, which stands as if behind the background.
+-- That of the first, which stands as if after the background.
 pub begins_first : (a b c : Bool) → b ≡ a → bool_byte (not a && not b) ≡ one_or_none (not a && (true || c))
 begins_first true b c e = refl
 begins_first false true c e = absurd cc
@@ -72,6 +72,25 @@ begins_at row background y (suc x) before first behind =
     let there : suc x - 1 ≡ x = omega arith in
     ap (λ n. bool_byte (not (get_or row (suc x) 0 == background) && not (n == get_or row (suc x) 0))) (behind (omega arith))
     ∙ begins_behind (get_or row (suc x) 0 == background) (get_or row (suc x - 1) 0 == get_or row (suc x) 0) (suc x == 0) (ne_eqb (suc x) 0 (λ e. absurd (omega (arith, e))))
+
+-- At a position after the first either a run begins, or the test says that none does.
+begins_or_none : (a b z : Bool) → z ≡ false → one_or_none (not a && (z || not b)) + bool_byte (a || b) ≡ 1
+begins_or_none true b z e = refl
+begins_or_none false true false e = refl
+begins_or_none false false false e = refl
+begins_or_none false b true e = absurd cc
+
+pub none_behind : (row : List ℕ) (background y x : ℕ) → 0 < x → one_or_none (begins_run (row_shows row) background y x) + bool_byte ((get_or row x 0 == background) || (get_or row (x - 1) 0 == get_or row x 0)) ≡ 1
+none_behind row background y x some = begins_or_none (get_or row x 0 == background) (get_or row (x - 1) 0 == get_or row x 0) (x == 0) (ne_eqb x 0 (λ e. absurd (omega (arith, e, some))))
+
+-- At the first it is the background that decides.
+begins_or_background : (a : Bool) → one_or_none (not a && true) + bool_byte a ≡ 1
+begins_or_background true = refl
+begins_or_background false = refl
+
+pub none_first : (row : List ℕ) (background y : ℕ) → begun row background y 1 + bool_byte (get_or row 0 0 == background) ≡ 1
+none_first row background y =
+    ap (λ n. n + bool_byte (get_or row 0 0 == background)) (one_of (begins_run (row_shows row) background y 0) 0) ∙ begins_or_background (get_or row 0 0 == background)
 
 pub few_bytes : (b : Bool) → bool_byte b ≤ 1
 few_bytes true = omega arith

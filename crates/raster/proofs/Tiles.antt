@@ -1,4 +1,4 @@
--- How many tiles there are.
+-- How many tiles there are. `tile_rect` says where each of them lies.
 use Rattle.std.proofs.Common.{◌≡◌, ℕ, arith}
 use Rattle.std.specs.Int.{div_ceil}
 use Rattle.raster.specs.Screen.{tiles_across}

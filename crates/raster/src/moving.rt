@@ -1,7 +1,10 @@
 //! Values that are moved inside one slice.
 
-ghost use Rattle.std.specs.Prelude.{◌+◌, ◌≤◌, length};
+ghost use Rattle.std.specs.Prelude.{◌+◌, ◌<◌, ◌≤◌, length};
 ghost use Rattle.raster.specs.Moved.{IsMoved};
+
+/// How far values must move at least, so that they are moved in parts: to call for a shorter part costs more.
+const SHORTEST_PART: usize = 64;
 
 /// Moves values to an earlier place, where the two places have none in common.
 fn move_apart_down(values: &mut [u32], from: usize, to: usize, count: usize)
@@ -23,6 +26,36 @@ fn move_apart_up(values: &mut [u32], from: usize, to: usize, count: usize)
     after[..count].copy_from_slice(&before[from..from + count]);
 }
 
+/// Moves values to an earlier place that may overlap theirs, in parts as long as they move far. The first part is moved
+/// first, so that no value is read once it was written over.
+fn move_down(values: &mut [u32], from: usize, to: usize, count: usize)
+    requires down { to < from }
+    requires source { from + count ≤ length values.old }
+    ensures { IsMoved values.old values.new from to count }
+{
+    let mut moved = 0;
+    while moved < count {
+        let part = (from - to).min(count - moved);
+        move_apart_down(values, from + moved, to + moved, part);
+        moved += part;
+    }
+}
+
+/// Moves values to a later place that may overlap theirs, in parts as long as they move far. The last part is moved
+/// first, so that no value is read once it was written over.
+fn move_up(values: &mut [u32], from: usize, to: usize, count: usize)
+    requires up { from < to }
+    requires target { to + count ≤ length values.old }
+    ensures { IsMoved values.old values.new from to count }
+{
+    let mut left = count;
+    while 0 < left {
+        let part = (to - from).min(left);
+        left -= part;
+        move_apart_up(values, from + left, to + left, part);
+    }
+}
+
 /// Moves values to a place that may overlap theirs, value by value.
 fn move_over(values: &mut [u32], from: usize, to: usize, count: usize)
     requires source { from + count ≤ length values.old }
@@ -39,10 +72,10 @@ pub fn move_part(values: &mut [u32], from: usize, to: usize, count: usize)
     requires target { to + count ≤ length values.old }
     ensures { IsMoved values.old values.new from to count }
 {
-    if to + count <= from {
-        move_apart_down(values, from, to, count);
-    } else if from + count <= to {
-        move_apart_up(values, from, to, count);
+    if from.saturating_sub(to) >= SHORTEST_PART {
+        move_down(values, from, to, count);
+    } else if to.saturating_sub(from) >= SHORTEST_PART {
+        move_up(values, from, to, count);
     } else {
         move_over(values, from, to, count);
     }

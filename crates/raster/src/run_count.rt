@@ -7,8 +7,11 @@ ghost use Rattle.raster.specs.RowShown.{row_shows};
 
 use crate::rect::Rect;
 
-/// How many runs other than the background a row has.
-fn count_row(row: &[u32], background: u32) -> u32
+/// A row this long is counted by the pixels at which no run begins, which tests the last pixels one by one.
+const LONG: usize = 64;
+
+/// How many runs other than the background a short row has.
+fn count_short_row(row: &[u32], background: u32) -> u32
     requires some { 0 < length row.now }
     requires small { length row.now < 2 ^ 16 }
     ensures value { (y : ℕ) → result ≡ length (runs_of_row (row_shows row.now) background (length row.now) y) }
@@ -17,7 +20,7 @@ fn count_row(row: &[u32], background: u32) -> u32
     let mut count = 0;
     let mut before = background;
     for x in 0..row.len() {
-        // Both tests of each position are made, so that many are made at once; the first behaves as one behind the
+        // Both tests of each position are made, so that many are made at once; the first behaves as one after the
         // background.
         count += u32::from((row[x] != background) & (before != row[x]));
         before = row[x];
@@ -25,8 +28,37 @@ fn count_row(row: &[u32], background: u32) -> u32
     count
 }
 
-/// Whether a rectangle of values, which stand in rows of `w`, has at least so many runs other than its background, the
-/// first pixel's value. It ends with the row that shows it.
+/// How many runs other than the background a long row has.
+fn count_long_row(row: &[u32], background: u32) -> u32
+    requires some { 0 < length row.now }
+    requires small { length row.now < 2 ^ 16 }
+    ensures value { (y : ℕ) → result ≡ length (runs_of_row (row_shows row.now) background (length row.now) y) }
+    ensures few { result ≤ length row.now }
+{
+    // Positions at which none begins are counted, with both tests of each, so that many are tested at once.
+    let mut others = u32::from(row[0] == background);
+    for x in 1..row.len() {
+        others += u32::from((row[x] == background) | (row[x - 1] == row[x]));
+    }
+    row.len() as u32 - others
+}
+
+/// How many runs other than the background a row has.
+fn count_row(row: &[u32], background: u32) -> u32
+    requires some { 0 < length row.now }
+    requires small { length row.now < 2 ^ 16 }
+    ensures value { (y : ℕ) → result ≡ length (runs_of_row (row_shows row.now) background (length row.now) y) }
+    ensures few { result ≤ length row.now }
+{
+    if row.len() < LONG {
+        count_short_row(row, background)
+    } else {
+        count_long_row(row, background)
+    }
+}
+
+/// Whether a rectangle of values, which stand in rows of `w`, has at least this many runs other than its background,
+/// the first pixel's value. It ends with the row that shows it.
 pub fn has_runs(values: &[u32], w: usize, area: &Rect, enough: u64) -> bool
     requires w_some { 0 < area.now.w }
     requires h_some { 0 < area.now.h }

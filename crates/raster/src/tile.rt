@@ -8,8 +8,8 @@ use crate::rect::Rect;
 /// How wide and how high a tile is, in pixels, but at the right and at the bottom (RFC 6143, 7.7.4).
 pub const TILE_SIDE: u64 = 16;
 
-/// How many tiles a rectangle of `w` by `h` pixels has, those that are cut at the right and at the bottom among them (RFC
-/// 6143, 7.7.4).
+/// How many tiles a rectangle of `w` by `h` pixels has, those that are cut at the right and at the bottom among them
+/// (RFC 6143, 7.7.4).
 pub fn tile_count(w: u64, h: u64) -> u64
     requires wide { w ≤ 65535 }
     requires high { h ≤ 65535 }
@@ -19,8 +19,8 @@ pub fn tile_count(w: u64, h: u64) -> u64
     w.div_ceil(TILE_SIDE) * h.div_ceil(TILE_SIDE)
 }
 
-/// Where tile number `k` of a rectangle of `w` by `h` pixels lies. Tiles are counted from 0, row after row from the top,
-/// each row from the left (RFC 6143, 7.7.4).
+/// Where tile number `k` of a rectangle of `w` by `h` pixels lies. Tiles are counted from 0, row after row from the
+/// top, each row from the left (RFC 6143, 7.7.4).
 pub fn tile_rect(w: u64, h: u64, k: u64) -> Rect
     requires wide { w ≤ 65535 }
     requires high { h ≤ 65535 }

@@ -1,12 +1,12 @@
--- How a reader goes on with bytes that it wants.
-use Rattle.std.proofs.Common.{◌≡◌, ℕ, zero, suc, ◌+◌, ◌-◌, ◌<◌, ◌≤◌, true, false, List, [], ◌++◌, length, Some, None, is_some, refl, sym, ap, ◌∙◌, arith}
+-- How a reader goes on with bytes that it wants. `Reader::feed` says of its steps together what each says of its bytes.
+use Rattle.std.proofs.Common.{◌≡◌, ℕ, zero, suc, ◌+◌, ◌-◌, ◌<◌, ◌≤◌, Bool, true, false, List, [], ◌++◌, length, Some, None, is_some, refl, sym, ap, ◌∙◌, arith}
 use Rattle.std.specs.Prelude.{◌==◌}
 use Rattle.std.proofs.lemmas.Bool.{lt-ltb, ne_eqb}
 use Rattle.std.proofs.lemmas.List.{append-nil}
 use Rattle.pixel_format.specs.PixelFormat.{PixelFormat}
-use Rattle.pixel_format.specs.Reading.{Reading, Done, Faulty, Want, after, taken, wants_more, whole_of, fault_of}
+use Rattle.byte_reading.specs.Reading.{Reading, Done, Faulty, Want, after, taken, wants_more, whole_of, fault_of}
 use Rattle.pixel_format.specs.declared.fault.Fault.TheVariants.{SubrectOutside}
-use Rattle.pixel_format.proofs.ReadingLaws.{after-append, after-done, after-faulty, done, done_is, wants_no_fault, wants_not_whole}
+use Rattle.byte_reading.proofs.ReadingLaws.{after-append, after-done, after-faulty, done, done_is, wants_no_fault, wants_not_whole}
 use Rattle.raster.specs.Encoding.{Drawing, Subrect, drawn}
 use Rattle.raster.specs.Screen.{Canvas, LooksLike, kept}
 use Rattle.raster.proofs.FixedLength.{Needs, needs_takes, needs_after, needs_wants}
@@ -42,6 +42,17 @@ closed_wants format w h (Subrects zero) sofar begun e = ap (λ (r : Reading Draw
 closed_wants format w h (Subrects (suc n)) sofar begun e = let t : true ≡ false = sym (lt-ltb 0 (suc n) (omega arith)) ∙ e in absurd cc
 closed_wants format w h Outside sofar begun e = ap (λ (r : Reading Drawing). wants_more r) (after-faulty {A = Drawing} SubrectOutside begun)
 
+by_cases : (b : Bool) (P : Type 0) → (b ≡ true → P) → (b ≡ false → P) → P
+by_cases true P t f = t refl
+by_cases false P t f = f refl
+
+-- So a byte is wanted where the stage says so, and nowhere else.
+pub open_is : (format : PixelFormat) (w h : ℕ) (stage : Stage) (sofar : Drawing) (begun : List ℕ) → length begun < needed format stage → is_open stage ≡ wants_more (after (next_form format w h stage sofar) begun)
+open_is format w h stage sofar begun lt =
+    by_cases (is_open stage) (is_open stage ≡ wants_more (after (next_form format w h stage sofar) begun))
+    (λ e. e ∙ sym (open_wants format w h stage sofar begun e lt))
+    (λ e. e ∙ sym (closed_wants format w h stage sofar begun e))
+
 -- It is whole where no subrectangle is left.
 pub whole_at : (format : PixelFormat) (w h n : ℕ) (sofar : Drawing) (begun : List ℕ) → length begun < needed format (Subrects n) → (n == 0) ≡ is_some (whole_of (after (next_form format w h (Subrects n) sofar) begun))
 whole_at format w h zero sofar begun lt = sym (ap (λ (r : Reading Drawing). is_some (whole_of r)) (after-done (record { background = sofar.background; subrects = sofar.subrects ++ [] }) begun))
@@ -52,7 +63,7 @@ not_whole format w h Head sofar begun ok lt = wants_not_whole (after (next_form 
 not_whole format w h (Subrects n) sofar begun ok lt = absurd (ok n refl)
 not_whole format w h Outside sofar begun ok lt = ap (λ (r : Reading Drawing). is_some (whole_of r)) (after-faulty {A = Drawing} SubrectOutside begun)
 
--- Bytes that are needed behind those that have come.
+-- Bytes that are needed after those that have come.
 pub goes_on : (format : PixelFormat) (w h : ℕ) (stage : Stage) (sofar : Drawing) (begun more joined : List ℕ) → joined ≡ begun ++ more → after (next_form format w h stage sofar) joined ≡ after (after (next_form format w h stage sofar) begun) more
 goes_on format w h stage sofar begun more joined e = ap (after (next_form format w h stage sofar)) e ∙ after-append (next_form format w h stage sofar) begun more
 

@@ -1,9 +1,9 @@
--- Fields that are drawn one after another.
+-- Fields that are drawn one after another. So what is drawn of subrectangles holds of all of them.
 use Rattle.std.proofs.Common.{◌≡◌, ℕ, ◌+◌, ◌-◌, List, [], ◌++◌, length, length-append, take, drop, refl, sym, ap, ◌∙◌, append_assoc, arith}
 use Rattle.std.proofs.lemmas.List.{take-append-drop, take_at}
 use Rattle.pixel_format.specs.PixelFormat.{PixelFormat}
-use Rattle.pixel_format.specs.Reading.{Reading, after, taken}
-use Rattle.pixel_format.proofs.ReadingLaws.{after-append, taken-append, taken-nil}
+use Rattle.byte_reading.specs.Reading.{Reading, after, taken}
+use Rattle.byte_reading.proofs.ReadingLaws.{after-append, taken-append, taken-nil}
 use Rattle.raster.specs.Screen.{Canvas}
 use Rattle.raster.specs.Encoding.{Drawing}
 use Rattle.rre_codec.specs.declared.stage.Stage.{Stage}
@@ -21,7 +21,7 @@ led_then keeps format w h s t u xs ys mid now sofar f g =
       shows = l.shows;
     }
 
--- Of some bytes there are left those behind the ones that were drawn.
+-- Of some bytes there are left those after the ones that were drawn.
 pub record HasLed (keeps : ℕ → ℕ) (format : PixelFormat) (w h : ℕ) (s t : Stage) (bytes rest : List ℕ) (now : Canvas) (sofar : Drawing) : Type 0 where
   pub front : List ℕ
   pub joined : front ++ rest ≡ bytes

@@ -1,4 +1,4 @@
--- How long a form is, and when it saves bytes.
+-- How long a form is, and when it saves bytes. `encode` stops where Raw is as short.
 use Rattle.std.proofs.Common.{◌≡◌, ℕ, true, false, List, [], ◌∷◌, ◌++◌, length, take, drop, ◌+◌, ◌-◌, ◌*◌, ◌/◌, ◌<◌, ◌≤◌, sym, ap, ◌∙◌, append_assoc, length-append, arith}
 use Rattle.std.specs.List.{flat_map}
 use Rattle.std.specs.Int.{w16, to_be_bytes}
@@ -36,11 +36,11 @@ all_len format (s ∷ ss) =
     let rest : length (flat_map (rre_subrect_bytes format) ss) ≡ n * length ss = all_len format ss in
     omega (arith, length-append (rre_subrect_bytes format s) (flat_map (rre_subrect_bytes format) ss), one_len format s, rest)
 
--- Behind what stands in front.
+-- How long a form is after what comes before its subrectangles.
 pub behind_len : (format : PixelFormat) (front : List ℕ) (ss : List Subrect) → length (front ++ flat_map (rre_subrect_bytes format) ss) ≡ length front + subrect_len format * length ss
 behind_len format front ss = omega (arith, length-append front (flat_map (rre_subrect_bytes format) ss), all_len format ss)
 
--- And behind a number's place and the background.
+-- And after a number's place and the background.
 pub head_len : (format : PixelFormat) (out : List ℕ) (v : ℕ) (ss : List Subrect) → 4 ≤ length out → length (take 4 out ++ pixel_bytes format v ++ flat_map (rre_subrect_bytes format) ss) ≡ 4 + pixel_len format + subrect_len format * length ss
 head_len format out v ss le =
     let p : List ℕ = pixel_bytes format v in

@@ -2,5 +2,4 @@ pub mod RunsPut
 pub mod Lengths
 pub mod Steps
 pub mod Going
-pub mod Fed
 pub mod LedOn

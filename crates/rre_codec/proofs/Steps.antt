@@ -1,12 +1,13 @@
--- What the bytes that are looked at together lead to.
+-- What the bytes that are looked at together lead to. A reader looks at a whole field, and its reading goes byte by
+-- byte.
 use Rattle.std.proofs.Common.{◌≡◌, ℕ, zero, suc, ◌+◌, ◌-◌, ◌<◌, ◌≤◌, true, false, not, cond, Bool, List, [], ◌∷◌, ◌++◌, length, take, drop, refl, sym, ap, ◌∙◌, arith}
 use Rattle.std.specs.Int.{w8, w16, w32, byte_len, from_be_bytes}
 use Rattle.std.specs.Prelude.{◌==◌}
 use Rattle.std.proofs.lemmas.List.{length-take, length-drop, take-append-drop}
 use Rattle.pixel_format.specs.PixelFormat.{PixelFormat, pixel_len, pixel_of}
-use Rattle.pixel_format.specs.Reading.{Reading, Done, Faulty, ◌>>=◌, after, taken, times, unless, u32, Spells}
+use Rattle.byte_reading.specs.Reading.{Reading, Done, Faulty, ◌>>=◌, after, taken, times, unless, u32, Spells}
 use Rattle.pixel_format.specs.declared.fault.Fault.TheVariants.{SubrectOutside}
-use Rattle.pixel_format.proofs.ReadingLaws.{after-append, after_bind, after_bind_open}
+use Rattle.byte_reading.proofs.ReadingLaws.{after-append, after_bind, after_bind_open}
 use Rattle.raster.specs.declared.rect.Rect.{Rect}
 use Rattle.raster.specs.Screen.{Canvas, LooksLike, fill, is_within, kept}
 use Rattle.raster.proofs.Kept.{kept_fill}

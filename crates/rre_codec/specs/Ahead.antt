@@ -1,8 +1,7 @@
 -- How reading RRE goes on (RFC 6143, 7.7.3).
-use Rattle.std.specs.Prelude.{◌≡◌, ℕ, ◌+◌, List, ◌++◌, length, Result, Bool, true, false, nat_lt}
+use Rattle.std.specs.Prelude.{◌≡◌, ℕ, ◌+◌, List, ◌++◌, length, Bool, true, false, nat_lt}
 use Rattle.pixel_format.specs.PixelFormat.{PixelFormat, pixel_len}
-use Rattle.pixel_format.specs.Reading.{Reading, Done, Faulty, ◌>>=◌, after, taken, times, wants_more, Feeds}
-use Rattle.pixel_format.specs.declared.fault.Fault.{Fault}
+use Rattle.byte_reading.specs.Reading.{Reading, Done, Faulty, ◌>>=◌, after, taken, times, wants_more}
 use Rattle.pixel_format.specs.declared.fault.Fault.TheVariants.{SubrectOutside}
 use Rattle.raster.specs.Screen.{Canvas, LooksLike, kept}
 use Rattle.raster.specs.Encoding.{Drawing, drawn, rre, rre_subrect}
@@ -17,7 +16,7 @@ pub record Progress : Type 0 where
   pub stage : Stage
   pub begun : List ℕ
 
--- So many subrectangles are still to come, over what was drawn so far.
+-- This many subrectangles are still to come, over what was drawn so far.
 abbrev pub to_come : PixelFormat → ℕ → ℕ → Drawing → ℕ → Reading Drawing
 to_come format w h sofar count =
     times count (rre_subrect format w h) >>= λ more. Done (record { background = sofar.background; subrects = sofar.subrects ++ more })
@@ -51,19 +50,6 @@ pub record IsSameSize (old new : Progress) : Type 0 where
   pub format : new.format ≡ old.format
   pub width : new.width ≡ old.width
   pub height : new.height ≡ old.height
-
--- A reader took bytes, each of which was wanted, and drew what they say.
-pub record Steps (keeps : ℕ → ℕ) (old new : Progress) (now : Canvas) (bytes : List ℕ) (sofar : Drawing) : Type 0 where
-  pub drawing : Drawing
-  pub reads : ahead new drawing ≡ after (ahead old sofar) bytes
-  pub takes : taken (ahead old sofar) bytes ≡ length bytes
-  pub stands : Stands keeps new now drawing
-
--- A reader was fed a piece, and drew what it took of it.
-pub record Draws (keeps : ℕ → ℕ) (old new : Progress) (now : Canvas) (piece : List ℕ) (answer : Result ℕ Fault) (sofar : Drawing) : Type 0 where
-  pub drawing : Drawing
-  pub feeds : Feeds (ahead old sofar) (ahead new drawing) piece answer
-  pub stands : Stands keeps new now drawing
 
 -- Bytes are all wanted, and lead from one stage to a later one, and what they say was drawn.
 pub record Led (keeps : ℕ → ℕ) (format : PixelFormat) (w h : ℕ) (stage next : Stage) (bytes : List ℕ) (now : Canvas) (sofar : Drawing) : Type 0 where

@@ -1,20 +1,22 @@
 //! Reading RRE, in whatever pieces it comes.
 
-ghost use Rattle.std.specs.Prelude.{◌≡◌, ℕ, ◌+◌, ◌<◌, ◌≤◌, true, length, take, is_some, Some, None, IfOk, OnOk, MatchResult};
+ghost use Rattle.std.specs.Prelude.{◌≡◌, ℕ, ◌+◌, ◌<◌, ◌≤◌, true, [], length, take, is_some, None, IfOk, OnOk};
 ghost use Rattle.pixel_format.specs.PixelFormat.{pixel_len};
-ghost use Rattle.pixel_format.specs.Reading.{Done, whole_of, fault_of};
+ghost use Rattle.byte_reading.specs.Reading.{Done, whole_of, fault_of};
+ghost use Rattle.raster.specs.declared.encoding.Encoding.TheVariants.{Rre};
 ghost use Rattle.raster.specs.Encoding.{Drawing, drawn, rre};
+ghost use Rattle.raster.specs.Reader.{Draws};
 ghost use Rattle.raster.specs.Screen.{Map, LooksLike, kept};
-ghost use Rattle.rre_codec.specs.Ahead.{Leads, needed, is_open, ahead, Stands, Steps, Draws, IsSameSize, IsWanting};
+ghost use Rattle.rre_codec.specs.Ahead.{Leads, needed, is_open, ahead, Stands, IsSameSize, IsWanting};
 
 use crate::run::COUNT_LEN;
 use crate::stage::{MOST_NEEDED, Stage, is_open, needed};
 use arrayvec::ArrayVec;
 use pixel_format::{Fault, Format};
-use raster::{Canvas, RECT_LEN, Rect};
+use raster::{Canvas, CodecReader, RECT_LEN, Rect, read_piece};
 use std::marker::Model;
 
-/// Draws the background in the bytes of a head, and answers that its subrectangles are next.
+/// Draws the background in the bytes of a header, and answers that its subrectangles are next.
 fn draw_head<C: Canvas>(format: &Format, w: u64, h: u64, bytes: &[u8], canvas: &mut C) -> Stage
     requires count { length bytes.now ≡ COUNT_LEN + pixel_len format.now }
     requires width { C.width canvas.old ≡ w }
@@ -140,6 +142,7 @@ impl Model for Reader {
 impl Reader {
     /// A reader to which no byte has come, of a rectangle of `w` by `h` in a format.
     pub fn new(w: u64, h: u64, format: Format) -> Reader
+        ensures format { result.format ≡ format }
         ensures width { result.width ≡ w }
         ensures height { result.height ≡ h }
         ensures begins { (sofar : Drawing) → ahead result sofar ≡ rre format w h }
@@ -165,28 +168,68 @@ impl Reader {
         }
     }
 
-    /// Whether another byte is wanted.
-    fn wants_more(&self) -> bool
-        ensures { result ≡ is_open self.now.stage }
-    {
-        is_open(self.stage)
-    }
-
-    /// Takes the front of some bytes, as far as they are looked at together, and answers how many. Only where they end
-    /// too early, they are kept.
-    fn step<C: Canvas>(&mut self, canvas: &mut C, bytes: &[u8]) -> usize
-        requires open { is_open self.old.stage ≡ true }
-        requires some { 0 < length bytes.now }
+    /// Takes the next piece, up to the end of the rectangle, and draws it on a canvas of the rectangle's size.
+    /// Answers how many bytes it used.
+    ///
+    /// `SubrectOutside` at the last byte of a subrectangle that leaves the rectangle. The fault is final.
+    pub fn feed<C: Canvas>(&mut self, canvas: &mut C, piece: &[u8]) -> Result<usize, Fault>
         requires width { C.width canvas.old ≡ self.old.width }
         requires height { C.height canvas.old ≡ self.old.height }
-        ensures some { 0 < result }
-        ensures within { result ≤ length bytes.now }
         ensures size { IsSameSize self.old self.new }
         ensures width { C.width canvas.new ≡ self.old.width }
         ensures height { C.height canvas.new ≡ self.old.height }
         ensures stays { C.Stays canvas.old canvas.new }
-        ensures drawn { (sofar : Drawing) → Stands C.keeps self.old (C.shows canvas.old) sofar → Steps C.keeps self.old self.new (C.shows canvas.new) (take result bytes.now) sofar }
+        ensures within { IfOk result (λ used. used ≤ length piece.now) }
+        ensures some { IsWanting self.old → 0 < length piece.now → IfOk result (λ used. 0 < used) }
+        ensures fine { OnOk result ((sofar : Drawing) → fault_of (ahead self.new sofar) ≡ None) }
+        ensures drawn { (sofar : Drawing) → Stands C.keeps self.old (C.shows canvas.old) sofar → Draws ahead (Stands C.keeps) self.old self.new (C.shows canvas.new) piece.now result sofar }
     {
+        read_piece(self, canvas, piece)
+    }
+}
+
+impl CodecReader for Reader {
+    ghost encoding = { Rre };
+
+    ghost Sofar = { Drawing };
+
+    ghost nothing = { record { background = 0; subrects = [] } };
+
+    ghost Read = { Drawing };
+
+    ghost picture = { λ w h drawing. drawn drawing };
+
+    ghost format_of = { λ p. p.format };
+
+    ghost width = { λ p. p.width };
+
+    ghost height = { λ p. p.height };
+
+    ghost ahead = { ahead };
+
+    ghost Stands = { Stands };
+
+    fn begin(w: u64, h: u64, format: Format) -> Reader {
+        Reader::new(w, h, format)
+    }
+
+    fn whole(&self) -> bool {
+        Reader::whole(self)
+    }
+
+    fn is_open(&self) -> bool {
+        is_open(self.stage)
+    }
+
+    fn fault(&self) -> Option<Fault> {
+        match self.stage {
+            Stage::Outside => Some(Fault::SubrectOutside),
+            _ => None,
+        }
+    }
+
+    /// It takes the bytes as far as they are looked at together.
+    fn step<C: Canvas>(&mut self, canvas: &mut C, bytes: &[u8]) -> usize {
         let needed = needed(&self.format, self.stage);
         if self.begun.is_empty() && needed <= bytes.len() {
             let (stage, used) = draw_fields(
@@ -215,40 +258,5 @@ impl Reader {
             self.begun.clear();
         }
         count
-    }
-
-    /// How many bytes were used, or the fault at which it stands.
-    fn answer(&self, used: usize) -> Result<usize, Fault>
-        ensures { (sofar : Drawing) → MatchResult result (λ n. (n ≡ used) × (fault_of (ahead self.now sofar) ≡ None)) (λ fault. fault_of (ahead self.now sofar) ≡ Some fault) }
-    {
-        match self.stage {
-            Stage::Outside => Err(Fault::SubrectOutside),
-            _ => Ok(used),
-        }
-    }
-
-    /// Takes the next piece, up to the end of the rectangle, and draws it on a canvas of the rectangle's size.
-    /// Answers how many bytes it used.
-    ///
-    /// `SubrectOutside` at the last byte of a subrectangle that leaves the rectangle. The fault is final.
-    pub fn feed<C: Canvas>(&mut self, canvas: &mut C, piece: &[u8]) -> Result<usize, Fault>
-        requires width { C.width canvas.old ≡ self.old.width }
-        requires height { C.height canvas.old ≡ self.old.height }
-        ensures size { IsSameSize self.old self.new }
-        ensures width { C.width canvas.new ≡ self.old.width }
-        ensures height { C.height canvas.new ≡ self.old.height }
-        ensures stays { C.Stays canvas.old canvas.new }
-        ensures within { IfOk result (λ used. used ≤ length piece.now) }
-        ensures some { IsWanting self.old → 0 < length piece.now → IfOk result (λ used. 0 < used) }
-        ensures fine { OnOk result ((sofar : Drawing) → fault_of (ahead self.new sofar) ≡ None) }
-        ensures drawn { (sofar : Drawing) → Stands C.keeps self.old (C.shows canvas.old) sofar → Draws C.keeps self.old self.new (C.shows canvas.new) piece.now result sofar }
-    {
-        let mut left = piece;
-        while !left.is_empty() && self.wants_more() {
-            let used = self.step(canvas, left);
-            let (_, rest) = left.split_at(used);
-            left = rest;
-        }
-        self.answer(piece.len() - left.len())
     }
 }

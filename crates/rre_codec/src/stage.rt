@@ -12,7 +12,7 @@ use raster::RECT_LEN;
 pub enum Stage {
     /// The number of subrectangles, and the background.
     Head,
-    /// So many subrectangles.
+    /// This many subrectangles.
     Subrects(u32),
     /// None: a subrectangle left the rectangle.
     Outside,

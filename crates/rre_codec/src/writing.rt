@@ -49,7 +49,7 @@ fn put_row(
     Some(end)
 }
 
-/// Writes the background and all runs behind the place of their number, and answers where they end; `None` where
+/// Writes the background and all runs after the place of their number, and answers where they end; `None` where
 /// that isn't inside `out`.
 fn put_runs(format: &Format, values: &[u32], w: usize, h: usize, out: &mut [u8]) -> Option<usize>
     requires wide { w < 2 ^ 16 }
@@ -85,7 +85,7 @@ pub fn encode(values: &[u32], w: u64, h: u64, format: &Format, out: &mut [u8]) -
     if raw <= head {
         return None;
     }
-    // So many subrectangles have as many bytes as Raw, and they are counted faster than written.
+    // This many subrectangles have as many bytes as Raw, and they are counted faster than written.
     let enough = (raw - head).div_ceil(pixel + RECT_LEN);
     if has_runs(
         values,

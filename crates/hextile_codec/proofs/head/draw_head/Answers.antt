@@ -9,7 +9,7 @@ use Rattle.hextile_codec.proofs.TileDrawn.{background_drawn}
 use Rattle.hextile_codec.proofs.head.draw_head.Goals as goal
 use Rattle.hextile_codec.proofs.head.draw_head.Goals.{then-has, else-has}
 
--- A number of subrectangles stands behind the colours.
+-- A number of subrectangles stands after the colours.
 rest_len : (format : PixelFormat) (mask : ℕ) (b f s : Bool) (head behind last : List ℕ) → b ≡ has_bit mask 1 → f ≡ has_bit mask 2 → s ≡ has_bit mask 3 → behind ≡ drop (colour_len format b) head → last ≡ drop (colour_len format f) behind
     → length head ≡ head_len format mask → s ≡ true → length last ≡ 1
 rest_len format mask b f s head behind last is_b is_f is_s rest_b rest_f size some =

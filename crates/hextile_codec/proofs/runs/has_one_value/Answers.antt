@@ -9,7 +9,7 @@ use Rattle.hextile_codec.specs.declared.runs.Run.{Run}
 use Rattle.hextile_codec.specs.Kinds.{subrect_of, has_one_value}
 use Rattle.hextile_codec.proofs.runs.has_one_value.Goals as goal
 
--- The runs behind the first are compared with it.
+-- The runs after the first are compared with it.
 by_first : (first : Run) (others runs : List Run) → runs ≡ first ∷ others → list_all (λ (run : Run). run.value == first.value) others ≡ has_one_value (map subrect_of runs)
 by_first first others runs e = sym (ap (λ (rs : List Run). has_one_value (map subrect_of rs)) e ∙ list_all-map (λ (s : Subrect). s.value == first.value) subrect_of others)
 

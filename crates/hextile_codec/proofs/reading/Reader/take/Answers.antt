@@ -3,7 +3,8 @@ use Rattle.std.specs.Prelude.{not}
 use Rattle.raster.specs.Screen.{tile_count}
 use Rattle.hextile_codec.specs.Carried.{carried_by}
 use Rattle.hextile_codec.specs.Ahead.{is_failed}
-use Rattle.hextile_codec.proofs.Taking.{wanting_lt, stays_in_tile, leaves_tile, place_stays, place_moves}
+use Rattle.hextile_codec.proofs.Standing.{wanting_lt}
+use Rattle.hextile_codec.proofs.Taking.{stays_in_tile, leaves_tile, place_stays, place_moves}
 use Rattle.hextile_codec.proofs.TilesShown.{is_tile}
 use Rattle.hextile_codec.proofs.reading.Reader.take.Goals as goal
 
