@@ -1,9 +1,9 @@
--- What follows once all bytes of a part have come.
+-- What follows once all bytes of a part have come. The decoder then stands at the part after it, or at a fault.
 use Rattle.std.proofs.Common.{◌≡◌, ℕ, ◌*◌, ◌<◌, ◌≤◌, Bool, true, false, List, [], length, take, inr, sym, ap, subst, ◌∙◌}
 use Rattle.std.specs.Prelude.{if◌then◌else◌, nat_le}
 use Rattle.std.proofs.lemmas.Bool.{lt-leb, le-leb}
 use Rattle.pixel_format.specs.PixelFormat.{host_format}
-use Rattle.pixel_format.specs.Reading.{Reading, Done, ◌>>=◌, after, bytes, padding, u32, Spells}
+use Rattle.byte_reading.specs.Reading.{Reading, Done, ◌>>=◌, after, bytes, padding, u32, Spells}
 use Rattle.raster.specs.declared.rect.Rect.{Rect}
 use Rattle.raster.specs.Screen.{Canvas}
 use Rattle.raster.specs.Update.{Paint}
@@ -11,17 +11,17 @@ use Rattle.painter.specs.Painter.{Painting}
 use Rattle.rfb_wire.specs.ClientMessage.{longest_text}
 use Rattle.rfb_wire.specs.ServerHeads.{colour_map_head, text_head, update_head}
 use Rattle.rfb_wire.specs.ServerMessage.{ServerMessage, SetColorMapEntries, ServerCutText, LostText, data_of, set_color_map_entries}
-use Rattle.host_decoder.specs.declared.part.Part.TheVariants as part
+use Rattle.host_decoder.specs.declared.part.HostPart.TheVariants as part
 use Rattle.host_decoder.specs.declared.passed.Passed.TheVariants as passed
-use Rattle.host_decoder.specs.declared.state.State.{State}
+use Rattle.host_decoder.specs.declared.state.HostState.{HostState}
 use Rattle.host_decoder.specs.Decoder.{GoesOn, Holds, StandsUnpainted, form_of, keeping, passing, rectangles, with_others}
 use Rattle.host_decoder.proofs.HostParts.{head_read}
 
 -- Outside an update no paint is held.
-pub outside_update : (painter : Painting) (start : Canvas) (sofar : List Paint) (state : State) (r : Reading ServerMessage) → Holds start painter sofar → sofar ≡ [] → StandsUnpainted painter.width painter.height state r → GoesOn painter painter state start r
+pub outside_update : (painter : Painting) (start : Canvas) (sofar : List Paint) (state : HostState) (r : Reading ServerMessage) → Holds start painter sofar → sofar ≡ [] → StandsUnpainted painter.width painter.height state r → GoesOn painter painter state start r
 outside_update painter start sofar state r holds none stands = inr (stands start painter (subst (λ ps. Holds start painter ps) none holds))
 
--- ---- what is read behind a part
+-- ---- what is read after a part
 
 pub behind_count : (w h : ℕ) (sofar : List Paint) (bs : List ℕ) (count : ℕ) → length bs ≡ 3 → sofar ≡ [] → Spells update_head (take 3 bs) count → after (form_of w h sofar part.Count) bs ≡ rectangles w h sofar count
 behind_count w h sofar bs count e none spells = head_read 3 update_head (λ n. rectangles w h [] n) bs count e spells ∙ ap (λ ps. rectangles w h ps count) (sym none)

@@ -1,13 +1,13 @@
--- The source of a CopyRect, in pieces.
+-- The source of a CopyRect, in pieces. A piece may end inside it.
 use Rattle.std.proofs.Common.{◌≡◌, ℕ, ◌+◌, ◌-◌, ◌<◌, ◌≤◌, min, not, Bool, true, false, List, [], ◌∷◌, ◌++◌, take, drop, length, inl, inr, refl, sym, ap, subst, ◌∙◌, arith}
 use Rattle.std.specs.Prelude.{nat_le}
 use Rattle.std.proofs.lemmas.Bool.{and_parts, cases_lt}
 use Rattle.std.proofs.lemmas.Bool.Decides.{nat_tests}
 use Rattle.std.specs.Int.{w16, from_be_bytes}
 use Rattle.std.proofs.lemmas.List.{take-append-drop, length-take, length-drop, length-append}
-use Rattle.pixel_format.specs.Reading.{Reading, Done, Faulty, after, taken, wants_more, unless}
+use Rattle.byte_reading.specs.Reading.{Reading, Done, Faulty, after, taken, wants_more, unless}
 use Rattle.pixel_format.specs.declared.fault.Fault.TheVariants.{CopyOutside}
-use Rattle.pixel_format.proofs.ReadingLaws.{after-append, after_bind, after-stays, done, done_is, taken-append, taken-nil, taken-stays}
+use Rattle.byte_reading.proofs.ReadingLaws.{after-append, after_bind, after-stays, done, done_is, taken-append, taken-nil, taken-stays}
 use Rattle.raster.specs.declared.rect.Rect.{Rect}
 use Rattle.raster.specs.Screen.{IsWithin, is_within}
 use Rattle.raster.specs.Update.{Paint, Copy}
@@ -16,7 +16,7 @@ use Rattle.rfb_wire.specs.ServerMessage.{copy_rect}
 use Rattle.rfb_wire.specs.ServerHeads.{copy_source}
 use Rattle.host_decoder.specs.Data.{IsSource}
 
--- ---- a form that needs so many bytes and then wants no more
+-- ---- a form that needs this many bytes and then wants no more
 
 abbrev pub Closes : {A : Type 0} → ℕ → Reading A → Type 0
 Closes k form = (bs : List ℕ) → length bs ≡ k → wants_more (after form bs) ≡ false

@@ -1,7 +1,7 @@
--- What a rectangle shows once it is whole.
+-- What a rectangle shows once it is whole. It is one paint of the update then.
 use Rattle.std.proofs.Common.{◌≡◌, ℕ, ◌<◌, Bool, true, false, List, [], ◌∷◌, ◌++◌, is_some, Ok, refl, sym, subst, ◌∙◌}
-use Rattle.pixel_format.specs.Reading.{Reading, Done, after, taken, wants_more, whole_of}
-use Rattle.pixel_format.proofs.ReadingLaws.{none_from, wants_from, whole_from}
+use Rattle.byte_reading.specs.Reading.{Reading, Done, after, taken, wants_more, whole_of}
+use Rattle.byte_reading.proofs.ReadingLaws.{none_from, wants_from, whole_from}
 use Rattle.raster.specs.declared.rect.Rect.{Rect}
 use Rattle.raster.specs.Screen.{Canvas, LooksLike, kept, values_of}
 use Rattle.raster.specs.Update.{Paint}

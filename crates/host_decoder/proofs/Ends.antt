@@ -1,14 +1,14 @@
--- Whole messages that paint nothing.
+-- Whole messages that paint nothing. Bells, texts and colour maps end so.
 use Rattle.std.proofs.Common.{◌≡◌, ℕ, List, [], ◌++◌, refl, sym, ap, subst}
 use Rattle.std.proofs.lemmas.List.{append-nil}
-use Rattle.pixel_format.specs.Reading.{Done}
+use Rattle.byte_reading.specs.Reading.{Done}
 use Rattle.raster.specs.Update.{Bell, Cut}
 use Rattle.painter.specs.Patch.{SizedUpdate}
 use Rattle.painter.proofs.SameLaws.{same_none, same_one}
 use Rattle.rfb_wire.specs.ServerMessage.{ServerMessage, SetColorMapEntries, ServerCutText, LostText}
 use Rattle.rfb_wire.specs.ServerMessage as server
 use Rattle.host_decoder.specs.declared.event.HostEvent.TheVariants as event
-use Rattle.host_decoder.specs.declared.state.State.TheVariants as state
+use Rattle.host_decoder.specs.declared.state.HostState.TheVariants as state
 use Rattle.host_decoder.specs.Events.{sized}
 use Rattle.host_decoder.specs.Decoder.{StandsUnpainted, keeping}
 

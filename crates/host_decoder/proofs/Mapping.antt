@@ -1,8 +1,8 @@
--- Reading a thing, and telling it in another way.
+-- Reading a thing, and telling it in another way. A rectangle's values are read, and told as a paint.
 use Rattle.std.proofs.Common.{◌≡◌, ℕ, suc, List, [], ◌∷◌, Result, Ok, Err, refl, sym, ap, ◌∙◌}
 use Rattle.pixel_format.specs.declared.fault.Fault.{Fault}
-use Rattle.pixel_format.specs.Reading.{Reading, Done, Faulty, Want, ◌>>=◌, after, taken, fault_of, Feeds}
-use Rattle.pixel_format.proofs.ReadingLaws.{after-done, after-faulty, done_is}
+use Rattle.byte_reading.specs.Reading.{Reading, Done, Faulty, Want, ◌>>=◌, after, taken, fault_of, Feeds}
+use Rattle.byte_reading.proofs.ReadingLaws.{after-done, after-faulty, done_is}
 use Rattle.raster.specs.declared.rect.Rect.{Rect}
 use Rattle.raster.specs.Update.{Paint, Put}
 use Rattle.host_decoder.specs.Data.{putting, FedAs}

@@ -1,4 +1,4 @@
--- The pixels of a Raw rectangle, in pieces.
+-- The pixels of a Raw rectangle, in pieces. A piece may end in the middle of a pixel.
 use Rattle.std.proofs.Common.{◌≡◌, ℕ, zero, suc, ◌+◌, ◌-◌, ◌*◌, ◌<◌, ◌≤◌, true, false, List, [], ◌∷◌, ◌++◌, take, drop, map, length, None, is_some, subst, Ok, inl, inr, refl, sym, ap, ◌∙◌, append_assoc, append-nil, length-append, arith}
 use Rattle.std.proofs.lemmas.Bool.{eq-eqb, ne_eqb}
 use Rattle.std.proofs.lemmas.List.{get_or-map, length-take, length-drop, take_all, take-append-drop}
@@ -10,9 +10,9 @@ use Rattle.std.specs.Prelude.{◌==◌}
 use Rattle.std.specs.Simd.{first_chunks}
 use Rattle.std.specs.Int.{w32, from_le_bytes}
 use Rattle.pixel_format.specs.PixelFormat.{host_format}
-use Rattle.pixel_format.specs.Reading.{Reading, Done, ◌>>=◌, after, taken, times, wants_more, whole_of, fault_of}
-use Rattle.pixel_format.proofs.ReadingLaws.{after-append, after-done, bind_assoc, bind_done, done_is, none_whole, taken-append, wants_no_fault, wants_not_whole}
-use Rattle.pixel_format.proofs.InOrder.{then_wants}
+use Rattle.byte_reading.specs.Reading.{Reading, Done, ◌>>=◌, after, taken, times, wants_more, whole_of, fault_of}
+use Rattle.byte_reading.proofs.ReadingLaws.{after-append, after-done, bind_assoc, bind_done, done_is, none_whole, taken-append, wants_no_fault, wants_not_whole}
+use Rattle.byte_reading.proofs.InOrder.{then_wants}
 use Rattle.raster.specs.declared.rect.Rect.{Rect}
 use Rattle.raster.specs.Encoding.{pixel, raw}
 use Rattle.raster.specs.Screen.{Canvas}
@@ -25,7 +25,7 @@ use Rattle.host_decoder.specs.DataParts.{RawProgress}
 use Rattle.host_decoder.proofs.Copies.{stays_behind}
 use Rattle.host_decoder.proofs.Mapping.{told_after, told_taken}
 
--- The pixels that are still to come, behind those of some values.
+-- The pixels that are still to come, after those of some values.
 abbrev pub to_come : ℕ → List ℕ → Reading (List ℕ)
 to_come n values = times n (pixel host_format) >>= λ more. Done (values ++ more)
 
@@ -80,7 +80,7 @@ pixels_more (suc k) (suc n) values (a ∷ b ∷ c ∷ d ∷ bytes) le in_ =
 
 -- ---- a reader of them
 
--- How it goes on, with so many pixels to come.
+-- How it goes on, with this many pixels to come.
 goes_on : (area : Rect) (p : RawProgress) (canvas : Canvas) (reading : Reading Paint) (s : RawStands area p canvas reading) (n : ℕ) → n + p.done ≡ p.count → reading ≡ putting area (after (to_come n s.values) p.begun)
 goes_on area p canvas reading s n e =
     let m : p.count - length s.values ≡ n = omega (arith, e, s.done) in

@@ -1,4 +1,4 @@
--- Pixels that are put behind those that have come, row by row.
+-- Pixels that are put after those that have come, row by row. `put_pixels` puts them so, and owes the pixels in order.
 use Rattle.std.proofs.Common.{◌≡◌, ℕ, zero, suc, ◌+◌, ◌-◌, ◌*◌, ◌/◌, ◌%◌, ◌<◌, ◌≤◌, List, [], ◌++◌, map, length, get_or, inl, inr, refl, sym, ap, subst, ◌∙◌, append_assoc, append-nil, length-append, arith}
 use Rattle.std.specs.Prelude.{◌⊎◌}
 use Rattle.std.specs.Int.{w32, from_le_bytes}
@@ -14,7 +14,7 @@ use Rattle.painter.specs.Painter.{Painting}
 use Rattle.host_decoder.specs.Updates.{colour_of}
 use Rattle.host_decoder.specs.Data.{ShowsFirst}
 
--- A part of a row behind the pixels that have come.
+-- A part of a row after the pixels that have come.
 row_grows : (w h row column n : ℕ) (before more : List ℕ) (old new : Canvas) → column + n ≤ w → length before ≡ row * w + column → length more ≡ n
     → LooksLike w h new (lay (record { x = column; y = row; w = n; h = 1 }) (kept colour_of (value_at n more)) old)
     → ((x y : ℕ) → x < w → y < h → y * w + x < row * w + column → old x y ≡ colour_of (value_at w before x y))
@@ -55,7 +55,7 @@ first_grow area at n before more old new some lt le len count shows sofar x y lx
 
 -- ---- pixels that are put one part of a row after another
 
--- So many of them are put, and these are left.
+-- This many of them are put, and these are left.
 pub record HasPut (old now : Painting) (done at : ℕ) (pixels left : List (List ℕ)) : Type 0 where
   pub front : List (List ℕ)
   pub joined : front ++ left ≡ pixels

@@ -1,18 +1,18 @@
--- The data of a rectangle, and what follows them.
+-- The data of a rectangle, and what follows them. One reader's bytes end where the next rectangle begins.
 use Rattle.std.proofs.Common.{◌≡◌, ℕ, suc, true, List, [], ◌∷◌, ◌++◌, length, map, drop, inr, refl, sym, ap, subst, ◌∙◌, arith}
 use Rattle.std.proofs.lemmas.List.{drop_all, map-append}
 use Rattle.pixel_format.specs.declared.fault.Fault.{Fault}
-use Rattle.pixel_format.specs.Reading.{Reading, Done, Faulty, Want, ◌>>=◌, after, taken, wants_more}
-use Rattle.pixel_format.proofs.InOrder.{then_done, then_taken, then_faulty}
-use Rattle.pixel_format.proofs.ReadingLaws.{after_bind_open, after-faulty, taken-nil, taken-open}
+use Rattle.byte_reading.specs.Reading.{Reading, Done, Faulty, Want, ◌>>=◌, after, taken, wants_more}
+use Rattle.byte_reading.proofs.InOrder.{then_done, then_taken, then_faulty}
+use Rattle.byte_reading.proofs.ReadingLaws.{after_bind_open, after-faulty, taken-nil, taken-open}
 use Rattle.raster.specs.Screen.{Canvas}
 use Rattle.raster.specs.Update.{Paint}
 use Rattle.painter.specs.Painter.{Painting, IsPaintedOver}
 use Rattle.rfb_wire.specs.ServerMessage.{ServerMessage}
 use Rattle.host_decoder.specs.Data.{DataProgress, DataStands}
 use Rattle.host_decoder.specs.Updates.{in_colours}
-use Rattle.host_decoder.specs.declared.state.State.{State}
-use Rattle.host_decoder.specs.declared.state.State.TheVariants as state
+use Rattle.host_decoder.specs.declared.state.HostState.{HostState}
+use Rattle.host_decoder.specs.declared.state.HostState.TheVariants as state
 use Rattle.host_decoder.specs.Decoder.{GoesOn, Holds, Uses, behind, with_others}
 
 -- ---- a rectangle is painted
@@ -23,7 +23,7 @@ paint_held start painter sofar paint painted is stands =
 
 -- ---- a step over its data
 
--- Where all is taken of the first thing, it is of both.
+-- Where the first thing takes all bytes, the two together take them all.
 pub taken_open : {A B : Type 0} (form : Reading A) (next : A → Reading B) (bs : List ℕ) → taken form bs ≡ length bs → taken (form >>= next) bs ≡ length bs
 taken_open (Done x) next [] e = taken-nil (next x)
 taken_open (Done x) next (b ∷ bs) e = absurd (omega arith)
@@ -32,7 +32,7 @@ taken_open (Faulty f) next (b ∷ bs) e = absurd (omega arith)
 taken_open (Want more) next [] e = refl
 taken_open (Want more) next (b ∷ bs) e = ap suc (taken_open (more b) next bs (omega (arith, e)))
 
-pub uses_whole : (old new : Painting) (state : State) (left used : ℕ) (bs : List ℕ) (start : Canvas) (sofar : List Paint) (r : Reading Paint) (p : Paint) → used ≡ taken r bs → after r bs ≡ Done p
+pub uses_whole : (old new : Painting) (state : HostState) (left used : ℕ) (bs : List ℕ) (start : Canvas) (sofar : List Paint) (r : Reading Paint) (p : Paint) → used ≡ taken r bs → after r bs ≡ Done p
     → GoesOn old new state start (behind old.width old.height sofar left p) → Uses old new state start (with_others old.width old.height sofar left r) bs used
 uses_whole old new state left used bs start sofar r p count is next =
     let b : Paint → Reading ServerMessage = behind old.width old.height sofar left in

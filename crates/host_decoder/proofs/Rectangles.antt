@@ -1,12 +1,12 @@
--- The rectangles of an update, one after another.
+-- The rectangles of an update, one after another. The decoder counts those that are left.
 use Rattle.std.proofs.Common.{◌≡◌, ℕ, suc, ◌-◌, ◌<◌, true, false, not, List, [], ◌∷◌, ◌++◌, length, map, take, inr, sym, ap, subst, ◌∙◌, append_assoc, arith}
 use mathlib.Core.Path.{fun_ext}
 use Rattle.std.proofs.lemmas.List.{append-nil}
-use Rattle.pixel_format.proofs.InOrder.{unless_passes, unless_fails}
-use Rattle.pixel_format.proofs.ReadingLaws.{bind_assoc}
+use Rattle.byte_reading.proofs.InOrder.{unless_passes, unless_fails}
+use Rattle.byte_reading.proofs.ReadingLaws.{bind_assoc}
 use Rattle.pixel_format.specs.PixelFormat.{host_format}
 use Rattle.pixel_format.specs.declared.fault.Fault.TheVariants.{RectOutside}
-use Rattle.pixel_format.specs.Reading.{Reading, Done, Faulty, ◌>>=◌, after, times, u32, unless, Spells}
+use Rattle.byte_reading.specs.Reading.{Reading, Done, Faulty, ◌>>=◌, after, times, u32, unless, Spells}
 use Rattle.raster.specs.declared.rect.Rect.{Rect}
 use Rattle.raster.specs.Encoding.{rect}
 use Rattle.raster.specs.Screen.{Canvas, is_within}
@@ -16,9 +16,9 @@ use Rattle.painter.specs.Same.{AreSameUpdates}
 use Rattle.painter.specs.Patch.{SizedUpdate}
 use Rattle.rfb_wire.specs.ServerMessage.{ServerMessage, FramebufferUpdate, data_of, rectangle}
 use Rattle.host_decoder.specs.declared.event.HostEvent.TheVariants as event
-use Rattle.host_decoder.specs.declared.part.Part.{Part}
-use Rattle.host_decoder.specs.declared.part.Part.TheVariants as part
-use Rattle.host_decoder.specs.declared.state.State.TheVariants as state
+use Rattle.host_decoder.specs.declared.part.HostPart.{HostPart}
+use Rattle.host_decoder.specs.declared.part.HostPart.TheVariants as part
+use Rattle.host_decoder.specs.declared.state.HostState.TheVariants as state
 use Rattle.host_decoder.specs.Updates.{in_colours}
 use Rattle.host_decoder.specs.Decoder.{GoesOn, Holds, InPart, form_of, rectangles, with_others}
 use Rattle.host_decoder.proofs.HostParts.{head_read}
@@ -36,7 +36,7 @@ one_and_others w h sofar left =
     ∙ ap (λ (f : List Paint → Reading ServerMessage). others >>= f) (fun_ext (λ ps. ap (λ t. Done (FramebufferUpdate t)) (sym (append_assoc sofar (first ∷ []) ps))))))
 
 -- The next one's place is read.
-pub to_area : (painter : Painting) (left : ℕ) (fields : Part × List ℕ) (start : Canvas) (sofar : List Paint) → 0 < left → fields ≡ (part.Area (left - 1), []) → Holds start painter sofar
+pub to_area : (painter : Painting) (left : ℕ) (fields : HostPart × List ℕ) (start : Canvas) (sofar : List Paint) → 0 < left → fields ≡ (part.Area (left - 1), []) → Holds start painter sofar
     → GoesOn painter painter (state.Fields fields) start (rectangles painter.width painter.height sofar left)
 to_area painter left fields start sofar some is holds =
     let w : ℕ = painter.width in
@@ -44,7 +44,7 @@ to_area painter left fields start sofar some is holds =
     let grown : suc (left - 1) ≡ left = omega arith in
     let reads : rectangles w h sofar left ≡ after (form_of w h sofar (part.Area (left - 1))) [] = ap (λ n. rectangles w h sofar n) (sym grown) ∙ one_and_others w h sofar (left - 1) in
     let here : InPart w h (part.Area (left - 1)) [] start painter (rectangles w h sofar left) = record { sofar = sofar; holds = holds; suited = tt; missing = omega arith; reads = reads } in
-    inr (subst (λ (f : Part × List ℕ). InPart w h f.0 f.1 start painter (rectangles w h sofar left)) (sym is) here)
+    inr (subst (λ (f : HostPart × List ℕ). InPart w h f.0 f.1 start painter (rectangles w h sofar left)) (sym is) here)
 
 -- None is left, and the update has its patch.
 pub to_end : (old new : Painting) (left : ℕ) (patch : SizedUpdate) (start : Canvas) (sofar : List Paint) → left ≡ 0 → (patch.width ≡ old.width) × (patch.height ≡ old.height)
@@ -67,14 +67,14 @@ judged w h area = unless (not (is_within area w h)) RectOutside (u32 >>= data_of
 area_read : (w h : ℕ) (sofar : List Paint) (left : ℕ) (bs : List ℕ) (area : Rect) → length bs ≡ 8 → Spells rect (take 8 bs) area → after (form_of w h sofar (part.Area left)) bs ≡ with_others w h sofar left (judged w h area)
 area_read w h sofar left bs area e spells = head_read 8 rect (λ place. with_others w h sofar left (judged w h place)) bs area e spells
 
-pub encoding_next : (w h : ℕ) (start : Canvas) (painter : Painting) (sofar : List Paint) (left : ℕ) (bs : List ℕ) (area : Rect) (fields : Part × List ℕ)
+pub encoding_next : (w h : ℕ) (start : Canvas) (painter : Painting) (sofar : List Paint) (left : ℕ) (bs : List ℕ) (area : Rect) (fields : HostPart × List ℕ)
     → length bs ≡ 8 → Spells rect (take 8 bs) area → is_within area w h ≡ true → fields ≡ (part.Encoding left area, []) → Holds start painter sofar → InPart w h fields.0 fields.1 start painter (after (form_of w h sofar (part.Area left)) bs)
 encoding_next w h start painter sofar left bs area fields e spells ok is holds =
     let r : Reading ServerMessage = after (form_of w h sofar (part.Area left)) bs in
     let reads : r ≡ after (form_of w h sofar (part.Encoding left area)) [] =
     area_read w h sofar left bs area e spells ∙ ap (with_others w h sofar left) (unless_passes (not (is_within area w h)) RectOutside (u32 >>= data_of host_format w h area) (ap not ok)) in
     let here : InPart w h (part.Encoding left area) [] start painter r = record { sofar = sofar; holds = holds; suited = tt; missing = omega arith; reads = reads } in
-    subst (λ (f : Part × List ℕ). InPart w h f.0 f.1 start painter r) (sym is) here
+    subst (λ (f : HostPart × List ℕ). InPart w h f.0 f.1 start painter r) (sym is) here
 
 pub area_fault : (w h : ℕ) (sofar : List Paint) (left : ℕ) (bs : List ℕ) (area : Rect) → length bs ≡ 8 → Spells rect (take 8 bs) area → is_within area w h ≡ false → after (form_of w h sofar (part.Area left)) bs ≡ Faulty RectOutside
 area_fault w h sofar left bs area e spells out =

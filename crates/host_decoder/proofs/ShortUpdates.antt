@@ -1,16 +1,17 @@
--- The updates in a host's bytes: more bytes bring more of them, and their texts are short.
+-- The updates in a host's bytes: more bytes bring more of them, and their texts are short. A world that reads on keeps
+-- the updates that it has put.
 use Rattle.std.proofs.Common.{◌≡◌, ℕ, List, [], ◌∷◌, ◌++◌, ap, ◌∙◌}
 use Rattle.std.specs.List.{filter_map}
 use Rattle.std.proofs.lemmas.List.Elements.{filter_map-append}
-use Rattle.pixel_format.specs.Reading.{Reading, messages, messages_from, rest, Gives}
-use Rattle.pixel_format.proofs.ReadingLaws.{messages-append}
+use Rattle.byte_reading.specs.Reading.{Reading, messages, messages_from, rest, Gives}
+use Rattle.byte_reading.proofs.ReadingLaws.{messages-append}
 use Rattle.raster.proofs.Spellings.{Each, each_message}
 use Rattle.rfb_wire.specs.ServerMessage.{ServerMessage, FramebufferUpdate, SetColorMapEntries, ServerCutText, LostText}
 use Rattle.rfb_wire.specs.ServerMessage as server
 use Rattle.rfb_wire.specs.Texts.{HasShortText, BringsShortText}
 use Rattle.host_decoder.specs.Updates.{update_of, updates_by}
 
--- The updates in more bytes go on behind those in the first.
+-- The updates in more bytes go on after those in the first.
 pub updates-append : (form : Reading ServerMessage) (xs ys : List ℕ) → updates_by form (xs ++ ys) ≡ updates_by form xs ++ filter_map update_of (messages_from form (rest form xs) ys)
 updates-append form xs ys =
     ap (filter_map update_of) (messages-append form form xs ys) ∙ filter_map-append update_of (messages form xs) (messages_from form (rest form xs) ys)

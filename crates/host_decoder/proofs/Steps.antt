@@ -1,17 +1,17 @@
--- A step of a decoder over some bytes.
+-- A step of a decoder over some bytes. `HostDecoder::feed` takes a piece by such steps.
 use Rattle.std.proofs.Common.{◌≡◌, ℕ, ◌+◌, ◌-◌, ◌<◌, ◌≤◌, true, List, [], ◌++◌, min, length, take, drop, ◌⊎◌, inl, inr, sym, ap, subst, ◌∙◌, arith}
 use Rattle.std.proofs.lemmas.List.{length-append, length-take, take-append-drop}
-use Rattle.pixel_format.specs.Reading.{Reading, Done, after, taken, padding}
-use Rattle.pixel_format.proofs.ReadingLaws.{after-append, padding-after, padding-taken, taken-append}
+use Rattle.byte_reading.specs.Reading.{Reading, Done, after, taken, padding}
+use Rattle.byte_reading.proofs.ReadingLaws.{after-append, padding-after, padding-taken, taken-append}
 use Rattle.raster.specs.Screen.{Canvas}
 use Rattle.raster.specs.Update.{Paint}
 use Rattle.painter.specs.Painter.{Painting}
 use Rattle.rfb_wire.proofs.TextForms.{text_after, text_taken}
 use Rattle.rfb_wire.specs.ServerMessage.{ServerMessage, ServerCutText}
 use Rattle.host_decoder.specs.Parts.{Passed, len_of, message_of}
-use Rattle.host_decoder.specs.declared.part.Part.{Part}
-use Rattle.host_decoder.specs.declared.state.State.{State}
-use Rattle.host_decoder.specs.declared.state.State.TheVariants as state
+use Rattle.host_decoder.specs.declared.part.HostPart.{HostPart}
+use Rattle.host_decoder.specs.declared.state.HostState.{HostState}
+use Rattle.host_decoder.specs.declared.state.HostState.TheVariants as state
 use Rattle.host_decoder.specs.Decoder.{GoesOn, Holds, InPart, IsBehind, IsSuited, StandsUnpainted, Uses, form_of, is_refused, keeping, passing}
 use Rattle.host_decoder.proofs.HostParts.{part_takes}
 
@@ -27,7 +27,7 @@ behind_first r bs n le all =
 -- ---- fields
 
 -- Bytes of a part, of which more are missing.
-pub fields_use : (painter : Painting) (p : Part) (begun bs next : List ℕ) (fields : Part × List ℕ) (left n : ℕ) (start : Canvas) (r : Reading ServerMessage) → length begun + left ≡ len_of p → n ≡ min (length bs) left → n < left → next ≡ take n bs → fields ≡ (p, begun ++ next)
+pub fields_use : (painter : Painting) (p : HostPart) (begun bs next : List ℕ) (fields : HostPart × List ℕ) (left n : ℕ) (start : Canvas) (r : Reading ServerMessage) → length begun + left ≡ len_of p → n ≡ min (length bs) left → n < left → next ≡ take n bs → fields ≡ (p, begun ++ next)
     → InPart painter.width painter.height p begun start painter r → Uses painter painter (state.Fields fields) start r bs n
 fields_use painter p begun bs next fields left n start r all e lt f is here =
     let w : ℕ = painter.width in
@@ -42,11 +42,11 @@ fields_use painter p begun bs next fields left n start r all e lt f is here =
     record {
       next = after r xs;
       behind_ = behind_first r bs n (omega arith) taken_;
-      goes_on = inr (subst (λ (g : Part × List ℕ). InPart w h g.0 g.1 start painter (after r xs)) (sym same) there);
+      goes_on = inr (subst (λ (g : HostPart × List ℕ). InPart w h g.0 g.1 start painter (after r xs)) (sym same) there);
     }
 
 -- The last bytes of a part.
-pub fields_end : (old new : Painting) (state : State) (p : Part) (begun bs next all : List ℕ) (left n : ℕ) (start : Canvas) (r : Reading ServerMessage) → length begun + left ≡ len_of p → n ≡ min (length bs) left → left ≤ n → next ≡ take n bs → all ≡ begun ++ next
+pub fields_end : (old new : Painting) (state : HostState) (p : HostPart) (begun bs next all : List ℕ) (left n : ℕ) (start : Canvas) (r : Reading ServerMessage) → length begun + left ≡ len_of p → n ≡ min (length bs) left → left ≤ n → next ≡ take n bs → all ≡ begun ++ next
     → InPart old.width old.height p begun start old r → ((sofar : List Paint) → Holds start old sofar → IsSuited p sofar → GoesOn old new state start (after (form_of old.width old.height sofar p) all)) → Uses old new state start r bs n
 fields_end old new state p begun bs next all left n start r len e le f is here then_ =
     let w : ℕ = old.width in
@@ -65,11 +65,11 @@ fields_end old new state p begun bs next all left n start r len e le f is here t
 -- ---- texts
 
 -- Where nothing is painted.
-unpainted : (painter : Painting) (state : State) (start : Canvas) (r : Reading ServerMessage) → Holds start painter [] → (is_refused state ≡ true) ⊎ StandsUnpainted painter.width painter.height state r → GoesOn painter painter state start r
+unpainted : (painter : Painting) (state : HostState) (start : Canvas) (r : Reading ServerMessage) → Holds start painter [] → (is_refused state ≡ true) ⊎ StandsUnpainted painter.width painter.height state r → GoesOn painter painter state start r
 unpainted painter state start r none (inl e) = inl e
 unpainted painter state start r none (inr s) = inr (s start painter none)
 
-pub text_uses : (painter : Painting) (kept : List ℕ) (left : ℕ) (state : State) (bs next : List ℕ) (n : ℕ) (start : Canvas) (r : Reading ServerMessage) → Holds start painter [] → r ≡ keeping kept left → n ≡ min (length bs) left → next ≡ take n bs
+pub text_uses : (painter : Painting) (kept : List ℕ) (left : ℕ) (state : HostState) (bs next : List ℕ) (n : ℕ) (start : Canvas) (r : Reading ServerMessage) → Holds start painter [] → r ≡ keeping kept left → n ≡ min (length bs) left → next ≡ take n bs
     → (is_refused state ≡ true) ⊎ StandsUnpainted painter.width painter.height state (keeping (kept ++ next) (left - length next)) → Uses painter painter state start r bs n
 text_uses painter kept left state bs next n start r none reads e f stands =
     let few : length (take n bs) ≡ n = omega (arith, length-take n bs) in
@@ -81,7 +81,7 @@ text_uses painter kept left state bs next n start r none reads e f stands =
       goes_on = unpainted painter state start (after r (take n bs)) none (subst (λ q. (is_refused state ≡ true) ⊎ StandsUnpainted painter.width painter.height state q) same stands);
     }
 
-pub past_uses : (painter : Painting) (left : ℕ) (what : Passed) (state : State) (bs : List ℕ) (n : ℕ) (start : Canvas) (r : Reading ServerMessage) → Holds start painter [] → r ≡ passing left what → n ≡ min (length bs) left
+pub past_uses : (painter : Painting) (left : ℕ) (what : Passed) (state : HostState) (bs : List ℕ) (n : ℕ) (start : Canvas) (r : Reading ServerMessage) → Holds start painter [] → r ≡ passing left what → n ≡ min (length bs) left
     → StandsUnpainted painter.width painter.height state (passing (left - n) what) → Uses painter painter state start r bs n
 past_uses painter left what state bs n start r none reads e stands =
     let few : length (take n bs) ≡ n = omega (arith, length-take n bs) in

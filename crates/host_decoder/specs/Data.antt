@@ -1,11 +1,12 @@
 -- How reading the data of one rectangle of a host goes on, and what of it is painted (RFC 6143, 7.7).
 use Rattle.std.specs.Prelude.{◌≡◌, ℕ, ◌+◌, ◌*◌, ◌-◌, ◌<◌, Bool, true, false, List, [], ◌∷◌, ◌++◌, length, map, Result, Ok, Err, None}
 use Rattle.pixel_format.specs.PixelFormat.{host_format}
-use Rattle.pixel_format.specs.Reading.{Reading, Done, Faulty, ◌>>=◌, after, taken, times, wants_more, fault_of, Spells}
+use Rattle.byte_reading.specs.Reading.{Reading, Done, Faulty, ◌>>=◌, after, taken, times, wants_more, fault_of, Spells}
 use Rattle.pixel_format.specs.declared.fault.Fault.{Fault}
 use Rattle.raster.specs.declared.rect.Rect.{Rect}
-use Rattle.raster.specs.Encoding.{pixel, Drawing, drawn, tiled}
-use Rattle.raster.specs.Screen.{Canvas, LooksLike, part_of, value_at, values_of}
+use Rattle.raster.specs.Encoding.{pixel, drawn, tiled}
+use Rattle.raster.specs.Reader.{values_read}
+use Rattle.raster.specs.Screen.{Canvas, LooksLike, part_of, value_at}
 use Rattle.raster.specs.Update.{Paint, Put}
 use Rattle.painter.specs.Drawing.{IsPaintedAround}
 use Rattle.painter.specs.Painter.{Painting, IsPaintedOver, worked}
@@ -36,7 +37,7 @@ pub record IsDrawnAs (area : Rect) (canvas : Canvas) (painted : Paint) : Type 0 
 
 -- ---- Raw
 
--- What is to come behind the pixels of these values.
+-- What is to come after the pixels of these values.
 abbrev pub raw_ahead : RawProgress → List ℕ → Reading (List ℕ)
 raw_ahead p values = after (times (p.count - length values) (pixel host_format) >>= λ more. Done (values ++ more)) p.begun
 
@@ -72,32 +73,31 @@ CopyStands w h area begun reading = reading ≡ after (copy_rect w h area) begun
 abbrev pub IsSource : Rect → List ℕ → Rect → Type 0
 IsSource area begun source = Spells copy_source begun (source.x, source.y) × (source.w ≡ area.w) × (source.h ≡ area.h)
 
--- ---- RRE
+-- ---- RRE and Hextile
 
--- It reads a rectangle of this size.
+-- A reader of a codec reads a rectangle of this size.
+abbrev pub IsCodecFor : {P : Type 0} → (width height : P → ℕ) → Rect → P → Type 0
+IsCodecFor width height area p = (width p ≡ area.w) × (height p ≡ area.h)
+
+-- The rectangle shows what was read so far, of which the whole makes a picture. Reading goes on as ahead says.
+pub record CodecStands {P S A : Type 0} (width height : P → ℕ) (picture : ℕ → ℕ → A → Canvas) (ahead : P → S → Reading A) (Stands : P → Canvas → S → Type 0) (area : Rect) (p : P) (canvas : Canvas) (reading : Reading Paint) : Type 0 where
+  pub sofar : S
+  pub width_is : width p ≡ area.w
+  pub height_is : height p ≡ area.h
+  pub stands : Stands p canvas sofar
+  pub reads : reading ≡ putting area (values_read area.w area.h (picture area.w area.h) (ahead p sofar))
+
 abbrev pub IsRreFor : Rect → rre.Progress → Type 0
-IsRreFor area p = (p.width ≡ area.w) × (p.height ≡ area.h)
+IsRreFor = IsCodecFor (λ p. p.width) (λ p. p.height)
 
--- The rectangle shows what was read so far.
-pub record RreStands (area : Rect) (p : rre.Progress) (canvas : Canvas) (reading : Reading Paint) : Type 0 where
-  pub sofar : Drawing
-  pub width : p.width ≡ area.w
-  pub height : p.height ≡ area.h
-  pub stands : rre.Stands colour_of p canvas sofar
-  pub reads : reading ≡ putting area (rre.ahead p sofar >>= λ drawing. Done (values_of area.w area.h (drawn drawing)))
-
--- ---- Hextile
+abbrev pub RreStands : Rect → rre.Progress → Canvas → Reading Paint → Type 0
+RreStands = CodecStands (λ p. p.width) (λ p. p.height) (λ w h drawing. drawn drawing) rre.ahead (rre.Stands colour_of)
 
 abbrev pub IsHextileFor : Rect → hextile.Progress → Type 0
-IsHextileFor area p = (p.width ≡ area.w) × (p.height ≡ area.h)
+IsHextileFor = IsCodecFor (λ p. p.width) (λ p. p.height)
 
--- The rectangle shows what was read so far.
-pub record HextileStands (area : Rect) (p : hextile.Progress) (canvas : Canvas) (reading : Reading Paint) : Type 0 where
-  pub sofar : hextile.Sofar
-  pub width : p.width ≡ area.w
-  pub height : p.height ≡ area.h
-  pub stands : hextile.Stands colour_of p canvas sofar
-  pub reads : reading ≡ putting area (hextile.ahead p sofar >>= λ tiles. Done (values_of area.w area.h (tiled area.w area.h tiles)))
+abbrev pub HextileStands : Rect → hextile.Progress → Canvas → Reading Paint → Type 0
+HextileStands = CodecStands (λ p. p.width) (λ p. p.height) tiled hextile.ahead (hextile.Stands colour_of)
 
 -- ---- any encoding
 
@@ -125,18 +125,19 @@ IsBodyWanting (body.Hextile p) = hextile.IsWanting p
 abbrev pub IsWanting : DataProgress → Type 0
 IsWanting d = IsBodyWanting d.body
 
--- What was painted before, over the screen at the update's start, and what a rectangle shows so far, which a CopyRect leaves as it is.
+-- What was painted before, over the screen at the update's start, and what a rectangle shows so far, which a CopyRect
+-- leaves as it is.
 abbrev pub BodyStands : ℕ → ℕ → Rect → Body → Canvas → List Paint → Painting → Reading Paint → Type 0
 BodyStands w h area (body.Raw p) start paints painter reading = IsPaintedAround start paints area painter × RawStands area p (part_of area (worked painter)) reading
 BodyStands w h area (body.Copy begun) start paints painter reading = IsPaintedOver start paints painter × CopyStands w h area begun reading
 BodyStands w h area (body.Rre p) start paints painter reading = IsPaintedAround start paints area painter × RreStands area p (part_of area (worked painter)) reading
 BodyStands w h area (body.Hextile p) start paints painter reading = IsPaintedAround start paints area painter × HextileStands area p (part_of area (worked painter)) reading
 
--- It stands for data that goes on so, behind these paints.
+-- It stands for data that goes on so, after these paints.
 abbrev pub DataStands : DataProgress → Canvas → List Paint → Painting → Reading Paint → Type 0
 DataStands d start paints painter reading = BodyStands d.width d.height d.area d.body start paints painter reading
 
--- Of one rectangle on one screen.
+-- Both are of one rectangle on one screen.
 pub record IsSameArea (old new : DataProgress) : Type 0 where
   pub width : new.width ≡ old.width
   pub height : new.height ≡ old.height
@@ -148,8 +149,8 @@ pub record IsWhole (start : Canvas) (paints : List Paint) (painter : Painting) (
   pub reads : reading ≡ Done painted
   pub shows : IsPaintedOver start (paints ++ in_colours painted ∷ []) painter
 
--- A reader that stood for a reading, behind these paints, was fed a piece, and answers how many bytes it used and whether the rectangle is
--- whole, or the fault. Where it isn't whole, it wants another byte.
+-- A reader that stood for a reading, after these paints, was fed a piece, and answers how many bytes it used and
+-- whether the rectangle is whole, or the fault. Where it isn't whole, it wants another byte.
 abbrev pub Fed : (Stands : Reading Paint → Type 0) → Canvas → List Paint → Painting → Reading Paint → List ℕ → Result (ℕ × Bool) Fault → Type 0
 Fed Stands start paints painter reading piece (Ok (used, true)) = IsWhole start paints painter (after reading piece) × (used ≡ taken reading piece)
 Fed Stands start paints painter reading piece (Ok (used, false)) = Stands (after reading piece) × (wants_more (after reading piece) ≡ true) × (used ≡ taken reading piece)

@@ -3,7 +3,7 @@ use Rattle.std.specs.Prelude.{◌≡◌, ℕ, ◌+◌, ◌<◌, drop, length, Bo
 use Rattle.pixel_format.specs.PixelFormat.{host_format}
 use Rattle.pixel_format.specs.declared.fault.Fault.{Fault}
 use Rattle.pixel_format.specs.declared.fault.Fault.TheVariants.{Memory}
-use Rattle.pixel_format.specs.Reading.{Reading, Done, Faulty, ◌>>=◌, after, taken, padding, times, u32, wants_more, fault_of}
+use Rattle.byte_reading.specs.Reading.{Reading, Done, Faulty, ◌>>=◌, after, taken, padding, times, u32, wants_more, fault_of}
 use Rattle.raster.specs.Screen.{Canvas, IsWithin}
 use Rattle.raster.specs.Size.{IsScreenSize}
 use Rattle.raster.specs.Update.{Paint, Update, after_updates}
@@ -16,37 +16,37 @@ use Rattle.host_decoder.specs.Events.{Brings, brought_by, changes}
 use Rattle.host_decoder.specs.Data.{DataProgress, DataStands, IsWanting}
 use Rattle.host_decoder.specs.Parts.{Passed, len_of, message_of}
 use Rattle.host_decoder.specs.declared.event.HostEvent.{HostEvent}
-use Rattle.host_decoder.specs.declared.part.Part.{Part}
-use Rattle.host_decoder.specs.declared.part.Part.TheVariants.{Kind, Count, Area, Encoding, Colours, Length}
-use Rattle.host_decoder.specs.declared.state.State.{State}
-use Rattle.host_decoder.specs.declared.state.State.TheVariants.{Fields, Pixels, Keeping, Passing, Whole, Failed}
+use Rattle.host_decoder.specs.declared.part.HostPart.{HostPart}
+use Rattle.host_decoder.specs.declared.part.HostPart.TheVariants.{Kind, Count, Area, Encoding, Colours, Length}
+use Rattle.host_decoder.specs.declared.state.HostState.{HostState}
+use Rattle.host_decoder.specs.declared.state.HostState.TheVariants.{Fields, Pixels, Keeping, Passing, Whole, Failed}
 
--- What contracts see of a decoder: the size of the screen in pixels, and what stands in it.
+-- What contracts see of a decoder: the size of the screen in pixels, and its state.
 pub record Decoding : Type 0 where
   pub width : ℕ
   pub height : ℕ
-  pub state : State
+  pub state : HostState
 
 -- The messages of a host over a screen of w by h.
 abbrev pub host_message : ℕ → ℕ → Reading ServerMessage
 host_message w h = server_message host_format w h
 
--- ---- the rest of an update, behind the paints so far
+-- ---- the rest of an update, after the paints so far
 
--- So many rectangles are left.
+-- The rest of an update of which this many rectangles are left.
 abbrev pub rectangles : ℕ → ℕ → List Paint → ℕ → Reading ServerMessage
 rectangles w h sofar left = times left (rectangle host_format w h) >>= λ others. Done (FramebufferUpdate (sofar ++ others))
 
--- And so many behind one that was just read.
+-- The rest after a rectangle that was just read.
 abbrev pub behind : ℕ → ℕ → List Paint → ℕ → Paint → Reading ServerMessage
 behind w h sofar left paint = rectangles w h (sofar ++ paint ∷ []) left
 
--- The same behind one that is still being read.
+-- The rest where a rectangle is still being read.
 abbrev pub with_others : ℕ → ℕ → List Paint → ℕ → Reading Paint → Reading ServerMessage
 with_others w h sofar left reading = reading >>= behind w h sofar left
 
 -- What is read from the beginning of a part on.
-abbrev pub form_of : ℕ → ℕ → List Paint → Part → Reading ServerMessage
+abbrev pub form_of : ℕ → ℕ → List Paint → HostPart → Reading ServerMessage
 form_of w h sofar Kind = host_message w h
 form_of w h sofar Count = framebuffer_update host_format w h
 form_of w h sofar (Area left) = with_others w h sofar left (rectangle host_format w h)
@@ -55,7 +55,7 @@ form_of w h sofar Colours = set_color_map_entries
 form_of w h sofar Length = text ServerCutText LostText
 
 -- Only inside an update there are paints.
-abbrev pub IsSuited : Part → List Paint → Type 0
+abbrev pub IsSuited : HostPart → List Paint → Type 0
 IsSuited Kind paints = paints ≡ []
 IsSuited Count paints = paints ≡ []
 IsSuited (Area left) paints = Unit {0}
@@ -63,29 +63,30 @@ IsSuited (Encoding left area) paints = Unit {0}
 IsSuited Colours paints = paints ≡ []
 IsSuited Length paints = paints ≡ []
 
--- The rest of a text that is kept, where these bytes have come and so many are left.
+-- The rest of a text that is kept, of which these bytes have come and this many are left.
 abbrev pub keeping : List ℕ → ℕ → Reading ServerMessage
 keeping = kept_text ServerCutText
 
--- And of what is read past.
+-- The rest of what is read past.
 abbrev pub passing : ℕ → Passed → Reading ServerMessage
 passing left what = padding left (Done (message_of what))
 
--- ---- what stands in a decoder, beside what was painted, over the screen at the start of the message
+-- ---- the state of a decoder, beside what was painted, over the screen at the start of the message
 
 -- The painter shows the paints of the message so far, in colours.
 abbrev pub Holds : Canvas → Painting → List Paint → Type 0
 Holds start painter sofar = IsPaintedOver start (map in_colours sofar) painter
 
 -- Some bytes of a part have come, and one is missing.
-pub record InPart (w h : ℕ) (part : Part) (begun : List ℕ) (start : Canvas) (painter : Painting) (r : Reading ServerMessage) : Type 0 where
+pub record InPart (w h : ℕ) (part : HostPart) (begun : List ℕ) (start : Canvas) (painter : Painting) (r : Reading ServerMessage) : Type 0 where
   pub sofar : List Paint
   pub holds : Holds start painter sofar
   pub suited : IsSuited part sofar
   pub missing : length begun < len_of part
   pub reads : r ≡ after (form_of w h sofar part) begun
 
--- A rectangle's data are being read, and painted as they come over the paints before it, and so many rectangles are left behind it.
+-- A rectangle's data are being read, and painted as they come over the paints before it, and this many rectangles are
+-- left after it.
 pub record InData (w h left : ℕ) (reader : DataProgress) (start : Canvas) (painter : Painting) (r : Reading ServerMessage) : Type 0 where
   pub sofar : List Paint
   pub reading : Reading Paint
@@ -93,16 +94,16 @@ pub record InData (w h left : ℕ) (reader : DataProgress) (start : Canvas) (pai
   pub wants : wants_more reading ≡ true
   pub reads : r ≡ with_others w h sofar left reading
 
--- The event of a whole message waits, and the painter shows the screen behind it.
+-- The event of a whole message waits, and the painter shows the screen after it.
 pub record AtEnd (w h : ℕ) (event : HostEvent) (start : Canvas) (painter : Painting) (r : Reading ServerMessage) : Type 0 where
   pub message : ServerMessage
   pub reads : r ≡ Done message
   pub brings : Brings w h start event message
   pub shows : Holds (after_updates start (changes w h message)) painter []
 
--- What stands there stands for a message that goes on so, and that began over a screen. Where memory was refused it
+-- That state stands for a message that goes on so, and that began over a screen. Where memory was refused it
 -- stands for none, since no message has that fault.
-abbrev pub Stands : ℕ → ℕ → State → Canvas → Painting → Reading ServerMessage → Type 0
+abbrev pub Stands : ℕ → ℕ → HostState → Canvas → Painting → Reading ServerMessage → Type 0
 Stands w h (Fields fields) start painter r = InPart w h fields.0 fields.1 start painter r
 Stands w h (Pixels left reader) start painter r = InData w h left reader start painter r
 Stands w h (Keeping kept) start painter r = Holds start painter [] × (0 < kept.1) × (r ≡ keeping kept.0 kept.1)
@@ -110,23 +111,23 @@ Stands w h (Passing what left) start painter r = Holds start painter [] × (0 < 
 Stands w h (Whole event) start painter r = AtEnd w h event start painter r
 Stands w h (Failed fault) start painter r = r ≡ Faulty fault
 
--- Outside an update: whatever the painter is, where nothing was painted over a screen, it stands for a message that goes
--- on so.
-abbrev pub StandsUnpainted : ℕ → ℕ → State → Reading ServerMessage → Type 0
+-- Outside an update: whatever the painter is, where nothing was painted over a screen, it stands for a message that
+-- goes on so.
+abbrev pub StandsUnpainted : ℕ → ℕ → HostState → Reading ServerMessage → Type 0
 StandsUnpainted w h state r = (start : Canvas) (painter : Painting) → Holds start painter [] → Stands w h state start painter r
 
 -- A decoder and its painter stand for a message of the host that goes on so. At its start the screen was this: what all
--- whole messages before it made. Before the message's first byte, and where it is whole, the painter shows the screen as
--- it then is; inside an update, or at a fault, it may show a part of it.
+-- whole messages before it made. Before the message's first byte, and where it is whole, the painter shows the screen
+-- as it then is; inside an update, or at a fault, it may show a part of it.
 abbrev pub Decodes : Decoding → Painting → Canvas → Reading ServerMessage → Type 0
 Decodes decoder painter start r = Stands decoder.width decoder.height decoder.state start painter r
 
 -- No byte of a message has come.
-abbrev pub start : State
+abbrev pub start : HostState
 start = Fields (Kind, [])
 
 -- Another byte is taken: no message is whole, and nothing failed.
-abbrev pub is_open : State → Bool
+abbrev pub is_open : HostState → Bool
 is_open (Fields fields) = true
 is_open (Pixels left reader) = true
 is_open (Keeping kept) = true
@@ -135,17 +136,17 @@ is_open (Whole event) = false
 is_open (Failed fault) = false
 
 -- Memory was refused: this is final.
-abbrev pub is_refused : State → Bool
+abbrev pub is_refused : HostState → Bool
 is_refused (Failed Memory) = true
 is_refused _ = false
 
 -- The update, if any, of the message that waits.
-abbrev pub waiting : State → List Update
+abbrev pub waiting : HostState → List Update
 waiting (Whole event) = brought_by event
 waiting _ = []
 
 -- What is answered: how many bytes were used, or what failed.
-abbrev pub answered : State → ℕ → Result ℕ Fault
+abbrev pub answered : HostState → ℕ → Result ℕ Fault
 answered (Failed fault) used = Err fault
 answered _ used = Ok used
 
@@ -165,7 +166,7 @@ Feeds decoder painter start r piece (Err fault) =
 -- ---- a step of it
 
 -- A rectangle lies on the screen where its encoding is read.
-abbrev pub SuitsPart : ℕ → ℕ → Part → Type 0
+abbrev pub SuitsPart : ℕ → ℕ → HostPart → Type 0
 SuitsPart w h Kind = Unit {0}
 SuitsPart w h Count = Unit {0}
 SuitsPart w h (Area left) = Unit {0}
@@ -174,7 +175,7 @@ SuitsPart w h Colours = Unit {0}
 SuitsPart w h Length = Unit {0}
 
 -- And its data are read for this screen, and want another byte.
-abbrev pub Suits : ℕ → ℕ → State → Type 0
+abbrev pub Suits : ℕ → ℕ → HostState → Type 0
 Suits w h (Fields fields) = SuitsPart w h fields.0
 Suits w h (Pixels left reader) = (reader.width ≡ w) × (reader.height ≡ h) × IsWanting reader
 Suits w h (Keeping kept) = Unit {0}
@@ -182,28 +183,28 @@ Suits w h (Passing what left) = Unit {0}
 Suits w h (Whole event) = Unit {0}
 Suits w h (Failed fault) = Unit {0}
 
--- What stands in a decoder for a screen of w by h.
-pub record IsDecoding (w h : ℕ) (state : State) : Type 0 where
+-- The state of a decoder for a screen of w by h.
+pub record IsDecoding (w h : ℕ) (state : HostState) : Type 0 where
   pub size : IsScreenSize w h
   pub suits : Suits w h state
 
--- The painter's screen stays, and what stands in the decoder is for it.
-pub record Stays (old new : Painting) (state : State) : Type 0 where
+-- The painter's screen stays, and the decoder's state is for it.
+pub record Stays (old new : Painting) (state : HostState) : Type 0 where
   pub width : new.width ≡ old.width
   pub height : new.height ≡ old.height
   pub suits : Suits old.width old.height state
 
 -- A message that waited for more goes on as r. Or memory was refused.
-abbrev pub GoesOn : Painting → Painting → State → Canvas → Reading ServerMessage → Type 0
+abbrev pub GoesOn : Painting → Painting → HostState → Canvas → Reading ServerMessage → Type 0
 GoesOn old new state start r = (is_refused state ≡ true) ⊎ Stands old.width old.height state start new r
 
--- Behind the first n bytes reading goes on as next.
+-- After the first n bytes reading goes on as next.
 pub record IsBehind (r next : Reading ServerMessage) (bytes : List ℕ) (n : ℕ) : Type 0 where
   pub says : after r bytes ≡ after next (drop n bytes)
   pub count : fault_of next ≡ None → taken r bytes ≡ n + taken next (drop n bytes)
 
 -- It does so once these bytes were used.
-pub record Uses (old new : Painting) (state : State) (start : Canvas) (r : Reading ServerMessage) (bytes : List ℕ) (n : ℕ) : Type 0 where
+pub record Uses (old new : Painting) (state : HostState) (start : Canvas) (r : Reading ServerMessage) (bytes : List ℕ) (n : ℕ) : Type 0 where
   pub next : Reading ServerMessage
   pub behind_ : IsBehind r next bytes n
   pub goes_on : GoesOn old new state start next

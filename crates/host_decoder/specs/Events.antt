@@ -63,7 +63,7 @@ BringsWhole w h start None (Some message) = ⊥
 BringsWhole w h start (Some event) None = ⊥
 BringsWhole w h start (Some event) (Some message) = Brings w h start event message
 
--- The screen behind a message that was sent over a screen: as it is where none is whole.
+-- The screen after a message that was sent over a screen: as it is where none is whole.
 abbrev pub screen_behind : ℕ → ℕ → Canvas → Option ServerMessage → Canvas
 screen_behind w h start None = start
 screen_behind w h start (Some message) = after_updates start (changes w h message)

@@ -1,30 +1,30 @@
-//! What becomes of what stands in a decoder with bytes from the front of some: another state, if it doesn't stay, and
+//! What becomes of a decoder's state with bytes from the front of some: another state, if it doesn't stay, and
 //! how many bytes it takes.
 
 ghost use Rattle.std.specs.Prelude.{◌≡◌, ◌<◌, ◌≤◌, [], length, unwrap_or};
-ghost use Rattle.pixel_format.specs.Reading.{Reading};
+ghost use Rattle.byte_reading.specs.Reading.{Reading};
 ghost use Rattle.raster.specs.Screen.{Canvas};
 ghost use Rattle.raster.specs.Size.{IsScreenSize};
 ghost use Rattle.painter.specs.Painter.{Painting};
 ghost use Rattle.rfb_wire.specs.ServerMessage.{ServerMessage};
 ghost use Rattle.host_decoder.specs.Decoder.{Stands, Stays, SuitsPart, Uses};
-ghost use Rattle.host_decoder.specs.declared.state.State.TheVariants as state;
+ghost use Rattle.host_decoder.specs.declared.state.HostState.TheVariants as state;
 
 use crate::complete::complete;
-use crate::part::Part;
+use crate::part::HostPart;
 use crate::passed::Passed;
-use crate::state::State;
+use crate::state::HostState;
 use painter::Painter;
 use rfb_wire::{Fields, FixedPart, KeptText, SkippedBytes};
 use std::alloc::Global;
 
-/// Of fields.
+/// What becomes of fields.
 pub(crate) fn take_fields(
     alloc: Global,
     painter: &mut Painter,
-    fields: &mut Fields<Part>,
+    fields: &mut Fields<HostPart>,
     bytes: &[u8],
-) -> (Option<State>, usize)
+) -> (Option<HostState>, usize)
     requires size { IsScreenSize painter.old.width painter.old.height }
     requires suits { SuitsPart painter.old.width painter.old.height fields.old.0 }
     requires some { 0 < length bytes.now }
@@ -47,13 +47,13 @@ pub(crate) fn take_fields(
     )
 }
 
-/// Of a text that is kept. Where memory for it is refused, no more is read.
+/// What becomes of a text that is kept. Where memory for it is refused, no more is read.
 pub(crate) fn take_text(
     alloc: Global,
     painter: &Painter,
     kept: &mut KeptText,
     bytes: &[u8],
-) -> (Option<State>, usize)
+) -> (Option<HostState>, usize)
     requires size { IsScreenSize painter.now.width painter.now.height }
     requires some { 0 < length bytes.now }
     ensures stays { Stays painter.now painter.now (unwrap_or result.0 (state.Keeping kept.new)) }
@@ -66,17 +66,21 @@ pub(crate) fn take_text(
     if count < kept.left() {
         return match kept.keep(next) {
             Ok(()) => (None, count),
-            Err(fault) => (Some(State::Failed(fault)), count),
+            Err(fault) => (Some(HostState::Failed(fault)), count),
         };
     }
     match kept.finish(alloc, next) {
-        Ok(text) => (Some(State::text(painter, text)), count),
-        Err(fault) => (Some(State::Failed(fault)), count),
+        Ok(text) => (Some(HostState::text(painter, text)), count),
+        Err(fault) => (Some(HostState::Failed(fault)), count),
     }
 }
 
-/// Of what is read past.
-pub(crate) fn skip(what: Passed, past: &mut SkippedBytes, bytes: &[u8]) -> (Option<State>, usize)
+/// What becomes of bytes that are read past.
+pub(crate) fn skip(
+    what: Passed,
+    past: &mut SkippedBytes,
+    bytes: &[u8],
+) -> (Option<HostState>, usize)
     requires some { 0 < length bytes.now }
     ensures stays { (painter : Painting) → Stays painter painter (unwrap_or result.0 (state.Passing what past.new)) }
     ensures within { (0 < result.1) × (result.1 ≤ length bytes.now) }
@@ -88,5 +92,5 @@ pub(crate) fn skip(what: Passed, past: &mut SkippedBytes, bytes: &[u8]) -> (Opti
         past.skip(count);
         return (None, count);
     }
-    (Some(State::Whole(what.event())), count)
+    (Some(HostState::Whole(what.event())), count)
 }

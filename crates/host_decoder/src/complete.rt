@@ -2,20 +2,20 @@
 
 ghost use Rattle.std.specs.Prelude.{◌≡◌, ℕ, List, length};
 ghost use Rattle.pixel_format.specs.PixelFormat.{host_format};
-ghost use Rattle.pixel_format.specs.Reading.{after};
+ghost use Rattle.byte_reading.specs.Reading.{after};
 ghost use Rattle.raster.specs.Screen.{Canvas};
 ghost use Rattle.raster.specs.Size.{IsScreenSize};
 ghost use Rattle.raster.specs.Update as update;
 ghost use Rattle.rfb_wire.specs.ClientMessage.{text};
 ghost use Rattle.rfb_wire.specs.ServerMessage.{LostText, ServerCutText, fields_of, set_color_map_entries};
 ghost use Rattle.host_decoder.specs.Decoder.{GoesOn, Holds, IsSuited, Stands, StandsUnpainted, Stays, Suits, SuitsPart, form_of};
-ghost use Rattle.host_decoder.specs.declared.part.Part.TheVariants.{Area};
+ghost use Rattle.host_decoder.specs.declared.part.HostPart.TheVariants.{Area};
 ghost use Rattle.host_decoder.specs.Parts.{len_of};
 
 use crate::event::HostEvent;
-use crate::part::Part;
+use crate::part::HostPart;
 use crate::passed::Passed;
-use crate::state::State;
+use crate::state::HostState;
 use crate::update_data::{begin_data, next_rectangle};
 use painter::{Painter, Patch};
 use pixel_format::{Fault, LONGEST_TEXT};
@@ -27,26 +27,26 @@ use rfb_wire::{
 use std::alloc::Global;
 
 /// What follows the type of a message.
-fn behind_kind(painter: &Painter, kind: u8) -> State
+fn behind_kind(painter: &Painter, kind: u8) -> HostState
     requires size { IsScreenSize painter.now.width painter.now.height }
     ensures suits { Suits painter.now.width painter.now.height result }
     ensures stands { StandsUnpainted painter.now.width painter.now.height result (fields_of host_format painter.now.width painter.now.height kind) }
 {
     let part = match kind {
-        FRAMEBUFFER_UPDATE => Part::Count,
-        SET_COLOUR_MAP_ENTRIES => Part::Colours,
+        FRAMEBUFFER_UPDATE => HostPart::Count,
+        SET_COLOUR_MAP_ENTRIES => HostPart::Colours,
         BELL => {
             let (width, height) = painter.size();
-            return State::Whole(HostEvent::Bell(Patch::bell(width, height)));
+            return HostState::Whole(HostEvent::Bell(Patch::bell(width, height)));
         }
-        SERVER_CUT_TEXT => Part::Length,
-        _ => return State::Failed(Fault::UnknownMessage(kind)),
+        SERVER_CUT_TEXT => HostPart::Length,
+        _ => return HostState::Failed(Fault::UnknownMessage(kind)),
     };
-    State::Fields(Fields::of(part))
+    HostState::Fields(Fields::of(part))
 }
 
-/// What follows the place of a rectangle, of which so many follow it.
-fn behind_area(painter: &Painter, left: u16, b: &[u8]) -> State
+/// The state after a rectangle's position; `left` more rectangles follow.
+fn behind_area(painter: &Painter, left: u16, b: &[u8]) -> HostState
     requires { length b.now ≡ 8 }
     ensures suits { Suits painter.now.width painter.now.height result }
     ensures stands { (start : Canvas) (sofar : List update.Paint) → Holds start painter.now sofar
@@ -55,24 +55,24 @@ fn behind_area(painter: &Painter, left: u16, b: &[u8]) -> State
     let area = Rect::read(b);
     let (width, height) = painter.size();
     if area.within(width, height) {
-        State::Fields(Fields::of(Part::Encoding(left, area)))
+        HostState::Fields(Fields::of(HostPart::Encoding(left, area)))
     } else {
-        State::Failed(Fault::RectOutside)
+        HostState::Failed(Fault::RectOutside)
     }
 }
 
 /// What follows the number of a colour map's entries, of six bytes each.
-fn behind_colours(b: &[u8]) -> State
+fn behind_colours(b: &[u8]) -> HostState
     requires { length b.now ≡ 5 }
     ensures stands { (w h : ℕ) → StandsUnpainted w h result (after set_color_map_entries b.now) }
     ensures suits { (w h : ℕ) → Suits w h result }
 {
     let count = read_colour_map_head(b);
-    State::past(Passed::Colours, u32::from(count) * 6)
+    HostState::past(Passed::Colours, u32::from(count) * 6)
 }
 
 /// What follows the length of a text.
-fn behind_length(alloc: Global, painter: &Painter, b: &[u8]) -> State
+fn behind_length(alloc: Global, painter: &Painter, b: &[u8]) -> HostState
     requires size { IsScreenSize painter.now.width painter.now.height }
     requires count { length b.now ≡ 7 }
     ensures suits { Suits painter.now.width painter.now.height result }
@@ -80,16 +80,16 @@ fn behind_length(alloc: Global, painter: &Painter, b: &[u8]) -> State
 {
     let len = read_text_head(b);
     if len > LONGEST_TEXT {
-        State::past(Passed::Text(len), len)
+        HostState::past(Passed::Text(len), len)
     } else if len == 0 {
-        State::text(painter, Text::from_vec(Vec::new(alloc)))
+        HostState::text(painter, Text::from_vec(Vec::new(alloc)))
     } else {
-        State::Keeping(KeptText::begin(alloc, len as usize))
+        HostState::Keeping(KeptText::begin(alloc, len as usize))
     }
 }
 
-/// How reading goes on behind a part that has these bytes.
-pub(crate) fn complete(alloc: Global, painter: &mut Painter, part: Part, b: &[u8]) -> State
+/// How reading goes on after a part that has these bytes.
+pub(crate) fn complete(alloc: Global, painter: &mut Painter, part: HostPart, b: &[u8]) -> HostState
     requires size { IsScreenSize painter.old.width painter.old.height }
     requires count { length b.now ≡ len_of part }
     requires suits { SuitsPart painter.old.width painter.old.height part }
@@ -98,11 +98,11 @@ pub(crate) fn complete(alloc: Global, painter: &mut Painter, part: Part, b: &[u8
         → GoesOn painter.old painter.new result start (after (form_of painter.old.width painter.old.height sofar part) b.now) }
 {
     match part {
-        Part::Kind => behind_kind(painter, b[0]),
-        Part::Count => next_rectangle(painter, read_update_head(b)),
-        Part::Area(left) => behind_area(painter, left, b),
-        Part::Encoding(left, area) => { begin_data(painter, left, area, read_encoding(b)) }
-        Part::Colours => behind_colours(b),
-        Part::Length => behind_length(alloc, painter, b),
+        HostPart::Kind => behind_kind(painter, b[0]),
+        HostPart::Count => next_rectangle(painter, read_update_head(b)),
+        HostPart::Area(left) => behind_area(painter, left, b),
+        HostPart::Encoding(left, area) => { begin_data(painter, left, area, read_encoding(b)) }
+        HostPart::Colours => behind_colours(b),
+        HostPart::Length => behind_length(alloc, painter, b),
     }
 }

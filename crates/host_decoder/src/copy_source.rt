@@ -1,7 +1,7 @@
 //! The source of a CopyRect, in whatever pieces it comes (RFC 6143, section 7.7.2).
 
 ghost use Rattle.std.specs.Prelude.{◌≡◌, ◌-◌, ◌<◌, ◌≤◌, ◌++◌, ◌==◌, [], List, false, length, min, take, IfOk};
-ghost use Rattle.pixel_format.specs.Reading.{Reading};
+ghost use Rattle.byte_reading.specs.Reading.{Reading};
 ghost use Rattle.raster.specs.Screen.{Canvas, IsWithin};
 ghost use Rattle.raster.specs.Update.{Paint};
 ghost use Rattle.painter.specs.Painter.{IsAsLarge, IsPaintedOver};

@@ -2,7 +2,7 @@
 
 ghost use Rattle.std.specs.Prelude.{◌≡◌, ◌<◌, ◌≤◌, List, false, length, IfOk, IfErr};
 ghost use Rattle.pixel_format.specs.PixelFormat.{host_format};
-ghost use Rattle.pixel_format.specs.Reading.{Reading, Faulty};
+ghost use Rattle.byte_reading.specs.Reading.{Reading, Faulty};
 ghost use Rattle.pixel_format.specs.declared.fault.Fault.TheVariants.{UnknownEncoding};
 ghost use Rattle.raster.specs.Screen.{Canvas, IsWithin};
 ghost use Rattle.raster.specs.Size.{IsScreenSize};
@@ -75,7 +75,7 @@ impl Data {
     /// and whether the rectangle is whole. It takes no memory.
     ///
     /// `SubrectOutside`, `NoBackground`, `NoForeground` and `CopyOutside` at the byte that shows it. The painter's
-    /// screen may then show a part of the rectangle, and is of no more use.
+    /// screen may then show a part of the rectangle, and is useless from then on.
     pub(crate) fn feed(
         &mut self,
         painter: &mut Painter,

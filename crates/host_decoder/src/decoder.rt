@@ -3,7 +3,7 @@
 ghost use Rattle.std.specs.Prelude.{◌≡◌, true, [], Err, None, IfNone, IfOk, IfSome, ◌≤◌, length};
 ghost use Rattle.pixel_format.specs.declared.fault.Fault.{Fault};
 ghost use Rattle.pixel_format.specs.declared.fault.Fault.TheVariants.{Memory};
-ghost use Rattle.pixel_format.specs.Reading.{Reading, Faulty, renewed, whole_of};
+ghost use Rattle.byte_reading.specs.Reading.{Reading, Faulty, renewed, whole_of};
 ghost use Rattle.raster.specs.Screen.{Canvas};
 ghost use Rattle.raster.specs.Size.{IsScreenSize};
 ghost use Rattle.painter.specs.Painter.{Painting};
@@ -12,7 +12,7 @@ ghost use Rattle.host_decoder.specs.Decoder.{Decodes, Feeds, Holds, IsFor, host_
 ghost use Rattle.host_decoder.specs.Events.{BringsWhole, brought_by, screen_behind};
 
 use crate::event::HostEvent;
-use crate::state::State;
+use crate::state::HostState;
 use painter::Painter;
 use pixel_format::Fault;
 use std::alloc::Global;
@@ -22,14 +22,14 @@ use std::mem;
 /// A decoder of what a host sends after its handshake (RFC 6143, 7.6 and 7.7), over a screen of one size, which holds
 /// what has come of the next message. Contracts see the width and the height of the screen in pixels, and what is held.
 ///
-/// Rectangles are painted into the painter's screen as they come. At an update's end its patch is made of the tiles that
-/// they touched; of a message that isn't whole none is ever made.
+/// Rectangles are painted into the painter's screen as they come. At an update's end its patch is made of the tiles
+/// that they touched; of a message that isn't whole none is ever made.
 #[derive(Drop)]
 pub struct HostDecoder {
     alloc: Global,
     width: u64,
     height: u64,
-    state: State,
+    state: HostState,
 }
 
 impl Model for HostDecoder {
@@ -53,7 +53,7 @@ impl HostDecoder {
             alloc,
             width,
             height,
-            state: State::start(),
+            state: HostState::start(),
         }
     }
 
@@ -69,7 +69,7 @@ impl HostDecoder {
     ///
     /// `UnknownMessage`, `RectOutside`, `UnknownEncoding`, `CopyOutside`, `SubrectOutside`, `NoBackground` and
     /// `NoForeground` at the byte that shows it; `Memory` where memory is refused. Each is final. The
-    /// painter's screen may then show a part of a message, and is of no more use.
+    /// painter's screen may then show a part of a message, and is useless from then on.
     pub fn feed(&mut self, painter: &mut Painter, piece: &[u8]) -> Result<usize, Fault>
         requires { IsFor self.old painter.old }
         ensures size { (self.new.width ≡ self.old.width) × (self.new.height ≡ self.old.height) × IsFor self.new painter.new }
@@ -91,12 +91,21 @@ impl HostDecoder {
         ensures none { IfNone result (self.new ≡ self.old) }
         ensures some { IfSome result (λ event. (waiting self.old.state ≡ brought_by event) × (self.new.state ≡ start)) }
     {
-        match mem::replace(&mut self.state, State::start()) {
-            State::Whole(event) => Some(event),
+        match mem::replace(&mut self.state, HostState::start()) {
+            HostState::Whole(event) => Some(event),
             state => {
                 self.state = state;
                 None
             }
         }
+    }
+
+    /// The host has ended, and the bytes of another come next: what has come of a message is forgotten, and so is a
+    /// message that is whole and wasn't taken.
+    pub fn next_host(&mut self)
+        ensures value { self.new ≡ record self.old { state = start } }
+        ensures begins { (screen : Canvas) (painter : Painting) → Holds screen painter [] → Decodes self.new painter screen (host_message self.old.width self.old.height) }
+    {
+        self.state = HostState::start();
     }
 }

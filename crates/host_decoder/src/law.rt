@@ -2,7 +2,7 @@
 
 ghost use Rattle.std.specs.Prelude.{◌≡◌, ℕ, List, [], ◌∷◌, map};
 ghost use Rattle.std.specs.List.{filter_map};
-ghost use Rattle.pixel_format.specs.Reading.{messages};
+ghost use Rattle.byte_reading.specs.Reading.{messages};
 ghost use Rattle.rfb_wire.specs.ServerMessage.{ServerMessage};
 ghost use Rattle.host_decoder.specs.Decoder.{host_message};
 ghost use Rattle.host_decoder.specs.Events.{brought_by, event_of, update_in};

@@ -7,12 +7,12 @@ use rfb_wire::FixedPart;
 
 /// What is read next, where the number of its bytes is known.
 #[derive(Clone, Copy)]
-pub enum Part {
+pub enum HostPart {
     /// The type of a message.
     Kind,
     /// Padding and the number of rectangles of an update.
     Count,
-    /// Where a rectangle lies, behind which so many more are left.
+    /// A rectangle's position and size, after which this many more rectangles follow.
     Area(u16),
     /// Its encoding.
     Encoding(u16, Rect),
@@ -22,19 +22,19 @@ pub enum Part {
     Length,
 }
 
-impl FixedPart for Part {
+impl FixedPart for HostPart {
     ghost use Rattle.host_decoder.specs.Parts as parts;
 
     ghost len_of = { parts.len_of };
 
     fn len(self) -> usize {
         match self {
-            Part::Kind => 1,
-            Part::Count => 3,
-            Part::Area(_) => 8,
-            Part::Encoding(_, _) => 4,
-            Part::Colours => 5,
-            Part::Length => 7,
+            HostPart::Kind => 1,
+            HostPart::Count => 3,
+            HostPart::Area(_) => 8,
+            HostPart::Encoding(_, _) => 4,
+            HostPart::Colours => 5,
+            HostPart::Length => 7,
         }
     }
 }

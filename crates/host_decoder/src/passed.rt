@@ -2,7 +2,7 @@
 
 ghost use Rattle.std.specs.Prelude.{ℕ};
 ghost use Rattle.host_decoder.specs.Decoder.{StandsUnpainted, passing};
-ghost use Rattle.host_decoder.specs.declared.state.State.TheVariants as state;
+ghost use Rattle.host_decoder.specs.declared.state.HostState.TheVariants as state;
 
 use crate::event::HostEvent;
 
@@ -11,7 +11,7 @@ use crate::event::HostEvent;
 pub enum Passed {
     /// The entries of a colour map.
     Colours,
-    /// A text of so many bytes.
+    /// A text of this many bytes.
     Text(u32),
 }
 

@@ -2,7 +2,7 @@
 
 ghost use Rattle.std.specs.Prelude.{◌≡◌, ℕ, ◌+◌, ◌*◌, ◌<◌, ◌≤◌, ◌^◌, ◌⊎◌, ◌++◌, [], List, length, map, ⊤};
 ghost use Rattle.std.specs.Int.{w32, from_le_bytes};
-ghost use Rattle.pixel_format.specs.Reading.{Reading};
+ghost use Rattle.byte_reading.specs.Reading.{Reading};
 ghost use Rattle.raster.specs.declared.encoding.Encoding.TheVariants.{Raw};
 ghost use Rattle.raster.specs.Update.{Paint};
 ghost use Rattle.painter.specs.Drawing.{IsSameAround, drawn};
@@ -38,7 +38,7 @@ impl Model for RawPixels {
     ghost invariant = { λ r. (length r.begun ≡ 4) × (r.filled < 4) × (r.filled + 4 * r.done ≤ 4 * r.count) × (r.count < 2 ^ 32) };
 }
 
-/// Puts pixels on the rectangle that is drawn on, behind so many that have come, row by row.
+/// Puts pixels on the rectangle that is drawn on, after those that have come, row by row.
 fn put_pixels(painter: &mut Painter, width: usize, done: usize, pixels: &[[u8; PIXEL_LEN]])
     requires width { width ≡ painter.old.area.w }
     requires within { done + length pixels.now ≤ painter.old.area.w * painter.old.area.h }

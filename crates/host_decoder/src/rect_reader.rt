@@ -2,7 +2,7 @@
 
 ghost use Rattle.std.specs.Prelude.{◌≡◌, ◌<◌, ◌≤◌, List, false, length, is_some, IfOk, OnOk, IsFalse};
 ghost use Rattle.pixel_format.specs.PixelFormat.{host_format};
-ghost use Rattle.pixel_format.specs.Reading.{Reading, Done, after, whole_of};
+ghost use Rattle.byte_reading.specs.Reading.{Reading, Done, after, whole_of};
 ghost use Rattle.raster.specs.declared.encoding.Encoding.{Encoding};
 ghost use Rattle.raster.specs.declared.rect.Rect as rect;
 ghost use Rattle.raster.specs.Encoding.{pixels};
@@ -19,7 +19,7 @@ use raster::Rect;
 /// A reader of a rectangle's pixels, in whatever pieces they come, in one encoding. It draws them on the rectangle that
 /// a painter draws on, and takes no memory.
 pub(crate) trait RectReader {
-    // Of pixels in this encoding.
+    // It reads pixels in this encoding.
     ghost encoding: { Encoding };
 
     // It reads a rectangle of this size.

@@ -1,7 +1,7 @@
 //! How far a decoder has come.
 
 ghost use Rattle.std.specs.Prelude.{◌≡◌, ℕ, ◌<◌, ◌≤◌, false, true, length, unwrap_or, IfOk, Result};
-ghost use Rattle.pixel_format.specs.Reading.{Reading};
+ghost use Rattle.byte_reading.specs.Reading.{Reading};
 ghost use Rattle.raster.specs.Screen.{Canvas};
 ghost use Rattle.raster.specs.Size.{IsScreenSize};
 ghost use Rattle.rfb_wire.specs.ServerMessage.{ServerMessage};
@@ -10,7 +10,7 @@ ghost use Rattle.host_decoder.specs.Decoder.{Feeds, Stands, StandsUnpainted, Sta
 use crate::advance::{skip, take_fields, take_text};
 use crate::data::Data;
 use crate::event::HostEvent;
-use crate::part::Part;
+use crate::part::HostPart;
 use crate::passed::Passed;
 use crate::update_data::read_data;
 use painter::{Painter, Patch};
@@ -20,10 +20,10 @@ use std::alloc::Global;
 
 /// What has come of a message.
 #[derive(Drop)]
-pub(crate) enum State {
+pub(crate) enum HostState {
     /// Some fields of a fixed length.
-    Fields(Fields<Part>),
-    /// A part of a rectangle's data, behind which so many rectangles are left.
+    Fields(Fields<HostPart>),
+    /// A part of a rectangle's data, after which this many rectangles follow.
     Pixels(u16, Data),
     /// A part of a text that is kept.
     Keeping(KeptText),
@@ -35,34 +35,34 @@ pub(crate) enum State {
     Failed(Fault),
 }
 
-impl State {
+impl HostState {
     /// Nothing of a message.
-    pub(crate) fn start() -> State
+    pub(crate) fn start() -> HostState
         ensures { result ≡ start }
     {
-        State::Fields(Fields::of(Part::Kind))
+        HostState::Fields(Fields::of(HostPart::Kind))
     }
 
-    /// What is read past, of which so many bytes are left.
-    pub(crate) fn past(what: Passed, left: u32) -> State
+    /// What is read past, of which this many bytes are left.
+    pub(crate) fn past(what: Passed, left: u32) -> HostState
         ensures stands { (w h : ℕ) → StandsUnpainted w h result (passing left what) }
         ensures suits { (w h : ℕ) → Suits w h result }
     {
         if left == 0 {
-            State::Whole(what.event())
+            HostState::Whole(what.event())
         } else {
-            State::Passing(what, SkippedBytes::of(left))
+            HostState::Passing(what, SkippedBytes::of(left))
         }
     }
 
     /// A text that is kept, of which all bytes have come.
-    pub(crate) fn text(painter: &Painter, text: Text) -> State
+    pub(crate) fn text(painter: &Painter, text: Text) -> HostState
         requires { IsScreenSize painter.now.width painter.now.height }
         ensures stands { StandsUnpainted painter.now.width painter.now.height result (keeping text 0) }
         ensures suits { (w h : ℕ) → Suits w h result }
     {
         let (width, height) = painter.size();
-        State::Whole(HostEvent::Cut(Patch::text(width, height, text.into_vec())))
+        HostState::Whole(HostEvent::Cut(Patch::text(width, height, text.into_vec())))
     }
 
     /// Whether another byte is taken.
@@ -70,15 +70,21 @@ impl State {
         ensures { result ≡ is_open self.now }
     {
         match self {
-            State::Fields(_) | State::Pixels(_, _) | State::Keeping(_) | State::Passing(_, _) => {
-                true
-            }
-            State::Whole(_) | State::Failed(_) => false,
+            HostState::Fields(_)
+            | HostState::Pixels(_, _)
+            | HostState::Keeping(_)
+            | HostState::Passing(_, _) => { true }
+            HostState::Whole(_) | HostState::Failed(_) => false,
         }
     }
 
     /// What becomes of it with bytes from the front of some, if it doesn't stay, and how many bytes it takes.
-    fn step(&mut self, alloc: Global, painter: &mut Painter, bytes: &[u8]) -> (Option<State>, usize)
+    fn step(
+        &mut self,
+        alloc: Global,
+        painter: &mut Painter,
+        bytes: &[u8],
+    ) -> (Option<HostState>, usize)
         requires size { IsScreenSize painter.old.width painter.old.height }
         requires suits { Suits painter.old.width painter.old.height self.old }
         requires wanted { is_open self.old ≡ true }
@@ -88,11 +94,11 @@ impl State {
         ensures uses { (start : Canvas) (r : Reading ServerMessage) → Stands painter.old.width painter.old.height self.old start painter.old r → Uses painter.old painter.new (unwrap_or result.0 self.new) start r bytes.now result.1 }
     {
         match self {
-            State::Fields(fields) => take_fields(alloc, painter, fields, bytes),
-            State::Pixels(left, reader) => read_data(painter, *left, reader, bytes),
-            State::Keeping(kept) => take_text(alloc, painter, kept, bytes),
-            State::Passing(what, past) => skip(*what, past, bytes),
-            State::Whole(_) | State::Failed(_) => unreachable!(),
+            HostState::Fields(fields) => take_fields(alloc, painter, fields, bytes),
+            HostState::Pixels(left, reader) => read_data(painter, *left, reader, bytes),
+            HostState::Keeping(kept) => take_text(alloc, painter, kept, bytes),
+            HostState::Passing(what, past) => skip(*what, past, bytes),
+            HostState::Whole(_) | HostState::Failed(_) => unreachable!(),
         }
     }
 
@@ -113,12 +119,12 @@ impl State {
         count
     }
 
-    /// What is answered once so many bytes were used.
+    /// What is answered once this many bytes were used.
     fn so_far(&self, used: usize) -> Result<usize, Fault>
         ensures { result ≡ answered self.now used }
     {
         match self {
-            State::Failed(fault) => Err(*fault),
+            HostState::Failed(fault) => Err(*fault),
             _ => Ok(used),
         }
     }

@@ -1,7 +1,7 @@
 //! The rectangles of an update, one after another (RFC 6143, 7.6.1).
 
 ghost use Rattle.std.specs.Prelude.{◌≡◌, ◌<◌, ◌≤◌, List, length, map, unwrap_or};
-ghost use Rattle.pixel_format.specs.Reading.{Reading};
+ghost use Rattle.byte_reading.specs.Reading.{Reading};
 ghost use Rattle.pixel_format.specs.PixelFormat.{host_format};
 ghost use Rattle.raster.specs.Screen.{Canvas, IsWithin};
 ghost use Rattle.raster.specs.Size.{IsScreenSize};
@@ -10,38 +10,39 @@ ghost use Rattle.rfb_wire.specs.ServerMessage.{data_of};
 ghost use Rattle.host_decoder.specs.Data.{DataStands, IsWanting};
 ghost use Rattle.host_decoder.specs.Decoder.{GoesOn, Holds, Stays, Uses, rectangles, with_others};
 ghost use Rattle.host_decoder.specs.Updates.{in_colours};
-ghost use Rattle.host_decoder.specs.declared.state.State.TheVariants as state;
+ghost use Rattle.host_decoder.specs.declared.state.HostState.TheVariants as state;
 
 use crate::data::Data;
 use crate::event::HostEvent;
-use crate::part::Part;
-use crate::state::State;
+use crate::part::HostPart;
+use crate::state::HostState;
 use painter::Painter;
 use raster::Rect;
 use rfb_wire::Fields;
 
-/// What follows where so many rectangles are left: the next one's place, or the end of the update, which has its patch.
-pub(crate) fn next_rectangle(painter: &mut Painter, left: u16) -> State
+/// The state where `left` rectangles are still to come: the next one's header, or the end of the update, which has its
+/// patch.
+pub(crate) fn next_rectangle(painter: &mut Painter, left: u16) -> HostState
     ensures stays { Stays painter.old painter.new result }
     ensures goes_on { (start : Canvas) (sofar : List update.Paint) → Holds start painter.old sofar → GoesOn painter.old painter.new result start (rectangles painter.old.width painter.old.height sofar left) }
 {
     if left > 0 {
-        return State::Fields(Fields::of(Part::Area(left - 1)));
+        return HostState::Fields(Fields::of(HostPart::Area(left - 1)));
     }
     match painter.patch() {
-        Ok(patch) => State::Whole(HostEvent::Paint(patch)),
-        Err(fault) => State::Failed(fault),
+        Ok(patch) => HostState::Whole(HostEvent::Paint(patch)),
+        Err(fault) => HostState::Failed(fault),
     }
 }
 
-/// Reads the data of a rectangle, of which so many follow it, from the front of some bytes, and paints them. It answers
+/// Reads a rectangle's data from the front of some bytes, and paints them; `left` more rectangles follow. It answers
 /// what follows, if not more data, and how many bytes it took.
 pub(crate) fn read_data(
     painter: &mut Painter,
     left: u16,
     reader: &mut Data,
     bytes: &[u8],
-) -> (Option<State>, usize)
+) -> (Option<HostState>, usize)
     requires width { reader.old.width ≡ painter.old.width }
     requires height { reader.old.height ≡ painter.old.height }
     ensures stays { Stays painter.old painter.new (unwrap_or result.0 (state.Pixels left reader.new)) }
@@ -52,7 +53,7 @@ pub(crate) fn read_data(
 {
     let (used, whole) = match reader.feed(painter, bytes) {
         Ok(fed) => fed,
-        Err(fault) => return (Some(State::Failed(fault)), bytes.len()),
+        Err(fault) => return (Some(HostState::Failed(fault)), bytes.len()),
     };
     if !whole {
         return (None, used);
@@ -60,8 +61,8 @@ pub(crate) fn read_data(
     (Some(next_rectangle(painter, left)), used)
 }
 
-/// What follows the encoding of a rectangle, of which so many follow it.
-pub(crate) fn begin_data(painter: &mut Painter, left: u16, area: Rect, encoding: u32) -> State
+/// The state after a rectangle's encoding; `left` more rectangles follow.
+pub(crate) fn begin_data(painter: &mut Painter, left: u16, area: Rect, encoding: u32) -> HostState
     requires size { IsScreenSize painter.old.width painter.old.height }
     requires within { IsWithin area painter.old.width painter.old.height }
     ensures stays { Stays painter.old painter.new result }
@@ -73,8 +74,8 @@ pub(crate) fn begin_data(painter: &mut Painter, left: u16, area: Rect, encoding:
         // Its data may have no byte.
         Ok(mut reader) => {
             let (next, _) = read_data(painter, left, &mut reader, &[]);
-            next.unwrap_or(State::Pixels(left, reader))
+            next.unwrap_or(HostState::Pixels(left, reader))
         }
-        Err(fault) => State::Failed(fault),
+        Err(fault) => HostState::Failed(fault),
     }
 }

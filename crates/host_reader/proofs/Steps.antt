@@ -1,4 +1,4 @@
--- Reading a host's bytes message by message.
+-- Reading a host's bytes message by message. `run_host` owes the updates of all bytes that it took.
 use Rattle.std.proofs.Common.{◌≡◌, ℕ, ◌+◌, ◌<◌, ◌≤◌, Bool, true, false, List, [], ◌∷◌, ◌++◌, length, take, drop, Some, None, Ok, Err, ◌^◌, ◌⊎◌, length-append, inl, inr, refl, sym, ap, subst, ◌∙◌, arith, append_assoc}
 use Rattle.std.proofs.lemmas.List.{append-nil, take_all, take-append-drop}
 use Rattle.std.proofs.lemmas.List.Elements.{filter_map-append}
@@ -9,10 +9,10 @@ use Rattle.link.specs.Links.{LinkState, HasRisen, TakesAs, with_end, with_failur
 use Rattle.link.specs.declared.link.Took.{Took}
 use Rattle.link.specs.declared.link.Took.TheVariants as took
 use Rattle.std.specs.List.{filter_map}
-use Rattle.pixel_format.specs.Reading.{Reading, Done, Faulty, Want, after, taken, whole_of, fault_of, wants_more, renewed, messages, rest, messages_from, rest_from}
+use Rattle.byte_reading.specs.Reading.{Reading, Done, Faulty, Want, after, taken, whole_of, fault_of, wants_more, renewed, messages, rest, messages_from, rest_from}
 use Rattle.pixel_format.specs.declared.fault.Fault.{Fault}
 use Rattle.pixel_format.specs.declared.fault.Fault.TheVariants.{LinkEnded, LinkFailed, Memory, NumbersOut}
-use Rattle.pixel_format.proofs.ReadingLaws.{after-append, messages-append, messages-open, messages-taken, none_whole, renewed_from, rest-append, rest-further, rest-taken, taken-le, taken-open, taken-some, wants_from}
+use Rattle.byte_reading.proofs.ReadingLaws.{after-append, messages-append, messages-open, messages-taken, none_whole, renewed_from, rest-append, rest-further, rest-taken, taken-le, taken-open, taken-some, wants_from}
 use Rattle.raster.specs.Screen.{Canvas}
 use Rattle.raster.specs.Update.{Update, after_updates}
 use Rattle.rfb_wire.specs.ServerMessage.{ServerMessage, FramebufferUpdate, SetColorMapEntries, Bell, ServerCutText, LostText}
@@ -110,7 +110,7 @@ goes_inside w h false stream more i some wants =
 
 -- ---- a step of the loop over a piece
 
--- So many bytes of a piece, and then so many more.
+-- Some bytes of a piece, and then some more.
 pub further : (stream piece left : List ℕ) (used count : ℕ) → left ≡ drop used piece → (stream ++ take used piece) ++ take count left ≡ stream ++ take (used + count) piece
 further stream piece left used count e =
     append_assoc stream (take used piece) (take count left) ∙ ap (λ (xs : List ℕ). stream ++ xs) (ap (λ (xs : List ℕ). take used piece ++ take count xs) e ∙ sym (take-add used count piece))
@@ -238,7 +238,8 @@ put_stops w h screen decoder painter is_between stream left whole old now next f
 
 -- ---- the loop over pieces
 
--- Since the link stood as old and the publisher had the updates old, these bytes more were taken, and all was read and put. The link was given nothing, and neither failed nor ended.
+-- Since the link stood as old and the publisher had the updates old, these bytes more were taken, and all was read and
+-- put. The link was given nothing, and neither failed nor ended.
 pub record IsRunning (w h : ℕ) (screen : Canvas) (decoder : Decoding) (painter : Painting) (is_between : Bool) (link_old link_now : LinkState) (old now : List Update) : Type 0 where
   pub stream : List ℕ
   pub took : link_now ≡ record link_old { taken = link_old.taken ++ stream }
@@ -255,7 +256,7 @@ running_begins screen decoder painter link old decodes =
 
 -- ---- more is wanted
 
--- Behind a whole message another is wanted.
+-- After a whole message another is wanted.
 pub can_whole : (fed new : Decoding) (other : Painting) (screen : Canvas) (now : Reading ServerMessage) (answer : Option HostEvent) (event : HostEvent) → answer ≡ Some event → BringsWhole fed.width fed.height screen answer (whole_of now)
     → Decodes new other (screen_behind fed.width fed.height screen (whole_of now)) (renewed (host_message fed.width fed.height) now) → CanRead new other
 can_whole fed new other screen now answer event is gives decodes =
@@ -280,7 +281,7 @@ can_open fed new other screen now answer is gives fine decodes =
       wants = wants_from now none fine;
     }
 
--- What stands at the front of the buffer was taken.
+-- What the front of the buffer holds was taken.
 pub took_piece : (old new : LinkState) (into seen piece : List ℕ) (count : ℕ) → piece ≡ take count seen → seen ≡ into → new ≡ record old { taken = old.taken ++ take count into } → new ≡ record old { taken = old.taken ++ piece }
 took_piece old new into seen piece count front same took = took ∙ ap (λ (xs : List ℕ). record old { taken = old.taken ++ xs }) (sym (front ∙ ap (take count) same))
 

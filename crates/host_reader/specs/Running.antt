@@ -1,6 +1,6 @@
 -- Reading a host's bytes from a link, and putting their updates (RFC 6143, 7.6).
 use Rattle.std.specs.Prelude.{◌≡◌, ℕ, ◌^◌, ◌<◌, ◌⊎◌, Bool, true, false, Option, Some, None, Result, Ok, Err, List, ◌++◌, length}
-use Rattle.pixel_format.specs.Reading.{Reading, Faulty, after, rest, wants_more}
+use Rattle.byte_reading.specs.Reading.{Reading, Faulty, after, rest, wants_more}
 use Rattle.pixel_format.specs.declared.fault.Fault.{Fault}
 use Rattle.pixel_format.specs.declared.fault.Fault.TheVariants.{LinkEnded, LinkFailed, Memory, NumbersOut}
 use Rattle.raster.specs.Screen.{Canvas}
@@ -15,7 +15,8 @@ use Rattle.host_decoder.specs.Decoder.{Decodes, Decoding, host_message}
 use Rattle.host_decoder.specs.Updates.{updates}
 use Rattle.reflect_core.specs.Sequential.{Begins}
 
--- The host's bytes are in the middle of a message: behind some whole messages there are bytes that begin one, and it wants more.
+-- The host's bytes are in the middle of a message: after some whole messages there are bytes that begin one, and it
+-- wants more.
 pub record IsInside (w h : ℕ) (stream : List ℕ) : Type 0 where
   pub whole : List ℕ
   pub begun : List ℕ
@@ -31,8 +32,8 @@ EndsAt false w h stream = IsInside w h stream
 
 -- ---- how it ends
 
--- Since a publisher had the updates old, updates were put that come to the same as those of the host's bytes, one by one: sent over this
--- screen.
+-- Since a publisher had the updates old, updates were put that come to the same as those of the host's bytes, one by
+-- one: sent over this screen.
 pub record ArePut (w h : ℕ) (screen : Canvas) (stream : List ℕ) (old new : List Update) : Type 0 where
   pub put : List Update
   pub added : new ≡ old ++ put
@@ -77,7 +78,8 @@ pub record EndsWith (w h : ℕ) (screen : Canvas) (fault : Fault) (link_old link
   pub taken : link_new.taken ≡ link_old.taken ++ stream
   pub stops : (ArePut w h screen stream old new × LinkStops w h fault stream link_old link_new) ⊎ Stops w h screen fault stream old new
 
--- What is answered where an answer of the link ends the run: the host's bytes so far end between two messages, or inside one.
+-- What is answered where an answer of the link ends the run: the host's bytes so far end between two messages, or
+-- inside one.
 abbrev pub outcome : Took → Bool → Option (Result (Unit {0}) Fault)
 outcome (took.Bytes count) is_between = None
 outcome took.Nothing is_between = None
@@ -94,7 +96,7 @@ pub record CanRead (decoder : Decoding) (painter : Painting) : Type 0 where
   pub reads : Decodes decoder painter screen reading
   pub wants : wants_more reading ≡ true
 
--- They stand behind the host's bytes so far, sent over this screen, all of whose updates were put.
+-- Decoder and painter stand after the host's bytes so far, sent over this screen, all of whose updates were put.
 pub record HasRead (w h : ℕ) (screen : Canvas) (decoder : Decoding) (painter : Painting) (is_between : Bool) (stream : List ℕ) (old new : List Update) : Type 0 where
   pub reads : Decodes decoder painter (after_updates screen (updates w h stream)) (rest (host_message w h) stream)
   pub wants : wants_more (rest (host_message w h) stream) ≡ true

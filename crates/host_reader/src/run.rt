@@ -17,7 +17,7 @@ use std::sync::Wait;
 /// How many bytes are taken from the link at a time, at most.
 const PIECE: usize = 65536;
 
-// What the run answers where the link's answer ends it.
+/// What the run answers where the link's answer ends it.
 fn outcome(took: Took, is_between: bool) -> Option<Result<(), Fault>>
     ensures { result ≡ outcome took is_between }
 {
@@ -31,13 +31,14 @@ fn outcome(took: Took, is_between: bool) -> Option<Result<(), Fault>>
 }
 
 /// Takes the host's bytes from a link that has done its handshake, and puts the update of each whole message, in order,
-/// until the link ends. It is `Ok` where that is between two messages. The room for the bytes is taken once, at the start.
+/// until the link ends. It is `Ok` where that is between two messages. The room for the bytes is taken once, at the
+/// start.
 ///
 /// `LinkEnded` where the link ends inside a message, and `LinkFailed` where it fails; `UnknownMessage`, `RectOutside`,
 /// `UnknownEncoding`, `SubrectOutside`, `NoBackground`, `NoForeground` or `CopyOutside` at the byte that shows it: all
 /// updates of the messages before that are put. `Memory`, and `NumbersOut` where the publisher has no more numbers: the
-/// updates that were put are the first ones. In each case what was put stays. The updates put come to the same as those of the bytes, one by
-/// one, over the screen that the decoder and the painter began with.
+/// updates that were put are the first ones. In each case what was put stays. The updates put come to the same as those
+/// of the bytes, one by one, over the screen that the decoder and the painter began with.
 pub fn run_host<L: Link, P: Puts, R: Wait>(
     rt: &R,
     alloc: Global,

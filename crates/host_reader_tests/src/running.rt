@@ -14,22 +14,22 @@ use std::sync::Wait;
 use std::test::Fail;
 use tiles::Have;
 
-// One update: red and blue, Raw.
+/// One update: red and blue, Raw.
 const UPDATE: [u8; 24] = [
     0, 0, 0, 1, 0, 0, 0, 0, 0, 2, 0, 1, 0, 0, 0, 0, 0, 0, 0xFF, 0, 0xFF, 0, 0, 0,
 ];
 
-// The same, and then what is no message.
+/// The same, and then what is no message.
 const UPDATE_AND_FAULT: [u8; 26] = [
     0, 0, 0, 1, 0, 0, 0, 0, 0, 2, 0, 1, 0, 0, 0, 0, 0, 0, 0xFF, 0, 0xFF, 0, 0, 0, 7, 2,
 ];
 
-// A colour map of one entry, a Bell, and the text "Hi".
+/// A colour map of one entry, a Bell, and the text "Hi".
 const MAP_BELL_TEXT: [u8; 23] = [
     1, 0, 0, 0, 0, 1, 0, 0, 0, 0, 0, 0, 2, 3, 0, 0, 0, 0, 0, 0, 2, 0x48, 0x69,
 ];
 
-// A link that answers a call to take so many times with the first, and then with the last.
+/// A link that answers a call to take this many times with the first, and then with the last.
 fn link_to(alloc: Global, sends: &[u8], answers: (Took, usize, Took)) -> Result<MemoryLink, Fail> {
     let sends = sends.to_vec(alloc)?;
     let mut takes = Vec::from_elem(alloc, answers.0, answers.1)?;
@@ -37,7 +37,7 @@ fn link_to(alloc: Global, sends: &[u8], answers: (Took, usize, Took)) -> Result<
     Ok(MemoryLink::new(alloc, sends, takes, Vec::new(alloc))?)
 }
 
-// The number of the fault, or 0.
+/// The number of the fault, or 0.
 fn number(answer: Result<(), Fault>) -> u64 {
     match answer {
         Ok(()) => 0,
@@ -45,7 +45,7 @@ fn number(answer: Result<(), Fault>) -> u64 {
     }
 }
 
-// Puts what a host sends over the link. The number of the fault, or 0.
+/// Puts what a host sends over the link. The number of the fault, or 0.
 fn read<R: Wait, P: Puts>(
     rt: &R,
     alloc: Global,
@@ -60,7 +60,8 @@ fn read<R: Wait, P: Puts>(
     Ok(number(run_host(rt, alloc, link, &mut decoder, &mut painter, publisher)))
 }
 
-// Whether reading what a host sends over a link that answers so comes to this fault, or to 0, and leaves so many updates.
+/// Whether reading what a host sends over a link that answers so comes to this fault, or to 0, and leaves this many
+/// updates.
 fn comes_to<R: Wait>(
     rt: &R,
     alloc: Global,
@@ -77,7 +78,7 @@ fn comes_to<R: Wait>(
     Ok(found == wanted.0 && screen.updates() == wanted.1)
 }
 
-// The same of a screen to which nothing was put.
+/// The same of a screen to which nothing was put.
 fn begins_with<R: Wait>(
     rt: &R,
     alloc: Global,
@@ -120,20 +121,25 @@ fn ends_at_once(rt: HostRuntime) -> Result<(), Fail> {
     Ok(())
 }
 
+// Where the link fails at any call that is its fault, and where it ends inside a message. What is whole is put.
 #[test]
-fn fails_at_each_call(rt: HostRuntime) -> Result<(), Fail> {
+fn fails_or_ends_at_each_call(rt: HostRuntime) -> Result<(), Fail> {
     for count in 0..25 {
-        let answers = (Took::Bytes(1), count, Took::Failed);
-        let wanted = (21, u64::from(count == 24));
-        assert!(rt;
-            begins_with(&rt, rt.alloc(), &UPDATE, answers, wanted)?,
-            "call {count}"
-        );
+        let is_whole = count == 24;
+        let at_end = if is_whole || count == 0 { 0 } else { 22 };
+        for (last, fault) in [(Took::Failed, 21), (Took::End, at_end)] {
+            let answers = (Took::Bytes(1), count, last);
+            let wanted = (fault, u64::from(is_whole));
+            assert!(rt;
+                begins_with(&rt, rt.alloc(), &UPDATE, answers, wanted)?,
+                "call {count}"
+            );
+        }
     }
     Ok(())
 }
 
-// What a screen of 2 by 1 shows, where it shows so many updates.
+/// What a screen of 2 by 1 shows, where it shows this many updates.
 fn cut_of(alloc: Global, screen: &mut PlainScreen, updates: u64) -> Result<Cut, Fail>
     requires { (screen.old.width ≡ 2) × (screen.old.height ≡ 1) }
 {
@@ -200,7 +206,7 @@ fn bells_and_texts_are_put_and_maps_are_not(rt: HostRuntime) -> Result<(), Fail>
     Ok(())
 }
 
-// A publisher that is refused memory once it has taken so many updates.
+/// A publisher that is refused memory once it has taken this many updates.
 #[derive(Drop)]
 struct Limited {
     screen: PlainScreen,
@@ -223,7 +229,7 @@ impl Puts for Limited {
     }
 }
 
-// Whether a Bell and a text, where there is memory for so many updates, come to this fault, or to 0.
+/// Whether a Bell and a text, where there is memory for this many updates, come to this fault, or to 0.
 fn is_put_with_room<R: Wait>(rt: &R, alloc: Global, room: u64, fault: u64) -> Result<bool, Fail> {
     let mut link = link_to(alloc, &MAP_BELL_TEXT, (Took::Bytes(5), 4, Took::Bytes(3)))?;
     let screen = PlainScreen::new(alloc, 2, 1)?;

@@ -1,4 +1,4 @@
--- A screen that is drawn on in one rectangle.
+-- A screen that is drawn on in one rectangle. A codec draws in place, and at the end it is one paint more.
 use Rattle.std.proofs.Common.{◌≡◌, ℕ, ◌+◌, ◌-◌, ◌<◌, Bool, true, false, List, [], ◌∷◌, ◌++◌, refl, sym, ap, ◌∙◌, arith}
 use Rattle.std.specs.Prelude.{◌==◌, if◌then◌else◌, slice_index}
 use Rattle.raster.specs.declared.rect.Rect.{Rect}

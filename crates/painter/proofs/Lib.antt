@@ -7,3 +7,4 @@ pub mod SameLaws
 pub mod SameVectors
 pub mod TilePuts
 pub mod TileColours
+pub mod Switches

@@ -1,4 +1,4 @@
--- A screen that is painted on, and its marks.
+-- A screen that is painted on, and its marks. A painter owes both for each paint.
 use Rattle.std.proofs.Common.{◌≡◌, ℕ, ◌+◌, ◌*◌, ◌-◌, ◌<◌, ◌≤◌, Bool, true, false, List, [], ◌∷◌, ◌++◌, length, length-append, get_or, inl, inr, refl, ap, sym, subst, take, drop, ◌∙◌, arith}
 use Rattle.std.specs.Prelude.{◌||◌, ◌==◌, if◌then◌else◌, slice_index}
 use Rattle.std.proofs.lemmas.Bool.{cases_lt}
@@ -107,7 +107,7 @@ rows_more w m c xs row e new old x y lx ly =
           get_or-append_right xs row (length xs) (y * w + x) 0 refl behind ∙ (ap (λ k. get_or row k 0) place ∙ (new x lx ∙ ap (c x) (sym last)))
     ]
 
--- A row behind those above it.
+-- A row after those above it.
 pub next_row : (w y : ℕ) (c : Canvas) (row : List ℕ) → 0 < w → length row ≡ w → ((x : ℕ) → x < w → slice_index row x ≡ c x y) → values_of w y c ++ row ≡ values_of w (y + 1) c
 next_row w y c row lw count new =
     let all : w * (y + 1) ≡ w * y + w = omega arith in

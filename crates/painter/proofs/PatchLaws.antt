@@ -1,4 +1,5 @@
--- What the tiles of a patch paint, and which tiles they touch.
+-- What the tiles of a patch paint, and which tiles they touch. A patch keeps tiles in place of the paints that it was
+-- made of.
 use Rattle.std.proofs.Common.{◌≡◌, ℕ, zero, suc, List, [], ◌∷◌, length, take, drop, map, All, refl, ap, ◌<◌, ◌≤◌, arith}
 use Rattle.std.specs.Prelude.{◌||◌, Bool}
 use Rattle.std.specs.List.{list_any, sum_by}

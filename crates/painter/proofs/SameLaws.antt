@@ -1,4 +1,5 @@
--- Lists of updates that come to the same: how they grow, and what follows.
+-- Lists of updates that come to the same: how they grow, and what follows. Updates of tiles are put in place of the
+-- host's own, and nobody may see it.
 use Rattle.std.proofs.Common.{◌≡◌, ℕ, zero, suc, ◌+◌, ◌<◌, List, [], ◌∷◌, ◌++◌, length, map, take, Option, Some, refl, ap, sym, ◌∙◌, arith}
 use Rattle.std.specs.Prelude.{if◌then◌else◌}
 use Rattle.std.proofs.lemmas.List.{take_all}
@@ -38,7 +39,7 @@ pub same_one : (w h : ℕ) (a b : Canvas) (u v : Update) → LooksLike w h a b �
     → ((t : ℕ) → t < tile_count w h → touches (tile_rect w h t) u ≡ touches (tile_rect w h t) v) → bell_or_text u ≡ bell_or_text v → AreSameFrom w h a b (u ∷ []) (v ∷ [])
 same_one w h a b u v alike shows tiles kind = same_first w h a b u v [] [] alike tiles kind (same_none w h (after_paints a (paints_of u)) (after_paints b (paints_of v)) shows)
 
--- What stands behind the first of each.
+-- What stands after the first of each.
 pub same_rest : (w h : ℕ) (a b : Canvas) (u v : Update) (us vs : List Update) → AreSameFrom w h a b (u ∷ us) (v ∷ vs) → AreSameFrom w h (after_paints a (paints_of u)) (after_paints b (paints_of v)) us vs
 same_rest w h a b u v us vs same =
     record {
@@ -54,7 +55,7 @@ first_touched r u v us vs e = cc
 first_kind : (u v : Update) (us vs : List Update) → map bell_or_text (u ∷ us) ≡ map bell_or_text (v ∷ vs) → bell_or_text u ≡ bell_or_text v
 first_kind u v us vs e = cc
 
--- Lists behind lists.
+-- Lists after lists.
 pub same_append : (w h : ℕ) (a b : Canvas) (us vs us2 vs2 : List Update) → AreSameFrom w h a b us vs → AreSameFrom w h (after_updates a us) (after_updates b vs) us2 vs2
     → AreSameFrom w h a b (us ++ us2) (vs ++ vs2)
 same_append w h a b [] [] us2 vs2 same more = more

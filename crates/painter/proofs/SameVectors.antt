@@ -1,4 +1,5 @@
--- Updates that come to the same, and others, on a screen of 2 by 1.
+-- Updates that come to the same, and others, on a screen of 2 by 1. The first are the same by the definition, the
+-- others aren't.
 use Rattle.std.proofs.Common.{◌≡◌, ℕ, zero, suc, ◌<◌, true, false, [], ◌∷◌, Some, refl, arith}
 use Rattle.raster.specs.declared.rect.Rect.{Rect}
 use Rattle.raster.specs.Screen.{Canvas, LooksLike, opening, tile_rect}
@@ -36,7 +37,8 @@ at_once_or_one_by_one =
     same_one 2 1 opening opening at_once one_by_one (λ x y lx ly. refl) (on_two_pixels _ _ refl refl)
     (on_one_tile (λ t. touches (tile_rect 2 1 t) at_once ≡ touches (tile_rect 2 1 t) one_by_one) refl) refl
 
--- Another colour isn't the same; nor is black on black where nothing is painted, which touches no tile; nor a Bell and an empty text.
+-- Another colour isn't the same; nor is black on black where nothing is painted, which touches no tile; nor a Bell and
+-- an empty text.
 pub other_colour_is_another : AreSame (Paints (Put (rect 0 0 1 1) (1 ∷ []) ∷ [])) (Paints (Put (rect 0 0 1 1) (2 ∷ []) ∷ [])) → ⊥
 other_colour_is_another same = let e : 1 ≡ 2 = same.shows 1 0 0 (omega arith) (omega arith) in omega (arith, e)
 

@@ -1,4 +1,5 @@
--- The tiles of a screen are those of a patch, and have together no more colours than it has positions.
+-- The tiles of a screen are those of a patch, and have together no more colours than it has positions. `Painter::patch`
+-- takes that much room, and fills it.
 use Rattle.std.proofs.Common.{◌≡◌, ℕ, zero, suc, ◌+◌, ◌*◌, ◌-◌, ◌/◌, ◌%◌, ◌<◌, ◌≤◌, Bool, true, false, List, [], ◌∷◌, ◌++◌, length, length-append, take, drop, map, All, get_or, inl, inr, refl, ap, sym, subst, ◌∙◌, arith, zero-add}
 use Rattle.std.specs.Prelude.{filter, if◌then◌else◌, min}
 use Rattle.std.specs.List.{flat_map, range_with_len, sum_by}
@@ -15,6 +16,7 @@ use Rattle.raster.specs.Update.{Paint, Put}
 use Rattle.raster.proofs.Places.{length_values}
 use Rattle.painter.specs.Painter.{Painting, colour_count, colours_in, colours_of, is_touched, tile_put, tile_puts, touched_below, worked}
 use Rattle.painter.specs.Patch.{AreTiles, tile_area, tile_paints}
+use Rattle.raster.specs.declared.tile.TheConstants.{TILE_SIDE}
 
 -- ---- they are the tiles of a patch
 
@@ -68,8 +70,8 @@ patch_paints screen ts colours is_ts is_colours =
 -- A tile has at most 16 by 16 positions.
 pub area_small : (w h t : ℕ) → tile_area w h t ≤ 256
 area_small w h t =
-    let wide : min 16 (w - t % tiles_across w * 16) ≤ 16 = omega arith in
-    let high : min 16 (h - t / tiles_across w * 16) ≤ 16 = omega arith in
+    let wide : min TILE_SIDE (w - t % tiles_across w * TILE_SIDE) ≤ TILE_SIDE = omega arith in
+    let high : min TILE_SIDE (h - t / tiles_across w * TILE_SIDE) ≤ TILE_SIDE = omega arith in
     mul-le-mul wide high
 
 -- ---- their colours
@@ -84,26 +86,26 @@ some_le_all f p passes (t ∷ ts) = if_le f p (passes t) t (filter passes ts) ts
 
 -- How many positions lie in the rows of tiles above a row, and in that row left of a column.
 abbrev before : ℕ → ℕ → ℕ → ℕ → ℕ
-before w h row column = w * min h (row * 16) + min w (column * 16) * min 16 (h - row * 16)
+before w h row column = w * min h (row * TILE_SIDE) + min w (column * TILE_SIDE) * min TILE_SIDE (h - row * TILE_SIDE)
 
 -- One column on.
-next_column : (w h row column : ℕ) → before w h row (column + 1) ≡ before w h row column + min 16 (w - column * 16) * min 16 (h - row * 16)
+next_column : (w h row column : ℕ) → before w h row (column + 1) ≡ before w h row column + min TILE_SIDE (w - column * TILE_SIDE) * min TILE_SIDE (h - row * TILE_SIDE)
 next_column w h row column =
-    let high : ℕ = min 16 (h - row * 16) in
-    let wider : min w ((column + 1) * 16) ≡ min w (column * 16) + min 16 (w - column * 16) = omega arith in
-    let more : min w ((column + 1) * 16) * high ≡ min w (column * 16) * high + min 16 (w - column * 16) * high = ap (λ k. k * high) wider ∙ add-mul (min w (column * 16)) (min 16 (w - column * 16)) high in
+    let high : ℕ = min TILE_SIDE (h - row * TILE_SIDE) in
+    let wider : min w ((column + 1) * TILE_SIDE) ≡ min w (column * TILE_SIDE) + min TILE_SIDE (w - column * TILE_SIDE) = omega arith in
+    let more : min w ((column + 1) * TILE_SIDE) * high ≡ min w (column * TILE_SIDE) * high + min TILE_SIDE (w - column * TILE_SIDE) * high = ap (λ k. k * high) wider ∙ add-mul (min w (column * TILE_SIDE)) (min TILE_SIDE (w - column * TILE_SIDE)) high in
     omega (arith, more)
 
 -- One row on.
-next_row : (w h row across : ℕ) → w ≤ across * 16 → before w h (row + 1) 0 ≡ before w h row across
+next_row : (w h row across : ℕ) → w ≤ across * TILE_SIDE → before w h (row + 1) 0 ≡ before w h row across
 next_row w h row across full =
-    let high : ℕ = min 16 (h - row * 16) in
-    let all : min w (across * 16) ≡ w = omega (arith, full) in
-    let none : min w (0 * 16) ≡ 0 = omega arith in
-    let lower : min h ((row + 1) * 16) ≡ min h (row * 16) + high = omega arith in
-    let more : w * min h ((row + 1) * 16) ≡ w * min h (row * 16) + w * high = ap (λ k. w * k) lower ∙ mul-add w (min h (row * 16)) high in
-    let nothing : min w (0 * 16) * min 16 (h - (row + 1) * 16) ≡ 0 = ap (λ k. k * min 16 (h - (row + 1) * 16)) none ∙ zero_times (min 16 (h - (row + 1) * 16)) in
-    let row_of : min w (across * 16) * high ≡ w * high = ap (λ k. k * high) all in
+    let high : ℕ = min TILE_SIDE (h - row * TILE_SIDE) in
+    let all : min w (across * TILE_SIDE) ≡ w = omega (arith, full) in
+    let none : min w (0 * TILE_SIDE) ≡ 0 = omega arith in
+    let lower : min h ((row + 1) * TILE_SIDE) ≡ min h (row * TILE_SIDE) + high = omega arith in
+    let more : w * min h ((row + 1) * TILE_SIDE) ≡ w * min h (row * TILE_SIDE) + w * high = ap (λ k. w * k) lower ∙ mul-add w (min h (row * TILE_SIDE)) high in
+    let nothing : min w (0 * TILE_SIDE) * min TILE_SIDE (h - (row + 1) * TILE_SIDE) ≡ 0 = ap (λ k. k * min TILE_SIDE (h - (row + 1) * TILE_SIDE)) none ∙ zero_times (min TILE_SIDE (h - (row + 1) * TILE_SIDE)) in
+    let row_of : min w (across * TILE_SIDE) * high ≡ w * high = ap (λ k. k * high) all in
     omega (arith, more, nothing, row_of)
   where
     zero_times : (k : ℕ) → 0 * k ≡ 0
@@ -113,14 +115,14 @@ next_row w h row across full =
 abbrev before_tile : ℕ → ℕ → ℕ → ℕ
 before_tile w h t = before w h (t / tiles_across w) (t % tiles_across w)
 
-next_tile : (w h t : ℕ) → 0 < w → before_tile w h (t + 1) ≡ before_tile w h t + min 16 (w - t % tiles_across w * 16) * min 16 (h - t / tiles_across w * 16)
+next_tile : (w h t : ℕ) → 0 < w → before_tile w h (t + 1) ≡ before_tile w h t + min TILE_SIDE (w - t % tiles_across w * TILE_SIDE) * min TILE_SIDE (h - t / tiles_across w * TILE_SIDE)
 next_tile w h t lw =
     let across : ℕ = tiles_across w in
     let row : ℕ = t / across in
     let column : ℕ = t % across in
     let some : 0 < across = omega arith in
     let place : row * across + column ≡ t = div-add-mod' t across in
-    let full : w ≤ across * 16 = omega arith in
+    let full : w ≤ across * TILE_SIDE = omega arith in
     elim (cases_lt (column + 1) across) [
       | inl inside ↦
           let next : t + 1 ≡ row * across + (column + 1) = omega (arith, place) in
@@ -140,7 +142,7 @@ next_tile w h t lw =
     one_times : (k : ℕ) → 1 * k ≡ k
     one_times k = omega arith
 
-count_is : (w h : ℕ) (c : Canvas) (t : ℕ) → colour_count (tile_put w h c t) ≡ min 16 (w - t % tiles_across w * 16) * min 16 (h - t / tiles_across w * 16)
+count_is : (w h : ℕ) (c : Canvas) (t : ℕ) → colour_count (tile_put w h c t) ≡ min TILE_SIDE (w - t % tiles_across w * TILE_SIDE) * min TILE_SIDE (h - t / tiles_across w * TILE_SIDE)
 count_is w h c t = let r : Rect = tile_rect w h t in length_values r.w r.h (part_of r c)
 
 sum_before : (w h : ℕ) (c : Canvas) (n : ℕ) → 0 < w → sum_by colour_count (map (tile_put w h c) (range_with_len 0 n)) ≡ before_tile w h n
@@ -155,10 +157,10 @@ sum_before w h c zero lw =
 
     none : before w h 0 0 ≡ 0
     none =
-        let high : ℕ = min 16 (h - 0 * 16) in
-        let above : min h (0 * 16) ≡ 0 = omega arith in
-        let left : min w (0 * 16) ≡ 0 = omega arith in
-        ap (λ k. w * k + min w (0 * 16) * high) above ∙ (ap (λ k. w * 0 + k * high) left ∙ nothing w high)
+        let high : ℕ = min TILE_SIDE (h - 0 * TILE_SIDE) in
+        let above : min h (0 * TILE_SIDE) ≡ 0 = omega arith in
+        let left : min w (0 * TILE_SIDE) ≡ 0 = omega arith in
+        ap (λ k. w * k + min w (0 * TILE_SIDE) * high) above ∙ (ap (λ k. w * 0 + k * high) left ∙ nothing w high)
 sum_before w h c (suc n) lw =
     let next : suc n ≡ n + 1 = omega arith in
     ap (λ k. sum_by colour_count (map (tile_put w h c) (range_with_len 0 k))) next
@@ -176,7 +178,7 @@ puts_few w h c passes lw =
     let place : n ≡ down * across + 0 = omega arith in
     let last : before_tile w h n ≡ before w h down 0 =
     ap (before_tile w h) place ∙ (ap (λ k. before w h k ((down * across + 0) % across)) (div-mul-add down across 0 some) ∙ ap (before w h down) (mod-mul-add down across 0 some)) in
-    let all : min h (down * 16) ≡ h = omega arith in
-    let none : min w (0 * 16) ≡ 0 = omega arith in
-    let total : before w h down 0 ≡ w * h + 0 * min 16 (h - down * 16) = ap (λ k. w * k + min w (0 * 16) * min 16 (h - down * 16)) all ∙ ap (λ k. w * h + k * min 16 (h - down * 16)) none in
+    let all : min h (down * TILE_SIDE) ≡ h = omega arith in
+    let none : min w (0 * TILE_SIDE) ≡ 0 = omega arith in
+    let total : before w h down 0 ≡ w * h + 0 * min TILE_SIDE (h - down * TILE_SIDE) = ap (λ k. w * k + min w (0 * TILE_SIDE) * min TILE_SIDE (h - down * TILE_SIDE)) all ∙ ap (λ k. w * h + k * min TILE_SIDE (h - down * TILE_SIDE)) none in
     omega (arith, some_le_all colour_count (tile_put w h c) passes (range_with_len 0 n), sum_before w h c n lw, last, total)

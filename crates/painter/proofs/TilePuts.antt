@@ -1,4 +1,5 @@
--- The touched tiles as they look give the same screen as the update, and touch the same tiles.
+-- The touched tiles as they look give the same screen as the update, and touch the same tiles. So a patch may be made
+-- of them.
 use Rattle.std.proofs.Common.{◌≡◌, ℕ, zero, suc, ◌+◌, ◌*◌, ◌-◌, ◌/◌, ◌%◌, ◌<◌, Bool, true, false, List, [], ◌∷◌, ◌++◌, map, get_or, inl, inr, refl, ap, sym, ◌∙◌, arith, zero-add}
 use Rattle.std.specs.Prelude.{◌||◌, ◌&&◌, filter, if◌then◌else◌, max, min}
 use Rattle.std.specs.List.{list_any, range_with_len}

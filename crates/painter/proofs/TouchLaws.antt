@@ -1,4 +1,4 @@
--- Which tiles of a grid the tiles of a patch touch.
+-- Which tiles of a grid the tiles of a patch touch. `Patch::touch` marks those and no others.
 use Rattle.std.proofs.Common.{ℕ, ◌+◌, ◌<◌, Bool, List, length, take, get_or, sym, subst}
 use Rattle.std.specs.Prelude.{◌||◌}
 use Rattle.std.specs.List.{list_any}

@@ -1,4 +1,4 @@
--- What one update more makes of a view.
+-- What one update more makes of a view. `Board::apply` makes it of the board's fields.
 use Rattle.std.proofs.Common.{◌≡◌, ℕ, ◌+◌, Bool, true, false, List, length-append, [], ◌∷◌, ◌++◌, length, Option, Some, None, refl, ap, sym, subst, ◌∙◌, arith, add_assoc}
 use Rattle.std.specs.Int.{from_bool}
 use Rattle.std.specs.Prelude.{if◌then◌else◌}
@@ -43,7 +43,8 @@ counted : (b : Bool) → from_bool b ≡ (if b then 1 else 0)
 counted true = refl
 counted false = refl
 
--- A board that stands for some updates does so for one more, where that was painted on it, touched its tiles, was counted, and kept as a text.
+-- A board that stands for some updates does so for one more, where that was painted on it, touched its tiles, was
+-- counted, and kept as a text.
 pub stands-push : (board : Posted) (patch : SizedUpdate) (w h n rung count : ℕ) (old new : List ℕ) (grid touched : Stamps) (last : Option NumberedText) (text : Option (List ℕ)) (us : List Update)
     → record { width = w; height = h; number = n; colours = old; grid = grid; bells = rung; text = last } ≡ board → (patch.width ≡ board.width) × (patch.height ≡ board.height) → ShowsOver patch old new
     → IsTouched (λ t. touches (tile_rect grid.width grid.height t) patch.update) (n + 1) grid touched → count ≡ from_bool (is_bell patch.update) → text ≡ text_of patch.update → BoardStands board us

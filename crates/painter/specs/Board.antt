@@ -24,7 +24,7 @@ pub record BoardStands (board : Posted) (us : List Update) : Type 0 where
   pub bells : board.bells ≡ bells us
   pub text : board.text ≡ last_text us
 
--- What stands in its fields: a colour for each position, the tiles of its screen, and no more Bells than updates.
+-- What its fields hold: a colour for each position, the tiles of its screen, and no more Bells than updates.
 pub record IsBoard (board : Posted) : Type 0 where
   pub size : IsScreenSize board.width board.height
   pub rows : length board.colours ≡ board.width * board.height

@@ -19,7 +19,8 @@ pub record IsSameAround (old new : Painting) : Type 0 where
   pub area : new.area ≡ old.area
   pub outside : (x y : ℕ) → x < old.width → y < old.height → holds old.area x y ≡ false → worked new x y ≡ worked old x y
 
--- Over the screen at the update's start it shows these paints around a rectangle, and the tiles that were touched are those that one of them touches.
+-- Over the screen at the update's start it shows these paints around a rectangle, and the tiles that were touched are
+-- those that one of them touches.
 pub record IsPaintedAround (start : Canvas) (paints : List Paint) (area : Rect) (screen : Painting) : Type 0 where
   pub shows : (x y : ℕ) → x < screen.width → y < screen.height → holds area x y ≡ false → worked screen x y ≡ after_paints start paints x y
   pub touched : (t : ℕ) → t < tile_count screen.width screen.height → is_touched screen t ≡ touches (tile_rect screen.width screen.height t) (Paints paints)

@@ -17,7 +17,7 @@ abbrev pub bytes_of : Option NumberedText → List ℕ
 bytes_of None = []
 bytes_of (Some last) = last.text
 
--- What stands after an update of this number, which brings this text or none.
+-- The text kept after an update of this number, which brings this text or none.
 abbrev pub newer : Option NumberedText → ℕ → Option (List ℕ) → Option NumberedText
 newer last number None = last
 newer last number (Some text) = Some (record { text = text; number = number })

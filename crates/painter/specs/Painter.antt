@@ -6,8 +6,8 @@ use Rattle.raster.specs.Screen.{Canvas, LooksLike, part_of, tile_count, tile_rec
 use Rattle.raster.specs.Update.{Paint, Put, Copy, Paints, after_paints}
 use Rattle.tiles.specs.Touched.{touches}
 
--- The size of the screen, its colours row after row, of each tile a 1 where the update that is being read has touched it, and the rectangle
--- that is drawn on.
+-- The size of the screen, its colours row after row, of each tile a 1 where the update that is being read has touched
+-- it, and the rectangle that is drawn on.
 pub record Painting : Type 0 where
   pub width : ℕ
   pub height : ℕ
@@ -27,7 +27,8 @@ is_touched screen t = slice_index screen.marks t == 1
 abbrev pub touched_below : Painting → ℕ → List ℕ
 touched_below screen n = filter (is_touched screen) (range_with_len 0 n)
 
--- Over the screen at the update's start it shows these paints, and the tiles that were touched are those that one of them touches.
+-- Over the screen at the update's start it shows these paints, and the tiles that were touched are those that one of
+-- them touches.
 pub record IsPaintedOver (start : Canvas) (paints : List Paint) (screen : Painting) : Type 0 where
   pub shows : LooksLike screen.width screen.height (worked screen) (after_paints start paints)
   pub touched : (t : ℕ) → t < tile_count screen.width screen.height → is_touched screen t ≡ touches (tile_rect screen.width screen.height t) (Paints paints)

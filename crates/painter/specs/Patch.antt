@@ -5,6 +5,7 @@ use Rattle.raster.specs.Screen.{Canvas, LooksLike, tile_count, tile_rect, value_
 use Rattle.raster.specs.Update.{Paint, Put, Update, Paints, Bell, Cut, after_paints, paints_of}
 use Rattle.painter.specs.declared.patch.Change.{Change}
 use Rattle.painter.specs.declared.patch.Change.TheVariants as code
+use Rattle.pixel_format.specs.declared.limits.TheConstants.{LONGEST_TEXT}
 
 -- An update, and the width and height of the screen that it is for.
 pub record SizedUpdate : Type 0 where
@@ -36,7 +37,7 @@ update_of w h (code.Text text) = Cut text.items
 abbrev pub IsFor : ℕ → ℕ → Change → Type 0
 IsFor w h (code.Tiles numbers colours) = AreTiles w h numbers.items colours.items
 IsFor w h code.Bell = Unit {0}
-IsFor w h (code.Text text) = length text.items ≤ 65536
+IsFor w h (code.Text text) = length text.items ≤ LONGEST_TEXT
 
 -- Over what the old colours of its screen look like, the new ones show its paints.
 abbrev pub ShowsOver : SizedUpdate → List ℕ → List ℕ → Type 0

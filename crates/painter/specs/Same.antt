@@ -4,8 +4,8 @@ use Rattle.raster.specs.Screen.{Canvas, LooksLike, tile_count, tile_rect}
 use Rattle.raster.specs.Update.{Update, after_updates}
 use Rattle.tiles.specs.Touched.{bell_or_text, touches}
 
--- On screens of w by h that look alike, one list after a and the other after b: there are as many of each; the first n of each make the same
--- screen; and one by one they touch the same tiles, and are the same Bell or text (own).
+-- On screens of w by h that look alike, one list after a and the other after b: there are as many of each; the first n
+-- of each make the same screen; and one by one they touch the same tiles, and are the same Bell or text (own).
 pub record AreSameFrom (w h : ℕ) (a b : Canvas) (us vs : List Update) : Type 0 where
   pub count : length us ≡ length vs
   pub shows : (n : ℕ) → LooksLike w h (after_updates a (take n us)) (after_updates b (take n vs))

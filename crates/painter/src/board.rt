@@ -9,15 +9,15 @@ ghost use Rattle.raster.specs.Update.{Update};
 ghost use Rattle.std.specs.Int.{from_bool};
 
 use crate::patch::Patch;
-use crate::text::Text;
+use crate::text::LastText;
 use pixel_format::Fault;
 use std::alloc::Global;
 use std::marker::Model;
 use tiles::Grid;
 
-/// What a list of updates shows: the number of the last of them, the screen, the number of the last that touched each of
-/// its tiles, how many Bells there were, and the last text of the host's cut buffer. All its room is taken where it is
-/// made.
+/// What a list of updates shows: the number of the last of them, the screen, the number of the last that touched each
+/// of its tiles, how many Bells there were, and the last text of the host's cut buffer. All its room is taken where it
+/// is made.
 #[derive(Drop)]
 pub struct Board {
     width: u64,
@@ -26,7 +26,7 @@ pub struct Board {
     colours: Vec<u32>,
     grid: Grid,
     bells: u64,
-    text: Text,
+    text: LastText,
 }
 
 impl Model for Board {
@@ -39,7 +39,7 @@ impl Model for Board {
     ghost invariant = { λ b. IsBoard (record { width = b.width; height = b.height; number = b.number; colours = b.colours.items; grid = b.grid; bells = b.bells; text = b.text }) };
 }
 
-/// How many updates and how many Bells there are behind a patch, where before it there were so many.
+/// How many updates and how many Bells there are after a patch, where before it there were this many.
 fn counted(number: u64, bells: u64, patch: &Patch) -> (u64, u64)
     requires few { bells ≤ number }
     requires number { number < 2 ^ 62 }
@@ -51,15 +51,15 @@ fn counted(number: u64, bells: u64, patch: &Patch) -> (u64, u64)
 }
 
 impl Board {
-    /// A black screen of `width` by `height` pixels, to which no update was applied, and room for a text of 65,536 bytes. It fails
-    /// where memory is refused (`Memory`).
+    /// A black screen of `width` by `height` pixels, to which no update was applied, and room for a text of 65,536
+    /// bytes. It fails where memory is refused (`Memory`).
     pub fn new(alloc: Global, width: u64, height: u64) -> Result<Self, Fault>
         requires { IsScreenSize width height }
         ensures size { IfOk result (λ board. (board.width ≡ width) × (board.height ≡ height)) }
         ensures stands { IfOk result (λ board. BoardStands board []) }
         ensures err { IfErr result (λ fault. fault ≡ Memory) }
     {
-        let text = Text::new(alloc)?;
+        let text = LastText::new(alloc)?;
         let colours = vec![in alloc; 0u32; (width * height) as usize]?;
         let grid = Grid::new(alloc, width, height)?;
         Ok(Board {
@@ -95,7 +95,7 @@ impl Board {
     }
 
     /// The last text, with the number of the update that brought it.
-    pub fn text(&self) -> &Text
+    pub fn text(&self) -> &LastText
         ensures { result.now ≡ self.now.text }
     {
         &self.text

@@ -1,7 +1,8 @@
 //! Updates of a screen, in colours: painted as they come, and kept (RFC 6143, section 7.6).
 //!
-//! Colours stand row after row, in 4 bytes a pixel. A `new`, `Painter::patch` and `Patch::copy` take memory, and fail where it is refused
-//! (`Memory`). All else takes none, and always succeeds where its condition holds. No handle is needed.
+//! Colours stand row after row, in 4 bytes a pixel. A `new`, `Painter::patch` and `Patch::copy` take memory, and fail
+//! where it is refused (`Memory`). All else takes none, and always succeeds where its condition holds. No handle is
+//! needed.
 #![tactic(auto)]
 
 mod board;
@@ -15,4 +16,4 @@ pub use board::Board;
 pub use law::{same_updates_are_put_together, same_updates_show_the_same};
 pub use painter::Painter;
 pub use patch::Patch;
-pub use text::Text;
+pub use text::LastText;

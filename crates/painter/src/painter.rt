@@ -10,6 +10,7 @@ ghost use Rattle.raster.specs.Painted.{Fits, paint_of};
 ghost use Rattle.raster.specs.Picture.{Picture, shown};
 ghost use Rattle.raster.specs.Screen.{Canvas, IsWithin, LooksLike, opening, tile_count, tile_rect, value_at};
 ghost use Rattle.raster.specs.Size.{IsScreenSize};
+ghost use Rattle.raster.specs.Switch.{switch};
 ghost use Rattle.raster.specs.Update as update;
 ghost use Rattle.std.specs.List.{flat_map, sum_by};
 
@@ -64,7 +65,8 @@ fn add_colours(colours: &mut Vec<u32>, raster: &Raster, area: &Rect) -> Result<(
 }
 
 impl Painter {
-    /// A black screen of `width` by `height` pixels, of which no tile was touched. It fails where memory is refused (`Memory`).
+    /// A black screen of `width` by `height` pixels, of which no tile was touched. It fails where memory is refused
+    /// (`Memory`).
     pub fn new(alloc: Global, width: u64, height: u64) -> Result<Self, Fault>
         requires { IsScreenSize width height }
         ensures size { IfOk result (λ screen. (screen.width ≡ width) × (screen.height ≡ height)) }
@@ -111,8 +113,8 @@ impl Painter {
         self.touched.touch(&area, TOUCHED);
     }
 
-    /// Copies a rectangle from another part of the screen, as it was before the call: `x`, `y` is that part's top left (RFC 6143, 7.7.2).
-    /// It always succeeds, and takes no memory.
+    /// Copies a rectangle from another part of the screen, as it was before the call: `x`, `y` is that part's top left
+    /// (RFC 6143, 7.7.2). It always succeeds, and takes no memory.
     pub fn copy(&mut self, area: Rect, x: u64, y: u64)
         requires within { IsWithin area self.old.width self.old.height }
         requires source { IsWithin (record { x = x; y = y; w = area.w; h = area.h }) self.old.width self.old.height }
@@ -170,8 +172,8 @@ impl Painter {
         (count, positions)
     }
 
-    /// The tiles that were touched, in rising order: their numbers, and the colours of each as it looks now, one tile after the
-    /// other. It fails where memory is refused (`Memory`).
+    /// The tiles that were touched, in rising order: their numbers, and the colours of each as it looks now, one tile
+    /// after the other. It fails where memory is refused (`Memory`).
     fn touched_tiles(&self) -> Result<(Vec<u64>, Vec<u32>), Fault>
         ensures numbers { IfOk result (λ tiles. tiles.0.items ≡ touched_below self.now (tile_count self.now.width self.now.height)) }
         ensures colours { IfOk result (λ tiles. tiles.1.items ≡ flat_map (λ t. colours_in (worked self.now) (tile_rect self.now.width self.now.height t)) (touched_below self.now (tile_count self.now.width self.now.height))) }
@@ -190,8 +192,9 @@ impl Painter {
         Ok((numbers, colours))
     }
 
-    /// At the end of a FramebufferUpdate (RFC 6143, section 7.6.1): the tiles that it touched, each once, in rising order, with the colours
-    /// of the whole tile. Then no tile is touched: the next update begins. It fails where memory is refused (`Memory`).
+    /// At the end of a FramebufferUpdate (RFC 6143, section 7.6.1): the tiles that it touched, each once, in rising
+    /// order, with the colours of the whole tile. Then no tile is touched: the next update begins. It fails where
+    /// memory is refused (`Memory`).
     pub fn patch(&mut self) -> Result<Patch, Fault>
         ensures patch { IfOk result (λ patch. patch ≡ record { width = self.old.width; height = self.old.height; update = update.Paints (tile_puts self.old.width self.old.height (worked self.old) (is_touched self.old)) }) }
         ensures same { IfOk result (λ patch. (start : Canvas) (paints : List update.Paint) → IsPaintedOver start paints self.old
@@ -212,5 +215,29 @@ impl Painter {
         };
         self.touched.touch(&all, UNTOUCHED);
         Ok(Patch::of_tiles(width, height, numbers, colours))
+    }
+
+    /// Where the host has ended and another begins: the screen turns black, what was painted of an update that isn't
+    /// whole is dropped, and the patch brings the black screen. It fails where memory is refused (`Memory`), and then
+    /// nothing has changed.
+    pub fn switch(&mut self) -> Result<Patch, Fault>
+        ensures size { IsAsLarge self.old self.new }
+        ensures sized { IfOk result (λ patch. (patch.width ≡ self.old.width) × (patch.height ≡ self.old.height)) }
+        ensures same { IfOk result (λ patch. (start : Canvas) → AreSameUpdates self.old.width self.old.height start (switch self.old.width self.old.height ∷ []) (patch.update ∷ [])) }
+        ensures begun { OnOk result ((start : Canvas) → IsPaintedOver (update.after_paints start (update.paints_of (switch self.old.width self.old.height))) [] self.new) }
+        ensures err { IfErr result (λ fault. (fault ≡ Memory) × (self.new ≡ self.old)) }
+    {
+        let (width, height) = self.size();
+        let mut black = Painter::new(self.alloc, width, height)?;
+        black.draw_on(Rect {
+            x: 0,
+            y: 0,
+            w: width,
+            h: height,
+        });
+        black.end_drawing();
+        let patch = black.patch()?;
+        *self = black;
+        Ok(patch)
     }
 }

@@ -3,6 +3,7 @@
 ghost use Rattle.std.specs.Prelude.{◌≡◌, ℕ, ◌<◌, ◌≤◌, ◌*◌, length, All, IfOk, IfErr, IfSome};
 ghost use Rattle.painter.specs.Patch.{AreTiles, ShowsOver, is_bell, text_of, tile_paints};
 ghost use Rattle.pixel_format.specs.declared.fault.Fault.TheVariants.{Memory};
+ghost use Rattle.pixel_format.specs.declared.limits.TheConstants.{LONGEST_TEXT};
 ghost use Rattle.raster.specs.Screen.{LooksLike, meets, tile_count, tile_rect, value_at};
 ghost use Rattle.raster.specs.Size.{IsScreenSize};
 ghost use Rattle.raster.specs.Update.{Paints, Bell, Cut, after_paints, paints_of};
@@ -17,8 +18,8 @@ use std::alloc::Global;
 use std::marker::Model;
 use tiles::Grid;
 
-/// The tiles that a FramebufferUpdate touched: their numbers, and the colours of one whole tile after the other, each row
-/// after row; or a Bell, or a text that was cut (RFC 6143, 7.6).
+/// The tiles that a FramebufferUpdate touched: their numbers, and the colours of one whole tile after the other, each
+/// row after row; or a Bell, or a text that was cut (RFC 6143, 7.6).
 #[derive(Drop)]
 enum Change {
     Tiles(Vec<u64>, Vec<u32>),
@@ -101,7 +102,7 @@ impl Patch {
     /// A text of the host's cut buffer, of at most 65,536 bytes.
     pub fn text(width: u64, height: u64, text: Vec<u8>) -> Self
         requires size { IsScreenSize width height }
-        requires short { length text.items ≤ 65536 }
+        requires short { length text.items ≤ LONGEST_TEXT }
         ensures { result ≡ record { width = width; height = height; update = Cut text.items } }
     {
         Patch {
@@ -137,7 +138,8 @@ impl Patch {
         (self.width, self.height)
     }
 
-    /// The numbers of the tiles that it paints, and their colours, one whole tile after the other: none of a Bell or a text.
+    /// The numbers of the tiles that it paints, and their colours, one whole tile after the other: none of a Bell or a
+    /// text.
     pub fn tiles(&self) -> (&[u64], &[u32])
         ensures paints { tile_paints self.now.width self.now.height result.0.now result.1.now ≡ paints_of self.now.update }
         ensures tiles { AreTiles self.now.width self.now.height result.0.now result.1.now }
@@ -159,7 +161,7 @@ impl Patch {
     /// Its text, where it is one: at most 65,536 bytes.
     pub fn text_bytes(&self) -> Option<&[u8]>
         ensures text { option_copied result ≡ text_of self.now.update }
-        ensures short { IfSome result (λ text. length text.now ≤ 65536) }
+        ensures short { IfSome result (λ text. length text.now ≤ LONGEST_TEXT) }
     {
         match &self.change {
             Change::Tiles(_, _) => None,

@@ -4,37 +4,40 @@ ghost use Rattle.std.specs.Prelude.{◌≡◌, ℕ, ◌≤◌, length, IfOk, IfE
 ghost use Rattle.pixel_format.specs.declared.fault.Fault.TheVariants.{Memory};
 ghost use Rattle.painter.specs.Kept.{number_of, bytes_of, newer};
 ghost use Rattle.std.specs.Option.{option_copied};
+ghost use Rattle.pixel_format.specs.declared.limits.TheConstants.{LONGEST_TEXT};
 
 use pixel_format::{Fault, LONGEST_TEXT};
 use std::alloc::Global;
 use std::marker::Model;
 
-/// A text of at most 65,536 bytes with the number of the update that brought it, or none. The room for its bytes is kept.
+/// A text of at most 65,536 bytes with the number of the update that brought it, or none. The room for its bytes is
+/// kept.
 #[derive(Drop)]
-pub struct Text {
+pub struct LastText {
     bytes: Vec<u8>,
     number: Option<u64>,
 }
 
-impl Model for Text {
+impl Model for LastText {
     ghost use Rattle.std.specs.Prelude.{◌≤◌, Option, length, vec_capacity};
     ghost use Rattle.raster.specs.Update.{NumberedText};
     ghost use Rattle.painter.specs.Kept.{numbered};
+    ghost use Rattle.pixel_format.specs.declared.limits.TheConstants.{LONGEST_TEXT};
 
     ghost Value = { Option NumberedText };
 
     ghost view = { λ text. numbered text.bytes.items text.number };
 
-    ghost invariant = { λ text. (65536 ≤ vec_capacity text.bytes) × (length text.bytes.items ≤ 65536) };
+    ghost invariant = { λ text. (LONGEST_TEXT ≤ vec_capacity text.bytes) × (length text.bytes.items ≤ LONGEST_TEXT) };
 }
 
-impl Text {
+impl LastText {
     /// No text yet, and room for one. It fails where memory is refused (`Memory`).
     pub fn new(alloc: Global) -> Result<Self, Fault>
         ensures ok { IfOk result (λ text. text ≡ None) }
         ensures err { IfErr result (λ fault. fault ≡ Memory) }
     {
-        Ok(Text {
+        Ok(LastText {
             bytes: Vec::with_capacity(alloc, LONGEST_TEXT as usize)?,
             number: None,
         })
@@ -50,7 +53,7 @@ impl Text {
     /// Its bytes: none where there is no text.
     pub fn bytes(&self) -> &[u8]
         ensures bytes { result.now ≡ bytes_of self.now }
-        ensures short { length result.now ≤ 65536 }
+        ensures short { length result.now ≤ LONGEST_TEXT }
     {
         match self.number {
             None => &[],
@@ -67,7 +70,7 @@ impl Text {
 
     /// These bytes are the text now, brought by the update of this number.
     pub fn set(&mut self, bytes: &[u8], number: u64)
-        requires { length bytes.now ≤ 65536 }
+        requires { length bytes.now ≤ LONGEST_TEXT }
         ensures { self.new ≡ Some (record { text = bytes.now; number = number }) }
     {
         self.bytes.clear();
@@ -77,7 +80,7 @@ impl Text {
     }
 
     /// The same text as another, or none.
-    pub fn copy_from(&mut self, other: &Text)
+    pub fn copy_from(&mut self, other: &LastText)
         ensures { self.new ≡ other.now }
     {
         match other.number {
@@ -88,7 +91,7 @@ impl Text {
 
     /// The update of this number brings these bytes, or no text: then the last one stays.
     pub fn follow(&mut self, bytes: Option<&[u8]>, number: u64)
-        requires { IfSome bytes (λ text. length text.now ≤ 65536) }
+        requires { IfSome bytes (λ text. length text.now ≤ LONGEST_TEXT) }
         ensures { self.new ≡ newer self.old number (option_copied bytes.entry) }
     {
         if let Some(bytes) = bytes {

@@ -1,4 +1,4 @@
--- The runs of an area hold the positions of its due tiles and no others.
+-- The runs of an area hold the positions of its due tiles and no others. The law `runs_bring_the_due` is made of it.
 use Rattle.std.proofs.Common.{◌≡◌, ℕ, suc, zero, ◌+◌, ◌-◌, ◌*◌, ◌/◌, ◌%◌, ◌<◌, ◌≤◌, Bool, true, false, List, [], ◌∷◌, length, refl, ap, sym, ◌∙◌, arith, inl, inr, ◌⊎◌}
 use Rattle.std.specs.Prelude.{min, ◌&&◌, ◌||◌, filter, take_while}
 use Rattle.std.proofs.lemmas.Bool.{and_parts, and_from, or_cases}
@@ -12,6 +12,7 @@ use Rattle.raster.proofs.Places.{Has, has_holds, holds_has, has_common_left}
 use Rattle.tiles.specs.Touched.{begins_run, run_from, runs_of_row, runs}
 use Rattle.tiles.specs.Brings.{IsPart, some_holds, RunsBringTheDue}
 use Rattle.tiles.proofs.RunLaws.{InSome, runs_cover, runs_within, runs_few}
+use Rattle.raster.specs.declared.tile.TheConstants.{TILE_SIDE}
 
 -- What holds of each is what holds at each place.
 all_of_each : {A : Type 0} (P : A → Type 0) (xs : List A) → Each P xs → All P xs
@@ -61,10 +62,10 @@ has_common_right r s x y p =
     record { left = omega (arith, p.left); right = omega (arith, p.left, p.right); top = omega (arith, p.top); bottom = omega (arith, p.top, p.bottom) }
 
 -- in columns and rows of tiles
-same_row : (row k y n : ℕ) → row * 16 ≤ y → y < row * 16 + 16 → k * 16 ≤ y → y < k * 16 + min 16 n → k ≡ row
+same_row : (row k y n : ℕ) → row * TILE_SIDE ≤ y → y < row * TILE_SIDE + TILE_SIDE → k * TILE_SIDE ≤ y → y < k * TILE_SIDE + min TILE_SIDE n → k ≡ row
 same_row row k y n a b c d = omega arith
 
-in_columns : (from count c x n : ℕ) → from * 16 ≤ x → x < from * 16 + count * 16 → c * 16 ≤ x → x < c * 16 + min 16 n → (from ≤ c) × (c < from + count)
+in_columns : (from count c x n : ℕ) → from * TILE_SIDE ≤ x → x < from * TILE_SIDE + count * TILE_SIDE → c * TILE_SIDE ≤ x → x < c * TILE_SIDE + min TILE_SIDE n → (from ≤ c) × (c < from + count)
 in_columns from count c x n a b d e = (omega arith, omega arith)
 
 run_holds_due : (w h : ℕ) (area : Rect) (due : ℕ → Bool) (row s : ℕ) → row * tiles_across w ≤ s
@@ -75,8 +76,8 @@ run_holds_due w h area due row s from t x y p q =
     let passes : ℕ → Bool = λ k. due k && meets area (tile_rect w h k) in
     let count : ℕ = length (take_while passes (range_with_len s (first + across - s))) in
     let inside : Has (run_from passes across row s) x y = has_common_right area (run_from passes across row s) x y p in
-    let here : t / across ≡ row = same_row row (t / across) y (h - t / across * 16) inside.top inside.bottom q.top q.bottom in
-    let column : (s - first ≤ t % across) × (t % across < s - first + count) = in_columns (s - first) count (t % across) x (w - t % across * 16) inside.left inside.right q.left q.right in
+    let here : t / across ≡ row = same_row row (t / across) y (h - t / across * TILE_SIDE) inside.top inside.bottom q.top q.bottom in
+    let column : (s - first ≤ t % across) × (t % across < s - first + count) = in_columns (s - first) count (t % across) x (w - t % across * TILE_SIDE) inside.left inside.right q.left q.right in
     let place : first + t % across ≡ t = ap (λ k. k * across + t % across) (sym here) ∙ div-add-mod' t across in
     let passed : passes t ≡ true = front_passes passes s (first + across - s) t (omega (arith, place, column.0)) (omega (arith, place, column.1)) in
     and_from (holds area x y) (due t) (holds_has area x y (has_common_left area (run_from passes across row s) x y p)) (and_parts (due t) (meets area (tile_rect w h t)) passed).0

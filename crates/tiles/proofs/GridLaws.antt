@@ -1,4 +1,5 @@
--- The stamps of tiles, by the updates that touched them, and what is due by them.
+-- The stamps of tiles, by the updates that touched them, and what is due by them. A board keeps stamps in place of its
+-- updates.
 use Rattle.std.proofs.Common.{◌≡◌, ℕ, ◌+◌, ◌*◌, ◌/◌, ◌%◌, ◌<◌, ◌≤◌, Bool, true, false, List, [], ◌∷◌, ◌++◌, length, Option, Some, None, refl, ap, sym, ◌∙◌, arith, inl, inr, ◌⊎◌}
 use Rattle.std.specs.Prelude.{◌||◌, if◌then◌else◌, max, slice_index}
 use Rattle.std.proofs.lemmas.Bool.{cases_lt}

@@ -1,4 +1,4 @@
--- What a viewer has, by what its session did.
+-- What a viewer has, by what its session did. A session keeps numbers in place of its events.
 use Rattle.std.proofs.Common.{◌≡◌, ℕ, ◌<◌, Bool, true, false, List, ◌∷◌, Option, Some, None, refl, sym, ◌∙◌, ap}
 use Rattle.std.specs.Prelude.{unwrap_or, if◌then◌else◌}
 use Rattle.raster.specs.Screen.{tile_count, tile_rect}
@@ -20,7 +20,8 @@ some_if : (b : Bool) (value other : Option ℕ) → (if b then Some value else S
 some_if true value other = refl
 some_if false value other = refl
 
--- Where the tiles that the test lets through were marked, and a further event says of each tile just that, the tiles stand for it too.
+-- Where the tiles that the test lets through were marked, and a further event says of each tile just that, the tiles
+-- stand for it too.
 pub stands_marked : (passes : ℕ → Bool) (value : Option ℕ) (have : SentTiles) (new : List (Option ℕ)) (es more : List Event)
     → IsMarked passes value (tile_count have.width have.height) have.sent new
     → ((t : ℕ) → last_sent (tile_rect have.width have.height t) more ≡ (if passes t then value else last_sent (tile_rect have.width have.height t) es))

@@ -1,4 +1,4 @@
--- How tiles are marked, row by row.
+-- How tiles are marked, row by row. `Have` changes an area's tiles so, and owes each tile by itself.
 use Rattle.std.proofs.Common.{◌≡◌, ℕ, ◌+◌, ◌*◌, ◌/◌, ◌%◌, ◌<◌, Bool, List, Option, Some, ap, sym, ◌∙◌, arith}
 use Rattle.std.specs.Prelude.{slice_get, if◌then◌else◌}
 use Rattle.std.proofs.lemmas.Bool.Decides.{nat_tests}
@@ -7,7 +7,7 @@ use Rattle.raster.specs.declared.rect.Rect.{Rect}
 use Rattle.raster.specs.Screen.{fill, holds, tiles_across, tile_count}
 use Rattle.tiles.proofs.Ranges.{IsTile, tile_is}
 
--- Of so many tiles those that a test lets through have this value, and all others what they had.
+-- Of this many tiles those that a test lets through have this value, and all others what they had.
 pub record IsMarked (passes : ℕ → Bool) (value : Option ℕ) (n : ℕ) (old new : List (Option ℕ)) : Type 0 where
   pub each : (t : ℕ) → t < n → slice_get new t ≡ (if passes t then Some value else slice_get old t)
 

@@ -1,4 +1,4 @@
--- The tiles that an area meets or holds, column by column and row by row.
+-- The tiles that an area meets or holds, column by column and row by row. Marks and stamps are written by such ranges.
 use Rattle.std.proofs.Common.{◌≡◌, ℕ, ◌+◌, ◌*◌, ◌-◌, ◌/◌, ◌%◌, ◌<◌, ◌≤◌, Bool, true, false, refl, sym, arith}
 use Rattle.std.specs.Prelude.{min, max, ◌↔◌}
 use Rattle.std.proofs.lemmas.Bool.Decides.{nat_tests}
@@ -6,6 +6,7 @@ use Rattle.std.proofs.Math.Nat.{div-lt_iff_lt-mul, mod-lt}
 use Rattle.raster.specs.declared.rect.Rect.{Rect}
 use Rattle.raster.specs.Screen.{holds, lies_in, meets, tiles_across, tile_count, tile_rect}
 use Rattle.raster.proofs.Places.{Has, has_holds, holds_has}
+use Rattle.raster.specs.declared.tile.TheConstants.{TILE_SIDE}
 
 -- The column and the row of a tile.
 pub record IsTile (w h t : ℕ) : Type 0 where
@@ -35,8 +36,8 @@ meets_down a r e = grind (arith, nat_tests)
 
 -- A rectangle of tiles that has a tile just where both ranges meet it has those that the area meets.
 pub met_by_ranges : (w h : ℕ) (area tiles : Rect) (t : ℕ) → 0 < w → t < tile_count w h
-    → ((k : ℕ) → k < tiles_across w → ((tiles.x ≤ k) × (k < tiles.x + tiles.w)) ↔ (max area.x (k * 16) < min (area.x + area.w) (k * 16 + min 16 (w - k * 16))))
-    → ((k : ℕ) → k < tiles_across h → ((tiles.y ≤ k) × (k < tiles.y + tiles.h)) ↔ (max area.y (k * 16) < min (area.y + area.h) (k * 16 + min 16 (h - k * 16))))
+    → ((k : ℕ) → k < tiles_across w → ((tiles.x ≤ k) × (k < tiles.x + tiles.w)) ↔ (max area.x (k * TILE_SIDE) < min (area.x + area.w) (k * TILE_SIDE + min TILE_SIDE (w - k * TILE_SIDE))))
+    → ((k : ℕ) → k < tiles_across h → ((tiles.y ≤ k) × (k < tiles.y + tiles.h)) ↔ (max area.y (k * TILE_SIDE) < min (area.y + area.h) (k * TILE_SIDE + min TILE_SIDE (h - k * TILE_SIDE))))
     → holds tiles (t % tiles_across w) (t / tiles_across w) ≡ meets area (tile_rect w h t)
 met_by_ranges w h area tiles t lw lt across down =
     let is = tile_is w h t lw lt in
@@ -65,8 +66,8 @@ lies_down r a e = (grind (arith, nat_tests), grind (arith, nat_tests))
 
 -- And one that has a tile just where it lies in both ranges has those that lie in the area.
 pub inside_by_ranges : (w h : ℕ) (area tiles : Rect) (t : ℕ) → 0 < w → t < tile_count w h
-    → ((k : ℕ) → k < tiles_across w → ((tiles.x ≤ k) × (k < tiles.x + tiles.w)) ↔ ((area.x ≤ k * 16) × (k * 16 + min 16 (w - k * 16) ≤ area.x + area.w)))
-    → ((k : ℕ) → k < tiles_across h → ((tiles.y ≤ k) × (k < tiles.y + tiles.h)) ↔ ((area.y ≤ k * 16) × (k * 16 + min 16 (h - k * 16) ≤ area.y + area.h)))
+    → ((k : ℕ) → k < tiles_across w → ((tiles.x ≤ k) × (k < tiles.x + tiles.w)) ↔ ((area.x ≤ k * TILE_SIDE) × (k * TILE_SIDE + min TILE_SIDE (w - k * TILE_SIDE) ≤ area.x + area.w)))
+    → ((k : ℕ) → k < tiles_across h → ((tiles.y ≤ k) × (k < tiles.y + tiles.h)) ↔ ((area.y ≤ k * TILE_SIDE) × (k * TILE_SIDE + min TILE_SIDE (h - k * TILE_SIDE) ≤ area.y + area.h)))
     → holds tiles (t % tiles_across w) (t / tiles_across w) ≡ lies_in (tile_rect w h t) area
 inside_by_ranges w h area tiles t lw lt across down =
     let is = tile_is w h t lw lt in

@@ -1,4 +1,5 @@
--- What no later update touches looks as it did, and the last touch decides what is due.
+-- What no later update touches looks as it did, and the last touch decides what is due. The law `untouched_stays` is
+-- made of it.
 use Rattle.std.proofs.Common.{◌≡◌, ℕ, zero, suc, ◌+◌, ◌<◌, ◌≤◌, Bool, true, false, cond, List, [], ◌∷◌, ◌++◌, take, drop, refl, ap, sym, ◌∙◌, arith}
 use Rattle.std.specs.Prelude.{nat_lt, ◌||◌}
 use Rattle.std.specs.List.{list_any}
@@ -27,7 +28,8 @@ above_if : (r : Rect) (b : Bool) (last next m : ℕ) (us : List Update) → m < 
 above_if r true last next m us lt e = sym (lt-ltb m (last_touch_from r next (next + 1) us) (omega (arith, no_lower r next (next + 1) us (omega arith))))
 above_if r false last next m us lt e = e
 
--- Of updates numbered from next on one touches where the last touch is above a number that is below next and not below last.
+-- Of updates numbered from next on one touches where the last touch is above a number that is below next and not below
+-- last.
 touched_above : (r : Rect) (last next m : ℕ) (us : List Update) → last ≤ m → m < next → list_any (touches r) us ≡ nat_lt m (last_touch_from r last next us)
 touched_above r last next m [] le lt = sym (le-ltb m last le)
 touched_above r last next m (u ∷ us) le lt = above_if r (touches r u) last next m us lt (touched_above r last (next + 1) m us le (omega arith))

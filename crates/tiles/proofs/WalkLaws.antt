@@ -1,4 +1,5 @@
--- What a walk over the runs of an area has left behind a run, and where there is none.
+-- What a walk over the runs of an area has left after a run, and where there is none. `Walk::next` keeps a place, and
+-- owes the definition's list.
 use Rattle.std.proofs.Common.{◌≡◌, ℕ, suc, zero, ◌+◌, ◌-◌, ◌*◌, ◌/◌, ◌%◌, ◌<◌, ◌≤◌, Bool, true, false, cond, List, [], ◌∷◌, ◌++◌, length, map, refl, ap, sym, subst, ◌∙◌, arith, inl, inr, ◌⊎◌, eq-eqb, ◌≢◌}
 use Rattle.std.specs.Prelude.{nat_le, not, ◌&&◌, ◌||◌, ◌==◌, filter, take_while}
 use Rattle.std.specs.List.{flat_map, range_with_len}
@@ -13,6 +14,7 @@ use Rattle.tiles.specs.Touched.{begins_run, run_from, runs, runs_of_row}
 use Rattle.tiles.proofs.FoundRuns.{row_under, place_of}
 use Rattle.tiles.proofs.RunLaws.{part_by}
 use Rattle.tiles.specs.Walk.{Walking, IsDone, IsFound, IsNextRun, brings, is_in, runs_left, tiles_rect}
+use Rattle.raster.specs.declared.tile.TheConstants.{TILE_SIDE}
 
 -- ---- what is made of one number after another
 
@@ -27,7 +29,7 @@ flat_same f g (suc n) a same =
     ap (λ (xs : List _). xs ++ flat_map f (range_with_len (a + 1) n)) (same a (omega arith) (omega arith))
     ∙ ap (λ (xs : List _). g a ++ xs) (flat_same f g n (a + 1) (λ k lo hi. same k (omega arith) (omega arith)))
 
--- Nothing is made before the number at, where one more is made first; behind it both make the same.
+-- Nothing is made before the number at, where one more is made first; after it both make the same.
 flat_take : {A : Type 0} (f g : ℕ → List A) (x : A) (n a at : ℕ) → a ≤ at → at < a + n
     → ((k : ℕ) → a ≤ k → k < at → f k ≡ []) → ((k : ℕ) → a ≤ k → k < at → g k ≡ []) → f at ≡ x ∷ g at → ((k : ℕ) → at < k → k < a + n → f k ≡ g k)
     → flat_map f (range_with_len a n) ≡ x ∷ flat_map g (range_with_len a n)
@@ -80,7 +82,8 @@ row_none : (p : ℕ → Bool) (across row : ℕ) → ((t : ℕ) → row * across
 row_none p across row none =
     row_flat p across row ∙ flat_none (tile_runs p across row) across (row * across) (λ t lo hi. none_begins p across row t (begins_not p (row * across) t (none t lo hi)))
 
--- Where both tests let the same tiles through from a tile on, and no run goes on into it, both have the same runs from there on.
+-- Where both tests let the same tiles through from a tile on, and no run goes on into it, both have the same runs from
+-- there on.
 begins_same : (p q : ℕ → Bool) (first t : ℕ) → p t ≡ q t → (t ≡ first) ⊎ (p (t - 1) ≡ q (t - 1)) → begins_run p first t ≡ begins_run q first t
 begins_same p q first t e (inl f) =
     ap (λ b. b && ((t == first) || not (p (t - 1)))) e ∙ (ap (λ b. q t && (b || not (p (t - 1)))) (eq-eqb t first f) ∙ ap (λ b. q t && (b || not (q (t - 1)))) (sym (eq-eqb t first f)))
@@ -92,7 +95,7 @@ run_same p q across row t same le =
     ap (λ (xs : List ℕ). the_run (length xs)) (front_same p q (row * across + across - t) t (λ k lo hi. same k lo (omega arith)))
   where
     the_run : ℕ → Rect
-    the_run n = record { x = (t - row * across) * 16; y = row * 16; w = n * 16; h = 16 }
+    the_run n = record { x = (t - row * across) * TILE_SIDE; y = row * TILE_SIDE; w = n * TILE_SIDE; h = TILE_SIDE }
 
 tile_same : (p q : ℕ → Bool) (across row t : ℕ) → begins_run p (row * across) t ≡ begins_run q (row * across) t → run_from p across row t ≡ run_from q across row t → tile_runs p across row t ≡ tile_runs q across row t
 tile_same p q across row t e f =
@@ -172,7 +175,7 @@ goes_on p first t ne e = ap (λ b. p t && (b || not (p (t - 1)))) (ne_eqb t firs
     and_none true = refl
     and_none false = refl
 
--- So many pass from a tile on, and then none or the end of the row.
+-- This many pass from a tile on, and then none or the end of the row.
 front_is : (p : ℕ → Bool) (s n m : ℕ) → n ≤ m → ((t : ℕ) → s ≤ t → t < s + n → p t ≡ true) → (n ≡ m) ⊎ (p (s + n) ≡ false) → length (take_while p (range_with_len s m)) ≡ n
 front_is p s n m le all stops =
     let reaches : n ≤ length (take_while p (range_with_len s m)) = front_reaches p s m n le all in
@@ -187,13 +190,13 @@ front_is p s n m le all stops =
     no_more more within (inr e) = let passes : true ≡ false = sym (front_passes p s m (s + n) (omega arith) (omega (arith, more))) ∙ e in cc
 
 abbrev run_rect : ℕ → ℕ → ℕ → ℕ → Rect
-run_rect across row s n = record { x = (s - row * across) * 16; y = row * 16; w = n * 16; h = 16 }
+run_rect across row s n = record { x = (s - row * across) * TILE_SIDE; y = row * TILE_SIDE; w = n * TILE_SIDE; h = TILE_SIDE }
 
 row_take : (p q : ℕ → Bool) (across row s n : ℕ) → row * across ≤ s → 0 < n → s + n ≤ row * across + across
     → ((t : ℕ) → t < s → p t ≡ false) → ((t : ℕ) → t < s + n → q t ≡ false)
     → ((t : ℕ) → s ≤ t → t < s + n → p t ≡ true) → ((t : ℕ) → s + n ≤ t → p t ≡ q t)
     → (s + n ≡ row * across + across) ⊎ (p (s + n) ≡ false)
-    → runs_of_row p across row ≡ record { x = (s - row * across) * 16; y = row * 16; w = n * 16; h = 16 } ∷ runs_of_row q across row
+    → runs_of_row p across row ≡ record { x = (s - row * across) * TILE_SIDE; y = row * TILE_SIDE; w = n * TILE_SIDE; h = TILE_SIDE } ∷ runs_of_row q across row
 row_take p q across row s n from some to before taken all later stops =
     row_flat p across row
     ∙ (flat_take (tile_runs p across row) (tile_runs q across row) (run_rect across row s n) across (row * across) s from (omega arith)
@@ -247,20 +250,20 @@ pub left_take : (walk : Walking) (due : ℕ → Bool) (row n : ℕ) → row < ti
     → walk.next + n ≤ row * tiles_across walk.width + tiles_across walk.width
     → ((t : ℕ) → walk.next ≤ t → t < walk.next + n → brings walk due t ≡ true)
     → (walk.next + n ≡ row * tiles_across walk.width + tiles_across walk.width) ⊎ (brings walk due (walk.next + n) ≡ false)
-    → runs_left walk due ≡ common walk.area (record { x = (walk.next - row * tiles_across walk.width) * 16; y = row * 16; w = n * 16; h = 16 }) ∷ runs_left (at_tile walk (walk.next + n)) due
+    → runs_left walk due ≡ common walk.area (record { x = (walk.next - row * tiles_across walk.width) * TILE_SIDE; y = row * TILE_SIDE; w = n * TILE_SIDE; h = TILE_SIDE }) ∷ runs_left (at_tile walk (walk.next + n)) due
 left_take walk due row n low from some to taken stops =
     let across : ℕ = tiles_across walk.width in
     let s : ℕ = walk.next in
     let p : ℕ → Bool = left_passes walk due s in
     let q : ℕ → Bool = left_passes walk due (s + n) in
     let later : (t : ℕ) → s + n ≤ t → p t ≡ q t = λ t le. passes_from walk due s t (omega arith) ∙ sym (passes_from walk due (s + n) t le) in
-    let here : runs_of_row p across row ≡ record { x = (s - row * across) * 16; y = row * 16; w = n * 16; h = 16 } ∷ runs_of_row q across row =
+    let here : runs_of_row p across row ≡ record { x = (s - row * across) * TILE_SIDE; y = row * TILE_SIDE; w = n * TILE_SIDE; h = TILE_SIDE } ∷ runs_of_row q across row =
     row_take p q across row s n from some to (λ t lt. passes_before walk due s t lt) (λ t lt. passes_before walk due (s + n) t lt) (λ t lo hi. passes_from walk due s t lo ∙ taken t lo hi) later
     (elim stops [ inl e ↦ inl e | inr e ↦ inr (passes_from walk due s (s + n) (omega arith) ∙ e) ]) in
     let above : (k t : ℕ) → k < row → t < k * across + across → t < row * across = λ k t lt hi. (let up : (k + 1) * across ≤ row * across = mul-le-mul_right across (omega arith) in omega (arith, up)) in
     let below : (k t : ℕ) → row < k → k * across ≤ t → s + n ≤ t = λ k t lt lo. (let up : (row + 1) * across ≤ k * across = mul-le-mul_right across (omega arith) in omega (arith, up)) in
     ap (λ (rs : List Rect). map (common walk.area) rs)
-    (flat_take (runs_of_row p across) (runs_of_row q across) (record { x = (s - row * across) * 16; y = row * 16; w = n * 16; h = 16 }) (tiles_across walk.height) 0 row (omega arith) (omega (arith, low))
+    (flat_take (runs_of_row p across) (runs_of_row q across) (record { x = (s - row * across) * TILE_SIDE; y = row * TILE_SIDE; w = n * TILE_SIDE; h = TILE_SIDE }) (tiles_across walk.height) 0 row (omega arith) (omega (arith, low))
     (λ k _ lt. row_none p across k (λ t a b. passes_before walk due s t (omega (arith, above k t lt b))))
     (λ k _ lt. row_none q across k (λ t a b. passes_before walk due (s + n) t (omega (arith, above k t lt b))))
     here
@@ -340,8 +343,8 @@ left_behind walk due first end t =
     left_skip walk due first t.from t.skipped
     ∙ (left_take (at_tile walk first) due t.row n t.low t.in_row (omega (arith, t.some)) (omega (arith, whole, t.within)) (λ k lo hi. t.taken k lo (omega (arith, whole)))
     (elim t.stops [ inl last ↦ inl (omega (arith, whole, last)) | inr stop ↦ inr (ap (brings walk due) whole ∙ stop) ])
-    ∙ (ap (λ (k : ℕ). common walk.area (record { x = k * 16; y = t.row * 16; w = n * 16; h = 16 }) ∷ runs_left (at_tile walk (first + n)) due) (sym place.column_is)
-    ∙ (ap (λ (k : ℕ). common walk.area (record { x = first % across * 16; y = k * 16; w = n * 16; h = 16 }) ∷ runs_left (at_tile walk (first + n)) due) (sym place.row_is)
+    ∙ (ap (λ (k : ℕ). common walk.area (record { x = k * TILE_SIDE; y = t.row * TILE_SIDE; w = n * TILE_SIDE; h = TILE_SIDE }) ∷ runs_left (at_tile walk (first + n)) due) (sym place.column_is)
+    ∙ (ap (λ (k : ℕ). common walk.area (record { x = first % across * TILE_SIDE; y = k * TILE_SIDE; w = n * TILE_SIDE; h = TILE_SIDE }) ∷ runs_left (at_tile walk (first + n)) due) (sym place.row_is)
     ∙ ap (λ (k : ℕ). common walk.area (tiles_rect walk.width first n) ∷ runs_left (at_tile walk k) due) whole)))
 
 -- The same of numbers that are those of the walk.

@@ -16,8 +16,8 @@ pub record IsPart (w h : ℕ) (r : Rect) : Type 0 where
 abbrev pub some_holds : List Rect → ℕ → ℕ → Bool
 some_holds rs x y = list_any (λ r. holds r x y) rs
 
--- These rectangles hold exactly the positions of an area whose tile is due; each is a part of the screen; and a FramebufferUpdate, which counts
--- its rectangles in 16 bits, can bring them all.
+-- These rectangles hold exactly the positions of an area whose tile is due; each is a part of the screen; and a
+-- FramebufferUpdate, which counts its rectangles in 16 bits, can bring them all.
 pub record BringTheDue (w h : ℕ) (area : Rect) (due : ℕ → Bool) (rs : List Rect) : Type 0 where
   pub exactly : (t x y : ℕ) → t < tile_count w h → holds (tile_rect w h t) x y ≡ true → some_holds rs x y ≡ (holds area x y && due t)
   pub parts : All (IsPart w h) rs

@@ -5,6 +5,7 @@ use Rattle.raster.specs.Screen.{common, holds, meets, tile_count, tile_rect, til
 use Rattle.tiles.specs.Touched.{runs}
 use Rattle.tiles.specs.Brings.{IsPart}
 use Rattle.tiles.specs.declared.walk.Run.{Run}
+use Rattle.raster.specs.declared.tile.TheConstants.{TILE_SIDE}
 
 -- The width and height of the screen, the area, and the first tile that the walk hasn't been at (own).
 pub record Walking : Type 0 where
@@ -21,11 +22,12 @@ brings walk due t = due t && meets walk.area (tile_rect walk.width walk.height t
 abbrev pub runs_left : Walking → (ℕ → Bool) → List Rect
 runs_left walk due = runs walk.width walk.height walk.area (λ t. nat_le walk.next t && due t)
 
--- So many tiles of a row, from tile t on, as a rectangle of whole tiles (own).
+-- This many tiles of a row, from tile t on, as a rectangle of whole tiles (own).
 abbrev pub tiles_rect : ℕ → ℕ → ℕ → Rect
-tiles_rect w t n = record { x = t % tiles_across w * 16; y = t / tiles_across w * 16; w = n * 16; h = 16 }
+tiles_rect w t n = record { x = t % tiles_across w * TILE_SIDE; y = t / tiles_across w * TILE_SIDE; w = n * TILE_SIDE; h = TILE_SIDE }
 
--- The first run that is left: tiles of one row, all due; none before them is; and the part of the area that lies in them (own).
+-- The first run that is left: tiles of one row, all due; none before them is; and the part of the area that lies in
+-- them (own).
 pub record IsNextRun (walk : Walking) (due : ℕ → Bool) (run : Run) : Type 0 where
   pub from : walk.next ≤ run.first
   pub some : 0 < run.count
@@ -53,8 +55,8 @@ pub record IsSameWalk (walk other : Walking) : Type 0 where
 
 -- ---- the search for the next run
 
--- In a row of so many tiles, which begins at the tile first: those from start on, before end, pass, none before them from next on does, and
--- the run goes no further.
+-- In a row of this many tiles, which begins at the tile first: those from start on, before end, pass, none before them
+-- from next on does, and the run goes no further.
 pub record IsRowRun (passes : ℕ → Bool) (first across next start end : ℕ) : Type 0 where
   pub from : next ≤ start
   pub in_row : first ≤ start
@@ -76,6 +78,6 @@ pub record IsFound (passes : ℕ → Bool) (across down next start end : ℕ) : 
   pub taken : (t : ℕ) → start ≤ t → t < end → passes t ≡ true
   pub stops : (end ≡ row * across + across) ⊎ ((end < row * across + across) × (passes end ≡ false))
 
--- Tile t of rows of so many is due, and its place lies in a rectangle of tiles.
+-- Tile t of rows of this many is due, and its place lies in a rectangle of tiles.
 abbrev pub is_in : (ℕ → Bool) → Rect → ℕ → ℕ → Bool
 is_in due met across t = due t && holds met (t % across) (t / across)

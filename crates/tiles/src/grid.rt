@@ -20,7 +20,8 @@ pub struct Grid {
     width: u64,
     height: u64,
     stamps: Vec<u64>,
-    /// Of each row of tiles a number that is at least each of its stamps, so that a row without a due tile is found at once.
+    /// Of each row of tiles a number that is at least each of its stamps, so that a row without a due tile is found at
+    /// once.
     greatest: Vec<u64>,
 }
 
@@ -109,8 +110,8 @@ impl Grid {
         self.stamps[t as usize]
     }
 
-    /// Update `n` touched each tile that meets the rectangle. Touched by each rectangle that the next update paints, at its number, it
-    /// stands for that update too.
+    /// Update `n` touched each tile that meets the rectangle. Touched by each rectangle that the next update paints, at
+    /// its number, it stands for that update too.
     pub fn touch(&mut self, area: &Rect, n: u64)
         requires { IsWithin area.now 65536 65536 }
         ensures { IsTouched (λ t. meets area.now (tile_rect self.old.width self.old.height t)) n self.old self.new }

@@ -13,14 +13,15 @@ use raster::{Rect, tile_count};
 use std::alloc::Global;
 use std::marker::Model;
 
-/// For each tile of a screen the number of the update at which a viewer was last sent it, or none where it was never sent.
+/// For each tile of a screen the number of the update at which a viewer was last sent it, or none where it was never
+/// sent.
 #[derive(Drop)]
 pub struct Have {
     width: u64,
     height: u64,
     sent: Vec<Option<u64>>,
-    /// Of each row of tiles a number that is at most each of theirs, so that a row without a due tile is found at once: none where a tile
-    /// may never have been sent. It may be too low.
+    /// Of each row of tiles a number that is at most each of theirs, so that a row without a due tile is found at once:
+    /// none where a tile may never have been sent. It may be too low.
     least: Vec<Option<u64>>,
 }
 
@@ -90,7 +91,8 @@ fn keep_rows(least: &mut [Option<u64>], from: usize, to: usize, number: u64, all
 }
 
 impl Have {
-    /// Of a screen of `width` by `height` pixels no tile was sent yet. It fails where memory is refused (`Memory`).
+    /// What a viewer has of a screen of `width` by `height` pixels of which no tile was sent yet. It fails where memory
+    /// is refused (`Memory`).
     pub fn new(alloc: Global, width: u64, height: u64) -> Result<Self, Fault>
         requires { IsScreenSize width height }
         ensures ok { IfOk result (λ have. (have.width ≡ width) × (have.height ≡ height) × HaveStands have []) }
@@ -131,7 +133,8 @@ impl Have {
         self.least.as_mut_slice().fill(None);
     }
 
-    /// No tile that meets the area counts as sent any longer: it was asked for, and not incrementally (RFC 6143, 7.5.3).
+    /// No tile that meets the area counts as sent any longer: it was asked for, and not incrementally (RFC 6143,
+    /// 7.5.3).
     pub fn forget(&mut self, area: &Rect)
         requires { IsWithin area.now 65536 65536 }
         ensures size { IsSameSize self.old self.new }

@@ -2,14 +2,15 @@
 
 ghost use Rattle.tiles.specs.Brings.{DueWhereTouched, RunsBringTheDue, UntouchedStays};
 
-/// The runs of an area hold exactly the positions of the area that lie in due tiles. Each is a part of the screen and not empty, and
-/// there are fewer than 65,536, which is what the count of a FramebufferUpdate can say (RFC 6143, section 7.6.1).
+/// The runs of an area hold exactly the positions of the area that lie in due tiles. Each is a part of the screen and
+/// not empty, and there are fewer than 65,536, which is what the count of a FramebufferUpdate can say (RFC 6143,
+/// section 7.6.1).
 pub fn runs_bring_the_due()
     ensures { RunsBringTheDue }
 {}
 
-/// A rectangle that no update after the first n touches looks as it did after these; and what was sent at n is due exactly where the
-/// number of the last touch is above n.
+/// A rectangle that no update after the first n touches looks as it did after these; and what was sent at n is due
+/// exactly where the number of the last touch is above n.
 pub fn untouched_stays()
     ensures stays { UntouchedStays }
     ensures due { DueWhereTouched }

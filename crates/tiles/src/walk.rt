@@ -42,7 +42,8 @@ pub struct Run {
     pub area: Rect,
 }
 
-/// Where a walk over the runs of an area stands. It takes no memory, and holds no borrow of the tiles, which are lent to each step.
+/// Where a walk over the runs of an area stands. It takes no memory, and holds no borrow of the tiles, which are lent
+/// to each step.
 #[derive(Drop)]
 pub struct Walk {
     width: u64,
@@ -96,8 +97,8 @@ fn end_of_due<T: DueTiles>(tiles: &T, from: u64, to: u64) -> u64
     to
 }
 
-/// The first run in a row of tiles, from tile `next` on, of the tiles that lie in `met`, a rectangle of tiles: its first
-/// tile, and the tile behind its last.
+/// The first run in a row of tiles, from tile `next` on, of the tiles that lie in `met`, a rectangle of tiles: its
+/// first tile, and the tile after its last.
 fn find_in_row<T: DueTiles>(
     tiles: &T,
     met: &Rect,
@@ -176,7 +177,7 @@ impl Walk {
         }
     }
 
-    /// So many tiles of a row, from tile `first` on, as a run of the area.
+    /// This many tiles of a row, from tile `first` on, as a run of the area.
     fn run(&self, first: u64, count: u64) -> Run
         requires there { first < tile_count self.now.width self.now.height }
         requires count { count ≤ 256 }

@@ -1,6 +1,6 @@
 use Rattle.std.proofs.Common.{◌≡◌, ◌-◌, ap, sym, subst, arith}
 use Rattle.host_decoder.specs.Decoder.{StandsUnpainted, passing}
-use Rattle.host_decoder.specs.declared.state.State.TheVariants as state
+use Rattle.host_decoder.specs.declared.state.HostState.TheVariants as state
 use Rattle.host_decoder.proofs.Steps.{past_uses}
 use Rattle.host_decoder.proofs.advance.skip.Goals as goal
 

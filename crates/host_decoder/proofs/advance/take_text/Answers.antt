@@ -1,6 +1,6 @@
 use Rattle.std.proofs.Common.{◌≡◌, ℕ, ◌-◌, List, ◌++◌, inl, inr, refl, sym, ap, subst, length, arith}
 use Rattle.host_decoder.specs.Decoder.{StandsUnpainted, is_refused, keeping}
-use Rattle.host_decoder.specs.declared.state.State.TheVariants as state
+use Rattle.host_decoder.specs.declared.state.HostState.TheVariants as state
 use Rattle.host_decoder.proofs.Steps.{text_uses}
 use Rattle.host_decoder.proofs.advance.take_text.Goals as goal
 

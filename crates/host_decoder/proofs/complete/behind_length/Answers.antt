@@ -1,6 +1,6 @@
 use Rattle.std.proofs.Common.{◌≡◌, ℕ, List, [], ap, sym, subst, ◌∙◌, arith}
-use Rattle.pixel_format.specs.Reading.{after}
-use Rattle.host_decoder.specs.declared.part.Part.TheVariants.{Length}
+use Rattle.byte_reading.specs.Reading.{after}
+use Rattle.host_decoder.specs.declared.part.HostPart.TheVariants.{Length}
 use Rattle.host_decoder.specs.Decoder.{StandsUnpainted, form_of, keeping}
 use Rattle.host_decoder.proofs.Completed.{long_text, short_text}
 use Rattle.host_decoder.proofs.complete.behind_length.Goals as goal

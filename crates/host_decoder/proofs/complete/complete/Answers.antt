@@ -1,5 +1,5 @@
 use Rattle.std.proofs.Common.{inr, refl, sym, subst}
-use Rattle.pixel_format.specs.Reading.{Reading}
+use Rattle.byte_reading.specs.Reading.{Reading}
 use Rattle.rfb_wire.specs.ServerMessage.{ServerMessage}
 use Rattle.host_decoder.specs.Decoder.{GoesOn}
 use Rattle.host_decoder.proofs.Completed.{outside_update, behind_count, behind_encoding}

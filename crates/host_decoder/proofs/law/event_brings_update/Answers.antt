@@ -1,4 +1,4 @@
-use Rattle.pixel_format.specs.Reading.{messages}
+use Rattle.byte_reading.specs.Reading.{messages}
 use Rattle.host_decoder.specs.Decoder.{host_message}
 use Rattle.host_decoder.proofs.Brought.{brings, brings_listed, all_bring}
 use Rattle.host_decoder.proofs.law.event_brings_update.Goals as goal

@@ -1,5 +1,5 @@
 use Rattle.std.proofs.Common.{◌≡◌, ℕ, true, false, List, [], ◌∷◌, ◌++◌, map, sym, ap, subst, ◌∙◌}
-use Rattle.pixel_format.specs.Reading.{Reading, after}
+use Rattle.byte_reading.specs.Reading.{Reading, after}
 use Rattle.raster.specs.declared.rect.Rect.{Rect}
 use Rattle.raster.specs.Screen.{LooksLike, part_of, value_at}
 use Rattle.raster.specs.Update.{Paint, Put}

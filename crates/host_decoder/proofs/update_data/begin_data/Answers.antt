@@ -1,7 +1,7 @@
 use Rattle.std.proofs.Common.{◌≡◌, [], ap, map, sym, subst, ◌∙◌, arith}
 use Rattle.std.proofs.lemmas.List.{drop_all}
 use Rattle.pixel_format.specs.PixelFormat.{host_format}
-use Rattle.pixel_format.specs.Reading.{Reading, after}
+use Rattle.byte_reading.specs.Reading.{Reading, after}
 use Rattle.rfb_wire.specs.ServerMessage.{ServerMessage, data_of}
 use Rattle.host_decoder.specs.Updates.{in_colours}
 use Rattle.host_decoder.specs.Decoder.{GoesOn, with_others}

@@ -1,6 +1,6 @@
 use Rattle.std.proofs.Common.{◌≡◌, ℕ, ◌-◌, ◌≤◌, ◌<◌, ◌++◌, List, length, take, min, ap, sym, ◌∙◌, length-append, arith}
 use Rattle.std.proofs.lemmas.Bool.{eqb-true, eqb-false}
-use Rattle.pixel_format.specs.Reading.{Reading, after, taken, wants_more}
+use Rattle.byte_reading.specs.Reading.{Reading, after, taken, wants_more}
 use Rattle.raster.specs.declared.rect.Rect.{Rect}
 use Rattle.raster.specs.Screen.{is_within}
 use Rattle.raster.specs.Update.{Paint, Copy}

@@ -1,7 +1,7 @@
 use Rattle.std.proofs.Common.{◌≡◌, ℕ, ◌+◌, ◌*◌, ◌/◌, ◌<◌, List, [], ◌++◌, length, map, take, drop, inl, inr, ap, sym, subst, ◌∙◌, append_assoc, arith}
 use Rattle.std.proofs.lemmas.Bool.{eqb-true, eqb-false}
 use Rattle.std.proofs.lemmas.List.{take_all, take-append-drop, length-drop, nil_from_length}
-use Rattle.pixel_format.specs.Reading.{Reading}
+use Rattle.byte_reading.specs.Reading.{Reading}
 use Rattle.std.specs.Int.{w32, from_le_bytes}
 use Rattle.raster.specs.declared.rect.Rect.{Rect}
 use Rattle.raster.specs.Update.{Paint}

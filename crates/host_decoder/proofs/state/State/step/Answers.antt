@@ -1,4 +1,0 @@
-use Rattle.host_decoder.proofs.state.State.step.Goals as goal
-
-pub returns-in-Passing-clause-stays : goal.returns-in-Passing-clause-stays
-returns-in-Passing-clause-stays c = c.skip.ensures.stays c.args.painter.now

@@ -1,0 +1,58 @@
+-- A black screen of which all tiles are touched brings a switch, over whatever was shown before.
+use Rattle.std.proofs.Common.{◌≡◌, ℕ, ◌+◌, ◌-◌, ◌<◌, true, List, [], ◌∷◌, ◌++◌, sym, ap, subst, ◌∙◌, arith}
+use Rattle.std.specs.Prelude.{if◌then◌else◌}
+use Rattle.raster.specs.Screen.{Canvas, LooksLike, holds, lay, opening, tile_count, tile_rect, value_at, values_of, whole_screen}
+use Rattle.raster.specs.Update.{Paint, Paints, Put, Update, after_paints, paints_of}
+use Rattle.raster.specs.Switch.{switch}
+use Rattle.raster.proofs.Places.{holds_has, values_at}
+use Rattle.painter.specs.Same.{AreSameUpdates}
+use Rattle.painter.specs.Drawing.{IsPaintedAround, drawn}
+use Rattle.painter.specs.Painter.{Painting, IsPaintedOver, worked}
+
+in_whole : (w h x y : ℕ) → x < w → y < h → holds (whole_screen w h) x y ≡ true
+in_whole w h x y lx ly = holds_has (whole_screen w h) x y (record { left = omega arith; right = omega (arith, lx); top = omega arith; bottom = omega (arith, ly) })
+
+-- What a switch leaves doesn't depend on what it is laid over.
+same_over : (w h : ℕ) (a b : Canvas) → LooksLike w h (after_paints a (paints_of (switch w h))) (after_paints b (paints_of (switch w h)))
+same_over w h a b x y lx ly =
+    let over : Canvas = value_at w (values_of w h opening) in
+    ap (λ t. if t then over (x - 0) (y - 0) else a x y) (in_whole w h x y lx ly) ∙ sym (ap (λ t. if t then over (x - 0) (y - 0) else b x y) (in_whole w h x y lx ly))
+
+-- What is painted over one start is painted over any other.
+switched_over : (screen : Painting) (a b : Canvas) → IsPaintedOver a (paints_of (switch screen.width screen.height)) screen → IsPaintedOver b (paints_of (switch screen.width screen.height)) screen
+switched_over screen a b stands =
+    record {
+      shows = λ x y lx ly. stands.shows x y lx ly ∙ same_over screen.width screen.height a b x y lx ly;
+      touched = stands.touched;
+    }
+
+-- What stands for one size stands for the same.
+pub at_size : (P : ℕ → ℕ → Type 0) (v k w h : ℕ) → v ≡ w → k ≡ h → P v k → P w h
+at_size P v k w h wide high there = subst (λ n. P n h) wide (subst (P v) high there)
+
+-- A black screen that is drawn on all over shows nothing else.
+pub black_drawn : (black on new : Painting) → IsPaintedOver opening [] black → on ≡ record black { area = whole_screen black.width black.height }
+    → ((start : Canvas) (paints : List Paint) (colours : List ℕ) → IsPaintedAround start paints on.area on → LooksLike on.area.w on.area.h (drawn on) (value_at on.area.w colours) → IsPaintedOver start (paints ++ Put on.area colours ∷ []) new)
+    → IsPaintedOver opening (paints_of (switch black.width black.height)) new
+black_drawn black on new stands is painted =
+    let end : (start : Canvas) (paints : List Paint) (colours : List ℕ) → IsPaintedAround start paints (whole_screen black.width black.height) (record black { area = whole_screen black.width black.height })
+    → LooksLike black.width black.height (drawn (record black { area = whole_screen black.width black.height })) (value_at black.width colours)
+    → IsPaintedOver start (paints ++ Put (whole_screen black.width black.height) colours ∷ []) new =
+    subst (λ (p : Painting). (start : Canvas) (paints : List Paint) (colours : List ℕ) → IsPaintedAround start paints p.area p → LooksLike p.area.w p.area.h (drawn p) (value_at p.area.w colours) → IsPaintedOver start (paints ++ Put p.area colours ∷ []) new) is painted in
+    end opening [] (values_of black.width black.height opening) (record { shows = λ x y lx ly e. stands.shows x y lx ly; touched = stands.touched })
+    (λ x y lx ly.
+    let across : 0 + x ≡ x = omega arith in
+    let down : 0 + y ≡ y = omega arith in
+    ap (λ i. worked black i (0 + y)) across ∙ (ap (worked black x) down ∙ (stands.shows x y lx ly ∙ sym (values_at black.width black.height opening x y lx ly))))
+
+-- Its patch comes to the same as a switch.
+pub patch_switches : (screen : Painting) (us : List Update) → IsPaintedOver opening (paints_of (switch screen.width screen.height)) screen
+    → ((start : Canvas) (paints : List Paint) → IsPaintedOver start paints screen → AreSameUpdates screen.width screen.height start (Paints paints ∷ []) us)
+    → (start : Canvas) → AreSameUpdates screen.width screen.height start (switch screen.width screen.height ∷ []) us
+patch_switches screen us over same start = same start (paints_of (switch screen.width screen.height)) (switched_over screen opening start over)
+
+-- And the next update begins over what the switch left.
+pub begins_black : (screen new : Painting) → IsPaintedOver opening (paints_of (switch screen.width screen.height)) screen
+    → ((start : Canvas) → LooksLike screen.width screen.height (worked screen) start → IsPaintedOver start [] new)
+    → (start : Canvas) → IsPaintedOver (after_paints start (paints_of (switch screen.width screen.height))) [] new
+begins_black screen new over begun start = begun (after_paints start (paints_of (switch screen.width screen.height))) (switched_over screen opening start over).shows
