@@ -1,4 +1,4 @@
--- What a cut says to a session whose tiles stand for its events.
+-- What a cut says to a session whose tiles stand for its events. A session's answer is made of what a cut says.
 use Rattle.std.proofs.Common.{◌≡◌, ℕ, ◌<◌, Bool, Option, Some, List, take, ap, ◌∙◌}
 use Rattle.std.specs.Prelude.{slice_get, ◌&&◌}
 use Rattle.raster.specs.declared.rect.Rect.{Rect}

@@ -1,4 +1,5 @@
--- How far a cut is filled from a board, run by run, and that it is a cut of the board's updates in the end.
+-- How far a cut is filled from a board, run by run, and that it is a cut of the board's updates in the end. `Cut::fill`
+-- copies the due tiles alone.
 use Rattle.std.proofs.Common.{◌≡◌, ℕ, suc, ◌+◌, ◌-◌, ◌*◌, ◌/◌, ◌%◌, ◌<◌, ◌≤◌, Bool, true, false, List, [], ◌∷◌, length, get_or, take, Option, Some, refl, ap, sym, ◌∙◌, subst, arith, inl, inr}
 use Rattle.std.specs.Prelude.{◌&&◌, ◌||◌, not, is_some, slice_get, unwrap_or, if◌then◌else◌}
 use Rattle.std.specs.List.{list_all, range_with_len}
@@ -111,7 +112,7 @@ lay_kept r w over under x y same = elim (cases_Bool (holds r x y)) [
   | inr outside ↦ ap (λ b. if b then value_at w over (r.x + (x - r.x)) (r.y + (y - r.y)) else value_at w under x y) outside ∙ same
 ]
 
--- What was filled before the tile next, and then took the run that is next, is filled before the tile behind that.
+-- What was filled before the tile next, and then took the run that is next, is filled before the tile after that.
 pub filled_more : (grid : Stamps) (colours : List ℕ) (have : SentTiles) (area : Rect) (next : ℕ) (run : Run) (old new : Cut) → 0 < tiles_across have.width → IsWithin area have.width have.height
     → IsFilled grid colours have area next old → IsNextRun (at_tile have area next) (due_at grid have) run → TookRun colours have run old new → IsFilled grid colours have area (run.first + run.count) new
 filled_more grid colours have area next run old new some on was is took =

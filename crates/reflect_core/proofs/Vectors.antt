@@ -21,7 +21,8 @@ area_outlives_a_cut = refl
 pub cut_ends_the_asking : has_asked (WasCut 2 ∷ Requested true (rect 0 0 4 4) ∷ []) ≡ false
 cut_ends_the_asking = refl
 
--- Two requests ask for the least rectangle that holds both, and what lies between them is in it. One of no size adds nothing.
+-- Two requests ask for the least rectangle that holds both, and what lies between them is in it. One of no size adds
+-- nothing.
 pub two_requests : pending (Requested true (rect 3 3 1 1) ∷ Requested false (rect 0 0 1 1) ∷ []) ≡ Some (rect 0 0 4 4)
 two_requests = refl
 

@@ -22,7 +22,7 @@ updates_of patches = map (λ patch. patch.update) patches
 abbrev pub AreOfSize : ℕ → ℕ → List SizedUpdate → Type 0
 AreOfSize w h patches = All (λ patch. (patch.width ≡ w) × (patch.height ≡ h)) patches
 
--- What stands in its fields: patches of its size, the board that they make, and a tally that is at most their number.
+-- What its fields hold: patches of its size, the board that they make, and a tally that is at most their number.
 pub record IsPlain (w h : ℕ) (patches : List SizedUpdate) (tally : ℕ) (board : Posted) : Type 0 where
   pub size : IsScreenSize w h
   pub fits : AreOfSize w h patches
@@ -31,6 +31,6 @@ pub record IsPlain (w h : ℕ) (patches : List SizedUpdate) (tally : ℕ) (board
   pub board_size : (board.width ≡ w) × (board.height ≡ h)
   pub shows : BoardStands board (updates_of patches)
 
--- Why an update isn't taken as the next of so many: memory is refused, or there are no more numbers.
+-- Why an update isn't taken as the next after this many: memory is refused, or there are no more numbers.
 abbrev pub IsPutRefusal : ℕ → Fault → Type 0
 IsPutRefusal count fault = ((count < 2 ^ 62) × (fault ≡ Memory)) ⊎ ((count ≡ 2 ^ 62) × (fault ≡ NumbersOut))

@@ -10,7 +10,8 @@ ghost use Rattle.tiles.specs.Touched.{Event, Requested, NewFormat, WasCut, Answe
 use raster::Rect;
 use std::marker::Model;
 
-/// The least rectangle that holds all pending requests, whether something was asked for since the last cut, and the number of that cut.
+/// The least rectangle that holds all pending requests, whether something was asked for since the last cut, and the
+/// number of that cut.
 #[derive(Drop)]
 pub struct Asked {
     width: u64,
@@ -103,7 +104,7 @@ impl Asked {
     }
 
     /// Whether a request or a pixel format was taken since the last cut.
-    pub fn asked(&self) -> bool
+    pub fn has_asked(&self) -> bool
         ensures { result ≡ self.now.asked }
     {
         self.asked

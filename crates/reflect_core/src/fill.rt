@@ -86,7 +86,8 @@ impl Cut {
     }
 
     /// Keeps what a board shows of an area to a viewer that has this: the colours of the tiles that are due there by
-    /// the board's grid, and no others. Board, `have` and cut are of one screen. It always succeeds, and takes no memory.
+    /// the board's grid, and no others. Board, `have` and cut are of one screen. It always succeeds, and takes no
+    /// memory.
     pub fn fill(&mut self, board: &Board, area: &Rect, have: &Have)
         requires within { IsWithin area.now self.old.width self.old.height }
         requires screen { (have.now.width ≡ self.old.width) × (have.now.height ≡ self.old.height) }

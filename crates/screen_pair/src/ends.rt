@@ -16,7 +16,7 @@ use std::alloc::Global;
 use std::sync::{Arc, Wait};
 use tally_word::{Front, Naming, Roll};
 
-/// So many eyes of a pair, which know no update. It fails where memory is refused (`Memory`) or no place is left
+/// This many eyes of a pair, which know no update. It fails where memory is refused (`Memory`) or no place is left
 /// (`NoPlace`).
 pub fn eyes<J: Naming, R: Wait + Drop>(
     alloc: Global,
@@ -39,8 +39,8 @@ pub fn eyes<J: Naming, R: Wait + Drop>(
     Ok(eyes)
 }
 
-/// A publisher's end and so many readers' ends, over an opening screen of `width` by `height` pixels. It fails where
-/// memory is refused (`Memory`) or no place for a reader is left (`NoPlace`).
+/// A publisher's end and a reader's end for each of `places`, over an opening screen of `width` by `height` pixels. It
+/// fails where memory is refused (`Memory`) or no place for a reader is left (`NoPlace`).
 pub fn pair<J: Naming, R: Wait + Drop>(
     rt: R,
     alloc: Global,

@@ -41,7 +41,7 @@ impl<J: Naming> Model for Published<J> {
 impl<J: Naming> Absorb<Stamped<J>> for Published<J> {
     ghost use Rattle.screen_pair.specs.Published.{follows};
 
-    // A clause reads an array as a list, of any length.
+    /// A clause reads an array as a list, of any length.
     type State = [Change; 0];
 
     ghost state = { λ p. p };

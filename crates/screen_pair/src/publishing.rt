@@ -36,7 +36,7 @@ pub fn opened<J: Naming, R: Wait + Drop>(
     let first = Published::new(alloc, width, height, front)?;
     let second = Published::new(alloc, width, height, front)?;
     let mut handle = WriteHandle::new(alloc, rt, first, second, places)?;
-    // An operation that no copy follows. Its room stays, so that none is refused behind a change of the history.
+    // An operation that no copy follows. Its room stays, so that none is refused after a change of the history.
     let nothing = Stamped::new(Patch::bell(width, height), 0, front.again());
     let Ok(()) = handle.append(nothing) else {
         return Err(Fault::Memory);

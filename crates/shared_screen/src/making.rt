@@ -33,8 +33,8 @@ fn watchers<J: Naming>(
     Ok(made)
 }
 
-/// A publisher and so many watchers, over an opening screen of `width` by `height` pixels, of a history without a
-/// change. It fails where memory is refused (`Memory`) or no place for a reader is left (`NoPlace`).
+/// A publisher and a watcher for each of `places`, over an opening screen of `width` by `height` pixels, of a history
+/// without a change. It fails where memory is refused (`Memory`) or no place for a reader is left (`NoPlace`).
 pub fn shared<J: Naming, R: Wait + Drop + Copy>(
     rt: R,
     alloc: Global,

@@ -25,7 +25,7 @@ tally_from t (Raise m ∷ cs) = tally_from m cs
 abbrev pub tally_of : List Change → ℕ
 tally_of cs = tally_from 0 cs
 
--- Puts and raises take turns, and each raise is of the number of updates; before them there were n updates, and the
+-- Puts and raises take turns, and each raise tells the number of updates; before them there were n updates, and the
 -- tally was t (own).
 abbrev pub TakeTurns : ℕ → ℕ → List Change → Type 0
 TakeTurns n t [] = Unit {0}

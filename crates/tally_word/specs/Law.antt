@@ -17,6 +17,6 @@ word_of book = record { tracked = true; key = 0; book = book }
 abbrev pub Looks : Step Change → View Change ℕ → ℕ → View Change ℕ → Type 0
 Looks s v found w = (length w.0 ≡ found) × IsLegal w.0
 
--- The change was put behind all that had been seen; or there were more changes, and all of them were seen.
+-- The change was put after all that had been seen; or there were more changes, and all of them were seen.
 abbrev pub Adds : Step Change → View Change ℕ → ℕ → View Change ℕ → Type 0
 Adds s v found w = MatchBool (found == s.old) ((w.0 ≡ v.0 ++ s.ask ∷ []) × IsLegal w.0) ((length w.0 ≡ found) × IsLegal w.0)

@@ -54,6 +54,7 @@ impl<J: Naming> Front<J> {
     pub fn is_legal(&self)
         ensures { IsLegal self.now }
     {
+        // Nothing to do: what was seen is legal by the type's invariant. A body that names a field has it at hand.
         let _ = &self.seen;
     }
 
@@ -66,7 +67,7 @@ impl<J: Naming> Front<J> {
         roll.word.load::<Look, Nothing>(&mut self.seen, &mut offer)
     }
 
-    /// Puts a patch's update behind the changes that are known, by one exchange, and says whether it did: not where
+    /// Puts a patch's update after the changes that are known, by one exchange, and says whether it did: not where
     /// there are more changes, which are known then.
     pub fn put(&mut self, roll: &Roll<J>, changes: u64, patch: &Patch) -> bool
         requires count { (changes ≡ length self.old) × (changes < 2 ^ 63) }

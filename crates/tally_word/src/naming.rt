@@ -2,8 +2,8 @@
 
 use std::marker::Brand;
 
-/// Names a history and the size of the screen that it is of. It is a parameter of all its ends, so that these are known
-/// to be of one history. No value of it is made; a program picks it once.
+/// Names a history and the size of its screen. It is a parameter of all its ends, so that these are known to belong to
+/// one history. No value of it is made; a program picks it once.
 pub trait Naming {
     ghost use Rattle.std.specs.Prelude.{ℕ};
     ghost use Rattle.logbook.specs.Pages.{Book};

@@ -3,7 +3,7 @@ use Rattle.raster.specs.Screen.{part_of, value_at}
 use Rattle.raster.proofs.Rows.{row_fits, lay_more, part_row, part_len, part_at}
 use Rattle.reflect_core.proofs.fill.copy_area.Goals as goal
 
--- What a slice of so many values is.
+-- What a slice of this many values is.
 slice_is : (values : List ℕ) (start n : ℕ) → take (start + n - start) (drop start values) ≡ part_row values start n
 slice_is values start n = let e : start + n - start ≡ n = omega arith in ap (λ k. take k (drop start values)) e
 
