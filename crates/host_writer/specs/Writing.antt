@@ -1,11 +1,12 @@
--- What the host is told once it is joined: the input taken of the relay, and a request for each rise of a look
--- (RFC 6143, 7.5.3 to 7.5.6; own).
-use Rattle.std.specs.Prelude.{◌≡◌, ℕ, ◌≤◌, ◌<◌, ◌⊎◌, max, nat_lt, if◌then◌else◌, Bool, true, false, List, [], ◌∷◌, ◌++◌, length, Result, Ok, Err}
+-- What the host is told once it is joined: of the input taken of the relay what doesn't break into another place's
+-- stroke, and a request for each rise of a look (RFC 6143, 7.5.3 to 7.5.6; own).
+use Rattle.std.specs.Prelude.{◌≡◌, ℕ, ◌≤◌, ◌<◌, ◌⊎◌, max, nat_lt, if◌then◌else◌, Bool, true, false, List, [], ◌∷◌, ◌++◌, length, map, Result, Ok, Err}
 use Rattle.pixel_format.specs.declared.fault.Fault.{Fault}
 use Rattle.pixel_format.specs.declared.fault.Fault.TheVariants.{LinkEnded, LinkFailed}
 use Rattle.rfb_wire.specs.Writing.{request_bytes}
 use Rattle.roles.specs.Held.{input_in}
 use Rattle.roles.specs.Spelling.{input_bytes}
+use Rattle.roles.specs.Strokes.{Taken, input_from, unbroken, passes_after, StrokesKept, StrokesStand}
 use Rattle.link.specs.Links.{LinkState, HasRisen}
 use Rattle.host_writer.specs.Halting.{HaltsAt}
 use Rattle.host_writer.specs.declared.give.Halt.{Halt}
@@ -29,26 +30,44 @@ taken_in [] = []
 taken_in (Took message ∷ ds) = taken_in ds ++ message ∷ []
 taken_in (Saw number ∷ ds) = taken_in ds
 
+-- An input that was taken, with the place that sent it.
+abbrev pub taken_from : Message → Taken
+taken_from message = input_from message.from (input_in message.input)
+
+-- All that was taken, where these were taken before, perhaps for another host.
+abbrev pub all_taken : List Taken → List Did → List Taken
+all_taken before ds = before ++ map taken_from (taken_in ds)
+
+-- An input passes to the host after all that was taken before it.
+abbrev pub is_told : List Taken → Message → List Did → Bool
+is_told before message ds = passes_after (unbroken (all_taken before ds)) (taken_from message)
+
+-- The inputs that pass, in order.
+abbrev pub told : List Taken → List Did → List Taken
+told before [] = []
+told before (Took message ∷ ds) = told before ds ++ (if is_told before message ds then taken_from message ∷ [] else [])
+told before (Saw number ∷ ds) = told before ds
+
 -- What its looks have risen to: the greatest reply, 0 at first.
 abbrev pub risen_to : List Did → ℕ
 risen_to [] = 0
 risen_to (Took message ∷ ds) = risen_to ds
 risen_to (Saw number ∷ ds) = max (risen_to ds) number
 
--- What it says behind all it did: an input, or where its look has risen a request.
-abbrev pub says : ℕ → ℕ → Did → List Did → List ℕ
-says w h (Took message) ds = input_bytes (input_in message.input)
-says w h (Saw number) ds = if nat_lt (risen_to ds) number then whole_request w h else []
+-- What it says after all it did: an input where it passes, or, where its look has risen, a request.
+abbrev pub says : List Taken → ℕ → ℕ → Did → List Did → List ℕ
+says before w h (Took message) ds = if is_told before message ds then input_bytes (input_in message.input) else []
+says before w h (Saw number) ds = if nat_lt (risen_to ds) number then whole_request w h else []
 
 -- All that it says, in order.
-abbrev pub said : ℕ → ℕ → List Did → List ℕ
-said w h [] = []
-said w h (d ∷ ds) = said w h ds ++ says w h d ds
+abbrev pub said : List Taken → ℕ → ℕ → List Did → List ℕ
+said before w h [] = []
+said before w h (d ∷ ds) = said before w h ds ++ says before w h d ds
 
 -- The last of it.
-abbrev pub last_said : ℕ → ℕ → List Did → List ℕ
-last_said w h [] = []
-last_said w h (d ∷ ds) = says w h d ds
+abbrev pub last_said : List Taken → ℕ → ℕ → List Did → List ℕ
+last_said before w h [] = []
+last_said before w h (d ∷ ds) = says before w h d ds
 
 -- Its looks are all that was done to the source, each with the source's own reply.
 abbrev pub Looked : {S : Type 0} → (S → ℕ → S → Type 0) → S → List Did → S → Type 0
@@ -72,25 +91,42 @@ answer_at halt.Before = Ok tt
 answer_at halt.Inside = Err LinkEnded
 answer_at halt.Failed = Err LinkFailed
 
--- The host was given what the writer says, but for the end of what it said last.
-pub record Writes {S : Type 0} (looks : S → ℕ → S → Type 0) (was_set : Type 0) (source_old source_new : S) (taken_old taken_new : List Message) (w h : ℕ) (answer : Result (Unit {0}) Fault) (old new : LinkState) : Type 0 where
+-- The host was given what the writer says, but for the end of what it said last. Where the strokes stood for the inputs
+-- taken before, they stand for all that were taken.
+pub record Writes {S : Type 0} (looks : S → ℕ → S → Type 0) (was_set : Type 0) (source_old source_new : S) (taken_old taken_new : List Message) (strokes_old strokes_new : StrokesKept) (w h : ℕ) (answer : Result (Unit {0}) Fault) (old new : LinkState) : Type 0 where
   pub did : List Did
   pub left : List ℕ
   pub inputs : taken_new ≡ taken_old ++ taken_in did
+  pub strokes : (before : List Taken) → StrokesStand strokes_old before → StrokesStand strokes_new (all_taken before did)
   pub looked : Looked looks source_old did source_new
-  pub given : new.given ++ left ≡ old.given ++ said w h did
+  pub given : (before : List Taken) → StrokesStand strokes_old before → new.given ++ left ≡ old.given ++ said before w h did
   pub taken : new.taken ≡ old.taken
-  pub ends : EndsWriting was_set answer old new left (last_said w h did)
+  pub ends : (before : List Taken) → StrokesStand strokes_old before → EndsWriting was_set answer old new left (last_said before w h did)
 
 -- ---- on the way
 
--- An input was taken and given, or there was none.
-abbrev pub Tells : Bool → (taken_old taken_new : List Message) → (old new : LinkState) → Type 0
-Tells true taken_old taken_new old new = (message : Message) × (taken_new ≡ taken_old ++ message ∷ []) × (new ≡ record old { given = old.given ++ input_bytes (input_in message.input) })
-Tells false taken_old taken_new old new = (taken_new ≡ taken_old) × (new ≡ old)
+-- What is said of an input that was taken after those for which the strokes stood.
+pub record IsJudged (strokes_old strokes_new : StrokesKept) (message : Message) (bytes : List ℕ) : Type 0 where
+  pub said : (taken : List Taken) → StrokesStand strokes_old taken → bytes ≡ (if passes_after (unbroken taken) (taken_from message) then input_bytes (input_in message.input) else [])
+  pub stands : (taken : List Taken) → StrokesStand strokes_old taken → StrokesStand strokes_new (taken ++ taken_from message ∷ [])
 
--- Giving left off in the spelling of an input that was taken.
-pub record HaltsTelling (was_set : Type 0) (halt : Halt) (taken_old taken_new : List Message) (old new : LinkState) : Type 0 where
+-- An input was taken, and what is said of it was given.
+pub record TellsInput (taken_old taken_new : List Message) (strokes_old strokes_new : StrokesKept) (old new : LinkState) : Type 0 where
   pub message : Message
+  pub bytes : List ℕ
   pub took : taken_new ≡ taken_old ++ message ∷ []
-  pub halts : HaltsAt was_set halt old new (input_bytes (input_in message.input))
+  pub judged : IsJudged strokes_old strokes_new message bytes
+  pub state : new ≡ record old { given = old.given ++ bytes }
+
+-- That, or there was none.
+abbrev pub Tells : Bool → (taken_old taken_new : List Message) → (strokes_old strokes_new : StrokesKept) → (old new : LinkState) → Type 0
+Tells true taken_old taken_new strokes_old strokes_new old new = TellsInput taken_old taken_new strokes_old strokes_new old new
+Tells false taken_old taken_new strokes_old strokes_new old new = (taken_new ≡ taken_old) × (strokes_new ≡ strokes_old) × (new ≡ old)
+
+-- Giving left off in what is said of an input that was taken.
+pub record HaltsTelling (was_set : Type 0) (halt : Halt) (taken_old taken_new : List Message) (strokes_old strokes_new : StrokesKept) (old new : LinkState) : Type 0 where
+  pub message : Message
+  pub bytes : List ℕ
+  pub took : taken_new ≡ taken_old ++ message ∷ []
+  pub judged : IsJudged strokes_old strokes_new message bytes
+  pub halts : HaltsAt was_set halt old new bytes

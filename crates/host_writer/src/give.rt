@@ -13,7 +13,7 @@ pub(crate) enum Halt {
     Stopped,
     /// The link ended before the first byte.
     Before,
-    /// The link ended behind the first byte.
+    /// The link ended after the first byte.
     Inside,
     /// The link failed.
     Failed,

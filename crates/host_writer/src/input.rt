@@ -13,10 +13,10 @@ use crate::give::{Halt, give_all};
 use input_relay::Taker;
 use link::{Link, StopFlag};
 use rfb_wire::{CLIENT_CUT_TEXT, write_key, write_pointer};
-use roles::Input;
+use roles::{Input, Strokes};
 use std::sync::Wait;
 
-/// Gives a ClientCutText, its head and then the text, which needn't be copied.
+/// Gives a ClientCutText, its header and then the text, which needn't be copied.
 fn give_text<L: Link, F: StopFlag, R: Wait>(
     rt: &R,
     link: &mut L,
@@ -60,20 +60,25 @@ fn give_input<L: Link, F: StopFlag, R: Wait>(
     }
 }
 
-/// Takes the next input of the relay and gives its spelling. It answers whether there was one.
+/// Takes the next input of the relay, and gives its spelling where it passes after all that was taken before. It
+/// answers whether there was one.
 pub(crate) fn tell_input<L: Link, T: Wait + Drop, F: StopFlag, R: Wait>(
     rt: &R,
     link: &mut L,
     taker: &mut Taker<T>,
+    strokes: &mut Strokes,
     stop: &F,
 ) -> Result<bool, Halt>
     ensures relay { host_of taker.new ≡ host_of taker.old }
-    ensures ok { IfOk result (λ is_told. Tells is_told (taken_of taker.old) (taken_of taker.new) (L.state link.old) (L.state link.new)) }
-    ensures err { IfErr result (λ halt. HaltsTelling (F.was_set stop.now) halt (taken_of taker.old) (taken_of taker.new) (L.state link.old) (L.state link.new)) }
+    ensures places { length strokes.new.counts ≡ length strokes.old.counts }
+    ensures ok { IfOk result (λ was_taken. Tells was_taken (taken_of taker.old) (taken_of taker.new) strokes.old strokes.new (L.state link.old) (L.state link.new)) }
+    ensures err { IfErr result (λ halt. HaltsTelling (F.was_set stop.now) halt (taken_of taker.old) (taken_of taker.new) strokes.old strokes.new (L.state link.old) (L.state link.new)) }
 {
     match taker.take() {
-        Some((_, input)) => {
-            give_input(rt, link, stop, &input)?;
+        Some((place, input)) => {
+            if strokes.passes(place, &input) {
+                give_input(rt, link, stop, &input)?;
+            }
             Ok(true)
         }
         None => Ok(false),

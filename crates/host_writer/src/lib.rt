@@ -6,6 +6,8 @@
 
 mod give;
 mod input;
+mod law;
 mod run;
 
+pub use law::told_input_is_unbroken;
 pub use run::run_writer;

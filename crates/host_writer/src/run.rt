@@ -1,6 +1,6 @@
 //! The loop that tells the host.
 
-ghost use Rattle.std.specs.Prelude.{◌≡◌, ℕ};
+ghost use Rattle.std.specs.Prelude.{◌≡◌, ℕ, length};
 ghost use Rattle.raster.specs.Size.{IsScreenSize};
 ghost use Rattle.input_relay.specs.Ends.{host_of, taken_of};
 ghost use Rattle.host_writer.specs.Writing.{Writes, answer_at, whole_request};
@@ -13,6 +13,7 @@ use pixel_format::Fault;
 use raster::Rect;
 use reflect_core::ScreenSource;
 use rfb_wire::write_request;
+use roles::Strokes;
 use std::sync::Wait;
 
 /// One incremental request of the whole screen.
@@ -42,8 +43,12 @@ fn answer_at(halt: Halt) -> Result<(), Fault>
     }
 }
 
-/// Tells the host each input that it takes of the relay, one after another, and asks once for what is new of the whole
-/// screen each time its look has risen, over 0 at first (RFC 6143, 7.5.3). It rests where there was nothing to tell.
+/// Tells the host the input that it takes of the relay, one after another, and asks once for what is new of the whole
+/// screen each time its look has risen, over 0 at first (RFC 6143, 7.5.3). It rests where nothing was taken and the
+/// look hasn't risen.
+///
+/// Of the input that was taken the host is told what `strokes` lets pass: nothing of a place while another has a key or
+/// a button down. What doesn't pass is counted there.
 ///
 /// It is `Ok` where the flag is set, and where the link ends before the first byte of a spelling. `LinkEnded` where it
 /// ends inside one, and `LinkFailed` where it fails. Of what was said last the link may then lack the end.
@@ -52,12 +57,14 @@ pub fn run_writer<L: Link, S: ScreenSource, T: Wait + Drop, F: StopFlag, Z: Rest
     link: &mut L,
     source: &mut S,
     taker: &mut Taker<T>,
+    strokes: &mut Strokes,
     stop: &F,
     rest: &Z,
 ) -> Result<(), Fault>
     requires { IsScreenSize (S.width source.old) (S.height source.old) }
     ensures relay { host_of taker.new ≡ host_of taker.old }
-    ensures writes { Writes S.looks (F.was_set stop.now) source.old source.new (taken_of taker.old) (taken_of taker.new) (S.width source.old) (S.height source.old) result (L.state link.old) (L.state link.new) }
+    ensures places { length strokes.new.counts ≡ length strokes.old.counts }
+    ensures writes { Writes S.looks (F.was_set stop.now) source.old source.new (taken_of taker.old) (taken_of taker.new) strokes.old strokes.new (S.width source.old) (S.height source.old) result (L.state link.old) (L.state link.new) }
 {
     let (width, height) = source.size();
     let request = request_of(width, height);
@@ -66,8 +73,8 @@ pub fn run_writer<L: Link, S: ScreenSource, T: Wait + Drop, F: StopFlag, Z: Rest
         if stop.is_set() {
             return Ok(());
         }
-        let is_told = match tell_input(rt, link, taker, stop) {
-            Ok(is_told) => is_told,
+        let was_taken = match tell_input(rt, link, taker, strokes, stop) {
+            Ok(was_taken) => was_taken,
             Err(halt) => return answer_at(halt),
         };
         let looked = source.look();
@@ -77,7 +84,7 @@ pub fn run_writer<L: Link, S: ScreenSource, T: Wait + Drop, F: StopFlag, Z: Rest
                 Ok(()) => {}
                 Err(halt) => return answer_at(halt),
             }
-        } else if !is_told {
+        } else if !was_taken {
             rest.rest(rt);
         }
     }

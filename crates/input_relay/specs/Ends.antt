@@ -27,7 +27,7 @@ module _ {R : Type 0} where
   abbrev pub inputs_of : Sender R → List definitions.Input
   inputs_of s = map input_in (sent_of s)
 
-  -- which relay it is of
+  -- its relay
   abbrev pub relay_of : Sender R → TableId
   relay_of s = s.pass.table_id
 
@@ -35,7 +35,7 @@ module _ {R : Type 0} where
   abbrev pub taken_of : Taker R → List Message
   taken_of t = (view t.pass).got
 
-  -- which relay it is of
+  -- its relay
   abbrev pub host_of : Taker R → TableId
   host_of t = t.pass.table_id
 

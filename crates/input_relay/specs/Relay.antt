@@ -52,7 +52,7 @@ Delivers items views =
     × ((p : ℕ) → of p (got ++ items) ≡ sent p)
     × ((pass : ℕ) (v : View) → get_elem? views pass ≡ some v → FitsSender seat sent pass v × FitsTaker reader seat sent got pass v)
 
--- the strands with x behind what q sent
+-- the strands with x after what q sent
 abbrev pub grown : (ℕ → List Input) → ℕ → Input → ℕ → List Input
 grown sent q x p = if p == q then sent p ++ x ∷ [] else sent p
 

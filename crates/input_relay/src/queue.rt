@@ -29,8 +29,8 @@ pub struct Strand {
     pub sent: LinkedList<Input>,
 }
 
-/// What the holder of a pass knows. A sender knows its place and what it has sent. The taker knows how many senders were
-/// made, what it got, and what the senders had sent that came back. No value of it is made.
+/// What the holder of a pass knows. A sender knows its place and what it has sent. The taker knows how many senders
+/// were made, what it got, and what the senders had sent that came back. No value of it is made.
 pub struct View {
     /// Whether it is a sender's.
     pub sends: bool,
@@ -120,10 +120,10 @@ impl Lesson<Message, View> for Taken {
 /// The queue, under that rule.
 type Line = RuledArrayQueue<Message, View, InOrder>;
 
-/// So many inputs can wait.
+/// This many inputs can wait.
 const ROOM: usize = 256;
 
-/// A place sends at most so many inputs. The queue's own numbers last for 64 places.
+/// The most inputs that a place sends. The queue's own numbers last for 64 places.
 const MOST: u64 = 1 << 55;
 
 /// The end of the relay that a viewer's place has.

@@ -1,4 +1,4 @@
--- What is kept of a viewer's input, key by key and message by message.
+-- What is kept of a viewer's input, key by key and message by message. `Held` keeps that in place of the messages.
 use Rattle.std.proofs.Common.{◌≡◌, ℕ, ◌<◌, Bool, true, false, cond, List, [], ◌∷◌, ◌++◌, length, map, nat_lt, Option, Some, None, refl, ap, sym, ◌∙◌, arith}
 use Rattle.std.specs.List.{prefix_len, insert, remove, filter_map, cons_option}
 use Rattle.std.proofs.lemmas.Bool.Decides.{nat_tests}
@@ -34,7 +34,7 @@ rising_left keys key n new r down place e = rw (e, place, sym (without_same key 
 -- ---- message by message
 
 -- a further input after some
-passing_more : (keys : List ℕ) (is : List Input) (i : Input) → passing keys (is ++ i ∷ []) ≡ passing keys is ++ cond (passes (keys_down keys (passing keys is)) i) (i ∷ []) []
+pub passing_more : (keys : List ℕ) (is : List Input) (i : Input) → passing keys (is ++ i ∷ []) ≡ passing keys is ++ cond (passes (keys_down keys (passing keys is)) i) (i ∷ []) []
 passing_more keys [] i = passing_one (passes keys i)
   where
     passing_one : (b : Bool) → cond b (i ∷ []) [] ≡ cond b (i ∷ []) []
@@ -49,11 +49,11 @@ passing_more keys (j ∷ js) i = passing_more_one keys j js i (passes keys j) (p
     passing_more_one keys j js i true e f = ap (λ (zs : List Input). j ∷ zs) e
     passing_more_one keys j js i false e f = f
 
-keys_down_more : (keys : List ℕ) (is : List Input) (i : Input) → keys_down keys (is ++ i ∷ []) ≡ keys_after (keys_down keys is) i
+pub keys_down_more : (keys : List ℕ) (is : List Input) (i : Input) → keys_down keys (is ++ i ∷ []) ≡ keys_after (keys_down keys is) i
 keys_down_more keys [] i = refl
 keys_down_more keys (j ∷ js) i = keys_down_more (keys_after keys j) js i
 
-pointer_more : (last : ℕ × ℕ × ℕ) (is : List Input) (i : Input) → last_pointer last (is ++ i ∷ []) ≡ last_pointer (last_pointer last is) (i ∷ [])
+pub pointer_more : (last : ℕ × ℕ × ℕ) (is : List Input) (i : Input) → last_pointer last (is ++ i ∷ []) ≡ last_pointer (last_pointer last is) (i ∷ [])
 pointer_more last [] i = refl
 pointer_more last (Key down key ∷ js) i = pointer_more last js i
 pointer_more last (Pointer mask x y ∷ js) i = pointer_more (mask, x, y) js i

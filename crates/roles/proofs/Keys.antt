@@ -1,4 +1,4 @@
--- Keys by rising number.
+-- Keys by rising number. `Held` and the definition keep them so, to find one at once.
 use Rattle.std.proofs.Common.{◌≡◌, ℕ, zero, suc, ◌+◌, ◌<◌, ◌≤◌, Bool, true, false, cond, List, [], ◌∷◌, length, filter, nat_lt, get_or, refl, ap, sym, ◌∙◌, arith, inl, inr}
 use Rattle.std.specs.Prelude.{◌==◌}
 use Rattle.std.specs.List.{prefix_len, list_all, insert, remove}
@@ -32,7 +32,7 @@ order x key =
       | inr le ↦ elim (cases_lt key x) [ inl lt ↦ Above lt | inr ge ↦ Same (omega arith) ]
     ]
 
--- so many keys from the front are lower, and the next one, if there is one, isn't
+-- this many keys from the front are lower, and the next one, if there is one, isn't
 pub reaches : (keys : List ℕ) (key n : ℕ) → n ≤ length keys → ((k : ℕ) → k < n → get_or keys k 0 < key) → (n < length keys → key ≤ get_or keys n 0) → n ≡ prefix_len (λ k. nat_lt k key) keys
 reaches [] key n le below next = omega (arith, le)
 reaches (x ∷ xs) key zero le below next = rw (not_lower x key (next (omega arith))) refl
@@ -149,6 +149,10 @@ without_same key (k ∷ ks) r down =
       | Same e ↦ rw (not_lower k key (omega arith), (let same : (k == key) ≡ true = grind (arith, nat_tests) in same)) (without_absent k key ks (omega arith) parts.0)
       | Above kl ↦ let e : is_down key (k ∷ ks) ≡ false = rw (other_above k key kl) (absent k key ks (omega arith) parts.0) in let no : true ≡ false = sym down ∙ e in absurd cc
     ]
+
+-- the first of rising keys is not among the others
+pub without_rest : (k : ℕ) (ks : List ℕ) → is_rising (k ∷ ks) ≡ true → without_key k ks ≡ ks
+without_rest k ks r = without_absent k k ks (omega arith) (and_parts (list_all (λ z. nat_lt k z) ks) (is_rising ks) r).0
 
 -- and there is such a place
 pub place_within : (key : ℕ) (keys : List ℕ) → is_down key keys ≡ true → prefix_len (λ k. nat_lt k key) keys < length keys

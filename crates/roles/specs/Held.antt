@@ -26,7 +26,7 @@ pub record Kept : Type 0 where
 abbrev pub nothing_kept : Kept
 nothing_kept = record { keys = []; mask = 0; x = 0; y = 0 }
 
--- Each key is lower than those behind it.
+-- Each key is lower than those after it.
 abbrev pub is_rising : List ℕ → Bool
 is_rising [] = true
 is_rising (k ∷ ks) = list_all (λ other. nat_lt k other) ks && is_rising ks

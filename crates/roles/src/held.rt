@@ -6,6 +6,7 @@ ghost use Rattle.rfb_wire.specs.ClientMessage as client;
 ghost use Rattle.rfb_wire.specs.Message.{message_of};
 ghost use Rattle.roles.specs.Allowed.{Key, allowed, input_of, is_down, passes};
 ghost use Rattle.roles.specs.Held.{input_in, Kept, nothing_kept, HeldStands, input_for, passes_if, kept_after, passed_if, left_in};
+ghost use Rattle.roles.specs.Strokes.{is_holding};
 
 use crate::input::Input;
 use crate::role::Role;
@@ -13,7 +14,7 @@ use arrayvec::ArrayVec;
 use rfb_wire::ClientMessage;
 use std::marker::Model;
 
-/// At most so many keys are held down for one viewer.
+/// The most keys that are held down for one viewer.
 pub const MOST_KEYS: usize = 64;
 
 /// The keys that a viewer holds down, by rising number, and its last pointer event.
@@ -123,6 +124,30 @@ impl Held {
             Role::View => false,
             Role::Full => self.passes_full(message),
         }
+    }
+
+    /// Whether an input passes, and what is held after it: the press of a key that is down or while fewer than
+    /// `MOST_KEYS` are, the release of a key that is down, each pointer event and each text. It takes no memory.
+    pub(crate) fn takes(&mut self, input: &Input) -> bool
+        ensures value { result ≡ passes self.old.keys (input_in input.now) }
+        ensures kept { self.new ≡ kept_after self.old (Some (input_in input.now)) }
+    {
+        match input {
+            Input::Key { down: true, key } => self.press(*key),
+            Input::Key { down: false, key } => self.lift(*key),
+            Input::Pointer { mask, x, y } => {
+                self.point(*mask, *x, *y);
+                true
+            }
+            Input::Cut(_) => true,
+        }
+    }
+
+    /// Whether a key or a button is down.
+    pub(crate) fn is_holding(&self) -> bool
+        ensures { result ≡ is_holding self.now }
+    {
+        !self.keys.is_empty() || self.mask != 0
     }
 
     /// The same of a viewer in full control.

@@ -1,12 +1,28 @@
 //! What holds of all that a viewer sends.
 
-ghost use Rattle.std.specs.Prelude.{◌≡◌, List, ◌++◌, true, false};
+ghost use Rattle.std.specs.Prelude.{◌≡◌, ◌≢◌, ℕ, ◌-◌, min, Bool, List, ◌∷◌, ◌++◌, length, map, true, false};
+ghost use Rattle.pixel_format.specs.declared.limits.TheConstants.{LIMIT};
 ghost use Rattle.rfb_wire.specs.ClientMessage.{ClientMessage};
 ghost use Rattle.roles.specs.declared.role.Role.{Role};
 ghost use Rattle.roles.specs.Allowed.{allowed};
 ghost use Rattle.roles.specs.Held.{Kept, HeldStands, left_in};
+ghost use Rattle.roles.specs.Strokes.{Taken, input_from, sent_by, has_down, unbroken, dropped, IsPickedFrom};
 
 /// Where a viewer leaves, what passed of its messages and then what `Held::release` gives is all that is allowed.
 pub fn releases_are_allowed()
     ensures { (role : Role) (held : Kept) (messages : List ClientMessage) → HeldStands role held messages → allowed role messages true ≡ allowed role messages false ++ left_in held }
+{}
+
+/// What passes of the input of several places.
+///
+/// Of each place it is taken from what it sent, in its order, each input at most once. Where an input of a place
+/// passes, no other place has a key or a button down: between a place's first press and the last release of its keys
+/// and buttons nothing of another passes. Where one place alone sends, all passes that its viewer is allowed, with the
+/// releases where it has left. Each other input is counted for the place that sent it.
+pub fn strokes_are_whole()
+    ensures picked { (place : ℕ) (taken : List Taken) → IsPickedFrom (sent_by place (unbroken taken)) (sent_by place taken) }
+    ensures whole { (taken before after : List Taken) (t : Taken) → unbroken taken ≡ before ++ t ∷ after → (place : ℕ) → place ≢ t.place → has_down place before ≡ false }
+    ensures alone { (place : ℕ) (role : Role) (messages : List ClientMessage) (left : Bool)
+        → unbroken (map (input_from place) (allowed role messages left)) ≡ map (input_from place) (allowed role messages left) }
+    ensures counted { (place : ℕ) (taken : List Taken) → dropped place taken ≡ min LIMIT (length (sent_by place taken) - length (sent_by place (unbroken taken))) }
 {}

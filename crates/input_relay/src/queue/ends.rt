@@ -23,9 +23,9 @@ impl<R: Wait + Drop> Sender<R> {
         self.place
     }
 
-    /// Sends an input, behind all that this place has sent. It fails where 256 inputs are waiting (`QueueFull`) and, for good,
-    /// where this place has sent 2^55 (`NumbersOut`); then the input comes back and nothing has changed. It may wait where
-    /// another thread stands still inside a call.
+    /// Sends an input, after all that this place has sent. It fails where 256 inputs are waiting (`QueueFull`) and, for
+    /// good, where this place has sent 2^55 (`NumbersOut`); then the input comes back and nothing has changed. It may
+    /// wait where another thread stands still inside a call.
     pub fn send(&mut self, input: Input) -> Result<(), (Fault, Input)>
         ensures ok { OnOk result (sent_of self.new ≡ sent_of self.old ++ input ∷ []) }
         ensures err { IfErr result (λ refused. (sent_of self.new ≡ sent_of self.old) × (refused.1 ≡ input) × IsRefusal refused.0 (length (sent_of self.old))) }
@@ -55,8 +55,8 @@ impl<R: Wait + Drop> Sender<R> {
 }
 
 impl<R: Wait + Drop> Taker<R> {
-    /// The input that has waited longest, with the number of its place; `None` where none waits. The inputs of one place come
-    /// in the order in which it sent them.
+    /// The input that has waited longest, with the number of its place; `None` where none waits. The inputs of one
+    /// place come in the order in which it sent them.
     pub fn take(&mut self) -> Option<(u64, Input)>
         ensures some { IfSome result (λ r. taken_of self.new ≡ taken_of self.old ++ message r.0 r.1 ∷ []) }
         ensures none { IfNone result (taken_of self.new ≡ taken_of self.old) }
@@ -117,8 +117,8 @@ fn seat<R: Wait + Drop + Clone>(
     })
 }
 
-/// A relay for 1 to 64 places with room for 256 inputs: the senders of the places from 0 on, each at its number, and the taker.
-/// It fails where memory is refused (`Memory`).
+/// A relay for 1 to 64 places with room for 256 inputs: the senders of the places from 0 on, each at its number, and
+/// the taker. It fails where memory is refused (`Memory`).
 pub fn relay<R: Wait + Drop + Clone>(
     rt: R,
     alloc: Global,
@@ -141,8 +141,8 @@ pub fn relay<R: Wait + Drop + Clone>(
     Ok((senders, Taker { line, pass, rt }))
 }
 
-/// Ends a relay: the senders and the taker come back. What was taken of each place is a beginning of what that place had sent,
-/// and what was taken and what is left are together all of it. It asks for senders of this taker's relay.
+/// Ends a relay: the senders and the taker come back. What was taken of each place is a beginning of what that place
+/// had sent, and what was taken and what is left are together all of it. It asks for senders of this taker's relay.
 pub fn settle<R: Wait + Drop>(senders: Vec<Sender<R>>, taker: Taker<R>) -> Settled<R>
     requires { All (λ s. relay_of s ≡ host_of taker) senders.items }
     ensures taken { taken_at_end result ≡ taken_of taker }

@@ -1,4 +1,4 @@
-use Rattle.std.proofs.Common.{◌≡◌}
+use Rattle.std.proofs.Common.{◌≡◌, length}
 use Rattle.input_relay.specs.Ends.{host_of, taken_of}
 use Rattle.host_writer.specs.Writing.{whole_request}
 use Rattle.host_writer.proofs.Writers.{IsWriting}
@@ -10,5 +10,6 @@ invariant-loop g l =
     × record {
       request : l.request ≡ whole_request (g.S.ScreenSource.width l.fn.source) (g.S.ScreenSource.height l.fn.source);
       relay : host_of l.taker ≡ host_of l.fn.taker;
-      writing : IsWriting g.S.ScreenSource.looks l.fn.source l.source (taken_of l.fn.taker) (taken_of l.taker) (g.S.ScreenSource.width l.fn.source) (g.S.ScreenSource.height l.fn.source) l.asked (g.L.Link.state l.fn.link) (g.L.Link.state l.link);
+      places : length l.strokes.counts ≡ length l.fn.strokes.counts;
+      writing : IsWriting g.S.ScreenSource.looks l.fn.source l.source (taken_of l.fn.taker) (taken_of l.taker) l.fn.strokes l.strokes (g.S.ScreenSource.width l.fn.source) (g.S.ScreenSource.height l.fn.source) l.asked (g.L.Link.state l.fn.link) (g.L.Link.state l.link);
     }

@@ -1,0 +1,5 @@
+use Rattle.std.proofs.Common.{◌≡◌, length}
+use Rattle.input_relay_tests.proofs.strokes.check_presses.Given as goal
+
+abbrev pub invariant-loop-key : goal.invariant-loop-key
+invariant-loop-key g l = length l.strokes.counts ≡ length l.initial.strokes.counts
