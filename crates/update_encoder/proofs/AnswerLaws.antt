@@ -1,9 +1,10 @@
--- The bytes of an answer are read as its rectangles, and these bring what the screen shows.
+-- The bytes of an answer are read as its rectangles, and these bring what the screen shows. So a viewer that follows
+-- its answers holds what it asked for.
 use Rattle.std.proofs.Common.{◌≡◌, ℕ, ◌+◌, ◌-◌, ◌^◌, ◌<◌, ◌≤◌, Bool, true, false, cond, List, [], ◌∷◌, length, map, Option, Some, None, refl, ap, sym, ◌∙◌, arith, inl, inr, zero, suc, eq-eqb}
 use Rattle.std.proofs.lemmas.Bool.{eqb-true}
 use Rattle.std.specs.Prelude.{◌&&◌, ◌==◌, slice_index, if◌then◌else◌}
 use Rattle.pixel_format.specs.PixelFormat.{PixelFormat, IsAccepted, tint}
-use Rattle.pixel_format.specs.Reading.{Spells, after, taken, whole_of}
+use Rattle.byte_reading.specs.Reading.{Spells, after, taken, whole_of}
 use Rattle.std.proofs.lemmas.List.{length-map}
 use Rattle.raster.specs.declared.encoding.Encoding.TheVariants.{Raw}
 use Rattle.rfb_wire.specs.Writing.{rectangle_bytes}

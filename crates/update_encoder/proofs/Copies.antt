@@ -1,4 +1,4 @@
--- Parts of the screen that show the same.
+-- Parts of the screen that show the same. A CopyRect brings what the run before it brought.
 use Rattle.std.proofs.Common.{◌≡◌, ℕ, ◌+◌, ◌<◌, Bool, true, false, List, [], ◌∷◌, ◌++◌, refl, sym, ap, ◌∙◌, eq-eqb}
 use Rattle.std.specs.Prelude.{◌&&◌}
 use Rattle.raster.specs.Screen.{Canvas, values_of, value_at}

@@ -1,4 +1,4 @@
--- How many rectangles an answer has, and their bytes.
+-- How many rectangles an answer has, and their bytes. An answer's header has the number before a rectangle is written.
 use Rattle.std.proofs.Common.{◌≡◌, ℕ, suc, ◌*◌, ◌<◌, ◌≤◌, ◌^◌, Bool, List, [], ◌∷◌, ◌++◌, length, Option, Some, None, refl, sym, ap, ◌∙◌, subst, arith}
 use Rattle.std.specs.Prelude.{◌&&◌}
 use Rattle.std.specs.List.{flat_map}

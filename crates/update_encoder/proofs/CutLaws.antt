@@ -1,4 +1,5 @@
--- An answer of a cut is one of the screen that was cut.
+-- An answer of a cut is one of the screen that was cut. A cut shows no more than its due tiles, and an answer needs no
+-- more.
 use Rattle.std.proofs.Common.{◌≡◌, ℕ, zero, suc, ◌+◌, ◌-◌, ◌*◌, ◌/◌, ◌%◌, ◌<◌, ◌≤◌, Bool, true, false, cond, List, [], ◌∷◌, take, Option, Some, None, refl, sym, ap, ◌∙◌, arith, inl, inr}
 use Rattle.std.specs.Prelude.{min, max, map, nat_lt, ◌&&◌, ◌||◌, ◌==◌, unwrap_or}
 use Rattle.std.specs.List.{flat_map, range_with_len}
@@ -28,6 +29,7 @@ use Rattle.update_encoder.specs.Answer.{all_spelled, answer_bytes, colours_in, c
 use Rattle.update_encoder.specs.Coming.{shown}
 use Rattle.update_encoder.specs.Written.{CutIsAnswered, is_due_of}
 use Rattle.update_encoder.proofs.PixelRows.{map_same}
+use Rattle.raster.specs.declared.tile.TheConstants.{TILE_SIDE}
 
 -- ---- rectangles of two screens that show the same in them
 
@@ -129,14 +131,14 @@ module _ (us : List Update) (n : ℕ) (area : Rect) (have : SentTiles) (cut : Cu
       ap (λ b. b && meets area (tile_rect w h t)) (marked_is t lt)
       ∙ (ap (λ (r : Rect). (meets area r && is_due_of have seen t) && meets area (tile_rect w h t)) (rect_is t) ∙ twice (meets area (tile_rect w h t)) (is_due_of have seen t))
 
-  -- behind the last tile there is none
+  -- after the last tile there is none
   none_met : (t : ℕ) (b : Bool) → tile_count w h ≤ t → meets area (tile_rect w h t) ≡ b → b ≡ false
   none_met t false le e = refl
   none_met t true le e =
       absurd (
       let across : ℕ = tiles_across w in
-      let both = and_parts (nat_lt (max area.x (t % across * 16)) (min (area.x + area.w) (t % across * 16 + min 16 (w - t % across * 16)))) (nat_lt (max area.y (t / across * 16)) (min (area.y + area.h) (t / across * 16 + min 16 (h - t / across * 16)))) e in
-      let down : max area.y (t / across * 16) < min (area.y + area.h) (t / across * 16 + min 16 (h - t / across * 16)) = ltb-true _ _ both.1 in
+      let both = and_parts (nat_lt (max area.x (t % across * TILE_SIDE)) (min (area.x + area.w) (t % across * TILE_SIDE + min TILE_SIDE (w - t % across * TILE_SIDE)))) (nat_lt (max area.y (t / across * TILE_SIDE)) (min (area.y + area.h) (t / across * TILE_SIDE + min TILE_SIDE (h - t / across * TILE_SIDE)))) e in
+      let down : max area.y (t / across * TILE_SIDE) < min (area.y + area.h) (t / across * TILE_SIDE + min TILE_SIDE (h - t / across * TILE_SIDE)) = ltb-true _ _ both.1 in
       let high_enough : t / across < tiles_across h = omega (arith, down) in
       let some : 0 < across = omega (arith, size.wide.0) in
       let place : t < tile_count w h = row_under t (t / across) across (tiles_across h) high_enough (row_of_tile across t some).1 in

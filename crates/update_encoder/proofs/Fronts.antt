@@ -1,4 +1,4 @@
--- What stands at the front of a piece: a head of 12 bytes, and data behind it.
+-- What is at the front of a piece: a header of 12 bytes, and data after it. A rectangle is written so.
 use Rattle.std.proofs.Common.{◌≡◌, ℕ, ◌+◌, ◌*◌, ◌≤◌, Bool, true, false, cond, List, [], ◌++◌, length, take, drop, Option, sym, ap, ◌∙◌, arith, length-append}
 use Rattle.std.specs.Prelude.{◌&&◌, ◌==◌, nat_lt, map}
 use Rattle.std.proofs.lemmas.Bool.Decides.{nat_tests}
@@ -23,7 +23,7 @@ written_whole spelling old new count k len =
     let nothing : drop (length spelling) old ≡ [] = drop_all (length spelling) old (omega (arith, len)) in
     k.written ∙ (ap (λ t. spelling ++ t) nothing ∙ append-nil spelling)
 
--- A head, and data behind it.
+-- A head, and data after it.
 pub head_then : (head data_bytes h rest : List ℕ) (n k : ℕ) → h ≡ head → length head ≡ 12 → k ≡ length data_bytes → take k rest ≡ data_bytes → n ≡ 12 + k → IsFront (head ++ data_bytes) (h ++ rest) n
 head_then head data_bytes h rest n k same twelve count front all =
     let len : n ≡ length head + k = omega (arith, all, twelve) in

@@ -1,5 +1,5 @@
--- The pixels of a rectangle, one row after another.
-use Rattle.std.proofs.Common.{◌≡◌, ℕ, zero, suc, ◌+◌, ◌-◌, ◌*◌, ◌/◌, ◌%◌, ◌<◌, ◌≤◌, List, [], ◌∷◌, ◌++◌, length, take, drop, refl, sym, ap, ◌∙◌, arith, zero-add}
+-- The pixels of a rectangle, one row after another. Rows are tinted and compared one by one.
+use Rattle.std.proofs.Common.{◌≡◌, ℕ, zero, suc, ◌+◌, ◌*◌, ◌/◌, ◌%◌, ◌<◌, ◌≤◌, List, [], ◌∷◌, ◌++◌, length, take, refl, sym, ap, ◌∙◌, arith, zero-add}
 use Rattle.std.specs.Prelude.{map}
 use Rattle.std.specs.List.{range_with_len}
 use Rattle.std.proofs.lemmas.List.{map-append}
@@ -73,30 +73,19 @@ part_is_row values w h area m len on lt =
 
 -- One row more is written, by what turns rows into values or bytes.
 rows_more : {B : Type 0} (spell : List ℕ → List B) → ((xs ys : List ℕ) → spell (xs ++ ys) ≡ spell xs ++ spell ys)
-    → (values : List ℕ) (w h : ℕ) (area : Rect) (m start size k : ℕ) (out new : List B) → length values ≡ w * h → IsWithin area w h → m < area.h
-    → start ≤ length out → take start out ≡ spell (values_of area.w m (part_of area (value_at w values)))
-    → new ≡ spell (take ((area.y + m) * w + area.x + area.w - ((area.y + m) * w + area.x)) (drop ((area.y + m) * w + area.x) values)) → size ≡ start + length new
-    → take size (put_mid start k out new) ≡ spell (values_of area.w (m + 1) (part_of area (value_at w values)))
-rows_more spell splits values w h area m start size k out new len on lt le sofar this count =
-    let canvas : Canvas = part_of area (value_at w values) in
-    let from : ℕ = (area.y + m) * w + area.x in
-    let wide : from + area.w - from ≡ area.w = omega arith in
-    let row : List ℕ = row_at area.w canvas m in
-    let here : new ≡ spell row = this ∙ (ap (λ n. spell (take n (drop from values))) wide ∙ ap spell (part_is_row values w h area m len on lt)) in
+    → (w m : ℕ) (canvas : Canvas) (start size k : ℕ) (out new : List B) → start ≤ length out → take start out ≡ spell (values_of w m canvas)
+    → new ≡ spell (row_at w canvas m) → size ≡ start + length new → take size (put_mid start k out new) ≡ spell (values_of w (m + 1) canvas)
+rows_more spell splits w m canvas start size k out new le sofar this count =
     take-put_mid start k out new size count le
     ∙ (ap (λ t. t ++ new) sofar
-    ∙ (ap (λ t. spell (values_of area.w m canvas) ++ t) here ∙ (sym (splits (values_of area.w m canvas) row) ∙ ap spell (sym (values_more area.w m canvas)))))
+    ∙ (ap (λ t. spell (values_of w m canvas) ++ t) this ∙ (sym (splits (values_of w m canvas) (row_at w canvas m)) ∙ ap spell (sym (values_more w m canvas)))))
 
-pub rows_written : (format : PixelFormat) (values : List ℕ) (w h : ℕ) (area : Rect) (m start size k : ℕ) (out new : List ℕ) → length values ≡ w * h → IsWithin area w h → m < area.h
-    → start ≤ length out → take start out ≡ row_bytes format (values_of area.w m (part_of area (value_at w values)))
-    → new ≡ row_bytes format (take ((area.y + m) * w + area.x + area.w - ((area.y + m) * w + area.x)) (drop ((area.y + m) * w + area.x) values)) → size ≡ start + length new
-    → take size (put_mid start k out new) ≡ row_bytes format (values_of area.w (m + 1) (part_of area (value_at w values)))
+pub rows_written : (format : PixelFormat) (w m : ℕ) (canvas : Canvas) (start size k : ℕ) (out new : List ℕ) → start ≤ length out → take start out ≡ row_bytes format (values_of w m canvas)
+    → new ≡ row_bytes format (row_at w canvas m) → size ≡ start + length new → take size (put_mid start k out new) ≡ row_bytes format (values_of w (m + 1) canvas)
 rows_written format = rows_more (row_bytes format) (λ xs ys. flat_map-append (λ colour. pixel_bytes format (tint format colour)) xs ys)
 
-pub rows_tinted : (format : PixelFormat) (values : List ℕ) (w h : ℕ) (area : Rect) (m start size k : ℕ) (out new : List ℕ) → length values ≡ w * h → IsWithin area w h → m < area.h
-    → start ≤ length out → take start out ≡ map (tint format) (values_of area.w m (part_of area (value_at w values)))
-    → new ≡ map (tint format) (take ((area.y + m) * w + area.x + area.w - ((area.y + m) * w + area.x)) (drop ((area.y + m) * w + area.x) values)) → size ≡ start + length new
-    → take size (put_mid start k out new) ≡ map (tint format) (values_of area.w (m + 1) (part_of area (value_at w values)))
+pub rows_tinted : (format : PixelFormat) (w m : ℕ) (canvas : Canvas) (start size k : ℕ) (out new : List ℕ) → start ≤ length out → take start out ≡ map (tint format) (values_of w m canvas)
+    → new ≡ map (tint format) (row_at w canvas m) → size ≡ start + length new → take size (put_mid start k out new) ≡ map (tint format) (values_of w (m + 1) canvas)
 rows_tinted format = rows_more (map (tint format)) (λ xs ys. map-append (tint format) xs ys)
 
 -- ---- the room for it

@@ -56,7 +56,7 @@ pub no_copy_unasked : answer_bytes bgr233 (record { kind = Raw; copy = false }) 
     ≡ (0 ∷ 0 ∷ 0 ∷ 2 ∷ []) ++ raw_head 0 ++ (7 ∷ []) ++ raw_head 1 ++ 7 ∷ []
 no_copy_unasked = refl
 
--- It is of equal colours: here two have the same pixel and aren't equal.
+-- A copy wants equal colours: here two have the same pixel value and aren't equal.
 pub no_copy_by_pixels : answer_bytes bgr233 with_copies (λ x y. if y == 0 then 0xFF0000 else 0xFE0000) true (rect 0 0 1 1 ∷ rect 0 1 1 1 ∷ [])
     ≡ (0 ∷ 0 ∷ 0 ∷ 2 ∷ []) ++ raw_head 0 ++ (7 ∷ []) ++ raw_head 1 ++ 7 ∷ []
 no_copy_by_pixels = refl

@@ -10,8 +10,8 @@ use Rattle.reflect_core.specs.declared.cut.Cut.{Cut}
 use Rattle.reflect_core.specs.Source.{marked}
 use Rattle.update_encoder.specs.Answer.{spelled, all_spelled}
 
--- What is kept of an answer: where the walk over its runs stands, its format and choice, whether it may use CopyRect, the rectangle that it
--- wrote last, and how many rectangles it has in all (own).
+-- What is kept of an answer: where the walk over its runs stands, its format and choice, whether it may use CopyRect,
+-- the rectangle that it wrote last, and how many rectangles it has in all (own).
 pub record Answering : Type 0 where
   pub walk : Walking
   pub format : PixelFormat

@@ -21,7 +21,8 @@ pub record IsFront (bytes now : List ℕ) (n : ℕ) : Type 0 where
   pub count : n ≡ length bytes
   pub front : take n now ≡ bytes
 
--- A rectangle in an encoding stands at the front, and this is how many bytes it has; or the encoding doesn't save bytes.
+-- A rectangle in an encoding stands at the front, and this is how many bytes it has; or the encoding doesn't save
+-- bytes.
 abbrev pub IsSaved : Encoding → PixelFormat → Rect → List ℕ → List ℕ → Option ℕ → Type 0
 IsSaved kind format r values now (Some n) =
     (saves_bytes kind format r.w r.h values ≡ true) × IsFront (rectangle_bytes r (encoding_number kind) (form kind format r.w r.h values)) now n
@@ -31,7 +32,8 @@ IsSaved kind format r values now None = saves_bytes kind format r.w r.h values �
 abbrev pub is_due_of : SentTiles → List Update → ℕ → Bool
 is_due_of have us t = is_due_since (tile_rect have.width have.height t) (sent_at have t) us
 
--- An answer of what a cut shows in the tiles that it marks is one of the screen that it was cut from, in the tiles that were due there.
+-- An answer of what a cut shows in the tiles that it marks is one of the screen that it was cut from, in the tiles that
+-- were due there.
 abbrev pub CutIsAnswered : Type 0
 CutIsAnswered =
     (us : List Update) (n : ℕ) (area : Rect) (have : SentTiles) (cut : Cut) (format : PixelFormat) (choice : Choice) (sent : Bool)

@@ -2,6 +2,7 @@
 
 ghost use Rattle.std.specs.Prelude.{◌≡◌, ◌+◌, ◌*◌, ◌<◌, ◌≤◌, ◌^◌, ◌++◌, [], ◌&&◌, length, take, IfNone, IfSome};
 ghost use Rattle.raster.specs.Screen.{IsWithin};
+ghost use Rattle.raster.specs.declared.tile.TheConstants.{TILE_SIDE};
 ghost use Rattle.reflect_core.specs.Source.{marked};
 ghost use Rattle.rfb_wire.specs.Message.{choice_in};
 ghost use Rattle.rfb_wire.specs.Writing.{update_head_bytes};
@@ -18,8 +19,8 @@ use rfb_wire::Choice;
 use std::marker::Model;
 use tiles::Walk;
 
-/// A FramebufferUpdate that is written one rectangle at a time: what a cut shows in the due tiles of an area, run by run (RFC 6143,
-/// 7.6.1). It takes no memory, and holds no borrow of the cut, which is lent to each step.
+/// A FramebufferUpdate that is written one rectangle at a time: what a cut shows in the due tiles of an area, run by
+/// run (RFC 6143, 7.6.1). It takes no memory, and holds no borrow of the cut, which is lent to each step.
 #[derive(Drop)]
 pub struct Answer {
     walk: Walk,
@@ -64,8 +65,9 @@ fn count_runs(cut: &Cut, mut walk: Walk) -> u64
 }
 
 impl Answer {
-    /// An answer of what a cut shows in the due tiles of an area, in a pixel format and as a viewer chose (RFC 6143, 7.5.1 and 7.5.2),
-    /// none of whose rectangles is written yet. CopyRect is used where the viewer takes it and was sent each of the tiles before.
+    /// An answer of what a cut shows in the due tiles of an area, in a pixel format and as a viewer chose (RFC 6143,
+    /// 7.5.1 and 7.5.2), none of whose rectangles is written yet. CopyRect is used where the viewer takes it and was
+    /// sent each of the tiles before.
     pub fn start(cut: &Cut, area: &Rect, format: Format, choice: Choice) -> Self
         requires { IsWithin area.now cut.now.width cut.now.height }
         ensures stands { AnswerStands result cut.now }
@@ -91,11 +93,11 @@ impl Answer {
         self.count
     }
 
-    /// Writes the next rectangle to the front of `out`, and answers how many bytes it has; `None` where all are written. The cut has to be the
-    /// one at which it began. `values` is room for the pixel values of one run.
+    /// Writes the next rectangle to the front of `out`, and answers how many bytes it has; `None` where all are
+    /// written. The cut has to be the one at which it began. `values` is room for the pixel values of one run.
     pub fn next(&mut self, cut: &Cut, values: &mut [u32], out: &mut [u8]) -> Option<usize>
         requires stands { AnswerStands self.old cut.now }
-        requires values { 16 * cut.now.width ≤ length values.old }
+        requires values { TILE_SIDE * cut.now.width ≤ length values.old }
         requires room { 12 + 64 * cut.now.width ≤ length out.old }
         ensures stands { AnswerStands self.new cut.now }
         ensures same { IsSameAnswer self.old self.new }

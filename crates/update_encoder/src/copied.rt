@@ -1,23 +1,11 @@
 //! Whether a part of the screen shows what the part above it does.
 
-ghost use Rattle.std.specs.Prelude.{◌≡◌, ◌+◌, ◌*◌, ◌<◌, ◌≤◌, length, map};
-ghost use Rattle.std.specs.List.{range_with_len};
+ghost use Rattle.std.specs.Prelude.{◌≡◌, ◌*◌, ◌≤◌, length};
 ghost use Rattle.raster.specs.Screen.{IsWithin, value_at};
 ghost use Rattle.update_encoder.specs.Answer.{colours_in, repeats, same_numbers};
 
+use crate::rows::row_of;
 use raster::Rect;
-
-/// A row of an area of a screen.
-fn row_of<'a>(colours: &'a [u32], width: usize, height: usize, area: &Rect, row: usize) -> &'a [u32]
-    requires size { length colours.now ≡ width * height }
-    requires small { (width ≤ 4096) × (height ≤ 4096) }
-    requires within { IsWithin area.now width height }
-    requires row { row < area.now.h }
-    ensures { result.now ≡ map (λ x. value_at width colours.now (area.now.x + x) (area.now.y + row)) (range_with_len 0 area.now.w) }
-{
-    let from = (area.y as usize + row) * width + area.x as usize;
-    &colours[from..from + area.w as usize]
-}
 
 /// Whether two areas of one size show the same.
 fn same_colours(colours: &[u32], width: usize, height: usize, above: &Rect, area: &Rect) -> bool

@@ -1,6 +1,6 @@
 //! One rectangle of an answer (RFC 6143, 7.6.1 and 7.7).
 
-ghost use Rattle.std.specs.Prelude.{◌≡◌, ◌+◌, ◌*◌, ◌<◌, ◌≤◌, ◌^◌, length, IfSome, Some};
+ghost use Rattle.std.specs.Prelude.{◌≡◌, ◌+◌, ◌*◌, ◌<◌, ◌≤◌, ◌^◌, ◌&&◌, true, false, length, IfSome, IfNone, Some};
 ghost use Rattle.pixel_format.specs.PixelFormat.{pixel_len};
 ghost use Rattle.raster.specs.declared.encoding.Encoding.TheVariants.{Raw};
 ghost use Rattle.raster.specs.Encoded.{IsEncoded};
@@ -20,7 +20,7 @@ use raster::{COPY_RECT, Encoding, Rect};
 use reflect_core::Cut;
 use rfb_wire::{Choice, write_rectangle_head};
 
-/// How many bytes the head of a rectangle has.
+/// How many bytes the header of a rectangle has.
 const HEAD: usize = 12;
 
 /// How an answer writes its rectangles.
@@ -32,22 +32,7 @@ pub(crate) struct Style {
     pub(crate) may_copy: bool,
 }
 
-/// Whether an area repeats the one before, if there is one.
-fn repeats_one(cut: &Cut, before: Option<Rect>, area: &Rect) -> bool
-    requires before { LiesOn cut.now.width cut.now.height before }
-    requires within { IsWithin area.now cut.now.width cut.now.height }
-    ensures { result ≡ repeats_one (shown cut.now) before area.now }
-{
-    match before {
-        None => false,
-        Some(above) => {
-            let (width, height) = (cut.width as usize, cut.height as usize);
-            repeats(cut.colours.as_slice(), width, height, &above, area)
-        }
-    }
-}
-
-/// Writes a CopyRect: a head, and the source's top left (RFC 6143, 7.7.2).
+/// Writes a CopyRect: a header, and the source's top left (RFC 6143, 7.7.2).
 fn write_copy(area: &Rect, above: &Rect, out: &mut [u8]) -> usize
     requires room { 16 ≤ length out.old }
     requires above { IsWithin above.now 4096 4096 }
@@ -85,8 +70,8 @@ fn encode(
     }
 }
 
-/// Writes a rectangle in RRE or Hextile, where that has fewer bytes than Raw (RFC 6143, 7.7.3 and 7.7.4). `values` is room for its
-/// pixel values.
+/// Writes a rectangle in RRE or Hextile, where that has fewer bytes than Raw (RFC 6143, 7.7.3 and 7.7.4). `values` is
+/// room for its pixel values.
 fn write_encoded(
     cut: &Cut,
     area: &Rect,
@@ -132,8 +117,30 @@ fn write_raw(cut: &Cut, area: &Rect, format: &Format, out: &mut [u8]) -> usize
 }
 
 impl Style {
-    /// Writes a rectangle of an answer, of which the one before is given, and answers how many bytes it has: a CopyRect of the one before
-    /// where it may be and repeats it, else in the chosen encoding where that saves bytes, else Raw.
+    /// Writes a CopyRect of the rectangle before, where it may be and there is one which the area repeats.
+    fn write_repeated(
+        &self,
+        cut: &Cut,
+        before: Option<Rect>,
+        area: &Rect,
+        out: &mut [u8],
+    ) -> Option<usize>
+        requires before { LiesOn cut.now.width cut.now.height before }
+        requires within { IsWithin area.now cut.now.width cut.now.height }
+        requires room { 16 ≤ length out.old }
+        ensures some { IfSome result (λ n. (n ≡ 16) × ((self.now.may_copy && repeats_one (shown cut.now) before area.now) ≡ true) × IsFront (rectangle_bytes area.now 1 (copy_source before)) out.new n) }
+        ensures none { IfNone result ((self.now.may_copy && repeats_one (shown cut.now) before area.now) ≡ false) }
+    {
+        let above = before?;
+        let (width, height) = (cut.width as usize, cut.height as usize);
+        if !self.may_copy || !repeats(cut.colours.as_slice(), width, height, &above, area) {
+            return None;
+        }
+        Some(write_copy(area, &above, out))
+    }
+
+    /// Writes a rectangle of an answer, of which the one before is given, and answers how many bytes it has: a CopyRect
+    /// of the one before where it may be and repeats it, else in the chosen encoding where that saves bytes, else Raw.
     pub(crate) fn write(
         &self,
         cut: &Cut,
@@ -151,10 +158,8 @@ impl Style {
         ensures some { 12 ≤ result }
         ensures room { result ≤ 12 + 4 * (area.now.w * area.now.h) }
     {
-        if self.may_copy && repeats_one(cut, before, area) {
-            if let Some(above) = before {
-                return write_copy(area, &above, out);
-            }
+        if let Some(len) = self.write_repeated(cut, before, area, out) {
+            return len;
         }
         match write_encoded(cut, area, &self.format, self.choice.kind, values, out) {
             Some(len) => len,

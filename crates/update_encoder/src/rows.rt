@@ -1,12 +1,32 @@
 //! The pixels of a part of the screen.
 
-ghost use Rattle.std.specs.Prelude.{◌≡◌, ◌+◌, ◌*◌, ◌≤◌, length};
+ghost use Rattle.std.specs.Prelude.{◌≡◌, ◌+◌, ◌*◌, ◌<◌, ◌≤◌, length, map};
+ghost use Rattle.std.specs.List.{range_with_len};
 ghost use Rattle.pixel_format.specs.PixelFormat.{pixel_len, row_bytes};
 ghost use Rattle.raster.specs.Screen.{IsWithin, value_at};
 ghost use Rattle.update_encoder.specs.Answer.{colours_in, pixels_in};
 
 use pixel_format::Format;
 use raster::Rect;
+
+/// A row of an area of a screen.
+pub(crate) fn row_of<'a>(
+    colours: &'a [u32],
+    width: usize,
+    height: usize,
+    area: &Rect,
+    row: usize,
+) -> &'a [u32]
+    requires size { length colours.now ≡ width * height }
+    requires small { (width ≤ 4096) × (height ≤ 4096) }
+    requires within { IsWithin area.now width height }
+    requires row { row < area.now.h }
+    ensures across { length result.now ≡ area.now.w }
+    ensures shows { result.now ≡ map (λ x. value_at width colours.now (area.now.x + x) (area.now.y + row)) (range_with_len 0 area.now.w) }
+{
+    let from = (area.y as usize + row) * width + area.x as usize;
+    &colours[from..from + area.w as usize]
+}
 
 /// Writes the pixels of an area of a screen, row after row.
 pub(crate) fn write_rows(
@@ -23,15 +43,11 @@ pub(crate) fn write_rows(
     requires room { length out.old ≡ pixel_len format.now * (area.now.w * area.now.h) }
     ensures { out.new ≡ row_bytes format.now (colours_in (value_at width colours.now) area.now) }
 {
-    let across = area.w as usize;
-    let row_len = format.bytes() * across;
+    let row_len = format.bytes() * area.w as usize;
     for row in 0..area.h as usize {
-        let from = (area.y as usize + row) * width + area.x as usize;
+        let part = row_of(colours, width, height, area, row);
         let start = row * row_len;
-        format.tint_row(
-            &colours[from..from + across],
-            &mut out[start..start + row_len],
-        );
+        format.tint_row(part, &mut out[start..start + row_len]);
     }
 }
 
@@ -52,11 +68,8 @@ pub(crate) fn tint_rows(
 {
     let across = area.w as usize;
     for row in 0..area.h as usize {
-        let from = (area.y as usize + row) * width + area.x as usize;
+        let part = row_of(colours, width, height, area, row);
         let start = row * across;
-        format.tint_values(
-            &colours[from..from + across],
-            &mut values[start..start + across],
-        );
+        format.tint_values(part, &mut values[start..start + across]);
     }
 }

@@ -1,10 +1,10 @@
--- A viewer that is served, and one who follows its answers.
+-- A viewer that is served, and one who follows its answers. The law `viewer_holds_each_answer` is made of it.
 use Rattle.std.proofs.Common.{◌≡◌, ℕ, ◌≤◌, Bool, true, false, List, [], ◌∷◌, ◌++◌, length, take, Option, Some, None, refl, sym, ap, subst, ◌∙◌, arith, append_assoc, append-nil}
 use Rattle.std.specs.Prelude.{◌&&◌, is_some, is_none, nat_le, max}
 use Rattle.std.specs.Prelude.{drop}
 use Rattle.std.proofs.lemmas.List.{length-take, take-append-drop, take-take}
 use Rattle.std.proofs.lemmas.Bool.{and_parts}
-use Rattle.pixel_format.specs.Reading.{Reading, Done, Faulty, Want, whole_of, wants_more}
+use Rattle.byte_reading.specs.Reading.{Reading, Done, Faulty, Want, whole_of, wants_more}
 use Rattle.raster.specs.declared.rect.Rect.{Rect}
 use Rattle.raster.specs.Update.{Update}
 use Rattle.viewer_session.specs.Record.{Entry, Took, Saw, MadeCut, Began, NumbersUpTo}

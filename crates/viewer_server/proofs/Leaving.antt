@@ -1,4 +1,4 @@
--- A viewer leaves, input by input.
+-- A viewer leaves, input by input. `run_viewer` owes that its releases follow what passed.
 use Rattle.std.proofs.Common.{◌≡◌, Bool, true, false, List, [], ◌++◌, Option, None, Ok, Err, inl, inr, refl, sym, ap, ◌∙◌, append_assoc, append-nil}
 use Rattle.pixel_format.specs.declared.fault.Fault.{Fault}
 use Rattle.roles.specs.Allowed.{Input}

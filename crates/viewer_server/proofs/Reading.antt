@@ -1,4 +1,5 @@
--- What came is read, up to a message whose input waits.
+-- What came is read, up to a message whose input waits. `run_viewer` keeps the bytes after it until the sink has the
+-- input.
 use Rattle.std.proofs.Common.{◌≡◌, ℕ, ◌+◌, ◌≤◌, ◌⊎◌, Bool, true, false, cond, List, [], ◌∷◌, ◌++◌, length, take, drop, Option, Some, None, inl, inr, refl, sym, ap, subst, ◌∙◌, arith, append-nil, length-append}
 use Rattle.std.specs.Prelude.{is_some}
 use Rattle.std.proofs.lemmas.List.{take-append-drop, drop-drop, length-take}
@@ -71,7 +72,7 @@ waits_by : (piece : List ℕ) (used : ℕ) (mid : State) (after : Unpassed) (fin
 waits_by piece used mid after fine (inl all) e f = inl (e ∙ none_dropped used piece all.0)
 waits_by piece used mid after fine (inr w) e f = inr (ap is_some f ∙ w)
 
--- So many bytes were used.
+-- This many bytes were used.
 pub reads_up_to : (old mid new : State) (before after : Unpassed) (piece : List ℕ) (used : ℕ) → before.waiting ≡ None → before.unread ≡ piece → FeedsUpTo old mid piece used → new ≡ record mid { waiting = None }
     → after.unread ≡ drop used piece → after.waiting ≡ mid.waiting → Reads old new before after
 reads_up_to old mid new before after piece used none same fed now rest waits =

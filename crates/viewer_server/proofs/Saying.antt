@@ -1,4 +1,4 @@
--- Giving what waits, and taking what came.
+-- Giving what waits, and taking what came. `run_viewer` is turns of both.
 use Rattle.std.proofs.Common.{◌≡◌, ℕ, zero, suc, ◌+◌, ◌<◌, ◌≤◌, ◌^◌, ◌⊎◌, Bool, false, Result, List, [], ◌∷◌, ◌++◌, length, take, drop, Err, inl, inr, refl, sym, ap, subst, ◌∙◌, arith, append_assoc, append-nil, length-drop, length-append}
 use Rattle.std.specs.Prelude.{min, ◌==◌}
 use Rattle.std.proofs.Math.Seq.{take-add}
@@ -48,7 +48,7 @@ says_none st link =
 further : (xs : List ℕ) (count n : ℕ) → take (count + n) xs ≡ take count xs ++ take n (drop count xs)
 further xs count n = take-add count n xs
 
--- So many more of them were given.
+-- This many more of them were given.
 pub says_on : (a b c : State) (old now new : LinkState) (n : ℕ) → Says a b old now → n ≤ length b.unsent → new ≡ record now { given = now.given ++ take n b.unsent } → (cut_same : c ≡ record b { piece = c.piece; unsent = drop n b.unsent })
     → ((s : Setup) (p : Viewer) → Stands s b p → Stands s c (after_writing n p)) → Says a c old new
 says_on a b c old now new n k le e f stands =

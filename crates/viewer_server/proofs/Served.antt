@@ -1,4 +1,4 @@
--- A viewer was served, and has left.
+-- A viewer was served, and has left. `run_viewer` owes both of the whole call.
 use Rattle.std.specs.Prelude.{is_some}
 use Rattle.std.proofs.Common.{◌≡◌, ℕ, ◌⊎◌, true, false, List, [], ◌++◌, Option, Ok, Err, Result, inl, inr, refl, sym, ap, subst, ◌∙◌, append_assoc}
 use Rattle.pixel_format.specs.declared.fault.Fault.{Fault}

@@ -1,4 +1,4 @@
--- Serving a viewer, act by act.
+-- Serving a viewer, act by act. `run_viewer` owes it of all acts together.
 use Rattle.std.proofs.Common.{◌≡◌, ℕ, ◌-◌, ◌<◌, ◌≤◌, ◌⊎◌, Bool, true, false, cond, List, [], ◌∷◌, ◌++◌, length, take, Option, Some, None, Result, Ok, Err, inl, inr, refl, sym, ap, subst, ◌∙◌, arith, append_assoc, append-nil, length-append, true≢false}
 use Rattle.std.specs.Prelude.{not, if◌then◌else◌, ◌&&◌, ◌||◌, ◌==◌, is_some, is_none, nat_lt, nat_le, unwrap_or, max}
 use Rattle.std.proofs.Math.Seq.{take-add}
@@ -6,7 +6,7 @@ use Rattle.std.proofs.lemmas.List.{take-append-le, length-take}
 use Rattle.std.proofs.lemmas.Bool.Decides.{nat_tests}
 use Rattle.pixel_format.specs.declared.fault.Fault.{Fault}
 use Rattle.pixel_format.specs.declared.fault.Fault.TheVariants.{LinkEnded, LinkFailed}
-use Rattle.pixel_format.specs.Reading.{Reading, Done, Faulty, Want, whole_of, fault_of}
+use Rattle.byte_reading.specs.Reading.{Reading, Done, Faulty, Want, whole_of, fault_of}
 use Rattle.rfb_wire.specs.ClientMessage.{ClientMessage}
 use Rattle.raster.specs.declared.rect.Rect.{Rect}
 use Rattle.raster.specs.Update.{Update, bells}
@@ -550,7 +550,7 @@ pub served_fault : {S : Type 0} (looks : S → ℕ → S → Type 0) (moves refu
 served_fault looks moves refused may_end was_set may_refuse a b us most s p st box x y is_offered fault old new k unread at =
     served_by looks moves refused may_end was_set may_refuse a b b us most s p st box x y is_offered (Err fault) old new k unread (inl (refl, inl (sym (fault_stands s st (without_input (viewer_after s us p k.acts)) k.stands) ∙ at)))
 
--- Input went on no further: the sink refused it for good, or the bytes behind it are at fault.
+-- Input went on no further: the sink refused it for good, or the bytes after it are at fault.
 pub served_relay : {S : Type 0} (looks : S → ℕ → S → Type 0) (moves refused : S → S → Type 0) (may_end was_set : Type 0) (may_refuse : Fault → Type 0) (a b : S) (us : List Update) (most : ℕ) (s : Setup) (p : Viewer) (st next : State) (box after : Unpassed) (x y z : List Input) (fault : Fault) (old now : LinkState)
     → IsServing looks moves a b us most s p st box x y false old now → WaitsIfLeft after → IsSameSession st next → GoesOn may_refuse (Err fault) st next box after y z
     → HasServed looks moves refused may_end was_set may_refuse a b us s p next after x z (Err fault) old now

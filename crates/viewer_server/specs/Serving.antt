@@ -31,12 +31,12 @@ MayBe s us p (Turn looked cut) = (may_look s p ≡ true) × (looked ≤ length u
 MayBe s us p (Written count) = p.written + count ≤ length (out_bytes s p)
 MayBe s us p Passed = is_some p.waiting ≡ true
 
--- Each of them may be done behind those before it.
+-- Each of them may be done after those before it.
 abbrev pub AllMayBe : Setup → List Update → Viewer → List Act → Type 0
 AllMayBe s us p [] = Unit {0}
 AllMayBe s us p (act ∷ acts) = AllMayBe s us p acts × MayBe s us (viewer_after s us p acts) act
 
--- The looks of the turns are all that was done to the source, each with the source's own reply, but for the cuts behind
+-- The looks of the turns are all that was done to the source, each with the source's own reply, but for the cuts after
 -- them.
 abbrev pub IsShown : {S : Type 0} → (S → ℕ → S → Type 0) → (S → S → Type 0) → S → List Act → S → Type 0
 IsShown {S} looks moves old [] new = new ≡ old
@@ -61,7 +61,7 @@ has_turned (Saw number ∷ es) = true
 has_turned (MadeCut number ∷ es) = has_turned es
 has_turned (Began area number bytes ∷ es) = has_turned es
 
--- All is done for the viewer: it stands between two messages behind its hello, no input waits, a turn was had since the
+-- All is done for the viewer: it stands between two messages after its hello, no input waits, a turn was had since the
 -- last message, and all bytes of hello and answers were written.
 pub record IsDone (s : Setup) (p : Viewer) : Type 0 where
   pub between : IsBetween p
@@ -69,7 +69,7 @@ pub record IsDone (s : Setup) (p : Viewer) : Type 0 where
   pub turned : has_turned p.entries ≡ true
   pub written : p.written ≡ length (out_bytes s p)
 
--- The link ended while bytes were unsent, or elsewhere than between two messages behind the hello; or it failed.
+-- The link ended while bytes were unsent, or elsewhere than between two messages after the hello; or it failed.
 abbrev pub HaltsBy : Fault → Setup → Viewer → (failed_old failed_new : ℕ) → (ended_old ended_new : ℕ) → Type 0
 HaltsBy LinkEnded s p failed_old failed_new ended_old ended_new = HasRisen ended_old ended_new × ((p.written < length (out_bytes s p)) ⊎ (IsBetween p → ⊥))
 HaltsBy LinkFailed s p failed_old failed_new ended_old ended_new = HasRisen failed_old failed_new
@@ -108,8 +108,8 @@ EachAnswerHolds s us p =
     → (n ≤ length us) × NumbersUpTo n earlier × HoldsArea (follower s.w s.h (received (Began area n bytes ∷ earlier))) area (take n us)
 
 -- A viewer was served: the acts that were done for it are such as may be done; all bytes that were taken are read, but
--- for those behind a message whose input waits; what it was given is the beginning of its hello and answers that counts
--- as written; one who follows its answers holds what was asked for; and what the sink took is of its input.
+-- for those after a message whose input waits; what it was given is the beginning of its hello and answers that counts
+-- as written; one who follows its answers holds what was asked for; and what the sink took is its input.
 pub record Serves {S : Type 0} (looks : S → ℕ → S → Type 0) (moves refused : S → S → Type 0) (may_end was_set : Type 0) (may_refuse : Fault → Type 0) (source_old source_new : S) (us : List Update) (s : Setup) (p : Viewer)
     (sent_old sent_new : List Input) (answer : Result (Unit {0}) Fault) (old new : LinkState) : Type 0 where
   pub acts : List Act

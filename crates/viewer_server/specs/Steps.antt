@@ -52,7 +52,7 @@ pub record Reads (old new : State) (before after : Unpassed) : Type 0 where
 abbrev pub ReadsIfAny : (old new : State) → (before after : Unpassed) → Type 0
 ReadsIfAny old new before after = ((new ≡ old) × (after ≡ before)) ⊎ Reads old new before after
 
--- Input went on, and bytes were read behind it; or the sink refused for good, or the session is at this fault.
+-- Input went on, and bytes were read after it; or the sink refused for good, or the session is at this fault.
 abbrev pub GoesOn : (may_refuse : Fault → Type 0) → Result Bool Fault → (old new : State) → (before after : Unpassed) → (sent_old sent_new : List Input) → Type 0
 GoesOn may_refuse (Ok is_full) old new before after sent_old sent_new = (mid : Unpassed) × Passes may_refuse (Ok is_full) before mid sent_old sent_new × ReadsIfAny old new mid after
 GoesOn may_refuse (Err fault) old new before after sent_old sent_new =
@@ -65,7 +65,7 @@ FillsAs took.Nothing after old new = (after ≡ all_passed) × (new ≡ old)
 FillsAs took.End after old new = (after ≡ all_passed) × (new ≡ with_end old)
 FillsAs took.Failed after old new = (after ≡ all_passed) × (new ≡ with_failure old)
 
--- So many of the unsent bytes were given.
+-- This many of the unsent bytes were given.
 pub record Says (before after : State) (old new : LinkState) : Type 0 where
   pub count : ℕ
   pub within : count ≤ length before.unsent

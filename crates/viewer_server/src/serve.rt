@@ -15,7 +15,7 @@ use roles::InputSink;
 use std::sync::Wait;
 use viewer_session::Session;
 
-// Has a turn, unless bytes are unsent. It answers whether none were.
+/// Has a turn, unless bytes are unsent. It answers whether none were.
 fn offer<S: ScreenSource>(source: &mut S, session: &mut Session) -> Result<bool, Fault>
     requires { (S.width source.old ≡ session.old.width) × (S.height source.old ≡ session.old.height) }
     ensures source { (S.width source.new ≡ S.width source.old) × (S.height source.new ≡ S.height source.old) }
@@ -30,7 +30,7 @@ fn offer<S: ScreenSource>(source: &mut S, session: &mut Session) -> Result<bool,
     Ok(true)
 }
 
-// Gives what waits to be sent, as far as the link takes it now.
+/// Gives what waits to be sent, as far as the link takes it now.
 fn say<L: Link>(link: &mut L, session: &mut Session) -> Result<(), Fault>
     ensures says { Says session.old session.new (L.state link.old) (L.state link.new) }
     ensures why { SaysNoMore result session.new (L.state link.old) (L.state link.new) }
@@ -46,7 +46,7 @@ fn say<L: Link>(link: &mut L, session: &mut Session) -> Result<(), Fault>
     Ok(())
 }
 
-// Passes on an input that waits, and reads the bytes behind it. It answers whether the sink is full.
+/// Passes on an input that waits, and reads the bytes after it. It answers whether the sink is full.
 fn relay<K: InputSink>(
     sink: &mut K,
     session: &mut Session,
@@ -63,8 +63,8 @@ fn relay<K: InputSink>(
     Ok(is_full)
 }
 
-// Takes what has come and reads it, and answers whether there may be more: not where the link ended between two
-// messages with nothing unsent.
+/// Takes what has come and reads it, and answers whether there may be more: not where the link ended between two
+/// messages with nothing unsent.
 fn hear<L: Link>(link: &mut L, session: &mut Session, inbox: &mut Inbox) -> Result<bool, Fault>
     requires { inbox.old ≡ all_passed }
     ensures same { IsSameSession session.old session.new }

@@ -1,7 +1,7 @@
--- What a viewer's bytes keep.
+-- What a viewer's bytes keep. What stands of a viewer is kept through its messages by it.
 use Rattle.std.proofs.Common.{◌≡◌, ℕ, Bool, true, false, cond, List, [], ◌∷◌, Option, Some, None, refl}
 use Rattle.std.specs.Prelude.{is_some}
-use Rattle.pixel_format.specs.Reading.{Reading, Done, Faulty, Want, step, wants_more}
+use Rattle.byte_reading.specs.Reading.{Reading, Done, Faulty, Want, step, wants_more}
 use Rattle.rfb_wire.specs.ClientMessage.{ClientMessage, client_message}
 use Rattle.roles.specs.declared.role.Role.{Role}
 use Rattle.roles.specs.Allowed.{Input, keys_after, passes}

@@ -1,9 +1,9 @@
--- A piece of a viewer's bytes is taken, message by message.
+-- A piece of a viewer's bytes is taken, message by message. `Session::feed` stops where an input waits.
 use Rattle.std.proofs.Common.{◌≡◌, ℕ, Bool, true, false, List, [], ◌∷◌, ◌++◌, drop, Option, Some, None, Err, refl, sym, ap, subst, ◌∙◌, append_assoc, append-nil, inl, inr, ◌⊎◌}
 use Rattle.std.specs.Prelude.{if◌then◌else◌, is_some, option_map}
 use Rattle.pixel_format.specs.declared.fault.Fault.{Fault}
-use Rattle.pixel_format.specs.Reading.{Reading, Done, Faulty, Want, Gives, after, taken, whole_of, fault_of, wants_more, renewed}
-use Rattle.pixel_format.proofs.ReadingLaws.{after-faulty}
+use Rattle.byte_reading.specs.Reading.{Reading, Done, Faulty, Want, Gives, after, taken, whole_of, fault_of, wants_more, renewed}
+use Rattle.byte_reading.proofs.ReadingLaws.{after-faulty}
 use Rattle.rfb_wire.specs.ClientMessage.{ClientMessage, without_text}
 use Rattle.rfb_wire.specs.ClientReader.{ahead}
 use Rattle.rfb_wire.specs.Greeting.{Greeting}
@@ -96,7 +96,7 @@ read_on s now mid q r both e reads w short =
     } in
     subst (λ (st : State). Stands s st (with_reading q r)) (sym e) fresh
 
--- A viewer behind its hello, with these marks.
+-- A viewer after its hello, with these marks.
 past_with : (s : Setup) (st : State) (q : Viewer) (marks : List Bool) → Stands s st q → is_greeted st ≡ true → st.waiting ≡ None → with_lost q marks ≡ past_hello (with_lost q marks)
 past_with s st q marks k greeted none = ap (λ (t : Viewer). with_lost t marks) (past s st q k.serves greeted (k.relays.waiting ∙ none))
 

@@ -1,9 +1,9 @@
--- What a viewer's bytes make of it, message by message.
+-- What a viewer's bytes make of it, message by message. A session keeps it by its fields.
 use Rattle.std.proofs.Common.{◌≡◌, ℕ, ◌<◌, ◌≤◌, Ok, true, List, [], ◌∷◌, length, drop, Option, Some, None, refl, sym, ap, ◌∙◌, arith, inl, inr}
 use Rattle.std.specs.Prelude.{option_map}
 use Rattle.pixel_format.specs.declared.fault.Fault.{Fault}
-use Rattle.pixel_format.specs.Reading.{Reading, Done, Faulty, Want, after, taken, fault_of, whole_of, wants_more, renewed, Feeds, GivesWhole}
-use Rattle.pixel_format.proofs.ReadingLaws.{after-done, after-faulty, taken-le, taken-some}
+use Rattle.byte_reading.specs.Reading.{Reading, Done, Faulty, Want, after, taken, fault_of, whole_of, wants_more, renewed, Feeds, GivesWhole}
+use Rattle.byte_reading.proofs.ReadingLaws.{after-done, after-faulty, taken-le, taken-some}
 use Rattle.rfb_wire.specs.ClientMessage.{ClientMessage, without_text}
 use Rattle.rfb_wire.specs.Message.{viewer_form, losing, FeedsOrLoses}
 use Rattle.rfb_wire.proofs.Losing.{losing-whole}
@@ -22,7 +22,7 @@ done_is x y e = cc
 is_not : (f : Fault) (m : ClientMessage) → Faulty f ≡ Done m → ⊥
 is_not f m e = cc
 
--- The bytes up to the end of a message: it is taken, and the bytes behind it are left.
+-- The bytes up to the end of a message: it is taken, and the bytes after it are left.
 whole_from : (p : Viewer) (r : Reading ClientMessage) (bs : List ℕ) (m : ClientMessage) → after r bs ≡ Done m
     → after_bytes (after_reading (past_hello p) r) bs ≡ after_bytes (with_message (past_hello p) (marked p.lost m)) (drop (taken r bs) bs)
 whole_from p (Done x) bs m e =
@@ -57,7 +57,7 @@ goes_on p (Faulty f) bs e = ap (λ r. after_bytes (past_hello (with_reading p r)
 goes_on p (Want more) [] e = refl
 goes_on p (Want more) (b ∷ bs) e = goes_on_from p (more b) bs e
 
--- Behind a fault nothing changes.
+-- After a fault nothing changes.
 pub stays : (p : Viewer) (f : Fault) (bs : List ℕ) → after_bytes (past_hello (with_reading p (Faulty f))) bs ≡ past_hello (with_reading p (Faulty f))
 stays p f [] = refl
 stays p f (b ∷ bs) = stays p f bs

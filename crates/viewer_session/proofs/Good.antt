@@ -1,6 +1,7 @@
--- What stands of a viewer whatever its bytes: its record, and what it is sent.
+-- What stands of a viewer whatever its bytes: its record, and what it is sent. The laws over whole schedules begin from
+-- it.
 use Rattle.std.proofs.Common.{◌≡◌, ℕ, ◌≤◌, Bool, true, false, cond, List, [], ◌∷◌, ◌++◌, length, Option, refl, ap, sym, ◌∙◌}
-use Rattle.pixel_format.specs.Reading.{Reading, Done, Faulty, Want, Gives, step}
+use Rattle.byte_reading.specs.Reading.{Reading, Done, Faulty, Want, Gives, step}
 use Rattle.raster.specs.Update.{Update}
 use Rattle.rfb_wire.specs.ClientMessage.{ClientMessage, SetPixelFormat, SetEncodings, Ask, Key, Pointer, CutText, LostText, client_message, without_text}
 use Rattle.roles.specs.declared.role.Role.{Role}

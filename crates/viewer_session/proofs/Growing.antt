@@ -1,8 +1,8 @@
--- What a viewer's bytes make of what it is sent.
+-- What a viewer's bytes make of what it is sent. What was said stays said.
 use Rattle.std.proofs.Common.{◌≡◌, ℕ, ◌+◌, Bool, true, false, List, [], ◌++◌, Option, Some, None, refl, ap, sym, ◌∙◌, append-nil, append_assoc}
 use Rattle.std.specs.Prelude.{is_some, if◌then◌else◌}
 use Rattle.pixel_format.specs.declared.fault.Fault.{Fault}
-use Rattle.pixel_format.specs.Reading.{Reading, Done, Faulty, Want, step, fault_of, wants_more}
+use Rattle.byte_reading.specs.Reading.{Reading, Done, Faulty, Want, step, fault_of, wants_more}
 use Rattle.rfb_wire.specs.ClientMessage.{ClientMessage}
 use Rattle.rfb_wire.specs.Greeting.{Greeting}
 use Rattle.rfb_wire.specs.Handshake.{said_to_viewer}
@@ -61,7 +61,7 @@ grown_reading s p (Done m) e =
 grown_reading s p (Faulty f) e = record { looked = refl; written = refl; out = grows_none (out_bytes s p); early = e; numbers = λ m n. n; back = λ m n. n }
 grown_reading s p (Want more) e = record { looked = refl; written = refl; out = grows_none (out_bytes s p); early = e; numbers = λ m n. n; back = λ m n. n }
 
--- What is said in a hello by now, and the answers behind it.
+-- What is said in a hello by now, and the answers after it.
 abbrev said_and : Setup → Bool → ℕ → List ℕ → List ℕ
 said_and s greet count after = (if greet then said_to_viewer s.w s.h s.name count else []) ++ after
 

@@ -1,12 +1,12 @@
--- A viewer's hello in its session, byte by byte.
+-- A viewer's hello in its session, byte by byte. A session may begin before its handshake.
 use Rattle.std.proofs.Common.{◌≡◌, ℕ, zero, suc, ◌+◌, ◌<◌, ◌≤◌, Bool, true, false, List, [], ◌∷◌, ◌++◌, length, take, drop, get_or, Option, Some, None, refl, sym, ap, subst, ◌∙◌, arith, length-append, append-nil, drop-cons, add-one}
 use Rattle.std.specs.Prelude.{is_some, is_none, nat_le, if◌then◌else◌}
 use Rattle.std.proofs.lemmas.Bool.Decides.{nat_tests}
 use Rattle.std.proofs.lemmas.List.{drop-append-le}
 use Rattle.std.proofs.Math.Seq.{drop-append_seam}
 use Rattle.pixel_format.specs.declared.fault.Fault.{Fault}
-use Rattle.pixel_format.specs.Reading.{Reading, Done, Faulty, Want, step, taken, whole_of, fault_of, wants_more}
-use Rattle.pixel_format.proofs.ReadingLaws.{taken-cons, taken-nil}
+use Rattle.byte_reading.specs.Reading.{Reading, Done, Faulty, Want, step, taken, whole_of, fault_of, wants_more}
+use Rattle.byte_reading.proofs.ReadingLaws.{taken-cons, taken-nil}
 use Rattle.rfb_wire.specs.Greeting.{Greeting, ahead, to_send}
 use Rattle.rfb_wire.specs.Handshake.{version, server_init, said_to_viewer}
 use Rattle.rfb_wire.proofs.Greetings.{greeting_steps}
@@ -126,7 +126,7 @@ says g b o e = ap (λ q. if is_none q then drop g.sent (said_to_viewer g.w g.h g
 one_more : (xs : List ℕ) (b : ℕ) → length (xs ++ b ∷ []) ≡ length xs + 1
 one_more xs b = length-append xs (b ∷ [])
 
--- It is what was said before, and something behind it.
+-- It is what was said before, and something after it.
 pub said_further : (g : Greeting) (b : ℕ) → g.sent ≡ length (said_to_viewer g.w g.h g.name (length g.begun))
     → (drop g.sent (said_to_viewer g.w g.h g.name (length (g.begun ++ b ∷ [])))) ≡ (said_grows g.w g.h g.name (length g.begun)).0
 said_further g b sent =
@@ -209,7 +209,7 @@ says_as s p g b greets said sent =
     ∙ (ap (λ h. (said_grows s.w h g.name p.said).0) greets.h
     ∙ ap (λ name. (said_grows s.w s.h name p.said).0) greets.name)))
 
--- A fault is answered by nothing, any other byte by what comes behind.
+-- A fault is answered by nothing, any other byte by what comes after.
 serves_byte_by : (s : Setup) (st : State) (p : Viewer) (g : Greeting) (b : ℕ) (o : Option Fault) (piece : List ℕ) → Serves s st p → GreetsAs s g p.greet p.hello p.said p.said_after → wants_more p.hello ≡ true
     → g.sent ≡ length (said_to_viewer g.w g.h g.name (length g.begun)) → step p.hello b ≡ ahead (with_byte g b) → fault_of (ahead (with_byte g b)) ≡ o
     → Serves s (record st { greeting = Some (with_said (with_byte g b)); piece = piece; unsent = st.unsent ++ to_send (with_byte g b) })
@@ -282,7 +282,7 @@ stands_byte s st p g b piece is wants sent k =
 waits_for_none : (s : Setup) (q : Viewer) (b : ℕ) (bs : List ℕ) → q.waiting ≡ None → after_bytes q (b ∷ bs) ≡ after_bytes (after_byte q b) bs
 waits_for_none s q b bs none = ap (λ (o : Option Input). if is_some o then record q { unread = b ∷ bs } else after_bytes (after_byte q b) bs) none
 
--- The marks of texts are for what comes behind the hello.
+-- The marks of texts are for what comes after the hello.
 marked_on : (s : Setup) (q : Viewer) (b : ℕ) (more : List Bool) → wants_more q.hello ≡ true → after_byte (record q { lost = more }) b ≡ record (after_byte q b) { lost = more }
 marked_on s q b more wants = takes_it s (record q { lost = more }) b wants ∙ ap (λ (t : Viewer). record t { lost = more }) (sym (takes_it s q b wants))
 
@@ -307,7 +307,7 @@ at_fault (Done x) f e = absurd cc
 at_fault (Faulty g) f e = let same : g ≡ f = cc in ap Faulty same
 at_fault (Want more) f e = absurd cc
 
--- Behind a fault of the hello nothing changes.
+-- After a fault of the hello nothing changes.
 stays_at : (s : Setup) (p : Viewer) (f : Fault) (bs : List ℕ) → after_bytes (record p { hello = Faulty f; waiting = None }) bs ≡ record p { hello = Faulty f; waiting = None; unread = [] }
 stays_at s p f [] = refl
 stays_at s p f (b ∷ bs) = stays_at s p f bs

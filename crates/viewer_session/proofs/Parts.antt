@@ -1,4 +1,4 @@
--- Turns, from their parts.
+-- Turns, from their parts. `Session::turn` is a look and then a cut.
 use Rattle.std.proofs.Common.{◌≡◌, ℕ, ◌+◌, ◌≤◌, Bool, true, false, List, [], ◌++◌, length, Option, Some, None, refl, sym, ap, subst, ◌∙◌, arith, append_assoc, length-append}
 use Rattle.std.specs.Prelude.{unwrap_or, Result, Ok, Err, IfOk}
 use Rattle.std.proofs.lemmas.List.{append-nil}

@@ -1,6 +1,6 @@
--- What of a viewer's input waits or was handed out, act by act.
+-- What of a viewer's input waits or was handed out, act by act. The law `input_is_allowed` is made of it.
 use Rattle.std.proofs.Common.{◌≡◌, ℕ, Bool, true, false, cond, List, [], ◌∷◌, ◌++◌, length, take, Option, Some, None, refl, sym, ap, subst, ◌∙◌, append-nil, append_assoc}
-use Rattle.pixel_format.specs.Reading.{Reading, Done, Faulty, Want, step}
+use Rattle.byte_reading.specs.Reading.{Reading, Done, Faulty, Want, step}
 use Rattle.raster.specs.declared.rect.Rect.{Rect}
 use Rattle.raster.specs.Update.{Update}
 use Rattle.rfb_wire.specs.ClientMessage.{ClientMessage, client_message}

@@ -1,4 +1,4 @@
--- What is written at the front of a piece.
+-- What is written at the front of a piece. A piece's room is taken once, and used again.
 use Rattle.std.proofs.Common.{◌≡◌, ℕ, ◌≤◌, List, ◌++◌, length, take, drop, ap, ◌∙◌, arith, append_assoc, length-append}
 use Rattle.std.proofs.lemmas.List.{take-take}
 use Rattle.std.proofs.Math.Seq.{take-append_seam}

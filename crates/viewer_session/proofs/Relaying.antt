@@ -1,4 +1,5 @@
--- A viewer's input in its session: what passes waits, and what is held down is released.
+-- A viewer's input in its session: what passes waits, and what is held down is released. A session keeps one input, and
+-- what is held.
 use Rattle.std.proofs.Common.{◌≡◌, ℕ, Bool, true, false, List, [], ◌∷◌, ◌++◌, map, Option, Some, None, refl, sym, ap, subst, ◌∙◌}
 use Rattle.std.specs.Prelude.{if◌then◌else◌}
 use Rattle.std.specs.List.{filter_map}

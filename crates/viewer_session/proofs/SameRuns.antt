@@ -1,4 +1,5 @@
--- The runs of tiles depend on which tiles of the screen are due, and so does whether there are any.
+-- The runs of tiles depend on which tiles of the screen are due, and so does whether there are any. A cut marks tiles
+-- of the screen alone.
 use Rattle.std.proofs.Common.{◌≡◌, ℕ, zero, suc, ◌+◌, ◌-◌, ◌*◌, ◌<◌, ◌≤◌, Bool, true, false, cond, List, [], ◌∷◌, ◌++◌, length, refl, sym, ap, subst, ◌∙◌, arith}
 use Rattle.std.specs.Prelude.{map, filter, take_while, ◌&&◌, ◌||◌, ◌==◌, not, max}
 use Rattle.std.specs.List.{flat_map, list_all, list_any, range_with_len}
@@ -14,6 +15,7 @@ use Rattle.tiles.specs.Touched.{runs, runs_of_row, run_from, begins_run}
 use Rattle.tiles.specs.Brings.{IsPart, some_holds}
 use Rattle.tiles.proofs.RunLaws.{InSome, runs_cover, runs_within}
 use Rattle.tiles.proofs.Brought.{runs_bring_the_due}
+use Rattle.raster.specs.declared.tile.TheConstants.{TILE_SIDE}
 
 -- ---- tests that agree on a range
 
@@ -79,7 +81,7 @@ row_same p q across row e =
     let first : ℕ = row * across in
     pick_same (run_from p across row) (run_from q across row) (begins_run p first) (begins_run q first) across first
     (λ t lo hi. (
-      ap (λ ts. record { x = (t - first) * 16; y = row * 16; w = length ts * 16; h = 16 })
+      ap (λ ts. record { x = (t - first) * TILE_SIDE; y = row * TILE_SIDE; w = length ts * TILE_SIDE; h = TILE_SIDE })
           (prefix_same p q (first + across - t) t (λ u from to. e u (omega (arith, lo, from)) (omega (arith, lo, hi, to)))),
       begins_by p q first t (t == first) refl (e t lo hi)
           (λ later. (let behind : first < t = not_first t first later lo in e (t - 1) (omega (arith, behind)) (omega (arith, behind, hi)))),

@@ -1,4 +1,4 @@
--- What waits to be sent, piece by piece.
+-- What waits to be sent, piece by piece. `out` shows the beginning of it.
 use Rattle.std.proofs.Common.{◌≡◌, ℕ, ◌≤◌, List, [], ◌∷◌, ◌++◌, length, take, drop, refl, sym, ap, ◌∙◌, arith, length-append}
 use Rattle.std.proofs.lemmas.List.{length-take, length-drop}
 use Rattle.reflect_core.specs.declared.cut.Cut.{Cut}
@@ -12,7 +12,7 @@ pub nothing : (xs : List ℕ) → length xs ≡ 0 → xs ≡ []
 nothing [] e = refl
 nothing (x ∷ xs) e = absurd (omega arith)
 
--- Where all that waits is the piece, nothing comes behind it.
+-- Where all that waits is the piece, nothing comes after it.
 pub none_behind : (piece more : List ℕ) → piece ++ more ≡ piece → more ≡ []
 none_behind piece more e = nothing more (omega (arith, ap length e, length-append piece more))
 

@@ -1,11 +1,11 @@
--- What a session's state stands for, call by call.
+-- What a session's state stands for, call by call. Each call keeps that by these.
 use Rattle.std.proofs.Common.{◌≡◌, ℕ, ◌-◌, ◌≤◌, Bool, true, false, cond, List, ◌∷◌, length, drop, Option, Some, None, refl, sym, ap, subst, ◌∙◌, arith, inl, inr}
 use Rattle.std.proofs.lemmas.Bool.Decides.{nat_tests}
 use Rattle.std.specs.Prelude.{if◌then◌else◌, is_some, IsTrue}
 use Rattle.std.proofs.lemmas.List.{length-drop, drop-drop}
 use Rattle.pixel_format.specs.declared.fault.Fault.{Fault}
 use Rattle.pixel_format.specs.PixelFormat.{PixelFormat}
-use Rattle.pixel_format.specs.Reading.{Reading, fault_of, whole_of}
+use Rattle.byte_reading.specs.Reading.{Reading, fault_of, whole_of}
 use Rattle.raster.specs.declared.rect.Rect.{Rect}
 use Rattle.raster.specs.Screen.{common, whole_screen, meets, is_empty, tile_rect}
 use Rattle.rfb_wire.specs.ClientMessage.{ClientMessage, SetPixelFormat, Ask, Key, Pointer, CutText, LostText}
@@ -187,7 +187,7 @@ begins_as : (now reading : Reading ClientMessage) → now ≡ viewer_form → Is
 begins_as now reading begins (inl e) = sym e ∙ begins
 begins_as now reading begins (inr e) = absurd (nothing_lost reading (sym begins ∙ e))
 
--- A reader at the beginning of a message, behind the hello.
+-- A reader at the beginning of a message, after the hello.
 pub between_served : (s : Setup) (st : State) (p : Viewer) (b : Bool) → is_greeted st ≡ true → (IsTrue b → IsOrLoses (ahead st.reader) viewer_form) → (IsOrLoses (ahead st.reader) viewer_form → IsTrue b)
     → (IsTrue b → ahead st.reader ≡ viewer_form) → Serves s st p → (IsTrue b → IsBetween p) × (IsBetween p → IsTrue b)
 between_served s st p b greeted to from begins k = (

@@ -1,9 +1,9 @@
--- A viewer that reads its stream reads what its session cut.
+-- A viewer that reads its stream reads what its session cut. So a viewer sees what the promise says of its record.
 use Rattle.std.proofs.Common.{◌≡◌, ℕ, zero, suc, ◌+◌, ◌≤◌, Bool, true, false, cond, List, [], ◌∷◌, ◌++◌, length, take, Option, Some, None, refl, ap, sym, ◌∙◌, subst, arith, append_assoc}
 use Rattle.std.specs.Prelude.{nat_lt}
 use Rattle.std.proofs.lemmas.List.{append-nil, take-append-le, take_all}
 use Rattle.pixel_format.specs.PixelFormat.{PixelFormat, host_format}
-use Rattle.pixel_format.specs.Reading.{Reading, Done, Faulty, Want, step, Spells}
+use Rattle.byte_reading.specs.Reading.{Reading, Done, Faulty, Want, step, Spells}
 use Rattle.raster.specs.declared.rect.Rect.{Rect}
 use Rattle.raster.specs.Update.{Paint, Update, Paints, Cut, bells, last_text, last_text_from, NumberedText}
 use Rattle.raster.specs.Update as update

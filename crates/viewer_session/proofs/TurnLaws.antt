@@ -1,4 +1,4 @@
--- What a turn begins to send.
+-- What a turn begins to send. `Session::turn_at` owes the bytes of the definitions.
 use Rattle.std.proofs.Common.{◌≡◌, ℕ, zero, suc, ◌^◌, ◌<◌, ◌≤◌, Bool, true, false, List, [], ◌∷◌, ◌++◌, length, take, drop, Option, Some, None, refl, sym, ap, subst, ◌∙◌, arith, length-append, append_assoc, ◌⊎◌, inl, inr}
 use Rattle.std.specs.Prelude.{◌&&◌, ◌||◌, not, is_none, is_some, if◌then◌else◌, unwrap_or, ◌==◌, nat_lt, nat_le}
 use Rattle.std.specs.Int.{w16, from_be_bytes}
@@ -9,7 +9,7 @@ use Rattle.std.proofs.lemmas.Nat.{from_be_bytes-to_be_bytes_2}
 use Rattle.std.proofs.lemmas.List.{length-take, length-drop, take-take, take_all}
 use Rattle.std.proofs.Math.Seq.{drop-append_seam}
 use Rattle.pixel_format.specs.PixelFormat.{PixelFormat}
-use Rattle.pixel_format.specs.Reading.{Reading, whole_of}
+use Rattle.byte_reading.specs.Reading.{Reading, whole_of}
 use Rattle.raster.specs.declared.rect.Rect.{Rect}
 use Rattle.raster.specs.Screen.{Canvas, IsWithin, meets, tile_rect, tile_count}
 use Rattle.raster.specs.Size.{IsScreenSize}

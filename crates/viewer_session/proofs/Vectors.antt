@@ -194,7 +194,7 @@ pub messages_of_the_stream : (listener 2 1 (heard 2 1 four answered)).messages
     ≡ server.Bell ∷ ServerCutText (0x48 ∷ 0x69 ∷ []) ∷ FramebufferUpdate (Put (rect 0 0 2 1) (0xFF0000 ∷ 0x0000FF ∷ []) ∷ []) ∷ []
 messages_of_the_stream = refl
 
--- A message of which a byte is missing isn't read; behind a format the pixels are read in it.
+-- A message of which a byte is missing isn't read; after a format the pixels are read in it.
 pub message_begun : (listener 2 1 (Bytes (2 ∷ 3 ∷ 0 ∷ 0 ∷ 0 ∷ 0 ∷ 0 ∷ 0 ∷ 1 ∷ []) ∷ [])).messages ≡ server.Bell ∷ []
 message_begun = refl
 

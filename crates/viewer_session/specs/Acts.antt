@@ -11,7 +11,7 @@ use Rattle.viewer_session.specs.Session.{State, Stands, after_look, after_writin
 use Rattle.viewer_session.specs.Viewer.{Setup, Viewer, after_bytes, after_cut, new_viewer}
 
 -- What is done for a viewer: bytes of it come, with a mark for each text that becomes whole in them; it has a turn,
--- with the reply of its look and, where it is cut, the number of the cut; so many more bytes of its hello and answers
+-- with the reply of its look and, where it is cut, the number of the cut; this many more bytes of its hello and answers
 -- are written; its input that waits is handed out.
 pub data Act : Type 0 where
   Bytes : (marks : List Bool) → (bytes : List ℕ) → Act
@@ -21,7 +21,7 @@ pub data Act : Type 0 where
 
 -- A list of acts has the latest first.
 
--- What a turn makes of a viewer, where these are the updates: a cut is of the first of them.
+-- What a turn makes of a viewer, where these are the updates: a cut takes the first of them.
 abbrev pub after_turn : Setup → List Update → (looked : ℕ) → Option ℕ → Viewer → Viewer
 after_turn s us looked None p = after_look looked p
 after_turn s us looked (Some n) p = after_cut s (take n us) (after_look looked p)

@@ -1,10 +1,11 @@
--- What waits to be sent of a session: the piece that is shown, and what comes behind it (RFC 6143, 7.6).
+-- What waits to be sent of a session: the piece that is shown, and what comes after it (RFC 6143, 7.6).
 use Rattle.std.specs.Prelude.{◌≡◌, ℕ, ◌+◌, ◌*◌, Bool, true, max, if◌then◌else◌, is_some, List, [], ◌++◌, length, Option, Some, None, IfSome}
 use Rattle.raster.specs.Update.{NumberedText}
 use Rattle.rfb_wire.specs.Writing.{server_text_bytes, update_head_bytes}
 use Rattle.reflect_core.specs.declared.cut.Cut.{Cut}
 use Rattle.update_encoder.specs.Coming.{Answering, AnswerStands, coming}
 use Rattle.viewer_session.specs.declared.coming.Coming as declared
+use Rattle.raster.specs.declared.tile.TheConstants.{TILE_SIDE}
 
 -- How much room there is for a piece, how many bytes were put into it, and those that aren't sent yet.
 pub record Waiting : Type 0 where
@@ -27,7 +28,7 @@ abbrev pub answer_coming : Bool → Option Answering → Cut → List ℕ
 answer_coming head None cut = []
 answer_coming head (Some answer) cut = (if head then update_head_bytes answer.count else []) ++ coming answer cut
 
--- What comes behind the piece: a text of the cut, and an answer.
+-- What comes after the piece: a text of the cut, and an answer.
 abbrev pub all_coming : declared.Coming → Cut → List ℕ
 all_coming c cut = (if c.text then text_message cut.text else []) ++ answer_coming c.head c.answer cut
 
@@ -45,9 +46,9 @@ pub record Sending : Type 0 where
   pub piece : List ℕ
   pub unsent : List ℕ
 
--- The piece and the strip are large enough; what comes is the cut's; and nothing comes behind an empty piece.
+-- The piece and the strip are large enough; what comes is the cut's; and nothing comes after an empty piece.
 pub record IsOutgoing (cut : Cut) (piece : Waiting) (strip : ℕ) (c : declared.Coming) : Type 0 where
   pub room : piece.room ≡ longest_piece cut.width
-  pub long : strip ≡ 16 * cut.width
+  pub long : strip ≡ TILE_SIDE * cut.width
   pub is_of : IsOf c cut
   pub shows : length piece.unsent ≡ 0 → all_coming c cut ≡ []

@@ -2,7 +2,7 @@
 use Rattle.std.specs.Prelude.{◌≡◌, ℕ, ◌+◌, ◌≤◌, Bool, true, false, max, ◌&&◌, ◌||◌, ◌==◌, ◌<◌, ◌⊎◌, ◌++◌, nat_le, nat_lt, if◌then◌else◌, is_some, is_none, unwrap_or, List, [], ◌∷◌, length, drop, take, Option, Some, None, Ok}
 use Rattle.pixel_format.specs.declared.fault.Fault.{Fault}
 use Rattle.pixel_format.specs.PixelFormat.{PixelFormat}
-use Rattle.pixel_format.specs.Reading.{Reading, Done, whole_of, fault_of, wants_more, Gives, GivesWhole}
+use Rattle.byte_reading.specs.Reading.{Reading, Done, whole_of, fault_of, wants_more, Gives, GivesWhole}
 use Rattle.raster.specs.Size.{IsScreenSize}
 use Rattle.raster.specs.Update.{Update, bells}
 use Rattle.rfb_wire.specs.declared.client_reader.ClientReader.{ClientReader}
@@ -196,14 +196,14 @@ pub record StandsBut (s : Setup) (st : State) (p : Viewer) (left : List ℕ) : T
 abbrev pub FeedsTo : State → State → List Bool → List ℕ → List ℕ → Type 0
 FeedsTo old new marks piece left = (s : Setup) (p : Viewer) → Stands s old p → StandsBut s new (after_bytes (with_marks marks p) piece) left
 
--- So many bytes of the piece were used: all of it, and there is no fault; or all up to an input, which waits.
+-- This many bytes of the piece were used: all of it, and there is no fault; or all up to an input, which waits.
 pub record FeedsUpTo (old new : State) (piece : List ℕ) (used : ℕ) : Type 0 where
   pub within : used ≤ length piece
   pub all : ((used ≡ length piece) × (fault_in new ≡ None)) ⊎ (is_some new.waiting ≡ true)
   pub marks : List Bool
   pub feeds : FeedsTo old new marks piece (drop used piece)
 
--- There is a fault, in this piece or before; behind it no byte is looked at.
+-- There is a fault, in this piece or before; after it no byte is looked at.
 pub record FeedsToFault (old new : State) (piece : List ℕ) (fault : Fault) : Type 0 where
   pub stands_at : fault_in new ≡ Some fault
   pub marks : List Bool
@@ -264,7 +264,7 @@ pub record IsBetween (p : Viewer) : Type 0 where
   pub greeted : viewer.is_greeted p ≡ true
   pub begins : p.reading ≡ client_message
 
--- So many bytes more were written.
+-- This many bytes more were written.
 abbrev pub after_writing : ℕ → Viewer → Viewer
 after_writing n p = record p { written = p.written + n }
 
@@ -288,7 +288,7 @@ pub record CutsAt (old new : State) (us : List Update) (least most : ℕ) : Type
   pub stands : (s : Setup) (p : Viewer) → HasCounted old us → Stands s old p → Stands s new (after_cut s (take number us) p)
 
 -- The source was looked at, with a reply that is known and is the source's own (looks), and then cut where there is
--- reason, at a number that is at least the reply. Behind the look nothing but a cut has moved the source. Reply and
+-- reason, at a number that is at least the reply. After the look nothing but a cut has moved the source. Reply and
 -- number are at most what the source has answered by now.
 pub record Turns {S : Type 0} (looks : S → ℕ → S → Type 0) (moves : S → S → Type 0) (before after : S) (old new : State) (us : List Update) (least most : ℕ) : Type 0 where
   pub looked : ℕ
@@ -302,7 +302,7 @@ pub record Turns {S : Type 0} (looks : S → ℕ → S → Type 0) (moves : S �
   pub cuts : wants_cut old.asked looked ≡ true → CutsAt old new us (max least looked) most
 
 -- The source was looked at, with a reply of its own (looks), and its cut was refused: it knows and has answered what it
--- had behind the look.
+-- had after the look.
 pub record HasOnlyLooked {S : Type 0} (looks : S → ℕ → S → Type 0) (known : S → List Update) (answered : S → ℕ) (before after : S) : Type 0 where
   pub looked : ℕ
   pub behind : S

@@ -1,7 +1,7 @@
 -- What comes to a viewer after its hello, and a viewer that reads it byte by byte (RFC 6143, 7.6).
 use Rattle.std.specs.Prelude.{◌≡◌, ℕ, nat_lt, if◌then◌else◌, List, [], ◌∷◌, ◌++◌, take, Option, Some, None}
 use Rattle.pixel_format.specs.PixelFormat.{PixelFormat, host_format}
-use Rattle.pixel_format.specs.Reading.{Reading, Done, Faulty, Want, step, Spells}
+use Rattle.byte_reading.specs.Reading.{Reading, Done, Faulty, Want, step, Spells}
 use Rattle.raster.specs.Update.{Paint, Update, bells, last_text, NumberedText}
 use Rattle.rfb_wire.specs.ClientMessage.{SetPixelFormat}
 use Rattle.rfb_wire.specs.ServerMessage.{ServerMessage, FramebufferUpdate, Bell, ServerCutText, server_message}
@@ -59,7 +59,7 @@ abbrev pub hears_bytes : ℕ → ℕ → Listener → List ℕ → Listener
 hears_bytes w h l [] = l
 hears_bytes w h l (b ∷ bs) = hears_bytes w h (after_step w h l (step l.reading b)) bs
 
--- A change of format makes all unknown; the messages behind it are in this format.
+-- A change of format makes all unknown; the messages after it are in this format.
 abbrev pub hears : ℕ → ℕ → Listener → Heard → Listener
 hears w h l (Format format) = between w h (record { format = format; held = unknown }) l.messages
 hears w h l (Bytes bytes) = hears_bytes w h l bytes

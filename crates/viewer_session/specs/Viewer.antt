@@ -1,7 +1,7 @@
 -- A viewer as a session keeps it: its hello, the messages in its bytes, and what it is sent (RFC 6143, 7.1 to 7.6).
 use Rattle.std.specs.Prelude.{ℕ, ◌+◌, Bool, ◌&&◌, nat_le, if◌then◌else◌, is_some, is_none, List, [], ◌∷◌, ◌++◌, length, Option, Some, None}
 use Rattle.pixel_format.specs.declared.fault.Fault.{Fault}
-use Rattle.pixel_format.specs.Reading.{Reading, Done, Faulty, Want, step, fault_of, whole_of, wants_more}
+use Rattle.byte_reading.specs.Reading.{Reading, Done, Faulty, Want, step, fault_of, whole_of, wants_more}
 use Rattle.raster.specs.Update.{Update}
 use Rattle.rfb_wire.specs.ClientMessage.{ClientMessage, CutText, client_message, without_text}
 use Rattle.rfb_wire.specs.Handshake.{viewer_hello, said_to_viewer}
@@ -11,7 +11,7 @@ use Rattle.roles.specs.Held.{input_for}
 use Rattle.viewer_session.specs.Record.{Entry, Took}
 use Rattle.viewer_session.specs.Turn.{sent_at, record_after_cut}
 
--- A screen of w by h named so, with room for so many inputs in the queue to the host.
+-- A screen of w by h named so, with room for this many inputs in the queue to the host.
 pub record Setup : Type 0 where
   pub w : ℕ
   pub h : ℕ
@@ -36,7 +36,7 @@ pub record Viewer : Type 0 where
 
 -- ---- what a viewer's bytes make of it
 
--- The fault of its bytes, in the hello or behind it.
+-- The fault of its bytes, in the hello or after it.
 abbrev pub viewer_fault : Viewer → Option Fault
 viewer_fault p = if is_some (fault_of p.hello) then fault_of p.hello else fault_of p.reading
 
@@ -56,7 +56,7 @@ with_input p (Some input) =
     then record p { keys = keys_after p.keys input; waiting = Some input }
     else p
 
--- A whole message, with the marks of texts that are left behind it. A text is lost for want of memory where its mark
+-- A whole message, with the marks of texts that are left after it. A text is lost for want of memory where its mark
 -- says so.
 abbrev pub marked : List Bool → ClientMessage → ClientMessage × List Bool
 marked [] (CutText text) = (CutText text, [])

@@ -1,19 +1,20 @@
-//! What comes behind the piece that is sent.
+//! What comes after the piece that is sent.
 
 ghost use Rattle.std.specs.Prelude.{◌≡◌, ◌*◌, ◌≤◌, [], ◌++◌, false, None, length};
+ghost use Rattle.raster.specs.declared.tile.TheConstants.{TILE_SIDE};
 ghost use Rattle.viewer_session.specs.Outgoing.{IsOf, all_coming, answer_coming, longest_piece};
 
 use crate::piece::Piece;
 use reflect_core::Cut;
 use update_encoder::Answer;
 
-/// What of a cut comes behind the piece: its text where one is news, then an answer. Of the answer the head comes
+/// What of a cut comes after the piece: its text where one is news, then an answer. Of the answer the header comes
 /// first, and then one rectangle after the other.
 #[derive(Drop)]
 pub struct Coming {
     /// The cut's text comes.
     pub text: bool,
-    /// The answer's head comes.
+    /// The answer's header comes.
     pub head: bool,
     /// The answer, if there is one.
     pub answer: Option<Answer>,
@@ -34,7 +35,7 @@ impl Coming {
     /// The next part of what comes is the piece from now on. It is empty where nothing comes.
     pub fn put_next(&mut self, cut: &Cut, strip: &mut [u32], piece: &mut Piece)
         requires is_of { IsOf self.old cut.now }
-        requires strip { 16 * cut.now.width ≤ length strip.old }
+        requires strip { TILE_SIDE * cut.now.width ≤ length strip.old }
         requires room { piece.old.room ≡ longest_piece cut.now.width }
         ensures room { piece.new.room ≡ piece.old.room }
         ensures is_of { IsOf self.new cut.now }
@@ -49,11 +50,11 @@ impl Coming {
         }
     }
 
-    // The next part of the answer is the piece from now on.
+    /// The next part of the answer is the piece from now on.
     fn put_of_answer(&mut self, cut: &Cut, strip: &mut [u32], piece: &mut Piece)
         requires text { self.old.text ≡ false }
         requires is_of { IsOf self.old cut.now }
-        requires strip { 16 * cut.now.width ≤ length strip.old }
+        requires strip { TILE_SIDE * cut.now.width ≤ length strip.old }
         requires room { piece.old.room ≡ longest_piece cut.now.width }
         ensures room { piece.new.room ≡ piece.old.room }
         ensures text { self.new.text ≡ false }

@@ -23,13 +23,13 @@ use update_encoder::Answer;
 /// How many bytes a text's message has before the text (RFC 6143, 7.6.4).
 const TEXT_HEAD: usize = 8;
 
-/// How many bytes the head of a rectangle has (RFC 6143, 7.6.1).
+/// How many bytes the header of a rectangle has (RFC 6143, 7.6.1).
 const RECTANGLE_HEAD: usize = 12;
 
 /// How many bytes a pixel of the widest format has (RFC 6143, 7.4).
 const WIDEST_PIXEL: usize = 4;
 
-/// A cut of the source, one piece of the bytes that wait to be sent, and what of the cut comes behind it. Contracts see
+/// A cut of the source, one piece of the bytes that wait to be sent, and what of the cut comes after it. Contracts see
 /// the cut, the piece's bytes, and all bytes that aren't sent.
 #[derive(Drop)]
 pub struct Outgoing {
@@ -87,7 +87,7 @@ impl Outgoing {
         self.piece.unsent()
     }
 
-    /// So many bytes of the piece, from the first on, were sent. Once it is empty the next takes its place.
+    /// This many bytes of the piece, from the first on, were sent. Once it is empty the next takes its place.
     pub fn sent(&mut self, count: usize)
         requires { count ≤ length self.old.piece }
         ensures cut { self.new.cut ≡ self.old.cut }
@@ -102,7 +102,7 @@ impl Outgoing {
         }
     }
 
-    /// Further bytes of a hello wait, where nothing comes behind the piece.
+    /// Further bytes of a hello wait, where nothing comes after the piece.
     pub fn append(&mut self, bytes: &[u8])
         requires room { self.old.filled + length bytes.now ≤ 65544 }
         requires alone { self.old.unsent ≡ self.old.piece }
@@ -158,7 +158,7 @@ impl Outgoing {
     }
 }
 
-// The room for the longest piece over a screen of this width.
+/// The room for the longest piece over a screen of this width.
 fn room_for(width: u64) -> usize
     requires { width ≤ 4096 }
     ensures { result ≡ longest_piece width }

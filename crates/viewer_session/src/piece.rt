@@ -2,6 +2,8 @@
 
 ghost use Rattle.std.specs.Prelude.{◌≡◌, ℕ, ◌+◌, ◌-◌, ◌*◌, ◌≤◌, ◌^◌, ◌<◌, [], ◌++◌, drop, length, IfOk, IfErr};
 ghost use Rattle.pixel_format.specs.declared.fault.Fault.TheVariants.{Memory};
+ghost use Rattle.pixel_format.specs.declared.limits.TheConstants.{LONGEST_TEXT};
+ghost use Rattle.raster.specs.declared.tile.TheConstants.{TILE_SIDE};
 ghost use Rattle.rfb_wire.specs.Writing.{bell_bytes, server_text_bytes, update_head_bytes};
 ghost use Rattle.update_encoder.specs.Coming.{AnswerStands, coming};
 
@@ -33,7 +35,7 @@ impl Model for Piece {
 }
 
 impl Piece {
-    /// An empty one with room for so many bytes. It fails where memory is refused (`Memory`).
+    /// An empty one with room for this many bytes. It fails where memory is refused (`Memory`).
     pub fn new(alloc: Global, room: usize) -> Result<Self, Fault>
         ensures ok { IfOk result (λ piece. (piece.room ≡ room) × (piece.filled ≡ 0) × (piece.unsent ≡ [])) }
         ensures err { IfErr result (λ fault. fault ≡ Memory) }
@@ -58,7 +60,7 @@ impl Piece {
         &self.bytes.as_slice()[self.sent..self.filled]
     }
 
-    /// So many of them, from the first on, were sent.
+    /// This many of them, from the first on, were sent.
     pub fn sent(&mut self, count: usize)
         requires { count ≤ length self.old.unsent }
         ensures room { (self.new.room ≡ self.old.room) × (self.new.filled ≡ self.old.filled) }
@@ -67,7 +69,7 @@ impl Piece {
         self.sent += count;
     }
 
-    /// Further bytes wait, behind those that waited before.
+    /// Further bytes wait, after those that waited before.
     pub fn append(&mut self, bytes: &[u8])
         requires { self.old.filled + length bytes.now ≤ self.old.room }
         ensures room { self.new.room ≡ self.old.room }
@@ -100,7 +102,7 @@ impl Piece {
 
     /// A text waits from now on, and nothing else (RFC 6143, 7.6.4).
     pub fn put_text(&mut self, text: &[u8])
-        requires short { length text.now ≤ 65536 }
+        requires short { length text.now ≤ LONGEST_TEXT }
         requires room { 8 + length text.now ≤ self.old.room }
         ensures room { self.new.room ≡ self.old.room }
         ensures unsent { self.new.unsent ≡ server_text_bytes text.now }
@@ -109,7 +111,7 @@ impl Piece {
         self.sent = 0;
     }
 
-    /// The head of an update of so many rectangles waits from now on, and nothing else (RFC 6143, 7.6.1).
+    /// The header of an update of this many rectangles waits from now on, and nothing else (RFC 6143, 7.6.1).
     pub fn put_update_head(&mut self, rectangles: u64)
         requires few { rectangles < 65536 }
         requires room { 4 ≤ self.old.room }
@@ -124,7 +126,7 @@ impl Piece {
     /// encoded over a strip of pixel values.
     pub fn put_rectangle(&mut self, answer: &mut Answer, cut: &Cut, strip: &mut [u32])
         requires stands { AnswerStands answer.old cut.now }
-        requires strip { 16 * cut.now.width ≤ length strip.old }
+        requires strip { TILE_SIDE * cut.now.width ≤ length strip.old }
         requires room { 12 + 64 * cut.now.width ≤ self.old.room }
         ensures room { self.new.room ≡ self.old.room }
         ensures stands { AnswerStands answer.new cut.now }

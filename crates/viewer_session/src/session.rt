@@ -2,7 +2,7 @@
 
 ghost use Rattle.std.specs.Prelude.{◌≡◌, ◌+◌, ◌≤◌, ◌↔◌, Bool, IsTrue, ◌++◌, ◌∷◌, true, false, [], drop, length, is_some, option_map, IfOk, IfErr, MatchOption, None};
 ghost use Rattle.pixel_format.specs.declared.fault.Fault.TheVariants.{Memory};
-ghost use Rattle.pixel_format.specs.Reading.{fault_of};
+ghost use Rattle.byte_reading.specs.Reading.{fault_of};
 ghost use Rattle.raster.specs.Size.{IsScreenSize};
 ghost use Rattle.rfb_wire.specs.ClientReader.{ahead};
 ghost use Rattle.rfb_wire.specs.Greeting.{to_send};
@@ -30,10 +30,10 @@ use tiles::Have;
 /// its role allows waits to be taken, and no further byte is read until it is. What it holds down is released when it
 /// leaves.
 ///
-/// What is sent waits in pieces: `out` is the bytes of a hello, a Bell, a text, the head of an update or one rectangle,
-/// and once `sent` has emptied it the next takes its place. An answer keeps the format and the choice that stood at its
-/// cut, and what is forgotten while pieces are unsent stays forgotten: what the viewer has of each tile changes at the
-/// cut.
+/// What is sent waits in pieces: `out` is the bytes of a hello, a Bell, a text, the header of an update or one
+/// rectangle, and once `sent` has emptied it the next takes its place. An answer keeps the format and the choice that
+/// stood at its cut, and what is forgotten while pieces are unsent stays forgotten: what the viewer has of each tile
+/// changes at the cut.
 #[derive(Drop)]
 pub struct Session {
     width: u64,
@@ -110,7 +110,7 @@ impl Session {
         Session::begun(alloc, w, h, role, None, out)
     }
 
-    // A session of which so much of the hello was said.
+    /// A session of which so much of the hello was said.
     fn begun(
         alloc: Global,
         w: u64,
@@ -159,7 +159,7 @@ impl Session {
         self.out.piece()
     }
 
-    /// So many bytes of the piece, from the first on, were sent. Once it is empty the next takes its place.
+    /// This many bytes of the piece, from the first on, were sent. Once it is empty the next takes its place.
     pub fn sent(&mut self, n: usize)
         requires { n ≤ length self.old.piece }
         ensures same { IsSameSession self.old self.new }
@@ -179,7 +179,7 @@ impl Session {
         }
     }
 
-    // The fault of the hello, if there is one.
+    /// The fault of the hello, if there is one.
     fn hello_fault(&self) -> Option<Fault>
         ensures { result ≡ hello_fault self.now }
     {
@@ -189,7 +189,7 @@ impl Session {
         }
     }
 
-    // Whether the hello is done.
+    /// Whether the hello is done.
     fn is_greeted(&self) -> bool
         ensures value { result ≡ is_greeted self.now }
         ensures fresh { is_greeted self.now ≡ false → fault_of (ahead self.now.reader) ≡ None }
@@ -215,7 +215,7 @@ impl Session {
         self.waiting.is_some()
     }
 
-    /// Takes the input that waits: a message's that its role allows. Then none waits, and the bytes behind the message
+    /// Takes the input that waits: a message's that its role allows. Then none waits, and the bytes after the message
     /// may be fed. Where none waits nothing has changed. It takes no memory.
     pub fn take_input(&mut self) -> Option<Input>
         ensures value { option_map input_in result ≡ self.old.waiting }
@@ -258,7 +258,7 @@ impl Session {
     }
 }
 
-// What is to be said in a hello by now waits to be sent.
+/// What is to be said in a hello by now waits to be sent.
 fn say(hello: &mut ViewerHello, out: &mut Outgoing)
     requires room { out.old.filled + length (to_send hello.old) ≤ 65544 }
     requires alone { out.old.unsent ≡ out.old.piece }

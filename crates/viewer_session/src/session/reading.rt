@@ -1,7 +1,7 @@
 //! What a viewer sends: its hello, then its messages.
 
 ghost use Rattle.std.specs.Prelude.{◌≡◌, ◌<◌, ◌≤◌, true, false, if◌then◌else◌, [], drop, length, IfOk, IfErr, Err, None, Some, option_map};
-ghost use Rattle.pixel_format.specs.Reading.{wants_more, fault_of};
+ghost use Rattle.byte_reading.specs.Reading.{wants_more, fault_of};
 ghost use Rattle.rfb_wire.specs.ClientReader.{ahead};
 ghost use Rattle.rfb_wire.specs.ClientMessage.{Ask, SetPixelFormat, SetEncodings};
 ghost use Rattle.rfb_wire.specs.Message.{choice_in, message_of, FeedsOrLoses};
@@ -25,7 +25,7 @@ pub struct Fed {
 }
 
 impl Session {
-    // Whether another byte of the hello is to come.
+    /// Whether another byte of the hello is to come.
     fn wants_hello(&self) -> bool
         ensures { result ≡ wants_more (hello_of self.now.greeting) }
     {
@@ -35,8 +35,8 @@ impl Session {
         }
     }
 
-    // A byte of the hello is taken. What is to be said to it waits to be sent; where the byte shows a fault that is
-    // nothing.
+    /// A byte of the hello is taken. What is to be said to it waits to be sent; where the byte shows a fault that is
+    /// nothing.
     fn greet(&mut self, byte: u8)
         requires wants { wants_more (hello_of self.old.greeting) ≡ true }
         requires none { self.old.waiting ≡ None }
@@ -44,13 +44,14 @@ impl Session {
         ensures stands { (s : Setup) (p : Viewer) → Stands s self.old p → Stands s self.new (after_byte p byte) }
     {
         if let Some(hello) = &mut self.hello {
+            // It uses the byte, since it wants one. A fault that the byte shows stays in it: `hello_fault` names it.
             let _ = hello.feed(&[byte]);
             say(hello, &mut self.out);
         }
     }
 
-    // Takes the bytes of the hello, one by one, and answers how many they are. It fails at the byte that shows a fault,
-    // and from then on.
+    /// Takes the bytes of the hello, one by one, and answers how many they are. It fails at the byte that shows a
+    /// fault, and from then on.
     fn read_hello(&mut self, piece: &[u8]) -> Result<usize, Fault>
         requires open { is_greeted self.old ≡ false }
         requires none { self.old.waiting ≡ None }
@@ -69,7 +70,7 @@ impl Session {
         }
     }
 
-    // A request for a rectangle is taken, clipped to the screen. An empty one is forgotten.
+    /// A request for a rectangle is taken, clipped to the screen. An empty one is forgotten.
     fn ask(&mut self, incremental: bool, rect: &Rect)
         ensures same { IsSameSession self.old self.new }
         ensures reader { (self.new.reader ≡ self.old.reader) × (self.new.greeting ≡ self.old.greeting) }
@@ -83,7 +84,7 @@ impl Session {
         }
     }
 
-    // A pixel format is taken: the viewer has nothing of the screen any longer.
+    /// A pixel format is taken: the viewer has nothing of the screen any longer.
     fn set_format(&mut self, format: Format)
         ensures same { IsSameSession self.old self.new }
         ensures reader { (self.new.reader ≡ self.old.reader) × (self.new.greeting ≡ self.old.greeting) }
@@ -95,7 +96,7 @@ impl Session {
         self.have.forget_all();
     }
 
-    // A list of encodings is taken: the choice that it comes to holds for each answer from now on.
+    /// A list of encodings is taken: the choice that it comes to holds for each answer from now on.
     fn set_choice(&mut self, choice: Choice)
         ensures same { IsSameSession self.old self.new }
         ensures reader { (self.new.reader ≡ self.old.reader) × (self.new.greeting ≡ self.old.greeting) }
@@ -105,7 +106,7 @@ impl Session {
         self.choice = choice;
     }
 
-    // An input waits, where it passes.
+    /// An input waits, where it passes.
     fn wait(&mut self, passes: bool, input: Input)
         ensures { self.new ≡ record self.old { waiting = if passes then Some (input_in input) else self.old.waiting } }
     {
@@ -114,7 +115,7 @@ impl Session {
         }
     }
 
-    // A message is taken: what it asks for or sets holds from now on, and its input waits, where it passes.
+    /// A message is taken: what it asks for or sets holds from now on, and its input waits, where it passes.
     fn take_message(&mut self, message: ClientMessage)
         requires none { self.old.waiting ≡ None }
         ensures same { IsSameSession self.old self.new }
@@ -135,7 +136,7 @@ impl Session {
         }
     }
 
-    // Reads on, up to the end of a whole message, and takes that message from the reader.
+    /// Reads on, up to the end of a whole message, and takes that message from the reader.
     fn read_one(&mut self, piece: &[u8]) -> Result<(usize, Option<ClientMessage>), Fault>
         requires { is_greeted self.old ≡ true }
         ensures others { self.new ≡ record self.old { reader = self.new.reader } }
@@ -148,7 +149,7 @@ impl Session {
         Ok((used, message))
     }
 
-    // Takes bytes behind the hello, up to the end of a message.
+    /// Takes bytes after the hello, up to the end of a message.
     fn read_message(&mut self, piece: &[u8]) -> Result<Fed, Fault>
         requires greeted { is_greeted self.old ≡ true }
         requires none { self.old.waiting ≡ None }
@@ -167,7 +168,7 @@ impl Session {
         Ok(Fed { used, lost })
     }
 
-    /// Takes bytes of the hello, or of the messages behind it up to the end of one; at least one byte, where there is
+    /// Takes bytes of the hello, or of the messages after it up to the end of one; at least one byte, where there is
     /// one. It fails at the byte that shows a fault, and from then on it uses no byte and fails with the same fault:
     /// those of `feed`.
     pub fn feed_message(&mut self, piece: &[u8]) -> Result<Fed, Fault>
@@ -208,7 +209,7 @@ impl Session {
     }
 }
 
-// Where this is a text of at most 65,536 bytes, whether it is lost.
+/// Where this is a text of at most 65,536 bytes, whether it is lost.
 fn mark_of(message: &ClientMessage) -> Option<bool>
     ensures { result ≡ text_mark (message_of message.now) }
 {

@@ -18,7 +18,7 @@ use raster::Rect;
 use reflect_core::{Cut, ScreenSource};
 use update_encoder::Answer;
 
-// A rectangle with no position.
+/// A rectangle with no position.
 const NOWHERE: Rect = Rect {
     x: 0,
     y: 0,
@@ -26,7 +26,7 @@ const NOWHERE: Rect = Rect {
     h: 0,
 };
 
-// What a cut has that is news to a viewer.
+/// What a cut has that is news to a viewer.
 #[derive(Clone, Copy)]
 struct News {
     // Bells have become more.
@@ -36,16 +36,16 @@ struct News {
 }
 
 impl Session {
-    // Whether there is reason to cut after a look that replied this number.
+    /// Whether there is reason to cut after a look that replied this number.
     fn has_reason(&self, looked: u64) -> bool
         ensures { result ≡ wants_cut self.now.asked looked }
     {
         self.asked.last_cut().unwrap_or(0) < looked
-            || (self.asked.area().is_some() && self.asked.asked())
+            || (self.asked.area().is_some() && self.asked.has_asked())
     }
 
-    // The answer to a pending area at the cut, where a tile of it is due. Then the area is no longer pending, and each
-    // tile that lies wholly inside it counts as sent.
+    /// The answer to a pending area at the cut, where a tile of it is due. Then the area is no longer pending, and each
+    /// tile that lies wholly inside it counts as sent.
     fn answer(&mut self, area: Option<Rect>, number: u64) -> Option<Answer>
         requires { LiesOn self.old.cut.width self.old.cut.height area }
         ensures others { self.new ≡ record self.old { asked = self.new.asked; have = self.new.have } }
@@ -100,7 +100,7 @@ impl Session {
 
     /// One turn. It does nothing and answers false while bytes are unsent, before the hello is done, and after a fault.
     /// Otherwise it looks once and goes on as `turn_at`. Where that fails (`Gone`) the session is as it was, and the
-    /// source knows what it knew behind the look.
+    /// source knows what it knew after the look.
     pub fn turn<S: ScreenSource>(&mut self, source: &mut S) -> Result<bool, Fault>
         requires { (S.width source.old ≡ self.old.width) × (S.height source.old ≡ self.old.height) }
         ensures same { IsSameViewer self.old self.new }
@@ -120,7 +120,7 @@ impl Session {
     }
 }
 
-// What a cut has that is news since the one of this number, which showed so many Bells. At the first cut nothing is.
+/// What a cut has that is news since the one of this number, which showed this many Bells. At the first cut nothing is.
 fn news_of(cut: &Cut, last: Option<u64>, bells: u64) -> News
     ensures bell { result.bell ≡ rings last bells cut.now.bells }
     ensures text { result.text ≡ has_newer last cut.now.text }

@@ -19,8 +19,8 @@ returns-then-ne c =
     let canvas : Canvas = value_at c.args.width c.args.colours.now in
     let above = c.args.above.now in
     let area = c.args.area.now in
-    let upper : c.row_of-upper.result.now ≡ row_at above.w (part_of above canvas) c.loop-row.row = c.row_of-upper.ensures in
-    let lower : c.row_of-lower.result.now ≡ row_at area.w (part_of area canvas) c.loop-row.row = c.row_of-lower.ensures in
+    let upper : c.row_of-upper.result.now ≡ row_at above.w (part_of above canvas) c.loop-row.row = c.row_of-upper.ensures.shows in
+    let lower : c.row_of-lower.result.now ≡ row_at area.w (part_of area canvas) c.loop-row.row = c.row_of-lower.ensures.shows in
     let other = other_text c.row_of-upper.result.now c.row_of-lower.result.now (unequal _ c.if-ne.ensures) in
     differ _ _
     (λ same.
@@ -33,8 +33,8 @@ loop-row-preserved c =
     let canvas : Canvas = value_at c.args.width c.args.colours.now in
     let above = c.args.above.now in
     let area = c.args.area.now in
-    let upper : c.row_of-upper.result.now ≡ row_at above.w (part_of above canvas) c.loop-row.row = c.row_of-upper.ensures in
-    let lower : c.row_of-lower.result.now ≡ row_at area.w (part_of area canvas) c.loop-row.row = c.row_of-lower.ensures in
+    let upper : c.row_of-upper.result.now ≡ row_at above.w (part_of above canvas) c.loop-row.row = c.row_of-upper.ensures.shows in
+    let lower : c.row_of-lower.result.now ≡ row_at area.w (part_of area canvas) c.loop-row.row = c.row_of-lower.ensures.shows in
     let same : c.row_of-upper.result.now ≡ c.row_of-lower.result.now = same_text c.row_of-upper.result.now c.row_of-lower.result.now (equal _ c.if-ne.ensures) in
     same_more above.w area.w c.loop-row.row (part_of above canvas) (part_of area canvas) c.loop-row.invariant (sym upper ∙ (same ∙ lower))
 

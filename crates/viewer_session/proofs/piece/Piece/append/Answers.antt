@@ -4,7 +4,7 @@ use Rattle.std.proofs.Math.Seq.{take-append_seam}
 use Rattle.viewer_session.specs.Outgoing.{Waiting}
 use Rattle.viewer_session.proofs.piece.Piece.append.Goals as goal
 
--- A part that was written behind the bytes that were filled.
+-- A part that was written after the bytes that were filled.
 filled_on : (sent filled count room : ℕ) (whole part behind rest : List ℕ) → sent ≤ filled → filled ≤ length whole → length part ≡ count → filled + count ≤ room
     → drop sent (take (filled + count) (take room ((take filled whole ++ (part ++ behind)) ++ rest))) ≡ drop sent (take filled whole) ++ part
 filled_on sent filled count room whole part behind rest le within len fits =

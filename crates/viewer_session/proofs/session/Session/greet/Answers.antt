@@ -1,6 +1,6 @@
 use Rattle.std.proofs.Common.{◌≡◌, ℕ, ◌+◌, ◌≤◌, List, ◌++◌, true, length, Option, Some, sym, ap, subst, ◌∙◌}
 use Rattle.std.specs.Prelude.{is_some}
-use Rattle.pixel_format.specs.Reading.{wants_more, whole_of}
+use Rattle.byte_reading.specs.Reading.{wants_more, whole_of}
 use Rattle.rfb_wire.specs.Greeting.{Greeting, ahead, to_send}
 use Rattle.reflect_core.specs.declared.cut.Cut.{Cut}
 use Rattle.viewer_session.specs.Session.{State, Stands, IsSpoken, IsGreeting, hello_of}

@@ -1,6 +1,6 @@
 use Rattle.std.proofs.Common.{◌≡◌, false, Some, None, drop, arith, refl, sym, ap, ◌∙◌}
 use Rattle.std.specs.Prelude.{is_some}
-use Rattle.pixel_format.specs.Reading.{whole_of}
+use Rattle.byte_reading.specs.Reading.{whole_of}
 use Rattle.viewer_session.specs.Session.{State, hello_fault, hello_of}
 use Rattle.viewer_session.proofs.FeedLaws.{feeding_begins}
 use Rattle.viewer_session.proofs.HelloLaws.{feeding_byte, feeding_hello_faults, never_stuck, some_if}

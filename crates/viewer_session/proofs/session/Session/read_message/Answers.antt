@@ -1,7 +1,7 @@
 use Rattle.std.proofs.Common.{◌≡◌, ℕ, Bool, List, drop, Option, Some, None, sym, ap, subst, ◌∙◌}
 use Rattle.std.specs.Prelude.{option_map}
 use Rattle.std.proofs.lemmas.Result.{err_from_is_err_and}
-use Rattle.pixel_format.specs.Reading.{fault_of}
+use Rattle.byte_reading.specs.Reading.{fault_of}
 use Rattle.rfb_wire.specs.ClientReader.{ahead}
 use Rattle.rfb_wire.specs.Message.{message_of}
 use Rattle.rfb_wire.specs.declared.message.ClientMessage as declared

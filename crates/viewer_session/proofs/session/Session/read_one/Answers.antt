@@ -1,6 +1,6 @@
 use Rattle.std.proofs.Common.{◌≡◌, Option, true, false, Ok, ap, sym, subst, ◌∙◌}
 use Rattle.std.specs.Prelude.{is_some}
-use Rattle.pixel_format.specs.Reading.{whole_of}
+use Rattle.byte_reading.specs.Reading.{whole_of}
 use Rattle.rfb_wire.specs.Greeting.{Greeting}
 use Rattle.rfb_wire.specs.Message.{FeedsOrLoses}
 use Rattle.viewer_session.specs.Session.{State, hello_of, is_greeted}

@@ -1,6 +1,6 @@
 use Rattle.std.proofs.Common.{◌≡◌, ◌++◌, List, ℕ, ◌∷◌, Option, [], true, refl, sym, ap, subst, ◌∙◌}
 use Rattle.std.specs.Prelude.{if◌then◌else◌, is_some, unwrap_or}
-use Rattle.pixel_format.specs.Reading.{whole_of}
+use Rattle.byte_reading.specs.Reading.{whole_of}
 use Rattle.raster.specs.declared.rect.Rect.{Rect}
 use Rattle.rfb_wire.specs.Writing.{bell_bytes}
 use Rattle.tiles.specs.Have.{HaveStands}

@@ -1,6 +1,7 @@
 use Rattle.std.proofs.Common.{◌≡◌, ℕ, ◌+◌, ◌-◌, ◌*◌, length, take, drop, ap, ◌∙◌, arith}
+use Rattle.std.proofs.lemmas.List.{length-take, length-drop}
 use Rattle.update_encoder.proofs.PixelRows.{few_positions, part_is_row, row_within}
-use Rattle.update_encoder.proofs.copied.row_of.Goals as goal
+use Rattle.update_encoder.proofs.rows.row_of.Goals as goal
 
 pub overflow_mul-from : goal.overflow_mul-from
 overflow_mul-from c =
@@ -35,8 +36,15 @@ slice_bounds-result-end c =
     let row = row_within a.area.now.x a.area.now.y a.row a.area.now.w a.width a.height (length a.colours.now) c.requires.size c.requires.within.across (omega (arith, c.requires.row, c.requires.within.down)) in
     omega (arith, row)
 
-pub returns : goal.returns
-returns c =
+pub returns-clause-across : goal.returns-clause-across
+returns-clause-across c =
+    let a = c.args in
+    let from : ℕ = (a.area.now.y + a.row) * a.width + a.area.now.x in
+    let row = row_within a.area.now.x a.area.now.y a.row a.area.now.w a.width a.height (length a.colours.now) c.requires.size c.requires.within.across (omega (arith, c.requires.row, c.requires.within.down)) in
+    omega (arith, row, length-take (from + a.area.now.w - from) (drop from a.colours.now), length-drop from a.colours.now)
+
+pub returns-clause-shows : goal.returns-clause-shows
+returns-clause-shows c =
     let a = c.args in
     let from : ℕ = (a.area.now.y + a.row) * a.width + a.area.now.x in
     let wide : from + a.area.now.w - from ≡ a.area.now.w = omega arith in
