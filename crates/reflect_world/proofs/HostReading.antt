@@ -1,14 +1,15 @@
--- Bytes of a host, message by message.
+-- Bytes of a host, message by message. A world reads on where an earlier Put stopped.
 use Rattle.std.proofs.Common.{◌≡◌, ℕ, suc, ◌<◌, true, List, [], ◌∷◌, ◌++◌, length, take, drop, Some, None, refl, ap, sym, ◌∙◌, arith, append_assoc}
 use Rattle.std.specs.Prelude.{slice_get}
 use Rattle.std.specs.List.{filter_map}
 use Rattle.std.proofs.lemmas.List.{append-nil, drop_all, length-drop}
-use Rattle.pixel_format.specs.Reading.{Reading, Done, Faulty, Want, after, step, taken, whole_of, wants_more, renewed, messages, messages_from, rest, rest_from}
-use Rattle.pixel_format.proofs.ReadingLaws.{after-done, after-faulty, messages-open, messages-whole, rest-append, rest-whole, taken-some}
+use Rattle.byte_reading.specs.Reading.{Reading, Done, Faulty, Want, after, step, taken, whole_of, wants_more, renewed, messages, messages_from, rest, rest_from}
+use Rattle.byte_reading.proofs.ReadingLaws.{after-done, after-faulty, messages-open, messages-whole, rest-append, rest-whole, taken-some}
 use Rattle.raster.specs.Update.{Update}
 use Rattle.rfb_wire.specs.ServerMessage.{ServerMessage}
 use Rattle.host_decoder.specs.Updates.{update_of, updates_by}
 use Rattle.host_decoder.proofs.ShortUpdates.{updates-append}
+use Rattle.reflect_world.specs.Host.{with_past}
 
 -- ---- the rest is never a whole message
 
@@ -45,17 +46,21 @@ taken-taken (Want more) (b ∷ bs) = ap suc (taken-taken (more b) bs)
 
 -- ---- one message more
 
+-- The updates in more bytes go on after those in the first.
+pub past-append : (past : List Update) (form : Reading ServerMessage) (xs ys : List ℕ) → with_past past form (xs ++ ys) ≡ with_past past form xs ++ filter_map update_of (messages_from form (rest form xs) ys)
+past-append past form xs ys = ap (λ us. past ++ us) (updates-append form xs ys) ∙ sym (append_assoc past (updates_by form xs) (filter_map update_of (messages_from form (rest form xs) ys)))
+
 -- A message was whole in what was unread, and its bytes are read.
-pub message_read : (form : Reading ServerMessage) (read unread : List ℕ) (m : ServerMessage) → whole_of form ≡ None → after (rest form read) unread ≡ Done m
-    → (updates_by form (read ++ take (taken (rest form read) unread) unread) ≡ updates_by form read ++ filter_map update_of (m ∷ []))
+pub message_read : (past : List Update) (form : Reading ServerMessage) (read unread : List ℕ) (m : ServerMessage) → whole_of form ≡ None → after (rest form read) unread ≡ Done m
+    → (with_past past form (read ++ take (taken (rest form read) unread) unread) ≡ with_past past form read ++ filter_map update_of (m ∷ []))
     × (rest form (read ++ take (taken (rest form read) unread) unread) ≡ form)
-message_read form read unread m e whole =
+message_read past form read unread m e whole =
     let now = rest form read in
     let piece : List ℕ = take (taken now unread) unread in
     let wants : wants_more now ≡ true = faulty_no_whole now unread m (rest_open form read e) whole in
     let said : after now piece ≡ Done m = after-taken now unread ∙ whole in
     let over : drop (taken now piece) piece ≡ [] = drop_all (taken now piece) piece (let all = taken-taken now unread in omega arith) in (
-      updates-append form read piece ∙ ap (λ ms. updates_by form read ++ filter_map update_of ms) (messages-whole form now piece m wants said ∙ ap (λ left. m ∷ messages form left) over),
+      past-append past form read piece ∙ ap (λ ms. with_past past form read ++ filter_map update_of ms) (messages-whole form now piece m wants said ∙ ap (λ left. m ∷ messages form left) over),
       rest-append form form read piece ∙ (rest-whole form now piece m wants said ∙ ap (rest form) over),
     )
 
@@ -69,21 +74,21 @@ message_shortens form read (b ∷ bs) m e whole =
     omega (arith, length-drop (taken now (b ∷ bs)) (b ∷ bs), taken-some now (b ∷ bs) wants (omega arith))
 
 -- No message was whole: there is no update more.
-pub none_read : (form : Reading ServerMessage) (read unread : List ℕ) → whole_of (after (rest form read) unread) ≡ None
-    → (updates_by form (read ++ unread) ≡ updates_by form read) × (rest form (read ++ unread) ≡ after (rest form read) unread)
-none_read form read unread none =
+pub none_read : (past : List Update) (form : Reading ServerMessage) (read unread : List ℕ) → whole_of (after (rest form read) unread) ≡ None
+    → (with_past past form (read ++ unread) ≡ with_past past form read) × (rest form (read ++ unread) ≡ after (rest form read) unread)
+none_read past form read unread none =
     let open_ = messages-open form (rest form read) unread none in (
-      updates-append form read unread ∙ (ap (λ ms. updates_by form read ++ filter_map update_of ms) open_.0 ∙ append-nil (updates_by form read)),
+      past-append past form read unread ∙ (ap (λ ms. with_past past form read ++ filter_map update_of ms) open_.0 ∙ append-nil (with_past past form read)),
       rest-append form form read unread ∙ open_.1,
     )
 
 -- What it took of them are all but those left.
-pub open_read : (form : Reading ServerMessage) (read unread : List ℕ) → whole_of (after (rest form read) unread) ≡ None
-    → (updates_by form (read ++ take (taken (rest form read) unread) unread) ≡ updates_by form read) × (rest form (read ++ take (taken (rest form read) unread) unread) ≡ after (rest form read) unread)
-open_read form read unread none =
+pub open_read : (past : List Update) (form : Reading ServerMessage) (read unread : List ℕ) → whole_of (after (rest form read) unread) ≡ None
+    → (with_past past form (read ++ take (taken (rest form read) unread) unread) ≡ with_past past form read) × (rest form (read ++ take (taken (rest form read) unread) unread) ≡ after (rest form read) unread)
+open_read past form read unread none =
     let now = rest form read in
     let same : after now (take (taken now unread) unread) ≡ after now unread = after-taken now unread in
-    let here = none_read form read (take (taken now unread) unread) (ap whole_of same ∙ none) in
+    let here = none_read past form read (take (taken now unread) unread) (ap whole_of same ∙ none) in
     (here.0, here.1 ∙ same)
 
 -- ---- the next update
@@ -92,12 +97,12 @@ slice_get-behind : (us more : List Update) → slice_get (us ++ more) (length us
 slice_get-behind [] more = refl
 slice_get-behind (u ∷ us) more = slice_get-behind us more
 
--- The update behind others, of bytes that go on.
-pub next_update : (form : Reading ServerMessage) (read unread : List ℕ) (us : List Update) (u : Update) → updates_by form read ≡ us ++ u ∷ []
-    → slice_get (updates_by form (read ++ unread)) (length us) ≡ Some u
-next_update form read unread us u e =
+-- The update after others, of bytes that go on.
+pub next_update : (past : List Update) (form : Reading ServerMessage) (read unread : List ℕ) (us : List Update) (u : Update) → with_past past form read ≡ us ++ u ∷ []
+    → slice_get (with_past past form (read ++ unread)) (length us) ≡ Some u
+next_update past form read unread us u e =
     let more : List Update = filter_map update_of (messages_from form (rest form read) unread) in
-    ap (λ all. slice_get all (length us)) (updates-append form read unread ∙ (ap (λ t. t ++ more) e ∙ append_assoc us (u ∷ []) more)) ∙ slice_get-behind us (u ∷ more)
+    ap (λ all. slice_get all (length us)) (past-append past form read unread ∙ (ap (λ t. t ++ more) e ∙ append_assoc us (u ∷ []) more)) ∙ slice_get-behind us (u ∷ more)
 
 pub no_next : (us : List Update) → slice_get us (length us) ≡ None
 no_next us = ap (λ t. slice_get t (length us)) (sym (append-nil us)) ∙ slice_get-behind us []

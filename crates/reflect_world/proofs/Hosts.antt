@@ -1,27 +1,27 @@
--- What a host keeps, as its bytes come and are read.
+-- What a host keeps, as its bytes come and are read. `Host::next_patch` gives the next update of all bytes so far.
 use Rattle.std.proofs.Common.{◌≡◌, ℕ, ◌+◌, ◌<◌, true, List, [], ◌∷◌, ◌++◌, length, take, drop, Option, Some, None, Ok, Err, inl, inr, refl, ap, sym, ◌∙◌, subst, arith, append_assoc, length-append}
 use Rattle.std.specs.Prelude.{IfSome, Result, slice_get}
 use Rattle.std.specs.List.{filter_map}
 use Rattle.std.proofs.lemmas.List.{append-nil, take-append-drop}
 use Rattle.pixel_format.specs.declared.fault.Fault.{Fault}
 use Rattle.pixel_format.specs.declared.fault.Fault.TheVariants.{Memory}
-use Rattle.pixel_format.specs.Reading.{Reading, Done, Faulty, Want, after, messages_from, taken, fault_of, renewed, rest, whole_of}
+use Rattle.byte_reading.specs.Reading.{Reading, Done, Faulty, Want, after, messages_from, taken, fault_of, renewed, rest, whole_of}
 use Rattle.raster.specs.Screen.{Canvas, LooksLike, opening}
-use Rattle.raster.specs.Update.{Update, after_updates, screen}
+use Rattle.raster.specs.Switch.{switch}
+use Rattle.raster.specs.Update.{Update, after_paints, after_updates, paints_of, screen}
 use Rattle.rfb_wire.specs.ServerMessage.{ServerMessage, FramebufferUpdate, SetColorMapEntries, Bell, ServerCutText, LostText}
 use Rattle.painter.specs.Patch.{SizedUpdate}
-use Rattle.painter.specs.Same.{AreSameFrom}
+use Rattle.painter.specs.Same.{AreSameFrom, AreSameUpdates}
 use Rattle.painter.proofs.SameLaws.{after_each, same_append, same_shows}
-use Rattle.host_decoder.specs.Decoder.{Decoding, Decodes, Feeds, host_message, is_refused}
-use Rattle.painter.specs.Painter.{Painting}
-use Rattle.host_decoder.proofs.ShortUpdates.{updates-append}
+use Rattle.host_decoder.specs.Decoder.{Decoding, Decodes, Feeds, Holds, host_message, is_refused}
+use Rattle.painter.specs.Painter.{IsPaintedOver, Painting}
 use Rattle.reflect_core.specs.Sequential.{Begins}
 use Rattle.host_decoder.specs.Events.{Brings, BringsWhole, IsSized, brought_by, changes, screen_behind}
-use Rattle.host_decoder.specs.Updates.{update_of, updates_by}
+use Rattle.host_decoder.specs.Updates.{update_of}
 use Rattle.host_decoder.specs.declared.event.HostEvent.{HostEvent}
 use Rattle.host_decoder.specs.declared.event.HostEvent.TheVariants as event
-use Rattle.reflect_world.specs.Host.{CanRead, HasReadTo, HostSide, HostStands, IsReadOut, IsSameHost, ReadsMessage, ReadsOn, form_of, patch_in, waiting_list}
-use Rattle.reflect_world.proofs.HostReading.{message_read, message_shortens, next_update, none_read, open_read}
+use Rattle.reflect_world.specs.Host.{BeginsNext, CanRead, HasReadTo, HostSide, HostStands, IsReadOut, IsSameHost, ReadsMessage, ReadsOn, form_of, patch_in, waiting_list, with_past}
+use Rattle.reflect_world.proofs.HostReading.{message_read, message_shortens, next_update, none_read, open_read, past-append}
 
 -- ---- what comes to the same
 
@@ -50,32 +50,32 @@ next_in (u ∷ us) more (v ∷ all) others e count =
     (next.0, ap (λ x. x ∷ all) (sym first) ∙ ap (λ l. u ∷ l) next.1)
 
 -- The next update of the bytes, and what it comes to.
-pub record IsNext (w h : ℕ) (form : Reading ServerMessage) (bytes : List ℕ) (us put : List Update) : Type 0 where
+pub record IsNext (w h : ℕ) (past : List Update) (form : Reading ServerMessage) (bytes : List ℕ) (us put : List Update) : Type 0 where
   pub update : Update
-  pub there : slice_get (updates_by form bytes) (length us) ≡ Some update
+  pub there : slice_get (with_past past form bytes) (length us) ≡ Some update
   pub same : AreSameFrom w h opening opening (us ++ update ∷ []) put
 
 -- The update put next, where it was read and none waits.
-pub next_of : (bytes : List ℕ) (us vs : List Update) (host : HostSide) (v : Update) → host.waiting ≡ None → Begins us (updates_by (form_of host) bytes) → length us ≡ length vs → HasReadTo bytes (vs ++ v ∷ []) host
-    → IsNext host.decoder.width host.decoder.height (form_of host) bytes us (vs ++ v ∷ [])
-next_of bytes us vs host v none begins count r =
+pub next_of : (past : List Update) (bytes : List ℕ) (us vs : List Update) (host : HostSide) (v : Update) → host.waiting ≡ None → Begins us (with_past past (form_of host) bytes) → length us ≡ length vs → HasReadTo past bytes (vs ++ v ∷ []) host
+    → IsNext host.decoder.width host.decoder.height past (form_of host) bytes us (vs ++ v ∷ [])
+next_of past bytes us vs host v none begins count r =
     let form = form_of host in
-    let all : List Update = updates_by form r.read in
+    let all : List Update = with_past past form r.read in
     let others : List Update = filter_map update_of (messages_from form (rest form r.read) host.unread) in
     let so_far : AreSameFrom host.decoder.width host.decoder.height opening opening all (vs ++ v ∷ []) = none_waits host all (vs ++ v ∷ []) none r.updates in
-    let next = next_in us begins.0 all others (sym begins.1 ∙ (ap (updates_by form) r.split ∙ updates-append form r.read host.unread)) (omega (arith, so_far.count, length-append vs (v ∷ []), count)) in
+    let next = next_in us begins.0 all others (sym begins.1 ∙ (ap (with_past past form) r.split ∙ past-append past form r.read host.unread)) (omega (arith, so_far.count, length-append vs (v ∷ []), count)) in
     record {
       update = next.0;
-      there = ap (λ bs. slice_get (updates_by form bs) (length us)) r.split ∙ next_update form r.read host.unread us next.0 next.1;
+      there = ap (λ bs. slice_get (with_past past form bs) (length us)) r.split ∙ next_update past form r.read host.unread us next.0 next.1;
       same = subst (λ (l : List Update). AreSameFrom host.decoder.width host.decoder.height opening opening l (vs ++ v ∷ [])) next.1 so_far;
     }
 
 -- ---- before it is read
 
 -- More bytes come.
-pub host_grows : (host : HostSide) (more unread all : List ℕ) (us : List Update) → unread ≡ host.unread ++ more → HostStands all us host → HostStands (all ++ more) us (record host { unread = unread })
-host_grows host more unread all us is (inl refused) = inl refused
-host_grows host more unread all us is (inr r) =
+pub host_grows : (host : HostSide) (past : List Update) (more unread all : List ℕ) (us : List Update) → unread ≡ host.unread ++ more → HostStands past all us host → HostStands past (all ++ more) us (record host { unread = unread })
+host_grows host past more unread all us is (inl refused) = inl refused
+host_grows host past more unread all us is (inr r) =
     inr (record {
       read = r.read;
       split = ap (λ bs. bs ++ more) r.split ∙ (append_assoc r.read host.unread more ∙ ap (λ bs. r.read ++ bs) (sym is));
@@ -84,21 +84,21 @@ host_grows host more unread all us is (inr r) =
     })
 
 -- An update that was read waits.
-pub host_keeps : (host : HostSide) (patch : SizedUpdate) (bytes : List ℕ) (us : List Update) → host.waiting ≡ None → HasReadTo bytes (us ++ patch.update ∷ []) host
-    → HasReadTo bytes us (record host { waiting = Some patch })
-host_keeps host patch bytes us none r =
+pub host_keeps : (host : HostSide) (patch : SizedUpdate) (past : List Update) (bytes : List ℕ) (us : List Update) → host.waiting ≡ None → HasReadTo past bytes (us ++ patch.update ∷ []) host
+    → HasReadTo past bytes us (record host { waiting = Some patch })
+host_keeps host patch past bytes us none r =
     record {
       read = r.read;
       split = r.split;
-      updates = none_waits host (updates_by (form_of host) r.read) (us ++ patch.update ∷ []) none r.updates;
+      updates = none_waits host (with_past past (form_of host) r.read) (us ++ patch.update ∷ []) none r.updates;
       decodes = r.decodes;
     }
 
 -- It is taken.
 pub host_hands_on : (host : HostSide) (patch : SizedUpdate) (waiting : Option SizedUpdate) → host.waiting ≡ Some patch → waiting ≡ None → ReadsOn host (record host { waiting = waiting }) (Ok (Some patch))
-host_hands_on host patch waiting is none bytes us (inl refused) = absurd (let e = sym is ∙ refused.1 in cc)
-host_hands_on host patch waiting is none bytes us (inr r) =
-    let all : List Update = updates_by (form_of host) r.read in
+host_hands_on host patch waiting is none past bytes us (inl refused) = absurd (let e = sym is ∙ refused.1 in cc)
+host_hands_on host patch waiting is none past bytes us (inr r) =
+    let all : List Update = with_past past (form_of host) r.read in
     record {
       read = r.read;
       split = r.split;
@@ -145,7 +145,7 @@ event_size w h (event.Cut patch) k = k
 event_size w h event.Map k = tt
 event_size w h event.LongCut k = tt
 
--- The message behind an event.
+-- The message after an event.
 record HasCome (w h : ℕ) (start : Canvas) (r : Reading ServerMessage) (event : HostEvent) : Type 0 where
   message : ServerMessage
   whole : r ≡ Done message
@@ -176,7 +176,7 @@ renewed_same form (Done m) e = absurd cc
 renewed_same form (Faulty f) e = refl
 renewed_same form (Want more) e = refl
 
--- The host behind a message.
+-- The host after a message.
 abbrev pub read_host : HostSide → Decoding → Painting → ℕ → HostSide
 read_host host decoder painter used = record { decoder = decoder; painter = painter; unread = drop used host.unread; waiting = None }
 
@@ -186,20 +186,20 @@ message_same old new e = ap (λ w. host_message w new.height) e.0 ∙ ap (host_m
 split_read : (bytes read unread : List ℕ) (used : ℕ) → bytes ≡ read ++ unread → bytes ≡ (read ++ take used unread) ++ drop used unread
 split_read bytes read unread used e = e ∙ (ap (λ bs. read ++ bs) (sym (take-append-drop used unread)) ∙ sym (append_assoc read (take used unread) (drop used unread)))
 
-one_message_read : (host : HostSide) (fed new : Decoding) (painter : Painting) (used : ℕ) (event : HostEvent) (bytes : List ℕ) (us : List Update) → host.waiting ≡ None
-    → IsSameSize host.decoder fed → IsSameSize fed new → WasFed host fed painter (Ok used) → Gave fed new painter (Some event) → HasReadTo bytes us host
-    → HasReadTo bytes (us ++ waiting_list (patch_in event)) (read_host host new painter used)
-one_message_read host fed new painter used event bytes us none to_fed to_new was gave r =
+one_message_read : (host : HostSide) (fed new : Decoding) (painter : Painting) (used : ℕ) (event : HostEvent) (past : List Update) (bytes : List ℕ) (us : List Update) → host.waiting ≡ None
+    → IsSameSize host.decoder fed → IsSameSize fed new → WasFed host fed painter (Ok used) → Gave fed new painter (Some event) → HasReadTo past bytes us host
+    → HasReadTo past bytes (us ++ waiting_list (patch_in event)) (read_host host new painter used)
+one_message_read host fed new painter used event past bytes us none to_fed to_new was gave r =
     let form = form_of host in
     let w : ℕ = host.decoder.width in
     let h : ℕ = host.decoder.height in
     let now = rest form r.read in
-    let all : List Update = updates_by form r.read in
+    let all : List Update = with_past past form r.read in
     let f = was (screen all) now r.decodes in
     let g = gave (screen all) (after now host.unread) f.0 in
     let come = come_from fed.width fed.height (screen all) (after now host.unread) event g.0 in
     let one : List Update = filter_map update_of (come.message ∷ []) in
-    let read = message_read form r.read host.unread come.message refl come.whole in
+    let read = message_read past form r.read host.unread come.message refl come.whole in
     let new_host : HostSide = read_host host new painter used in
     let read_now : List ℕ = r.read ++ take used host.unread in
     let count : read_now ≡ r.read ++ take (taken now host.unread) host.unread = ap (λ n. r.read ++ take n host.unread) f.1 in
@@ -208,38 +208,38 @@ one_message_read host fed new painter used event bytes us none to_fed to_new was
     let brings : AreSameFrom w h (screen all) (screen us) one (waiting_list (patch_in event)) =
     brings_at host fed (screen all) event come.message to_fed come.brings (screen us) (same_shows w h opening opening all us before) in
     let now_same : AreSameFrom w h opening opening (all ++ one) (us ++ waiting_list (patch_in event)) = same_append w h opening opening all us one (waiting_list (patch_in event)) before brings in
-    let all_now : all ++ one ≡ updates_by (form_of new_host) read_now = sym (ap (λ x. updates_by x read_now) same_form ∙ (ap (updates_by form) count ∙ read.0)) in
+    let all_now : all ++ one ≡ with_past past (form_of new_host) read_now = sym (ap (λ x. with_past past x read_now) same_form ∙ (ap (with_past past form) count ∙ read.0)) in
     let reading_is : renewed (host_message fed.width fed.height) (after now host.unread) ≡ rest (form_of new_host) read_now =
     ap (renewed (host_message fed.width fed.height)) come.whole
     ∙ (message_same host.decoder fed to_fed
     ∙ (sym read.1 ∙ (ap (rest form) (sym count) ∙ ap (λ x. rest x read_now) (sym same_form)))) in
-    let start_is : screen_behind fed.width fed.height (screen all) (whole_of (after now host.unread)) ≡ screen (updates_by (form_of new_host) read_now) =
+    let start_is : screen_behind fed.width fed.height (screen all) (whole_of (after now host.unread)) ≡ screen (with_past past (form_of new_host) read_now) =
     ap (λ x. screen_behind fed.width fed.height (screen all) (whole_of x)) come.whole
     ∙ (ap (after_updates (screen all)) (changes_are fed.width fed.height come.message) ∙ (sym (after_each opening all one) ∙ ap screen all_now)) in
     record {
       read = read_now;
       split = split_read bytes r.read host.unread used r.split;
-      updates = some_waits new.width new.height (updates_by (form_of new_host) read_now) (us ++ waiting_list (patch_in event)) None refl
+      updates = some_waits new.width new.height (with_past past (form_of new_host) read_now) (us ++ waiting_list (patch_in event)) None refl
           (subst (λ (l : List Update). AreSameFrom new.width new.height opening opening l (us ++ waiting_list (patch_in event))) all_now
           (same_size w h new.width new.height (all ++ one) (us ++ waiting_list (patch_in event)) (sym (to_new.0 ∙ to_fed.0)) (sym (to_new.1 ∙ to_fed.1)) now_same));
-      decodes = subst (Decodes new painter (screen (updates_by (form_of new_host) read_now))) reading_is
+      decodes = subst (Decodes new painter (screen (with_past past (form_of new_host) read_now))) reading_is
           (subst (λ (start : Canvas). Decodes new painter start (renewed (host_message fed.width fed.height) (after now host.unread))) start_is g.1);
     }
 
 -- A message was whole: its update was read, if it brings one.
 pub message_comes : (host : HostSide) (fed new : Decoding) (painter : Painting) (used : ℕ) (event : HostEvent) → host.waiting ≡ None → (is_refused host.decoder.state ≡ true → ⊥)
     → IsSameSize host.decoder fed → IsSameSize fed new → WasFed host fed painter (Ok used) → Gave fed new painter (Some event) → ReadsMessage host (read_host host new painter used) (patch_in event)
-message_comes host fed new painter used event none fine to_fed to_new was gave bytes us (inl refused) = absurd (fine refused.0)
-message_comes host fed new painter used event none fine to_fed to_new was gave bytes us (inr r) = one_message_read host fed new painter used event bytes us none to_fed to_new was gave r
+message_comes host fed new painter used event none fine to_fed to_new was gave past bytes us (inl refused) = absurd (fine refused.0)
+message_comes host fed new painter used event none fine to_fed to_new was gave past bytes us (inr r) = one_message_read host fed new painter used event past bytes us none to_fed to_new was gave r
 
 pub message_is_of_size : (host : HostSide) (fed new : Decoding) (painter : Painting) (used : ℕ) (event : HostEvent) → CanRead host → (is_refused host.decoder.state ≡ true → ⊥)
     → IsSameSize host.decoder fed → WasFed host fed painter (Ok used) → Gave fed new painter (Some event)
     → IfSome (patch_in event) (IsOfSize host.decoder.width host.decoder.height) × (length (drop used host.unread) < length host.unread)
-message_is_of_size host fed new painter used event can fine to_fed was gave = elim can.2 [
+message_is_of_size host fed new painter used event can fine to_fed was gave = elim can.3 [
   | inl refused ↦ absurd (fine refused.0)
   | inr r ↦ (
       let form = form_of host in
-      let all : Canvas = screen (updates_by form r.read) in
+      let all : Canvas = screen (with_past can.0 form r.read) in
       let now = rest form r.read in
       let f = was all now r.decodes in
       let g = gave all (after now host.unread) f.0 in
@@ -252,73 +252,73 @@ message_is_of_size host fed new painter used event can fine to_fed was gave = el
 -- None was whole: all that came is read.
 pub message_is_missing : (host : HostSide) (fed new : Decoding) (painter : Painting) (used : ℕ) → host.waiting ≡ None → (is_refused host.decoder.state ≡ true → ⊥)
     → IsSameSize host.decoder fed → IsSameSize fed new → WasFed host fed painter (Ok used) → Gave fed new painter None → ReadsOn host (read_host host new painter used) (Ok None)
-message_is_missing host fed new painter used none fine to_fed to_new was gave bytes us (inl refused) = absurd (fine refused.0)
-message_is_missing host fed new painter used none fine to_fed to_new was gave bytes us (inr r) =
+message_is_missing host fed new painter used none fine to_fed to_new was gave past bytes us (inl refused) = absurd (fine refused.0)
+message_is_missing host fed new painter used none fine to_fed to_new was gave past bytes us (inr r) =
     let form = form_of host in
     let w : ℕ = host.decoder.width in
     let h : ℕ = host.decoder.height in
-    let all : List Update = updates_by form r.read in
+    let all : List Update = with_past past form r.read in
     let now = rest form r.read in
     let f = was (screen all) now r.decodes in
     let g = gave (screen all) (after now host.unread) f.0 in
     let open_ : whole_of (after now host.unread) ≡ None = none_from fed.width fed.height (screen all) (after now host.unread) g.0 in
-    let read = open_read form r.read host.unread open_ in
-    let all_read = none_read form r.read host.unread open_ in
+    let read = open_read past form r.read host.unread open_ in
+    let all_read = none_read past form r.read host.unread open_ in
     let new_host : HostSide = read_host host new painter used in
     let read_now : List ℕ = r.read ++ take used host.unread in
     let count : read_now ≡ r.read ++ take (taken now host.unread) host.unread = ap (λ n. r.read ++ take n host.unread) f.1 in
     let same_form : form_of new_host ≡ form = message_same fed new to_new ∙ message_same host.decoder fed to_fed in
     let before : AreSameFrom w h opening opening all us = none_waits host all us none r.updates in
-    let all_now : all ≡ updates_by (form_of new_host) read_now = sym (ap (λ x. updates_by x read_now) same_form ∙ (ap (updates_by form) count ∙ read.0)) in
+    let all_now : all ≡ with_past past (form_of new_host) read_now = sym (ap (λ x. with_past past x read_now) same_form ∙ (ap (with_past past form) count ∙ read.0)) in
     let reading_is : renewed (host_message fed.width fed.height) (after now host.unread) ≡ rest (form_of new_host) read_now =
     renewed_same (host_message fed.width fed.height) (after now host.unread) open_
     ∙ (sym read.1 ∙ (ap (rest form) (sym count) ∙ ap (λ x. rest x read_now) (sym same_form))) in
-    let start_is : screen_behind fed.width fed.height (screen all) (whole_of (after now host.unread)) ≡ screen (updates_by (form_of new_host) read_now) =
+    let start_is : screen_behind fed.width fed.height (screen all) (whole_of (after now host.unread)) ≡ screen (with_past past (form_of new_host) read_now) =
     ap (screen_behind fed.width fed.height (screen all)) open_ ∙ ap screen all_now in (
       record {
         read = read_now;
         split = split_read bytes r.read host.unread used r.split;
-        updates = some_waits new.width new.height (updates_by (form_of new_host) read_now) us None refl
+        updates = some_waits new.width new.height (with_past past (form_of new_host) read_now) us None refl
             (subst (λ (l : List Update). AreSameFrom new.width new.height opening opening l us) all_now (same_size w h new.width new.height all us (sym (to_new.0 ∙ to_fed.0)) (sym (to_new.1 ∙ to_fed.1)) before));
-        decodes = subst (Decodes new painter (screen (updates_by (form_of new_host) read_now))) reading_is
+        decodes = subst (Decodes new painter (screen (with_past past (form_of new_host) read_now))) reading_is
             (subst (λ (start : Canvas). Decodes new painter start (renewed (host_message fed.width fed.height) (after now host.unread))) start_is g.1);
       },
       record {
-        none_left = ap (λ x. length (updates_by x bytes)) same_form ∙ (ap (λ bs. length (updates_by form bs)) r.split ∙ (ap length all_read.0 ∙ before.count));
+        none_left = ap (λ x. length (with_past past x bytes)) same_form ∙ (ap (λ bs. length (with_past past form bs)) r.split ∙ (ap length all_read.0 ∙ before.count));
         stands_at = ap (λ x. fault_of (rest x bytes)) same_form ∙ (ap (λ bs. fault_of (rest form bs)) r.split ∙ (ap fault_of all_read.1 ∙ f.2));
       },
     )
 
--- The host behind a fault, or where memory was refused.
+-- The host after a fault, or where memory was refused.
 abbrev pub failed_host : HostSide → Decoding → Painting → HostSide
 failed_host host decoder painter = record { decoder = decoder; painter = painter; unread = []; waiting = None }
 
-fault_read : (host : HostSide) (fed : Decoding) (painter : Painting) (fault : Fault) (bytes : List ℕ) (us : List Update) → host.waiting ≡ None → IsSameSize host.decoder fed
-    → (r : HasReadTo bytes us host) → after (rest (form_of host) r.read) host.unread ≡ Faulty fault
-    → Decodes fed painter (screen (updates_by (form_of host) r.read)) (after (rest (form_of host) r.read) host.unread)
-    → HasReadTo bytes us (failed_host host fed painter) × IsReadOut bytes us (form_of (failed_host host fed painter)) (Some fault)
-fault_read host fed painter fault bytes us none to_fed r at decodes =
+fault_read : (host : HostSide) (fed : Decoding) (painter : Painting) (fault : Fault) (past : List Update) (bytes : List ℕ) (us : List Update) → host.waiting ≡ None → IsSameSize host.decoder fed
+    → (r : HasReadTo past bytes us host) → after (rest (form_of host) r.read) host.unread ≡ Faulty fault
+    → Decodes fed painter (screen (with_past past (form_of host) r.read)) (after (rest (form_of host) r.read) host.unread)
+    → HasReadTo past bytes us (failed_host host fed painter) × IsReadOut past bytes us (form_of (failed_host host fed painter)) (Some fault)
+fault_read host fed painter fault past bytes us none to_fed r at decodes =
     let form = form_of host in
     let now = rest form r.read in
-    let all : List Update = updates_by form r.read in
-    let all_read = none_read form r.read host.unread (ap whole_of at) in
+    let all : List Update = with_past past form r.read in
+    let all_read = none_read past form r.read host.unread (ap whole_of at) in
     let new_host : HostSide = failed_host host fed painter in
     let read_now : List ℕ = r.read ++ host.unread in
     let same_form : form_of new_host ≡ form = message_same host.decoder fed to_fed in
     let before : AreSameFrom host.decoder.width host.decoder.height opening opening all us = none_waits host all us none r.updates in
-    let all_now : all ≡ updates_by (form_of new_host) read_now = sym (ap (λ x. updates_by x read_now) same_form ∙ all_read.0) in
+    let all_now : all ≡ with_past past (form_of new_host) read_now = sym (ap (λ x. with_past past x read_now) same_form ∙ all_read.0) in
     let reading_is : after now host.unread ≡ rest (form_of new_host) read_now = sym all_read.1 ∙ ap (λ x. rest x read_now) (sym same_form) in (
       record {
         read = read_now;
         split = r.split ∙ sym (append-nil read_now);
-        updates = some_waits fed.width fed.height (updates_by (form_of new_host) read_now) us None refl
+        updates = some_waits fed.width fed.height (with_past past (form_of new_host) read_now) us None refl
             (subst (λ (l : List Update). AreSameFrom fed.width fed.height opening opening l us) all_now
             (same_size host.decoder.width host.decoder.height fed.width fed.height all us (sym to_fed.0) (sym to_fed.1) before));
-        decodes = subst (Decodes fed painter (screen (updates_by (form_of new_host) read_now))) reading_is
+        decodes = subst (Decodes fed painter (screen (with_past past (form_of new_host) read_now))) reading_is
             (subst (λ (start : Canvas). Decodes fed painter start (after now host.unread)) (ap screen all_now) decodes);
       },
       record {
-        none_left = ap (λ x. length (updates_by x bytes)) same_form ∙ (ap (λ bs. length (updates_by form bs)) r.split ∙ (ap length all_read.0 ∙ before.count));
+        none_left = ap (λ x. length (with_past past x bytes)) same_form ∙ (ap (λ bs. length (with_past past form bs)) r.split ∙ (ap length all_read.0 ∙ before.count));
         stands_at = ap (λ x. fault_of (rest x bytes)) same_form ∙ (ap (λ bs. fault_of (rest form bs)) r.split ∙ (ap fault_of all_read.1 ∙ ap fault_of at));
       },
     )
@@ -327,10 +327,10 @@ fault_read host fed painter fault bytes us none to_fed r at decodes =
 pub message_fails : (host : HostSide) (fed : Decoding) (painter : Painting) (fault : Fault) → host.waiting ≡ None
     → (is_refused host.decoder.state ≡ true → (fault ≡ Memory) × (is_refused fed.state ≡ true))
     → IsSameSize host.decoder fed → WasFed host fed painter (Err fault) → ReadsOn host (failed_host host fed painter) (Err fault)
-message_fails host fed painter fault none stays to_fed was bytes us (inl refused) = let so = stays refused.0 in (inl (so.1, refl), inl so.0)
-message_fails host fed painter fault none stays to_fed was bytes us (inr r) = elim (was (screen (updates_by (form_of host) r.read)) (rest (form_of host) r.read) r.decodes) [
+message_fails host fed painter fault none stays to_fed was past bytes us (inl refused) = let so = stays refused.0 in (inl (so.1, refl), inl so.0)
+message_fails host fed painter fault none stays to_fed was past bytes us (inr r) = elim (was (screen (with_past past (form_of host) r.read)) (rest (form_of host) r.read) r.decodes) [
   | inl memory ↦ (inl (memory.1, refl), inl memory.0)
-  | inr at ↦ (let it = fault_read host fed painter fault bytes us none to_fed r at.0 at.1 in (inr it.0, inr it.1))
+  | inr at ↦ (let it = fault_read host fed painter fault past bytes us none to_fed r at.0 at.1 in (inr it.0, inr it.1))
 ]
 
 -- ---- the same, as the fields say it
@@ -389,30 +389,78 @@ one_fails host old fed painter piece unread waiting fault same none all stays to
     subst (λ (h : HostSide). ReadsOn h (record { decoder = fed; painter = painter; unread = unread; waiting = waiting }) (Err fault)) same
     (subst (λ (h : HostSide). ReadsOn host h (Err fault)) (ap with_unread (sym left) ∙ ap with_waiting (sym (kept ∙ none_here))) here)
 
+-- ---- the next host
+
+-- What isn't longer with a rest has no rest.
+no_rest : (us more : List Update) → length (us ++ more) ≡ length us → more ≡ []
+no_rest us [] e = refl
+no_rest us (u ∷ more) e = absurd (omega (arith, length-append us (u ∷ more), e))
+
+-- All that the host sent was read.
+all_read_out : (past : List Update) (bytes : List ℕ) (us : List Update) (host : HostSide) → host.waiting ≡ None → (r : HasReadTo past bytes us host) → IsReadOut past bytes us (form_of host) None
+    → with_past past (form_of host) r.read ≡ with_past past (form_of host) bytes
+all_read_out past bytes us host none r out =
+    let form = form_of host in
+    let all : List Update = with_past past form r.read in
+    let more : List Update = filter_map update_of (messages_from form (rest form r.read) host.unread) in
+    let so_far = none_waits host all us none r.updates in
+    let longer : with_past past form bytes ≡ all ++ more = ap (with_past past form) r.split ∙ past-append past form r.read host.unread in
+    let over : more ≡ [] = no_rest all more (ap length (sym longer) ∙ (out.none_left ∙ sym so_far.count)) in
+    sym (append-nil all) ∙ (ap (λ us. all ++ us) (sym over) ∙ sym longer)
+
+-- A switch comes to the same as the patch that waits.
+pub host_begins : (host : HostSide) (new : Decoding) (painter : Painting) (patch : SizedUpdate) → host.waiting ≡ None → IsSameSize host.decoder new
+    → ((start : Canvas) → AreSameUpdates host.decoder.width host.decoder.height start (switch host.decoder.width host.decoder.height ∷ []) (patch.update ∷ []))
+    → ((start : Canvas) → IsPaintedOver (after_paints start (paints_of (switch host.decoder.width host.decoder.height))) [] painter)
+    → ((start : Canvas) → Holds start painter [] → Decodes new painter start (host_message host.decoder.width host.decoder.height))
+    → BeginsNext host (record { decoder = new; painter = painter; unread = []; waiting = Some patch })
+host_begins host new painter patch none to_new same black begins past bytes us r out =
+    let w : ℕ = host.decoder.width in
+    let h : ℕ = host.decoder.height in
+    let form = form_of host in
+    let all : List Update = with_past past form r.read in
+    let one : List Update = switch w h ∷ [] in
+    let before : AreSameFrom w h opening opening all us = none_waits host all us none r.updates in
+    let read : all ≡ with_past past form bytes = all_read_out past bytes us host none r out in
+    let both : AreSameFrom w h opening opening (all ++ one) (us ++ patch.update ∷ []) =
+    same_append w h opening opening all us one (patch.update ∷ []) before (same (screen all) (screen us) (same_shows w h opening opening all us before)) in
+    let next : List Update = with_past past form bytes ++ one in
+    let new_form = host_message new.width new.height in
+    let none_yet : all ++ one ≡ with_past next new_form [] = ap (λ us. us ++ one) read ∙ sym (append-nil next) in
+    let shown : after_paints (screen all) (paints_of (switch w h)) ≡ screen (with_past next new_form []) = sym (after_each opening all one) ∙ ap screen none_yet in
+    record {
+      read = [];
+      split = refl;
+      updates = subst (λ (l : List Update). AreSameFrom new.width new.height opening opening l (us ++ patch.update ∷ [])) none_yet
+          (same_size w h new.width new.height (all ++ one) (us ++ patch.update ∷ []) (sym to_new.0) (sym to_new.1) both);
+      decodes = subst (Decodes new painter (screen (with_past next new_form []))) (message_same new host.decoder (sym to_new.0, sym to_new.1))
+          (begins (screen (with_past next new_form [])) (subst (λ (c : Canvas). IsPaintedOver c [] painter) shown (black (screen all))));
+    }
+
 -- ---- message after message
 
 -- What was read on from a host that stands for what another stood for.
-pub reads_on_from : (old mid new : HostSide) (answer : Result (Option SizedUpdate) Fault) → ((bytes : List ℕ) (us : List Update) → HostStands bytes us old → HostStands bytes us mid) → ReadsOn mid new answer
+pub reads_on_from : (old mid new : HostSide) (answer : Result (Option SizedUpdate) Fault) → ((past : List Update) (bytes : List ℕ) (us : List Update) → HostStands past bytes us old → HostStands past bytes us mid) → ReadsOn mid new answer
     → ReadsOn old new answer
-reads_on_from old mid new (Ok (Some patch)) stands reads = λ bytes us k. reads bytes us (stands bytes us k)
-reads_on_from old mid new (Ok None) stands reads = λ bytes us k. reads bytes us (stands bytes us k)
-reads_on_from old mid new (Err fault) stands reads = λ bytes us k. reads bytes us (stands bytes us k)
+reads_on_from old mid new (Ok (Some patch)) stands reads = λ past bytes us k. reads past bytes us (stands past bytes us k)
+reads_on_from old mid new (Ok None) stands reads = λ past bytes us k. reads past bytes us (stands past bytes us k)
+reads_on_from old mid new (Err fault) stands reads = λ past bytes us k. reads past bytes us (stands past bytes us k)
 
 -- A message that brings an update.
 pub patch_comes : (old mid new : HostSide) (answer : Option HostEvent) (event : HostEvent) (patch : SizedUpdate) → answer ≡ Some event → patch_in event ≡ Some patch
-    → ((bytes : List ℕ) (us : List Update) → HostStands bytes us old → HostStands bytes us mid) → IfSome answer (λ e. ReadsMessage mid new (patch_in e)) → ReadsOn old new (Ok (Some patch))
-patch_comes old mid new answer event patch is brings stands reads bytes us k =
+    → ((past : List Update) (bytes : List ℕ) (us : List Update) → HostStands past bytes us old → HostStands past bytes us mid) → IfSome answer (λ e. ReadsMessage mid new (patch_in e)) → ReadsOn old new (Ok (Some patch))
+patch_comes old mid new answer event patch is brings stands reads past bytes us k =
     let here : ReadsMessage mid new (patch_in event) = subst (λ o. IfSome o (λ e. ReadsMessage mid new (patch_in e))) is reads in
-    subst (λ o. HasReadTo bytes (us ++ waiting_list o) new) brings (here bytes us (stands bytes us k))
+    subst (λ o. HasReadTo past bytes (us ++ waiting_list o) new) brings (here past bytes us (stands past bytes us k))
 
 -- One that brings none.
 pub nothing_comes : (old mid new : HostSide) (answer : Option HostEvent) (event : HostEvent) → answer ≡ Some event → patch_in event ≡ None
-    → ((bytes : List ℕ) (us : List Update) → HostStands bytes us old → HostStands bytes us mid) → IfSome answer (λ e. ReadsMessage mid new (patch_in e))
-    → (bytes : List ℕ) (us : List Update) → HostStands bytes us old → HostStands bytes us new
-nothing_comes old mid new answer event is none stands reads bytes us k =
+    → ((past : List Update) (bytes : List ℕ) (us : List Update) → HostStands past bytes us old → HostStands past bytes us mid) → IfSome answer (λ e. ReadsMessage mid new (patch_in e))
+    → (past : List Update) (bytes : List ℕ) (us : List Update) → HostStands past bytes us old → HostStands past bytes us new
+nothing_comes old mid new answer event is none stands reads past bytes us k =
     let here : ReadsMessage mid new (patch_in event) = subst (λ o. IfSome o (λ e. ReadsMessage mid new (patch_in e))) is reads in
     let same : us ++ waiting_list (patch_in event) ≡ us = ap (λ o. us ++ waiting_list o) none ∙ append-nil us in
-    inr (subst (λ updates. HasReadTo bytes updates new) same (here bytes us (stands bytes us k)))
+    inr (subst (λ updates. HasReadTo past bytes updates new) same (here past bytes us (stands past bytes us k)))
 
 pub same_host_on : (old mid new : HostSide) → IsSameHost old mid → IsSameHost mid new → IsSameHost old new
 same_host_on old mid new to_mid to_new = record { width = to_new.width ∙ to_mid.width; height = to_new.height ∙ to_mid.height }

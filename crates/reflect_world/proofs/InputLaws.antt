@@ -1,6 +1,7 @@
--- What of each viewer's input goes to the host is what is allowed of its messages.
+-- What of each viewer's input goes to the host is what is allowed of its messages. The law `input_in_every_schedule` is
+-- made of it.
 use Rattle.std.proofs.Common.{◌≡◌, ℕ, zero, suc, ◌-◌, Bool, true, false, cond, List, [], ◌∷◌, ◌++◌, length, map, take, Option, Some, None, refl, ap, sym, ◌∙◌, subst, arith, append-nil, append_assoc, eq-eqb}
-use Rattle.std.specs.Prelude.{◌||◌, ◌==◌, drop, nat_lt, slice_get}
+use Rattle.std.specs.Prelude.{◌||◌, ◌==◌, drop, nat_lt}
 use Rattle.std.specs.List.{filter_map, list_any}
 use Rattle.std.proofs.lemmas.Bool.{eqb-true}
 use Rattle.std.proofs.lemmas.List.{length-map, take-append-drop, take_all}
@@ -9,8 +10,8 @@ use Rattle.raster.specs.Update.{Update}
 use Rattle.roles.specs.declared.role.Role.{Role}
 use Rattle.roles.specs.declared.role.Role.TheVariants.{Full, View}
 use Rattle.roles.specs.Allowed.{Input, allowed, input_of, passing, releases}
+use Rattle.roles.proofs.UnbrokenLaws.{picked, whole}
 use Rattle.rfb_wire.specs.ClientMessage.{ClientMessage}
-use Rattle.host_decoder.specs.Updates.{updates_by}
 use Rattle.reflect_core.specs.Sequential.{Begins}
 use Rattle.viewer_session.specs.Acts.{HasPassed, waiting_list}
 use Rattle.viewer_session.specs.Record.{Saw, messages_in}
@@ -18,9 +19,9 @@ use Rattle.viewer_session.specs.Turn.{has_reason, update_at}
 use Rattle.viewer_session.specs.Viewer.{Setup, Viewer, after_bytes, after_cut, may_look, new_viewer}
 use Rattle.viewer_session.proofs.Bytes.{same_role}
 use Rattle.viewer_session.proofs.Passing.{began_last, began_messages, passed_as, passed_begins, passed_bytes, passed_on}
-use Rattle.reflect_world.specs.Host.{host_form}
 use Rattle.reflect_world.specs.Input.{LeavesAllowed, RelaysInEverySchedule, StaysAllowed, bounds_stay, input_by, relayed_by, all_relayed}
-use Rattle.reflect_world.specs.Schedule.{Relayed, World, Step, HostBytes, Put, Raise, Join, Bytes, Look, Cut, Written, Send, Take, Part, beginning, cut_at, for_viewer, happens, leaves_behind, look_at, play, play_from, put_next, send_waiting, take_first}
+use Rattle.reflect_world.specs.Schedule.{Relayed, World, Step, HostBytes, Put, Raise, Join, Bytes, Look, Cut, Written, Send, Take, Part, beginning, cut_at, for_viewer, happens, leaves_behind, look_at, play, play_from, put_next, send_waiting, take_first, taken_from, Next, next_update, fault_now}
+use Rattle.reflect_world.proofs.NextHosts.{next_either}
 use Rattle.reflect_world.proofs.Reaching.{play-more}
 use Rattle.reflect_world.proofs.Steps.{play_from-append}
 
@@ -168,8 +169,9 @@ at_other false o q e = refl
 
 stay_step : (s : Setup) (role : Role) (v : ℕ) (base : List Input) (w : World) (e : Step) → bounds_stay v e ≡ false → InStay role v base w → InStay role v base (happens s w e)
 stay_step s role v base w (HostBytes b) keeps k = stay_still role v base w _ refl refl k
-stay_step s role v base w Put keeps k = put_still s role v base w (slice_get (updates_by (host_form s.w s.h) w.host_bytes) (length w.shared.updates)) k
+stay_step s role v base w Put keeps k = put_still s role v base w (next_update s w) k
 stay_step s role v base w Raise keeps k = stay_still role v base w _ refl refl k
+stay_step s role v base w Next keeps k = next_either (InStay role v base) w (next_update s w) (fault_now s w) k (stay_still role v base w _ refl refl k)
 stay_step s role v base w (Join u other greet) keeps k = stay_still role v base w _ (at_other (v == u) (Some (new_viewer other greet)) (w.viewers v) keeps) refl k
 stay_step s role v base w (Bytes u b lost) keeps k =
     stay_for role v u base w (w.viewers u) _ refl k
@@ -312,8 +314,9 @@ relays_send s w v p (Some input) at = relays_if s w (nat_lt (length w.queue) s.r
 
 relays_step : (s : Setup) (w : World) (e : Step) → Relays s w (happens s w e)
 relays_step s w (HostBytes b) = relays_none s w _ refl
-relays_step s w Put = relays_put s w (slice_get (updates_by (host_form s.w s.h) w.host_bytes) (length w.shared.updates))
+relays_step s w Put = relays_put s w (next_update s w)
 relays_step s w Raise = relays_none s w _ refl
+relays_step s w Next = next_either (Relays s w) w (next_update s w) (fault_now s w) (relays_none s w w refl) (relays_none s w _ refl)
 relays_step s w (Join v role greet) = relays_none s w _ refl
 relays_step s w (Bytes v b lost) = relays_for s w (w.viewers v) _ (λ p at. relays_none s w _ refl)
 relays_step s w (Look v) = relays_for s w (w.viewers v) (look_at s w v) (λ p at. relays_if s w (may_look s p) _ _ (relays_none s w _ refl) (relays_none s w _ refl))
@@ -332,4 +335,5 @@ relays_allowed s es =
       stays = λ v role greet before since split keeps. stays_allowed s es before since v role greet split keeps;
       grows = λ e. subst (λ w. Begins (all_relayed (play s es)) (all_relayed w)) (sym (play-more s es e)) (relays_step s (play s es) e).grows;
       absent = λ v e none. ap (relayed_by v) (play-more s es e) ∙ (relays_step s (play s es) e).absent v none;
+      told = record { picked = λ v. picked v (map taken_from (play s es).taken); whole = λ before after t split. whole (map taken_from (play s es).taken) before after t split };
     }

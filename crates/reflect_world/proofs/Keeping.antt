@@ -1,4 +1,4 @@
--- A world and its schedule.
+-- A world and its schedule. `play` keeps that the fields stand for the schedule.
 use Rattle.std.proofs.Common.{◌≡◌, ℕ, ◌+◌, ◌<◌, ◌≤◌, List, [], ◌∷◌, ◌++◌, length, take, Some, refl, ap, sym, ◌∙◌, subst, arith, append_assoc, inl, inr, Bool, true, false, length-append, Option}
 use Rattle.std.specs.Prelude.{map, slice_get, slice_index_or}
 use Rattle.std.specs.Option.{option_to_list}
@@ -112,6 +112,7 @@ pub unmarked_with : (step : declared.Step) (lost : List Bool) → unmarked (step
 unmarked_with (code.HostBytes bytes) lost = refl
 unmarked_with code.Put lost = refl
 unmarked_with code.Raise lost = refl
+unmarked_with code.Next lost = refl
 unmarked_with (code.Bytes viewer bytes) lost = refl
 unmarked_with (code.Look viewer) lost = refl
 unmarked_with (code.Cut viewer) lost = refl

@@ -1,4 +1,5 @@
--- The pending area is the least rectangle that holds the requests since the last answer.
+-- The pending area is the least rectangle that holds the requests since the last answer. So an answer's area is what
+-- was asked for, and no more than it needs.
 use Rattle.std.proofs.Common.{◌≡◌, ℕ, ◌+◌, ◌-◌, ◌<◌, ◌≤◌, Bool, true, false, cond, List, [], ◌∷◌, Option, Some, None, refl, subst, arith, ◌⊎◌, inl, inr}
 use Rattle.std.specs.Prelude.{◌==◌}
 use Rattle.std.proofs.lemmas.Bool.{cases_order, eqb-true, eqb-false, or_cases, or_parts}

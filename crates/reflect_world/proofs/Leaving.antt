@@ -1,4 +1,5 @@
--- A viewer leaves: what goes into the queue, and what stands in the fields then.
+-- A viewer leaves: what goes into the queue, and what stands in the fields then. `World::part` owes that nothing which
+-- it held is lost where there is room.
 use Rattle.std.proofs.Common.{◌≡◌, ℕ, suc, zero, ◌-◌, ◌<◌, ◌≤◌, Bool, true, false, cond, List, [], ◌∷◌, ◌++◌, length, take, Option, Some, None, refl, ap, sym, ◌∙◌, subst, arith, append-nil, append_assoc, length-append}
 use Rattle.std.specs.Prelude.{slice_index_or, slice_set, ◌==◌}
 use Rattle.std.proofs.lemmas.Bool.{eqb-true, eqb-false}

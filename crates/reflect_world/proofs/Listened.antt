@@ -1,4 +1,4 @@
--- What a viewer reads of its stream, computed.
+-- What a viewer reads of its stream, computed. A definition that says something else is refused here.
 use Rattle.std.proofs.Common.{◌≡◌, List, [], ◌∷◌, ◌++◌, false, refl}
 use Rattle.std.specs.Prelude.{Option, Some, None}
 use Rattle.raster.specs.Update.{Update, Put}

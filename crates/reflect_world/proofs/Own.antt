@@ -1,27 +1,27 @@
--- Each viewer's looks and cuts, in its record and in the history.
+-- Each viewer's looks and cuts, in its record and in the history. So a record can't claim a look that the history
+-- doesn't have.
 use Rattle.std.proofs.Common.{◌≡◌, ◌≢◌, ℕ, ◌+◌, ◌<◌, ◌≤◌, Bool, true, false, cond, List, [], ◌∷◌, ◌++◌, length, take, Option, Some, None, refl, ap, sym, ◌∙◌, subst, arith, length-append, eq-eqb, ◌⊎◌, inl, inr}
-use Rattle.std.specs.Prelude.{reverse, ◌==◌, ◌&&◌, if◌then◌else◌, is_some, nat_lt, slice_get}
+use Rattle.std.specs.Prelude.{reverse, ◌==◌, ◌&&◌, if◌then◌else◌, is_some, nat_lt}
 use Rattle.std.specs.List.{filter_map, cons_option}
 use Rattle.std.proofs.lemmas.Bool.{eqb-true, eqb-false}
 use Rattle.std.proofs.lemmas.Bool.Decides.{eqb_tells}
 use Rattle.std.proofs.lemmas.Grind.{reverse_onto}
 use Rattle.std.proofs.lemmas.List.{append-nil, take-append-le, take_all}
 use Rattle.std.proofs.lemmas.List.Elements.{filter_map-append}
-use Rattle.pixel_format.specs.Reading.{Reading, Done, Faulty, Want, step, wants_more}
+use Rattle.byte_reading.specs.Reading.{Reading, Done, Faulty, Want, step, wants_more}
 use Rattle.raster.specs.declared.rect.Rect.{Rect}
 use Rattle.raster.specs.Update.{Update, view}
 use Rattle.rfb_wire.specs.ClientMessage.{ClientMessage, client_message}
 use Rattle.roles.specs.Allowed.{Input, passes}
-use Rattle.host_decoder.specs.Updates.{updates_by}
 use Rattle.reflect_core.specs.Sequential as history
 use Rattle.viewer_session.specs.Record.{Entry, Took, Saw, MadeCut, Began, NumbersUpTo}
 use Rattle.viewer_session.specs.Turn.{began_at, has_reason, record_after_cut, update_at}
 use Rattle.viewer_session.specs.Viewer.{Setup, Viewer, after_bytes, after_byte, after_cut, after_hello, after_reading, with_input, marked, viewer_fault, may_look, new_viewer}
 use Rattle.viewer_session.proofs.Stands.{numbers_more}
-use Rattle.reflect_world.specs.Schedule.{Act, ByHost, ByViewer, World, Relayed, Step, HostBytes, Put, Raise, Join, Bytes, Look, Cut, Written, Send, Take, Part, beginning, happens, play, play_from, put_next, set_viewer, with_act, for_viewer, look_at, cut_at, send_waiting, take_first}
+use Rattle.reflect_world.proofs.NextHosts.{next_either}
+use Rattle.reflect_world.specs.Schedule.{Act, ByHost, ByViewer, World, Relayed, Step, HostBytes, Put, Raise, Join, Bytes, Look, Cut, Written, Send, Take, Part, beginning, happens, play, play_from, put_next, set_viewer, with_act, for_viewer, look_at, cut_at, send_waiting, take_first, Next, next_update, fault_now}
 use Rattle.reflect_world.specs.Headline.{is_by, step_by, own_steps, replied_in, replies, HasOwnSteps}
 use Rattle.reflect_world.proofs.History.{IsLegal, legal_step, legal_beginning}
-use Rattle.reflect_world.specs.Host.{host_form}
 use Rattle.roles.specs.Held.{input_for}
 
 -- ---- one record
@@ -230,13 +230,14 @@ own_join s w v p none h =
 
 own_step : (s : Setup) (w : World) (e : Step) → IsLegal w → IsOwn w → IsOwn (happens s w e)
 own_step s w (HostBytes b) legal h = record { unused = h.unused; own = h.own }
-own_step s w Put legal h = own_put s w (slice_get (updates_by (host_form s.w s.h) w.host_bytes) (length w.shared.updates)) h
+own_step s w Put legal h = own_put s w (next_update s w) h
 own_step s w Raise legal h =
     let step : history.Step = history.Raise (length w.shared.updates) in
     record {
       unused = λ v k lt. host_act v k w.acts step ∙ h.unused v k lt;
       own = λ v. subst (λ mine. OwnIf w.shared.updates mine (w.viewers v)) (sym (host_act v (w.stays v) w.acts step)) (h.own v);
     }
+own_step s w Next legal h = next_either IsOwn w (next_update s w) (fault_now s w) h (record { unused = h.unused; own = h.own })
 own_step s w (Join v role greet) legal h = own_join s w v (new_viewer role greet) refl h
 own_step s w (Bytes v b lost) legal h =
     own_for w (own_steps w v) (w.viewers v) _ h (h.own v)

@@ -1,10 +1,10 @@
--- Places of viewers.
+-- Places of viewers. The calls on one place keep what stands of it.
 use Rattle.std.proofs.Common.{◌≡◌, ℕ, zero, suc, ◌+◌, ◌-◌, ◌<◌, Bool, true, false, cond, List, [], ◌∷◌, ◌++◌, length, take, Option, Some, None, refl, ap, sym, ◌∙◌, subst, arith, append_assoc, length-append}
 use Rattle.std.specs.Prelude.{slice_set, is_some, min, ◌==◌, if◌then◌else◌}
 use Rattle.std.proofs.Math.Seq.{take-add}
 use Rattle.std.proofs.lemmas.Bool.{eqb-true, eqb-false}
 use Rattle.std.proofs.lemmas.List.{get_or-set_same, get_or-set_other, length-drop, take-append-le, take-map}
-use Rattle.pixel_format.specs.Reading.{Reading, Done, Faulty, Want, step, wants_more}
+use Rattle.byte_reading.specs.Reading.{Reading, Done, Faulty, Want, step, wants_more}
 use Rattle.raster.specs.Screen.{opening}
 use Rattle.raster.specs.Update.{Update, bells}
 use Rattle.tiles.specs.Touched.{bell_or_text}
@@ -103,7 +103,7 @@ place_seen s us (Some place) (Some p) k = record { fault = fault_stands s place.
 
 -- ---- what the steps of a viewer make of its place
 
--- What was left unread before is read again with the bytes behind it.
+-- What was left unread before is read again with the bytes after it.
 abbrev leaving : Viewer → List ℕ → Viewer
 leaving p left = record p { unread = left }
 
@@ -176,7 +176,7 @@ pub place_looked : (s : Setup) (us : List Update) (place : Held) (p : Viewer) (t
     → PlaceStands s us (record place { looked = if ready then Some tally else None }) (looked_at s tally p)
 place_looked s us place p tally ready k e may = rw (← may) (place_looked_if s us place p tally ready k (sym e))
 
--- So many of its unsent bytes were written.
+-- This many of its unsent bytes were written.
 pub place_written : (s : Setup) (us : List Update) (place : Held) (session : State) (p : Viewer) (count : ℕ) → PlaceStands s us place p
     → Stands s session (after_writing (min count (length place.session.unsent)) (at_rest p)) → HasCounted session us
     → PlaceStands s us (record { session = session; looked = None; written = place.written ++ take (min count (length place.session.unsent)) place.session.unsent; unread = place.unread })

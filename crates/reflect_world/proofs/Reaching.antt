@@ -1,24 +1,25 @@
--- What stands in a world's fields after one step more.
+-- What stands in a world's fields after one step more. `play` is such steps.
 use Rattle.std.proofs.Common.{◌≡◌, ℕ, ◌+◌, ◌<◌, Bool, true, false, cond, List, [], ◌∷◌, ◌++◌, length, take, Option, Some, None, Ok, Err, inl, inr, refl, ap, sym, ◌∙◌, subst, arith, append-nil}
 use Rattle.std.specs.Prelude.{nat_lt, is_some, slice_get, slice_index_or, slice_set, min, ◌==◌, if◌then◌else◌}
 use Rattle.std.proofs.lemmas.Bool.{eqb-true}
 use Rattle.std.proofs.lemmas.List.{get_or_default, length-set, set-get_or}
 use Rattle.pixel_format.specs.declared.fault.Fault.{Fault}
-use Rattle.pixel_format.specs.Reading.{Reading, fault_of, rest}
+use Rattle.byte_reading.specs.Reading.{Reading, fault_of, rest}
 use Rattle.raster.specs.Screen.{opening}
 use Rattle.raster.specs.Update.{Update, view}
 use Rattle.rfb_wire.specs.ServerMessage.{ServerMessage}
 use Rattle.roles.specs.Allowed.{Input}
 use Rattle.roles.specs.declared.role.Role.{Role}
 use Rattle.pixel_format.specs.declared.fault.Fault.TheVariants.{Memory, NumbersOut}
-use Rattle.host_decoder.specs.Updates.{updates_by}
+use Rattle.raster.specs.Switch.{switch}
+use Rattle.host_decoder.specs.Hosts.{ended_updates, updates_in_turn}
 use Rattle.reflect_core.specs.Plain.{Plain}
 use Rattle.viewer_session.specs.Turn.{has_reason}
 use Rattle.viewer_session.specs.Viewer.{Setup, Viewer, may_look, after_cut, after_bytes, new_viewer}
 use Rattle.viewer_session.specs.Session.{State, Stands, StandsBut, HasCounted, at_rest, after_look, with_marks, without_look, after_writing, is_ready}
 use Rattle.reflect_core.specs.Sequential as history
-use Rattle.reflect_world.specs.Host.{HasReadTo, HostSide, HostStands, IsReadOut, IsSameHost, ReadsOn, form_of, host_form}
-use Rattle.reflect_world.specs.Schedule.{set_viewer, with_act, Act, ByViewer, World, Step, HostBytes, Put, Join, Bytes, Look, Cut, Written, beginning, happens, play, play_from, put_next, for_viewer, cut_at, Relayed, send_waiting, Send, Take, take_first}
+use Rattle.reflect_world.specs.Host.{HasReadTo, HostSide, HostStands, IsReadOut, IsSameHost, ReadsOn, BeginsNext, form_of, host_form, with_past}
+use Rattle.reflect_world.specs.Schedule.{Next, next_update, fault_now, next_begins, next_host, set_viewer, with_act, Act, ByViewer, World, Step, HostBytes, Put, Join, Bytes, Look, Cut, Written, beginning, happens, play, play_from, put_next, for_viewer, cut_at, Relayed, send_waiting, Send, Take, take_first}
 use Rattle.reflect_world.specs.World.{Held, Standing, PlaceBy, PlaceShows, PlaceStands, Reached, Shows, Leaves, StaysFor, StaysSeen, IsBrokenOff, ShowsUnder, place_at, IsFed, HasLooked, IsWritten, GoesOn, IsPut, JoinsUnder, TakesStep, HasSent, with_session}
 use Rattle.reflect_world.specs.Relay.{RelaySide, TakesFirst, takes_from}
 use Rattle.painter.specs.Patch.{SizedUpdate}
@@ -26,7 +27,7 @@ use Rattle.painter.specs.Same.{AreSameFrom}
 use Rattle.reflect_core.specs.Sequential.{Begins}
 use Rattle.reflect_world.proofs.HostReading.{no_next}
 use Rattle.reflect_world.proofs.Hosts.{IsNext, next_of}
-use Rattle.reflect_world.proofs.HostUpdates.{order_bytes, order_put}
+use Rattle.reflect_world.proofs.HostUpdates.{ended-more, next_all, order_bytes, order_next, order_put}
 use Rattle.reflect_world.proofs.SameUpdates.{cut_same}
 use Rattle.viewer_session.proofs.SessionLaws.{fault_stands}
 use Rattle.reflect_world.proofs.Places.{counted_in, place_changed, place_more, place_seen, places_set, place_is_some, place_fed, place_looked, place_written, place_stays, place_cut, place_sent, stands_without_look}
@@ -53,7 +54,7 @@ form_is s standing w host r same =
 
 -- Bytes of the host came.
 pub bytes_reaches : (standing : Standing) (host : HostSide) (bytes : List ℕ) → IsSameHost standing.host host
-    → ((all : List ℕ) (us : List Update) → HostStands all us standing.host → HostStands (all ++ bytes) us host) → TakesStep (HostBytes bytes) standing (with_host standing host)
+    → ((past : List Update) (all : List ℕ) (us : List Update) → HostStands past all us standing.host → HostStands past (all ++ bytes) us host) → TakesStep (HostBytes bytes) standing (with_host standing host)
 bytes_reaches standing host bytes same grows s w r =
     record {
       size = r.size;
@@ -64,7 +65,7 @@ bytes_reaches standing host bytes same grows s w r =
       tally = r.tally;
       host_width = same.width ∙ r.host_width;
       host_height = same.height ∙ r.host_height;
-      host = grows w.host_bytes standing.screen.updates r.host;
+      host = grows (ended_updates s.w s.h w.ended) w.host_bytes standing.screen.updates r.host;
       fault = r.fault;
       limit = r.limit;
       queue = r.queue;
@@ -74,25 +75,46 @@ bytes_reaches standing host bytes same grows s w r =
     }
 
 -- What comes next over a screen of its own size.
-next_on : (s : Setup) (standing : Standing) (w : World) (host : HostSide) (form : Reading ServerMessage) (put : List Update) → Reached s standing w → IsSameHost standing.host host
-    → IsNext host.decoder.width host.decoder.height form w.host_bytes w.shared.updates put → IsNext s.w s.h form w.host_bytes w.shared.updates put
-next_on s standing w host form put r same next =
-    subst (λ n. IsNext s.w n form w.host_bytes w.shared.updates put) (same.height ∙ r.host_height)
-    (subst (λ n. IsNext n host.decoder.height form w.host_bytes w.shared.updates put) (same.width ∙ r.host_width) next)
+next_on : (s : Setup) (standing : Standing) (w : World) (host : HostSide) (past : List Update) (form : Reading ServerMessage) (put : List Update) → Reached s standing w → IsSameHost standing.host host
+    → IsNext host.decoder.width host.decoder.height past form w.host_bytes w.shared.updates put → IsNext s.w s.h past form w.host_bytes w.shared.updates put
+next_on s standing w host past form put r same next =
+    subst (λ n. IsNext s.w n past form w.host_bytes w.shared.updates put) (same.height ∙ r.host_height)
+    (subst (λ n. IsNext n host.decoder.height past form w.host_bytes w.shared.updates put) (same.width ∙ r.host_width) next)
+
+-- An update of the host was read: it is the next.
+comes_next : (s : Setup) (standing : Standing) (w : World) (host : HostSide) (v : Update) → Reached s standing w → IsSameHost standing.host host → host.waiting ≡ None
+    → HasReadTo (ended_updates s.w s.h w.ended) w.host_bytes (standing.screen.updates ++ v ∷ []) host
+    → IsNext s.w s.h (ended_updates s.w s.h w.ended) (form_of host) w.host_bytes w.shared.updates (standing.screen.updates ++ v ∷ [])
+comes_next s standing w host v r same none reads =
+    let past : List Update = ended_updates s.w s.h w.ended in
+    let form = form_is s standing w host r same in
+    let begins : Begins w.shared.updates (with_past past (form_of host) w.host_bytes) = subst (λ f. Begins w.shared.updates (with_past past f w.host_bytes)) form r.in_order in
+    next_on s standing w host past (form_of host) (standing.screen.updates ++ v ∷ []) r same
+    (next_of past w.host_bytes w.shared.updates standing.screen.updates host v none begins r.updates.count reads)
+
+is_next : (s : Setup) (standing : Standing) (w : World) (host : HostSide) (put : List Update) → Reached s standing w → IsSameHost standing.host host
+    → (next : IsNext s.w s.h (ended_updates s.w s.h w.ended) (form_of host) w.host_bytes w.shared.updates put) → next_update s w ≡ Some next.update
+is_next s standing w host put r same next =
+    ap (λ f. slice_get (with_past (ended_updates s.w s.h w.ended) f w.host_bytes) (length w.shared.updates)) (form_is s standing w host r same) ∙ next.there
+
+-- There is none.
+none_next : (s : Setup) (standing : Standing) (w : World) (host : HostSide) (fault : Option Fault) → Reached s standing w → IsSameHost standing.host host
+    → IsReadOut (ended_updates s.w s.h w.ended) w.host_bytes standing.screen.updates (form_of host) fault → next_update s w ≡ None
+none_next s standing w host fault r same out =
+    let all : List Update = with_past (ended_updates s.w s.h w.ended) (form_of host) w.host_bytes in
+    ap (λ f. slice_get (with_past (ended_updates s.w s.h w.ended) f w.host_bytes) (length w.shared.updates)) (form_is s standing w host r same)
+    ∙ (ap (slice_get all) (r.updates.count ∙ sym out.none_left) ∙ no_next all)
 
 -- An update of the host was read and put.
 reached_put : (s : Setup) (standing : Standing) (w : World) (host : HostSide) (screen : Plain) (v : Update) → Reached s standing w → IsSameHost standing.host host → host.waiting ≡ None
-    → HasReadTo w.host_bytes (standing.screen.updates ++ v ∷ []) host
+    → HasReadTo (ended_updates s.w s.h w.ended) w.host_bytes (standing.screen.updates ++ v ∷ []) host
     → screen.width ≡ standing.screen.width → screen.height ≡ standing.screen.height → screen.updates ≡ standing.screen.updates ++ v ∷ [] → screen.tally ≡ standing.screen.tally
     → Reached s (record standing { host = host; screen = screen }) (happens s w Put)
 reached_put s standing w host screen v r same none reads width height updates tally =
     let form = form_is s standing w host r same in
-    let begins : Begins w.shared.updates (updates_by (form_of host) w.host_bytes) = subst (λ f. Begins w.shared.updates (updates_by f w.host_bytes)) form r.in_order in
-    let next = next_on s standing w host (form_of host) (standing.screen.updates ++ v ∷ []) r same
-    (next_of w.host_bytes w.shared.updates standing.screen.updates host v none begins r.updates.count reads) in
+    let next = comes_next s standing w host v r same none reads in
     let u : Update = next.update in
-    let there : slice_get (updates_by (host_form s.w s.h) w.host_bytes) (length w.shared.updates) ≡ Some u =
-    ap (λ f. slice_get (updates_by f w.host_bytes) (length w.shared.updates)) form ∙ next.there in
+    let there : next_update s w ≡ Some u = is_next s standing w host (standing.screen.updates ++ v ∷ []) r same next in
     subst (λ o. Reached s (record standing { host = host; screen = screen }) (put_next s w o)) (sym there)
     (record {
       size = r.size;
@@ -103,7 +125,7 @@ reached_put s standing w host screen v r same none reads width height updates ta
       tally = tally ∙ r.tally;
       host_width = same.width ∙ r.host_width;
       host_height = same.height ∙ r.host_height;
-      host = subst (λ (l : List Update). HostStands w.host_bytes l host) (sym updates) (inr reads);
+      host = subst (λ (l : List Update). HostStands (ended_updates s.w s.h w.ended) w.host_bytes l host) (sym updates) (inr reads);
       fault = r.fault;
       limit = r.limit;
       queue = r.queue;
@@ -113,13 +135,11 @@ reached_put s standing w host screen v r same none reads width height updates ta
     })
 
 -- There is none left.
-reached_no_put : (s : Setup) (standing : Standing) (w : World) (host : HostSide) (fault : Option Fault) → Reached s standing w → IsSameHost standing.host host → HostStands w.host_bytes standing.screen.updates host
-    → IsReadOut w.host_bytes standing.screen.updates (form_of host) fault → Reached s (record standing { host = host; host_fault = fault }) (happens s w Put)
+reached_no_put : (s : Setup) (standing : Standing) (w : World) (host : HostSide) (fault : Option Fault) → Reached s standing w → IsSameHost standing.host host → HostStands (ended_updates s.w s.h w.ended) w.host_bytes standing.screen.updates host
+    → IsReadOut (ended_updates s.w s.h w.ended) w.host_bytes standing.screen.updates (form_of host) fault → Reached s (record standing { host = host; host_fault = fault }) (happens s w Put)
 reached_no_put s standing w host fault r same stands out =
     let form = form_is s standing w host r same in
-    let all : List Update = updates_by (form_of host) w.host_bytes in
-    let there : slice_get (updates_by (host_form s.w s.h) w.host_bytes) (length w.shared.updates) ≡ None =
-    ap (λ f. slice_get (updates_by f w.host_bytes) (length w.shared.updates)) form ∙ (ap (slice_get all) (r.updates.count ∙ sym out.none_left) ∙ no_next all) in
+    let there : next_update s w ≡ None = none_next s standing w host fault r same out in
     subst (λ o. Reached s (record standing { host = host; host_fault = fault }) (put_next s w o)) (sym there)
     (record {
       size = r.size;
@@ -358,22 +378,103 @@ put_reaches old mid new patch is same none reads put s w r =
     let before : (standing : Standing) → Plain = λ standing. standing.screen in
     let at = ap before is in
     subst (λ n. Reached s n (happens s w Put)) (sym (put.others ∙ ap with_screen_of is))
-    (reached_put s old w mid.host new.screen patch.update r same none (reads w.host_bytes old.screen.updates r.host)
+    (reached_put s old w mid.host new.screen patch.update r same none (reads (ended_updates s.w s.h w.ended) w.host_bytes old.screen.updates r.host)
     (put.size.0 ∙ ap (λ (p : Plain). p.width) at) (put.size.1 ∙ ap (λ (p : Plain). p.height) at) (put.updates ∙ ap (λ (p : Plain). p.updates ++ patch.update ∷ []) at) (put.tally ∙ ap (λ (p : Plain). p.tally) at))
 
 pub none_reaches : (standing : Standing) (host : HostSide) → IsSameHost standing.host host → ReadsOn standing.host host (Ok None) → TakesStep Put standing (record standing { host = host; host_fault = None })
 none_reaches standing host same reads s w r =
-    let out = reads w.host_bytes standing.screen.updates r.host in
+    let out = reads (ended_updates s.w s.h w.ended) w.host_bytes standing.screen.updates r.host in
     reached_no_put s standing w host None r same (inr out.0) out.1
 
 pub err_reaches : (standing : Standing) (host : HostSide) (fault : Fault) → IsSameHost standing.host host → (fault ≡ Memory → ⊥) → ReadsOn standing.host host (Err fault)
     → TakesStep Put standing (record standing { host = host; host_fault = Some fault })
 err_reaches standing host fault same other reads s w r =
-    let out = reads w.host_bytes standing.screen.updates r.host in
+    let out = reads (ended_updates s.w s.h w.ended) w.host_bytes standing.screen.updates r.host in
     elim out.1 [
       | inl memory ↦ absurd (other memory)
       | inr read ↦ reached_no_put s standing w host (Some fault) r same out.0 read
     ]
+
+-- ---- a next host
+
+-- The world is as it was, and the host stands for the same.
+pub host_stays : (s : Setup) (standing : Standing) (w : World) (host : HostSide) → Reached s standing w → IsSameHost standing.host host → HostStands (ended_updates s.w s.h w.ended) w.host_bytes standing.screen.updates host
+    → Reached s (with_host standing host) w
+host_stays s standing w host r same stands =
+    record {
+      size = r.size;
+      width = r.width;
+      height = r.height;
+      in_order = r.in_order;
+      updates = r.updates;
+      tally = r.tally;
+      host_width = same.width ∙ r.host_width;
+      host_height = same.height ∙ r.host_height;
+      host = stands;
+      fault = r.fault;
+      limit = r.limit;
+      queue = r.queue;
+      taken = r.taken;
+      room = r.room;
+      places = r.places;
+    }
+
+-- Memory was refused: what the fields stood for they stand for.
+pub refused_stays : (standing : Standing) (host : HostSide) (fault : Fault) → IsSameHost standing.host host → ReadsOn standing.host host (Err fault) → StaysFor standing (with_host standing host)
+refused_stays standing host fault same reads s w r = host_stays s standing w host r same (reads (ended_updates s.w s.h w.ended) w.host_bytes standing.screen.updates r.host).0
+
+-- An update is left to be put: the host goes on.
+pub next_waits : (standing : Standing) (mid host : HostSide) (patch : SizedUpdate) → IsSameHost standing.host mid → mid.waiting ≡ None → ReadsOn standing.host mid (Ok (Some patch)) → IsSameHost mid host
+    → ((past : List Update) (bytes : List ℕ) (us : List Update) → HasReadTo past bytes (us ++ patch.update ∷ []) mid → HasReadTo past bytes us host) → TakesStep Next standing (with_host standing host)
+next_waits standing mid host patch same none reads kept keeps s w r =
+    let read = reads (ended_updates s.w s.h w.ended) w.host_bytes standing.screen.updates r.host in
+    let next = comes_next s standing w mid patch.update r same none read in
+    subst (λ o. Reached s (with_host standing host) (next_host w o (fault_now s w))) (sym (is_next s standing w mid (standing.screen.updates ++ patch.update ∷ []) r same next))
+    (host_stays s standing w host r (record { width = kept.width ∙ same.width; height = kept.height ∙ same.height }) (inr (keeps (ended_updates s.w s.h w.ended) w.host_bytes standing.screen.updates read)))
+
+-- Its bytes are at a fault: it goes on.
+pub next_faulty : (standing : Standing) (host : HostSide) (fault : Fault) → IsSameHost standing.host host → (fault ≡ Memory → ⊥) → ReadsOn standing.host host (Err fault) → TakesStep Next standing (with_host standing host)
+next_faulty standing host fault same other reads s w r =
+    let out = reads (ended_updates s.w s.h w.ended) w.host_bytes standing.screen.updates r.host in
+    elim out.1 [
+      | inl memory ↦ absurd (other memory)
+      | inr read ↦ (
+          let at : fault_now s w ≡ Some fault = ap (λ f. fault_of (rest f w.host_bytes)) (form_is s standing w host r same) ∙ read.stands_at in
+          subst (λ o. Reached s (with_host standing host) (next_host w o (fault_now s w))) (sym (none_next s standing w host (Some fault) r same read))
+          (subst (λ o. Reached s (with_host standing host) (next_host w None o)) (sym at) (host_stays s standing w host r same out.0)))
+    ]
+
+-- None is left, and there is no fault: the next host begins.
+pub next_reaches : (standing : Standing) (mid host : HostSide) → IsSameHost standing.host mid → ReadsOn standing.host mid (Ok None) → IsSameHost mid host → BeginsNext mid host → TakesStep Next standing (with_host standing host)
+next_reaches standing mid host same reads switched begins s w r =
+    let past : List Update = ended_updates s.w s.h w.ended in
+    let out = reads past w.host_bytes standing.screen.updates r.host in
+    let form = form_is s standing w mid r same in
+    let at : fault_now s w ≡ None = ap (λ f. fault_of (rest f w.host_bytes)) form ∙ out.1.stands_at in
+    let here = begins past w.host_bytes standing.screen.updates out.0 out.1 in
+    let last : with_past past (form_of mid) w.host_bytes ++ switch mid.decoder.width mid.decoder.height ∷ [] ≡ ended_updates s.w s.h (w.ended ++ w.host_bytes ∷ []) =
+    ap (λ f. with_past past f w.host_bytes ++ switch mid.decoder.width mid.decoder.height ∷ []) (sym form)
+    ∙ (ap (λ n. updates_in_turn s.w s.h w.ended w.host_bytes ++ switch n mid.decoder.height ∷ []) (same.width ∙ r.host_width)
+    ∙ (ap (λ n. updates_in_turn s.w s.h w.ended w.host_bytes ++ switch s.w n ∷ []) (same.height ∙ r.host_height) ∙ sym (ended-more s.w s.h w.ended w.host_bytes))) in
+    subst (λ o. Reached s (with_host standing host) (next_host w o (fault_now s w))) (sym (none_next s standing w mid None r same out.1))
+    (subst (λ o. Reached s (with_host standing host) (next_host w None o)) (sym at)
+    (record {
+      size = r.size;
+      width = r.width;
+      height = r.height;
+      in_order = order_next s w r.in_order;
+      updates = r.updates;
+      tally = r.tally;
+      host_width = switched.width ∙ (same.width ∙ r.host_width);
+      host_height = switched.height ∙ (same.height ∙ r.host_height);
+      host = inr (subst (λ (l : List Update). HasReadTo l [] standing.screen.updates host) last here);
+      fault = r.fault;
+      limit = r.limit;
+      queue = r.queue;
+      taken = r.taken;
+      room = r.room;
+      places = r.places;
+    }))
 
 -- ---- what is seen
 

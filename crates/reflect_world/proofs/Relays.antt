@@ -1,18 +1,43 @@
--- Inputs on their way to the host, and bytes that wait to be read.
-use Rattle.std.proofs.Common.{◌≡◌, ℕ, ◌+◌, ◌<◌, Bool, List, [], ◌∷◌, ◌++◌, length, take, drop, Option, refl, ap, sym, ◌∙◌, subst, arith, append_assoc, append-nil}
+-- Inputs on their way to the host, and bytes that wait to be read. Room for them is taken before they are moved.
+use Rattle.std.proofs.Common.{◌≡◌, ℕ, ◌+◌, ◌<◌, Bool, true, false, cond, List, [], ◌∷◌, ◌++◌, length, take, drop, Option, refl, ap, sym, ◌∙◌, subst, arith, append_assoc, append-nil}
 use Rattle.std.specs.Prelude.{map, slice_index_or}
-use Rattle.std.proofs.lemmas.List.{drop_more, length-map, take_more, get_or-map}
+use Rattle.std.proofs.lemmas.List.{drop_more, length-map, map-append, take_more, get_or-map}
 use Rattle.viewer_session.specs.Session.{State, IsFeeding, marks_in}
-use Rattle.reflect_world.specs.Schedule.{Relayed}
+use Rattle.roles.specs.Strokes.{Taken, unbroken, passes_after, StrokesKept, StrokesStand}
+use Rattle.roles.proofs.StrokesLaws.{unbroken_more}
+use Rattle.reflect_world.specs.Schedule.{Relayed, taken_from, told_of}
 use Rattle.reflect_world.specs.declared.relay.Entry as declared
-use Rattle.reflect_world.specs.Relay.{inputs_of, relayed_in, spelled, takes_from}
+use Rattle.reflect_world.specs.Relay.{KeepsStrokes, Tells, inputs_told, relayed_in, spelled, takes_from}
 use Rattle.roles.specs.Spelling.{input_bytes}
 
 -- ---- the relay
 
-pub spelled_on : (xs : List Relayed) (x : Relayed) → spelled (inputs_of (xs ++ x ∷ [])) ≡ spelled (inputs_of xs) ++ input_bytes x.input
-spelled_on [] x = append-nil (input_bytes x.input)
-spelled_on (y ∷ xs) x = ap (λ bs. input_bytes y.input ++ bs) (spelled_on xs x) ∙ sym (append_assoc (input_bytes y.input) (spelled (inputs_of xs)) (input_bytes x.input))
+-- The spellings of inputs with their places.
+abbrev spelled_all : List Taken → List ℕ
+spelled_all ts = spelled (map (λ (t : Taken). t.input) ts)
+
+spelled_end : (ts : List Taken) (t : Taken) → spelled_all (ts ++ t ∷ []) ≡ spelled_all ts ++ input_bytes t.input
+spelled_end [] t = append-nil (input_bytes t.input)
+spelled_end (u ∷ ts) t = ap (λ bs. input_bytes u.input ++ bs) (spelled_end ts t) ∙ sym (append_assoc (input_bytes u.input) (spelled_all ts) (input_bytes t.input))
+
+spelled_if : (ts : List Taken) (t : Taken) (b : Bool) → spelled_all (ts ++ cond b (t ∷ []) []) ≡ spelled_all ts ++ cond b (input_bytes t.input) []
+spelled_if ts t true = spelled_end ts t
+spelled_if ts t false = ap spelled_all (append-nil ts) ∙ sym (append-nil (spelled_all ts))
+
+taken_on : (xs : List Relayed) (x : Relayed) → map taken_from (xs ++ x ∷ []) ≡ map taken_from xs ++ taken_from x ∷ []
+taken_on xs x = map-append taken_from xs (x ∷ [])
+
+-- One more was taken, and is told where it passes.
+pub spelled_on : (xs : List Relayed) (x : Relayed) → spelled (inputs_told (xs ++ x ∷ [])) ≡ spelled (inputs_told xs) ++ cond (passes_after (told_of xs) (taken_from x)) (input_bytes x.input) []
+spelled_on xs x =
+    ap spelled_all (ap unbroken (taken_on xs x) ∙ unbroken_more (map taken_from xs) (taken_from x)) ∙ spelled_if (told_of xs) (taken_from x) (passes_after (told_of xs) (taken_from x))
+
+pub strokes_on : (xs : List Relayed) (x : Relayed) (old new : StrokesKept) → KeepsStrokes old xs → length new.counts ≡ length old.counts → StrokesStand new (map taken_from xs ++ taken_from x ∷ []) → KeepsStrokes new (xs ++ x ∷ [])
+strokes_on xs x old new k same stands = record { stands = subst (λ ts. StrokesStand new ts) (sym (taken_on xs x)) stands; counts = same ∙ k.counts }
+
+-- What is told of an input that passes or doesn't.
+pub told_if : (taken : List Taken) (t : Taken) (new : StrokesKept) (before after : List ℕ) (passed : Bool) → passed ≡ passes_after (unbroken taken) t → after ≡ before ++ cond passed (input_bytes t.input) [] → StrokesStand new (taken ++ t ∷ []) → Tells taken t new before after
+told_if taken t new before after passed value said stands = record { said = said ∙ ap (λ b. before ++ cond b (input_bytes t.input) []) value; stands = stands }
 
 there : (entries : List declared.Entry) (k : ℕ) (entry : declared.Entry) → k < length entries → entry ≡ slice_index_or entries k entry → slice_index_or (map relayed_in entries) k (relayed_in entry) ≡ relayed_in entry
 there entries k entry lt at = get_or-map relayed_in entries k entry (relayed_in entry) lt ∙ ap relayed_in (sym at)

@@ -1,4 +1,5 @@
--- A cut of other updates that come to the same makes the same of a viewer.
+-- A cut of other updates that come to the same makes the same of a viewer. The world puts patches of tiles in place of
+-- the host's own rectangles.
 use Rattle.std.proofs.Common.{◌≡◌, ℕ, ◌<◌, Bool, List, [], ◌∷◌, ◌++◌, length, map, take, drop, Option, Some, None, refl, sym, ap, ◌∙◌, arith}
 use Rattle.std.specs.Prelude.{◌&&◌, ◌||◌, if◌then◌else◌, not, nat_lt}
 use Rattle.std.specs.List.{list_any, range_with_len}

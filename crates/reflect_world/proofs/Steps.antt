@@ -1,27 +1,27 @@
--- Each step of a schedule adds its act to the history where it can be taken, and else nothing.
+-- Each step of a schedule adds its act to the history where it can be taken, and else nothing. So nothing is left out
+-- of the history, and nothing else is in it.
 use Rattle.std.proofs.Common.{◌≡◌, ℕ, ◌+◌, ◌-◌, ◌≤◌, Bool, true, false, cond, List, [], ◌∷◌, ◌++◌, length, take, Option, Some, None, refl, ap, sym, ◌∙◌, subst, arith, append_assoc, eq-eqb, ◌⊎◌, inl, inr}
-use Rattle.std.specs.Prelude.{◌==◌, ◌&&◌, ◌||◌, unwrap_or, if◌then◌else◌, is_some, is_none, nat_le, nat_lt, slice_get}
+use Rattle.std.specs.Prelude.{◌==◌, ◌&&◌, ◌||◌, unwrap_or, if◌then◌else◌, is_some, is_none, nat_le, nat_lt}
 use Rattle.std.specs.List.{list_any}
 use Rattle.std.proofs.Math.Bool.{or-true}
 use Rattle.std.proofs.lemmas.Bool.{and_parts, or_cases, or_from, or_parts, eqb-true, le-leb, leb-true, lt-ltb, ltb-true}
 use Rattle.std.proofs.lemmas.List.{append-nil, length-take, take_all}
 use Rattle.std.proofs.lemmas.List.Folds.{list_any-append}
 use Rattle.pixel_format.specs.declared.fault.Fault.{Fault}
-use Rattle.pixel_format.specs.Reading.{Reading, Done, Faulty, Want, step, wants_more}
+use Rattle.byte_reading.specs.Reading.{Reading, Done, Faulty, Want, step, wants_more}
 use Rattle.raster.specs.declared.rect.Rect.{Rect}
 use Rattle.raster.specs.Update.{Update, view}
 use Rattle.rfb_wire.specs.ClientMessage.{ClientMessage, client_message}
 use Rattle.roles.specs.declared.role.Role.{Role}
 use Rattle.roles.specs.Allowed.{Input, passes}
-use Rattle.host_decoder.specs.Updates.{updates_by}
 use Rattle.reflect_core.specs.Asked.{pending, has_asked, last_cut}
 use Rattle.reflect_core.specs.Sequential as history
 use Rattle.viewer_session.specs.Record.{Entry, Took, Saw, events}
 use Rattle.viewer_session.specs.Turn.{has_reason}
 use Rattle.viewer_session.specs.Viewer.{Setup, Viewer, after_bytes, after_byte, after_cut, after_hello, after_reading, with_input, marked, viewer_fault, is_greeted, may_look, out_bytes}
-use Rattle.reflect_world.specs.Schedule.{Act, ByViewer, World, Relayed, Step, HostBytes, Put, Raise, Join, Bytes, Look, Cut, Written, Send, Take, Part, beginning, happens, play, play_from, put_next, set_viewer, with_act, for_viewer, look_at, cut_at, send_waiting, take_first, leaves_behind}
+use Rattle.reflect_world.proofs.NextHosts.{next_either}
+use Rattle.reflect_world.specs.Schedule.{Act, ByViewer, World, Relayed, Step, HostBytes, Put, Raise, Join, Bytes, Look, Cut, Written, Send, Take, Part, beginning, happens, play, play_from, put_next, set_viewer, with_act, for_viewer, look_at, cut_at, send_waiting, take_first, leaves_behind, Next, next_update, fault_now}
 use Rattle.reflect_world.specs.Headline.{CanLook, is_step_of, IsReason, CanCut, CanAct, Adds, HasEachStep}
-use Rattle.reflect_world.specs.Host.{host_form}
 use Rattle.roles.specs.Held.{input_for}
 
 -- ---- schedules in two parts
@@ -88,8 +88,9 @@ other_take w v (i ∷ is) = refl
 
 other_step : (s : Setup) (w : World) (v : ℕ) (e : Step) → is_step_of v e ≡ false → (happens s w e).viewers v ≡ w.viewers v
 other_step s w v (HostBytes b) apart = refl
-other_step s w v Put apart = other_put s w v (slice_get (updates_by (host_form s.w s.h) w.host_bytes) (length w.shared.updates))
+other_step s w v Put apart = other_put s w v (next_update s w)
 other_step s w v Raise apart = refl
+other_step s w v Next apart = next_either (λ (x : World). x.viewers v ≡ w.viewers v) w (next_update s w) (fault_now s w) refl refl
 other_step s w v (Join u role greet) apart = other_set w u v _ apart
 other_step s w v (Bytes u b lost) apart = other_for w v (w.viewers u) _ (λ p. other_set w u v _ apart)
 other_step s w v (Look u) apart = other_for w v (w.viewers u) (look_at s w u) (λ p. other_if v (w.viewers v) (may_look s p) _ _ (other_set w u v _ apart) (other_set w u v _ apart))
@@ -113,7 +114,7 @@ looked_at (Some p) = p.looked
 
 -- ---- the last look of a viewer
 
--- Behind these steps a viewer's last one is a Look that could be taken, with this reply.
+-- After these steps a viewer's last one is a Look that could be taken, with this reply.
 record WasLook (s : Setup) (before : List Step) (v t : ℕ) : Type 0 where
   earlier : List Step
   between : List Step
@@ -208,6 +209,7 @@ unfolding looked_at
 reply_step s w v t (HostBytes b) is k = absurd cc
 reply_step s w v t Put is k = absurd cc
 reply_step s w v t Raise is k = absurd cc
+reply_step s w v t Next is k = absurd cc
 reply_step s w v t (Join u role greet) is k = is_none_of _ t _ (mine (record w { stays = λ n. if n == u then w.stays n + 1 else w.stays n }) u v _ is) k
 reply_step s w v t (Bytes u b lost) is k =
     is_none_of _ t _ (no_reply_for w u v _ is (λ p. mine w u v _ is ∙ reply_bytes None s (record p { looked = None; lost = p.lost ++ lost }) (p.unread ++ b) refl)) k
@@ -324,6 +326,7 @@ taken s before Put act can =
     let w : World = play s before in
     ap (λ (o : Option Update). (put_next s w o).acts) can.1 ∙ ap (λ (a : Act). w.acts ++ a ∷ []) (sym can.2)
 taken s before Raise act can = ap (λ (a : Act). (play s before).acts ++ a ∷ []) (sym can)
+taken s before Next act can = absurd can
 taken s before (Join v role greet) act can = absurd can
 taken s before (Bytes v b lost) act can = absurd can
 taken s before (Look v) act can = look_taken s (play s before) v can.0 ∙ ap (λ (a : Act). (play s before).acts ++ a ∷ []) (sym can.1)
@@ -364,8 +367,9 @@ idle : (s : Setup) (before : List Step) (e : Step) → ((act : Act) → CanAct s
 idle s before (HostBytes b) f = (refl, refl)
 idle s before Put f =
     let w : World = play s before in
-    idle_put s w (slice_get (updates_by (host_form s.w s.h) w.host_bytes) (length w.shared.updates)) (λ u there. f _ (u, there, refl))
+    idle_put s w (next_update s w) (λ u there. f _ (u, there, refl))
 idle s before Raise f = absurd (f _ refl)
+idle s before Next f = let w : World = play s before in next_either (IsIdle w) w (next_update s w) (fault_now s w) (refl, refl) (refl, refl)
 idle s before (Join v role greet) f = (refl, refl)
 idle s before (Bytes v b lost) f = idle_for (play s before) ((play s before).viewers v) _ (λ p there. (refl, refl))
 idle s before (Look v) f =
@@ -388,6 +392,7 @@ absent : (s : Setup) (w : World) (v : ℕ) (e : Step) → is_step_of v e ≡ tru
 absent s w v (HostBytes b) is none = absurd cc
 absent s w v Put is none = absurd cc
 absent s w v Raise is none = absurd cc
+absent s w v Next is none = absurd cc
 absent s w v (Join u role greet) is none = inr (role, greet, ap (λ n. Join n role greet) (sym (eqb-true v u is)))
 absent s w v (Bytes u b lost) is none = inl (absent_for w u v _ is none)
 absent s w v (Look u) is none = inl (absent_for w u v _ is none)

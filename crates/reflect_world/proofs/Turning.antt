@@ -1,4 +1,4 @@
--- The second half of a turn over a source for one thread.
+-- The second half of a turn over a source for one thread. A World's Cut step is this half.
 use Rattle.std.proofs.Common.{◌≡◌, ℕ, Bool, true, false, List, length, Option, refl, ap, sym, ◌∙◌, subst}
 use Rattle.std.specs.Prelude.{◌&&◌, ◌||◌, is_some, nat_lt, unwrap_or}
 use Rattle.std.proofs.lemmas.List.{take_all}

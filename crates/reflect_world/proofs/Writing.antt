@@ -1,4 +1,4 @@
--- Bytes are written to a place, piece by piece.
+-- Bytes are written to a place, piece by piece. The world writes over the pieces of a session.
 use Rattle.std.proofs.Common.{◌≡◌, ℕ, ◌+◌, ◌-◌, List, ◌++◌, length, take, drop, None, refl, ap, sym, ◌∙◌, subst, arith, append-nil, append_assoc}
 use Rattle.std.specs.Prelude.{min}
 use Rattle.std.proofs.Math.Seq.{take-add}

@@ -3,9 +3,10 @@ use Rattle.std.specs.Prelude.{◌≡◌, ℕ, ◌⊎◌, true, List, [], ◌∷�
 use Rattle.pixel_format.specs.PixelFormat.{host_format}
 use Rattle.pixel_format.specs.declared.fault.Fault.{Fault}
 use Rattle.pixel_format.specs.declared.fault.Fault.TheVariants.{Memory}
-use Rattle.pixel_format.specs.Reading.{Reading, fault_of, rest}
+use Rattle.byte_reading.specs.Reading.{Reading, fault_of, rest}
 use Rattle.raster.specs.Screen.{opening}
 use Rattle.raster.specs.Size.{IsScreenSize}
+use Rattle.raster.specs.Switch.{switch}
 use Rattle.raster.specs.Update.{Update, screen}
 use Rattle.rfb_wire.specs.ServerMessage.{ServerMessage, server_message}
 use Rattle.painter.specs.Patch.{SizedUpdate}
@@ -37,36 +38,47 @@ abbrev pub waiting_list : Option SizedUpdate → List Update
 waiting_list None = []
 waiting_list (Some patch) = patch.update ∷ []
 
--- Of all bytes of the host those that aren't unread were read. The updates that they spell come to the same, from the
--- opening screen on, as these and the one that waits; and the decoder goes on as the rest behind them, over the screen
--- that they show.
-pub record HasReadTo (bytes : List ℕ) (us : List Update) (host : HostSide) : Type 0 where
+-- The updates of the hosts before it, and then those in its own bytes.
+abbrev pub with_past : List Update → Reading ServerMessage → List ℕ → List Update
+with_past past form bytes = past ++ updates_by form bytes
+
+-- Of all bytes of the host those that aren't unread were read. The updates that they spell, after those of the hosts
+-- before it, come to the same, from the opening screen on, as these and the one that waits; and the decoder goes on as
+-- the rest after them, over the screen that they show.
+pub record HasReadTo (past : List Update) (bytes : List ℕ) (us : List Update) (host : HostSide) : Type 0 where
   pub read : List ℕ
   pub split : bytes ≡ read ++ host.unread
-  pub updates : AreSameFrom host.decoder.width host.decoder.height opening opening (updates_by (form_of host) read) (us ++ waiting_list host.waiting)
-  pub decodes : Decodes host.decoder host.painter (screen (updates_by (form_of host) read)) (rest (form_of host) read)
+  pub updates : AreSameFrom host.decoder.width host.decoder.height opening opening (with_past past (form_of host) read) (us ++ waiting_list host.waiting)
+  pub decodes : Decodes host.decoder host.painter (screen (with_past past (form_of host) read)) (rest (form_of host) read)
 
 -- That stands, unless the decoder was refused memory: then it reads nothing more.
-abbrev pub HostStands : List ℕ → List Update → HostSide → Type 0
-HostStands bytes us host = ((is_refused host.decoder.state ≡ true) × (host.waiting ≡ None)) ⊎ HasReadTo bytes us host
+abbrev pub HostStands : List Update → List ℕ → List Update → HostSide → Type 0
+HostStands past bytes us host = ((is_refused host.decoder.state ≡ true) × (host.waiting ≡ None)) ⊎ HasReadTo past bytes us host
 
--- It stands for the bytes and updates of some host.
+-- It stands for the bytes and updates of some host, after some others.
 abbrev pub CanRead : HostSide → Type 0
-CanRead host = (bytes : List ℕ) × (us : List Update) × HostStands bytes us host
+CanRead host = (past : List Update) × (bytes : List ℕ) × (us : List Update) × HostStands past bytes us host
 
--- The host's bytes spell no update but as many as these, and this is the fault at which they stand, if there is one.
-pub record IsReadOut (bytes : List ℕ) (us : List Update) (form : Reading ServerMessage) (fault : Option Fault) : Type 0 where
-  pub none_left : length (updates_by form bytes) ≡ length us
+-- The hosts' bytes spell no update but as many as these, and this is the fault at which they stand, if there is one.
+pub record IsReadOut (past : List Update) (bytes : List ℕ) (us : List Update) (form : Reading ServerMessage) (fault : Option Fault) : Type 0 where
+  pub none_left : length (with_past past form bytes) ≡ length us
   pub stands_at : fault_of (rest form bytes) ≡ fault
 
 -- The next update was read; or there is none, with or without a fault; or memory was refused. What stood for some bytes
 -- and updates then stands for the same, with that update.
 abbrev pub ReadsOn : HostSide → HostSide → Result (Option SizedUpdate) Fault → Type 0
-ReadsOn old new (Ok (Some patch)) = (bytes : List ℕ) (us : List Update) → HostStands bytes us old → HasReadTo bytes (us ++ patch.update ∷ []) new
-ReadsOn old new (Ok None) = (bytes : List ℕ) (us : List Update) → HostStands bytes us old → HasReadTo bytes us new × IsReadOut bytes us (form_of new) None
+ReadsOn old new (Ok (Some patch)) = (past : List Update) (bytes : List ℕ) (us : List Update) → HostStands past bytes us old → HasReadTo past bytes (us ++ patch.update ∷ []) new
+ReadsOn old new (Ok None) = (past : List Update) (bytes : List ℕ) (us : List Update) → HostStands past bytes us old → HasReadTo past bytes us new × IsReadOut past bytes us (form_of new) None
 ReadsOn old new (Err fault) =
-    (bytes : List ℕ) (us : List Update) → HostStands bytes us old
-    → HostStands bytes us new × ((fault ≡ Memory) ⊎ IsReadOut bytes us (form_of new) (Some fault))
+    (past : List Update) (bytes : List ℕ) (us : List Update) → HostStands past bytes us old
+    → HostStands past bytes us new × ((fault ≡ Memory) ⊎ IsReadOut past bytes us (form_of new) (Some fault))
+
+-- The next host begins over the screen of one that was read out without a fault. What stood for some bytes and updates
+-- stands for none of the next host's, after a switch to black, which waits to be put.
+abbrev pub BeginsNext : HostSide → HostSide → Type 0
+BeginsNext old new =
+    (past : List Update) (bytes : List ℕ) (us : List Update) → HasReadTo past bytes us old → IsReadOut past bytes us (form_of old) None
+    → HasReadTo (with_past past (form_of old) bytes ++ switch old.decoder.width old.decoder.height ∷ []) [] us new
 
 -- The update of an event: a colour map and a text that isn't kept bring none.
 abbrev pub patch_in : HostEvent → Option SizedUpdate
@@ -78,9 +90,9 @@ patch_in LongCut = None
 
 -- A message was read. One that brings no update leaves the updates as they are.
 abbrev pub ReadsMessage : HostSide → HostSide → Option SizedUpdate → Type 0
-ReadsMessage old new brings = (bytes : List ℕ) (us : List Update) → HostStands bytes us old → HasReadTo bytes (us ++ waiting_list brings) new
+ReadsMessage old new brings = (past : List Update) (bytes : List ℕ) (us : List Update) → HostStands past bytes us old → HasReadTo past bytes (us ++ waiting_list brings) new
 
--- ---- what stands in its fields
+-- ---- what its fields hold
 
 -- All of it is for one screen.
 pub record IsHost (host : HostSide) : Type 0 where

@@ -1,13 +1,14 @@
 -- What of each viewer's input goes to the host (own; the inputs are messages of RFC 6143, 7.5.4 to 7.5.6).
-use Rattle.std.specs.Prelude.{◌≡◌, ℕ, ◌+◌, ◌≤◌, Bool, true, false, ◌==◌, if◌then◌else◌, List, [], ◌∷◌, ◌++◌, length, Option, Some, None}
+use Rattle.std.specs.Prelude.{◌≡◌, ◌≢◌, ℕ, ◌+◌, ◌≤◌, Bool, true, false, ◌==◌, if◌then◌else◌, List, [], ◌∷◌, ◌++◌, length, map, Option, Some, None}
 use Rattle.std.specs.List.{filter_map, list_any}
 use Rattle.roles.specs.declared.role.Role.{Role}
 use Rattle.roles.specs.Allowed.{Input, allowed}
+use Rattle.roles.specs.Strokes.{Taken, sent_by, has_down, IsPickedFrom}
 use Rattle.reflect_core.specs.Sequential.{Begins}
 use Rattle.viewer_session.specs.Acts.{waiting_list}
 use Rattle.viewer_session.specs.Record.{messages_in}
 use Rattle.viewer_session.specs.Viewer.{Setup, Viewer}
-use Rattle.reflect_world.specs.Schedule.{Relayed, World, Step, HostBytes, Put, Raise, Join, Bytes, Look, Cut, Written, Send, Take, Part, leaves_behind, play}
+use Rattle.reflect_world.specs.Schedule.{Relayed, World, Step, HostBytes, Put, Raise, Join, Bytes, Look, Cut, Written, Send, Take, Part, leaves_behind, play, taken_from, told_of, Next}
 
 -- What was relayed, in order: what was taken for the host, and then what is in the queue.
 abbrev pub all_relayed : World → List Relayed
@@ -26,6 +27,7 @@ abbrev pub bounds_stay : ℕ → Step → Bool
 bounds_stay v (HostBytes b) = false
 bounds_stay v Put = false
 bounds_stay v Raise = false
+bounds_stay v Next = false
 bounds_stay v (Join u role greet) = v == u
 bounds_stay v (Bytes u b lost) = false
 bounds_stay v (Look u) = false
@@ -43,7 +45,7 @@ pub record LeavesAllowed (s : Setup) (before es : List Step) (v : ℕ) (p : View
   pub begins : Begins sent (allowed p.role (messages_in p.entries) true)
   pub whole : length (play s es).queue + length (leaves_behind v p) ≤ s.room → sent ≡ allowed p.role (messages_in p.entries) true
 
--- A stay of a viewer, which joined in this role behind these steps and hasn't left since: it is there, and what was
+-- A stay of a viewer, which joined in this role after these steps and hasn't left since: it is there, and what was
 -- relayed of it since, and then its input that waits, is all that is allowed of the messages taken of it.
 pub record StaysAllowed (s : Setup) (before es : List Step) (v : ℕ) (role : Role) : Type 0 where
   pub viewer : Viewer
@@ -54,12 +56,20 @@ pub record StaysAllowed (s : Setup) (before es : List Step) (v : ℕ) (role : Ro
   pub same_role : viewer.role ≡ role
   pub leaves : LeavesAllowed s before es v viewer
 
+-- What the host is sent is unbroken: of each viewer it is taken from what was taken of it, in order, each input at most
+-- once; and where an input of a viewer passes, no other has a key or a button down, so that between a viewer's first
+-- press and the last release of its keys and buttons nothing of another passes.
+pub record TellsUnbroken (w : World) : Type 0 where
+  pub picked : (v : ℕ) → IsPickedFrom (sent_by v (told_of w.taken)) (sent_by v (map taken_from w.taken))
+  pub whole : (before after : List Taken) (t : Taken) → told_of w.taken ≡ before ++ t ∷ after → (v : ℕ) → v ≢ t.place → has_down v before ≡ false
+
 -- Each stay of each viewer is such. What was relayed only becomes more, at its end. Of a viewer that isn't there a step
--- relays nothing.
+-- relays nothing. What the host is sent of it is unbroken.
 pub record RelaysAllowed (s : Setup) (es : List Step) : Type 0 where
   pub stays : (v : ℕ) (role : Role) (greet : Bool) (before since : List Step) → es ≡ before ++ Join v role greet ∷ since → list_any (bounds_stay v) since ≡ false → StaysAllowed s before es v role
   pub grows : (e : Step) → Begins (all_relayed (play s es)) (all_relayed (play s (es ++ e ∷ [])))
   pub absent : (v : ℕ) (e : Step) → (play s es).viewers v ≡ None → relayed_by v (play s (es ++ e ∷ [])) ≡ relayed_by v (play s es)
+  pub told : TellsUnbroken (play s es)
 
 -- In every schedule.
 abbrev pub RelaysInEverySchedule : Type 0

@@ -1,10 +1,11 @@
 -- Inputs on their way to the host (RFC 6143, 7.5.4 to 7.5.6).
-use Rattle.std.specs.Prelude.{◌≡◌, ℕ, List, [], ◌∷◌, ◌++◌, map}
+use Rattle.std.specs.Prelude.{◌≡◌, ℕ, if◌then◌else◌, List, [], ◌∷◌, ◌++◌, length, map}
 use Rattle.std.specs.List.{flat_map}
 use Rattle.roles.specs.Allowed.{Input}
 use Rattle.roles.specs.Held.{input_in}
 use Rattle.roles.specs.Spelling.{input_bytes}
-use Rattle.reflect_world.specs.Schedule.{Relayed}
+use Rattle.roles.specs.Strokes.{Taken, unbroken, passes_after, StrokesKept, StrokesStand}
+use Rattle.reflect_world.specs.Schedule.{Relayed, taken_from, told_of}
 use Rattle.reflect_world.specs.declared.relay.Entry as declared
 
 -- That of inputs, one after another.
@@ -21,9 +22,19 @@ pub record RelaySide : Type 0 where
   pub taken : List Relayed
   pub spare : ℕ
 
--- What was taken, as inputs.
-abbrev pub inputs_of : List Relayed → List Input
-inputs_of relayed = map (λ (it : Relayed). it.input) relayed
+-- What the host is sent of what was taken, as inputs.
+abbrev pub inputs_told : List Relayed → List Input
+inputs_told taken = map (λ (it : Taken). it.input) (told_of taken)
+
+-- The strokes stand for what was taken, with a count for each number below 65.
+pub record KeepsStrokes (strokes : StrokesKept) (taken : List Relayed) : Type 0 where
+  pub stands : StrokesStand strokes (map taken_from taken)
+  pub counts : length strokes.counts ≡ 65
+
+-- After these that were taken this one was: its spelling was added where it passes.
+pub record Tells (taken : List Taken) (t : Taken) (strokes_new : StrokesKept) (out_old out_new : List ℕ) : Type 0 where
+  pub said : out_new ≡ out_old ++ (if passes_after (unbroken taken) t then input_bytes t.input else [])
+  pub stands : StrokesStand strokes_new (taken ++ t ∷ [])
 
 -- The first of the queue was taken, if there was one.
 abbrev pub takes_from : List Relayed → List Relayed → (queue taken : List Relayed) → Type 0

@@ -14,7 +14,8 @@ use Rattle.viewer_session.specs.Session.{HasCounted, IsFeeding, State, fault_in,
 use Rattle.viewer_session.specs.Turn.{has_reason}
 use Rattle.viewer_session.specs.Viewer.{Setup, Viewer, out_bytes, after_bytes, after_cut, may_look, viewer_fault}
 use Rattle.reflect_world.specs.Relay.{RelaySide}
-use Rattle.reflect_world.specs.Schedule.{Step, World, HostBytes, Put, Raise, Join, Bytes, Look, Cut, Written, Send, Take, Part, happens, play}
+use Rattle.host_decoder.specs.Hosts.{ended_updates}
+use Rattle.reflect_world.specs.Schedule.{Step, World, HostBytes, Put, Raise, Join, Bytes, Look, Cut, Written, Send, Take, Part, happens, play, Next}
 use Rattle.reflect_world.specs.Host.{HasReadTo, HostSide, HostStands, IsSameHost}
 use Rattle.reflect_world.specs.Headline.{Holds}
 use Rattle.reflect_world.specs.Input.{RelaysAllowed}
@@ -31,6 +32,7 @@ abbrev pub step_of : declared_step.Step → Step
 step_of (code.HostBytes bytes) = HostBytes bytes.items
 step_of code.Put = Put
 step_of code.Raise = Raise
+step_of code.Next = Next
 step_of (code.Bytes viewer bytes) = Bytes viewer bytes.items []
 step_of (code.Look viewer) = Look viewer
 step_of (code.Cut viewer) = Cut viewer
@@ -43,6 +45,7 @@ abbrev pub step_with : declared_step.Step → List Bool → Step
 step_with (code.HostBytes bytes) lost = HostBytes bytes.items
 step_with code.Put lost = Put
 step_with code.Raise lost = Raise
+step_with code.Next lost = Next
 step_with (code.Bytes viewer bytes) lost = Bytes viewer bytes.items lost
 step_with (code.Look viewer) lost = Look viewer
 step_with (code.Cut viewer) lost = Cut viewer
@@ -81,7 +84,7 @@ setup_of k = record { w = k.width; h = k.height; name = k.name; room = k.room }
 abbrev pub world_of : Kept → World
 world_of k = play (setup_of k) k.steps
 
--- ---- what stands in the fields
+-- ---- what the fields hold
 
 -- A viewer: its session, the reply to its last step where that was a look, what was written to it, and its bytes that
 -- aren't read yet, since an input waits.
@@ -145,7 +148,7 @@ pub record Shows (s : Setup) (standing : Standing) (w : World) : Type 0 where
   pub room : length standing.places ≡ 65
   pub places : (v : ℕ) → PlaceBy (PlaceShows s) (place_at standing.places v) (w.viewers v)
 
--- What stands in the fields is what the schedule has come to.
+-- What the fields hold is what the schedule has come to.
 pub record Reached (s : Setup) (standing : Standing) (w : World) : Type 0 where
   pub size : IsScreenSize s.w s.h
   pub width : standing.screen.width ≡ s.w
@@ -155,7 +158,7 @@ pub record Reached (s : Setup) (standing : Standing) (w : World) : Type 0 where
   pub tally : standing.screen.tally ≡ w.shared.tally
   pub host_width : standing.host.decoder.width ≡ s.w
   pub host_height : standing.host.decoder.height ≡ s.h
-  pub host : HostStands w.host_bytes standing.screen.updates standing.host
+  pub host : HostStands (ended_updates s.w s.h w.ended) w.host_bytes standing.screen.updates standing.host
   pub fault : standing.host_fault ≡ w.host_fault
   pub limit : standing.room ≡ s.room
   pub queue : standing.relay.queue ≡ w.queue
@@ -169,7 +172,7 @@ pub record Reached (s : Setup) (standing : Standing) (w : World) : Type 0 where
 abbrev pub with_session : Held → State → Held
 with_session place session = record { session = session; looked = None; written = place.written; unread = place.unread }
 
--- Bytes of the viewer came, behind those that weren't read yet, with these marks for the texts that became whole.
+-- Bytes of the viewer came, after those that weren't read yet, with these marks for the texts that became whole.
 pub record IsFed (old new : Held) (bytes : List ℕ) (marks : List Bool) : Type 0 where
   pub others : new ≡ record { session = new.session; looked = None; written = old.written; unread = new.unread }
   pub stands : (s : Setup) (p : Viewer) → Stands s old.session p → StandsBut s new.session (after_bytes (with_marks marks p) (old.unread ++ bytes)) new.unread
@@ -188,13 +191,13 @@ pub record HasLooked (old new : Held) (tally : ℕ) : Type 0 where
   pub others : new ≡ record old { looked = if is_ready old.session then Some tally else None }
   pub stands : (s : Setup) (p : Viewer) → Stands s old.session p → is_ready old.session ≡ may_look s p
 
--- So many of its unsent bytes were written.
+-- This many of its unsent bytes were written.
 pub record IsWritten (old new : Held) (count : ℕ) : Type 0 where
   pub others : new ≡ record { session = new.session; looked = None; written = old.written ++ take count old.session.unsent; unread = old.unread }
   pub stands : (s : Setup) (p : Viewer) → Stands s old.session p → Stands s new.session (after_writing count p)
   pub counted : (us : List Update) → HasCounted old.session us → HasCounted new.session us
 
--- So many of its unsent bytes were written, and nothing else changed.
+-- This many of its unsent bytes were written, and nothing else changed.
 pub record WritesSome (old new : Held) (count : ℕ) : Type 0 where
   pub others : new ≡ record old { session = new.session; written = old.written ++ take count old.session.unsent }
   pub within : count ≤ length old.session.unsent
@@ -241,7 +244,7 @@ pub record IsPut (old new : Standing) (u : Update) : Type 0 where
 pub record IsUnread (old new : Standing) (u : Update) : Type 0 where
   pub others : new ≡ record old { host = new.host }
   pub size : IsSameHost old.host new.host
-  pub stands : (bytes : List ℕ) (us : List Update) → HasReadTo bytes (us ++ u ∷ []) old.host → HasReadTo bytes us new.host
+  pub stands : (past : List Update) (bytes : List ℕ) (us : List Update) → HasReadTo past bytes (us ++ u ∷ []) old.host → HasReadTo past bytes us new.host
 
 -- An input of the viewer waits, if there is one.
 abbrev pub has_waiting : Option Viewer → Bool
@@ -306,7 +309,7 @@ StopsAt old new e fault =
     ((fault ≡ Memory) × (new ≡ record old { is_refused = true }))
     ⊎ ((fault ≡ NumbersOut) × (e ≡ Put) × (length (world_of old).shared.updates ≡ 2 ^ 62) × (new ≡ old))
 
--- The world with these steps behind its own.
+-- The world with these steps after its own.
 abbrev pub with_steps : Kept → List Step → Kept
 with_steps k es = record k { steps = k.steps ++ es }
 
@@ -314,7 +317,7 @@ with_steps k es = record k { steps = k.steps ++ es }
 abbrev pub HasPlayed : Kept → Kept → List Step → Type 0
 HasPlayed old new es = (old.is_refused ≡ false) × ((played : List Step) × (map unmarked played ≡ es) × (new ≡ with_steps old played))
 
--- None was played, since a step was refused for want of memory before; or so many were played, and the next was
+-- None was played, since a step was refused for want of memory before; or this many were played, and the next was
 -- refused.
 abbrev pub HasStopped : Kept → Kept → List Step → ℕ → Fault → Type 0
 HasStopped old new es count fault =
@@ -324,8 +327,8 @@ HasStopped old new es count fault =
 -- What holds of a schedule: the headline, so that after each answer a viewer that follows its answers holds the area
 -- asked for, and the puts, raises, looks and cuts are one legal history, which has the viewers' own; the updates are
 -- those of the host's bytes, in order; each viewer is sent its Bells, texts and answers and nothing else, and reads
--- exactly these; once an answer is written whole it holds the area; and what the host is sent of each viewer is what is
--- allowed of its messages, in each of its stays.
+-- exactly these; once an answer is written whole it holds the area; what is relayed of each viewer is what is allowed of
+-- its messages, in each of its stays; and what the host is sent of it is unbroken.
 pub record IsServed (s : Setup) (es : List Step) : Type 0 where
   pub holds : Holds s es
   pub in_order : ArePutInOrder s (play s es)

@@ -5,11 +5,11 @@ ghost use Rattle.pixel_format.specs.declared.fault.Fault.TheVariants.{Memory};
 ghost use Rattle.raster.specs.Size.{IsScreenSize};
 ghost use Rattle.raster.specs.Update.{Update};
 ghost use Rattle.painter.specs.Patch.{SizedUpdate};
-ghost use Rattle.reflect_world.specs.Host.{CanRead, HasReadTo, HostStands, IsHost, IsSameHost, ReadsMessage, ReadsOn, patch_in};
+ghost use Rattle.reflect_world.specs.Host.{BeginsNext, CanRead, HasReadTo, HostStands, IsHost, IsSameHost, ReadsMessage, ReadsOn, patch_in};
 
 use crate::unread::Unread;
-use host_decoder::{HostDecoder, HostEvent};
-use painter::{Painter, Patch};
+use host_decoder::{HostEvent, HostScreen};
+use painter::Patch;
 use pixel_format::Fault;
 use std::alloc::Global;
 use std::marker::Model;
@@ -17,8 +17,7 @@ use std::marker::Model;
 /// The bytes of a host, which are read update by update; and an update that was read and couldn't be put.
 #[derive(Drop)]
 pub struct Host {
-    decoder: HostDecoder,
-    painter: Painter,
+    screen: HostScreen,
     unread: Unread,
     waiting: Option<Patch>,
 }
@@ -28,9 +27,9 @@ impl Model for Host {
 
     ghost Value = { HostSide };
 
-    ghost view = { λ h. record { decoder = h.decoder; painter = h.painter; unread = h.unread; waiting = h.waiting } };
+    ghost view = { λ h. record { decoder = h.screen.decoder; painter = h.screen.painter; unread = h.unread; waiting = h.waiting } };
 
-    ghost invariant = { λ h. IsHost (record { decoder = h.decoder; painter = h.painter; unread = h.unread; waiting = h.waiting }) };
+    ghost invariant = { λ h. IsHost (record { decoder = h.screen.decoder; painter = h.screen.painter; unread = h.unread; waiting = h.waiting }) };
 }
 
 impl Host {
@@ -38,13 +37,11 @@ impl Host {
     pub fn new(alloc: Global, width: u64, height: u64) -> Result<Self, Fault>
         requires { IsScreenSize width height }
         ensures size { IfOk result (λ host. (host.decoder.width ≡ width) × (host.decoder.height ≡ height)) }
-        ensures stands { IfOk result (λ host. HostStands [] [] host) }
+        ensures stands { IfOk result (λ host. HostStands [] [] [] host) }
         ensures err { IfErr result (λ fault. fault ≡ Memory) }
     {
-        let painter = Painter::new(alloc, width, height)?;
         Ok(Host {
-            decoder: HostDecoder::new(alloc, width, height),
-            painter,
+            screen: HostScreen::new(alloc, width, height)?,
             unread: Unread::new(alloc),
             waiting: None,
         })
@@ -53,7 +50,7 @@ impl Host {
     /// Bytes of it come, and are kept. Where memory is refused (`Memory`) nothing has changed.
     pub fn add(&mut self, bytes: &[u8]) -> Result<(), Fault>
         ensures same { IsSameHost self.old self.new }
-        ensures ok { OnOk result ((all : List ℕ) (us : List Update) → HostStands all us self.old → HostStands (all ++ bytes.now) us self.new) }
+        ensures ok { OnOk result ((past : List Update) (all : List ℕ) (us : List Update) → HostStands past all us self.old → HostStands past (all ++ bytes.now) us self.new) }
         ensures err { IfErr result (λ fault. (fault ≡ Memory) × (self.new ≡ self.old)) }
     {
         self.unread.add(bytes)
@@ -89,12 +86,27 @@ impl Host {
         requires none { self.old.waiting ≡ None }
         requires size { (patch.width ≡ self.old.decoder.width) × (patch.height ≡ self.old.decoder.height) }
         ensures same { IsSameHost self.old self.new }
-        ensures stands { (bytes : List ℕ) (us : List Update) → HasReadTo bytes (us ++ patch.update ∷ []) self.old → HasReadTo bytes us self.new }
+        ensures stands { (past : List Update) (bytes : List ℕ) (us : List Update) → HasReadTo past bytes (us ++ patch.update ∷ []) self.old → HasReadTo past bytes us self.new }
     {
         self.waiting = Some(patch);
     }
 
-    // Reads on up to the end of a message, or to the end of the bytes. Behind a fault there is nothing to be read.
+    /// The next host begins: its bytes are read from their first on, and the screen turns black by an update that waits
+    /// to be put. It fails where memory is refused (`Memory`), and then nothing has changed.
+    pub fn next_host(&mut self) -> Result<(), Fault>
+        requires none { self.old.waiting ≡ None }
+        ensures same { IsSameHost self.old self.new }
+        ensures ok { OnOk result (BeginsNext self.old self.new) }
+        ensures err { IfErr result (λ fault. (fault ≡ Memory) × (self.new ≡ self.old)) }
+    {
+        let patch = self.screen.painter.switch()?;
+        self.screen.decoder.next_host();
+        self.unread.clear();
+        self.waiting = Some(patch);
+        Ok(())
+    }
+
+    /// Reads on up to the end of a message, or to the end of the bytes. After a fault there is nothing to be read.
     fn read_one(&mut self) -> Result<Option<HostEvent>, Fault>
         requires none { self.old.waiting ≡ None }
         requires stands { CanRead self.old }
@@ -106,10 +118,14 @@ impl Host {
         ensures end { result ≡ Ok None → ReadsOn self.old self.new (Ok None) }
         ensures err { IfErr result (λ fault. ReadsOn self.old self.new (Err fault)) }
     {
-        match self.decoder.feed(&mut self.painter, self.unread.bytes()) {
+        let screen = &mut self.screen;
+        match screen
+            .decoder
+            .feed(&mut screen.painter, self.unread.bytes())
+        {
             Ok(used) => {
                 self.unread.take(used);
-                Ok(self.decoder.whole())
+                Ok(screen.decoder.whole())
             }
             Err(fault) => {
                 self.unread.clear();

@@ -79,7 +79,7 @@ impl Place {
         self.session.fault()
     }
 
-    /// Its bytes come, and are read behind those that wait, as far as no input waits. For each text that becomes whole
+    /// Its bytes come, and are read after those that wait, as far as no input waits. For each text that becomes whole
     /// `lost` gets a mark: whether it found no memory. Where memory is refused (`Memory`), which comes first, nothing
     /// has changed.
     pub fn feed(&mut self, bytes: &[u8], lost: &mut Vec<bool>) -> Result<(), Fault>
@@ -99,7 +99,7 @@ impl Place {
         Ok(())
     }
 
-    // Reads bytes that wait, up to the end of a message. Behind a fault none is looked at.
+    /// Reads bytes that wait, up to the end of a message. After a fault none is looked at.
     fn read_on(&mut self, lost: &mut Vec<bool>)
         requires some { 0 < length self.old.unread }
         requires none { self.old.session.waiting ≡ None }
@@ -193,7 +193,7 @@ impl Place {
         self.looked = None;
     }
 
-    /// So many of its unsent bytes are written, piece by piece, at most those there are. Where memory is refused
+    /// This many of its unsent bytes are written, piece by piece, at most those there are. Where memory is refused
     /// (`Memory`) what was written before stands, and no more can be made of the session.
     pub fn write(&mut self, count: u64) -> Result<(), Fault>
         ensures ok { OnOk result (IsWritten self.old self.new (min count (length self.old.session.unsent))) }
@@ -214,7 +214,8 @@ impl Place {
         Ok(())
     }
 
-    // Bytes of the piece that is sent next are written, at most so many. Where memory is refused nothing has changed.
+    /// Bytes of the piece that is sent next are written, at most this many. Where memory is refused nothing has
+    /// changed.
     fn write_piece(&mut self, most: u64) -> Result<u64, Fault>
         ensures ok { IfOk result (λ count. WritesSome self.old self.new count × (count ≤ most)) }
         ensures some { IfOk result (λ count. 0 < most → 0 < length self.old.session.piece → 0 < count) }

@@ -12,7 +12,7 @@ use std::alloc::{AllocError, Global};
 use std::io::{BufRead, BufReader, BufWriter, ErrorKind, Read, Write};
 use std::{io, slice};
 
-/// A script is read up to so many lines.
+/// A script is read up to this many lines.
 const LINES: u64 = 1 << 40;
 
 /// The widest and highest screen that is served, in pixels.
@@ -115,7 +115,7 @@ fn play_script<B: BufRead, W: Write>(
     play_lines(alloc, &mut world, input, output)
 }
 
-/// Plays the lines behind the first, and answers whether the host's bytes were at fault.
+/// Plays the lines after the first, and answers whether the host's bytes were at fault.
 fn play_lines<B: BufRead, W: Write>(
     alloc: Global,
     world: &mut World,
@@ -141,6 +141,7 @@ fn next_line<B: BufRead>(input: &mut B, line: &mut Vec<u8>) -> Result<bool, Stop
         return Ok(false);
     }
     if line.last() == Some(&b'\n') {
+        // The line feed.
         let _ = line.pop();
     }
     Ok(true)
@@ -184,6 +185,7 @@ fn play_line<W: Write>(
     match line {
         Line::Screen(_, _, _) => Ok(false),
         Line::Host(bytes) => host(alloc, world, output, bytes),
+        Line::Next => next_host(alloc, world, output),
         Line::Raise => {
             play_one(world, Step::Raise)?;
             Ok(true)
@@ -194,6 +196,7 @@ fn play_line<W: Write>(
         Line::Turn(viewer) => turn(alloc, world, output, viewer),
         Line::Leave(viewer) => leave(world, viewer),
         Line::Input => input(alloc, world, output),
+        Line::Dropped(viewer) => dropped(alloc, world, output, viewer),
     }
 }
 
@@ -204,7 +207,7 @@ fn play_one(world: &mut World, step: Step) -> Result<(), Stop> {
     }
 }
 
-/// Bytes of the host: each whole message of an update is put. A fault, also an earlier one, is printed.
+/// Bytes of the host: each whole message of an update is put.
 fn host<W: Write>(
     alloc: Global,
     world: &mut World,
@@ -212,6 +215,17 @@ fn host<W: Write>(
     bytes: Vec<u8>,
 ) -> Result<bool, Stop> {
     play_one(world, Step::HostBytes(bytes))?;
+    put_all(alloc, world, output)
+}
+
+/// The next host begins, where this one is at no fault: the switch to black is put.
+fn next_host<W: Write>(alloc: Global, world: &mut World, output: &mut W) -> Result<bool, Stop> {
+    play_one(world, Step::Next)?;
+    put_all(alloc, world, output)
+}
+
+/// Puts until no update is left. A fault of the host, also an earlier one, is printed.
+fn put_all<W: Write>(alloc: Global, world: &mut World, output: &mut W) -> Result<bool, Stop> {
     for _ in 0..ROOM {
         let before = world.updates();
         play_one(world, Step::Put)?;
@@ -231,7 +245,7 @@ fn is_open(world: &World, viewer: u64) -> bool {
     world.is_joined(viewer) && world.fault(viewer).is_none()
 }
 
-/// A viewer joins, with its hello or behind it, unless it is there already.
+/// A viewer joins, with its hello or after it, unless it is there already.
 fn join(world: &mut World, viewer: u64, access: Access, greet: bool) -> Result<bool, Stop>
     requires { (1 ≤ viewer) × (viewer ≤ 64) }
 {
@@ -267,7 +281,7 @@ fn viewer_bytes<W: Write>(
     Ok(true)
 }
 
-/// While an input of a viewer waits and there is room, it goes into the queue, and the bytes behind it are read.
+/// While an input of a viewer waits and there is room, it goes into the queue, and the bytes after it are read.
 fn send_inputs(alloc: Global, world: &mut World, viewer: u64) -> Result<(), Stop> {
     for _ in 0..ROOM {
         if !world.is_waiting(viewer) || !world.has_room() {
@@ -288,15 +302,14 @@ fn leave(world: &mut World, viewer: u64) -> Result<bool, Stop> {
     Ok(true)
 }
 
-/// All inputs go to the host. What it is sent is printed.
+/// All inputs are taken for the host. What it is sent is printed.
 fn input<W: Write>(alloc: Global, world: &mut World, output: &mut W) -> Result<bool, Stop> {
     let before = world.host_sent().len();
     for _ in 0..ROOM {
-        let sent = world.host_sent().len();
-        play_one(world, Step::Take)?;
-        if world.host_sent().len() == sent {
+        if world.queued() == 0 {
             break;
         }
+        play_one(world, Step::Take)?;
     }
     let sent = world.host_sent().get(before..).unwrap_or(&[]);
     if sent.is_empty() {
@@ -305,6 +318,20 @@ fn input<W: Write>(alloc: Global, world: &mut World, output: &mut W) -> Result<b
     }
     let bytes = shown(alloc, sent)?;
     print(output, format!(in alloc; "host: {bytes}\n")?)?;
+    Ok(true)
+}
+
+/// How many inputs of a viewer didn't pass to the host is printed, whether it is open or not.
+fn dropped<W: Write>(
+    alloc: Global,
+    world: &World,
+    output: &mut W,
+    viewer: u64,
+) -> Result<bool, Stop>
+    requires { (1 ≤ viewer) × (viewer ≤ 64) }
+{
+    let count = world.dropped(viewer);
+    print(output, format!(in alloc; "{viewer}: {count} dropped\n")?)?;
     Ok(true)
 }
 

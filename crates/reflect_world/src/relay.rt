@@ -1,16 +1,19 @@
 //! Inputs on their way to the host.
 
-ghost use Rattle.std.specs.Prelude.{◌≡◌, ◌+◌, ◌<◌, ◌≤◌, [], ◌∷◌, ◌++◌, length, OnOk, IfErr};
+ghost use Rattle.std.specs.Prelude.{◌≡◌, ◌+◌, ◌<◌, ◌≤◌, List, [], ◌∷◌, ◌++◌, length, map, IfOk, OnOk, IfErr};
 ghost use Rattle.pixel_format.specs.declared.fault.Fault.TheVariants.{Memory};
 ghost use Rattle.roles.specs.Held.{input_in};
 ghost use Rattle.rfb_wire.specs.ClientMessage.{longest_text};
 ghost use Rattle.rfb_wire.specs.Writing.{client_text_bytes};
-ghost use Rattle.reflect_world.specs.Relay.{TakesFirst, inputs_of, spelled};
+ghost use Rattle.roles.specs.Strokes.{StrokesStand, Taken, dropped, input_from};
+ghost use Rattle.reflect_world.specs.Relay.{TakesFirst, Tells, inputs_told, spelled};
+ghost use Rattle.reflect_world.specs.Schedule.{taken_from};
 ghost use Rattle.roles.specs.Spelling.{input_bytes};
 
+use crate::scene::PLACES;
 use pixel_format::Fault;
 use rfb_wire::{CLIENT_CUT_TEXT, write_key, write_pointer};
-use roles::Input;
+use roles::{Input, Strokes};
 use std::alloc::Global;
 use std::marker::Model;
 
@@ -21,18 +24,19 @@ pub struct Entry {
     input: Input,
 }
 
-/// The inputs of all viewers, in the order in which they came; how many of them went to the host; and the bytes that it
-/// was sent.
+/// The inputs of all viewers, in the order in which they came; how many of them were taken for the host; which of these
+/// pass to it; and the bytes that it was sent.
 #[derive(Drop)]
 pub struct Relay {
     entries: Vec<Entry>,
     taken: usize,
+    strokes: Strokes,
     sent: Vec<u8>,
 }
 
 impl Model for Relay {
     ghost use Rattle.std.specs.Prelude.{◌≡◌, ◌≤◌, ◌-◌, drop, length, map, take, vec_capacity, vec_len};
-    ghost use Rattle.reflect_world.specs.Relay.{RelaySide, inputs_of, relayed_in, spelled};
+    ghost use Rattle.reflect_world.specs.Relay.{KeepsStrokes, RelaySide, inputs_told, relayed_in, spelled};
 
     ghost Value = { RelaySide };
 
@@ -42,19 +46,22 @@ impl Model for Relay {
       spare = vec_capacity r.entries - vec_len r.entries;
     } };
 
-    ghost invariant = { λ r. (r.taken ≤ length r.entries.items) × (r.sent.items ≡ spelled (inputs_of (take r.taken (map relayed_in r.entries.items)))) };
+    ghost invariant = { λ r. (r.taken ≤ length r.entries.items) × (r.sent.items ≡ spelled (inputs_told (take r.taken (map relayed_in r.entries.items)))) × KeepsStrokes r.strokes (take r.taken (map relayed_in r.entries.items)) };
 }
 
 impl Relay {
-    /// No input is on its way, and none was sent.
-    pub fn new(alloc: Global) -> Self
-        ensures { (result.queue ≡ []) × (result.taken ≡ []) }
+    /// No input is on its way, and none was sent. It fails where memory is refused (`Memory`).
+    pub fn new(alloc: Global) -> Result<Self, Fault>
+        ensures ok { IfOk result (λ relay. (relay.queue ≡ []) × (relay.taken ≡ [])) }
+        ensures err { IfErr result (λ fault. fault ≡ Memory) }
     {
-        Relay {
+        let strokes = Strokes::new(alloc, PLACES)?;
+        Ok(Relay {
             entries: Vec::new(alloc),
             taken: 0,
+            strokes,
             sent: Vec::new(alloc),
-        }
+        })
     }
 
     /// How many inputs are in the queue.
@@ -64,14 +71,22 @@ impl Relay {
         (self.entries.len() - self.taken) as u64
     }
 
-    /// All that the host was sent: the spellings of the inputs taken, in order.
+    /// All that the host was sent: the spellings of the inputs taken that pass, in order.
     pub fn sent(&self) -> &[u8]
-        ensures { result.now ≡ spelled (inputs_of self.now.taken) }
+        ensures { result.now ≡ spelled (inputs_told self.now.taken) }
     {
         self.sent.as_slice()
     }
 
-    /// Makes room for so many more inputs. Where memory is refused (`Memory`) nothing has changed.
+    /// How many inputs that were taken of a viewer didn't pass to the host.
+    pub fn dropped(&self, viewer: u64) -> u64
+        requires { viewer < 65 }
+        ensures { result ≡ dropped viewer (map taken_from self.now.taken) }
+    {
+        self.strokes.dropped(viewer)
+    }
+
+    /// Makes room for this many more inputs. Where memory is refused (`Memory`) nothing has changed.
     pub fn reserve(&mut self, more: usize) -> Result<(), Fault>
         ensures others { self.new ≡ record self.old { spare = self.new.spare } }
         ensures ok { OnOk result (more ≤ self.new.spare) }
@@ -95,8 +110,8 @@ impl Relay {
         };
     }
 
-    /// The input that waited longest goes to the host, if there is one. Where memory is refused (`Memory`) nothing has
-    /// changed.
+    /// The input that waited longest is taken, if there is one, and goes to the host where it passes after those taken
+    /// before. Where memory is refused (`Memory`) nothing has changed.
     pub fn take(&mut self) -> Result<(), Fault>
         ensures ok { OnOk result (TakesFirst self.old self.new) }
         ensures err { IfErr result (λ fault. (fault ≡ Memory) × (self.new ≡ self.old)) }
@@ -105,13 +120,34 @@ impl Relay {
             return Ok(());
         }
         let entry = &self.entries[self.taken];
-        spell(&entry.input, &mut self.sent)?;
+        tell(
+            &mut self.strokes,
+            entry.viewer,
+            &entry.input,
+            &mut self.sent,
+        )?;
         self.taken += 1;
         Ok(())
     }
 }
 
-// Adds the spelling of an input. Where memory is refused nothing has changed.
+/// Adds the spelling of an input of a viewer, where it passes after those taken before. Where memory is refused nothing
+/// has changed.
+fn tell(strokes: &mut Strokes, viewer: u64, input: &Input, out: &mut Vec<u8>) -> Result<(), Fault>
+    ensures ok { OnOk result ((taken : List Taken) → StrokesStand strokes.old taken → Tells taken (input_from viewer (input_in input.now)) strokes.new out.old.items out.new.items) }
+    ensures counts { length strokes.new.counts ≡ length strokes.old.counts }
+    ensures err { IfErr result (λ fault. (fault ≡ Memory) × (strokes.new ≡ strokes.old) × (out.new.items ≡ out.old.items)) }
+{
+    // It is spelled first: once the strokes know of it no memory may be refused any longer.
+    let before = out.len();
+    spell(input, out)?;
+    if !strokes.passes(viewer, input) {
+        out.truncate(before);
+    }
+    Ok(())
+}
+
+/// Adds the spelling of an input. Where memory is refused nothing has changed.
 fn spell(input: &Input, out: &mut Vec<u8>) -> Result<(), Fault>
     ensures ok { OnOk result (out.new.items ≡ out.old.items ++ input_bytes (input_in input.now)) }
     ensures err { IfErr result (λ fault. (fault ≡ Memory) × (out.new.items ≡ out.old.items)) }
@@ -131,7 +167,7 @@ fn spell(input: &Input, out: &mut Vec<u8>) -> Result<(), Fault>
     }
 }
 
-// Adds a ClientCutText: its head, and then the text.
+/// Adds a ClientCutText: its header, and then the text.
 fn spell_text(text: &[u8], out: &mut Vec<u8>) -> Result<(), Fault>
     requires { length text.now ≤ longest_text }
     ensures ok { OnOk result (out.new.items ≡ out.old.items ++ client_text_bytes text.now) }

@@ -1,12 +1,13 @@
 //! What the schedule of a world has come to.
 
-ghost use Rattle.reflect_world.specs.Relay.{inputs_of, relayed_of, spelled};
-ghost use Rattle.std.specs.Prelude.{◌≡◌, ℕ, ◌<◌, ◌≤◌, ◌-◌, ◌++◌, false, nat_lt, [], None, length, take, IfOk, IfErr, OnOk};
+ghost use Rattle.reflect_world.specs.Relay.{inputs_told, relayed_of, spelled};
+ghost use Rattle.std.specs.Prelude.{◌≡◌, ℕ, ◌<◌, ◌≤◌, ◌-◌, ◌++◌, false, nat_lt, [], None, length, map, take, IfOk, IfErr, OnOk};
 ghost use Rattle.std.specs.Option.{option_copied};
 ghost use Rattle.pixel_format.specs.declared.fault.Fault.TheVariants.{Memory};
 ghost use Rattle.raster.specs.Size.{IsScreenSize};
+ghost use Rattle.roles.specs.Strokes.{dropped};
 ghost use Rattle.viewer_session.specs.Viewer.{Setup};
-ghost use Rattle.reflect_world.specs.Schedule.{Put, Raise, Join, HostBytes, Bytes, Look, Cut, Written, Send, Take, Part, beginning};
+ghost use Rattle.reflect_world.specs.Schedule.{Put, Raise, Join, HostBytes, Bytes, Look, Cut, Written, Send, Take, Part, beginning, taken_from, Next};
 ghost use Rattle.reflect_core.specs.Plain.{IsPutRefusal};
 ghost use Rattle.reflect_world.specs.World.{waits_at, IsPut, IsReachable, IsRefusal, IsSeen, JoinsUnder, Leaves, Reached, ShowsStep, ShowsUnder, StaysSeen, TakesStep, left_by, place_at, step_of, step_with, IsUnread, StaysFor};
 
@@ -62,7 +63,7 @@ impl Scene {
             host_fault: None,
             places,
             room,
-            relay: Relay::new(alloc),
+            relay: Relay::new(alloc)?,
         })
     }
 
@@ -144,16 +145,31 @@ impl Scene {
         self.relay.len() < self.room
     }
 
+    /// How many inputs are in the queue to the host.
+    pub fn queued(&self) -> u64
+        ensures { result ≡ length self.now.relay.queue }
+    {
+        self.relay.len()
+    }
+
     /// All that the host was sent of the viewers' input.
     pub fn host_sent(&self) -> &[u8]
-        ensures { result.now ≡ spelled (inputs_of self.now.relay.taken) }
+        ensures { result.now ≡ spelled (inputs_told self.now.relay.taken) }
     {
         self.relay.sent()
     }
 
+    /// How many inputs that were taken of a viewer didn't pass to the host.
+    pub fn dropped(&self, viewer: u64) -> u64
+        requires { viewer < 65 }
+        ensures { result ≡ dropped viewer (map taken_from self.now.relay.taken) }
+    {
+        self.relay.dropped(viewer)
+    }
+
     /// Takes a step. For each text of a viewer that becomes whole by it `lost` gets a mark: whether it found no memory.
     /// Where memory is refused (`Memory`), or there are no more numbers of updates (`NumbersOut`), it isn't taken: what
-    /// is seen is that of the steps before, and behind `NumbersOut` further steps may be taken. `Raise`, `Look` and
+    /// is seen is that of the steps before, and after `NumbersOut` further steps may be taken. `Raise`, `Look` and
     /// `Cut` are always taken.
     pub fn take(&mut self, step: &Step, lost: &mut Vec<bool>) -> Result<(), Fault>
         requires reachable { IsReachable self.old }
@@ -168,6 +184,7 @@ impl Scene {
                 self.raise();
                 Ok(())
             }
+            Step::Next => self.next_host(),
             Step::Bytes(viewer, bytes) => self.feed(*viewer, bytes.as_slice(), lost),
             Step::Look(viewer) => {
                 self.look(*viewer);
@@ -183,7 +200,7 @@ impl Scene {
         }
     }
 
-    // Bytes of the host come, and are kept.
+    /// Bytes of the host come, and are kept.
     fn host_bytes(&mut self, bytes: &[u8]) -> Result<(), Fault>
         ensures ok { OnOk result (TakesStep (HostBytes bytes.now) self.old self.new) }
         ensures err { IfErr result (λ fault. (fault ≡ Memory) × (self.new ≡ self.old)) }
@@ -191,7 +208,7 @@ impl Scene {
         self.host.add(bytes)
     }
 
-    // The next update in the host's bytes is put. Where there is none left, the fault at which they stand is noted.
+    /// The next update in the host's bytes is put. Where there is none left, the fault at which they stand is noted.
     fn put_next(&mut self) -> Result<(), Fault>
         requires { IsReachable self.old }
         ensures ok { OnOk result (TakesStep Put self.old self.new) }
@@ -213,7 +230,26 @@ impl Scene {
         }
     }
 
-    // Puts an update. One that is refused waits for the next step that puts.
+    /// The next host begins, where no update of this one is left to be put, and its bytes are at no fault.
+    fn next_host(&mut self) -> Result<(), Fault>
+        requires { IsReachable self.old }
+        ensures ok { OnOk result (TakesStep Next self.old self.new) }
+        ensures err { IfErr result (λ fault. (fault ≡ Memory) × StaysFor self.old self.new) }
+    {
+        match self.host.next_patch() {
+            Ok(Some(patch)) => {
+                self.host.keep(patch);
+                Ok(())
+            }
+            Ok(None) => self.host.next_host(),
+            Err(fault) => match fault {
+                Fault::Memory => Err(Fault::Memory),
+                _ => Ok(()),
+            },
+        }
+    }
+
+    /// Puts an update. One that is refused waits for the next step that puts.
     fn put(&mut self, patch: Patch) -> Result<(), Fault>
         requires none { self.old.host.waiting ≡ None }
         requires size { (patch.width ≡ self.old.screen.width) × (patch.height ≡ self.old.screen.height) }
@@ -230,14 +266,14 @@ impl Scene {
         }
     }
 
-    // The tally becomes the number of updates.
+    /// The tally becomes the number of updates.
     fn raise(&mut self)
         ensures { TakesStep Raise self.old self.new }
     {
         self.screen.raise();
     }
 
-    // Bytes of a viewer are read, if it is there.
+    /// Bytes of a viewer are read, if it is there.
     fn feed(&mut self, viewer: u64, bytes: &[u8], lost: &mut Vec<bool>) -> Result<(), Fault>
         requires reachable { IsReachable self.old }
         requires unmarked { lost.old.items ≡ [] }
@@ -253,7 +289,7 @@ impl Scene {
         Ok(())
     }
 
-    // A viewer's waiting input goes into the queue, if it is there and there is room.
+    /// A viewer's waiting input goes into the queue, if it is there and there is room.
     fn send(&mut self, viewer: u64) -> Result<(), Fault>
         requires { IsReachable self.old }
         ensures ok { OnOk result (TakesStep (Send viewer) self.old self.new) }
@@ -278,7 +314,7 @@ impl Scene {
         Ok(())
     }
 
-    // A viewer looks at the tally, if it is there and may look.
+    /// A viewer looks at the tally, if it is there and may look.
     fn look(&mut self, viewer: u64)
         requires { IsReachable self.old }
         ensures { TakesStep (Look viewer) self.old self.new }
@@ -292,7 +328,7 @@ impl Scene {
         }
     }
 
-    // A viewer that has just looked cuts and answers, where there is reason for it.
+    /// A viewer that has just looked cuts and answers, where there is reason for it.
     fn cut(&mut self, viewer: u64)
         requires { IsReachable self.old }
         ensures { TakesStep (Cut viewer) self.old self.new }
@@ -305,8 +341,8 @@ impl Scene {
         }
     }
 
-    // So many of a viewer's unsent bytes are written, if it is there. Where memory is refused what was written before
-    // is seen still.
+    /// This many of a viewer's unsent bytes are written, if it is there. Where memory is refused what was written
+    /// before is seen still.
     fn write(&mut self, viewer: u64, count: u64) -> Result<(), Fault>
         requires { IsReachable self.old }
         ensures ok { OnOk result (TakesStep (Written viewer count) self.old self.new) }

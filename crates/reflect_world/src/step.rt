@@ -16,6 +16,9 @@ pub enum Step {
     Put,
     /// The tally becomes the number of updates.
     Raise,
+    /// The host has ended, and the next begins with a switch to black, which the next `Put` puts: where no update of it
+    /// is left to be put, and its bytes are at no fault.
+    Next,
     /// Bytes of a viewer come, and are read.
     Bytes(u64, Vec<u8>),
     /// A viewer's session looks at the tally, where all its bytes are written and it has no fault: the first half of a
@@ -24,11 +27,12 @@ pub enum Step {
     /// It cuts and answers, where there is reason for it: the second half. It is taken only directly after its `Look`,
     /// as far as that viewer's steps go.
     Cut(u64),
-    /// So many more of a viewer's unsent bytes are written, at most those there are.
+    /// This many more of a viewer's unsent bytes are written, at most those there are.
     Written(u64, u64),
     /// A viewer's waiting input goes into the queue to the host, if there is room.
     Send(u64),
-    /// The queue's first input goes to the host, if there is one.
+    /// The queue's first input is taken, if there is one, and goes to the host unless it breaks into another viewer's
+    /// stroke.
     Take,
 }
 
@@ -36,7 +40,7 @@ pub enum Step {
 /// whole by it.
 #[derive(Drop)]
 pub enum Entry {
-    /// A viewer of this number and role joined; with its hello where the last says so, else behind it.
+    /// A viewer of this number and role joined; with its hello where the last says so, else after it.
     Joined(u64, Role, bool),
     /// The viewer of this number left.
     Parted(u64),
@@ -54,6 +58,7 @@ impl Step {
             Step::HostBytes(bytes) => Step::HostBytes(Vec::from_slice(alloc, bytes.as_slice())?),
             Step::Put => Step::Put,
             Step::Raise => Step::Raise,
+            Step::Next => Step::Next,
             Step::Bytes(viewer, bytes) => Step::Bytes(
                 *viewer,
                 Vec::from_slice(alloc, bytes.as_slice())?,

@@ -53,7 +53,7 @@ impl Unread {
         &self.bytes.as_slice()[self.read..]
     }
 
-    /// So many of them were read.
+    /// This many of them were read.
     pub fn take(&mut self, count: usize)
         requires { count ≤ length self.old }
         ensures { self.new ≡ drop count self.old }
@@ -65,7 +65,7 @@ impl Unread {
         }
     }
 
-    /// The last of them, so many, weren't added.
+    /// The last of them, this many, weren't added.
     pub fn take_back(&mut self, count: usize)
         requires { count ≤ length self.old }
         ensures { self.new ≡ take (length self.old - count) self.old }

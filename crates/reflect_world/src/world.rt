@@ -5,7 +5,7 @@ ghost use Rattle.pixel_format.specs.declared.fault.Fault.TheVariants.{Memory};
 ghost use Rattle.raster.specs.Size.{IsScreenSize};
 ghost use Rattle.reflect_world.specs.Relay.{spelled};
 ghost use Rattle.reflect_world.specs.Schedule as played;
-ghost use Rattle.reflect_world.specs.Schedule.{Join, Part, fault_at, host_sent, written_of};
+ghost use Rattle.reflect_world.specs.Schedule.{Join, Part, dropped_of, fault_at, host_sent, written_of};
 ghost use Rattle.reflect_world.specs.World.{HasPlayed, HasStopped, IsFaithful, StopsAt, has_waiting, setup_of, step_of, unmarked, with_steps, world_of};
 
 use crate::scene::Scene;
@@ -54,7 +54,7 @@ impl Model for World {
 }
 
 impl World {
-    /// A world of a black screen of `width` by `height` pixels, with a name of 1 to 255 bytes and room for so many
+    /// A world of a black screen of `width` by `height` pixels, with a name of 1 to 255 bytes and room for this many
     /// inputs on their way to the host. It fails where memory is refused (`Memory`).
     pub fn new(
         alloc: Global,
@@ -97,6 +97,7 @@ impl World {
         match self.scene.join(viewer, role, self.name.as_slice(), greet) {
             Ok(()) => Ok(()),
             Err(fault) => {
+                // The entry that was just pushed, and is known.
                 let _ = self.schedule.pop();
                 Err(fault)
             }
@@ -116,6 +117,7 @@ impl World {
         match self.scene.part(viewer) {
             Ok(()) => Ok(()),
             Err(fault) => {
+                // The entry that was just pushed, and is known.
                 let _ = self.schedule.pop();
                 Err(fault)
             }
@@ -163,12 +165,21 @@ impl World {
         self.scene.updates()
     }
 
-    /// All that the host was sent of the viewers' input: the spelling of each input taken, in order (RFC 6143, 7.5.4 to
-    /// 7.5.6).
+    /// All that the host was sent of the viewers' input: the spelling of each input taken that passes, in order
+    /// (RFC 6143, 7.5.4 to 7.5.6).
     pub fn host_sent(&self) -> &[u8]
         ensures { result.now ≡ spelled (host_sent (world_of self.now)) }
     {
         self.scene.host_sent()
+    }
+
+    /// How many inputs that were taken of a viewer didn't pass to the host, in all stays under this number. A count at
+    /// 2^62 stays there.
+    pub fn dropped(&self, viewer: u64) -> u64
+        requires { viewer ≤ 64 }
+        ensures { result ≡ dropped_of (world_of self.now) viewer }
+    {
+        self.scene.dropped(viewer)
     }
 
     /// Whether an input of a viewer waits for `Send`. Where a step was refused for want of memory this says nothing.
@@ -184,6 +195,13 @@ impl World {
         ensures { self.now.is_refused ≡ false → result ≡ nat_lt (length (world_of self.now).queue) self.now.room }
     {
         self.scene.has_room()
+    }
+
+    /// How many inputs are in the queue to the host. Where a step was refused for want of memory this says nothing.
+    pub fn queued(&self) -> u64
+        ensures { self.now.is_refused ≡ false → result ≡ length (world_of self.now).queue }
+    {
+        self.scene.queued()
     }
 
     /// Takes one step, for whose entry and marks there is room first.

@@ -115,7 +115,7 @@ pub fn is_written_bytewise<R: Abort + AllocGlobal>(
     Ok(())
 }
 
-/// Writes so many bytes one by one: then this is all that was written.
+/// Writes this many bytes one by one: then this is all that was written.
 fn write_each<R: Abort>(
     rt: &R,
     world: &mut World,

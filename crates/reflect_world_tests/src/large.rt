@@ -19,7 +19,7 @@ const BLUE: [u8; 4] = [0xFF, 0, 0, 0];
 /// More bytes than are ever sent here.
 const ALL: u64 = 1_000_000_000;
 
-/// A rectangle of one colour in RRE (RFC 6143, 7.7.3): its head, no subrectangles, and the colour.
+/// A rectangle of one colour in RRE (RFC 6143, 7.7.3): its header, no subrectangles, and the colour.
 fn push_rectangle(out: &mut Vec<u8>, place: [u16; 4], colour: &[u8; 4]) -> Result<(), Fail> {
     for number in place {
         out.extend_from_slice(number.to_be_bytes().as_slice())?;

@@ -77,7 +77,7 @@ fn session_releases(rt: HostRuntime) -> Result<(), Fail> {
     releases_in_order(&rt, &mut session)
 }
 
-// Feeds the input, which waits one by one.
+/// Feeds the input, which waits one by one.
 fn releases_in_order<R: Abort>(rt: &R, session: &mut Session) -> Result<(), Fail> {
     let mut left = INPUT.as_slice();
     for _ in 0..COUNT {
@@ -118,7 +118,7 @@ pub fn is_released<R: Abort + AllocGlobal>(rt: &R, world: &mut World) -> Result<
     Ok(())
 }
 
-// Sends what waits, and reads on behind it.
+/// Sends what waits, and reads on after it.
 fn send_each(alloc: Global, world: &mut World) -> Result<(), Fail> {
     for _ in 0..COUNT {
         play_one(world, Step::Send(1))?;
@@ -127,7 +127,7 @@ fn send_each(alloc: Global, world: &mut World) -> Result<(), Fail> {
     Ok(())
 }
 
-// Takes all that may be in the queue.
+/// Takes all that may be in the queue.
 fn take_each(world: &mut World) -> Result<(), Fail> {
     for _ in 0..10 {
         play(world, &[Step::Take])?;

@@ -19,7 +19,7 @@ const ASK_FOR_CHANGES: [u8; 10] = [3, 1, 0, 0, 0, 0, 0, 16, 0, 32];
 /// 8 bits a pixel: red of 3 bits lowest, then green of 3 and blue of 2.
 const SET_FORMAT: [u8; 20] = [0, 0, 0, 0, 8, 8, 0, 1, 0, 7, 0, 7, 0, 3, 0, 3, 6, 0, 0, 0];
 
-/// The head of an update of two rectangles.
+/// The header of an update of two rectangles.
 const HEAD: [u8; 4] = [0, 0, 0, 2];
 
 /// The upper tile and the lower, black, in RRE.
@@ -34,7 +34,7 @@ const UPPER_IN_8_BITS: [u8; 17] = [0, 0, 0, 0, 0, 16, 0, 16, 0, 0, 0, 2, 0, 0, 0
 
 const LOWER_IN_8_BITS: [u8; 17] = [0, 0, 0, 16, 0, 16, 0, 16, 0, 0, 0, 2, 0, 0, 0, 0, 0];
 
-// The answer comes in pieces of 4, 20 and 20 bytes.
+/// The answer comes in pieces of 4, 20 and 20 bytes.
 fn comes_in_pieces<R: Abort>(
     rt: &R,
     session: &mut Session,
@@ -52,7 +52,7 @@ fn comes_in_pieces<R: Abort>(
     Ok(())
 }
 
-// A pixel format that is taken after the first piece changes none of the others, and all is sent again in it.
+/// A pixel format that is taken after the first piece changes none of the others, and all is sent again in it.
 fn keeps_its_format<R: Abort>(
     rt: &R,
     session: &mut Session,

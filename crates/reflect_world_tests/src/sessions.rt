@@ -14,7 +14,7 @@ fn between_two_messages(rt: HostRuntime) -> Result<(), Fail> {
     is_between_messages(&rt, &mut session)
 }
 
-// A session that is lent to what is tested is let go at one place: proofs of letting one go are long.
+/// A session that is lent to what is tested is let go at one place: proofs of letting one go are long.
 fn is_between_messages<R: Abort>(rt: &R, session: &mut Session) -> Result<(), Fail> {
     assert!(rt; !session.between() && session.out() == b"RFB 003.008\n".as_slice());
     session.feed(b"RFB 003.008\n\x01")?;

@@ -15,7 +15,7 @@ const ASK: [u8; 10] = [3, 0, 0, 0, 0, 0, 0, 2, 0, 1];
 
 const ASK_FOR_CHANGES: [u8; 10] = [3, 1, 0, 0, 0, 0, 0, 2, 0, 1];
 
-/// The head of an update of one rectangle, the first piece of each answer here.
+/// The header of an update of one rectangle, the first piece of each answer here.
 const HEAD: [u8; 4] = [0, 0, 0, 1];
 
 const BLACK: [u8; 20] = [0, 0, 0, 0, 0, 2, 0, 1, 0, 0, 0, 0, 0, 0, 0, 0, 0, 0, 0, 0];
@@ -24,8 +24,8 @@ const RED_AND_BLUE: [u8; 20] = [
     0, 0, 0, 0, 0, 2, 0, 1, 0, 0, 0, 0, 0, 0, 0xFF, 0, 0xFF, 0, 0, 0,
 ];
 
-// A viewer asks twice. It is answered black, and what was put since only once it is raised, and not while bytes are
-// unsent.
+/// A viewer asks twice. It is answered black, and what was put since only once it is raised, and not while bytes are
+/// unsent.
 fn answers_twice<R: Abort + AllocGlobal>(
     rt: &R,
     session: &mut Session,
@@ -61,8 +61,8 @@ pub fn takes(session: &mut Session, piece: &[u8]) -> bool
     is_piece
 }
 
-// A viewer has the screen and asks for changes, of which there are none: a turn cuts and answers nothing. When one is
-// put and raised the next turn answers it, with the raise alone for its reason.
+/// A viewer has the screen and asks for changes, of which there are none: a turn cuts and answers nothing. When one is
+/// put and raised the next turn answers it, with the raise alone for its reason.
 fn answers_a_raise<R: Abort + AllocGlobal>(
     rt: &R,
     session: &mut Session,
@@ -88,7 +88,7 @@ fn answers_a_raise<R: Abort + AllocGlobal>(
     Ok(())
 }
 
-// An update of the whole screen: a red pixel and a blue one.
+/// An update of the whole screen: a red pixel and a blue one.
 fn red_and_blue(alloc: Global) -> Result<Patch, Fail>
     ensures { IfOk result (λ patch. (patch.width ≡ 2) × (patch.height ≡ 1)) }
 {

@@ -46,7 +46,7 @@ enum Check {
     Released,
 }
 
-// Every world is let go here: proofs of letting one go are long.
+/// Every world is let go here: proofs of letting one go are long.
 fn in_world_of<R: Abort + AllocGlobal>(
     rt: &R,
     width: u64,

@@ -1,4 +1,5 @@
--- Lines of a script: numbers, and words with a blank behind them.
+-- Lines of a script: numbers, and words with a blank after them. `Line::read` splits a text so, and owes the line that
+-- it says.
 use Rattle.std.proofs.Common.{◌≡◌, ◌≢◌, ℕ, zero, suc, ◌<◌, ◌≤◌, ◌^◌, ◌⊎◌, inl, inr, Bool, true, false, List, [], ◌∷◌, ◌++◌, length, Option, Some, None, Result, Ok, Err, refl, ap, sym, subst, ◌∙◌, arith}
 use Rattle.std.specs.Prelude.{All, IfSome, IfNone, codes, get_or, ◌==◌, ◌&&◌, ◌||◌, nat_lt, if◌then◌else◌}
 use Rattle.std.specs.Result.{result_ok}
@@ -15,7 +16,7 @@ use Rattle.std.proofs.lemmas.Str.Pattern.{IsSplitOnceResult, split_parts}
 use Rattle.std.specs.Borrow.{Bor}
 use Rattle.replay_script.specs.Script.{blank, IsHex}
 use Rattle.replay_script.specs.declared.line.Line.{Line}
-use Rattle.replay_script.specs.declared.line.Line.TheVariants.{Screen, Host, Raise, Open, Greet, Viewer, Turn, Leave, Input}
+use Rattle.replay_script.specs.declared.line.Line.TheVariants.{Screen, Host, Raise, Open, Greet, Viewer, Turn, Leave, Input, Dropped, Next}
 use Rattle.replay_script.specs.declared.line.Access.{Access}
 use Rattle.replay_script.specs.declared.line.Access.TheVariants.{Full, View}
 use Rattle.replay_script.specs.Line.{IsInRange, ReadsBehind, Says, SaysBehind, access_word, word_of}
@@ -169,6 +170,8 @@ screen_of text (Viewer viewer bytes) r w says = absurd (omega (arith, ap (λ t. 
 screen_of text (Turn viewer) r w says = absurd cc
 screen_of text (Leave viewer) r w says = absurd cc
 screen_of text Input r w says = absurd says
+screen_of text Next r w says = absurd says
+screen_of text (Dropped viewer) r w says = absurd cc
 
 -- The text says no screen in range.
 abbrev NoScreen : List ℕ → Type 0
@@ -232,6 +235,8 @@ viewer_of text (Viewer viewer bytes) r w says = record { viewer = viewer; hex = 
 viewer_of text (Turn viewer) r w says = absurd cc
 viewer_of text (Leave viewer) r w says = absurd cc
 viewer_of text Input r w says = absurd says
+viewer_of text Next r w says = absurd says
+viewer_of text (Dropped viewer) r w says = absurd cc
 
 -- The text says no viewer with bytes.
 abbrev NoViewer : List ℕ → Type 0
@@ -268,39 +273,45 @@ word_is_plain (Viewer viewer bytes) = plain_word (codes "viewer") refl
 word_is_plain (Turn viewer) = plain_word (codes "turn") refl
 word_is_plain (Leave viewer) = plain_word (codes "leave") refl
 word_is_plain Input = plain_word (codes "input") refl
+word_is_plain Next = plain_word (codes "next") refl
+word_is_plain (Dropped viewer) = plain_word (codes "dropped") refl
 
-begins_so : (line : Line) (text : List ℕ) → (text ≡ codes "raise" → ⊥) → (text ≡ codes "input" → ⊥) → Says line text → (rest : List ℕ) × (text ≡ word_of line ++ (blank ∷ rest)) × SaysBehind line rest
-begins_so (Screen width height name) text other also says = says
-begins_so (Host bytes) text other also says = says
-begins_so Raise text other also says = absurd (other says)
-begins_so (Open viewer access) text other also says = says
-begins_so (Greet viewer access) text other also says = says
-begins_so (Viewer viewer bytes) text other also says = says
-begins_so (Turn viewer) text other also says = says
-begins_so (Leave viewer) text other also says = says
-begins_so Input text other also says = absurd (also says)
+begins_so : (line : Line) (text : List ℕ) → (text ≡ codes "raise" → ⊥) → (text ≡ codes "input" → ⊥) → (text ≡ codes "next" → ⊥) → Says line text → (rest : List ℕ) × (text ≡ word_of line ++ (blank ∷ rest)) × SaysBehind line rest
+begins_so (Screen width height name) text other also too says = says
+begins_so (Host bytes) text other also too says = says
+begins_so Raise text other also too says = absurd (other says)
+begins_so (Open viewer access) text other also too says = says
+begins_so (Greet viewer access) text other also too says = says
+begins_so (Viewer viewer bytes) text other also too says = says
+begins_so (Turn viewer) text other also too says = says
+begins_so (Leave viewer) text other also too says = says
+begins_so Input text other also too says = absurd (also says)
+begins_so Next text other also too says = absurd (too says)
+begins_so (Dropped viewer) text other also too says = says
 
 pub not_word : (r : Bool) (text word : List ℕ) → r ≡ bytes_eq text word → r ≡ false → text ≡ word → ⊥
 not_word r text word is false_ e = let yes = (bytes_eq-Decides text word).1 e in absurd cc
 
-pub no_line : (text : List ℕ) → (text ≡ codes "raise" → ⊥) → (text ≡ codes "input" → ⊥) → NoBlank text → (line : Line) → IsInRange line → Says line text → ⊥
-no_line text other also plain line r says = let it = begins_so line text other also says in no_cut text (word_of line) it.0 plain it.1
+pub no_line : (text : List ℕ) → (text ≡ codes "raise" → ⊥) → (text ≡ codes "input" → ⊥) → (text ≡ codes "next" → ⊥) → NoBlank text → (line : Line) → IsInRange line → Says line text → ⊥
+no_line text other also too plain line r says = let it = begins_so line text other also too says in no_cut text (word_of line) it.0 plain it.1
 
 unknown : (line : Line) (text : List ℕ) → SaysBehind line text → (word : List ℕ) → word ≡ word_of line
-    → (word ≡ codes "screen" → ⊥) → (word ≡ codes "host" → ⊥) → (word ≡ codes "open" → ⊥) → (word ≡ codes "greet" → ⊥) → (word ≡ codes "viewer" → ⊥) → (word ≡ codes "turn" → ⊥) → (word ≡ codes "leave" → ⊥) → ⊥
-unknown (Screen width height name) text says word is a b c d e f g = a is
-unknown (Host bytes) text says word is a b c d e f g = b is
-unknown Raise text says word is a b c d e f g = says
-unknown (Open viewer access) text says word is a b c d e f g = c is
-unknown (Greet viewer access) text says word is a b c d e f g = d is
-unknown (Viewer viewer bytes) text says word is a b c d e f g = e is
-unknown (Turn viewer) text says word is a b c d e f g = f is
-unknown (Leave viewer) text says word is a b c d e f g = g is
-unknown Input text says word is a b c d e f g = says
+    → (word ≡ codes "screen" → ⊥) → (word ≡ codes "host" → ⊥) → (word ≡ codes "open" → ⊥) → (word ≡ codes "greet" → ⊥) → (word ≡ codes "viewer" → ⊥) → (word ≡ codes "turn" → ⊥) → (word ≡ codes "leave" → ⊥) → (word ≡ codes "dropped" → ⊥) → ⊥
+unknown (Screen width height name) text says word is a b c d e f g h = a is
+unknown (Host bytes) text says word is a b c d e f g h = b is
+unknown Raise text says word is a b c d e f g h = says
+unknown (Open viewer access) text says word is a b c d e f g h = c is
+unknown (Greet viewer access) text says word is a b c d e f g h = d is
+unknown (Viewer viewer bytes) text says word is a b c d e f g h = e is
+unknown (Turn viewer) text says word is a b c d e f g h = f is
+unknown (Leave viewer) text says word is a b c d e f g h = g is
+unknown Input text says word is a b c d e f g h = says
+unknown Next text says word is a b c d e f g h = says
+unknown (Dropped viewer) text says word is a b c d e f g h = h is
 
-pub no_word : (text word rest : List ℕ) → (text ≡ codes "raise" → ⊥) → (text ≡ codes "input" → ⊥) → text ≡ word ++ (blank ∷ rest) → NoBlank word
-    → (word ≡ codes "screen" → ⊥) → (word ≡ codes "host" → ⊥) → (word ≡ codes "open" → ⊥) → (word ≡ codes "greet" → ⊥) → (word ≡ codes "viewer" → ⊥) → (word ≡ codes "turn" → ⊥) → (word ≡ codes "leave" → ⊥)
+pub no_word : (text word rest : List ℕ) → (text ≡ codes "raise" → ⊥) → (text ≡ codes "input" → ⊥) → (text ≡ codes "next" → ⊥) → text ≡ word ++ (blank ∷ rest) → NoBlank word
+    → (word ≡ codes "screen" → ⊥) → (word ≡ codes "host" → ⊥) → (word ≡ codes "open" → ⊥) → (word ≡ codes "greet" → ⊥) → (word ≡ codes "viewer" → ⊥) → (word ≡ codes "turn" → ⊥) → (word ≡ codes "leave" → ⊥) → (word ≡ codes "dropped" → ⊥)
     → (line : Line) → IsInRange line → Says line text → ⊥
-no_word text word rest other also is plain a b c d e f g line r says =
-    let it = begins_so line text other also says in
-    unknown line it.0 it.2 word (same_cut word rest (word_of line) it.0 plain (word_is_plain line) (sym is ∙ it.1)).0 a b c d e f g
+no_word text word rest other also too is plain a b c d e f g h line r says =
+    let it = begins_so line text other also too says in
+    unknown line it.0 it.2 word (same_cut word rest (word_of line) it.0 plain (word_is_plain line) (sym is ∙ it.1)).0 a b c d e f g h

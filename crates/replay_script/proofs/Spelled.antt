@@ -1,4 +1,4 @@
--- Bytes in upper-case hex, one more at a time.
+-- Bytes in upper-case hex, one more at a time. `shown` prints so.
 use Rattle.std.proofs.Common.{◌≡◌, ◌≢◌, ℕ, ◌+◌, ◌/◌, ◌%◌, ◌<◌, List, [], ◌∷◌, ◌++◌, length, slice_index, refl, ap, sym, ◌∙◌, arith, append_assoc, take}
 use Rattle.std.proofs.lemmas.List.{length-take-le, take_more}
 use Rattle.std.specs.Prelude.{map}

@@ -1,4 +1,4 @@
--- Texts and their words.
+-- Texts and their words. `script_bytes` joins words before it reads their digits.
 use Rattle.std.proofs.Common.{◌≡◌, ◌≢◌, ℕ, suc, ◌<◌, ◌≤◌, drop, slice_index, drop-cons, Bool, true, false, cond, List, [], ◌∷◌, ◌++◌, length, Option, Some, None, Ok, Err, refl, ap, sym, ◌∙◌, arith}
 use Rattle.std.specs.Prelude.{All, ◌==◌}
 use Rattle.std.specs.List.{AllPass, concat, join_with_byte}
@@ -45,7 +45,7 @@ left_of-blank false b bs e = rw e refl
 
 -- ---- what is left comes to words
 
--- What is left of a text, as the word that goes on and the words behind it.
+-- What is left of a text, as the word that goes on and the words after it.
 record Goes (begins : Bool) (text bytes : List ℕ) : Type 0 where
   word : List ℕ
   words : List (List ℕ)

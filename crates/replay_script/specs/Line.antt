@@ -1,9 +1,9 @@
--- The lines of a script: a word, and what stands behind its blank.
+-- The lines of a script: a word, and what follows its blank.
 use Rattle.std.specs.Prelude.{◌≡◌, ◌≤◌, ◌++◌, ◌∷◌, ℕ, List, Option, IfSome, IfNone, codes, length}
 use Rattle.std.specs.Fmt.{decimal}
 use Rattle.replay_script.specs.Script.{IsHex, blank}
 use Rattle.replay_script.specs.declared.line.Line.{Line}
-use Rattle.replay_script.specs.declared.line.Line.TheVariants.{Screen, Host, Raise, Open, Greet, Viewer, Turn, Leave, Input}
+use Rattle.replay_script.specs.declared.line.Line.TheVariants.{Screen, Host, Raise, Open, Greet, Viewer, Turn, Leave, Input, Dropped, Next}
 use Rattle.replay_script.specs.declared.line.Access.{Access}
 use Rattle.replay_script.specs.declared.line.Access.TheVariants.{Full, View}
 
@@ -19,6 +19,8 @@ IsInRange (Viewer viewer bytes) = (1 ≤ viewer) × (viewer ≤ 64)
 IsInRange (Turn viewer) = (1 ≤ viewer) × (viewer ≤ 64)
 IsInRange (Leave viewer) = (1 ≤ viewer) × (viewer ≤ 64)
 IsInRange Input = Unit {0}
+IsInRange Next = Unit {0}
+IsInRange (Dropped viewer) = (1 ≤ viewer) × (viewer ≤ 64)
 
 -- Its first word.
 abbrev pub word_of : Line → List ℕ
@@ -31,13 +33,15 @@ word_of (Viewer viewer bytes) = codes "viewer"
 word_of (Turn viewer) = codes "turn"
 word_of (Leave viewer) = codes "leave"
 word_of Input = codes "input"
+word_of Next = codes "next"
+word_of (Dropped viewer) = codes "dropped"
 
 -- What a viewer may do, as a word.
 abbrev pub access_word : Access → List ℕ
 access_word Full = codes "full"
 access_word View = codes "view"
 
--- What stands behind the blank after that word: W H NAME, HEX, V full or V view, V HEX or V. Numbers are decimal, with
+-- What follows the blank after that word: W H NAME, HEX, V full or V view, V HEX or V. Numbers are decimal, with
 -- neither a sign nor leading zeros.
 abbrev pub SaysBehind : Line → List ℕ → Type 0
 SaysBehind (Screen width height name) rest = rest ≡ decimal width ++ (blank ∷ (decimal height ++ (blank ∷ name.now)))
@@ -49,14 +53,17 @@ SaysBehind (Viewer viewer bytes) rest = (hex : List ℕ) × (rest ≡ decimal vi
 SaysBehind (Turn viewer) rest = rest ≡ decimal viewer
 SaysBehind (Leave viewer) rest = rest ≡ decimal viewer
 SaysBehind Input rest = ⊥
+SaysBehind Next rest = ⊥
+SaysBehind (Dropped viewer) rest = rest ≡ decimal viewer
 
--- A text is this line: its word, a blank and what stands behind; or a word alone.
+-- A text is this line: its word, a blank and what follows it; or a word alone.
 abbrev pub Says : Line → List ℕ → Type 0
 Says Raise text = text ≡ codes "raise"
 Says Input text = text ≡ codes "input"
+Says Next text = text ≡ codes "next"
 Says line text = (rest : List ℕ) × (text ≡ word_of line ++ (blank ∷ rest)) × SaysBehind line rest
 
--- What was read behind a word is such a line, and None where there is none.
+-- What was read after a word is such a line, and None where there is none.
 pub record ReadsBehind (word text : List ℕ) (found : Option Line) : Type 0 where
   pub some : IfSome found (λ line. IsInRange line × (word_of line ≡ word) × SaysBehind line text)
   pub none : IfNone found ((line : Line) → IsInRange line → word_of line ≡ word → ¬ SaysBehind line text)

@@ -40,8 +40,12 @@ pub enum Line<'a> {
     Turn(u64),
     /// A viewer leaves.
     Leave(u64),
-    /// All inputs go to the host.
+    /// All inputs go to the host, but for those that break into another viewer's stroke.
     Input,
+    /// How many inputs of a viewer didn't go to the host is asked for.
+    Dropped(u64),
+    /// The host has ended, and the next one begins.
+    Next,
 }
 
 impl<'a> Line<'a> {
@@ -58,6 +62,9 @@ impl<'a> Line<'a> {
         if line == "input" {
             return Ok(Some(Line::Input));
         }
+        if line == "next" {
+            return Ok(Some(Line::Next));
+        }
         let Some((word, rest)) = split(line) else {
             return Ok(None);
         };
@@ -69,6 +76,7 @@ impl<'a> Line<'a> {
             "viewer" => viewer_line(alloc, rest),
             "turn" => Ok(turn_line(rest)),
             "leave" => Ok(leave_line(rest)),
+            "dropped" => Ok(dropped_line(rest)),
             _ => Ok(None),
         }
     }
@@ -92,7 +100,7 @@ fn number(text: &str) -> Option<u64>
     text.parse::<u64>().ok()
 }
 
-/// The word before the first blank, and what stands behind it.
+/// The word before the first blank, and what follows it.
 fn split(text: &str) -> Option<(&str, &str)>
     ensures found { IfSome result (λ parts. (text.now ≡ parts.0.now ++ (blank ∷ parts.1.now)) × All (λ b. b ≢ blank) parts.0.now) }
     ensures none { IfNone result (All (λ b. b ≢ blank) text.now) }
@@ -119,7 +127,7 @@ fn viewer_number(text: &str) -> Option<u64>
     number_up_to(64, text)
 }
 
-/// `W H NAME`: the name is all behind the one blank after H, 1 to 255 bytes.
+/// `W H NAME`: the name is all that follows the one blank after H, 1 to 255 bytes.
 fn screen_line(text: &str) -> Option<Line<'_>>
     ensures { ReadsBehind (codes "screen") text.now result }
 {
@@ -212,4 +220,12 @@ fn leave_line(text: &str) -> Option<Line<'static>>
 {
     let viewer = viewer_number(text)?;
     Some(Line::Leave(viewer))
+}
+
+/// `V`
+fn dropped_line(text: &str) -> Option<Line<'static>>
+    ensures { ReadsBehind (codes "dropped") text.now result }
+{
+    let viewer = viewer_number(text)?;
+    Some(Line::Dropped(viewer))
 }

@@ -47,7 +47,7 @@ pub struct Place {
     printed: &'static str,
 }
 
-/// Behind lines that are well.
+/// After lines that are well.
 pub const LATER: Place = Place {
     before: "screen 2 1 T\nopen 1 full\nturn 1\n",
     behind: "\nturn 1\n",

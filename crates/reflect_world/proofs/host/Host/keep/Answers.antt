@@ -6,6 +6,6 @@ use Rattle.reflect_world.proofs.host.Host.keep.Goals as goal
 
 pub returns-clause-stands : goal.returns-clause-stands
 returns-clause-stands c =
-    λ bytes us r.
-    host_keeps (the_view c.self.inside) c.args.patch bytes us (ap (λ (host : HostSide). host.waiting) c.self.view_is ∙ c.requires.none)
-    (subst (λ (host : HostSide). HasReadTo bytes (us ++ c.args.patch.update ∷ []) host) (sym c.self.view_is) r)
+    λ past bytes us r.
+    host_keeps (the_view c.self.inside) c.args.patch past bytes us (ap (λ (host : HostSide). host.waiting) c.self.view_is ∙ c.requires.none)
+    (subst (λ (host : HostSide). HasReadTo past bytes (us ++ c.args.patch.update ∷ []) host) (sym c.self.view_is) r)

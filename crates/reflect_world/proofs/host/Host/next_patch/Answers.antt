@@ -8,9 +8,9 @@ use Rattle.reflect_world.proofs.host.Host.next_patch.Goals as goal
 
 pub returns-in-Some-clause-ok : goal.returns-in-Some-clause-ok
 returns-in-Some-clause-ok c =
-    λ bytes us k.
-    host_hands_on (the_view c.self.inside) c.in-Some.patch c.take.new.self (sym c.take.ensures.value ∙ c.in-Some.is) c.take.ensures.after bytes us
-    (subst (λ (host : HostSide). HostStands bytes us host) (sym c.self.view_is) k)
+    λ past bytes us k.
+    host_hands_on (the_view c.self.inside) c.in-Some.patch c.take.new.self (sym c.take.ensures.value ∙ c.in-Some.is) c.take.ensures.after past bytes us
+    (subst (λ (host : HostSide). HostStands past bytes us host) (sym c.self.view_is) k)
 
 pub returns-in_err-read_one-clause-err : goal.returns-in_err-read_one-clause-err
 returns-in_err-read_one-clause-err c =
@@ -56,3 +56,6 @@ messages-preserved c =
           nothing_comes c.args.self.now c.messages.self c.read_one.new.self c.in_ok-read_one.field-0 c.in-Some-LongCut.field-0 c.in-Some-LongCut.is (ap patch_in c.in-Some-LongCut.field-0-is)
           c.messages.invariant.stands c.in_ok-read_one.ensures.message;
     }
+
+pub read_one-requires-clause-stands : goal.read_one-requires-clause-stands
+read_one-requires-clause-stands c = (c.requires.0, c.requires.1, c.requires.2, c.messages.invariant.stands c.requires.0 c.requires.1 c.requires.2 c.requires.3)

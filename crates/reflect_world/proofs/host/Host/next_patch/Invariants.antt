@@ -8,7 +8,7 @@ invariant-messages l =
     record {
       none : l.self.waiting ≡ None;
       same : IsSameHost l.fn.self l.self;
-      stands : (bytes : List ℕ) (us : List Update) → HostStands bytes us l.fn.self → HostStands bytes us l.self;
+      stands : (past : List Update) (bytes : List ℕ) (us : List Update) → HostStands past bytes us l.fn.self → HostStands past bytes us l.self;
     }
 
 abbrev pub decreases-messages : goal.decreases-messages

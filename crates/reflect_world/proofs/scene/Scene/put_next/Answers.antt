@@ -2,11 +2,10 @@ use Rattle.std.proofs.Common.{refl, subst, sym, ◌∙◌, inl}
 use Rattle.std.specs.Prelude.{OnOk, Ok, Err, None, Some, Option}
 use Rattle.std.proofs.lemmas.Result.{on_ok_weaker}
 use Rattle.painter.specs.Patch.{SizedUpdate}
-use Rattle.pixel_format.specs.declared.fault.Fault.{Fault}
-use Rattle.reflect_world.specs.Host.{HostSide, IsSameHost, ReadsOn}
+use Rattle.reflect_world.specs.Host.{ReadsOn}
 use Rattle.reflect_world.specs.Schedule.{Put}
-use Rattle.reflect_world.specs.World.{Reached, Standing, StaysFor, TakesStep}
-use Rattle.reflect_world.proofs.Reaching.{err_reaches, none_reaches, put_reaches, with_host}
+use Rattle.reflect_world.specs.World.{Reached, Standing, TakesStep}
+use Rattle.reflect_world.proofs.Reaching.{err_reaches, none_reaches, put_reaches, refused_stays, with_host}
 use Rattle.reflect_world.proofs.scene.Scene.put_next.Goals as goal
 
 pub returns-in-Ok-Some-clause-ok : goal.returns-in-Ok-Some-clause-ok
@@ -36,27 +35,6 @@ returns-in_default c =
           err_reaches old c.next_patch.new.self c.in-Err.fault c.in-Err.ensures.same c.in_default.not-Memory c.in-Err.ensures.err s w
           (subst (λ (standing : Standing). Reached s standing w) (sym c.self.view_is) r);
       err = tt;
-    }
-
--- Memory was refused: what the fields stood for they stand for.
-refused_stays : (standing : Standing) (host : HostSide) (fault : Fault) → IsSameHost standing.host host → ReadsOn standing.host host (Err fault) → StaysFor standing (with_host standing host)
-refused_stays standing host fault same reads s w r =
-    record {
-      size = r.size;
-      width = r.width;
-      height = r.height;
-      in_order = r.in_order;
-      updates = r.updates;
-      tally = r.tally;
-      host_width = same.width ∙ r.host_width;
-      host_height = same.height ∙ r.host_height;
-      host = (reads w.host_bytes standing.screen.updates r.host).0;
-      fault = r.fault;
-      limit = r.limit;
-      queue = r.queue;
-      taken = r.taken;
-      room = r.room;
-      places = r.places;
     }
 
 pub returns-in-Memory-clause-err : goal.returns-in-Memory-clause-err

@@ -1,4 +1,4 @@
-use Rattle.std.proofs.Common.{ap, subst, sym, ◌∙◌}
+use Rattle.std.proofs.Common.{ap, inl, subst, sym, ◌∙◌}
 use Rattle.std.specs.Prelude.{OnOk}
 use Rattle.std.proofs.lemmas.Result.{IfErr-weaker, on_ok_weaker}
 use Rattle.reflect_world.specs.Schedule.{Bytes, HostBytes, Step, happens}
@@ -40,3 +40,11 @@ returns-in-Bytes-clause-ok c =
     subst (λ (e : Step). OnOk c.feed.result (TakesStep e c.args.self.now c.feed.new.self))
     (sym (ap (λ step. step_with step c.feed.new.lost.items) c.in-Bytes.is ∙ ap (λ bytes. Bytes c.in-Bytes.viewer bytes c.feed.new.lost.items) (sym c.as_slice-in-Bytes.ensures.value)))
     c.feed.ensures.ok
+
+pub returns-in-Next-clause-ok : goal.returns-in-Next-clause-ok
+returns-in-Next-clause-ok c =
+    subst (λ (e : Step). OnOk c.next_host.result (TakesStep e c.args.self.now c.next_host.new.self)) (sym (ap (λ step. step_with step c.args.lost.now.items) c.in-Next.is)) c.next_host.ensures.ok
+
+pub returns-in-Next-clause-err : goal.returns-in-Next-clause-err
+returns-in-Next-clause-err c =
+    IfErr-weaker c.next_host.result _ _ (λ fault refused. (inl refused.0, leaves_stays c.args.self.now c.next_host.new.self fault refused.1)) c.next_host.ensures.err
