@@ -1,11 +1,11 @@
--- A line of `serve` whose options can't be read.
+-- A line of `serve` whose options can't be read. Such a line asks for no task, as `task_of` answers.
 use Rattle.std.proofs.Common.{◌∙◌, ◌≡◌, ◌∷◌, ap, arith, inl, inr, subst, sym, List, [], ℕ}
 use Rattle.std.specs.Prelude.{codes}
 use Rattle.clap.specs.Words.{Text, fault_of}
 use Rattle.settings.specs.Serve.{IsBad, serve}
 use Rattle.command_line.specs.Tasks.{IsNoTask}
 
--- the words behind the first
+-- the words after the first
 abbrev behind : List Text → List Text
 behind [] = []
 behind (first ∷ rest) = rest

@@ -1,4 +1,4 @@
--- A line that is read has from 1 to 32 places of each role.
+-- A line that is read has from 1 to 32 places of each role. `serve` asks for that.
 use Rattle.std.specs.Prelude.{List}
 use Rattle.clap.specs.Words.{Text}
 use Rattle.settings.specs.declared.values.Settings.{Settings}

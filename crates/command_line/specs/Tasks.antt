@@ -1,6 +1,7 @@
--- What a line asks for. Its words are those behind the program's name.
+-- What a line asks for. Its words are those after the program's name.
 use Rattle.std.specs.Prelude.{◌≡◌, ◌≢◌, ◌≤◌, ◌⊎◌, ◌∷◌, List, [], codes, ℕ}
 use Rattle.clap.specs.Words.{Text, fault_of}
+use Rattle.serve.specs.Statuses.{IsStatus}
 use Rattle.settings.specs.Given.{AreSetBy}
 use Rattle.settings.specs.Serve.{IsBad, serve}
 use Rattle.settings.specs.declared.values.Settings.{Settings}
@@ -27,3 +28,13 @@ abbrev pub IsAsked : List Text → Task → Type 0
 IsAsked words Replay = words ≡ replay_line
 IsAsked words (Serve settings) = (rest : List Text) × (words ≡ codes "serve" ∷ rest) × AreSetBy rest settings
 IsAsked words (Explain bad) = IsNoTask words bad.status
+
+-- How a task may end: a script with 0, or with 2 to 4; a run as `serve` may; what can't be done with its own status.
+abbrev pub EndsAs : Task → ℕ → Type 0
+EndsAs Replay status = (status ≡ 0) ⊎ ((2 ≤ status) × (status ≤ 4))
+EndsAs (Serve settings) status = IsStatus status
+EndsAs (Explain bad) status = status ≡ bad.status
+
+-- The words ask for a task, and the status is one with which it may end.
+abbrev pub IsAnswered : List Text → ℕ → Type 0
+IsAnswered words status = (task : Task) × IsAsked words task × EndsAs task status

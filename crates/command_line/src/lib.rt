@@ -4,4 +4,5 @@
 mod program;
 mod task;
 
-pub use program::run;
+pub use program::{run, run_words};
+pub use task::Task;

@@ -1,6 +1,9 @@
 //! Doing what the words ask for.
 
-ghost use Rattle.command_line.specs.Tasks.{HasPlaces};
+ghost use Rattle.std.specs.Prelude.{map};
+ghost use Rattle.std.specs.String.{string_bytes};
+ghost use Rattle.command_line.specs.Tasks.{HasPlaces, IsAnswered};
+ghost use Rattle.serve.specs.Statuses.{IsStatus};
 
 use crate::task::{Task, task_of};
 use serve::{Plan, serve};
@@ -21,7 +24,7 @@ const BAD_COMMAND: u8 = 2;
 /// The exit status where memory is refused.
 const NO_MEMORY: u8 = 4;
 
-/// The words behind the program's name.
+/// The words after the program's name.
 fn words<R: Env + AllocGlobal>(rt: &R, alloc: Global) -> io::Result<Vec<String>> {
     let mut words = Vec::new(alloc);
     for word in env::args(rt)?.skip(1) {
@@ -43,6 +46,7 @@ where
         + Send
         + 'static,
     requires { HasPlaces settings.now }
+    ensures { IsStatus result }
 {
     let plan = Plan {
         host: settings.host.as_str(),
@@ -56,9 +60,38 @@ where
     serve(rt, alloc, &plan)
 }
 
-/// Does what the words behind the program's name say, and answers the exit status: that of `reflect_world::replay` or
-/// of `serve`; 2 where the line is no command, with what is wrong with it on standard error; 4 where memory is refused.
+/// Does what these words say, which are those after the program's name, and answers the exit status: that of
+/// `reflect_world::replay` or of `serve`; 2 where the line is no command, with what is wrong with it on standard error;
+/// 4 where memory is refused.
 #[tactic(auto, using(crate::proofs::Places::has_places))]
+pub fn run_words<R, I, O>(rt: R, alloc: Global, words: &[String], reader: I, writer: O) -> u8
+where
+    R: Net<Stream = TcpStream, Listener = TcpListener>
+        + Threads
+        + Wait
+        + Clock
+        + Eprint
+        + Copy
+        + Drop
+        + Send
+        + 'static,
+    I: Read + Drop,
+    O: Write + Drop,
+    ensures { IsAnswered (map string_bytes words.now) result }
+{
+    match task_of(alloc, words) {
+        Task::Replay => reflect_world::replay(alloc, reader, writer),
+        Task::Serve(settings) => start(rt, alloc, &settings),
+        Task::Explain(BadLine { status, text }) => {
+            // Where standard error takes no text the status alone says it.
+            let _ = rt.eprint(text.as_str());
+            status
+        }
+    }
+}
+
+/// Does what the words after the program's name say, as `run_words` does. The status is 2 where they can't be read, and
+/// 4 where memory is refused for them.
 pub fn run<R, I, O>(rt: R, reader: I, writer: O) -> ExitCode
 where
     R: Net<Stream = TcpStream, Listener = TcpListener>
@@ -76,17 +109,9 @@ where
     O: Write + Drop,
 {
     let alloc = rt.alloc();
-    let words = match words(&rt, alloc) {
-        Ok(words) => words,
-        Err(error) if error.kind() == ErrorKind::OutOfMemory => return ExitCode::from(NO_MEMORY),
-        Err(_) => return ExitCode::from(BAD_COMMAND),
-    };
-    ExitCode::from(match task_of(alloc, words.as_slice()) {
-        Task::Replay => reflect_world::replay(alloc, reader, writer),
-        Task::Serve(settings) => start(rt, alloc, &settings),
-        Task::Explain(BadLine { status, text }) => {
-            let _ = rt.eprint(text.as_str());
-            status
-        }
-    })
+    match words(&rt, alloc) {
+        Ok(words) => ExitCode::from(run_words(rt, alloc, words.as_slice(), reader, writer)),
+        Err(error) if error.kind() == ErrorKind::OutOfMemory => ExitCode::from(NO_MEMORY),
+        Err(_) => ExitCode::from(BAD_COMMAND),
+    }
 }

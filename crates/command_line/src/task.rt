@@ -9,7 +9,7 @@ use std::alloc::Global;
 
 /// What a command line asks for.
 #[derive(Drop)]
-pub(crate) enum Task {
+pub enum Task {
     /// To play a script.
     Replay,
     /// To reflect a host.
@@ -18,7 +18,7 @@ pub(crate) enum Task {
     Explain(BadLine),
 }
 
-/// What the words behind the program's name ask for. The first picks the program: `serve` has options, `replay` no
+/// What the words after the program's name ask for. The first picks the program: `serve` has options, `replay` no
 /// further words; every other line is explained.
 pub(crate) fn task_of(alloc: Global, words: &[String]) -> Task
     ensures { IsAsked (map string_bytes words.now) result }

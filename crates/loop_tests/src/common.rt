@@ -1,12 +1,13 @@
 //! A screen, a flag, a rest and links for the tests of the loops.
 
-ghost use Rattle.std.specs.Prelude.{◌≡◌, IfOk};
+ghost use Rattle.std.specs.Prelude.{◌≡◌, IfOk, length};
 
 use link::{Gave, MemoryLink, Rest, StopFlag, Took};
 use painter::Painter;
 use pixel_format::Fault;
 use raster::Rect;
 use reflect_core::{PlainScreen, Puts};
+use roles::Strokes;
 use std::alloc::Global;
 use std::sync::Wait;
 use std::sync::atomic::{AtomicBool, AtomicU64, Ordering};
@@ -19,7 +20,7 @@ const AREA: Rect = Rect {
     h: 1,
 };
 
-// A flag that ends the loops.
+/// A flag that ends the loops.
 #[derive(Drop)]
 pub(crate) struct Flag {
     pub(crate) set: AtomicBool,
@@ -33,7 +34,7 @@ impl StopFlag for Flag {
     }
 }
 
-// Counts how often it was rested on.
+/// Counts how often it was rested on.
 #[derive(Drop)]
 pub(crate) struct Rests {
     pub(crate) count: AtomicU64,
@@ -51,7 +52,7 @@ pub(crate) fn make_rests() -> Rests {
     }
 }
 
-// A screen of 2 by 1, red and blue, whose tally was raised.
+/// A screen of 2 by 1, red and blue, whose tally was raised.
 pub(crate) fn red_and_blue(alloc: Global) -> Result<PlainScreen, Fail>
     ensures { IfOk result (λ screen. (screen.width ≡ 2) × (screen.height ≡ 1)) }
 {
@@ -76,7 +77,14 @@ pub(crate) fn make_flag() -> Flag {
     }
 }
 
-// A link that sends these bytes by these answers, and takes so many at each `give`.
+/// Strokes of two places, of which nothing was taken.
+pub(crate) fn make_strokes(alloc: Global) -> Result<Strokes, Fail>
+    ensures { IfOk result (λ strokes. length strokes.counts ≡ 2) }
+{
+    Ok(Strokes::new(alloc, 2)?)
+}
+
+/// A link that sends these bytes by these answers, and takes this many at each `give`.
 pub(crate) fn link_of(
     alloc: Global,
     sends: &[u8],

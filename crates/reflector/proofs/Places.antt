@@ -1,4 +1,5 @@
--- The places that were started, and the senders that they give back.
+-- The places that were started, and the senders that they give back. `run_all` hands them back, and `settle` asks that
+-- they are of one relay.
 use Rattle.std.proofs.Common.{◌≡◌, zero, suc, List, [], ◌∷◌, ◌++◌, map, sym, ap, ◌∙◌, append_assoc, arith}
 use Rattle.std.proofs.lemmas.List.{map-append}
 use Rattle.std.proofs.lemmas.Simd.{map-map}

@@ -1,5 +1,5 @@
-//! Runs a reflector over any links and doors: a thread for each place of a viewer, one that tells the host, and one that
-//! reads it.
+//! Runs a reflector over any links and doors: a thread for each place of a viewer, one that tells the host, and one
+//! that reads it.
 //!
 //! `run_all` takes memory as it begins, and fails where it is refused (`Memory`) or no place is left (`NoPlace`). It
 //! starts threads and waits for them, so it takes a handle that may. No clause says that a thread gets on, or that a

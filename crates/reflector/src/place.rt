@@ -23,10 +23,10 @@ use std::thread::{Builder, Promise, PromisedHandle, Threads};
 use std::time::{Clock, Duration};
 use viewer_server::run_viewer;
 
-// The stack of a place's thread, in bytes.
+/// The stack of a place's thread, in bytes.
 const STACK: usize = 262_144;
 
-// How long a place rests where the relay is full, in milliseconds.
+/// How long a place rests where the relay is full, in milliseconds.
 const REST_MILLIS: u64 = 1;
 
 /// What a place gives back.
@@ -51,7 +51,7 @@ impl<S, R: Wait + Drop> Promise<Place<S, R>> for OfSender<R> {
 /// The thread of a place.
 pub type PlaceHandle<S, R> = PromisedHandle<Place<S, R>, OfSender<R>>;
 
-// Rests for a moment: the relay is full, and whoever takes of it rings no bell.
+/// Rests for a moment: the relay is full, and whoever takes of it rings no bell.
 #[derive(Drop)]
 struct Nap<R: Clock + Drop> {
     clock: R,
@@ -63,7 +63,7 @@ impl<R: Clock + Drop> Rest for Nap<R> {
     }
 }
 
-// Serves one viewer after another, until no more come or the flag is set. One for whom there is no memory is let go.
+/// Serves one viewer after another, until no more come or the flag is set. One for whom there is no memory is let go.
 fn serve_viewers<S: ScreenSource, K: InputSink, D: Door, F: StopFlag, Z: Rest, R: Wait>(
     rt: &R,
     welcome: &Welcome,
@@ -94,7 +94,7 @@ fn serve_viewers<S: ScreenSource, K: InputSink, D: Door, F: StopFlag, Z: Rest, R
     unreachable!()
 }
 
-// The same with the sender that T names as the sink, after each input of which the bell is rung.
+/// The same with the sender that T names as the sink, after each input of which the bell is rung.
 fn serve_from<
     T: Seat,
     S: ScreenSource,
@@ -124,7 +124,7 @@ fn serve_from<
     inner.into_sender()
 }
 
-// Keeps a place until no more viewers come or the flag is set.
+/// Keeps a place until no more viewers come or the flag is set.
 fn keep<S: ScreenSource, D: Door, W: Bell + Drop, F: StopFlag, R: Wait + Clock + Copy + Drop>(
     rt: R,
     welcome: Welcome,

@@ -46,7 +46,7 @@ impl<L: Link, P: Puts + Drop> Promise<HostRead<L, P>> for OfHost<L, P> {
 /// The thread that reads the host.
 pub(crate) type ReaderHandle<L, P> = PromisedHandle<HostRead<L, P>, OfHost<L, P>>;
 
-// Reads the host to its end, and rings the bell after each put.
+/// Reads the host to its end, and rings the bell after each put.
 fn read<L: Link, P: Puts + Drop, B: Bell + Drop, R: Wait>(
     rt: &R,
     alloc: Global,

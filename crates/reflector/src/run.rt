@@ -17,7 +17,7 @@ use link::{Link, Rest};
 use pixel_format::Fault;
 use reflect_core::{Puts, ScreenSource};
 use rfb_wire::Joined;
-use roles::Role;
+use roles::{Role, Strokes};
 use serving::{Bell, Door, Stop};
 use shared_screen::{Publisher, Watcher, shared};
 use std::alloc::Global;
@@ -40,14 +40,14 @@ pub struct Running<L, P, S, R: Wait + Drop> {
     pub places: Vec<PlaceHandle<S, R>>,
 }
 
-// The threads of a run.
+/// The threads of a run.
 struct Started<L: Link, P: Puts + Drop, S, R: Wait + Drop> {
     places: Vec<PlaceHandle<S, R>>,
     writer: WriterHandle<R>,
     reader: ReaderHandle<L, P>,
 }
 
-// Starts the thread of each place, with the sender of its number.
+/// Starts the thread of each place, with the sender of its number.
 fn start_places<S, D, B, W, R>(
     crew: &Crew<R, B, W>,
     joined: &Joined,
@@ -78,7 +78,7 @@ where
     Ok(places)
 }
 
-// Starts all threads: the places', the host's writer's, and last the one that reads the host. Nothing is put before.
+/// Starts all threads: the places', the host's writer's, and last the one that reads the host. Nothing is put before.
 fn start_all<L, P, S, D, B, W, R>(
     crew: &Crew<R, B, W>,
     links: (L, L),
@@ -108,8 +108,9 @@ where
 {
     let (read, written) = links;
     let watcher = watchers.remove(0);
+    let strokes = Strokes::new(crew.alloc, senders.len() as u64)?;
     let places = start_places(crew, joined, doors, watchers, senders)?;
-    let writer = start_writer(crew, written, watcher, taker)?;
+    let writer = start_writer(crew, written, watcher, taker, strokes)?;
     let bell = Arc::try_clone(&crew.everyone)?;
     let reader = start_reader(
         crew.rt, crew.alloc, joined.w, joined.h, read, publisher, bell,
@@ -121,7 +122,7 @@ where
     })
 }
 
-// Waits until the host is read, tells all threads to end, and waits for the host's writer.
+/// Waits until the host is read, tells all threads to end, and waits for the host's writer.
 fn end_all<L, P, S, B, W, R>(
     crew: &Crew<R, B, W>,
     started: Started<L, P, S, R>,
@@ -157,7 +158,7 @@ where
     }
 }
 
-// A run over any screen: its publisher, and a watcher for each place and one for the host's writer.
+/// A run over any screen: its publisher, and a watcher for each place and one for the host's writer.
 fn run_over<L, P, S, D, B, W, R>(
     crew: &Crew<R, B, W>,
     links: (L, L),
@@ -201,7 +202,8 @@ where
 /// it. The call waits until the host is read, tells the others to end, and waits for the one that tells the host. A
 /// place ends once its viewer has left; whoever wants what it gives back joins it.
 ///
-/// `everyone` is rung after each put: whoever waits for news, the host's writer too. `writer_bell` is rung after each input.
+/// `everyone` is rung after each put: whoever waits for news, the host's writer too. `writer_bell` is rung after each
+/// input.
 ///
 /// `Memory` where memory is refused or a thread can't be made, `NoPlace` where the shared screen has no place: then
 /// nothing was put, and the threads that were started are told to end and aren't waited for.

@@ -10,8 +10,8 @@ use roles::{Input, InputSink};
 use std::marker::{Brand, PhantomData};
 use std::sync::Wait;
 
-/// Names a sender: the relay that it is of, and its place there. A sink of that name stays that sender, whatever it
-/// is lent to. No value of it is made.
+/// Names a sender: its relay, and its place there. A sink of that name stays that sender, whatever it is lent to. No
+/// value of it is made.
 pub(crate) trait Seat {
     ghost use Rattle.std.specs.Prelude.{ℕ};
     ghost use Rattle.atomic_table.specs.Seated.{TableId};

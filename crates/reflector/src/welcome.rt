@@ -9,7 +9,7 @@ use roles::Role;
 use std::alloc::Global;
 use viewer_session::Session;
 
-// The name of a screen whose host has none. A viewer is told at least one byte.
+/// The name of a screen whose host has none. A viewer is told at least one byte.
 const NO_NAME: &[u8] = b"reflectord";
 
 /// The size and the name of the screen that the viewers of a place are shown, and their role.

@@ -11,6 +11,7 @@ use input_relay::Taker;
 use link::{Link, Rest, StopFlag};
 use pixel_format::Fault;
 use reflect_core::ScreenSource;
+use roles::Strokes;
 use serving::{Bell, Stop};
 use std::alloc::Global;
 use std::snapshot::Snapshot;
@@ -32,19 +33,28 @@ impl<R: Wait + Drop> Promise<Taker<R>> for OfTaker<R> {
 /// The thread that tells the host.
 pub(crate) type WriterHandle<R> = PromisedHandle<Taker<R>, OfTaker<R>>;
 
-// Tells the host until the flag is set or the link ends. A fault of the link isn't told: the reader's tells it.
+/// Tells the host until the flag is set or the link ends. A fault of the link isn't told: the reader's tells it.
 fn write<L: Link, S: ScreenSource + Drop, F: StopFlag, Z: Rest, R: Wait + Drop>(
     rt: &R,
     mut link: L,
     mut source: S,
     mut taker: Taker<R>,
+    mut strokes: Strokes,
     stop: &F,
     rest: &Z,
 ) -> Taker<R>
     requires { IsScreenSize (S.width source) (S.height source) }
     ensures { host_of result ≡ host_of taker }
 {
-    let _ = run_writer(rt, &mut link, &mut source, &mut taker, stop, rest);
+    let _ = run_writer(
+        rt,
+        &mut link,
+        &mut source,
+        &mut taker,
+        &mut strokes,
+        stop,
+        rest,
+    );
     taker
 }
 
@@ -54,6 +64,7 @@ pub(crate) fn start_writer<L, S, B, W, R>(
     link: L,
     source: S,
     taker: Taker<R>,
+    strokes: Strokes,
 ) -> Result<WriterHandle<R>, Fault>
 where
     L: Link + Send + 'static,
@@ -74,7 +85,7 @@ where
         promise,
         move ||
             requires { IsScreenSize (S.width source) (S.height source) }
-        { write(&rt, link, source, taker, &*stop, &*rest) },
+        { write(&rt, link, source, taker, strokes, &*stop, &*rest) },
     );
     match started {
         Ok(handle) => Ok(handle),

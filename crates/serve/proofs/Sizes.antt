@@ -1,4 +1,4 @@
--- A host that was joined has a screen that can be served.
+-- A host that was joined has a screen that can be served. `run_all` asks for that.
 use Rattle.link.specs.Links.{LinkState}
 use Rattle.link.specs.Joins.{Joins}
 use Rattle.link.proofs.Sizes.{joined_size, size_least, size_most}

@@ -14,12 +14,13 @@ use std::sync::Wait;
 use std::thread::Threads;
 use std::time::Clock;
 
-// Says what went wrong: its number, and then what it means.
+/// Says what went wrong: its number, and then what it means.
 fn say<R: Eprint>(rt: &R, plan: &Plan<'_>, trouble: &Trouble) {
     let advice = Advice {
         plan: *plan,
         trouble,
     };
+    // Where standard error takes no text the exit status alone says it.
     let _ = rt.eprintln(format_args!("fault {}", trouble.fault.number()));
     let _ = rt.eprintln(format_args!("reflectord: {advice}"));
 }

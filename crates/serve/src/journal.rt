@@ -35,12 +35,13 @@ impl<R: Eprint + Clock + Drop> Log for Journal<R> {
         };
         let line = Line { event };
         if let Ok(line) = format!(in self.alloc; "{now:.3} {line}\n") {
+            // A line that standard error does not take is left out.
             let _ = self.rt.eprint(line.as_str());
         }
     }
 }
 
-/// What a line says behind its time.
+/// What a line says after its time.
 #[derive(Drop)]
 struct Line<'a> {
     event: &'a Event<'a>,

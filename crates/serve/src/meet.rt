@@ -13,7 +13,7 @@ use std::net::{Net, SocketAddr, TcpStream};
 use std::sync::Wait;
 use std::time::{Clock, Duration};
 
-// The seconds that a connection to the host may take.
+/// The seconds that a connection to the host may take.
 const CONNECT_SECONDS: u64 = 5;
 
 /// A host that was joined: the ends of its connection, one to be read and one to be written.
@@ -40,7 +40,7 @@ fn connect<R: Net<Stream = TcpStream>>(
     }
 }
 
-// Joins the host at the other end.
+/// Joins the host at the other end.
 #[tactic(auto, using(crate::proofs::Sizes::is_screen))]
 fn join<R: Wait + Clock + Copy + Drop>(
     rt: R,

@@ -21,7 +21,7 @@ pub(crate) struct Entry {
     pub(crate) lobby: Arc<Lobby, Global>,
 }
 
-// How many viewers of a role are to be served.
+/// How many viewers of a role are to be served.
 fn places_of(plan: &Plan<'_>, role: Role) -> u64
     ensures { result ≡ places_for role plan.now }
 {

@@ -23,7 +23,7 @@ use std::thread::Threads;
 use std::time::Clock;
 use tally_word::{Naming, Opened};
 
-// The run over a history that J names.
+/// The run over a history that J names.
 fn over<J, L, D, B, W, R>(
     rt: R,
     alloc: Global,
@@ -58,7 +58,7 @@ where
     result
 }
 
-// Starts all threads, and waits until the host has ended. It answers what reading the host was answered.
+/// Starts all threads, and waits until the host has ended. It answers what reading the host was answered.
 fn reflect<G, R>(rt: R, alloc: Global, met: Met, rooms: Rooms<R, G>) -> Result<(), Fault>
 where
     G: Log + Drop + Send + 'static,

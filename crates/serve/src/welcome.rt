@@ -14,13 +14,13 @@ use std::sync::{Arc, Wait};
 use std::thread::{Builder, Threads};
 use std::time::{Clock, Duration};
 
-// The bytes of the stack of whoever keeps a door.
+/// The bytes of the stack of whoever keeps a door.
 const STACK: usize = 262_144;
 
-// For how long viewers are waited for once the host has ended, in milliseconds.
+/// For how long viewers are waited for once the host has ended, in milliseconds.
 const GOODBYE_MILLIS: u64 = 1_000;
 
-// How long a knock at the own door may take, in milliseconds.
+/// How long a knock at the own door may take, in milliseconds.
 const KNOCK_MILLIS: u64 = 200;
 
 /// The doors of all places with their roles, and where each place's thread waits.
@@ -41,7 +41,7 @@ impl<R: Wait + Clock + Drop + Copy + Net, G: Log + Drop + Copy> Rooms<R, G> {
         }
     }
 
-    // One place more, at which its thread waits on this seat.
+    /// One place more, at which its thread waits on this seat.
     fn add(&mut self, rt: R, alloc: Global, entry: &Entry, seat: Seat, log: G) -> Result<(), Fault>
         requires { length self.old.doors.items < 64 }
         ensures { OnOk result (length self.new.doors.items ≡ length self.old.doors.items + 1) }

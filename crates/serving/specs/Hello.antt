@@ -12,8 +12,8 @@ hello_len = 14
 abbrev pub hello_nanos : ℕ
 hello_nanos = 10_000_000_000
 
--- How long a wait may last where so many bytes of the hello are missing, so many nanoseconds after the viewer came:
--- without an end behind the hello, else for what is left of the ten seconds, if anything is.
+-- How long a wait may last where this many bytes of the hello are missing, this many nanoseconds after the viewer came:
+-- without an end after the hello, else for what is left of the ten seconds, if anything is.
 abbrev pub IsPatience : Patience → ℕ → ℕ → Type 0
 IsPatience Endless missing passed = missing ≡ 0
 IsPatience (AtMost left) missing passed = (1 ≤ missing) × (passed < hello_nanos) × (as_nanos left + passed ≡ hello_nanos)

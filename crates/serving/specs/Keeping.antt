@@ -1,12 +1,12 @@
 -- What a link keeps of the bytes that it was given.
 use Rattle.std.specs.Prelude.{ℕ, List}
 
--- The bytes that the system has taken, those that are kept behind them, in order, and how many more there is room for.
+-- The bytes that the system has taken, those that are kept after them, in order, and how many more there is room for.
 pub record KeptBytes : Type 0 where
   pub sent : List ℕ
   pub bytes : List ℕ
   pub room : ℕ
 
--- So many bytes are kept at most.
+-- This many bytes are kept at most.
 abbrev pub most_kept : ℕ
 most_kept = 65_536

@@ -89,7 +89,7 @@ impl Account {
         self.failures = LIMIT.min(self.failures + 1);
     }
 
-    // It said once more that it ended.
+    /// It said once more that it ended.
     fn end(&mut self)
         ensures { self.new ≡ with_end self.old }
     {

@@ -24,7 +24,7 @@ pub(crate) enum Patience {
     Over,
 }
 
-/// How long a wait may last where so many bytes of the hello are missing, so long after the viewer came.
+/// How long a wait may last where `missing` bytes of the hello are missing, this long after the viewer came.
 pub(crate) fn longest_wait(missing: usize, passed: Duration) -> Patience
     ensures { IsPatience result missing (as_nanos passed) }
 {

@@ -9,10 +9,10 @@ use std::marker::Model;
 use std::net::TcpStream;
 use std::time::{Clock, Duration, Instant};
 
-// The seconds for which one `give` waits for a host that takes nothing.
+/// The seconds for which one `give` waits for a host that takes nothing.
 const PATIENCE_SECONDS: u64 = 1;
 
-// The seconds that a host's side of the handshake may take.
+/// The seconds that a host's side of the handshake may take.
 const HELLO_SECONDS: u64 = 10;
 
 /// One end of the host's connection. `take` waits for bytes, and `give` for at most a second.
@@ -46,7 +46,7 @@ impl HostLink {
         Ok((HostLink::of(stream), HostLink::of(other)))
     }
 
-    // It failed once more.
+    /// It failed once more.
     fn fail(&mut self)
         ensures { self.new ≡ with_failure self.old }
     {
@@ -119,7 +119,7 @@ impl<R: Clock + Drop> JoiningLink<R> {
         Ok(link)
     }
 
-    // Whether its time is over. A clock that can't be read is late.
+    /// Whether its time is over. A clock that can't be read is late.
     fn is_late(&self) -> bool {
         match self.opened.elapsed(&self.rt) {
             Ok(passed) => passed >= Duration::from_secs(HELLO_SECONDS),

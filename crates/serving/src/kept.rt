@@ -6,14 +6,14 @@ use std::io::Write;
 use std::marker::Model;
 use told::Record;
 
-/// So many bytes are kept at most.
+/// This many bytes are kept at most.
 pub(crate) const MOST_KEPT: usize = 65_536;
 
 /// Bytes that are kept, in order, until they can go out. There is room again for all once none is left.
 #[derive(Drop)]
 pub(crate) struct Kept {
     bytes: Vec<u8>,
-    // So many of them have gone out.
+    // This many of them have gone out.
     gone: usize,
     // All that has gone out.
     sent: Record,
@@ -76,7 +76,7 @@ impl Kept {
         count
     }
 
-    // The first bytes have gone out.
+    /// The first bytes have gone out.
     fn pass(&mut self, count: usize)
         requires { count ≤ length self.old.bytes }
         ensures sent { self.new.sent ≡ self.old.sent ++ take count self.old.bytes }

@@ -14,13 +14,14 @@ use std::io::Write;
 use std::net::{SocketAddr, TcpListener, TcpStream};
 use std::sync::{Arc, Condvar, Mutex, Wait};
 use std::thread;
-use std::time::{Clock, Duration};
+use std::time::{Clock, Duration, Instant};
 
-// For how long one who finds no place is kept before he is told so, in milliseconds. A place whose viewer has just left
-// is free by then.
+/// For how long one who finds no place is kept before he is told so, in milliseconds. A place whose viewer has just
+/// left is free by then. Those who come within as long of one who was kept in vain are told at once: they came while he
+/// was kept, or nearly so.
 const PATIENCE_MILLIS: u64 = 50;
 
-// For how long nobody is let in after the system refused to, in milliseconds: it may have no descriptor left.
+/// For how long nobody is let in after the system refused to, in milliseconds: it may have no descriptor left.
 const PAUSE_MILLIS: u64 = 100;
 
 #[derive(Drop)]
@@ -50,7 +51,7 @@ pub struct Lobby {
 }
 
 impl Lobby {
-    /// All of so many places are free. It fails where memory is refused for the streams on their way.
+    /// A lobby whose places are all free. It fails where memory is refused for the streams on their way.
     pub fn new(alloc: Global, places: u64) -> Result<Lobby, AllocError> {
         Ok(Lobby {
             waiting: Mutex::new(Waiting {
@@ -89,10 +90,9 @@ impl Lobby {
         drop(guard);
     }
 
-    // Hands the stream to a place that is free, or gives it back.
-    fn enter<R: Wait + Clock>(&self, rt: &R, stream: TcpStream) -> Entrance {
+    /// Hands the stream to a place that is free, or becomes so in this time, or gives it back.
+    fn enter<R: Wait + Clock>(&self, rt: &R, stream: TcpStream, patience: Duration) -> Entrance {
         let guard = self.waiting.lock(rt);
-        let patience = Duration::from_millis(PATIENCE_MILLIS);
         let (mut guard, _) = self
             .freed
             .wait_timeout_while(rt, guard, patience, |waiting| {
@@ -112,14 +112,14 @@ impl Lobby {
         Entrance::Placed
     }
 
-    // One more place is free.
+    /// One more place is free.
     fn free<R: Wait>(&self, rt: &R) {
         let mut guard = self.waiting.lock(rt);
         guard.free = guard.free.saturating_add(1);
         self.freed.notify_all();
     }
 
-    // Waits for a viewer, whoever came first. None where no more come.
+    /// Waits for a viewer, whoever came first. None where no more come.
     fn leave<R: Wait>(&self, rt: &R) -> Option<TcpStream> {
         let guard = self.waiting.lock(rt);
         let mut guard = self.came.wait_while(rt, guard, |waiting| {
@@ -179,7 +179,7 @@ impl<R: Wait + Clock + Drop, G: Log + Drop> TcpDoor<R, G> {
 impl<R: Wait + Clock + Drop + Copy + Send, G: Log + Drop + Send> Door for TcpDoor<R, G> {
     type Viewer = TcpLink<R>;
 
-    // A viewer whose link can't be made is let go, and the next one waited for.
+    /// A viewer whose link can't be made is let go, and the next one waited for.
     fn next(&mut self) -> Option<TcpLink<R>> {
         for _ in self.rt.forever() {
             if self.has_served {
@@ -200,7 +200,7 @@ impl<R: Wait + Clock + Drop + Copy + Send, G: Log + Drop + Send> Door for TcpDoo
         unreachable!()
     }
 
-    // The connection is closed before the place is free.
+    /// The connection is closed before the place is free.
     fn left(&mut self, viewer: TcpLink<R>, answers: u64, why: Result<(), Fault>) {
         let visit = Visit {
             why,
@@ -222,6 +222,18 @@ impl<R: Wait + Clock + Drop + Copy + Send, G: Log + Drop + Send> Door for TcpDoo
     }
 }
 
+/// For how long one who comes now is kept, where one was kept in vain until then.
+fn patience_after<R: Clock>(rt: &R, in_vain: Option<Instant>) -> Duration {
+    let patience = Duration::from_millis(PATIENCE_MILLIS);
+    match in_vain {
+        None => patience,
+        Some(until) => match until.elapsed(rt) {
+            Ok(passed) if passed < patience => Duration::ZERO,
+            _ => patience,
+        },
+    }
+}
+
 /// Lets viewers of a role in while places are free, and tells the others, and the log, why not. The last of these stays
 /// open until the next comes, so that its text isn't lost. It ends with the first who comes once the lobby is closed.
 pub fn keep_door<R: Wait + Clock, G: Log>(
@@ -232,6 +244,7 @@ pub fn keep_door<R: Wait + Clock, G: Log>(
     log: &G,
 ) {
     let mut last: Option<TcpStream> = None;
+    let mut in_vain: Option<Instant> = None;
     for stream in listener.incoming() {
         let Ok(stream) = stream else {
             if lobby.is_closed(rt) {
@@ -240,9 +253,14 @@ pub fn keep_door<R: Wait + Clock, G: Log>(
             thread::sleep(rt, Duration::from_millis(PAUSE_MILLIS));
             continue;
         };
-        match lobby.enter(rt, stream) {
+        let patience = patience_after(rt, in_vain);
+        match lobby.enter(rt, stream, patience) {
             Entrance::Placed => {}
             Entrance::Full(refused) => {
+                if !patience.is_zero() {
+                    in_vain = Instant::now(rt).ok();
+                }
+                // A peer that is gone already needs no reason.
                 let _ = (&refused).write(&refusal_bytes());
                 log.tell(&Event::NoPlace {
                     role,

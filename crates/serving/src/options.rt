@@ -4,15 +4,15 @@ use std::io;
 use std::net::TcpStream;
 use std::os::fd::{AsRawFd, RawFd};
 
-// Seconds without a byte after which the peer is asked whether it's there, seconds between such questions, and how
-// many.
+/// Seconds without a byte after which the peer is asked whether it's there, seconds between such questions, and how
+/// many.
 const IDLE: u32 = 60;
 
 const BETWEEN: u32 = 15;
 
 const TIMES: u32 = 4;
 
-// Milliseconds for which bytes may stay unsent, or sent and not confirmed.
+/// Milliseconds for which bytes may stay unsent, or sent and not confirmed.
 const STALLED: u32 = 60_000;
 
 fn word(number: u32) -> [u8; 16] {

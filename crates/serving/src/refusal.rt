@@ -1,7 +1,7 @@
 //! What is said to a viewer for whom there is no place.
 
 ghost use Rattle.std.specs.Prelude.{◌≡◌, codes};
-ghost use Rattle.pixel_format.specs.Reading.{Faulty, after};
+ghost use Rattle.byte_reading.specs.Reading.{Faulty, after};
 ghost use Rattle.pixel_format.specs.declared.fault.Fault.TheVariants.{HostRefused};
 ghost use Rattle.rfb_wire.specs.Handshake.{host_hello};
 

@@ -71,6 +71,7 @@ impl Bell for Seat {
     }
 
     fn rouse(&self) {
+        // Where it fails there is nothing else to try.
         let _ = self.waker.wake();
     }
 }

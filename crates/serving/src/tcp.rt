@@ -17,10 +17,10 @@ use std::marker::Model;
 use std::sync::{Arc, Wait};
 use std::time::{Clock, Duration, Instant};
 
-// A slice of so many bytes is written at once where nothing is kept.
+/// From this many bytes on a slice is written at once where nothing is kept, and not kept where it finds no room.
 const LARGE: usize = 16_384;
 
-// How a connection stands after the system answered so.
+/// How a connection stands after the system answered so.
 fn parting_after(before: Parting, answer: &io::Result<usize>) -> Parting {
     match answer {
         Ok(_) => before,
@@ -37,8 +37,8 @@ fn parting_after(before: Parting, answer: &io::Result<usize>) -> Parting {
 /// go out.
 ///
 /// `give` keeps small slices, and `take` writes what is kept before it waits, so an answer of many rectangles is one
-/// call of the system. While what is kept can't go out, rings are left unanswered, so a viewer that takes nothing costs
-/// nothing.
+/// call of the system. A large slice is written from where it lies; where it finds no room it stays with the caller,
+/// uncopied. While bytes can't go out, rings are left unanswered, so a viewer that takes nothing costs nothing.
 #[derive(Drop)]
 pub struct TcpLink<R: Wait + Clock + Drop> {
     rt: R,
@@ -47,10 +47,12 @@ pub struct TcpLink<R: Wait + Clock + Drop> {
     kept: Kept,
     // The last `give` had no room.
     is_full: bool,
+    // The system had no room for the last write, and no wait has ended since.
+    is_blocked: bool,
     // Kept bytes were lost: a write of them failed.
     is_broken: bool,
     opened: Instant,
-    // So many bytes of the hello are missing.
+    // This many bytes of the hello are missing.
     missing: usize,
     // How the connection stands, and how many bytes the system took, for a log.
     parting: Parting,
@@ -100,6 +102,7 @@ impl<R: Wait + Clock + Drop> TcpLink<R> {
             seat,
             kept,
             is_full: false,
+            is_blocked: false,
             is_broken: false,
             opened,
             missing: HELLO_LEN,
@@ -124,7 +127,7 @@ impl<R: Wait + Clock + Drop> TcpLink<R> {
         self.opened.elapsed(&self.rt).unwrap_or(Duration::ZERO)
     }
 
-    // Writes once of what is kept. False where nothing is left, or nothing more goes out now.
+    /// Writes once of what is kept. False where nothing is left, or nothing more goes out now.
     fn write_kept(&mut self) -> bool
         ensures { self.new ≡ self.old }
     {
@@ -136,9 +139,13 @@ impl<R: Wait + Clock + Drop> TcpLink<R> {
         match gave_of(&answer) {
             Gave::Bytes(count) => {
                 self.sent = self.sent.saturating_add(count as u64);
+                self.is_blocked = false;
                 true
             }
-            Gave::Nothing => false,
+            Gave::Nothing => {
+                self.is_blocked = true;
+                false
+            }
             _ => {
                 self.is_broken = true;
                 false
@@ -146,7 +153,24 @@ impl<R: Wait + Clock + Drop> TcpLink<R> {
         }
     }
 
-    // Writes a large slice at once, where nothing is kept.
+    /// Whether bytes wait for the system to have room: some that are kept, or some that were given in vain.
+    fn holds_back(&self) -> bool {
+        self.is_blocked || !self.kept.is_empty()
+    }
+
+    /// Writes what is kept, as far as the system takes it now.
+    fn write_all_kept(&mut self)
+        ensures { self.new ≡ self.old }
+    {
+        // Each round but the last writes a byte at least.
+        for _ in 0..=MOST_KEPT {
+            if !self.write_kept() {
+                return;
+            }
+        }
+    }
+
+    /// Writes a large slice at once, where nothing is kept.
     fn write_large(&mut self, bytes: &[u8]) -> Gave
         ensures { GivesAs result self.old self.new bytes.now }
     {
@@ -156,6 +180,7 @@ impl<R: Wait + Clock + Drop> TcpLink<R> {
         let answer = self.stream.write(bytes);
         let gave = self.account.give(&answer, bytes);
         self.parting = parting_after(self.parting, &answer);
+        self.is_blocked = gave == Gave::Nothing;
         if let Gave::Bytes(count) = gave {
             self.sent = self.sent.saturating_add(count as u64);
             let (sent, _) = bytes.split_at(count);
@@ -164,11 +189,15 @@ impl<R: Wait + Clock + Drop> TcpLink<R> {
         gave
     }
 
-    // Keeps as many of the bytes as there is room for.
+    /// Keeps as many of the bytes as there is room for, and none where the system had no room.
     fn keep(&mut self, bytes: &[u8]) -> Gave
         requires { 0 < length bytes.now }
         ensures { GivesAs result self.old self.new bytes.now }
     {
+        if self.is_blocked {
+            self.is_full = true;
+            return Gave::Nothing;
+        }
         let count = self.kept.keep(bytes);
         if count == 0 {
             self.is_full = true;
@@ -179,7 +208,7 @@ impl<R: Wait + Clock + Drop> TcpLink<R> {
         Gave::Bytes(count)
     }
 
-    // Reads without a wait. That the peer has ended is told only once nothing is kept.
+    /// Reads without a wait. That the peer has ended is told only once nothing is kept.
     fn read(&mut self, into: &mut [u8]) -> Took
         requires { 0 < length into.old }
         ensures { TakesAs result self.old self.new into.new }
@@ -199,7 +228,7 @@ impl<R: Wait + Clock + Drop> TcpLink<R> {
         took
     }
 
-    // Waits. False where it can't, or the hello is late. A clock that can't be read is late.
+    /// Waits. False where it can't, or the hello is late. A clock that can't be read is late.
     fn wait(&mut self) -> bool
         ensures { self.new ≡ self.old }
     {
@@ -215,9 +244,10 @@ impl<R: Wait + Clock + Drop> TcpLink<R> {
             }
         };
         let waited = self.seat.wait(&self.rt, most);
-        if self.kept.is_empty() {
+        if !self.holds_back() {
             self.seat.answer();
         }
+        self.is_blocked = false;
         waited.is_ok()
     }
 }
@@ -226,12 +256,12 @@ impl<R: Wait + Clock + Drop> Link for TcpLink<R> {
     ghost state = { λ l. l };
 
     fn take(&mut self, into: &mut [u8]) -> Took {
-        self.flush();
+        self.write_all_kept();
         if self.is_broken {
             self.account.fail();
             return Took::Failed;
         }
-        if self.is_full && self.kept.is_empty() {
+        if self.is_full && !self.holds_back() {
             // There is room again: the caller gives on.
             self.is_full = false;
             return Took::Nothing;
@@ -240,7 +270,7 @@ impl<R: Wait + Clock + Drop> Link for TcpLink<R> {
             Took::Nothing => {}
             took => return took,
         }
-        if self.kept.is_empty() && self.seat.answer() {
+        if !self.holds_back() && self.seat.answer() {
             // It was rung: the caller looks.
             return Took::Nothing;
         }
@@ -253,7 +283,7 @@ impl<R: Wait + Clock + Drop> Link for TcpLink<R> {
 
     fn give(&mut self, bytes: &[u8]) -> Gave {
         if self.kept.is_full() {
-            self.flush();
+            self.write_all_kept();
         }
         if self.is_broken {
             self.account.fail();
@@ -265,13 +295,10 @@ impl<R: Wait + Clock + Drop> Link for TcpLink<R> {
         }
     }
 
+    /// Whoever calls this doesn't wait: what found no room before may find it now.
     fn flush(&mut self) {
-        // Each round but the last writes a byte at least.
-        for _ in 0..=MOST_KEPT {
-            if !self.write_kept() {
-                return;
-            }
-        }
+        self.is_blocked = false;
+        self.write_all_kept();
     }
 
     fn failures(&self) -> u64 {

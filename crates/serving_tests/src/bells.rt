@@ -10,7 +10,7 @@ use std::sync::{Arc, Wait};
 use std::test::*;
 use std::thread;
 
-// So many rings are answered.
+/// This many rings are answered.
 const MANY: u64 = 1_000;
 
 #[test]
@@ -38,7 +38,7 @@ fn early_ring_ends_the_writers_rest(rt: HostRuntime) {
     writer.rest(&rt);
 }
 
-// Looks at the number after each take, until it has risen to the last. False where a take failed.
+/// Looks at the number after each take, until it has risen to the last. False where a take failed.
 fn follows<L: Link>(link: &mut L, news: &AtomicU64, seen: &AtomicU64) -> bool {
     let mut into = [0u8; 4];
     for _ in 0..1_000_000 {
@@ -55,7 +55,7 @@ fn follows<L: Link>(link: &mut L, news: &AtomicU64, seen: &AtomicU64) -> bool {
     false
 }
 
-// Raises the number and rings, again each time that it was seen.
+/// Raises the number and rings, again each time that it was seen.
 fn tells<R: Wait>(rt: &R, seat: &Seat, news: &AtomicU64, seen: &AtomicU64) {
     for number in 1..=MANY {
         news.store(number, Ordering::SeqCst);
@@ -85,7 +85,7 @@ fn no_ring_is_lost(rt: HostRuntime) -> Result<(), Fail> {
     Ok(())
 }
 
-// Takes until the flag is set. False where a take failed.
+/// Takes until the flag is set. False where a take failed.
 fn takes_until<L: Link, F: StopFlag>(link: &mut L, stop: &F) -> bool {
     let mut into = [0u8; 4];
     for _ in 0..1_000_000 {

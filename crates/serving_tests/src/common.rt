@@ -8,7 +8,7 @@ use std::sync::Arc;
 use std::test::Fail;
 use std::time::Duration;
 
-// A read that waits for so many seconds has failed.
+/// A read that waits for this many seconds has failed.
 const LONG: u64 = 20;
 
 pub(crate) fn listen(rt: &HostRuntime) -> io::Result<TcpListener> {
@@ -21,7 +21,7 @@ pub(crate) fn connect(rt: &HostRuntime, listener: &TcpListener) -> io::Result<Tc
     Ok(stream)
 }
 
-// The two ends of a connection: the one that connected, and the one that was accepted.
+/// The two ends of a connection: the one that connected, and the one that was accepted.
 pub(crate) fn pair(rt: &HostRuntime) -> io::Result<(TcpStream, TcpStream)> {
     let listener = listen(rt)?;
     let far = connect(rt, &listener)?;

@@ -10,10 +10,10 @@ use std::sync::Arc;
 use std::test::*;
 use std::{io, thread};
 
-// Version 3.8, no security type, and the reason with its length (RFC 6143, 7.1.1 and 7.1.2).
+/// Version 3.8, no security type, and the reason with its length (RFC 6143, 7.1.1 and 7.1.2).
 const REFUSAL: &[u8] = b"RFB 003.008\n\x00\x00\x00\x00\x14all places are taken";
 
-// Greets each viewer with a byte and then serves it until it ends. It answers how many came.
+/// Greets each viewer with a byte and then serves it until it ends. It answers how many came.
 fn greets<D: Door>(door: &mut D) -> u64 {
     let mut into = [0u8; 64];
     for count in 0..1_000u64 {
@@ -33,14 +33,14 @@ fn greets<D: Door>(door: &mut D) -> u64 {
     u64::MAX
 }
 
-// The first so many bytes that one who comes is told. Of a refusal all bytes are read.
+/// The first this many bytes that one who comes is told. Of a refusal all bytes are read.
 fn comes(rt: &HostRuntime, listener: &TcpListener, told: &mut [u8]) -> io::Result<TcpStream> {
     let mut viewer = connect(rt, listener)?;
     viewer.read_exact(told)?;
     Ok(viewer)
 }
 
-// One comes in, a second is told why not, and once the first has left there is a place again.
+/// One comes in, a second is told why not, and once the first has left there is a place again.
 fn visits(rt: &HostRuntime, listener: &TcpListener) -> io::Result<bool> {
     let mut greeting = [0u8; 1];
     let first = comes(rt, listener, &mut greeting)?;

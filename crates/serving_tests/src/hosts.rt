@@ -24,8 +24,8 @@ fn host_is_read_and_told(rt: HostRuntime) -> Result<(), Fail> {
     Ok(())
 }
 
-// A host that takes nothing is answered Nothing, each time after a second, so that the writer sees whether it is to
-// end.
+/// A host that takes nothing is answered Nothing, each time after a second, so that the writer sees whether it is to
+/// end.
 #[test]
 fn full_host_is_told_nothing(rt: HostRuntime) -> Result<(), Fail> {
     let (_far, near) = pair(&rt)?;

@@ -15,7 +15,7 @@ use std::sync::Arc;
 use std::sync::atomic::{AtomicU64, Ordering};
 use std::test::*;
 
-// A bell that counts its rings.
+/// A bell that counts its rings.
 #[derive(Drop)]
 struct Count {
     rings: AtomicU64,
@@ -35,7 +35,7 @@ fn counter() -> Count {
     }
 }
 
-// A sink that is full.
+/// A sink that is full.
 #[derive(Drop)]
 struct Full;
 
@@ -56,7 +56,7 @@ fn press() -> Input {
     }
 }
 
-// An update that is put rings once.
+/// An update that is put rings once.
 #[test]
 fn put_rings(rt: HostRuntime) -> Result<(), Fail> {
     let mut screen = Ringing {
@@ -70,7 +70,7 @@ fn put_rings(rt: HostRuntime) -> Result<(), Fail> {
     Ok(())
 }
 
-// An input that is sent rings the host's writer; one that is refused rings nobody.
+/// An input that is sent rings the host's writer; one that is refused rings nobody.
 #[test]
 fn send_rings(rt: HostRuntime) -> Result<(), Fail> {
     let (mut senders, mut taker) = relay(rt, rt.alloc(), 1)?;
