@@ -78,7 +78,7 @@ fn read_piece(
     Ok(piece.len().saturating_sub(left.len()))
 }
 
-/// A viewer's stream behind its handshake: its messages, and its end.
+/// A viewer's stream after its handshake: its messages, and its end.
 #[unsafe(no_mangle)]
 pub extern "C" fn fuzz_client(
     alloc: Global,

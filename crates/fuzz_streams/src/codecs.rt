@@ -5,7 +5,7 @@ ghost use Rattle.std.specs.Prelude.{◌≤◌};
 use crate::pieces::Pieces;
 use crate::report::Report;
 use pixel_format::Format;
-use raster::Raster;
+use raster::{CodecReader, Raster, read_piece};
 use std::alloc::Global;
 
 /// The number of Hextile (RFC 6143, 7.7.4). Any other stands for RRE (7.7.3).
@@ -21,8 +21,8 @@ fn format_of(bytes: &[u8]) -> Option<Format> {
     Format::read(&format).ok()
 }
 
-/// Reads a rectangle in Hextile: its end, and whether it is whole.
-fn read_hextile(
+/// Reads a rectangle: its end, and whether it is whole.
+fn read<R: CodecReader + Drop>(
     raster: &mut Raster,
     format: Format,
     bytes: &[u8],
@@ -33,41 +33,14 @@ fn read_hextile(
     requires down { raster.old.height ≤ 4096 }
 {
     let mut pieces = Pieces::new(bytes, lengths);
-    let (width, height) = (raster.width(), raster.height());
-    let mut reader = hextile_codec::Reader::new(width, height, format);
+    let mut reader = R::begin(raster.width(), raster.height(), format);
     let mut used: usize = 0;
     let mut fault = None;
     for _ in 0..bytes.len() {
         let Some(piece) = pieces.next() else {
             break;
         };
-        match reader.feed(raster, piece) {
-            Ok(count) => used = used.saturating_add(count),
-            Err(found) => fault = Some(found),
-        }
-    }
-    report.end(fault, used);
-    report.byte(u8::from(reader.whole()));
-}
-
-/// Reads a rectangle in RRE: its end, and whether it is whole.
-fn read_rre(
-    raster: &mut Raster,
-    format: Format,
-    bytes: &[u8],
-    lengths: &[u8],
-    report: &mut Report<'_>,
-) {
-    let mut pieces = Pieces::new(bytes, lengths);
-    let (width, height) = (raster.width(), raster.height());
-    let mut reader = rre_codec::Reader::new(width, height, format);
-    let mut used: usize = 0;
-    let mut fault = None;
-    for _ in 0..bytes.len() {
-        let Some(piece) = pieces.next() else {
-            break;
-        };
-        match reader.feed(raster, piece) {
+        match read_piece(&mut reader, raster, piece) {
             Ok(count) => used = used.saturating_add(count),
             Err(found) => fault = Some(found),
         }
@@ -100,9 +73,9 @@ pub extern "C" fn fuzz_rectangle(
         return 0;
     };
     if encoding == HEXTILE {
-        read_hextile(&mut raster, format, bytes, lengths, &mut report);
+        read::<hextile_codec::Reader>(&mut raster, format, bytes, lengths, &mut report);
     } else {
-        read_rre(&mut raster, format, bytes, lengths, &mut report);
+        read::<rre_codec::Reader>(&mut raster, format, bytes, lengths, &mut report);
     }
     write_raster(&raster, &mut report);
     report.len()

@@ -4,8 +4,8 @@ ghost use Rattle.host_decoder.specs.Decoder.{IsFor};
 
 use crate::pieces::Pieces;
 use crate::report::Report;
-use host_decoder::{HostDecoder, HostEvent};
-use painter::{Board, Painter, Patch};
+use host_decoder::{HostEvent, HostScreen};
+use painter::{Board, Patch};
 use pixel_format::{Fault, LIMIT};
 use std::alloc::Global;
 
@@ -41,21 +41,20 @@ fn keep(event: HostEvent, board: &mut Board, report: &mut Report<'_>) {
 
 /// Reads one piece to its end, and answers how many bytes were used.
 fn read_piece(
-    decoder: &mut HostDecoder,
-    painter: &mut Painter,
+    screen: &mut HostScreen,
     board: &mut Board,
     piece: &[u8],
     report: &mut Report<'_>,
 ) -> Result<usize, Fault>
-    requires { IsFor decoder.old painter.old }
-    ensures { IsFor decoder.new painter.new }
+    requires { IsFor screen.old.decoder screen.old.painter }
+    ensures { IsFor screen.new.decoder screen.new.painter }
 {
     let mut left = piece;
     for _ in 0..=piece.len() {
-        let used = decoder.feed(painter, left)?;
+        let used = screen.decoder.feed(&mut screen.painter, left)?;
         let (_, rest) = left.split_at(used);
         left = rest;
-        match decoder.whole() {
+        match screen.decoder.whole() {
             Some(event) => keep(event, board, report),
             None => break,
         }
@@ -65,14 +64,13 @@ fn read_piece(
 
 /// Reads a stream: its messages, and its end.
 fn read(
-    decoder: &mut HostDecoder,
-    painter: &mut Painter,
+    screen: &mut HostScreen,
     board: &mut Board,
     bytes: &[u8],
     lengths: &[u8],
     report: &mut Report<'_>,
 )
-    requires { IsFor decoder.old painter.old }
+    requires { IsFor screen.old.decoder screen.old.painter }
 {
     let mut pieces = Pieces::new(bytes, lengths);
     let mut used: usize = 0;
@@ -81,7 +79,7 @@ fn read(
         let Some(piece) = pieces.next() else {
             break;
         };
-        match read_piece(decoder, painter, board, piece, report) {
+        match read_piece(screen, board, piece, report) {
             Ok(count) => used = used.saturating_add(count),
             Err(found) => fault = Some(found),
         }
@@ -98,7 +96,7 @@ fn write_board(board: &Board, report: &mut Report<'_>) {
     }
 }
 
-/// A host's stream behind its handshake, of a screen of `width` by `height`: its messages, its end, and what its
+/// A host's stream after its handshake, of a screen of `width` by `height`: its messages, its end, and what its
 /// updates made of the screen. Nothing where there is no such screen or no memory.
 #[unsafe(no_mangle)]
 pub extern "C" fn fuzz_host(
@@ -114,21 +112,13 @@ pub extern "C" fn fuzz_host(
     }
     let (w, h) = (u64::from(width), u64::from(height));
     let mut report = Report::new(out);
-    let mut decoder = HostDecoder::new(alloc, w, h);
-    let Ok(mut painter) = Painter::new(alloc, w, h) else {
+    let Ok(mut screen) = HostScreen::new(alloc, w, h) else {
         return 0;
     };
     let Ok(mut board) = Board::new(alloc, w, h) else {
         return 0;
     };
-    read(
-        &mut decoder,
-        &mut painter,
-        &mut board,
-        bytes,
-        lengths,
-        &mut report,
-    );
+    read(&mut screen, &mut board, bytes, lengths, &mut report);
     write_board(&board, &mut report);
     report.len()
 }

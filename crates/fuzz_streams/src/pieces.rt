@@ -1,6 +1,6 @@
 //! A stream in pieces.
 
-/// What is left of a stream, and how long its pieces are: so many bytes, and again from the first number on. A 0
+/// What is left of a stream, and how long its pieces are: this many bytes, and again from the first number on. A 0
 /// counts as 1. Where there is no number it is one piece.
 #[derive(Drop)]
 pub struct Pieces<'a> {

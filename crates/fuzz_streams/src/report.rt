@@ -3,7 +3,7 @@
 use pixel_format::Fault;
 use std::io;
 
-/// Bytes that are written one behind the other, as far as they have room.
+/// Bytes that are written one after the other, as far as they have room.
 #[derive(Drop)]
 pub struct Report<'a> {
     out: &'a mut [u8],

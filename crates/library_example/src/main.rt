@@ -1,0 +1,105 @@
+//! The crates as a library: reads a host's bytes, and prints what a viewer is sent.
+//!
+//! Standard input has bytes in hex, as a host with a screen of 8 by 1 pixels sends them after its handshake (RFC 6143,
+//! section 7.6). They are read from a link in memory, and their updates are put on a screen. Then a viewer is served
+//! from that screen over another link, and what it was given is printed.
+#![tactic(auto)]
+
+ghost use Rattle.std.specs.Prelude.{◌≡◌};
+
+mod ends;
+
+use ends::{NoInput, NoRest, NoStop};
+use host_decoder::HostDecoder;
+use host_reader::run_host;
+use link::{Gave, MemoryLink, Took};
+use painter::Painter;
+use pixel_format::Fault;
+use reflect_core::PlainScreen;
+use replay_script::{script_bytes, shown};
+use roles::Role;
+use std::alloc::Global;
+use std::io::{self, Read};
+use std::sync::Wait;
+use std::test::Fail;
+use viewer_server::run_viewer;
+use viewer_session::Session;
+
+/// How wide the host's screen is, in pixels.
+const WIDTH: u64 = 8;
+
+/// How high it is.
+const HEIGHT: u64 = 1;
+
+/// What the viewer sends: a list of encodings with Hextile, and a request for the whole screen (RFC 6143, 7.5.2 and
+/// 7.5.3).
+const VIEWER: [u8; 18] = [2, 0, 0, 1, 0, 0, 0, 5, 3, 0, 0, 0, 0, 0, 0, 8, 0, 1];
+
+/// How many pieces the viewer takes at most: an update's header, and a rectangle each.
+const PIECES: usize = 16;
+
+/// How many bytes of a piece it takes at once.
+const ROOM: usize = 4096;
+
+fn main(rt: HostRuntime) -> Result<(), Fail> {
+    let text = io::read_to_string(rt.alloc(), rt.stdin())?;
+    let host = script_bytes(rt.alloc(), text.as_str().trim())?.ok_or("this is no hex")?;
+    let mut screen = PlainScreen::new(rt.alloc(), WIDTH, HEIGHT)?;
+    let ended = put_updates(&rt, rt.alloc(), host, &mut screen)?;
+    screen.raise();
+    println!(rt; "updates: {}, fault: {}", screen.updates(), number(ended))?;
+    let (ended, given) = serve_viewer(&rt, rt.alloc(), &mut screen)?;
+    println!(rt; "viewer: {given}, fault: {}", number(ended))?;
+    Ok(())
+}
+
+/// A fault's number, or 0 where there is none.
+fn number(answer: Result<(), Fault>) -> u64 {
+    match answer {
+        Ok(()) => 0,
+        Err(fault) => fault.number(),
+    }
+}
+
+/// Puts the updates of a host's bytes, as if they came over a link that then ends. Inside is how reading them ended.
+fn put_updates<R: Wait>(
+    rt: &R,
+    alloc: Global,
+    sends: Vec<u8>,
+    screen: &mut PlainScreen,
+) -> Result<Result<(), Fault>, Fail>
+    requires { (screen.old.width ≡ WIDTH) × (screen.old.height ≡ HEIGHT) }
+    ensures { (screen.new.width ≡ WIDTH) × (screen.new.height ≡ HEIGHT) }
+{
+    let takes = vec![in alloc; Took::Bytes(sends.len())]?;
+    let mut link = MemoryLink::new(alloc, sends, takes, Vec::new(alloc))?;
+    let mut painter = Painter::new(alloc, WIDTH, HEIGHT)?;
+    let mut decoder = HostDecoder::new(alloc, WIDTH, HEIGHT);
+    Ok(run_host(rt, alloc, &mut link, &mut decoder, &mut painter, screen))
+}
+
+/// Serves a viewer that only looks on, and whose handshake is done: it asks, takes its answer and ends. Beside how that
+/// ended are the bytes that it was given, as a script prints them.
+fn serve_viewer<R: Wait>(
+    rt: &R,
+    alloc: Global,
+    screen: &mut PlainScreen,
+) -> Result<(Result<(), Fault>, String), Fail>
+    requires { (screen.old.width ≡ WIDTH) × (screen.old.height ≡ HEIGHT) }
+{
+    let sends = Vec::from_slice(alloc, &VIEWER)?;
+    let takes = vec![in alloc; Took::Bytes(VIEWER.len()), Took::End]?;
+    let gives = Vec::from_elem(alloc, Gave::Bytes(ROOM), PIECES)?;
+    let mut link = MemoryLink::new(alloc, sends, takes, gives)?;
+    let mut session = Session::ready(alloc, WIDTH, HEIGHT, Role::View)?;
+    let ended = run_viewer(
+        rt,
+        &mut link,
+        screen,
+        &mut NoInput,
+        &mut session,
+        &NoStop,
+        &NoRest,
+    );
+    Ok((ended, shown(alloc, link.given())?))
+}
