@@ -1,8 +1,10 @@
-/* Milliseconds of one answer of 1920 by 1080, cut and written rectangle by rectangle, against the same in plain C and memcpy, in one run.
+/* Milliseconds of one answer of 1920 by 1080, cut and written rectangle by rectangle, against the same in plain C and
+ * memcpy, in one run.
  *
- * On both sides the screen is copied once, as a cut does, and then each row of tiles is written into the same piece: 12 bytes of head, and Raw, or
- * Hextile where that has fewer bytes. In C each pixel is tinted by a division a component. The bytes are compared. All are timed in
- * turn, many rounds, by the processor's time of the thread, and the best of each counts; then the same without copying the screen anew. */
+ * On both sides the screen is copied once, as a cut does, and then each row of tiles is written into the same piece: 12
+ * bytes of head, and Raw, or Hextile where that has fewer bytes. In C each pixel is tinted by a division a component.
+ * The bytes are compared. All are timed in turn, many rounds, by the processor's time of the thread, and the best of
+ * each counts; then the same without copying the screen anew. */
 #include <stdbool.h>
 #include <stdint.h>
 #include <stdio.h>
@@ -197,8 +199,9 @@ static double now(void) {
 
 static double least(double a, double b) { return b < a ? b : a; }
 
-/* Ours so many times, and once more, in one call, which also takes the room: the best of many calls. What an answer takes is told from the best
- * of calls with few and with many answers; a difference of single calls would be as low as noise makes it. */
+/* Ours so many times, and once more, in one call, which also takes the room: the best of many calls. What an answer
+ * takes is told from the best of calls with few and with many answers; a difference of single calls would be as low as
+ * noise makes it. */
 typedef struct {
     double few, many;
     int times;

@@ -1,8 +1,8 @@
 /* RRE and Hextile in plain C, from RFC 6143 (7.7.3, 7.7.4), with the spelling that docs/PROTOCOL.md tells for writing.
  *
- * usage: codecs FILE ROUNDS: writes rectangles of 1920 by 1080 into FILE, as crates/codec_trial reads them, and prints for
- * each a name, the microseconds in which it is read and written, the best of so many rounds, and the bytes written, 0 where Raw is
- * as short. */
+ * usage: codecs FILE ROUNDS: writes rectangles of 1920 by 1080 into FILE, as crates/codec_trial reads them, and prints
+ * for each a name, the microseconds in which it is read and written, the best of ROUNDS, and the bytes written,
+ * 0 where Raw is as short. */
 #include <stdint.h>
 #include <stdio.h>
 #include <stdlib.h>

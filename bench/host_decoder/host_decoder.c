@@ -1,10 +1,13 @@
-/* Megapixels a second of HostDecoder over a whole FramebufferUpdate, against a decoder in C and memcpy, in one run.
+/* Megapixels a second of HostDecoder and Painter, against a decoder in C and memcpy, in one run.
  *
- * A screen of 1920 by 1080 as one rectangle: in Raw, random pixels; in Hextile, a page of text of two colours, a desktop of letters in
- * several inks, and a photo, of which most tiles come as Raw; in RRE, the text and the desktop. Then a page that
- * scrolls: a CopyRect of all rows but the first 16 to the top, and 16 rows of random pixels in Raw below. It comes in pieces. Ours reads a rectangle to its end and then paints it on the working screen, so that no half of an update is ever
- * shown; the decoder in C draws each byte on the screen as it comes. All are timed in turn, many rounds, and the best of each
- * counts. */
+ * A screen of 1920 by 1080 as one rectangle: in Raw, random pixels; in Hextile, a page of text of two colours, a
+ * desktop of letters in several inks, and a photo, of which most tiles come as Raw; in RRE, the text and the desktop.
+ * Then a page that scrolls: a CopyRect of all rows but the first 16 to the top, and 16 rows of random pixels in Raw
+ * below. It comes in pieces. Both sides draw each byte on the screen as it comes. At an update's end ours makes the
+ * patch of the touched tiles. So that reading is timed alone, an update has the rectangle once, and three times, and
+ * half of what the latter takes longer counts, on both sides (of the page that scrolls 21 times, and a twentieth).
+ * After that a whole update is timed with its patch, for which the decoder in C copies each tile of the screen into
+ * new memory. All are timed in turn, many rounds, and the best of each counts. */
 #include <malloc.h>
 #include <stdbool.h>
 #include <stdint.h>
@@ -17,7 +20,7 @@
 bool bench_host_message(uint32_t width, uint32_t height, const uint8_t *message, size_t length, uint32_t step, uint32_t times,
                         uint32_t *shown, size_t count);
 
-enum { W = 1920, H = 1080, STRIPE = 16, UPDATE_HEAD = 4, HEAD = UPDATE_HEAD + 12, TIMES = 2 };
+enum { W = 1920, H = 1080, STRIPE = 16, UPDATE_HEAD = 4, RECT_HEAD = 12, TIMES = 2, SCROLLS = 20 };
 
 static uint32_t screen[W * H];
 
@@ -95,12 +98,22 @@ __attribute__((noinline)) static void plain_rre(Source *s) {
     }
 }
 
-/* The page goes up by a stripe, and Raw comes in below. */
+/* The page goes up by a stripe, row by row as in a CopyRect of any width, and Raw comes in below. */
 static void plain_scroll(Source *s) {
     const uint8_t *from = next(s, 4);
-    memmove(screen, screen + (from[2] << 8 | from[3]) * W, 4 * W * (H - STRIPE));
-    next(s, HEAD - UPDATE_HEAD);
+    int up = from[2] << 8 | from[3];
+    for (int y = 0; y < H - STRIPE; y++) memmove(screen + y * W, screen + (y + up) * W, 4 * W);
+    next(s, RECT_HEAD);
     plain_raw(s, W * (H - STRIPE));
+}
+
+/* The colours of all tiles, one tile after the other, in new memory. */
+__attribute__((noinline)) static uint32_t *plain_patch(void) {
+    uint32_t *patch = malloc(sizeof screen), *at = patch;
+    for (int y = 0; y < H; y += 16)
+        for (int x = 0; x < W; x += 16)
+            for (int j = y; j < H && j < y + 16; j++, at += 16) memcpy(at, screen + j * W + x, 64);
+    return patch;
 }
 
 enum Kind { RAW, HEXTILE, RRE, SCROLL };
@@ -117,7 +130,8 @@ static const struct {
     {"CopyRect, Raw", SCROLL, NOISE},
 };
 
-static void plain_message(enum Kind kind, Source *s) {
+static void plain_rectangle(enum Kind kind, Source *s) {
+    next(s, RECT_HEAD);
     if (kind == RAW) plain_raw(s, 0);
     if (kind == HEXTILE) plain_hextile(s);
     if (kind == RRE) plain_rre(s);
@@ -229,7 +243,8 @@ static int run_of(const uint32_t *page, int x, int y, int end) {
     return len;
 }
 
-/* A tile over its first pixel's value, its runs with their values, or Raw where that is shorter: each tile says its background. */
+/* A tile over its first pixel's value, its runs with their values, or Raw where that is shorter: each tile says its
+ * background. */
 static size_t put_tile(uint8_t *out, const uint32_t *page, int left, int top, int w, int h) {
     uint32_t background = page[top * W + left];
     size_t n = 1 + put_pixel(out + 1, background), raw = 1 + 4 * (size_t)w * h;
@@ -281,8 +296,8 @@ static size_t put_rre(uint8_t *out, const uint32_t *page) {
     return n;
 }
 
-static size_t put_message(enum Kind kind, enum Picture picture, uint8_t *out, const uint32_t *page) {
-    size_t n = put_update_head(out, kind == SCROLL ? 2 : 1);
+static size_t put_rectangle(enum Kind kind, enum Picture picture, uint8_t *out, const uint32_t *page) {
+    size_t n = 0;
     if (kind == RAW) {
         n += put_rectangle_head(out + n, 0, H, 0);
         n += put_noise(out + n, 4 * W * H);
@@ -303,6 +318,25 @@ static size_t put_message(enum Kind kind, enum Picture picture, uint8_t *out, co
     return n;
 }
 
+/* An update that has the rectangle so many times. */
+typedef struct {
+    uint8_t *bytes;
+    size_t length;
+    int times;
+} Update;
+
+static Update repeated(enum Kind kind, const uint8_t *rectangle, size_t length, int times) {
+    Update update = {malloc(UPDATE_HEAD + times * length), UPDATE_HEAD + times * length, times};
+    put_update_head(update.bytes, kind == SCROLL ? 2 * times : times);
+    for (int k = 0; k < times; k++) memcpy(update.bytes + UPDATE_HEAD + k * length, rectangle, length);
+    return update;
+}
+
+static void plain_update(enum Kind kind, const Update *update, uint32_t step) {
+    Source source = {update->bytes, step, UPDATE_HEAD, update->length};
+    for (int k = 0; k < update->times; k++) plain_rectangle(kind, &source);
+}
+
 /* ---- the clock: processor time, since other work shares the machine */
 
 static double now(void) {
@@ -316,46 +350,90 @@ static void keep_best(double *best, double start) {
     if (took < *best) *best = took;
 }
 
+static uint32_t ours[W * H];
+
+/* What so many updates more take, by the best of many rounds. */
+typedef struct {
+    double few, many;
+    int more;
+} Best;
+
+static double each(const Best *best) { return (best->many - best->few) / best->more; }
+
+static void print_line(const char *name, uint32_t step, double mine, double in_c, double copied) {
+    double pixels = W * H / 1e6;
+    printf("| %s | %u | %.0f | %.0f | %.2f | %.0f | %.2f |\n", name, step, pixels / mine, pixels / in_c, in_c / mine, pixels / copied, copied / mine);
+}
+
+static void read_ours(double *best, const Update *update, uint32_t step, int times) {
+    double start = now();
+    if (!bench_host_message(W, H, update->bytes, update->length, step, times, ours, W * H)) fputs("refused\n", stderr), exit(1);
+    keep_best(best, start);
+}
+
+static void read_in_c(double *best, enum Kind kind, const Update *update, uint32_t step) {
+    double start = now();
+    plain_update(kind, update, step);
+    keep_best(best, start);
+}
+
+static void copy_screen(double *best) {
+    static uint32_t copy[W * H];
+    double start = now();
+    memcpy(copy, ours, sizeof copy);
+    __asm__ volatile("" : : "r"(copy) : "memory");
+    keep_best(best, start);
+}
+
+/* The rectangle alone, without the patch. */
+static void measure_reading(const char *name, enum Kind kind, const Update *once, const Update *more, uint32_t step, int rounds) {
+    Best mine = {1e9, 1e9, more->times - 1}, in_c = mine;
+    double copied = 1e9;
+    for (int round = 0; round < rounds; round++) {
+        memset(screen, 0, sizeof screen);
+        read_in_c(&in_c.few, kind, once, step);
+        read_ours(&mine.few, once, step, 1);
+        if (memcmp(ours, screen, sizeof screen)) fputs("the screens differ\n", stderr), exit(1);
+        read_in_c(&in_c.many, kind, more, step);
+        read_ours(&mine.many, more, step, 1);
+        copy_screen(&copied);
+    }
+    print_line(name, step, each(&mine), each(&in_c), copied);
+}
+
+/* Whole updates, each with its patch. */
+static void measure_update(enum Kind kind, const Update *once, uint32_t step, int rounds) {
+    Best mine = {1e9, 1e9, TIMES};
+    double in_c = 1e9, copied = 1e9;
+    for (int round = 0; round < rounds; round++) {
+        read_ours(&mine.few, once, step, 1);
+        read_ours(&mine.many, once, step, 1 + TIMES);
+        double start = now();
+        plain_update(kind, once, step);
+        free(plain_patch());
+        keep_best(&in_c, start);
+        copy_screen(&copied);
+    }
+    print_line("Raw, noise, and its patch", step, each(&mine), in_c, copied);
+}
+
 int main(int argc, char **argv) {
-    int rounds = argc > 1 ? atoi(argv[1]) : 40;
+    int rounds = argc > 1 ? atoi(argv[1]) : 30;
     mallopt(M_MMAP_THRESHOLD, 1 << 30);
     mallopt(M_TRIM_THRESHOLD, 1 << 30);
     static const uint32_t steps[] = {65536, 4096, 1460};
-    uint32_t *page = malloc(4 * W * H), *ours = malloc(4 * W * H);
-    uint8_t *message = malloc(HEAD + 13 * W * H);
-    printf("a screen of %d by %d; megapixels a second, and ours over theirs\n", W, H);
-    printf("%-16s %6s %8s %8s %6s %8s %6s\n", "rectangle", "piece", "ours", "plain C", "ratio", "memcpy", "ratio");
+    static uint32_t page[W * H];
+    uint8_t *rectangle = malloc(2 * RECT_HEAD + 13 * W * H);
+    printf("| Update | piece | ours | plain C | ratio | memcpy | ratio |\n|---|---|---|---|---|---|---|\n");
     for (size_t m = 0; m < sizeof messages / sizeof *messages; m++) {
         enum Kind kind = messages[m].kind;
         draw(messages[m].picture, page);
-        size_t length = put_message(kind, messages[m].picture, message, page);
-        for (int k = 0; k < 3; k++) {
-            uint32_t step = steps[k];
-            double best[3] = {1e9, 1e9, 1e9}, best_once = 1e9;
-            for (int round = 0; round < rounds; round++) {
-                double start = now();
-                if (!bench_host_message(W, H, message, length, step, 1, ours, W * H)) return fputs("refused\n", stderr), 1;
-                keep_best(&best_once, start);
-                start = now();
-                if (!bench_host_message(W, H, message, length, step, 1 + TIMES, ours, W * H)) return fputs("refused\n", stderr), 1;
-                keep_best(&best[0], start);
-                memset(screen, 0, sizeof screen);
-                for (int times = 0; times < 1 + TIMES; times++) {
-                    start = now();
-                    plain_message(kind, &(Source){message, step, HEAD, length});
-                    keep_best(&best[1], start);
-                }
-                if (memcmp(ours, screen, sizeof screen)) return fputs("the screens differ\n", stderr), 1;
-                start = now();
-                memcpy(screen, ours, sizeof screen);
-                keep_best(&best[2], start);
-            }
-            /* The first time the screen is made too. */
-            best[0] = (best[0] - best_once) / TIMES;
-            double pixels = W * H / 1e6;
-            printf("%-16s %6u %8.0f %8.0f %6.2f %8.0f %6.2f\n", messages[m].name, step, pixels / best[0], pixels / best[1], best[1] / best[0],
-                   pixels / best[2], best[2] / best[0]);
-        }
+        size_t length = put_rectangle(kind, messages[m].picture, rectangle, page);
+        Update once = repeated(kind, rectangle, length, 1), more = repeated(kind, rectangle, length, 1 + (kind == SCROLL ? SCROLLS : TIMES));
+        for (int k = 0; k < 3; k++) measure_reading(messages[m].name, kind, &once, &more, steps[k], rounds);
+        if (kind == RAW) measure_update(kind, &once, steps[0], rounds);
+        free(once.bytes);
+        free(more.bytes);
     }
     return 0;
 }

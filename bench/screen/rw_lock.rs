@@ -1,4 +1,5 @@
-// The same calls over a RwLock of std around one board, made by rustc. Usage: rw_lock ROUNDS LOOKS; prints names and nanoseconds.
+// The same calls over a RwLock of std around one board, made by rustc. Usage: rw_lock ROUNDS LOOKS; prints names and
+// nanoseconds.
 use std::hint::black_box;
 use std::sync::RwLock;
 use std::sync::atomic::{AtomicU64, Ordering};

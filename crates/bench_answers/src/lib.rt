@@ -31,8 +31,8 @@ fn keep(bytes: &[u8], sent: &mut [u8]) {
     sent[..len].copy_from_slice(&bytes[..len]);
 }
 
-/// Writes all rectangles of an answer of the whole screen, each over the one before, and copies them one behind the other as far as there is
-/// room. Answers how many bytes they are.
+/// Writes all rectangles of an answer of the whole screen, each over the one before, and copies them one after the
+/// other as far as there is room. Answers how many bytes they are.
 fn write_all(cut: &Cut, asked: &Asked, room: &mut Room, sent: &mut [u8]) -> u64
     requires values { 16 * cut.now.width ≤ length room.old.values.items }
     requires out { 12 + 64 * cut.now.width ≤ length room.old.out.items }
@@ -98,9 +98,9 @@ fn kind_of(number: u32) -> Encoding {
     Encoding::of_number(number).unwrap_or(Encoding::Raw)
 }
 
-/// Copies colours into a cut, and writes an answer of the whole screen from it, so many times, and once more into `sent`; `all`: of all tiles,
-/// else of one; `copies`: the colours are copied anew each time. Answers how many bytes an answer has behind its head, and 0 where there is no memory, no such screen or
-/// format, or colours of another size.
+/// Copies colours into a cut, and writes an answer of the whole screen from it, this many times, and once more into
+/// `sent`; `all`: of all tiles, else of one; `copies`: the colours are copied anew each time. Answers how many bytes an
+/// answer has after its header, and 0 where there is no memory, no such screen or format, or colours of another size.
 #[unsafe(no_mangle)]
 pub extern "C" fn bench_answers(
     alloc: Global,

@@ -4,45 +4,34 @@
 ghost use Rattle.std.specs.Prelude.{◌<◌};
 ghost use Rattle.host_decoder.specs.Decoder.{IsFor};
 
-use host_decoder::HostDecoder;
+use host_decoder::HostScreen;
 use painter::Painter;
 use std::alloc::Global;
 
 /// Reads one message in pieces of `step` bytes, and answers whether it was whole at its end.
-fn read_message(
-    decoder: &mut HostDecoder,
-    painter: &mut Painter,
-    message: &[u8],
-    step: usize,
-) -> bool
+fn read_message(screen: &mut HostScreen, message: &[u8], step: usize) -> bool
     requires some { 0 < step }
-    requires pair { IsFor decoder.old painter.old }
-    ensures pair { IsFor decoder.new painter.new }
+    requires pair { IsFor screen.old.decoder screen.old.painter }
+    ensures pair { IsFor screen.new.decoder screen.new.painter }
 {
     let mut left = message;
     while !left.is_empty() {
         let (piece, rest) = left.split_at(left.len().min(step));
-        if decoder.feed(painter, piece).is_err() {
+        if screen.decoder.feed(&mut screen.painter, piece).is_err() {
             return false;
         }
         left = rest;
     }
-    decoder.whole().is_some()
+    screen.decoder.whole().is_some()
 }
 
-/// Reads one message so many times.
-fn read_messages(
-    decoder: &mut HostDecoder,
-    painter: &mut Painter,
-    message: &[u8],
-    step: usize,
-    times: u32,
-) -> bool
+/// Reads one message this many times.
+fn read_messages(screen: &mut HostScreen, message: &[u8], step: usize, times: u32) -> bool
     requires some { 0 < step }
-    requires pair { IsFor decoder.old painter.old }
+    requires pair { IsFor screen.old.decoder screen.old.painter }
 {
     for _ in 0..times {
-        if !read_message(decoder, painter, message, step) {
+        if !read_message(screen, message, step) {
             return false;
         }
     }
@@ -63,8 +52,8 @@ fn copy_screen(painter: &Painter, shown: &mut [u32]) {
     }
 }
 
-/// Reads one message of a host so many times, in pieces of `step` bytes, on a screen of `width` by `height`, and copies what
-/// is shown then. Answers false where it isn't one whole message, or there is no memory or no such screen.
+/// Reads one message of a host this many times, in pieces of `step` bytes, on a screen of `width` by `height`, and
+/// copies what is shown then. Answers false where it isn't one whole message, or there is no memory or no such screen.
 #[unsafe(no_mangle)]
 pub extern "C" fn bench_host_message(
     alloc: Global,
@@ -79,11 +68,10 @@ pub extern "C" fn bench_host_message(
         return false;
     }
     let (w, h) = (u64::from(width), u64::from(height));
-    let mut decoder = HostDecoder::new(alloc, w, h);
-    let Ok(mut painter) = Painter::new(alloc, w, h) else {
+    let Ok(mut screen) = HostScreen::new(alloc, w, h) else {
         return false;
     };
-    let whole = read_messages(&mut decoder, &mut painter, message, step as usize, times);
-    copy_screen(&painter, shown);
+    let whole = read_messages(&mut screen, message, step as usize, times);
+    copy_screen(&screen.painter, shown);
     whole
 }

@@ -1,5 +1,5 @@
-//! The time in microseconds that inputs take through a relay, one thread for each sender: `bench_relay SENDERS INPUTS`, with 1 to
-//! 64 senders. Without words it does nothing.
+//! The time in microseconds that inputs take through a relay, one thread for each sender: `bench_relay SENDERS INPUTS`,
+//! with 1 to 64 senders. Without words it does nothing.
 #![tactic(auto)]
 
 use input_relay::{Sender, Taker, relay};
@@ -11,7 +11,7 @@ use std::thread::{JoinHandle, Threads};
 use std::time::{Clock, Instant};
 use std::{env, thread};
 
-// Sends an input as soon as there is room.
+/// Sends an input as soon as there is room.
 fn send<R: Wait + Drop>(rt: &R, sender: &mut Sender<R>, mut input: Input) {
     for _ in rt.forever() {
         match sender.send(input) {
@@ -22,7 +22,7 @@ fn send<R: Wait + Drop>(rt: &R, sender: &mut Sender<R>, mut input: Input) {
     }
 }
 
-// Sends so many pointer events.
+/// Sends this many pointer events.
 fn send_all<R: Wait + Drop>(rt: &R, sender: &mut Sender<R>, count: u64) {
     for number in 0..count {
         let x = (number % 4096) as u16;
@@ -30,7 +30,7 @@ fn send_all<R: Wait + Drop>(rt: &R, sender: &mut Sender<R>, count: u64) {
     }
 }
 
-// Takes an input as soon as there is one.
+/// Takes an input as soon as there is one.
 fn take<R: Wait + Drop>(rt: &R, taker: &mut Taker<R>) {
     for _ in rt.forever() {
         if taker.take().is_some() {
@@ -46,7 +46,7 @@ fn take_all<R: Wait + Drop>(rt: &R, taker: &mut Taker<R>, count: u64) {
     }
 }
 
-// A thread for each sender, which sends so many.
+/// A thread for each sender, which sends this many.
 fn start<R: Threads + Wait + Copy + Drop + Send + 'static>(
     rt: R,
     alloc: Global,
@@ -60,7 +60,7 @@ fn start<R: Threads + Wait + Copy + Drop + Send + 'static>(
     Ok(threads)
 }
 
-// The time that the inputs of all senders take, so many each.
+/// The time that the inputs of all senders take, this many each.
 fn micros<R: Threads + Wait + Clock + Copy + Drop + Send + 'static>(
     rt: R,
     alloc: Global,
@@ -78,7 +78,7 @@ fn micros<R: Threads + Wait + Clock + Copy + Drop + Send + 'static>(
     Ok(start_time.elapsed(&rt)?.as_micros())
 }
 
-// The numbers of senders and inputs that were asked for.
+/// The numbers of senders and inputs that were asked for.
 fn asked(rt: &HostRuntime) -> Result<Option<(u64, u64)>, Fail> {
     let mut words = env::args(rt)?;
     words.next();

@@ -13,10 +13,10 @@ use update_encoder::Answer;
 
 pub const NAMES: [&str; 2] = ["answer-tile", "put-cut-answer-tile"];
 
-// The bytes of a rectangle of one tile in Raw, in the host's format: its head, and four bytes a pixel.
+/// The bytes of a rectangle of one tile in Raw, in the host's format: its header, and four bytes a pixel.
 const TILE_BYTES: usize = 12 + 16 * 16 * 4;
 
-// Room for the pixel values of a run, and for one rectangle.
+/// Room for the pixel values of a run, and for one rectangle.
 #[derive(Drop)]
 struct Piece {
     values: Vec<u32>,
@@ -32,7 +32,7 @@ impl Piece {
         Ok(Piece { values, out })
     }
 
-    // Writes each rectangle of an answer over the one before, and answers how many bytes they have.
+    /// Writes each rectangle of an answer over the one before, and answers how many bytes they have.
     fn write(&mut self, cut: &Cut) -> usize
         requires { (cut.now.width ≡ 1920) × (cut.now.height ≡ 1080) }
     {
@@ -50,7 +50,7 @@ impl Piece {
     }
 }
 
-// The time of the answer, and that of a put of one tile, its cut and its answer together, if each was had.
+/// The time of the answer, and that of a put of one tile, its cut and its answer together, if each was had.
 fn once<P: Puts, S: ScreenSource, R: Clock>(
     rt: &R,
     alloc: Global,

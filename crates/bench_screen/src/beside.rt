@@ -17,7 +17,7 @@ pub const NAMES: [&str; 5] = [
     "put-beside-cuts-longest",
 ];
 
-// The time of so many looks of each source, each in a thread.
+/// The time of this many looks of each source, each in a thread.
 fn looks_of<S: ScreenSource + Send, R: Threads + Clock + Sync>(
     rt: &R,
     sources: &mut [S],
@@ -34,7 +34,7 @@ fn looks_of<S: ScreenSource + Send, R: Threads + Clock + Sync>(
     Some(start.elapsed(rt).ok()?.as_nanos())
 }
 
-// So many cuts of the whole screen. Whether each was had.
+/// This many cuts of the whole screen. Whether each was had.
 fn cut_often<S: ScreenSource, R: Clock>(rt: &R, alloc: Global, source: &mut S, count: u64) -> bool
     requires { (S.width source.old ≡ 1920) × (S.height source.old ≡ 1080) }
 {
@@ -48,7 +48,7 @@ fn cut_often<S: ScreenSource, R: Clock>(rt: &R, alloc: Global, source: &mut S, c
     right
 }
 
-// The mean and the longest time of so many puts of one tile.
+/// The mean and the longest time of this many puts of one tile.
 fn put_often<P: Puts, R: Clock>(
     rt: &R,
     alloc: Global,

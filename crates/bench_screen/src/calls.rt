@@ -19,7 +19,7 @@ pub const NAMES: [&str; 8] = [
     "loads-1000",
 ];
 
-// The time of a thousand looks.
+/// The time of a thousand looks.
 fn looks<S: ScreenSource, R: Clock>(rt: &R, source: &mut S) -> Option<u128>
     requires { (S.width source.old ≡ 1920) × (S.height source.old ≡ 1080) }
     ensures { (S.width source.new ≡ 1920) × (S.height source.new ≡ 1080) }
@@ -29,7 +29,7 @@ fn looks<S: ScreenSource, R: Clock>(rt: &R, source: &mut S) -> Option<u128>
     Some(start.elapsed(rt).ok()?.as_nanos())
 }
 
-/// So many looks.
+/// This many looks.
 pub fn look_often<S: ScreenSource>(source: &mut S, count: u64)
     ensures { (S.width source.new ≡ S.width source.old) × (S.height source.new ≡ S.height source.old) }
 {
@@ -38,7 +38,7 @@ pub fn look_often<S: ScreenSource>(source: &mut S, count: u64)
     }
 }
 
-// The time of a thousand loads of an atomic word.
+/// The time of a thousand loads of an atomic word.
 fn loads<R: Clock>(rt: &R, word: &AtomicU64) -> Option<u128> {
     let mut sum = 0u64;
     let start = Instant::now(rt).ok()?;
@@ -49,7 +49,7 @@ fn loads<R: Clock>(rt: &R, word: &AtomicU64) -> Option<u128> {
     if sum == 0 { Some(time) } else { None }
 }
 
-// The times of puts, in the order of the names.
+/// The times of puts, in the order of the names.
 fn puts_once<P: Puts, R: Clock>(
     rt: &R,
     alloc: Global,
@@ -67,7 +67,7 @@ fn puts_once<P: Puts, R: Clock>(
     Some(())
 }
 
-// The times of cuts of the screen, of one tile, and of none.
+/// The times of cuts of the screen, of one tile, and of none.
 fn cuts_once<P: Puts, S: ScreenSource, R: Clock>(
     rt: &R,
     alloc: Global,

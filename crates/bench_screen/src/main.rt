@@ -19,7 +19,7 @@ use std::thread::Threads;
 use std::time::Clock;
 use tally_word::{Naming, Opened};
 
-/// So many watchers may look at once.
+/// This many watchers may look at once.
 const PLACES: usize = 16;
 
 fn run<J: Naming + Send + Sync, R: Threads + Wait + Clock + Sync + Send + Copy + Drop>(
@@ -54,7 +54,7 @@ fn run<J: Naming + Send + Sync, R: Threads + Wait + Clock + Sync + Send + Copy +
     Ok((alone, answered, both))
 }
 
-// The numbers of rounds and looks that were asked for.
+/// The numbers of rounds and looks that were asked for.
 fn asked(rt: &HostRuntime) -> Result<Option<(u64, u64)>, Fail> {
     let mut words = env::args(rt)?;
     words.next();

@@ -2,4 +2,4 @@ use Rattle.host_decoder.specs.Decoder.{IsFor}
 use Rattle.bench_host.proofs.read_messages.Given as goal
 
 abbrev pub invariant-loop : goal.invariant-loop
-invariant-loop l = IsFor l.decoder l.painter
+invariant-loop l = IsFor l.screen.decoder l.screen.painter
