@@ -1,8 +1,8 @@
 #!/usr/bin/env python3
-"""Asks servers of libvncserver (libvncserver_host.c) for four pictures in Raw, RRE and Hextile, in each of five pixel formats,
-and writes what they sent in RRE and Hextile, with what they sent in Raw for the same positions, as records for reading: the
-form of make_rectangles.py. Where a rectangle ends is told by rfb_codecs.py; what its pixels are
-is told by the server alone, and rfb_codecs.py has to find the same.
+"""Asks servers of libvncserver (libvncserver_host.c) for four pictures in Raw, RRE and Hextile, in each of five pixel
+formats, and writes what they sent in RRE and Hextile, with what they sent in Raw for the same positions, as records for
+reading: the form of make_rectangles.py. Where a rectangle ends is told by rfb_codecs.py; what its pixels are is told by
+the server alone, and rfb_codecs.py has to find the same.
 
 usage: ask_libvncserver.py PROGRAM FILE      PROGRAM: libvncserver_host, built by
        gcc -o libvncserver_host libvncserver_host.c -lvncserver   (Debian: libvncserver-dev)"""

@@ -1,6 +1,7 @@
-/* A VNC server of libvncserver (Debian's libvncserver-dev) that shows one of four pictures and serves until it is killed.
-
-   usage: libvncserver_host PORT PICTURE      PICTURE: 0 flat with boxes, 1 lines of text, 2 a gradient, 3 noise */
+/* A VNC server of libvncserver (Debian's libvncserver-dev) that shows one of four pictures and serves until it is
+ * killed.
+ *
+ * usage: libvncserver_host PORT PICTURE      PICTURE: 0 flat with boxes, 1 lines of text, 2 a gradient, 3 noise */
 #include <rfb/rfb.h>
 #include <stdint.h>
 #include <stdlib.h>

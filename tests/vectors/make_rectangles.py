@@ -1,9 +1,9 @@
 #!/usr/bin/env python3
 """Writes crates/codec_trial/data/rectangles: generated rectangles, spelled by rfb_codecs.py.
 
-Each record is, with numbers most significant byte first: the encoding (1 byte); the pixel format (16 bytes, RFC 6143, 7.4);
-width and height (2 bytes each); what a writer has to answer (1 byte: 0 the rectangle is for reading alone, 1 exactly this
-data, 2 nothing, since Raw is as short); the length of the data (4 bytes); the data; the pixels in Raw.
+Each record is, with numbers most significant byte first: the encoding (1 byte); the pixel format (16 bytes, RFC 6143,
+7.4); width and height (2 bytes each); what a writer has to answer (1 byte: 0 the rectangle is for reading alone, 1
+exactly this data, 2 nothing, since Raw is as short); the length of the data (4 bytes); the data; the pixels in Raw.
 
 usage: make_rectangles.py FILE"""
 import random

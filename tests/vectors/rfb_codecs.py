@@ -1,7 +1,7 @@
 """RRE and Hextile of RFC 6143 (7.7.3, 7.7.4), read and written, from the text of the RFC alone.
 
-It shares no code with the crates. Grids are lists of pixel values, row after row. `read` takes any spelling; `write` gives
-the one spelling that docs/PROTOCOL.md ("Encodings") tells of the RFC's many, or None where Raw has no more bytes.
+It shares no code with the crates. Grids are lists of pixel values, row after row. `read` takes any spelling; `write`
+gives the one spelling that docs/PROTOCOL.md ("Encodings") tells of the RFC's many, or None where Raw has no more bytes.
 """
 import struct
 

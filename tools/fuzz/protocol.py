@@ -1,7 +1,7 @@
 """What RFC 6143 and docs/PROTOCOL.md say of each side's bytes, in the plainest form: whole streams, no pieces.
 
-Each reader here takes a whole stream and answers a Reading: what it says of it, the fault with which it ends (0 for none),
-and at how many bytes it ends: behind the byte that shows the fault, or behind all that it uses.
+Each reader here takes a whole stream and answers a Reading: what it says of it, the fault with which it ends (0 for
+none), and at how many bytes it ends: after the byte that shows the fault, or after all that it uses.
 """
 
 import struct
@@ -335,9 +335,10 @@ def host(data, width, height):
     """The host's messages, and the screen after the whole ones."""
 
     def body(stream, reading):
-        reading.screen = Grid(width, height)
+        reading.screen, reading.begun = Grid(width, height), 0
         while stream.at < len(data):
             message, reading.screen = host_message(stream, reading.screen)
             reading.said.append(message)
+            reading.begun = stream.at
 
     return read(data, body)

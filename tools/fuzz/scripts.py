@@ -1,7 +1,7 @@
 """Random scripts for `reflectord replay`, and what they have to print.
 
-What a viewer's turn prints is followed as a viewer would: it has to be the rectangles that are due, and after them the area
-that was asked for has to show the host's screen in the viewer's pixel format.
+What a viewer's turn prints is followed as a viewer would: it has to be the rectangles that are due, and after them the
+area that was asked for has to show the host's screen in the viewer's pixel format.
 """
 
 import re
