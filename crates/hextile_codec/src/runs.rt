@@ -22,6 +22,9 @@ pub const TILE_AREA: usize = (TILE_SIDE * TILE_SIDE) as usize;
 /// This many runs in the first rows of a tile are a reason to count them all.
 const CROWDED: usize = 8;
 
+/// With this many runs in its first four rows of 16 a tile is left to a search row by row, which counts first.
+const DENSE: usize = 48;
+
 /// A run: `len` pixels of one value, from column `x` of row `y` of its tile on.
 #[derive(Clone, Copy, Default)]
 pub struct Run {
@@ -101,7 +104,8 @@ fn add_marked(values: &[u32], w: usize, tile: &Rect, y: usize, marks: Marks, run
     }
 }
 
-/// Finds the runs of a whole tile by the marks of its rows, where there are fewer than `enough`.
+/// Finds the runs of a whole tile by the marks of its rows, where there are fewer than `enough`, and its first rows
+/// aren't dense.
 fn find_marked(
     values: &[u32],
     w: usize,
@@ -117,6 +121,9 @@ fn find_marked(
     ensures { IsTrue result → map subrect_of found.new.items ≡ runs (part_of tile.now (value_at w values.now)) 16 16 }
 {
     let first = mark_rows(values, w, tile, 0, background);
+    if first.count() >= DENSE {
+        return false;
+    }
     let second = mark_rows(values, w, tile, 4, background);
     let third = mark_rows(values, w, tile, 8, background);
     let fourth = mark_rows(values, w, tile, 12, background);
