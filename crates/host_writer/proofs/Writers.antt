@@ -15,7 +15,7 @@ use Rattle.input_relay.specs.declared.queue.Message.{Message}
 use Rattle.host_writer.specs.declared.give.Halt.{Halt}
 use Rattle.host_writer.specs.declared.give.Halt.TheVariants as halt
 use Rattle.host_writer.specs.Halting.{HaltsAt, IsWhy}
-use Rattle.host_writer.specs.Writing.{IsJudged, TellsInput, Tells, HaltsTelling, Did, Took, Saw, Looked, Writes, EndsWriting, answer_at, whole_request, taken_in, taken_from, all_taken, is_told, told, risen_to, says, said}
+use Rattle.host_writer.specs.Writing.{IsJudged, TellsInput, Tells, HaltsTelling, Did, Took, Saw, Looked, Writes, EndsWriting, answer_at, whole_request, taken_in, taken_from, all_taken, is_told, told, risen_to, says, said, last_said}
 
 -- What a link is once these bytes were given.
 abbrev pub with_given : LinkState → List ℕ → LinkState
@@ -81,11 +81,13 @@ taken_more before m ds = ap (λ ts. before ++ ts) (map-append taken_from (taken_
 pub record IsWriting {S : Type 0} (looks : S → ℕ → S → Type 0) (source_old source_new : S) (taken_old taken_new : List Message) (strokes_old strokes_new : StrokesKept) (w h asked : ℕ) (old new : LinkState) : Type 0 where
   pub did : List Did
   pub given : List ℕ
+  pub last : List ℕ
   pub inputs : taken_new ≡ taken_old ++ taken_in did
   pub strokes : (before : List Taken) → StrokesStand strokes_old before → StrokesStand strokes_new (all_taken before did)
   pub looked : Looked looks source_old did source_new
   pub state : new ≡ with_given old given
   pub all : (before : List Taken) → StrokesStand strokes_old before → given ≡ said before w h did
+  pub lasts : (before : List Taken) → StrokesStand strokes_old before → last ≡ last_said before w h did
   pub risen : asked ≡ risen_to did
 
 pub writing_begins : {S : Type 0} (looks : S → ℕ → S → Type 0) (source : S) (taken : List Message) (strokes : StrokesKept) (w h : ℕ) (link : LinkState) → IsWriting looks source source taken taken strokes strokes w h 0 link link
@@ -93,11 +95,13 @@ writing_begins looks source taken strokes w h link =
     record {
       did = [];
       given = [];
+      last = [];
       inputs = sym (append-nil taken);
       strokes = λ before s. subst (λ ts. StrokesStand strokes ts) (sym (append-nil before)) s;
       looked = refl;
       state = given_none link;
       all = λ before s. refl;
+      lasts = λ before s. refl;
       risen = refl;
     }
 
@@ -106,13 +110,16 @@ pub writing_ends : {S : Type 0} {was_set : Type 0} (looks : S → ℕ → S → 
 writing_ends looks a b t u p q w h asked old new set k =
     record {
       did = k.did;
+      all = k.given;
+      last = k.last;
       left = [];
       inputs = k.inputs;
       strokes = k.strokes;
       looked = k.looked;
-      given = λ before s. append-nil new.given ∙ (ap (λ (l : LinkState). l.given) k.state ∙ ap (λ x. old.given ++ x) (k.all before s));
+      said = λ before s. (k.all before s, k.lasts before s);
+      given = append-nil new.given ∙ ap (λ (l : LinkState). l.given) k.state;
       taken = ap (λ (l : LinkState). l.taken) k.state;
-      ends = λ before s. inl (set, ap (λ (l : LinkState). l.failed) k.state, ap (λ (l : LinkState). l.ended) k.state, omega arith);
+      ends = inl (set, ap (λ (l : LinkState). l.failed) k.state, ap (λ (l : LinkState). l.ended) k.state, omega arith);
     }
 
 -- One thing more was done, and what it says was given.
@@ -133,13 +140,16 @@ halts_by : {S : Type 0} {was_set : Type 0} (looks : S → ℕ → S → Type 0) 
 halts_by {was_set = was_set} looks a b t u p q w h d ds x old now new given bytes inputs strokes looked state all last k =
     record {
       did = d ∷ ds;
+      all = given ++ bytes;
+      last = bytes;
       left = k.left;
       inputs = inputs;
       strokes = strokes;
       looked = looked;
-      given = λ before s. k.given ∙ (ap (λ (l : LinkState). l.given ++ bytes) state ∙ (append_assoc old.given given bytes ∙ ap (λ z. old.given ++ z) (ap (λ z. z ++ bytes) (all before s) ∙ ap (λ z. said before w h ds ++ z) (last before s))));
+      said = λ before s. (ap (λ z. z ++ bytes) (all before s) ∙ ap (λ z. said before w h ds ++ z) (last before s), last before s);
+      given = k.given ∙ (ap (λ (l : LinkState). l.given ++ bytes) state ∙ append_assoc old.given given bytes);
       taken = k.taken ∙ ap (λ (l : LinkState). l.taken) state;
-      ends = λ before s. subst (λ z. EndsWriting was_set (answer_at x) old new k.left z) (last before s) (ends_by was_set x old now new k.left bytes (ap (λ (l : LinkState). l.failed) state) (ap (λ (l : LinkState). l.ended) state) k.why);
+      ends = ends_by was_set x old now new k.left bytes (ap (λ (l : LinkState). l.failed) state) (ap (λ (l : LinkState). l.ended) state) k.why;
     }
 
 -- What is said of an input that passes or doesn't.
@@ -175,11 +185,13 @@ writing_took looks a b t u v p q r w h asked old now new k e =
     record {
       did = Took e.message ∷ k.did;
       given = k.given ++ e.bytes;
+      last = e.bytes;
       inputs = took_more t u v e.message k.did k.inputs e.took;
       strokes = judged_stands looks a b t u p q r e.message e.bytes w h asked old now k e.judged;
       looked = k.looked;
       state = says_on old now new k.given e.bytes k.state e.state;
       all = λ before s. said_on (said before w h k.did) (says before w h (Took e.message) k.did) k.given e.bytes (k.all before s) (judged_says looks a b t u p q r e.message e.bytes w h asked old now k e.judged before s);
+      lasts = judged_says looks a b t u p q r e.message e.bytes w h asked old now k e.judged;
       risen = k.risen;
     }
 
@@ -188,7 +200,7 @@ pub writing_told : {S : Type 0} (looks : S → ℕ → S → Type 0) (a b : S) (
     → Tells was_taken u v q r now new → IsWriting looks a b t v p r w h asked old new
 writing_told looks a b t u v p q r w h asked true old now new k e = writing_took looks a b t u v p q r w h asked old now new k e
 writing_told looks a b t u v p q r w h asked false old now new k e =
-    record { did = k.did; given = k.given; inputs = e.0 ∙ k.inputs; strokes = λ before s. rw e.1 (k.strokes before s); looked = k.looked; state = e.2 ∙ k.state; all = k.all; risen = k.risen }
+    record { did = k.did; given = k.given; last = k.last; inputs = e.0 ∙ k.inputs; strokes = λ before s. rw e.1 (k.strokes before s); looked = k.looked; state = e.2 ∙ k.state; all = k.all; lasts = k.lasts; risen = k.risen }
 
 pub halts_telling : {S : Type 0} {was_set : Type 0} (looks : S → ℕ → S → Type 0) (a b : S) (t u v : List Message) (p q r : StrokesKept) (w h asked : ℕ) (x : Halt) (old now new : LinkState) → IsWriting looks a b t u p q w h asked old now
     → HaltsTelling was_set x u v q r now new → Writes looks was_set a b t v p r w h (answer_at x) old new
@@ -213,11 +225,13 @@ writing_saw looks a b c t u p q w h asked looked old now k l le =
     record {
       did = Saw looked ∷ k.did;
       given = k.given;
+      last = [];
       inputs = k.inputs;
       strokes = k.strokes;
       looked = (b, k.looked, l);
       state = k.state;
       all = λ before s. k.all before s ∙ sym (ap (λ x. said before w h k.did ++ x) (says_for before w h asked looked k.did false k.risen (isnt_less asked looked le)) ∙ append-nil (said before w h k.did));
+      lasts = λ before s. sym (says_for before w h asked looked k.did false k.risen (isnt_less asked looked le));
       risen = omega (arith, k.risen, le);
     }
 
@@ -228,11 +242,13 @@ writing_asked looks a b c t u p q w h asked looked request old now new k l lt r 
     record {
       did = Saw looked ∷ k.did;
       given = k.given ++ request;
+      last = request;
       inputs = k.inputs;
       strokes = k.strokes;
       looked = (b, k.looked, l);
       state = says_on old now new k.given request k.state e;
       all = λ before s. said_on (said before w h k.did) (says before w h (Saw looked) k.did) k.given request (k.all before s) (r ∙ sym (says_for before w h asked looked k.did true k.risen (is_less asked looked lt)));
+      lasts = λ before s. r ∙ sym (says_for before w h asked looked k.did true k.risen (is_less asked looked lt));
       risen = omega (arith, k.risen, lt);
     }
 

@@ -91,17 +91,20 @@ answer_at halt.Before = Ok tt
 answer_at halt.Inside = Err LinkEnded
 answer_at halt.Failed = Err LinkFailed
 
--- The host was given what the writer says, but for the end of what it said last. Where the strokes stood for the inputs
--- taken before, they stand for all that were taken.
+-- The host was given all that the writer says, but for the end of what it said last. Where the strokes stood for the
+-- inputs taken before, they stand for all that were taken, and what is said is told by these.
 pub record Writes {S : Type 0} (looks : S → ℕ → S → Type 0) (was_set : Type 0) (source_old source_new : S) (taken_old taken_new : List Message) (strokes_old strokes_new : StrokesKept) (w h : ℕ) (answer : Result (Unit {0}) Fault) (old new : LinkState) : Type 0 where
   pub did : List Did
+  pub all : List ℕ
+  pub last : List ℕ
   pub left : List ℕ
   pub inputs : taken_new ≡ taken_old ++ taken_in did
   pub strokes : (before : List Taken) → StrokesStand strokes_old before → StrokesStand strokes_new (all_taken before did)
   pub looked : Looked looks source_old did source_new
-  pub given : (before : List Taken) → StrokesStand strokes_old before → new.given ++ left ≡ old.given ++ said before w h did
+  pub said : (before : List Taken) → StrokesStand strokes_old before → (all ≡ said before w h did) × (last ≡ last_said before w h did)
+  pub given : new.given ++ left ≡ old.given ++ all
   pub taken : new.taken ≡ old.taken
-  pub ends : (before : List Taken) → StrokesStand strokes_old before → EndsWriting was_set answer old new left (last_said before w h did)
+  pub ends : EndsWriting was_set answer old new left last
 
 -- ---- on the way
 
