@@ -143,14 +143,14 @@ def find_program(named):
 class Reflector:
     """A reflectord that serves the host at 127.0.0.1:host."""
 
-    def __init__(self, program, host, full_places=32, view_places=32):
+    def __init__(self, program, host, full_places=32, view_places=32, more=()):
         self.full, self.view = free_port(), free_port()
         self.room = tempfile.TemporaryDirectory(prefix="reflectord-")
         self.log = pathlib.Path(self.room.name) / "log"
         with open(self.log, "wb") as said:
             self.child = start(
                 [program, "serve", "--host", f"127.0.0.1:{host}", "--full", self.full, "--view", self.view]
-                + ["--full-places", full_places, "--view-places", view_places, "--log"],
+                + ["--full-places", full_places, "--view-places", view_places, "--log", *more],
                 said,
             )
         self.pid = self.child.pid

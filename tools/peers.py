@@ -145,10 +145,13 @@ class XHost:
 
     spot = (300, 220)
 
-    def __init__(self, room):
-        self.room, self.port = room, loopback.free_port()
+    def __init__(self, room, port=None, is_bare=False):
+        self.room, self.port = room, port or loopback.free_port()
+        before = list(loopback.children)
         self.display = self.start()
-        self.furnish()
+        if not is_bare:
+            self.furnish()
+        self.children = [child for child in loopback.children if child not in before]
         if not loopback.wait_until(lambda: loopback.is_open(self.port), 20):
             raise RuntimeError(f"{self.name} doesn't listen")
 
@@ -165,6 +168,10 @@ class XHost:
         loopback.start(["xeyes", "-geometry", "+20+430"], **more)
         xdotool(self.display, "mousemove", 600, 60)
         loopback.wait_until(lambda: False, 2.0)
+
+    def end(self):
+        for child in self.children:
+            loopback.end(child, 0.5)
 
     def picture(self):
         return from_x(self.display)
