@@ -4,8 +4,8 @@
  * desktop of letters in several inks, and a photo, of which most tiles come as Raw; in RRE, the text and the desktop.
  * Then a page that scrolls: a CopyRect of all rows but the first 16 to the top, and 16 rows of random pixels in Raw
  * below. It comes in pieces. Both sides draw each byte on the screen as it comes. At an update's end ours makes the
- * patch of the touched tiles. So that reading is timed alone, an update has the rectangle once, and three times, and
- * half of what the latter takes longer counts, on both sides (of the page that scrolls 21 times, and a twentieth).
+ * patch of the touched tiles. So that reading is timed alone, an update has the rectangle once, and nine times, and an
+ * eighth of what the latter takes longer counts, on both sides (of the page that scrolls 21 times, and a twentieth).
  * After that a whole update is timed with its patch, for which the decoder in C copies each tile of the screen into
  * new memory. All are timed in turn, many rounds, and the best of each counts. */
 #include <malloc.h>
@@ -20,7 +20,7 @@
 bool bench_host_message(uint32_t width, uint32_t height, const uint8_t *message, size_t length, uint32_t step, uint32_t times,
                         uint32_t *shown, size_t count);
 
-enum { W = 1920, H = 1080, STRIPE = 16, UPDATE_HEAD = 4, RECT_HEAD = 12, TIMES = 2, SCROLLS = 20 };
+enum { W = 1920, H = 1080, STRIPE = 16, UPDATE_HEAD = 4, RECT_HEAD = 12, TIMES = 8, SCROLLS = 20 };
 
 static uint32_t screen[W * H];
 
@@ -427,6 +427,7 @@ int main(int argc, char **argv) {
     printf("| Update | piece | ours | plain C | ratio | memcpy | ratio |\n|---|---|---|---|---|---|---|\n");
     for (size_t m = 0; m < sizeof messages / sizeof *messages; m++) {
         enum Kind kind = messages[m].kind;
+        if (argc > 2 && !strstr(messages[m].name, argv[2])) continue;
         draw(messages[m].picture, page);
         size_t length = put_rectangle(kind, messages[m].picture, rectangle, page);
         Update once = repeated(kind, rectangle, length, 1), more = repeated(kind, rectangle, length, 1 + (kind == SCROLL ? SCROLLS : TIMES));
