@@ -11,15 +11,17 @@ TOP = pathlib.Path(__file__).resolve().parents[2]
 ROOM = 1 << 22
 
 
-def build(folder):
-    """Proves and builds the static library, and links it as a shared one."""
+def build(folder, archive=None):
+    """Links the static library, which is proved and built first unless it is named, as a shared one."""
     crate = TOP / "crates" / "fuzz_streams"
-    subprocess.run(["rt", "lib"], cwd=crate, check=True, stdout=subprocess.DEVNULL)
+    if not archive:
+        subprocess.run(["rt", "lib"], cwd=crate, check=True, stdout=subprocess.DEVNULL)
+        archive = crate / "out" / "libfuzz_streams.a"
     kit = pathlib.Path(shutil.which("rt")).resolve().parents[1]
     shared = pathlib.Path(folder) / "fuzz_streams.so"
     names = ["viewer_hello", "host_hello", "client", "host", "rectangle", "encode"]
     keep = [f"-Wl,-u,fuzz_{name}" for name in names]
-    parts = [crate / "out" / "libfuzz_streams.a", kit / "c" / "liblibc_c.a"]
+    parts = [archive, kit / "c" / "liblibc_c.a"]
     subprocess.run(["gcc", "-O2", "-shared", "-fPIC", "-o", shared, *keep, *parts], check=True)
     return shared
 
@@ -52,7 +54,7 @@ def program():
 
 
 @contextlib.contextmanager
-def built():
-    """The path of the library, which is there until the end of the block."""
+def built(archive=None):
+    """The path of the shared library, which is there until the end of the block."""
     with tempfile.TemporaryDirectory(prefix="fuzz-") as folder:
-        yield build(folder)
+        yield build(folder, archive)

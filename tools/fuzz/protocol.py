@@ -194,6 +194,27 @@ def client(data):
     return read(data, body)
 
 
+MOST_KEYS = 64
+
+
+def allowed(messages):
+    """What a viewer with full control brings to the host of its messages, and the releases where it has gone."""
+    passed, keys, last = [], set(), ("pointer", 0, 0, 0)
+    for message in messages:
+        if message[0] == "key":
+            _, down, key = message
+            if key not in keys and (not down or len(keys) == MOST_KEYS):
+                continue
+            (keys.add if down else keys.discard)(key)
+        elif message[0] == "pointer":
+            last = message
+        elif message[0] != "text":
+            continue
+        passed.append(message)
+    releases = [("key", False, key) for key in sorted(keys)]
+    return passed, releases + ([("pointer", 0, *last[2:])] if last[1] else [])
+
+
 # ---- rectangles (7.7)
 
 

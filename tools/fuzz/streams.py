@@ -86,11 +86,21 @@ def client_message(rng):
     if kind == 3:
         return b"\3" + some_bytes(rng, 9)
     if kind == 4:
-        return b"\4" + some_bytes(rng, 7)
+        key = rng.choice((b"\0\0\0\x61", b"\0\0\xff\xe1", some_bytes(rng, 4)))
+        return b"\4" + rng.choice((b"\0", b"\1", some_bytes(rng, 1))) + some_bytes(rng, 2) + key
     if kind == 5:
-        return b"\5" + some_bytes(rng, 5)
+        return b"\5" + rng.choice((b"\0", b"\1", some_bytes(rng, 1))) + some_bytes(rng, 4)
     length = rng.choice((0, 1, 5, 30)) if rng.random() < 0.999 else rng.choice((65535, 65536, 65537))
     return b"\6\0\0\0" + struct.pack(">I", length) + some_bytes(rng, length)
+
+
+def many_keys(rng):
+    """Presses of more keys than may be held, and releases."""
+    data = b""
+    for number in range(90):
+        down = rng.random() < 0.9
+        data += struct.pack(">BBxxI", 4, down, number if down else rng.randrange(90))
+    return data
 
 
 def client(rng):
