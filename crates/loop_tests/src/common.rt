@@ -34,6 +34,28 @@ impl StopFlag for Flag {
     }
 }
 
+/// A flag that is set once it was asked this often.
+#[derive(Drop)]
+pub(crate) struct SetAfter {
+    calls: u64,
+    asked: AtomicU64,
+}
+
+impl StopFlag for SetAfter {
+    ghost was_set = { λ flag. Unit {0} };
+
+    fn is_set(&self) -> bool {
+        self.asked.fetch_add(1, Ordering::SeqCst) >= self.calls
+    }
+}
+
+pub(crate) fn set_after(calls: u64) -> SetAfter {
+    SetAfter {
+        calls,
+        asked: AtomicU64::new(0),
+    }
+}
+
 /// Counts how often it was rested on.
 #[derive(Drop)]
 pub(crate) struct Rests {

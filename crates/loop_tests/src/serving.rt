@@ -4,7 +4,7 @@ ghost use Rattle.std.specs.Prelude.{◌≡◌, ◌⊎◌};
 ghost use Rattle.pixel_format.specs.declared.fault.Fault.TheVariants.{QueueFull, NumbersOut};
 ghost use Rattle.input_relay.specs.Ends.{inputs_of};
 
-use crate::common::{link_of, make_flag, make_rests, number, red_and_blue};
+use crate::common::{link_of, make_flag, make_rests, number, red_and_blue, set_after};
 use input_relay::{Sender, Taker, relay};
 use link::{Gave, MemoryLink, Took};
 use pixel_format::Fault;
@@ -252,5 +252,47 @@ fn viewer_ends_at_each_call(rt: HostRuntime) -> Result<(), Fail> {
             "call {call}"
         );
     }
+    Ok(())
+}
+
+/// Serves a viewer until a flag is set that is asked this often before. The number of the fault, or 0, and how often it
+/// rested.
+fn serve_until<R: Wait, W: Wait + Drop>(
+    rt: &R,
+    alloc: Global,
+    link: &mut MemoryLink,
+    sink: &mut FullFor<W>,
+    calls: u64,
+) -> Result<(u64, u64), Fail> {
+    let mut screen = red_and_blue(alloc)?;
+    let mut session = Session::ready(alloc, 2, 1, Role::Full)?;
+    let flag = set_after(calls);
+    let rests = make_rests();
+    let answer = run_viewer(rt, link, &mut screen, sink, &mut session, &flag, &rests);
+    Ok((number(answer), rests.count.load(Ordering::SeqCst)))
+}
+
+/// A viewer that says nothing is let go once the flag is set, before its link fails.
+#[test]
+fn silent_viewer_is_let_go(rt: HostRuntime) -> Result<(), Fail> {
+    let mut takes = Vec::from_elem(rt.alloc(), Took::Nothing, 20)?;
+    takes.push(Took::Failed)?;
+    let mut link = link_of(rt.alloc(), &[], takes.as_slice(), &[])?;
+    let (mut sink, _taker) = full_for(rt, rt.alloc(), 0)?;
+    let found = serve_until(&rt, rt.alloc(), &mut link, &mut sink, 5)?;
+    assert!(rt; found == (0, 0));
+    Ok(())
+}
+
+/// Where the sink stays full, a viewer that leaves is waited for until the flag is set; then its input is given up.
+#[test]
+fn full_sink_is_given_up(rt: HostRuntime) -> Result<(), Fail> {
+    let gives: [Gave; 1] = [Gave::Bytes(30)];
+    let mut link = link_of(rt.alloc(), &PRESS_AND_ASK, &[Took::Bytes(18)], &gives)?;
+    let (mut sink, mut taker) = full_for(rt, rt.alloc(), 50)?;
+    let found = serve_until(&rt, rt.alloc(), &mut link, &mut sink, 10)?;
+    assert_eq!(rt; found.0, 0);
+    assert!(rt; found.1 <= 10);
+    assert!(rt; relays(&mut taker, &[[0; 4]]));
     Ok(())
 }

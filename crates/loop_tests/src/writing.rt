@@ -3,7 +3,9 @@
 ghost use Rattle.std.specs.Prelude.{◌≡◌, length, refl};
 ghost use Rattle.std.proofs.Common.{◌∙◌};
 
-use crate::common::{Flag, link_of, make_flag, make_rests, make_strokes, number, red_and_blue};
+use crate::common::{
+    Flag, link_of, make_flag, make_rests, make_strokes, number, red_and_blue, set_after,
+};
 use host_writer::run_writer;
 use input_relay::{Taker, relay};
 use link::{Gave, MemoryLink};
@@ -240,5 +242,30 @@ fn writer_keeps_strokes_whole(rt: HostRuntime) -> Result<(), Fail> {
     assert!(rt; link.given() == STROKE_AND_PRESS.as_slice());
     assert_eq!(rt; strokes.dropped(0), 0);
     assert_eq!(rt; strokes.dropped(1), 2);
+    Ok(())
+}
+
+/// A host that takes three bytes of an input and then nothing isn't waited for once the flag is set.
+#[test]
+fn stalled_host_is_let_go(rt: HostRuntime) -> Result<(), Fail> {
+    let mut taker = relay_with_press(rt, rt.alloc())?;
+    let mut gives = Vec::from_elem(rt.alloc(), Gave::Nothing, 50)?;
+    gives.insert(0, Gave::Bytes(3))?;
+    let mut link = link_of(rt.alloc(), &[], &[], gives.as_slice())?;
+    let mut strokes = make_strokes(rt.alloc())?;
+    let mut screen = red_and_blue(rt.alloc())?;
+    let flag = set_after(10);
+    let rests = make_rests();
+    let answer = run_writer(
+        &rt,
+        &mut link,
+        &mut screen,
+        &mut taker,
+        &mut strokes,
+        &flag,
+        &rests,
+    );
+    assert_eq!(rt; number(answer), 0);
+    assert!(rt; link.given() == &PRESS_AND_REQUEST[..3]);
     Ok(())
 }
