@@ -197,22 +197,44 @@ def client(data):
 MOST_KEYS = 64
 
 
-def allowed(messages):
-    """What a viewer with full control brings to the host of its messages, and the releases where it has gone."""
-    passed, keys, last = [], set(), ("pointer", 0, 0, 0)
-    for message in messages:
+class Strokes:
+    """Which inputs pass: of a viewer none while another has a key or a button down."""
+
+    def __init__(self):
+        self.keys, self.buttons = {}, {}
+
+    def passes(self, viewer, message):
+        others = {*self.keys, *self.buttons} - {viewer}
+        if any(self.keys.get(other) or self.buttons.get(other) for other in others):
+            return False
+        keys = self.keys.setdefault(viewer, set())
         if message[0] == "key":
             _, down, key = message
             if key not in keys and (not down or len(keys) == MOST_KEYS):
-                continue
+                return False
             (keys.add if down else keys.discard)(key)
         elif message[0] == "pointer":
-            last = message
-        elif message[0] != "text":
-            continue
-        passed.append(message)
-    releases = [("key", False, key) for key in sorted(keys)]
-    return passed, releases + ([("pointer", 0, *last[2:])] if last[1] else [])
+            self.buttons[viewer] = message[1]
+        return True
+
+
+def allowed(messages):
+    """What a viewer with full control brings to the host of its messages, and the releases where it has gone."""
+    strokes, inputs = Strokes(), [message for message in messages if message[0] in ("key", "pointer", "text")]
+    passed = [message for message in inputs if strokes.passes(None, message)]
+    releases = [("key", False, key) for key in sorted(strokes.keys.get(None, ()))]
+    places = [message[2:] for message in passed if message[0] == "pointer"]
+    return passed, releases + ([("pointer", 0, *places[-1])] if strokes.buttons.get(None) else [])
+
+
+def spelled(message):
+    """The bytes of an input."""
+    kind, *rest = message
+    if kind == "key":
+        return struct.pack(">BBHI", 4, rest[0], 0, rest[1])
+    if kind == "pointer":
+        return struct.pack(">BBHH", 5, *rest)
+    return b"\6\0\0\0" + struct.pack(">I", len(rest[0])) + rest[0]
 
 
 # ---- rectangles (7.7)

@@ -21,6 +21,8 @@ LINES = [
     ("turn", re.compile(rb"turn " + NUMBER)),
     ("input", re.compile(rb"input")),
     ("leave", re.compile(rb"leave " + NUMBER)),
+    ("dropped", re.compile(rb"dropped " + NUMBER)),
+    ("next", re.compile(rb"next")),
 ]
 SCREEN = re.compile(rb"screen " + NUMBER + rb" " + NUMBER + rb" ([^\n]{1,255})")
 
@@ -55,7 +57,7 @@ def viewer_bytes(rng, width, height):
 
 def script_line(rng, width, height):
     viewer = rng.randint(1, 2)
-    kind = rng.randrange(20)
+    kind = rng.randrange(22)
     if kind < 5:
         data = streams.host_message(rng, width, height)
         data = streams.mutated(rng, data) if rng.random() < 0.05 else data
@@ -68,6 +70,10 @@ def script_line(rng, width, height):
         return [f"turn {viewer}"]
     if kind < 19:
         return ["input"]
+    if kind < 20:
+        return [f"dropped {viewer}"]
+    if kind < 21:
+        return ["next"]
     again = [f"open {viewer} full"] if rng.random() < 0.9 else []
     return [f"leave {viewer}"] + again
 
@@ -92,15 +98,15 @@ def script(rng):
 
 
 class Viewer:
-    def __init__(self, expected, greet, full):
-        self.expected, self.greet, self.full = expected, greet, full
+    def __init__(self, expected, number, greet, full):
+        self.expected, self.number, self.greet, self.full = expected, number, greet, full
         self.data, self.told, self.taken = b"", 0, 0
         self.form, self.kind, self.copy = protocol.HOST_FORMAT, 0, False
         self.area, self.asked = None, False
         self.have = {}
         self.cut = None
         self.held = None
-        self.keys, self.mask, self.place = set(), 0, (0, 0)
+        self.inputs = []
         self.forget()
 
     def forget(self):
@@ -137,7 +143,7 @@ class Viewer:
         elif kind == "ask":
             self.ask(rest[0], *rest[1])
         elif self.full:
-            self.press(kind, rest)
+            self.press(message)
 
     def ask(self, incremental, x, y, w, h):
         width, height = self.expected.size
@@ -154,26 +160,16 @@ class Viewer:
             for tile in self.expected.tiles((x, y, right, low)):
                 self.have.pop(tile, None)
 
-    def press(self, kind, rest):
+    def press(self, message):
         """An input of a viewer with full control."""
-        sent = self.expected.inputs
-        if kind == "pointer":
-            self.mask, self.place = rest[0], (rest[1], rest[2])
-            sent.append(struct.pack(">BBHH", 5, *rest))
-        elif kind == "text":
-            sent.append(b"\6\0\0\0" + struct.pack(">I", len(rest[0])) + rest[0])
-        elif kind == "key":
-            down, key = rest
-            passes = key in self.keys or (down and len(self.keys) < 64)
-            if passes:
-                (self.keys.add if down else self.keys.discard)(key)
-                sent.append(struct.pack(">BBHI", 4, down, 0, key))
+        before, _ = protocol.allowed(self.inputs)
+        self.inputs.append(message)
+        passed, _ = protocol.allowed(self.inputs)
+        self.expected.inputs += [(self.number, input) for input in passed[len(before) :]]
 
     def leave(self):
-        for key in sorted(self.keys):
-            self.expected.inputs.append(struct.pack(">BBHI", 4, 0, 0, key))
-        if self.mask:
-            self.expected.inputs.append(struct.pack(">BBHH", 5, 0, *self.place))
+        _, releases = protocol.allowed(self.inputs)
+        self.expected.inputs += [(self.number, input) for input in releases]
 
     def turn(self, printed):
         """Follows what a turn printed. It answers why that is wrong, or None."""
@@ -258,6 +254,7 @@ class Expected:
         self.screen, self.stamps, self.touched = None, [], {}
         self.put, self.tally, self.bells, self.text = 0, 0, 0, None
         self.viewers, self.inputs = {}, []
+        self.strokes, self.dropped = protocol.Strokes(), {}
 
     # ---- the screen and its tiles
 
@@ -387,7 +384,7 @@ class Expected:
     def play_join(self, how, viewer, role):
         if not is_viewer(viewer) or viewer in self.viewers:
             return False
-        self.viewers[viewer] = Viewer(self, how == b"greet", role == b"full")
+        self.viewers[viewer] = Viewer(self, viewer, how == b"greet", role == b"full")
         return True
 
     def play_viewer(self, viewer, text):
@@ -412,9 +409,30 @@ class Expected:
         return True
 
     def play_input(self):
-        data = b"".join(self.inputs)
+        data = b""
+        for viewer, message in self.inputs:
+            if self.strokes.passes(viewer, message):
+                data += protocol.spelled(message)
+            else:
+                self.dropped[viewer] = self.dropped.get(viewer, 0) + 1
         self.inputs.clear()
         self.prints(b"host: " + (words(data).encode() or b"-"))
+        return True
+
+    def play_dropped(self, viewer):
+        if not is_viewer(viewer):
+            return False
+        self.prints(b"%s: %d dropped" % (viewer, self.dropped.get(viewer, 0)))
+        return True
+
+    def play_next(self):
+        """The next host begins behind a switch to black, unless the one before is at fault."""
+        if self.host_fault:
+            self.prints(b"fault %d" % self.host_fault)
+            return True
+        self.host_data, self.screen = b"", protocol.Grid(*self.size)
+        self.stamps.append("switch")
+        self.touched = dict.fromkeys(self.tiles((0, 0, *self.size)), len(self.stamps))
         return True
 
     def play_leave(self, viewer):
