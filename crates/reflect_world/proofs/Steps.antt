@@ -405,4 +405,4 @@ absent s w v (Part u) is none = inl (absent_for w u v _ is none)
 pub has_each_step : (s : Setup) (es : List Step) → HasEachStep s es
 has_each_step s es before after e split =
     subst (λ (new : World). Adds s before e (play s before) new) (sym (play_from-append s beginning before (e ∷ [])))
-    (record { taken = taken s before e; idle = idle s before e; absent = λ v is none. absent s (play s before) v e is none })
+    (record { taken = taken s before e; idle = idle s before e; absent = λ v is none. absent s (play s before) v e is none; others = λ v apart. other_step s (play s before) v e apart })
