@@ -1,118 +1,154 @@
-//! The thread that reads the host.
+//! The thread that reads the hosts.
 
-ghost use Rattle.std.specs.Prelude.{◌≡◌, IfOk, IfErr};
+ghost use Rattle.std.specs.Prelude.{◌≡◌, ◌<◌, [], map, vec_capacity, IfOk, IfErr};
 ghost use Rattle.pixel_format.specs.declared.fault.Fault.TheVariants.{Memory};
-ghost use Rattle.host_decoder.specs.Decoder.{Decodes, IsFor, host_message};
 ghost use Rattle.raster.specs.Screen.{opening};
-ghost use Rattle.raster.specs.Size.{IsScreenSize};
-ghost use Rattle.reflector.specs.Running.{IsRead};
+ghost use Rattle.host_decoder.specs.Decoder.{Decodes, IsFor, host_message};
+ghost use Rattle.reflector.specs.Running.{HasRun, IsLinkOf, IsOver};
 
-use host_decoder::HostDecoder;
-use host_reader::run_host;
+use crate::handover::Handover;
+use crate::host::Ground;
+use crate::hosts::read_all;
+use crate::supply::Hosts;
+use host_decoder::HostScreen;
 use link::Link;
-use painter::Painter;
 use pixel_format::Fault;
 use reflect_core::Puts;
 use serving::{Bell, Ringing};
 use std::alloc::Global;
+use std::marker::PhantomData;
 use std::snapshot::Snapshot;
-use std::sync::Wait;
+use std::sync::{Arc, Wait};
 use std::thread;
 use std::thread::{Promise, PromisedHandle, Threads};
 
-/// What reading a host came to.
+/// What reading the hosts came to.
 #[derive(Drop)]
-pub(crate) struct HostRead<L: Link, P: Drop> {
+pub(crate) struct HostsRead<L: Link, P: Drop> {
     pub(crate) result: Result<(), Fault>,
-    pub(crate) link: L,
+    pub(crate) links: Vec<L>,
     pub(crate) publisher: P,
 }
 
-/// That the link was read to the end, and what it brought was put to this publisher.
+/// That this link was read to its end, and then those of further hosts in turn, and what they brought was put to this
+/// publisher.
 #[derive(Drop)]
-pub(crate) struct OfHost<L: Link, P: Puts> {
+pub(crate) struct OfHosts<L: Link, H: Hosts<L>, P: Puts> {
     pub(crate) width: u64,
     pub(crate) height: u64,
     pub(crate) link: Snapshot<L>,
     pub(crate) publisher: Snapshot<P>,
+    pub(crate) hosts: PhantomData<H>,
 }
 
-impl<L: Link, P: Puts + Drop> Promise<HostRead<L, P>> for OfHost<L, P> {
-    ghost use Rattle.reflector.specs.Running.{IsRead};
+impl<L: Link, H: Hosts<L>, P: Puts + Drop> Promise<HostsRead<L, P>> for OfHosts<L, H, P> {
+    ghost use Rattle.std.specs.Prelude.{map};
+    ghost use Rattle.reflector.specs.Running.{HasRun, IsLinkOf, IsOver};
 
-    ghost kept_by = { λ promise read. IsRead promise.width promise.height read.result (L.state promise.link.value) (L.state read.link) (P.updates promise.publisher.value) (P.updates read.publisher) };
+    ghost kept_by = { λ promise read. HasRun promise.width promise.height (IsLinkOf L.state H.came) read.result (L.state promise.link.value) (map L.state read.links.items) (P.updates promise.publisher.value) (P.updates read.publisher) × IsOver H.are_out read.result };
 }
 
-/// The thread that reads the host.
-pub(crate) type ReaderHandle<L, P> = PromisedHandle<HostRead<L, P>, OfHost<L, P>>;
+/// The thread that reads the hosts.
+pub(crate) type ReaderHandle<L, H, P> = PromisedHandle<HostsRead<L, P>, OfHosts<L, H, P>>;
 
-/// Reads the host to its end, and rings the bell after each put.
-fn read<L: Link, P: Puts + Drop, B: Bell + Drop, R: Wait>(
+/// What the thread begins with: the first host's link, what reads it, and room for one link.
+#[derive(Drop)]
+struct Begun<L: Link> {
+    ground: Ground,
+    link: L,
+    screen: HostScreen,
+    links: Vec<L>,
+}
+
+/// Reads the hosts, and rings the bell after each put.
+fn read<L: Link, H: Hosts<L>, P: Puts + Drop, B: Bell + Drop, W: Bell + Drop, R: Wait>(
     rt: &R,
-    alloc: Global,
-    mut link: L,
-    mut decoder: HostDecoder,
-    mut painter: Painter,
+    begun: Begun<L>,
+    mut hosts: H,
     publisher: P,
     bell: B,
-) -> HostRead<L, P>
-    requires begins { Decodes decoder painter opening (host_message decoder.width decoder.height) }
-    requires painter { IsFor decoder painter }
-    requires publisher { (P.width publisher ≡ decoder.width) × (P.height publisher ≡ decoder.height) }
-    ensures { IsRead decoder.width decoder.height result.result (L.state link) (L.state result.link) (P.updates publisher) (P.updates result.publisher) }
+    handover: &Handover<L, W>,
+) -> HostsRead<L, P>
+    requires room { (begun.links.items ≡ []) × (0 < vec_capacity begun.links) }
+    requires size { (begun.screen.decoder.width ≡ begun.ground.width) × (begun.screen.decoder.height ≡ begun.ground.height) }
+    requires begins { Decodes begun.screen.decoder begun.screen.painter opening (host_message begun.ground.width begun.ground.height) }
+    requires pair { IsFor begun.screen.decoder begun.screen.painter }
+    requires publisher { (P.width publisher ≡ begun.ground.width) × (P.height publisher ≡ begun.ground.height) }
+    ensures run { HasRun begun.ground.width begun.ground.height (IsLinkOf L.state H.came) result.result (L.state begun.link) (map L.state result.links.items) (P.updates publisher) (P.updates result.publisher) }
+    ensures over { IsOver H.are_out result.result }
 {
+    let Begun {
+        ground,
+        link,
+        screen,
+        mut links,
+    } = begun;
     let mut ringing = Ringing {
         inner: publisher,
         bell,
     };
-    let result = run_host(
+    let result = read_all(
         rt,
-        alloc,
-        &mut link,
-        &mut decoder,
-        &mut painter,
+        &ground,
+        link,
+        screen,
+        &mut hosts,
+        &mut links,
         &mut ringing,
+        handover,
     );
     let Ringing { inner, bell: _ } = ringing;
-    HostRead {
+    HostsRead {
         result,
-        link,
+        links,
         publisher: inner,
     }
 }
 
-/// Starts the thread that reads the host. It fails where memory is refused, or no thread can be made (`Memory`).
-pub(crate) fn start_reader<L, P, B, R>(
+/// Starts the thread that reads the hosts. It fails where memory is refused, or no thread can be made (`Memory`).
+pub(crate) fn start_reader<L, H, P, B, W, R>(
     rt: R,
-    alloc: Global,
-    width: u64,
-    height: u64,
+    ground: Ground,
     link: L,
+    hosts: H,
     publisher: P,
     bell: B,
-) -> Result<ReaderHandle<L, P>, Fault>
+    handover: Arc<Handover<L, W>, Global>,
+) -> Result<ReaderHandle<L, H, P>, Fault>
 where
     L: Link + Send + 'static,
+    H: Hosts<L> + Send + 'static,
     P: Puts + Drop + Send + 'static,
     B: Bell + Drop + Send + 'static,
+    W: Bell + Drop + Send + Sync + 'static,
     R: Threads + Wait + Copy + Drop + Send + 'static,
-    requires size { IsScreenSize width height }
-    requires publisher { (P.width publisher ≡ width) × (P.height publisher ≡ height) }
-    ensures of { IfOk result (λ handle. (handle.promise.width ≡ width) × (handle.promise.height ≡ height) × (handle.promise.link.value ≡ link) × (handle.promise.publisher.value ≡ publisher)) }
+    requires { (P.width publisher ≡ ground.width) × (P.height publisher ≡ ground.height) }
+    ensures of { IfOk result (λ handle. (handle.promise.width ≡ ground.width) × (handle.promise.height ≡ ground.height) × (handle.promise.link.value ≡ link) × (handle.promise.publisher.value ≡ publisher)) }
     ensures err { IfErr result (λ fault. fault ≡ Memory) }
 {
-    let painter = Painter::new(alloc, width, height)?;
-    let decoder = HostDecoder::new(alloc, width, height);
-    let promise = OfHost {
-        width,
-        height,
+    let promise = OfHosts {
+        width: ground.width,
+        height: ground.height,
         link: Snapshot::of(&link),
         publisher: Snapshot::of(&publisher),
+        hosts: PhantomData,
+    };
+    let begun = Begun {
+        ground,
+        link,
+        screen: HostScreen::new(ground.alloc, ground.width, ground.height)?,
+        links: Vec::with_capacity(ground.alloc, 1)?,
     };
     let started = thread::spawn_with(
         &rt,
         promise,
-        move || read(&rt, alloc, link, decoder, painter, publisher, bell),
+        move ||
+            requires room { (begun.links.items ≡ []) × (0 < vec_capacity begun.links) }
+            requires size { (begun.screen.decoder.width ≡ begun.ground.width) × (begun.screen.decoder.height ≡ begun.ground.height) }
+            requires begins { Decodes begun.screen.decoder begun.screen.painter opening (host_message begun.ground.width begun.ground.height) }
+            requires pair { IsFor begun.screen.decoder begun.screen.painter }
+            requires publisher { (P.width publisher ≡ begun.ground.width) × (P.height publisher ≡ begun.ground.height) }
+        { read(&rt, begun, hosts, publisher, bell, &*handover) },
     );
     match started {
         Ok(handle) => Ok(handle),

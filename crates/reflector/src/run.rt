@@ -1,15 +1,18 @@
-//! A run: one host, and its viewers' places.
+//! A run: one host after another, and their viewers' places.
 
 ghost use Rattle.std.specs.Prelude.{◌≡◌, ◌⊎◌, ◌+◌, ◌≤◌, ℕ, [], All, map, length, vec_len, IfOk, IfErr};
 ghost use Rattle.pixel_format.specs.declared.fault.Fault.TheVariants.{Memory, NoPlace};
 ghost use Rattle.raster.specs.Size.{IsScreenSize};
 ghost use Rattle.input_relay.specs.Ends.{fresh, host_of, relay_of, strand_of};
 ghost use Rattle.tally_word.specs.History.{puts_of};
-ghost use Rattle.reflector.specs.Running.{IsRead};
+ghost use Rattle.reflector.specs.Running.{HasRun, IsLinkOf, IsOver};
 
 use crate::crew::Crew;
+use crate::handover::Handover;
+use crate::host::Ground;
 use crate::place::{PlaceHandle, start_place};
-use crate::reader::{HostRead, ReaderHandle, start_reader};
+use crate::reader::{HostsRead, ReaderHandle, start_reader};
+use crate::supply::Hosts;
 use crate::welcome::Welcome;
 use crate::writer::{WriterHandle, start_writer};
 use input_relay::{Sender, Taker, relay};
@@ -28,10 +31,10 @@ use tally_word::{Naming, Opened};
 
 /// What a run leaves.
 pub struct Running<L, P, S, R: Wait + Drop> {
-    /// What reading the host was answered.
+    /// The answer with which the run ended: of reading the last host, or of joining one.
     pub result: Result<(), Fault>,
-    /// The link that the host was read of.
-    pub link: L,
+    /// The link that each host was read of, in turn.
+    pub links: Vec<L>,
     /// The screen, with all that was put.
     pub publisher: P,
     /// What took the viewers' input.
@@ -41,10 +44,10 @@ pub struct Running<L, P, S, R: Wait + Drop> {
 }
 
 /// The threads of a run.
-struct Started<L: Link, P: Puts + Drop, S, R: Wait + Drop> {
+struct Started<L: Link, H: Hosts<L>, P: Puts + Drop, S, R: Wait + Drop> {
     places: Vec<PlaceHandle<S, R>>,
     writer: WriterHandle<R>,
-    reader: ReaderHandle<L, P>,
+    reader: ReaderHandle<L, H, P>,
 }
 
 /// Starts the thread of each place, with the sender of its number.
@@ -78,19 +81,22 @@ where
     Ok(places)
 }
 
-/// Starts all threads: the places', the host's writer's, and last the one that reads the host. Nothing is put before.
-fn start_all<L, P, S, D, B, W, R>(
+/// Starts all threads: the places', the host's writer's, and last the one that reads the hosts. Nothing is put before.
+fn start_all<L, H, P, S, D, B, W, R>(
     crew: &Crew<R, B, W>,
-    links: (L, L),
+    handover: &Arc<Handover<L, W>, Global>,
+    first: L,
     joined: &Joined,
+    hosts: H,
     doors: Vec<(Role, D)>,
     publisher: P,
     mut watchers: Vec<S>,
     senders: Vec<Sender<R>>,
     taker: Taker<R>,
-) -> Result<Started<L, P, S, R>, Fault>
+) -> Result<Started<L, H, P, S, R>, Fault>
 where
     L: Link + Send + 'static,
+    H: Hosts<L> + Send + 'static,
     P: Puts + Drop + Send + 'static,
     S: ScreenSource + Drop + Send + 'static,
     D: Door + Send + 'static,
@@ -103,18 +109,21 @@ where
     requires count { (vec_len doors ≡ vec_len senders) × (vec_len watchers ≡ vec_len senders + 1) }
     ensures places { IfOk result (λ started. map (λ place. place.promise.0.value) started.places.items ≡ senders.items) }
     ensures writer { IfOk result (λ started. started.writer.promise.0.value ≡ taker) }
-    ensures reader { IfOk result (λ started. (started.reader.promise.width ≡ joined.now.w) × (started.reader.promise.height ≡ joined.now.h) × (started.reader.promise.link.value ≡ links.0) × (started.reader.promise.publisher.value ≡ publisher)) }
+    ensures reader { IfOk result (λ started. (started.reader.promise.width ≡ joined.now.w) × (started.reader.promise.height ≡ joined.now.h) × (started.reader.promise.link.value ≡ first) × (started.reader.promise.publisher.value ≡ publisher)) }
     ensures err { IfErr result (λ fault. fault ≡ Memory) }
 {
-    let (read, written) = links;
     let watcher = watchers.remove(0);
     let strokes = Strokes::new(crew.alloc, senders.len() as u64)?;
     let places = start_places(crew, joined, doors, watchers, senders)?;
-    let writer = start_writer(crew, written, watcher, taker, strokes)?;
+    let writer = start_writer(crew, Arc::try_clone(handover)?, watcher, taker, strokes)?;
+    let ground = Ground {
+        alloc: crew.alloc,
+        width: joined.w,
+        height: joined.h,
+    };
     let bell = Arc::try_clone(&crew.everyone)?;
-    let reader = start_reader(
-        crew.rt, crew.alloc, joined.w, joined.h, read, publisher, bell,
-    )?;
+    let handover = Arc::try_clone(handover)?;
+    let reader = start_reader(crew.rt, ground, first, hosts, publisher, bell, handover)?;
     Ok(Started {
         places,
         writer,
@@ -122,18 +131,20 @@ where
     })
 }
 
-/// Waits until the host is read, tells all threads to end, and waits for the host's writer.
-fn end_all<L, P, S, B, W, R>(
+/// Waits until the hosts are read, tells all threads to end, and waits for the hosts' writer.
+fn end_all<L, H, P, S, B, W, R>(
     crew: &Crew<R, B, W>,
-    started: Started<L, P, S, R>,
+    started: Started<L, H, P, S, R>,
 ) -> Running<L, P, S, R>
 where
     L: Link,
+    H: Hosts<L>,
     P: Puts + Drop,
     B: Bell + Drop,
     W: Bell + Drop,
     R: Threads + Wait + Drop,
-    ensures read { IsRead started.reader.promise.width started.reader.promise.height result.result (L.state started.reader.promise.link.value) (L.state result.link) (P.updates started.reader.promise.publisher.value) (P.updates result.publisher) }
+    ensures run { HasRun started.reader.promise.width started.reader.promise.height (IsLinkOf L.state H.came) result.result (L.state started.reader.promise.link.value) (map L.state result.links.items) (P.updates started.reader.promise.publisher.value) (P.updates result.publisher) }
+    ensures over { IsOver H.are_out result.result }
     ensures taker { host_of result.taker ≡ host_of started.writer.promise.0.value }
     ensures places { result.places ≡ started.places }
 {
@@ -142,33 +153,35 @@ where
         writer,
         reader,
     } = started;
-    let HostRead {
+    let HostsRead {
         result,
-        link,
+        links,
         publisher,
     } = reader.join(&crew.rt);
     crew.stop.set();
     let taker = writer.join(&crew.rt);
     Running {
         result,
-        link,
+        links,
         publisher,
         taker,
         places,
     }
 }
 
-/// A run over any screen: its publisher, and a watcher for each place and one for the host's writer.
-fn run_over<L, P, S, D, B, W, R>(
+/// A run over any screen: its publisher, and a watcher for each place and one for the hosts' writer.
+fn run_over<L, H, P, S, D, B, W, R>(
     crew: &Crew<R, B, W>,
     links: (L, L),
     joined: &Joined,
+    hosts: H,
     doors: Vec<(Role, D)>,
     publisher: P,
     watchers: Vec<S>,
 ) -> Result<Running<L, P, S, R>, Fault>
 where
     L: Link + Send + 'static,
+    H: Hosts<L> + Send + 'static,
     P: Puts + Drop + Send + 'static,
     S: ScreenSource + Drop + Send + 'static,
     D: Door + Send + 'static,
@@ -179,41 +192,56 @@ where
     requires publisher { (P.width publisher ≡ joined.now.w) × (P.height publisher ≡ joined.now.h) }
     requires screen { (s : S) → (S.width s ≡ joined.now.w) × (S.height s ≡ joined.now.h) }
     requires doors { (1 ≤ vec_len doors) × (vec_len doors ≤ 64) × (vec_len watchers ≡ vec_len doors + 1) }
-    ensures read { IfOk result (λ run. IsRead joined.now.w joined.now.h run.result (L.state links.0) (L.state run.link) (P.updates publisher) (P.updates run.publisher)) }
+    ensures run { IfOk result (λ run. HasRun joined.now.w joined.now.h (IsLinkOf L.state H.came) run.result (L.state links.0) (map L.state run.links.items) (P.updates publisher) (P.updates run.publisher)) }
+    ensures over { IfOk result (λ run. IsOver H.are_out run.result) }
     ensures places { IfOk result (λ run. map (λ place. strand_of place.promise.0.value) run.places.items ≡ fresh (vec_len doors)) }
     ensures relay { IfOk result (λ run. All (λ place. relay_of place.promise.0.value ≡ host_of run.taker) run.places.items) }
     ensures err { IfErr result (λ fault. fault ≡ Memory) }
 {
+    let (read, written) = links;
     let (senders, taker) = relay(crew.rt, crew.alloc, doors.len() as u64)?;
+    let bell = Arc::try_clone(&crew.writer)?;
+    let handover = Arc::new(crew.alloc, Handover::new(written, bell))?;
     match start_all(
-        crew, links, joined, doors, publisher, watchers, senders, taker,
+        crew, &handover, read, joined, hosts, doors, publisher, watchers, senders, taker,
     ) {
         Ok(started) => Ok(end_all(crew, started)),
         Err(fault) => {
             crew.stop.set();
+            handover.close(&crew.rt);
             Err(fault)
         }
     }
 }
 
-/// Runs a reflector: one host that was joined, over its two links, and the places of its viewers, each behind its door.
+/// Runs a reflector: a first host that was joined, over its two links, then the hosts of a supply in turn, and the places
+/// of their viewers, each behind its door.
 ///
-/// A thread for each place serves one viewer after another, one tells the host what it has to be told, and one reads
-/// it. The call waits until the host is read, tells the others to end, and waits for the one that tells the host. A
-/// place ends once its viewer has left; whoever wants what it gives back joins it.
+/// A thread for each place serves one viewer after another, one tells the hosts what they have to be told, and one reads
+/// them. The call waits until the last host is read, tells the others to end, and waits for the one that tells the
+/// hosts. A place ends once its viewer has left; whoever wants what it gives back joins it.
 ///
-/// `everyone` is rung after each put: whoever waits for news, the host's writer too. `writer_bell` is rung after each
-/// input.
+/// Where a host ended between two messages or inside one, or its link failed, the next one is taken of the supply and
+/// joined over the end that is read. If that has the screen's size the screen turns black, and the host is read as the
+/// first was. If it doesn't the run ends with `BadScreen`. A host that can't be joined is passed over where it has
+/// another version, refuses, offers no type None, ended the handshake as failed, or its link failed or ended. Every
+/// other fault ends the run, and so does the last of the supply, with the last answer.
+///
+/// `everyone` is rung after each put: whoever waits for news, the hosts' writer too. `writer_bell` is rung after each
+/// input. The hosts' writer goes on with each host that is read; what was cut short at the end of one isn't written
+/// again.
 ///
 /// `Memory` where memory is refused or a thread can't be made, `NoPlace` where the shared screen has no place: then
-/// nothing was put, and the threads that were started are told to end and aren't waited for.
-pub fn run_all<J, L, D, B, W, R>(
+/// nothing was put, and the threads that were started are told to end and aren't waited for. Once all threads are there
+/// refused memory is an answer of the run.
+pub fn run_all<J, L, H, D, B, W, R>(
     rt: R,
     alloc: Global,
     history: Opened,
     reader: L,
     writer: L,
     joined: Joined,
+    hosts: H,
     doors: Vec<(Role, D)>,
     everyone: Arc<B, Global>,
     writer_bell: Arc<W, Global>,
@@ -221,6 +249,7 @@ pub fn run_all<J, L, D, B, W, R>(
 where
     J: Naming + Send + Sync + 'static,
     L: Link + Send + 'static,
+    H: Hosts<L> + Send + 'static,
     D: Door + Send + 'static,
     B: Bell + Drop + Send + Sync + 'static,
     W: Bell + Rest + Drop + Send + Sync + 'static,
@@ -228,7 +257,8 @@ where
     requires history { history.seen.book ≡ J.book }
     requires size { IsScreenSize joined.w joined.h × (joined.w ≡ J.width) × (joined.h ≡ J.height) }
     requires doors { (1 ≤ vec_len doors) × (vec_len doors ≤ 64) }
-    ensures read { IfOk result (λ run. IsRead J.width J.height run.result (L.state reader) (L.state run.link) [] (puts_of run.publisher)) }
+    ensures run { IfOk result (λ run. HasRun J.width J.height (IsLinkOf L.state H.came) run.result (L.state reader) (map L.state run.links.items) [] (puts_of run.publisher)) }
+    ensures over { IfOk result (λ run. IsOver H.are_out run.result) }
     ensures places { IfOk result (λ run. map (λ place. strand_of place.promise.0.value) run.places.items ≡ fresh (vec_len doors)) }
     ensures relay { IfOk result (λ run. All (λ place. relay_of place.promise.0.value ≡ host_of run.taker) run.places.items) }
     ensures err { IfErr result (λ fault. (fault ≡ Memory) ⊎ (fault ≡ NoPlace)) }
@@ -249,5 +279,13 @@ where
         joined.h,
         doors.len() + 1,
     )?;
-    run_over(&crew, (reader, writer), &joined, doors, publisher, watchers)
+    run_over(
+        &crew,
+        (reader, writer),
+        &joined,
+        hosts,
+        doors,
+        publisher,
+        watchers,
+    )
 }

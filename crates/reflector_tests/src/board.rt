@@ -15,6 +15,8 @@ pub(crate) struct Board {
     shown: [AtomicU64; 4],
     handed: AtomicU64,
     told: AtomicU64,
+    // The number of the update that turns the screen black.
+    black: u64,
     flaws: AtomicU64,
 }
 
@@ -23,7 +25,7 @@ pub(crate) struct Board {
 pub(crate) enum Gate {
     /// Nothing.
     Open,
-    /// Place 1 was shown this colour, or a later one.
+    /// Place 1 was shown this update, or a later one.
     First(u64),
     /// All four places were.
     All(u64),
@@ -38,7 +40,8 @@ fn at_least(number: &AtomicU64, least: u64) -> bool {
 }
 
 impl Board {
-    pub(crate) fn new(alloc: Global) -> Result<Arc<Board, Global>, Fault> {
+    /// A board of a run in which update n paints colour n, but for one that turns the screen black, whose number this is.
+    pub(crate) fn new(alloc: Global, black: u64) -> Result<Arc<Board, Global>, Fault> {
         let shown = [
             AtomicU64::new(0),
             AtomicU64::new(0),
@@ -49,6 +52,7 @@ impl Board {
             shown,
             handed: AtomicU64::new(0),
             told: AtomicU64::new(0),
+            black,
             flaws: AtomicU64::new(0),
         };
         Ok(Arc::new(alloc, board)?)
@@ -86,7 +90,7 @@ impl Board {
         self.flaws.load(Ordering::SeqCst) == 0
     }
 
-    /// The colour that this place was shown last.
+    /// The update that this place was shown last.
     pub(crate) fn shown(&self, place: usize) -> u64 {
         match self.shown.get(place) {
             Some(shown) => shown.load(Ordering::SeqCst),
@@ -94,13 +98,19 @@ impl Board {
         }
     }
 
-    /// This place was shown this colour. What was shown never goes back.
+    /// This place was shown this colour. What was shown never goes back to an update before.
     pub(crate) fn show(&self, place: usize, colour: u64) {
-        if colour < self.shown(place) {
+        let before = self.shown(place);
+        let number = if colour == 0 && 0 < before {
+            self.black
+        } else {
+            colour
+        };
+        if number < before {
             self.flaw();
         }
         if let Some(shown) = self.shown.get(place) {
-            shown.store(colour, Ordering::SeqCst);
+            shown.store(number, Ordering::SeqCst);
         }
     }
 

@@ -5,6 +5,7 @@ ghost use Rattle.input_relay.specs.Ends.{host_of, relay_of};
 
 use crate::board::Board;
 use crate::host::Host;
+use crate::supply::Following;
 use crate::viewer::{Coming, Viewer};
 use crate::wire::Wire;
 use arrayvec::ArrayVec;
@@ -34,13 +35,31 @@ const ALL: Rect = Rect {
     h: 1,
 };
 
-/// A run: its board, both ends of its host, its doors, and the number of the last update.
+/// How a run is to end: with a fault of this number, or with none, 0; with this many links handed back; and with this
+/// update, its last.
+#[derive(Clone, Copy, Drop)]
+pub(crate) struct End {
+    pub(crate) fault: u64,
+    pub(crate) links: usize,
+    pub(crate) last: u64,
+}
+
+/// A run: its board, both ends of its host, the hosts after it, its doors, and how it is to end.
 pub(crate) struct Course {
     pub(crate) board: Arc<Board, Global>,
     pub(crate) reader: Host,
     pub(crate) writer: Host,
+    pub(crate) others: Following,
     pub(crate) doors: Vec<(Role, Coming<Viewer>)>,
-    pub(crate) last: u64,
+    pub(crate) end: End,
+}
+
+/// The number of a fault, or 0.
+fn number_of(answer: &Result<(), Fault>) -> u64 {
+    match answer {
+        Ok(()) => 0,
+        Err(fault) => fault.number(),
+    }
 }
 
 /// Whether a watcher that meets the publisher cuts the last update, colour n all over.
@@ -60,12 +79,12 @@ fn shows<J: Naming, R: Wait + Drop>(
     Ok(is_last && number == last && cut.colours.len() == 2)
 }
 
-/// Whether the host was read to its end, each place shows the last update, and nothing is left of the input.
+/// Whether the run ended as it is to, each place shows the last update, and nothing is left of the input.
 fn ends<J, L, R>(
     rt: R,
     alloc: Global,
     running: Running<L, Publisher<J, R>, Watcher<J>, R>,
-    last: u64,
+    end: End,
 ) -> Result<bool, Fail>
 where
     J: Naming + Send + Sync + 'static,
@@ -76,16 +95,16 @@ where
 {
     let Running {
         result,
-        link: _,
+        links,
         publisher,
         taker,
         places,
     } = running;
-    let mut is_right = result.is_ok();
+    let mut is_right = number_of(&result) == end.fault && links.len() == end.links;
     let mut senders = Vec::new(alloc);
     for place in places {
         let Place { watcher, sender } = place.join(&rt);
-        is_right = shows(alloc, &publisher, watcher, last)? && is_right;
+        is_right = shows(alloc, &publisher, watcher, end.last)? && is_right;
         senders.push(sender)?;
     }
     let mut settled = settle(senders, taker);
@@ -104,26 +123,28 @@ where
         board,
         reader,
         writer,
+        others,
         doors,
-        last,
+        end,
     } = course;
     let mut name = ArrayVec::new();
     name.push(b'T');
     let joined = Joined { w: 2, h: 1, name };
     let everyone = Arc::new(alloc, NoBell)?;
     let bell = Arc::new(alloc, NoBell)?;
-    let running = run_all::<J, Wire<Host>, Coming<Viewer>, NoBell, NoBell, R>(
+    let running = run_all::<J, Wire<Host>, Following, Coming<Viewer>, NoBell, NoBell, R>(
         rt,
         alloc,
         history,
         Wire::new(reader),
         Wire::new(writer),
         joined,
+        others,
         doors,
         everyone,
         bell,
     )?;
-    let is_right = ends(rt, alloc, running, last)?;
+    let is_right = ends(rt, alloc, running, end)?;
     Ok(is_right && board.is_flawless())
 }
 

@@ -8,9 +8,13 @@ mod board;
 #[cfg(test)]
 mod ends;
 #[cfg(test)]
+mod follows;
+#[cfg(test)]
 mod host;
 #[cfg(test)]
 mod runs;
+#[cfg(test)]
+mod supply;
 #[cfg(test)]
 mod viewer;
 #[cfg(test)]

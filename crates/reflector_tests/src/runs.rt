@@ -3,8 +3,9 @@
 ghost use Rattle.std.specs.Prelude.{◌≡◌, ◌≤◌, vec_len, IfOk};
 
 use crate::board::{Board, Gate};
-use crate::ends::{Course, goes_right};
+use crate::ends::{Course, End, goes_right};
 use crate::host::{Host, Key};
+use crate::supply::Following;
 use crate::viewer::{ASK, Act, Coming, HELLO, Taking, Viewer};
 use roles::Role;
 use std::alloc::Global;
@@ -20,7 +21,7 @@ const PRESS_98: &[u8] = b"\x04\x01\0\0\0\0\0\x62";
 const MANY: u64 = 300;
 
 /// A door through which one viewer comes.
-fn door_of(
+pub(crate) fn door_of(
     alloc: Global,
     board: &Arc<Board, Global>,
     place: usize,
@@ -35,7 +36,11 @@ fn door_of(
 }
 
 /// The host's end that is read, which sends an update at each gate but the last.
-fn reader(alloc: Global, board: &Arc<Board, Global>, gates: &[Gate]) -> Result<Host, Fail> {
+pub(crate) fn reader(
+    alloc: Global,
+    board: &Arc<Board, Global>,
+    gates: &[Gate],
+) -> Result<Host, Fail> {
     Ok(Host::new(
         Arc::try_clone(board)?,
         gates.to_vec(alloc)?,
@@ -45,7 +50,7 @@ fn reader(alloc: Global, board: &Arc<Board, Global>, gates: &[Gate]) -> Result<H
 }
 
 /// The host's end that is told, which takes the first of these key events once the gate is open.
-fn writer(
+pub(crate) fn writer(
     alloc: Global,
     board: &Arc<Board, Global>,
     first: Gate,
@@ -54,12 +59,30 @@ fn writer(
     Ok(Host::new(Arc::try_clone(board)?, Vec::new(alloc), first, wanted))
 }
 
+/// No host but the first.
+fn none(alloc: Global, board: &Arc<Board, Global>) -> Result<Following, Fail> {
+    Ok(Following {
+        board: Arc::try_clone(board)?,
+        hosts: Vec::new(alloc),
+        may_end: true,
+    })
+}
+
+/// The one host ends after this update.
+fn well(last: u64) -> End {
+    End {
+        fault: 0,
+        links: 1,
+        last,
+    }
+}
+
 /// Four viewers that ask until they were shown the third update, of which the second takes in this way, and each later
 /// one in that. The host sends three updates, and ends once all were shown the third.
 fn four(alloc: Global, second: Taking, later: Taking) -> Result<Course, Fail>
     ensures { IfOk result (λ course. vec_len course.doors ≡ 4) }
 {
-    let board = Board::new(alloc)?;
+    let board = Board::new(alloc, 0)?;
     let acts = [Act::Says(HELLO), Act::AsksFor(3)];
     let mut doors = Vec::new(alloc);
     doors.push(door_of(alloc, &board, 0, &acts, Taking::AtOnce)?)?;
@@ -70,9 +93,10 @@ fn four(alloc: Global, second: Taking, later: Taking) -> Result<Course, Fail>
     Ok(Course {
         reader: reader(alloc, &board, &gates)?,
         writer: writer(alloc, &board, Gate::Open, Vec::new(alloc))?,
+        others: none(alloc, &board)?,
         board,
         doors,
-        last: 3,
+        end: well(3),
     })
 }
 
@@ -102,7 +126,7 @@ fn key(number: u8, is_down: bool) -> Key {
 fn much_typed(alloc: Global) -> Result<Course, Fail>
     ensures { IfOk result (λ course. vec_len course.doors ≡ 1) }
 {
-    let board = Board::new(alloc)?;
+    let board = Board::new(alloc, 0)?;
     let acts = [
         Act::Says(HELLO),
         Act::AsksFor(1),
@@ -120,9 +144,10 @@ fn much_typed(alloc: Global) -> Result<Course, Fail>
     Ok(Course {
         reader: reader(alloc, &board, &gates)?,
         writer: writer(alloc, &board, Gate::First(2), wanted)?,
+        others: none(alloc, &board)?,
         board,
         doors,
-        last: 2,
+        end: well(2),
     })
 }
 
@@ -138,7 +163,7 @@ fn full_relay_holds_no_update(rt: HostRuntime) -> Result<(), Fail> {
 fn two_in_turn(alloc: Global) -> Result<Course, Fail>
     ensures { IfOk result (λ course. vec_len course.doors ≡ 1) }
 {
-    let board = Board::new(alloc)?;
+    let board = Board::new(alloc, 0)?;
     let breaks = [Act::Says(HELLO), Act::Says(PRESS_97), Act::AsksFor(1)];
     let ends = [Act::Says(HELLO), Act::Says(PRESS_98), Act::Ends];
     let mut viewers = Vec::new(alloc);
@@ -153,9 +178,10 @@ fn two_in_turn(alloc: Global) -> Result<Course, Fail>
     Ok(Course {
         reader: reader(alloc, &board, &gates)?,
         writer: writer(alloc, &board, Gate::Open, wanted.to_vec(alloc)?)?,
+        others: none(alloc, &board)?,
         board,
         doors,
-        last: 1,
+        end: well(1),
     })
 }
 

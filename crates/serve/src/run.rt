@@ -11,7 +11,7 @@ use crate::trouble::{Stage, Trouble};
 use crate::welcome::{Rooms, bells, start_porter};
 use link::{Link, Rest};
 use pixel_format::Fault;
-use reflector::{Running, run_all};
+use reflector::{NoHosts, Running, run_all};
 use rfb_wire::Joined;
 use roles::Role;
 use serving::{Bell, Door, Event, Log};
@@ -48,12 +48,12 @@ where
     let (reader, writer_end) = ends;
     let Running {
         result,
-        link: _link,
+        links: _links,
         publisher: _publisher,
         taker: _taker,
         places: _places,
-    } = run_all::<J, L, D, B, W, R>(
-        rt, alloc, history, reader, writer_end, joined, doors, everyone, writer,
+    } = run_all::<J, L, NoHosts, D, B, W, R>(
+        rt, alloc, history, reader, writer_end, joined, NoHosts, doors, everyone, writer,
     )?;
     result
 }

@@ -1,0 +1,52 @@
+//! Where further hosts come from.
+
+ghost use Rattle.std.specs.Prelude.{◌≡◌, IfSome, IsNone};
+
+use link::Link;
+use pixel_format::Fault;
+use rfb_wire::Joined;
+
+/// Where the hosts come from that follow on one that has ended. It is asked in the thread that reads the hosts.
+pub trait Hosts<L: Link>: Drop {
+    /// That this is the end to be read of a host's connection, just as it came, which only `next` says. What this means
+    /// is up to each supply.
+    ghost came: { L → Type 0 };
+
+    /// That no host is left, which only `next` says. What this means is up to each supply.
+    ghost are_out: { Self → Type 0 };
+
+    /// The connection to the next host, the end to be read and the end to be written, or `None` where no host is left.
+    /// It may wait without an end. The host is joined over the first of them, so a limit of time for the handshake is
+    /// up to that link.
+    fn next(&mut self) -> Option<(L, L)>
+        ensures came { IfSome result (λ ends. came ends.0) }
+        ensures out { IsNone result → are_out self.new };
+
+    /// A host was joined at the screen's size. It is read from now on, so a limit of time may be lifted.
+    fn joined(&mut self, reader: &mut L, host: &Joined)
+        ensures { L.state reader.new ≡ L.state reader.old };
+
+    /// A host was read, the first one too, and ended so, or it wasn't joined, or its screen has another size.
+    fn left(&mut self, reader: &mut L, why: Result<(), Fault>)
+        ensures { L.state reader.new ≡ L.state reader.old };
+}
+
+/// No further hosts: a run ends with its first one.
+#[derive(Clone, Copy, Drop)]
+pub struct NoHosts;
+
+impl<L: Link> Hosts<L> for NoHosts {
+    ghost use Rattle.std.specs.Prelude.{⊤};
+
+    ghost came = { λ _. ⊤ };
+
+    ghost are_out = { λ _. ⊤ };
+
+    fn next(&mut self) -> Option<(L, L)> {
+        None
+    }
+
+    fn joined(&mut self, _reader: &mut L, _host: &Joined) {}
+
+    fn left(&mut self, _reader: &mut L, _why: Result<(), Fault>) {}
+}
