@@ -3,6 +3,7 @@
 use pixel_format::Fault;
 use roles::Role;
 use std::alloc::Global;
+use std::io::ErrorKind;
 use std::net::SocketAddr;
 use std::sync::Arc;
 use std::time::Duration;
@@ -55,6 +56,11 @@ pub enum Event<'a> {
         address: SocketAddr,
         places: u64,
     },
+    /// A further host was to be connected to, which the system did or, with this error, did not.
+    HostTried {
+        address: SocketAddr,
+        refused: Option<ErrorKind>,
+    },
     /// The host's handshake is done.
     HostJoined {
         address: SocketAddr,
@@ -78,7 +84,7 @@ pub enum Event<'a> {
         role: Role,
         address: Option<SocketAddr>,
     },
-    /// The host has ended, or is at fault.
+    /// The host has ended, or is at fault, or wasn't joined.
     HostOut {
         address: SocketAddr,
         why: Result<(), Fault>,

@@ -6,7 +6,7 @@ use link::{Gave, Link, Took};
 use std::io;
 use std::io::{Read, Write};
 use std::marker::Model;
-use std::net::TcpStream;
+use std::net::{Shutdown, TcpStream};
 use std::time::{Clock, Duration, Instant};
 
 /// The seconds for which one `give` waits for a host that takes nothing.
@@ -18,7 +18,8 @@ const HELLO_SECONDS: u64 = 10;
 /// One end of the host's connection. `take` waits for bytes, and `give` for at most a second.
 #[derive(Drop)]
 pub struct HostLink {
-    stream: TcpStream,
+    /// The connection, until it is closed.
+    stream: Option<TcpStream>,
     account: Account,
 }
 
@@ -57,8 +58,26 @@ impl HostLink {
         ensures { result ≡ unused }
     {
         HostLink {
-            stream,
+            stream: Some(stream),
             account: Account::new(),
+        }
+    }
+
+    /// No `take` lasts longer than this, if there is a limit. It fails where the system refuses the option.
+    fn limit(&self, longest: Option<Duration>) -> io::Result<()> {
+        match &self.stream {
+            Some(stream) => stream.set_read_timeout(longest),
+            None => Ok(()),
+        }
+    }
+
+    /// Closes the connection, both ends of it: the host sees that, and this end has no descriptor any more.
+    fn close(&mut self)
+        ensures { self.new ≡ self.old }
+    {
+        if let Some(stream) = self.stream.take() {
+            // Where the host has gone before, there is nothing to be told.
+            let _ = stream.shutdown(Shutdown::Both);
         }
     }
 }
@@ -67,13 +86,29 @@ impl Link for HostLink {
     ghost state = { λ l. l };
 
     fn take(&mut self, into: &mut [u8]) -> Took {
-        let answer = self.stream.read(into);
-        self.account.take(&answer, into)
+        match &mut self.stream {
+            Some(stream) => {
+                let answer = stream.read(into);
+                self.account.take(&answer, into)
+            }
+            None => {
+                self.account.fail();
+                Took::Failed
+            }
+        }
     }
 
     fn give(&mut self, bytes: &[u8]) -> Gave {
-        let answer = self.stream.write(bytes);
-        self.account.give(&answer, bytes)
+        match &mut self.stream {
+            Some(stream) => {
+                let answer = stream.write(bytes);
+                self.account.give(&answer, bytes)
+            }
+            None => {
+                self.account.fail();
+                Gave::Failed
+            }
+        }
     }
 
     fn failures(&self) -> u64 {
@@ -81,12 +116,13 @@ impl Link for HostLink {
     }
 }
 
-/// The host's link while it is joined: a handshake that isn't done within ten seconds has failed.
+/// The host's link, perhaps while it is joined: then a handshake that isn't done within ten seconds has failed.
 #[derive(Drop)]
 pub struct JoiningLink<R: Clock + Drop> {
     rt: R,
     link: HostLink,
-    opened: Instant,
+    /// When the handshake began, or `None` where there is no limit.
+    opened: Option<Instant>,
 }
 
 impl<R: Clock + Drop> Model for JoiningLink<R> {
@@ -105,25 +141,49 @@ impl<R: Clock + Drop> JoiningLink<R> {
         ensures { IfOk result (λ joining. joining ≡ link) }
     {
         let opened = Instant::now(&rt)?;
-        link.stream
-            .set_read_timeout(Some(Duration::from_secs(PATIENCE_SECONDS)))?;
-        Ok(JoiningLink { rt, link, opened })
+        link.limit(Some(Duration::from_secs(PATIENCE_SECONDS)))?;
+        Ok(JoiningLink {
+            rt,
+            link,
+            opened: Some(opened),
+        })
     }
 
-    /// The link, without a limit from now on. It fails where the system refuses the option.
-    pub fn into_link(self) -> io::Result<HostLink>
-        ensures { IfOk result (λ link. link ≡ self) }
+    /// The same link, without a limit.
+    pub fn without_limit(rt: R, link: HostLink) -> JoiningLink<R>
+        ensures { result ≡ link }
     {
-        let JoiningLink { link, .. } = self;
-        link.stream.set_read_timeout(None)?;
-        Ok(link)
+        JoiningLink {
+            rt,
+            link,
+            opened: None,
+        }
+    }
+
+    /// There is no limit from now on. It fails where the system refuses the option, and then the limit stays.
+    pub fn lift(&mut self) -> io::Result<()>
+        ensures { self.new ≡ self.old }
+    {
+        self.link.limit(None)?;
+        self.opened = None;
+        Ok(())
+    }
+
+    /// Closes the connection, both ends of it: the host sees that, and this end has no descriptor any more.
+    pub fn close(&mut self)
+        ensures { self.new ≡ self.old }
+    {
+        self.link.close();
     }
 
     /// Whether its time is over. A clock that can't be read is late.
     fn is_late(&self) -> bool {
-        match self.opened.elapsed(&self.rt) {
-            Ok(passed) => passed >= Duration::from_secs(HELLO_SECONDS),
-            Err(_) => true,
+        match &self.opened {
+            Some(opened) => match opened.elapsed(&self.rt) {
+                Ok(passed) => passed >= Duration::from_secs(HELLO_SECONDS),
+                Err(_) => true,
+            },
+            None => false,
         }
     }
 }
