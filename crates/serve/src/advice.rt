@@ -56,13 +56,18 @@ fn join_advice(fault: &Fault) -> &'static str {
     }
 }
 
-/// What a fault of a run means.
+/// What a fault of a run means. Those of a handshake are of a host that followed on another.
 fn run_advice(fault: &Fault) -> &'static str {
     match fault {
         Fault::LinkFailed =>
             "the connection to it broke; see whether it and the network are there, and start again",
         Fault::LinkEnded =>
             "it closed the connection inside a message; see the VNC server's own log",
+        Fault::BadScreen =>
+            "its screen has another size than the first host's; start again, and viewers have to connect again",
+        Fault::BadVersion | Fault::HostRefused(_) | Fault::NoNone | Fault::SecurityFailed => {
+            join_advice(fault)
+        }
         Fault::NumbersOut => "the numbers of updates have run out; start again",
         Fault::NoPlace => "no place for a reader of the screen was left; start again",
         _ =>
@@ -94,6 +99,10 @@ impl Display for Advice<'_> {
                 "--host {} is no IP:PORT, such as 192.0.2.7:5900",
                 plan.host
             ),
+            Stage::ReadNext(number) => match plan.next.get(number) {
+                Some(host) => write!(f, "{host} is no IP:PORT, such as 192.0.2.7:5900"),
+                None => Ok(()),
+            },
             Stage::Listen(role) => {
                 let (option, viewers) = options_of(role);
                 let port = port_of(&plan, role);
@@ -113,7 +122,10 @@ impl Display for Advice<'_> {
                 f,
                 "can't start{said}; the system may be short of threads or descriptors"
             ),
-            Stage::Run => write!(f, "the host {}: {fault}: {}", plan.host, run_advice(fault)),
+            Stage::Run if plan.next.is_empty() => {
+                write!(f, "the host {}: {fault}: {}", plan.host, run_advice(fault))
+            }
+            Stage::Run => write!(f, "the last host: {fault}: {}", run_advice(fault)),
         }
     }
 }

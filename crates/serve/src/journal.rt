@@ -145,6 +145,13 @@ impl Display for Line<'_> {
                 "listening role={} address={address} places={places}",
                 Name { role: *role }
             ),
+            Event::HostTried { address, refused } => {
+                write!(f, "host-tried address={address} why=\"")?;
+                match refused {
+                    Some(kind) => write!(f, "{kind}\""),
+                    None => f.write_str("connected\""),
+                }
+            }
             Event::HostJoined {
                 address,
                 name,

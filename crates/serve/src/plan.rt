@@ -8,8 +8,12 @@ use roles::Role;
 /// What `serve` is told.
 #[derive(Clone, Copy, Debug)]
 pub struct Plan<'a> {
-    /// The VNC host, `IP:PORT`.
+    /// The first VNC host, `IP:PORT`.
     pub host: &'a str,
+    /// The hosts that follow on it, `IP:PORT` each, in their order.
+    pub next: &'a [String],
+    /// How many seconds after the last host has ended the first is tried again, or `None` where it isn't.
+    pub again: Option<u64>,
     /// The address that both ports listen on.
     pub bind: &'a str,
     /// The port of viewers with full control.

@@ -7,29 +7,31 @@ ghost use Rattle.serve.specs.Statuses.{HasPlaces};
 use crate::meet::{Met, meet};
 use crate::open::open;
 use crate::plan::Plan;
+use crate::supply::Supply;
 use crate::trouble::{Stage, Trouble};
 use crate::welcome::{Rooms, bells, start_porter};
 use link::{Link, Rest};
 use pixel_format::Fault;
-use reflector::{NoHosts, Running, run_all};
+use reflector::{Hosts, Running, run_all};
 use rfb_wire::Joined;
 use roles::Role;
-use serving::{Bell, Door, Event, Log};
+use serving::{Bell, Door, Log};
 use std::alloc::Global;
 use std::marker::Brand;
-use std::net::{Net, TcpListener, TcpStream};
+use std::net::{Net, SocketAddr, TcpListener, TcpStream};
 use std::sync::{Arc, Wait};
 use std::thread::Threads;
 use std::time::Clock;
 use tally_word::{Naming, Opened};
 
 /// The run over a history that J names.
-fn over<J, L, D, B, W, R>(
+fn over<J, L, H, D, B, W, R>(
     rt: R,
     alloc: Global,
     history: Opened,
     ends: (L, L),
     joined: Joined,
+    hosts: H,
     doors: Vec<(Role, D)>,
     everyone: Arc<B, Global>,
     writer: Arc<W, Global>,
@@ -37,6 +39,7 @@ fn over<J, L, D, B, W, R>(
 where
     J: Naming + Send + Sync + 'static,
     L: Link + Send + 'static,
+    H: Hosts<L> + Send + 'static,
     D: Door + Send + 'static,
     B: Bell + Drop + Send + Sync + 'static,
     W: Bell + Rest + Drop + Send + Sync + 'static,
@@ -52,34 +55,66 @@ where
         publisher: _publisher,
         taker: _taker,
         places: _places,
-    } = run_all::<J, L, NoHosts, D, B, W, R>(
-        rt, alloc, history, reader, writer_end, joined, NoHosts, doors, everyone, writer,
+    } = run_all::<J, L, H, D, B, W, R>(
+        rt, alloc, history, reader, writer_end, joined, hosts, doors, everyone, writer,
     )?;
     result
 }
 
-/// Starts all threads, and waits until the host has ended. It answers what reading the host was answered.
-fn reflect<G, R>(rt: R, alloc: Global, met: Met, rooms: Rooms<R, G>) -> Result<(), Fault>
+/// Starts all threads, and waits until the last host has ended. It answers what reading or joining that was answered.
+fn reflect<G, R>(
+    rt: R,
+    alloc: Global,
+    met: Met<R>,
+    supply: Supply<R, G>,
+    rooms: Rooms<R, G>,
+) -> Result<(), Fault>
 where
     G: Log + Drop + Send + 'static,
-    R: Threads + Wait + Clock + Copy + Drop + Send + 'static,
+    R: Net<Stream = TcpStream, Listener = TcpListener>
+        + Threads
+        + Wait
+        + Clock
+        + Copy
+        + Drop
+        + Send
+        + 'static,
     requires size { IsScreenSize met.joined.w met.joined.h }
     requires doors { (1 ≤ length rooms.doors.items) × (length rooms.doors.items ≤ 64) }
 {
     let (writer, everyone) = bells(alloc, rooms.seats)?;
-    over::<Brand, _, _, _, _, _>(
+    over::<Brand, _, _, _, _, _, _>(
         rt,
         alloc,
         Opened::new(),
         (met.reader, met.writer),
         met.joined,
+        supply,
         rooms.doors,
         everyone,
         writer,
     )
 }
 
-/// Listens, joins the host, and reflects it until it ends. Then the places are waited for, though not for long.
+/// The address of the first host, and those of the others in their order.
+fn addresses(alloc: Global, plan: &Plan<'_>) -> Result<(SocketAddr, Vec<SocketAddr>), Trouble> {
+    let Ok(first) = plan.host.parse::<SocketAddr>() else {
+        return Err(Trouble::new(Stage::ReadHost, Fault::LinkFailed));
+    };
+    let mut further = Vec::new(alloc);
+    for (number, host) in plan.next.iter().enumerate() {
+        let Ok(address) = host.as_str().parse::<SocketAddr>() else {
+            return Err(Trouble::new(Stage::ReadNext(number), Fault::LinkFailed));
+        };
+        if further.push(address).is_err() {
+            return Err(Trouble::new(Stage::Start, Fault::Memory));
+        }
+    }
+    Ok((first, further))
+}
+
+/// Listens, joins the first host, and reflects it and those that follow on it until the last ends. Then the places are
+/// waited for, though not for long.
 pub(crate) fn run<G, R>(rt: R, alloc: Global, plan: &Plan<'_>, log: G) -> Result<(), Trouble>
 where
     G: Log + Drop + Copy + Send + 'static,
@@ -93,21 +128,21 @@ where
         + 'static,
     requires { HasPlaces plan.now }
 {
+    let (first, further) = addresses(alloc, plan)?;
     let full = open(&rt, alloc, plan, Role::Full, &log)?;
     let view = open(&rt, alloc, plan, Role::View, &log)?;
-    let met = meet(rt, plan, &log)?;
+    let met = meet(rt, first, &log)?;
+    let supply = Supply::new(rt, log, first, further, plan.again);
     let mut rooms = Rooms::new(alloc);
     rooms.add_all(rt, alloc, &full, log)?;
     rooms.add_all(rt, alloc, &view, log)?;
     let full = start_porter(rt, alloc, full, log)?;
     let view = start_porter(rt, alloc, view, log)?;
-    let address = met.address;
-    let why = reflect(rt, alloc, met, rooms);
-    log.tell(&Event::HostOut { address, why });
+    let why = reflect(rt, alloc, met, supply, rooms);
     full.close(&rt);
     view.close(&rt);
-    match &why {
+    match why {
         Ok(()) => Ok(()),
-        Err(fault) => Err(Trouble::new(Stage::Run, *fault)),
+        Err(fault) => Err(Trouble::new(Stage::Run, fault)),
     }
 }

@@ -12,8 +12,10 @@ pub(crate) enum Stage {
     ReadBind,
     /// Listening for viewers of a role.
     Listen(Role),
-    /// Reading the host's address.
+    /// Reading the first host's address.
     ReadHost,
+    /// Reading the address of this one of the further hosts.
+    ReadNext(usize),
     /// Connecting to the host.
     Connect,
     /// The handshake with the host.

@@ -1,0 +1,131 @@
+//! The hosts that follow on one that has ended.
+
+ghost use Rattle.std.specs.Prelude.{◌≡◌, ◌≤◌, ⊤, IsNone, None, length};
+ghost use Rattle.serve.specs.Turns.{turn_of};
+
+use crate::meet::connect;
+use crate::turns::Turns;
+use pixel_format::Fault;
+use reflector::Hosts;
+use rfb_wire::Joined;
+use serving::{Event, JoiningLink, Log};
+use std::net::{Net, SocketAddr, TcpListener, TcpStream};
+use std::sync::Wait;
+use std::thread;
+use std::time::{Clock, Duration};
+
+/// The hosts over TCP, in their order. One that can't be reached is passed over, and the log is told of each try.
+#[derive(Drop)]
+pub(crate) struct Supply<
+    R: Net<Stream = TcpStream, Listener = TcpListener> + Wait + Clock + Copy + Drop,
+    G: Log + Drop,
+> {
+    rt: R,
+    log: G,
+    turns: Turns,
+    /// How long after the last host the first has its turn again, or `None` where it hasn't.
+    pause: Option<Duration>,
+    /// The host whose turn it is.
+    present: SocketAddr,
+}
+
+impl<
+    R: Net<Stream = TcpStream, Listener = TcpListener> + Wait + Clock + Copy + Drop,
+    G: Log + Drop,
+> Supply<R, G> {
+    /// The first host has its turn. It has its turn again so many seconds after all the others had theirs, if at all.
+    pub(crate) fn new(
+        rt: R,
+        log: G,
+        first: SocketAddr,
+        further: Vec<SocketAddr>,
+        again: Option<u64>,
+    ) -> Supply<R, G> {
+        let pause = match again {
+            Some(seconds) => Some(Duration::from_secs(seconds)),
+            None => None,
+        };
+        Supply {
+            rt,
+            log,
+            turns: Turns::new(first, further),
+            pause,
+            present: first,
+        }
+    }
+
+    /// Whose turn it is next: that of the first host after a pause. It is nobody's where each host had one, and the
+    /// first is to have no other.
+    fn turn(&mut self) -> Option<SocketAddr>
+        ensures value { result ≡ turn_of self.old.turns self.old.pause }
+        ensures pause { self.new.pause ≡ self.old.pause }
+        ensures out { IsNone result → (self.new.pause ≡ None) × (length self.new.turns.further.items ≤ self.new.turns.done) }
+    {
+        if let Some(address) = self.turns.next() {
+            return Some(address);
+        }
+        let pause = self.pause?;
+        thread::sleep(&self.rt, pause);
+        Some(self.turns.begin_anew())
+    }
+
+    /// Tries to connect to the host whose turn it is, and tells the log.
+    fn reach(&self) -> Option<(JoiningLink<R>, JoiningLink<R>)> {
+        let address = self.present;
+        match connect(self.rt, &address) {
+            Ok(ends) => {
+                self.log.tell(&Event::HostTried {
+                    address,
+                    refused: None,
+                });
+                Some(ends)
+            }
+            Err(error) => {
+                self.log.tell(&Event::HostTried {
+                    address,
+                    refused: Some(error.kind()),
+                });
+                None
+            }
+        }
+    }
+}
+
+impl<
+    R: Net<Stream = TcpStream, Listener = TcpListener> + Wait + Clock + Copy + Drop,
+    G: Log + Drop,
+> Hosts<JoiningLink<R>> for Supply<R, G> {
+    ghost came = { λ _. ⊤ };
+
+    ghost are_out = { λ supply. (supply.pause ≡ None) × (length supply.turns.further.items ≤ supply.turns.done) };
+
+    fn next(&mut self) -> Option<(JoiningLink<R>, JoiningLink<R>)> {
+        let rt = self.rt;
+        for _ in rt.forever() {
+            self.present = self.turn()?;
+            if let Some(ends) = self.reach() {
+                return Some(ends);
+            }
+        }
+        unreachable!()
+    }
+
+    fn joined(&mut self, reader: &mut JoiningLink<R>, host: &Joined) {
+        // Where the system keeps the limit the link fails in time, and the next host has its turn.
+        let _ = reader.lift();
+        self.log.tell(&Event::HostJoined {
+            address: self.present,
+            name: host.name.as_slice(),
+            width: host.w,
+            height: host.h,
+        });
+    }
+
+    fn left(&mut self, reader: &mut JoiningLink<R>, why: Result<(), Fault>) {
+        reader.close();
+        self.log.tell(&Event::HostOut {
+            address: self.present,
+            why,
+        });
+    }
+}
