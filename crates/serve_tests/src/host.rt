@@ -1,7 +1,7 @@
 //! A host of a screen of 2 by 1.
 
 use std::io::{Read, Write};
-use std::net::TcpStream;
+use std::net::{Shutdown, TcpStream};
 use std::sync::atomic::{AtomicU64, Ordering};
 use std::time::{Clock, Duration};
 use std::{io, thread};
@@ -53,6 +53,32 @@ fn is_shown<R: Clock>(rt: &R, shown: &AtomicU64, count: u64) -> bool {
     false
 }
 
+/// Ends the connection between two messages. What the client said meanwhile is read, since the system would call it
+/// broken else.
+fn ends(stream: &mut TcpStream) -> io::Result<()> {
+    let mut rest = [0u8; 64];
+    stream.shutdown(Shutdown::Write)?;
+    for _ in 0..TURNS {
+        if stream.read(&mut rest)? == 0 {
+            break;
+        }
+    }
+    Ok(())
+}
+
+/// Whether the client joins as it has to, and asks anew after each of the updates, each of which was shown. Then the
+/// host ends, and waits until the client has gone.
+pub(crate) fn hosts_well<R: Clock>(
+    rt: &R,
+    stream: &mut TcpStream,
+    updates: &[[u8; 24]],
+    shown: &AtomicU64,
+) -> io::Result<bool> {
+    let is_right = hosts(rt, stream, updates, shown)?;
+    ends(stream)?;
+    Ok(is_right)
+}
+
 /// Whether the client joins as it has to, and asks anew after each of the updates. Each is sent once the one before was
 /// shown. The host ends once all were.
 pub(crate) fn hosts<R: Clock>(
@@ -92,4 +118,23 @@ pub(crate) fn hosts_until<R: Clock>(
     let mut more = [0u8; 1];
     stream.set_nonblocking(true)?;
     Ok(stream.read(&mut more).is_err())
+}
+
+/// Whether the client joins as it has to, and asks anew after each of the updates, each of which was shown. Then the
+/// host sends a message that there isn't, and waits until the client has gone.
+pub(crate) fn hosts_badly<R: Clock>(
+    rt: &R,
+    stream: &mut TcpStream,
+    updates: &[[u8; 24]],
+    shown: &AtomicU64,
+) -> io::Result<bool> {
+    let is_right = hosts(rt, stream, updates, shown)?;
+    let mut rest = [0u8; 64];
+    stream.write_all(b"\xFF")?;
+    for _ in 0..TURNS {
+        if stream.read(&mut rest)? == 0 {
+            break;
+        }
+    }
+    Ok(is_right)
 }

@@ -11,4 +11,6 @@ mod loopback;
 #[cfg(test)]
 mod meeting;
 #[cfg(test)]
+mod turns;
+#[cfg(test)]
 mod viewer;

@@ -103,8 +103,34 @@ where
         + Send
         + 'static,
 {
+    reflected_in_turn(rt, alloc, (host, &[], None), full, view)
+}
+
+/// The status of `serve` between these hosts, the first and those that follow on it, and viewers at two ports. It
+/// begins anew after so many seconds, if at all.
+pub(crate) fn reflected_in_turn<R>(
+    rt: R,
+    alloc: Global,
+    hosts: (&str, &[String], Option<u64>),
+    full: u16,
+    view: u16,
+) -> u8
+where
+    R: Net<Stream = TcpStream, Listener = TcpListener>
+        + Threads
+        + Wait
+        + Clock
+        + Eprint
+        + Copy
+        + Drop
+        + Send
+        + 'static,
+{
+    let (host, next, again) = hosts;
     let plan = Plan {
         host,
+        next,
+        again,
         bind: "127.0.0.1",
         full,
         view,
@@ -161,7 +187,7 @@ fn update_reaches_a_viewer(rt: HostRuntime) -> Result<(), Fail> {
 }
 
 /// Update n: colour n all over.
-fn update(n: u16) -> [u8; 24] {
+pub(crate) fn update(n: u16) -> [u8; 24] {
     let [low, high] = n.to_le_bytes();
     let mut update = UPDATE;
     update[16] = low;

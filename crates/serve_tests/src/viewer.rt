@@ -77,3 +77,26 @@ pub(crate) fn asks_for_news(stream: &mut TcpStream) -> io::Result<bool> {
     stream.write_all(ASK_NEW)?;
     Ok(answer.as_slice() == BLACK)
 }
+
+/// Whether it is shown each of these updates in turn over one connection, before each perhaps a black screen, and once
+/// it was shown one, counts it in the place of the same number. It asks for what is new each time.
+pub(crate) fn follows_in_turn(
+    stream: &mut TcpStream,
+    updates: &[[u8; 24]],
+    shown: &[AtomicU64],
+) -> io::Result<bool> {
+    let mut answer = [0u8; 24];
+    for (update, count) in updates.iter().zip(shown) {
+        stream.write_all(ASK_NEW)?;
+        stream.read_exact(&mut answer)?;
+        if answer.as_slice() == BLACK {
+            stream.write_all(ASK_NEW)?;
+            stream.read_exact(&mut answer)?;
+        }
+        if answer != *update {
+            return Ok(false);
+        }
+        count.store(1, Ordering::SeqCst);
+    }
+    Ok(true)
+}
