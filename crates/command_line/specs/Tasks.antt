@@ -1,6 +1,8 @@
 -- What a line asks for. Its words are those after the program's name.
 use Rattle.std.specs.Prelude.{◌≡◌, ◌≢◌, ◌≤◌, ◌⊎◌, ◌∷◌, List, [], codes, ℕ}
+use Rattle.std.specs.String.{string_bytes}
 use Rattle.clap.specs.Words.{Text, fault_of}
+use Rattle.serve.specs.declared.plan.Plan.{Plan}
 use Rattle.serve.specs.Statuses.{IsStatus}
 use Rattle.settings.specs.Given.{AreSetBy}
 use Rattle.settings.specs.Serve.{IsBad, serve}
@@ -11,6 +13,18 @@ use Rattle.command_line.specs.declared.task.Task.TheVariants.{Replay, Serve, Exp
 -- From 1 to 32 places for each role.
 abbrev pub HasPlaces : Settings → Type 0
 HasPlaces s = (1 ≤ s.full_places) × (s.full_places ≤ 32) × (1 ≤ s.view_places) × (s.view_places ≤ 32)
+
+-- `serve` is told what the line sets.
+pub record IsPlanOf (s : Settings) (plan : Plan) : Type 0 where
+  pub host : plan.host.now ≡ string_bytes s.host
+  pub next : plan.next.now ≡ s.next.items
+  pub again : plan.again ≡ s.again
+  pub bind : plan.bind.now ≡ string_bytes s.bind
+  pub full : plan.full ≡ s.full
+  pub view : plan.view ≡ s.view
+  pub full_places : plan.full_places ≡ s.full_places
+  pub view_places : plan.view_places ≡ s.view_places
+  pub log : plan.is_logged ≡ s.log
 
 -- The line of `replay`, which has no further words.
 abbrev pub replay_line : List Text

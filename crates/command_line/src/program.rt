@@ -2,7 +2,7 @@
 
 ghost use Rattle.std.specs.Prelude.{map};
 ghost use Rattle.std.specs.String.{string_bytes};
-ghost use Rattle.command_line.specs.Tasks.{HasPlaces, IsAnswered};
+ghost use Rattle.command_line.specs.Tasks.{HasPlaces, IsAnswered, IsPlanOf};
 ghost use Rattle.serve.specs.Statuses.{IsStatus};
 
 use crate::task::{Task, task_of};
@@ -33,7 +33,24 @@ fn words<R: Env + AllocGlobal>(rt: &R, alloc: Global) -> io::Result<Vec<String>>
     Ok(words)
 }
 
-/// Reflects a host, as the line says.
+/// What `serve` is told.
+fn plan_of(settings: &Settings) -> Plan<'_>
+    ensures { IsPlanOf settings.now result }
+{
+    Plan {
+        host: settings.host.as_str(),
+        next: settings.next.as_slice(),
+        again: settings.again,
+        bind: settings.bind.as_str(),
+        full: settings.full,
+        view: settings.view,
+        full_places: settings.full_places,
+        view_places: settings.view_places,
+        is_logged: settings.log,
+    }
+}
+
+/// Reflects hosts, as the line says.
 fn start<R>(rt: R, alloc: Global, settings: &Settings) -> u8
 where
     R: Net<Stream = TcpStream, Listener = TcpListener>
@@ -48,15 +65,7 @@ where
     requires { HasPlaces settings.now }
     ensures { IsStatus result }
 {
-    let plan = Plan {
-        host: settings.host.as_str(),
-        bind: settings.bind.as_str(),
-        full: settings.full,
-        view: settings.view,
-        full_places: settings.full_places,
-        view_places: settings.view_places,
-        is_logged: settings.log,
-    };
+    let plan = plan_of(settings);
     serve(rt, alloc, &plan)
 }
 
