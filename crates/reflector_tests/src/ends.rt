@@ -49,7 +49,7 @@ pub(crate) struct Course {
     pub(crate) board: Arc<Board, Global>,
     pub(crate) reader: Host,
     pub(crate) writer: Host,
-    pub(crate) others: Following,
+    pub(crate) others: Following<Host>,
     pub(crate) doors: Vec<(Role, Coming<Viewer>)>,
     pub(crate) end: End,
 }
@@ -132,7 +132,7 @@ where
     let joined = Joined { w: 2, h: 1, name };
     let everyone = Arc::new(alloc, NoBell)?;
     let bell = Arc::new(alloc, NoBell)?;
-    let running = run_all::<J, Wire<Host>, Following, Coming<Viewer>, NoBell, NoBell, R>(
+    let running = run_all::<J, Wire<Host>, Following<Host>, Coming<Viewer>, NoBell, NoBell, R>(
         rt,
         alloc,
         history,

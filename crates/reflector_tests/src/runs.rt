@@ -60,7 +60,7 @@ pub(crate) fn writer(
 }
 
 /// No host but the first.
-fn none(alloc: Global, board: &Arc<Board, Global>) -> Result<Following, Fail> {
+fn none(alloc: Global, board: &Arc<Board, Global>) -> Result<Following<Host>, Fail> {
     Ok(Following {
         board: Arc::try_clone(board)?,
         hosts: Vec::new(alloc),

@@ -1,8 +1,7 @@
 //! Further hosts.
 
 use crate::board::Board;
-use crate::host::Host;
-use crate::wire::Wire;
+use crate::wire::{Peer, Wire};
 use pixel_format::Fault;
 use reflector::Hosts;
 use rfb_wire::Joined;
@@ -11,22 +10,24 @@ use std::sync::Arc;
 
 /// One host after another, each by its two ends. Where it is asked though no more are to be taken, something is wrong.
 #[derive(Drop)]
-pub(crate) struct Following {
+pub(crate) struct Following<P: Peer> {
     pub(crate) board: Arc<Board, Global>,
     // The last one stands first.
-    pub(crate) hosts: Vec<(Host, Host)>,
+    pub(crate) hosts: Vec<(P, P)>,
     /// Whether it may be asked where none is left.
     pub(crate) may_end: bool,
 }
 
-impl Hosts<Wire<Host>> for Following {
-    ghost use Rattle.std.specs.Prelude.{⊤};
+impl<P: Peer> Hosts<Wire<P>> for Following<P> {
+    ghost use Rattle.std.specs.Prelude.{◌≡◌, ⊤};
+    ghost use Rattle.serving.specs.Answers.{unused};
 
-    ghost came = { λ _. ⊤ };
+    // It has done nothing.
+    ghost came = { λ wire. wire ≡ unused };
 
     ghost are_out = { λ _. ⊤ };
 
-    fn next(&mut self) -> Option<(Wire<Host>, Wire<Host>)> {
+    fn next(&mut self) -> Option<(Wire<P>, Wire<P>)> {
         match self.hosts.pop() {
             Some((reader, writer)) => Some((Wire::new(reader), Wire::new(writer))),
             None => {
@@ -38,7 +39,7 @@ impl Hosts<Wire<Host>> for Following {
         }
     }
 
-    fn joined(&mut self, _reader: &mut Wire<Host>, _host: &Joined) {}
+    fn joined(&mut self, _reader: &mut Wire<P>, _host: &Joined) {}
 
-    fn left(&mut self, _reader: &mut Wire<Host>, _why: Result<(), Fault>) {}
+    fn left(&mut self, _reader: &mut Wire<P>, _why: Result<(), Fault>) {}
 }
