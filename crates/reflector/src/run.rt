@@ -214,11 +214,11 @@ where
     }
 }
 
-/// Runs a reflector: a first host that was joined, over its two links, then the hosts of a supply in turn, and the places
-/// of their viewers, each behind its door.
+/// Runs a reflector: a first host that was joined, over its two links, then the hosts of a supply in turn, and the
+/// places of their viewers, each behind its door.
 ///
-/// A thread for each place serves one viewer after another, one tells the hosts what they have to be told, and one reads
-/// them. The call waits until the last host is read, tells the others to end, and waits for the one that tells the
+/// A thread for each place serves one viewer after another, one tells the hosts what they have to be told, and one
+/// reads them. The call waits until the last host is read, tells the others to end, and waits for the one that tells the
 /// hosts. A place ends once its viewer has left; whoever wants what it gives back joins it.
 ///
 /// Where a host ended between two messages or inside one, or its link failed, the next one is taken of the supply and

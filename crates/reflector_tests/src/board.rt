@@ -40,7 +40,8 @@ fn at_least(number: &AtomicU64, least: u64) -> bool {
 }
 
 impl Board {
-    /// A board of a run in which update n paints colour n, but for one that turns the screen black, whose number this is.
+    /// A board of a run in which update n paints colour n, but for one that turns the screen black, whose number this
+    /// is.
     pub(crate) fn new(alloc: Global, black: u64) -> Result<Arc<Board, Global>, Fault> {
         let shown = [
             AtomicU64::new(0),

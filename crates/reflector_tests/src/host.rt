@@ -16,8 +16,8 @@ const TWO: &[u8] = b"\0\0\0\x01\0\0\0\0\0\x02\0\x01\0\0\0\0\x02\0\0\0\x02\0\0\0"
 
 const THREE: &[u8] = b"\0\0\0\x01\0\0\0\0\0\x02\0\x01\0\0\0\0\x03\0\0\0\x03\0\0\0";
 
-/// A host's side of the handshake: version 3.8, None, that it went well, and a screen of 2 by 1 with its format of 32 bits
-/// and its name, T (RFC 6143, 7.1.1 to 7.1.3 and 7.3.2).
+/// A host's side of the handshake: version 3.8, None, that it went well, and a screen of 2 by 1 with its format of 32
+/// bits and its name, T (RFC 6143, 7.1.1 to 7.1.3 and 7.3.2).
 pub(crate) const WELCOME: &[u8] =
     b"RFB 003.008\n\x01\x01\0\0\0\0\0\x02\0\x01\x20\x18\0\x01\0\xFF\0\xFF\0\xFF\x10\x08\0\0\0\0\0\0\0\x01T";
 

@@ -1,7 +1,7 @@
 //! `reflectord serve`: one VNC host after another, and up to 64 viewers over TCP.
 //!
-//! It listens, joins the first host, starts the threads of a run, and says what became of it: the exit status, and where it
-//! failed `fault N` on standard error with a line of plain words after it. A log says who comes and goes, if it is
+//! It listens, joins the first host, starts the threads of a run, and says what became of it: the exit status, and where
+//! it failed `fault N` on standard error with a line of plain words after it. A log says who comes and goes, if it is
 //! asked for. No clause says what a socket, a thread or a terminal does. Memory: for places, doors and lines of the
 //! log; the rest is `reflector`'s. Handles: Threads, Wait, Net.
 #![tactic(auto)]
