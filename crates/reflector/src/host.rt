@@ -72,6 +72,7 @@ pub(crate) fn stay<L: Link, H: Hosts<L>, P: Puts, W: Bell + Drop, R: Wait>(
 {
     let answer = read(rt, ground.alloc, &mut link, screen, publisher);
     handover.leave();
+    // The answer is given out as well: the kit's borrow checker wants its copy made before the call.
     let told = answer;
     hosts.left(&mut link, told);
     // Not refused: the room was taken before.
@@ -172,6 +173,7 @@ pub(crate) fn take_turn<L: Link, H: Hosts<L>, P: Puts, W: Bell + Drop, R: Wait>(
             )
         }
         Err(fault) => {
+            // The fault is given out as well, so it is copied first.
             let why = fault;
             hosts.left(&mut reader, Err(why));
             Err(fault)
