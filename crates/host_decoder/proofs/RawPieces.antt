@@ -11,7 +11,7 @@ use Rattle.std.specs.Simd.{first_chunks}
 use Rattle.std.specs.Int.{w32, from_le_bytes}
 use Rattle.pixel_format.specs.PixelFormat.{host_format}
 use Rattle.byte_reading.specs.Reading.{Reading, Done, ◌>>=◌, after, taken, times, wants_more, whole_of, fault_of}
-use Rattle.byte_reading.proofs.ReadingLaws.{after-append, after-done, bind_assoc, bind_done, done_is, none_whole, taken-append, wants_no_fault, wants_not_whole}
+use Rattle.byte_reading.proofs.ReadingLaws.{after-append, after-done, bind_assoc, bind_done, done_is, none_left, none_whole, taken-append, wants_no_fault, wants_not_whole}
 use Rattle.byte_reading.proofs.InOrder.{then_wants}
 use Rattle.raster.specs.declared.rect.Rect.{Rect}
 use Rattle.raster.specs.Encoding.{pixel, raw}
@@ -117,6 +117,12 @@ takes_some area old new canvas reading bytes le count done begun s =
           };
       all = raw_takes area old canvas reading s n bytes e (omega (arith, le));
     }
+
+-- No byte at all.
+pub takes_nothing : (area : Rect) (p : RawProgress) (canvas : Canvas) (reading : Reading Paint) (bytes : List ℕ) → length bytes ≡ 0 → RawStands area p canvas reading → RawTakes area p canvas reading bytes
+takes_nothing area p canvas reading bytes none s =
+    let same = none_left reading bytes none in
+    record { stands = subst (λ (r : Reading Paint). RawStands area p canvas r) (sym same.0) s; all = same.1 ∙ sym none }
 
 -- Bytes up to the end of one pixel.
 pub takes_pixel : (area : Rect) (old new : RawProgress) (before now : Canvas) (reading : Reading Paint) (bytes joined : List ℕ) → length old.begun + length bytes + 4 * old.done ≤ 4 * old.count → joined ≡ old.begun ++ bytes → length joined ≡ 4

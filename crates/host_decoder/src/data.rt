@@ -1,6 +1,6 @@
 //! The data of one rectangle of a host, in whatever pieces it comes, painted as it comes (RFC 6143, section 7.7).
 
-ghost use Rattle.std.specs.Prelude.{◌≡◌, ◌<◌, ◌≤◌, List, false, length, IfOk, IfErr};
+ghost use Rattle.std.specs.Prelude.{◌≡◌, ◌<◌, ◌≤◌, List, Ok, false, length, IfOk, IfErr, IsFalse, IsTrue};
 ghost use Rattle.pixel_format.specs.PixelFormat.{host_format};
 ghost use Rattle.byte_reading.specs.Reading.{Reading, Faulty};
 ghost use Rattle.pixel_format.specs.declared.fault.Fault.TheVariants.{UnknownEncoding};
@@ -69,6 +69,29 @@ impl Data {
             area,
             body,
         })
+    }
+
+    /// Takes all of a piece that ends inside the pixels of a Raw rectangle, and paints it. For any other it answers
+    /// `false`, and nothing changes. It takes no memory.
+    pub(crate) fn feed_within(&mut self, painter: &mut Painter, piece: &[u8]) -> bool
+        requires width { self.old.width ≡ painter.old.width }
+        requires height { self.old.height ≡ painter.old.height }
+        ensures area { IsSameArea self.old self.new }
+        ensures size { IsAsLarge painter.old painter.new }
+        ensures open_ { IsTrue result → IsWanting self.new }
+        ensures fed { IsTrue result → (start : Canvas) (paints : List Paint) (reading : Reading Paint) → DataStands self.old start paints painter.old reading
+            → Fed (DataStands self.new start paints painter.new) start paints painter.new reading piece.now (Ok (length piece.now, false)) }
+        ensures others { IsFalse result → (self.new ≡ self.old) × (painter.new ≡ painter.old) }
+    {
+        let Body::Raw(raw) = &mut self.body else {
+            return false;
+        };
+        if raw.missing() <= piece.len() {
+            return false;
+        }
+        painter.draw_on(self.area);
+        raw.take_all(painter, piece);
+        true
     }
 
     /// Takes the next piece, up to the end of the rectangle, and paints what it says. Answers how many bytes it used,

@@ -59,7 +59,7 @@ fn put_pixels(painter: &mut Painter, width: usize, done: usize, pixels: &[[u8; P
 
 impl RawPixels {
     /// How many bytes are still to come.
-    fn missing(&self) -> usize
+    pub(crate) fn missing(&self) -> usize
         ensures left { length self.now.begun + result + 4 * self.now.done ≡ 4 * self.now.count }
         ensures begun { length self.now.begun < 4 }
     {
@@ -91,6 +91,9 @@ impl RawPixels {
         ensures begun { length self.new.begun < 4 }
     {
         let end = self.filled + bytes.len();
+        if bytes.is_empty() {
+            return;
+        }
         self.begun[self.filled..end].copy_from_slice(bytes);
         self.filled = end;
         if end == PIXEL_LEN {
@@ -114,7 +117,7 @@ impl RawPixels {
     }
 
     /// Takes bytes that are all wanted.
-    fn take_all(&mut self, painter: &mut Painter, bytes: &[u8])
+    pub(crate) fn take_all(&mut self, painter: &mut Painter, bytes: &[u8])
         requires fits { IsRawFor painter.old.area self.old }
         requires missing { length self.old.begun + length bytes.now + 4 * self.old.done ≤ 4 * self.old.count }
         ensures fits { IsRawFor painter.old.area self.new }

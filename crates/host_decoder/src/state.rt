@@ -1,6 +1,6 @@
 //! How far a decoder has come.
 
-ghost use Rattle.std.specs.Prelude.{◌≡◌, ℕ, ◌<◌, ◌≤◌, false, true, length, unwrap_or, IfOk, Result};
+ghost use Rattle.std.specs.Prelude.{◌≡◌, ℕ, ◌<◌, ◌≤◌, false, true, length, unwrap_or, IfOk, IsFalse, IsTrue, Result};
 ghost use Rattle.byte_reading.specs.Reading.{Reading};
 ghost use Rattle.raster.specs.Screen.{Canvas};
 ghost use Rattle.raster.specs.Size.{IsScreenSize};
@@ -78,6 +78,20 @@ impl HostState {
         }
     }
 
+    /// Takes all of some bytes that end inside the pixels of a Raw rectangle. For any others it answers `false`, and
+    /// nothing changes.
+    fn advance_within(&mut self, painter: &mut Painter, bytes: &[u8]) -> bool
+        requires suits { Suits painter.old.width painter.old.height self.old }
+        ensures stays { Stays painter.old painter.new self.new }
+        ensures uses { IsTrue result → (start : Canvas) (r : Reading ServerMessage) → Stands painter.old.width painter.old.height self.old start painter.old r → Uses painter.old painter.new self.new start r bytes.now (length bytes.now) }
+        ensures others { IsFalse result → (self.new ≡ self.old) × (painter.new ≡ painter.old) }
+    {
+        match self {
+            HostState::Pixels(_, reader) => reader.feed_within(painter, bytes),
+            _ => false,
+        }
+    }
+
     /// What becomes of it with bytes from the front of some, if it doesn't stay, and how many bytes it takes.
     fn step(
         &mut self,
@@ -112,6 +126,11 @@ impl HostState {
         ensures within { (0 < result) × (result ≤ length bytes.now) }
         ensures uses { (start : Canvas) (r : Reading ServerMessage) → Stands painter.old.width painter.old.height self.old start painter.old r → Uses painter.old painter.new self.new start r bytes.now result }
     {
+        // Most pieces of a large update are such bytes. `step` answers with room for a whole state, and filling it
+        // costs as much as the pixels of a small piece.
+        if self.advance_within(painter, bytes) {
+            return bytes.len();
+        }
         let (next, count) = self.step(alloc, painter, bytes);
         if let Some(state) = next {
             *self = state;

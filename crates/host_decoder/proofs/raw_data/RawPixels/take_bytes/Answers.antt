@@ -1,10 +1,16 @@
-use Rattle.std.proofs.Common.{◌≡◌, ◌+◌, ◌-◌, ◌∙◌, ◌++◌, List, ℕ, take, [], length, refl, ap, arith}
+use Rattle.std.proofs.Common.{◌≡◌, ◌+◌, ◌-◌, ◌∙◌, ◌++◌, List, ℕ, take, [], length, refl, sym, ap, arith}
+use Rattle.std.proofs.lemmas.Bool.{eqb-true}
 use Rattle.std.proofs.lemmas.List.{length-take, length-append}
 use Rattle.std.proofs.lemmas.Slice.{take-put_mid}
 use Rattle.painter.specs.Drawing.{drawn}
 use Rattle.host_decoder.specs.DataParts.{RawProgress}
-use Rattle.host_decoder.proofs.RawPieces.{takes_some, takes_pixel, written_to_end}
+use Rattle.host_decoder.proofs.RawPieces.{takes_nothing, takes_some, takes_pixel, written_to_end}
 use Rattle.host_decoder.proofs.raw_data.RawPixels.take_bytes.Goals as goal
+
+pub returns-then-is_empty-clause-takes : goal.returns-then-is_empty-clause-takes
+returns-then-is_empty-clause-takes c reading h =
+    let bytes : List ℕ = c.args.bytes.now in
+    takes_nothing c.args.painter.now.area c.args.self.now (drawn c.args.painter.now) reading bytes (eqb-true (length bytes) 0 (sym c.is_empty.ensures ∙ c.if-is_empty.true)) h
 
 pub returns-then-end-eq-PIXEL_LEN-clause-takes : goal.returns-then-end-eq-PIXEL_LEN-clause-takes
 returns-then-end-eq-PIXEL_LEN-clause-takes c reading h =
