@@ -2,6 +2,8 @@
 
 import atexit
 import ctypes
+import importlib.machinery
+import importlib.util
 import os
 import pathlib
 import random
@@ -143,7 +145,7 @@ def find_program(named):
 class Reflector:
     """A reflectord that serves the host at 127.0.0.1:host."""
 
-    def __init__(self, program, host, full_places=32, view_places=32, more=()):
+    def __init__(self, program, host, full_places=32, view_places=32, more=(), environment=None):
         self.full, self.view = free_port(), free_port()
         self.room = tempfile.TemporaryDirectory(prefix="reflectord-")
         self.log = pathlib.Path(self.room.name) / "log"
@@ -152,6 +154,7 @@ class Reflector:
                 [program, "serve", "--host", f"127.0.0.1:{host}", "--full", self.full, "--view", self.view]
                 + ["--full-places", full_places, "--view-places", view_places, "--log", *more],
                 said,
+                env=os.environ | (environment or {}),
             )
         self.pid = self.child.pid
 
@@ -166,6 +169,14 @@ class Reflector:
     def end(self):
         end(self.child)
         self.room.cleanup()
+
+
+def load_demo():
+    """tools/demo, whose host and viewer others use."""
+    loader = importlib.machinery.SourceFileLoader("demo", str(TOP / "tools" / "demo"))
+    demo = importlib.util.module_from_spec(importlib.util.spec_from_loader("demo", loader))
+    loader.exec_module(demo)
+    return demo
 
 
 def build_load(room):
