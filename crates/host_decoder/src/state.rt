@@ -126,8 +126,8 @@ impl HostState {
         ensures within { (0 < result) × (result ≤ length bytes.now) }
         ensures uses { (start : Canvas) (r : Reading ServerMessage) → Stands painter.old.width painter.old.height self.old start painter.old r → Uses painter.old painter.new self.new start r bytes.now result }
     {
-        // Most pieces of a large update are such bytes. `step` answers with room for a whole state, and filling it
-        // costs as much as the pixels of a small piece.
+        // Most pieces of a large update are such bytes. `step` answers with room for a whole state, and filling that
+        // for each piece is felt where pieces are small.
         if self.advance_within(painter, bytes) {
             return bytes.len();
         }
