@@ -1,16 +1,27 @@
 //! Plays scripts, and counts those that do as they are told.
 //!
 //! `scripts` has whole scripts and `real_hosts` such with what real hosts sent, `bad_lines` lines that no script may
-//! have, and `first_lines` lines that none may begin with.
+//! have, and `first_lines` lines that none may begin with. `examples` has those that `examples/README.md` tells of, and
+//! `growths` those that are played while memory is refused.
 #![tactic(auto)]
 
 mod case;
+mod examples;
+mod hoard;
+mod lines;
+mod memory;
+mod refused;
 
 use case::{Case, FIRST, LATER, Place};
+use examples::play_examples;
+use memory::refuse_growths;
 use std::fs;
 use std::test::Fail;
 
 fn main(rt: HostRuntime) -> Result<(), Fail> {
+    // First, while nothing else has used the heap.
+    refuse_growths(&rt, "growths")?;
+    play_examples(&rt)?;
     play_scripts(&rt, "scripts")?;
     play_scripts(&rt, "real_hosts")?;
     refuse_lines(&rt, "bad_lines", &LATER)?;

@@ -1,5 +1,4 @@
-//! Plays each script that `examples/README.md` tells of, and says whether it prints what lies beside it.
-#![tactic(auto)]
+//! Each script that `examples/README.md` tells of, with what lies beside it.
 
 use reflect_world::replay;
 use std::fs;
@@ -17,9 +16,10 @@ const EXAMPLES: [(&str, u8); 8] = [
     ("viewer-fault", 0),
 ];
 
-fn main(rt: HostRuntime) -> Result<(), Fail> {
+/// Plays each example, and says whether it prints what lies beside it.
+pub fn play_examples(rt: &HostRuntime) -> Result<(), Fail> {
     for (name, status) in EXAMPLES {
-        if prints_as_told(&rt, name, status)? {
+        if prints_as_told(rt, name, status)? {
             println!(rt; "{name}: as told")?;
         } else {
             println!(rt; "{name}: otherwise")?;
@@ -30,8 +30,8 @@ fn main(rt: HostRuntime) -> Result<(), Fail> {
 
 /// Whether a script prints what lies beside it, with this status.
 fn prints_as_told(rt: &HostRuntime, name: &str, status: u8) -> Result<bool, Fail> {
-    let script_file = format!(in rt.alloc(); "{name}.script")?;
-    let printed_file = format!(in rt.alloc(); "{name}.printed")?;
+    let script_file = format!(in rt.alloc(); "examples/{name}.script")?;
+    let printed_file = format!(in rt.alloc(); "examples/{name}.printed")?;
     let script = fs::read_to_string(rt, script_file.as_str())?;
     let told = fs::read_to_string(rt, printed_file.as_str())?;
     let mut printed = Vec::new(rt.alloc());

@@ -3,15 +3,10 @@
 //! All of the process's address space is taken but for a reserve, so that the C library refuses memory. While one line
 //! of a script is played the reserve is taken, too, but for a hole: of no bytes at first, and then ever larger, until
 //! the line meets no refusal. Nothing of it is written to, and other processes have what they had.
-#![tactic(auto)]
 
-mod case;
-mod hoard;
-mod lines;
-
-use case::{Case, Outcome};
-use hoard::Hoard;
-use lines::Lines;
+use crate::hoard::Hoard;
+use crate::lines::Lines;
+use crate::refused::{Case, Outcome};
 use reflect_world::replay;
 use std::alloc::{AllocError, Global};
 use std::fs;
@@ -114,11 +109,12 @@ fn counts_strictly(rt: &HostRuntime) -> bool {
     }
 }
 
-fn main(rt: HostRuntime) -> Result<(), Fail> {
-    if counts_strictly(&rt) {
+/// Plays the scripts of a file, and says at how many places of each memory was refused.
+pub fn refuse_growths(rt: &HostRuntime, file: &str) -> Result<(), Fail> {
+    if counts_strictly(rt) {
         return Err(Fail::new("the system counts memory strictly"));
     }
-    let text = fs::read_to_string(&rt, "scripts")?;
+    let text = fs::read_to_string(rt, file)?;
     let Some(mut trial) = Trial::new(rt.alloc())? else {
         return Err(Fail::new("no memory is refused here"));
     };
