@@ -1,15 +1,13 @@
 //! A host that ends while a place of each role waits for news, and the host's writer for something to tell.
 
 use crate::host::hosts_until;
-use crate::loopback::{accept, connect, free_port, listen, reflected};
+use crate::loopback::{accept, connect, listen};
+use crate::sides::Sides;
 use crate::viewer::{asks_for_news, is_greeted};
-use std::alloc::Global;
 use std::io::Read;
 use std::net::{Net, TcpListener, TcpStream};
-use std::sync::Wait;
 use std::sync::atomic::{AtomicU64, Ordering};
 use std::test::*;
-use std::thread::Threads;
 use std::time::Clock;
 use std::{io, thread};
 
@@ -40,26 +38,12 @@ fn host_is_right<R: Clock>(rt: &R, listener: &TcpListener, waiting: &AtomicU64) 
     hosts_until(rt, &mut stream, waiting, VIEWERS).unwrap_or(false)
 }
 
-/// The status of `serve` between a host that ends and a viewer of each role that waits, or 255 where one of the three
-/// wasn't right.
-fn ended<R>(rt: R, alloc: Global) -> Result<u8, Fail>
-where
-    R: Net<Stream = TcpStream, Listener = TcpListener>
-        + Threads
-        + Wait
-        + Clock
-        + Eprint
-        + Copy
-        + Drop
-        + Send
-        + Sync
-        + 'static,
-{
+/// The end of a host ends the wait of each place, so that its viewer is let go, and that of the writer, for which
+/// `serve` waits.
+#[test]
+fn end_of_a_host_ends_each_wait(rt: HostRuntime) -> Result<(), Fail> {
     let listener = listen(&rt)?;
-    let host_port = listener.local_addr()?.port();
-    let host = format!(in alloc; "127.0.0.1:{host_port}")?;
-    let full = free_port(&rt)?;
-    let view = free_port(&rt)?;
+    let sides = Sides::before(&rt, rt.alloc(), &listener)?;
     let waiting = AtomicU64::new(0);
     let ((is_host_right, (is_full_let_go, is_view_let_go)), status) = thread::join(
         &rt,
@@ -70,25 +54,15 @@ where
                 || {
                     thread::join(
                         &rt,
-                        || is_let_go(&rt, full, &waiting).unwrap_or(false),
-                        || is_let_go(&rt, view, &waiting).unwrap_or(false),
+                        || is_let_go(&rt, sides.full, &waiting).unwrap_or(false),
+                        || is_let_go(&rt, sides.view, &waiting).unwrap_or(false),
                     )
                 },
             )
         },
-        || reflected(rt, alloc, host.as_str(), full, view),
+        || sides.reflected(rt, rt.alloc(), &[], None),
     );
-    if is_host_right && is_full_let_go && is_view_let_go {
-        Ok(status)
-    } else {
-        Ok(u8::MAX)
-    }
-}
-
-/// The end of a host ends the wait of each place, so that its viewer is let go, and that of the writer, for which
-/// `serve` waits.
-#[test]
-fn end_of_a_host_ends_each_wait(rt: HostRuntime) -> Result<(), Fail> {
-    assert_eq!(rt; ended(rt, rt.alloc())?, 0);
+    assert!(rt; is_host_right && is_full_let_go && is_view_let_go);
+    assert_eq!(rt; status, 0);
     Ok(())
 }

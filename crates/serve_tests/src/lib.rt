@@ -11,6 +11,8 @@ mod loopback;
 #[cfg(test)]
 mod meeting;
 #[cfg(test)]
+mod sides;
+#[cfg(test)]
 mod turns;
 #[cfg(test)]
 mod viewer;

@@ -1,8 +1,8 @@
 //! A host and a viewer with `serve` between them.
 
 use crate::host::hosts;
+use crate::sides::Sides;
 use crate::viewer::{first_answer, follows, is_greeted};
-use serve::{Plan, serve};
 use std::alloc::Global;
 use std::net::{Ipv4Addr, Net, SocketAddr, TcpListener, TcpStream};
 use std::sync::Wait;
@@ -90,57 +90,6 @@ fn viewer_is_right<R: Net<Stream = TcpStream> + Clock>(
     Ok(answer == UPDATE)
 }
 
-/// The status of `serve` between this host and viewers at two ports.
-pub(crate) fn reflected<R>(rt: R, alloc: Global, host: &str, full: u16, view: u16) -> u8
-where
-    R: Net<Stream = TcpStream, Listener = TcpListener>
-        + Threads
-        + Wait
-        + Clock
-        + Eprint
-        + Copy
-        + Drop
-        + Send
-        + 'static,
-{
-    reflected_in_turn(rt, alloc, (host, &[], None), full, view)
-}
-
-/// The status of `serve` between these hosts, the first and those that follow on it, and viewers at two ports. It
-/// begins anew after so many seconds, if at all.
-pub(crate) fn reflected_in_turn<R>(
-    rt: R,
-    alloc: Global,
-    hosts: (&str, &[String], Option<u64>),
-    full: u16,
-    view: u16,
-) -> u8
-where
-    R: Net<Stream = TcpStream, Listener = TcpListener>
-        + Threads
-        + Wait
-        + Clock
-        + Eprint
-        + Copy
-        + Drop
-        + Send
-        + 'static,
-{
-    let (host, next, again) = hosts;
-    let plan = Plan {
-        host,
-        next,
-        again,
-        bind: "127.0.0.1",
-        full,
-        view,
-        full_places: 2,
-        view_places: 1,
-        is_logged: false,
-    };
-    serve(rt, alloc, &plan)
-}
-
 /// The status of `serve` between a host of these updates and a viewer, or 255 where one of the two wasn't right.
 fn served<R>(rt: R, alloc: Global, updates: &[[u8; 24]]) -> Result<u8, Fail>
 where
@@ -156,10 +105,7 @@ where
         + 'static,
 {
     let listener = listen(&rt)?;
-    let host_port = listener.local_addr()?.port();
-    let host = format!(in alloc; "127.0.0.1:{host_port}")?;
-    let full = free_port(&rt)?;
-    let view = free_port(&rt)?;
+    let sides = Sides::before(&rt, alloc, &listener)?;
     let shown = AtomicU64::new(0);
     let ((is_host_right, is_viewer_right), status) = thread::join(
         &rt,
@@ -167,10 +113,10 @@ where
             thread::join(
                 &rt,
                 || host_is_right(&rt, &listener, updates, &shown),
-                || viewer_is_right(&rt, full, updates, &shown).unwrap_or(false),
+                || viewer_is_right(&rt, sides.full, updates, &shown).unwrap_or(false),
             )
         },
-        || reflected(rt, alloc, host.as_str(), full, view),
+        || sides.reflected(rt, alloc, &[], None),
     );
     if is_host_right && is_viewer_right {
         Ok(status)

@@ -1,13 +1,10 @@
 //! Ports that are taken, and hosts that can't be met: `serve` ends with 3.
 
-use crate::loopback::{accept, free_port, listen, reflected};
-use std::alloc::Global;
+use crate::loopback::{accept, listen};
+use crate::sides::Sides;
 use std::io::Write;
-use std::net::{Net, TcpListener, TcpStream};
-use std::sync::Wait;
+use std::net::TcpListener;
 use std::test::*;
-use std::thread::Threads;
-use std::time::Clock;
 use std::{io, thread};
 
 /// The exit status of a fault that isn't want of memory.
@@ -20,46 +17,23 @@ fn speaks_otherwise(listener: &TcpListener) -> io::Result<()> {
     Ok(())
 }
 
-/// The status of `serve` where the host speaks another protocol.
-fn served_otherwise<R>(rt: R, alloc: Global) -> Result<u8, Fail>
-where
-    R: Net<Stream = TcpStream, Listener = TcpListener>
-        + Threads
-        + Wait
-        + Clock
-        + Eprint
-        + Copy
-        + Drop
-        + Send
-        + Sync
-        + 'static,
-{
+#[test]
+fn host_of_another_protocol(rt: HostRuntime) -> Result<(), Fail> {
     let listener = listen(&rt)?;
-    let host_port = listener.local_addr()?.port();
-    let host = format!(in alloc; "127.0.0.1:{host_port}")?;
-    let full = free_port(&rt)?;
-    let view = free_port(&rt)?;
+    let sides = Sides::before(&rt, rt.alloc(), &listener)?;
     let (_, status) = thread::join(
         &rt,
         || speaks_otherwise(&listener).is_ok(),
-        || reflected(rt, alloc, host.as_str(), full, view),
+        || sides.reflected(rt, rt.alloc(), &[], None),
     );
-    Ok(status)
-}
-
-#[test]
-fn host_of_another_protocol(rt: HostRuntime) -> Result<(), Fail> {
-    assert_eq!(rt; served_otherwise(rt, rt.alloc())?, FAULT);
+    assert_eq!(rt; status, FAULT);
     Ok(())
 }
 
 #[test]
 fn host_that_is_not_there(rt: HostRuntime) -> Result<(), Fail> {
-    let host_port = free_port(&rt)?;
-    let host = format!(in rt.alloc(); "127.0.0.1:{host_port}")?;
-    let full = free_port(&rt)?;
-    let view = free_port(&rt)?;
-    assert_eq!(rt; reflected(rt, rt.alloc(), host.as_str(), full, view), FAULT);
+    let sides = Sides::before(&rt, rt.alloc(), &listen(&rt)?)?;
+    assert_eq!(rt; sides.reflected(rt, rt.alloc(), &[], None), FAULT);
     Ok(())
 }
 
@@ -67,12 +41,10 @@ fn host_that_is_not_there(rt: HostRuntime) -> Result<(), Fail> {
 #[test]
 fn port_that_is_taken(rt: HostRuntime) -> Result<(), Fail> {
     let host_listener = listen(&rt)?;
-    let host_port = host_listener.local_addr()?.port();
-    let host = format!(in rt.alloc(); "127.0.0.1:{host_port}")?;
     let listener = listen(&rt)?;
-    let full = listener.local_addr()?.port();
-    let view = free_port(&rt)?;
-    assert_eq!(rt; reflected(rt, rt.alloc(), host.as_str(), full, view), FAULT);
+    let mut sides = Sides::before(&rt, rt.alloc(), &host_listener)?;
+    sides.full = listener.local_addr()?.port();
+    assert_eq!(rt; sides.reflected(rt, rt.alloc(), &[], None), FAULT);
     host_listener.set_nonblocking(true)?;
     assert!(rt; host_listener.accept().is_err());
     Ok(())

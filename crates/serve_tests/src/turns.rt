@@ -1,14 +1,12 @@
 //! Several hosts in turn, under one viewer that keeps its connection.
 
 use crate::host::{hosts_badly, hosts_well};
-use crate::loopback::{accept, connect, free_port, listen, reflected_in_turn, update};
+use crate::loopback::{accept, connect, free_port, listen, update};
+use crate::sides::Sides;
 use crate::viewer::{follows_in_turn, is_greeted};
-use std::alloc::Global;
 use std::net::{Net, TcpListener, TcpStream};
-use std::sync::Wait;
 use std::sync::atomic::AtomicU64;
 use std::test::*;
-use std::thread::Threads;
 use std::time::Clock;
 use std::{io, thread};
 
@@ -62,34 +60,17 @@ fn hosts_are_right<R: Clock>(
     host_is_right(rt, first, update, seen) && host_is_right(rt, second, next, seen_next)
 }
 
-/// The status of `serve` where a first host is followed by one that isn't there and then by a second, or 255 where a
-/// host or the viewer wasn't right.
-fn served_in_turn<R>(rt: R, alloc: Global) -> Result<u8, Fail>
-where
-    R: Net<Stream = TcpStream, Listener = TcpListener>
-        + Threads
-        + Wait
-        + Clock
-        + Eprint
-        + Copy
-        + Drop
-        + Send
-        + Sync
-        + 'static,
-{
+/// A viewer keeps its connection from one host to the next, and is shown what each sends. A host that isn't there is
+/// passed over. The run ends well with the last host.
+#[test]
+fn viewer_stays_from_host_to_host(rt: HostRuntime) -> Result<(), Fail> {
     let first = listen(&rt)?;
     let second = listen(&rt)?;
-    let (port, absent, next_port) = (
-        first.local_addr()?.port(),
-        free_port(&rt)?,
-        second.local_addr()?.port(),
-    );
-    let host = format!(in alloc; "127.0.0.1:{port}")?;
-    let mut next = Vec::new(alloc);
-    next.push(format!(in alloc; "127.0.0.1:{absent}")?)?;
-    next.push(format!(in alloc; "127.0.0.1:{next_port}")?)?;
-    let full = free_port(&rt)?;
-    let view = free_port(&rt)?;
+    let sides = Sides::before(&rt, rt.alloc(), &first)?;
+    let (absent, port) = (free_port(&rt)?, second.local_addr()?.port());
+    let mut next = Vec::new(rt.alloc());
+    next.push(format!(in rt.alloc(); "127.0.0.1:{absent}")?)?;
+    next.push(format!(in rt.alloc(); "127.0.0.1:{port}")?)?;
     let updates = [update(1), update(2)];
     let shown = [AtomicU64::new(0), AtomicU64::new(0)];
     let ((are_hosts_right, is_viewer_right), status) = thread::join(
@@ -98,26 +79,13 @@ where
             thread::join(
                 &rt,
                 || hosts_are_right(&rt, (&first, &second), &updates, &shown),
-                || viewer_is_right(&rt, full, &updates, &shown).unwrap_or(false),
+                || viewer_is_right(&rt, sides.full, &updates, &shown).unwrap_or(false),
             )
         },
-        || {
-            let hosts = (host.as_str(), next.as_slice(), None);
-            reflected_in_turn(rt, alloc, hosts, full, view)
-        },
+        || sides.reflected(rt, rt.alloc(), next.as_slice(), None),
     );
-    if are_hosts_right && is_viewer_right {
-        Ok(status)
-    } else {
-        Ok(u8::MAX)
-    }
-}
-
-/// A viewer keeps its connection from one host to the next, and is shown what each sends. A host that isn't there is
-/// passed over. The run ends well with the last host.
-#[test]
-fn viewer_stays_from_host_to_host(rt: HostRuntime) -> Result<(), Fail> {
-    assert_eq!(rt; served_in_turn(rt, rt.alloc())?, 0);
+    assert!(rt; are_hosts_right && is_viewer_right);
+    assert_eq!(rt; status, 0);
     Ok(())
 }
 
@@ -153,27 +121,11 @@ fn host_comes_back<R: Clock>(
     is_first_right && is_last_right
 }
 
-/// The status of `serve` where a host ends, is there again at the same port, and then is at fault, or 255 where it or
-/// the viewer wasn't right.
-fn served_again<R>(rt: R, alloc: Global) -> Result<u8, Fail>
-where
-    R: Net<Stream = TcpStream, Listener = TcpListener>
-        + Threads
-        + Wait
-        + Clock
-        + Eprint
-        + Copy
-        + Drop
-        + Send
-        + Sync
-        + 'static,
-{
+/// A viewer keeps its connection while a host ends and comes back a second later. A fault of it ends the run.
+#[test]
+fn viewer_stays_until_the_host_is_back(rt: HostRuntime) -> Result<(), Fail> {
     let listener = listen(&rt)?;
-    let port = listener.local_addr()?.port();
-    let host = format!(in alloc; "127.0.0.1:{port}")?;
-    let none = Vec::new(alloc);
-    let full = free_port(&rt)?;
-    let view = free_port(&rt)?;
+    let sides = Sides::before(&rt, rt.alloc(), &listener)?;
     let updates = [update(1), update(2)];
     let shown = [AtomicU64::new(0), AtomicU64::new(0)];
     let ((is_host_right, is_viewer_right), status) = thread::join(
@@ -182,24 +134,12 @@ where
             thread::join(
                 &rt,
                 || host_comes_back(&rt, &listener, &updates, &shown),
-                || viewer_is_right(&rt, full, &updates, &shown).unwrap_or(false),
+                || viewer_is_right(&rt, sides.full, &updates, &shown).unwrap_or(false),
             )
         },
-        || {
-            let hosts = (host.as_str(), none.as_slice(), Some(1));
-            reflected_in_turn(rt, alloc, hosts, full, view)
-        },
+        || sides.reflected(rt, rt.alloc(), &[], Some(1)),
     );
-    if is_host_right && is_viewer_right {
-        Ok(status)
-    } else {
-        Ok(u8::MAX)
-    }
-}
-
-/// A viewer keeps its connection while a host ends and comes back a second later. A fault of it ends the run.
-#[test]
-fn viewer_stays_until_the_host_is_back(rt: HostRuntime) -> Result<(), Fail> {
-    assert_eq!(rt; served_again(rt, rt.alloc())?, FAULT);
+    assert!(rt; is_host_right && is_viewer_right);
+    assert_eq!(rt; status, FAULT);
     Ok(())
 }
