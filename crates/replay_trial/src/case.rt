@@ -34,7 +34,7 @@ impl<'a> Case<'a> {
 }
 
 /// Whether a script prints this, with this status.
-fn plays(alloc: Global, script: &[u8], printed: &str, status: u8) -> bool {
+pub fn plays(alloc: Global, script: &[u8], printed: &str, status: u8) -> bool {
     let mut output = Vec::new(alloc);
     replay(alloc, script, &mut output) == status && output.as_slice() == printed.as_bytes()
 }

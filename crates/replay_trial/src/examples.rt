@@ -1,6 +1,6 @@
 //! Each script that `examples/README.md` tells of, with what lies beside it.
 
-use reflect_world::replay;
+use crate::case::plays;
 use std::fs;
 use std::test::Fail;
 
@@ -34,7 +34,5 @@ fn prints_as_told(rt: &HostRuntime, name: &str, status: u8) -> Result<bool, Fail
     let printed_file = format!(in rt.alloc(); "examples/{name}.printed")?;
     let script = fs::read_to_string(rt, script_file.as_str())?;
     let told = fs::read_to_string(rt, printed_file.as_str())?;
-    let mut printed = Vec::new(rt.alloc());
-    let ended = replay(rt.alloc(), script.as_bytes(), &mut printed);
-    Ok(ended == status && printed.as_slice() == told.as_bytes())
+    Ok(plays(rt.alloc(), script.as_bytes(), told.as_str(), status))
 }
