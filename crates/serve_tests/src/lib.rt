@@ -1,5 +1,6 @@
-//! Tests of `serve` over loopback alone: a host and a viewer in threads, and `serve` between them. Each wait ends.
-//! They stand in a crate of their own so that `serve` is proved once.
+//! Tests of `serve` over loopback alone, a host and a viewer in threads, and `serve` between them, in which each wait
+//! ends; and of the lines that `settings` and `command_line` read. They stand in a crate of their own so that each of
+//! those is proved once.
 #![tactic(auto)]
 
 #[cfg(test)]
@@ -7,9 +8,13 @@ mod ending;
 #[cfg(test)]
 mod host;
 #[cfg(test)]
+mod lines;
+#[cfg(test)]
 mod loopback;
 #[cfg(test)]
 mod meeting;
+#[cfg(test)]
+mod options;
 #[cfg(test)]
 mod sides;
 #[cfg(test)]

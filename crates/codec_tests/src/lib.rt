@@ -1,0 +1,17 @@
+//! Tests of `rre_codec` and `hextile_codec`, which stand in a crate of their own so that each of those is proved once.
+#![tactic(auto)]
+
+#[cfg(test)]
+mod colours;
+#[cfg(test)]
+mod hextile_carried;
+#[cfg(test)]
+mod hextile_fed;
+#[cfg(test)]
+mod hextile_reading;
+#[cfg(test)]
+mod hextile_writing;
+#[cfg(test)]
+mod rre_reading;
+#[cfg(test)]
+mod rre_writing;

@@ -1,0 +1,37 @@
+//! Lines of words that are no command.
+
+use command_line::run_words;
+use std::alloc::{AllocError, Global};
+use std::io;
+use std::test::*;
+
+/// The exit status of a line that is no command.
+const BAD_COMMAND: u8 = 2;
+
+/// No word, a word too many, a word that is no command, a host that isn't told, a port that is no number, an option
+/// that there isn't.
+const LINES: &str = "
+replay again
+srve
+serve
+serve --host 127.0.0.1:5900 --full none
+serve --host 127.0.0.1:5900 --quick";
+
+/// The words of a line.
+fn words_of(alloc: Global, line: &str) -> Result<Vec<String>, AllocError> {
+    let mut words = Vec::new(alloc);
+    for word in line.split_whitespace() {
+        words.push(String::from_str(alloc, word)?)?;
+    }
+    Ok(words)
+}
+
+#[test]
+fn lines_that_are_no_command(rt: HostRuntime) -> Result<(), Fail> {
+    for line in LINES.lines() {
+        let words = words_of(rt.alloc(), line)?;
+        let status = run_words(rt, rt.alloc(), words.as_slice(), io::empty(), io::sink());
+        assert_eq!(rt; status, BAD_COMMAND);
+    }
+    Ok(())
+}
