@@ -70,7 +70,7 @@ where
 }
 
 /// Does what these words say, which are those after the program's name, and answers the exit status: that of
-/// `reflect_world::replay` or of `serve`; 2 where the line is no command, with what is wrong with it on standard error;
+/// `replay::replay` or of `serve`; 2 where the line is no command, with what is wrong with it on standard error;
 /// 4 where memory is refused.
 #[tactic(auto, using(crate::proofs::Places::has_places))]
 pub fn run_words<R, I, O>(rt: R, alloc: Global, words: &[String], reader: I, writer: O) -> u8
@@ -89,7 +89,7 @@ where
     ensures { IsAnswered (map string_bytes words.now) result }
 {
     match task_of(alloc, words) {
-        Task::Replay => reflect_world::replay(alloc, reader, writer),
+        Task::Replay => replay::replay(alloc, reader, writer),
         Task::Serve(settings) => start(rt, alloc, &settings),
         Task::Explain(BadLine { status, text }) => {
             // Where standard error takes no text the status alone says it.

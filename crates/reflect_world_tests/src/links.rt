@@ -1,6 +1,6 @@
 //! Readers and writers that fail, and lines that are no text.
 
-use reflect_world::replay;
+use replay::replay;
 use std::io;
 use std::test::Fail;
 

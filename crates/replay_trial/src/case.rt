@@ -1,6 +1,6 @@
 //! Scripts with what they are to do, as they lie in files.
 
-use reflect_world::replay;
+use replay::replay;
 use std::alloc::Global;
 use std::test::Fail;
 

@@ -7,7 +7,7 @@
 use crate::hoard::Hoard;
 use crate::lines::Lines;
 use crate::refused::{Case, Outcome};
-use reflect_world::replay;
+use replay::replay;
 use std::alloc::{AllocError, Global};
 use std::fs;
 use std::test::Fail;

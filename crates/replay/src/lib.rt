@@ -1,11 +1,14 @@
-//! Scripts, played over a world.
+//! Scripts, played over the world of `reflect_world`.
+//!
+//! Memory: that of the world, a line and what is printed of it.
+//! Handles: none. `replay` reads and writes through what it is given.
+#![tactic(auto)]
 
 ghost use Rattle.std.specs.Prelude.{◌≡◌, ◌≤◌, ◌⊎◌, length, IfOk};
 ghost use Rattle.raster.specs.Size.{IsScreenSize};
 
-use crate::step::Step;
-use crate::world::{World, play};
 use pixel_format::Fault;
+use reflect_world::{Step, World, play};
 use replay_script::{Access, Line, shown};
 use roles::Role;
 use std::alloc::{AllocError, Global};
