@@ -1,5 +1,5 @@
-//! Tests of `reflect_world`, which stand in a crate of their own so that it is proved once. What scripts print is tried
-//! by `replay_trial`.
+//! Tests of `viewer_session`, `reflect_world` and `replay`, which stand in a crate of their own so that each of those is
+//! proved once. What scripts print is tried by `replay_trial`.
 #![tactic(auto)]
 
 #[cfg(test)]
