@@ -1,5 +1,4 @@
-//! What the benchmark `bench/answers` calls from C.
-#![tactic(auto)]
+//! What `bench/answers` calls.
 
 ghost use Rattle.std.specs.Prelude.{◌≡◌, ◌+◌, ◌*◌, ◌≤◌, length, IfOk};
 ghost use Rattle.raster.specs.Size.{IsScreenSize};

@@ -1,6 +1,6 @@
 use Rattle.std.proofs.Common.{◌≡◌, length}
 use Rattle.update_encoder.specs.Coming.{AnswerStands}
-use Rattle.bench_answers.proofs.write_all.Given as goal
+use Rattle.bench_kernels.proofs.answers.write_all.Given as goal
 
 abbrev pub invariant-loop-turn : goal.invariant-loop-turn
 invariant-loop-turn l =

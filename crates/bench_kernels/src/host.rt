@@ -1,5 +1,4 @@
-//! What the benchmark `bench/host_decoder` calls from C.
-#![tactic(auto)]
+//! What `bench/host_decoder` calls.
 
 ghost use Rattle.std.specs.Prelude.{◌<◌};
 ghost use Rattle.host_decoder.specs.Decoder.{IsFor};

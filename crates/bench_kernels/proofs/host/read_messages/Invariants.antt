@@ -1,5 +1,5 @@
 use Rattle.host_decoder.specs.Decoder.{IsFor}
-use Rattle.bench_host.proofs.read_messages.Given as goal
+use Rattle.bench_kernels.proofs.host.read_messages.Given as goal
 
 abbrev pub invariant-loop : goal.invariant-loop
 invariant-loop l = IsFor l.screen.decoder l.screen.painter

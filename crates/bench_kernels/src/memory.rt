@@ -1,5 +1,4 @@
-//! What the benchmark `bench/memory` calls from C.
-#![tactic(auto)]
+//! What `bench/memory` calls.
 
 ghost use Rattle.std.specs.Prelude.{◌≡◌, ◌≤◌, true};
 
