@@ -2,21 +2,29 @@
 //!
 //! `scripts` has whole scripts and `real_hosts` such with what real hosts sent, `bad_lines` lines that no script may
 //! have, and `first_lines` lines that none may begin with. `examples` has those that `examples/README.md` tells of, and
-//! `growths` those that are played while memory is refused.
+//! `growths` those that are played while memory is refused. `steps` has worlds and sessions, step by step.
 #![tactic(auto)]
 
+mod act;
 mod case;
 mod examples;
 mod hoard;
 mod lines;
+mod links;
 mod memory;
 mod refused;
+mod sessions;
+mod steps;
+mod updates;
+mod worlds;
 
 use case::{Case, FIRST, LATER, Place};
 use examples::play_examples;
+use links::play_links;
 use memory::refuse_growths;
 use std::fs;
 use std::test::Fail;
+use steps::play_steps;
 
 fn main(rt: HostRuntime) -> Result<(), Fail> {
     // First, while nothing else has used the heap.
@@ -25,7 +33,9 @@ fn main(rt: HostRuntime) -> Result<(), Fail> {
     play_scripts(&rt, "scripts")?;
     play_scripts(&rt, "real_hosts")?;
     refuse_lines(&rt, "bad_lines", &LATER)?;
-    refuse_lines(&rt, "first_lines", &FIRST)
+    refuse_lines(&rt, "first_lines", &FIRST)?;
+    play_links(&rt)?;
+    play_steps(&rt, "steps")
 }
 
 /// Plays the scripts of a file, names those that do otherwise than told, and says how many there are.
