@@ -154,6 +154,14 @@ impl Painter {
         self.touched.touch(&self.area, TOUCHED);
     }
 
+    /// Whether the update that is being read has touched tile `t`.
+    fn is_touched(&self, t: u64) -> bool
+        requires { t < tile_count self.now.width self.now.height }
+        ensures { result ≡ is_touched self.now t }
+    {
+        self.touched.stamp(t) == TOUCHED
+    }
+
     /// How many tiles were touched, and how many positions they have.
     fn touched_size(&self) -> (u64, u64)
         ensures count { result.0 ≡ length (touched_below self.now (tile_count self.now.width self.now.height)) }
@@ -163,7 +171,7 @@ impl Painter {
         let mut count = 0;
         let mut positions = 0;
         for t in 0..tile_count(width, height) {
-            if self.touched.stamp(t) == TOUCHED {
+            if self.is_touched(t) {
                 let area = tile_rect(width, height, t);
                 count += 1;
                 positions += area.w * area.h;
@@ -184,7 +192,7 @@ impl Painter {
         let mut numbers = Vec::with_capacity(self.alloc, count as usize)?;
         let mut colours = Vec::with_capacity(self.alloc, positions as usize)?;
         for t in 0..tile_count(width, height) {
-            if self.touched.stamp(t) == TOUCHED {
+            if self.is_touched(t) {
                 numbers.push(t)?;
                 add_colours(&mut colours, &self.raster, &tile_rect(width, height, t))?;
             }

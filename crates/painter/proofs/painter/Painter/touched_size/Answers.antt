@@ -1,15 +1,13 @@
 use Rattle.std.proofs.Common.{◌≡◌, ℕ, ◌+◌, ◌*◌, ◌≤◌, ◌∷◌, [], ◌++◌, List, length, length-append, ap, subst, sym, ◌∙◌, arith}
-use Rattle.std.specs.Prelude.{◌==◌}
 use Rattle.std.specs.List.{sum_by}
-use Rattle.std.proofs.lemmas.Bool.{ne_eqb}
 use Rattle.std.proofs.lemmas.List.Sums.{sum_by_push}
 use Rattle.raster.specs.declared.rect.Rect.{Rect}
-use Rattle.painter.specs.Painter.{Painting, is_touched, touched_below}
+use Rattle.painter.specs.Painter.{Painting, touched_below}
 use Rattle.painter.specs.Patch.{tile_area}
 use Rattle.painter.proofs.TileColours.{area_small}
 use Rattle.painter.proofs.TilePuts.{touched_push, touched_skip}
 use Rattle.painter.proofs.painter.Painter.touched_size.Goals as goal
-use Rattle.painter.proofs.painter.Painter.touched_size.Goals.{then-stamp-eq-TOUCHED, else-stamp-eq-TOUCHED}
+use Rattle.painter.proofs.painter.Painter.touched_size.Goals.{then-is_touched, else-is_touched}
 
 pub loop-t-preserved : goal.loop-t-preserved
 loop-t-preserved c =
@@ -17,10 +15,9 @@ loop-t-preserved c =
     let t : ℕ = c.loop-t.t in
     let below : List ℕ = touched_below now t in
     let area : ℕ → ℕ = tile_area now.width now.height in
-    let mark : is_touched now t ≡ (c.stamp.result == 1) = subst (λ (v : Painting). is_touched v t ≡ (c.stamp.result == 1)) c.self.view_is (ap (λ k. k == 1) (sym c.stamp.ensures.value)) in
-    elim c.if-stamp-eq-TOUCHED.branch [
-      | then-stamp-eq-TOUCHED w ↦
-          let more : touched_below now (t + 1) ≡ below ++ t ∷ [] = touched_push now t (mark ∙ ap (λ k. k == 1) w.if-stamp-eq-TOUCHED.true) in
+    elim c.if-is_touched.branch [
+      | then-is_touched w ↦
+          let more : touched_below now (t + 1) ≡ below ++ t ∷ [] = touched_push now t (sym c.is_touched.ensures ∙ w.if-is_touched.true) in
           let count : length (touched_below now (t + 1)) ≡ length below + 1 = ap (λ (ts : List ℕ). length ts) more ∙ length-append below (t ∷ []) in
           let all : sum_by area (touched_below now (t + 1)) ≡ sum_by area below + area t = ap (sum_by area) more ∙ sum_by_push area below t in
           let here : w.tile_rect-area.result.w * w.tile_rect-area.result.h ≡ area t = subst (λ (v : Painting). w.tile_rect-area.result.w * w.tile_rect-area.result.h ≡ tile_area v.width v.height t) c.self.view_is
@@ -32,8 +29,8 @@ loop-t-preserved c =
             few = omega (arith, w.count-is, c.loop-t.invariant.few);
             small = omega (arith, w.positions-is, here, small, c.loop-t.invariant.small);
           }
-      | else-stamp-eq-TOUCHED w ↦
-          let same : touched_below now (t + 1) ≡ below = touched_skip now t (mark ∙ ne_eqb c.stamp.result 1 w.if-stamp-eq-TOUCHED.false) in
+      | else-is_touched w ↦
+          let same : touched_below now (t + 1) ≡ below = touched_skip now t (sym c.is_touched.ensures ∙ w.if-is_touched.false) in
           record {
             count = w.count-is ∙ (c.loop-t.invariant.count ∙ ap (λ (ts : List ℕ). length ts) (sym same));
             area = w.positions-is ∙ (c.loop-t.invariant.area ∙ ap (sum_by area) (sym same));

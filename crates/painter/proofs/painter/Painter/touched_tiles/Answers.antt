@@ -1,16 +1,14 @@
 use Rattle.std.proofs.Common.{◌≡◌, ℕ, ◌+◌, ◌∷◌, [], ◌++◌, List, refl, ap, subst, sym, ◌∙◌}
-use Rattle.std.specs.Prelude.{◌==◌}
 use Rattle.std.specs.List.{flat_map}
-use Rattle.std.proofs.lemmas.Bool.{ne_eqb}
 use Rattle.std.proofs.lemmas.List.{append-nil}
 use Rattle.std.proofs.lemmas.List.Concat.{flat_map-append}
 use Rattle.raster.specs.declared.rect.Rect.{Rect}
 use Rattle.raster.specs.Picture.{shown}
 use Rattle.raster.specs.Screen.{tile_rect}
-use Rattle.painter.specs.Painter.{Painting, colours_in, is_touched, touched_below, worked}
+use Rattle.painter.specs.Painter.{Painting, colours_in, touched_below, worked}
 use Rattle.painter.proofs.TilePuts.{touched_push, touched_skip}
 use Rattle.painter.proofs.painter.Painter.touched_tiles.Goals as goal
-use Rattle.painter.proofs.painter.Painter.touched_tiles.Goals.{then-stamp-eq-TOUCHED+in_ok-push+in_ok-add_colours, else-stamp-eq-TOUCHED}
+use Rattle.painter.proofs.painter.Painter.touched_tiles.Goals.{then-is_touched+in_ok-push+in_ok-add_colours, else-is_touched}
 
 pub loop-t-preserved : goal.loop-t-preserved
 loop-t-preserved c =
@@ -18,10 +16,9 @@ loop-t-preserved c =
     let t : ℕ = c.loop-t.t in
     let below : List ℕ = touched_below now t in
     let tile : ℕ → List ℕ = λ k. colours_in (worked now) (tile_rect now.width now.height k) in
-    let mark : is_touched now t ≡ (c.stamp.result == 1) = subst (λ (v : Painting). is_touched v t ≡ (c.stamp.result == 1)) c.self.view_is (ap (λ k. k == 1) (sym c.stamp.ensures.value)) in
-    elim c.if-stamp-eq-TOUCHED.branch [
-      | then-stamp-eq-TOUCHED+in_ok-push+in_ok-add_colours w ↦
-          let more : touched_below now (t + 1) ≡ below ++ t ∷ [] = touched_push now t (mark ∙ ap (λ k. k == 1) w.if-stamp-eq-TOUCHED.true) in
+    elim c.if-is_touched.branch [
+      | then-is_touched+in_ok-push+in_ok-add_colours w ↦
+          let more : touched_below now (t + 1) ≡ below ++ t ∷ [] = touched_push now t (sym c.is_touched.ensures ∙ w.if-is_touched.true) in
           let area : w.tile_rect.result ≡ tile_rect c.self.inside.raster.width c.self.inside.raster.height t =
           w.tile_rect.ensures ∙ (ap (λ k. tile_rect k c.height-height.result t) c.width-width.ensures ∙ ap (λ k. tile_rect c.self.inside.raster.width k t) c.height-height.ensures) in
           let here : colours_in (shown c.self.inside.raster) w.tile_rect.result ≡ tile t =
@@ -35,8 +32,8 @@ loop-t-preserved c =
                 ∙ (ap (λ (cs : List ℕ). flat_map tile below ++ cs) (here ∙ sym (append-nil (tile t)))
                 ∙ (sym (flat_map-append tile below (t ∷ [])) ∙ ap (flat_map tile) (sym more)))));
           }
-      | else-stamp-eq-TOUCHED w ↦
-          let same : touched_below now (t + 1) ≡ below = touched_skip now t (mark ∙ ne_eqb c.stamp.result 1 w.if-stamp-eq-TOUCHED.false) in
+      | else-is_touched w ↦
+          let same : touched_below now (t + 1) ≡ below = touched_skip now t (sym c.is_touched.ensures ∙ w.if-is_touched.false) in
           record {
             numbers = ap (λ v. v.items) w.numbers-is ∙ (c.loop-t.invariant.numbers ∙ sym same);
             colours = ap (λ v. v.items) w.colours-is ∙ (c.loop-t.invariant.colours ∙ ap (flat_map tile) (sym same));
