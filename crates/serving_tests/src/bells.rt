@@ -1,31 +1,35 @@
 //! Rings, and waits that they end. A ring that is lost is seen after ten seconds, since the viewer's handshake is late
 //! by then.
 
-use crate::common::{make_seat, pair};
+use crate::links::{Trial, is_right};
 use link::{Link, Rest, StopFlag, Took};
-use serving::{Bell, Everyone, Seat, Stop, TcpLink, WriterSeat};
+use serving::{Bell, Everyone, Seat, Stop, WriterSeat};
 use std::alloc::Global;
 use std::sync::atomic::{AtomicU64, Ordering};
 use std::sync::{Arc, Wait};
 use std::test::*;
 use std::thread;
+use std::thread::Threads;
 
 /// This many rings are answered.
 const MANY: u64 = 1_000;
 
-#[test]
-fn early_ring_is_kept(rt: HostRuntime) -> Result<(), Fail> {
-    let seat = make_seat(&rt)?;
-    let (_far, near) = pair(&rt)?;
-    let mut link = TcpLink::new(rt, rt.alloc(), near, &seat)?;
+/// Whether a ring before a take ends it, and a rouse too.
+pub(crate) fn keeps_early_rings<L: Link>(seat: &Seat, link: &mut L) -> bool {
     let mut into = [0u8; 4];
     // The socket is writable for the first time, which ends a wait.
-    assert_eq!(rt; link.take(&mut into), Took::Nothing);
+    let first = link.take(&mut into);
     seat.ring();
     seat.ring();
-    assert_eq!(rt; link.take(&mut into), Took::Nothing);
+    let rung = link.take(&mut into);
     seat.rouse();
-    assert_eq!(rt; link.take(&mut into), Took::Nothing);
+    let roused = link.take(&mut into);
+    [first, rung, roused] == [Took::Nothing; 3]
+}
+
+#[test]
+fn early_ring_is_kept(rt: HostRuntime) -> Result<(), Fail> {
+    assert!(rt; is_right(rt, &rt, Trial::EarlyRing)?);
     Ok(())
 }
 
@@ -69,19 +73,25 @@ fn tells<R: Wait>(rt: &R, seat: &Seat, news: &AtomicU64, seen: &AtomicU64) {
     }
 }
 
-#[test]
-fn no_ring_is_lost(rt: HostRuntime) -> Result<(), Fail> {
-    let seat = make_seat(&rt)?;
-    let (_far, near) = pair(&rt)?;
-    let mut link = TcpLink::new(rt, rt.alloc(), near, &seat)?;
+/// Whether the link's holder sees each number that is rung for.
+pub(crate) fn loses_no_ring<R: Threads + Wait + Send + Sync, L: Link + Send>(
+    rt: &R,
+    seat: &Seat,
+    link: &mut L,
+) -> bool {
     let news = AtomicU64::new(0);
     let seen = AtomicU64::new(0);
     let (right, ()) = thread::join(
-        &rt,
-        || follows(&mut link, &news, &seen),
-        || tells(&rt, &seat, &news, &seen),
+        rt,
+        || follows(link, &news, &seen),
+        || tells(rt, seat, &news, &seen),
     );
-    assert!(rt; right);
+    right
+}
+
+#[test]
+fn no_ring_is_lost(rt: HostRuntime) -> Result<(), Fail> {
+    assert!(rt; is_right(rt, &rt, Trial::ManyRings)?);
     Ok(())
 }
 
@@ -108,32 +118,52 @@ fn rests_until<F: StopFlag, Z: Rest, R: Wait>(rt: &R, stop: &F, rest: &Z) {
     }
 }
 
-#[test]
-fn stop_ends_each_wait(rt: HostRuntime) -> Result<(), Fail> {
-    let seat = make_seat(&rt)?;
-    let (_far, near) = pair(&rt)?;
-    let mut link = TcpLink::new(rt, rt.alloc(), near, &seat)?;
-    let writer = Arc::new(rt.alloc(), WriterSeat::new())?;
-    let mut seats = Vec::new(rt.alloc());
-    seats.push(seat)?;
-    let everyone = Everyone {
-        writer: Arc::try_clone(&writer)?,
-        seats,
-    };
-    let stop = Stop::new(everyone);
-    assert!(rt; !stop.is_set());
+/// The bell of a writer and of one place.
+fn everyone(
+    alloc: Global,
+    writer: &Arc<WriterSeat, Global>,
+    seat: &Arc<Seat, Global>,
+) -> Result<Everyone, Fail> {
+    let mut seats = Vec::new(alloc);
+    seats.push(Arc::try_clone(seat)?)?;
+    let writer = Arc::try_clone(writer)?;
+    Ok(Everyone { writer, seats })
+}
+
+/// Whether a flag ends the waits of the link's holder and of the writer.
+fn ends_both<R: Threads + Wait + Send + Sync, L: Link + Send>(
+    rt: &R,
+    stop: &Stop<Everyone>,
+    writer: &WriterSeat,
+    link: &mut L,
+) -> bool {
+    let was_set = stop.is_set();
     let ((right, ()), ()) = thread::join(
-        &rt,
-        || {
-            thread::join(
-                &rt,
-                || takes_until(&mut link, &stop),
-                || rests_until(&rt, &stop, &*writer),
-            )
-        },
+        rt,
+        || thread::join(
+            rt,
+            || takes_until(link, stop),
+            || rests_until(rt, stop, writer),
+        ),
         || stop.set(),
     );
-    assert!(rt; right);
-    assert!(rt; stop.is_set());
+    !was_set && right && stop.is_set()
+}
+
+/// Whether a new flag does so.
+pub(crate) fn ends_each_wait<R: Threads + Wait + Send + Sync, L: Link + Send>(
+    rt: &R,
+    alloc: Global,
+    seat: &Arc<Seat, Global>,
+    link: &mut L,
+) -> Result<bool, Fail> {
+    let writer = Arc::new(alloc, WriterSeat::new())?;
+    let stop = Stop::new(everyone(alloc, &writer, seat)?);
+    Ok(ends_both(rt, &stop, &writer, link))
+}
+
+#[test]
+fn stop_ends_each_wait(rt: HostRuntime) -> Result<(), Fail> {
+    assert!(rt; is_right(rt, &rt, Trial::Stop)?);
     Ok(())
 }

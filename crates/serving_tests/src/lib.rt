@@ -11,6 +11,8 @@ mod doors;
 #[cfg(test)]
 mod hosts;
 #[cfg(test)]
+mod links;
+#[cfg(test)]
 mod rings;
 #[cfg(test)]
 mod viewers;

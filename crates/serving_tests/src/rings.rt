@@ -3,7 +3,7 @@
 ghost use Rattle.std.specs.Prelude.{◌≡◌, [], IfOk};
 ghost use Rattle.pixel_format.specs.declared.fault.Fault.TheVariants.{QueueFull};
 
-use input_relay::relay;
+use input_relay::{Sender, Taker, relay};
 use link::Rest;
 use painter::Patch;
 use pixel_format::Fault;
@@ -11,8 +11,8 @@ use reflect_core::{PlainScreen, Puts};
 use roles::{Input, InputSink};
 use serving::{Bell, Ringing, WriterSeat};
 use std::alloc::Global;
-use std::sync::Arc;
 use std::sync::atomic::{AtomicU64, Ordering};
+use std::sync::{Arc, Wait};
 use std::test::*;
 
 /// A bell that counts its rings.
@@ -70,34 +70,57 @@ fn put_rings(rt: HostRuntime) -> Result<(), Fail> {
     Ok(())
 }
 
-/// An input that is sent rings the host's writer; one that is refused rings nobody.
-#[test]
-fn send_rings(rt: HostRuntime) -> Result<(), Fail> {
-    let (mut senders, mut taker) = relay(rt, rt.alloc(), 1)?;
-    let writer = Arc::new(rt.alloc(), WriterSeat::new())?;
-    let mut sender = Ringing {
-        inner: senders.pop().ok_or("a sender")?,
-        bell: Arc::try_clone(&writer)?,
+/// Whether an input that is sent rings the writer, and is relayed.
+fn rings_and_relays<R: Wait + Drop>(
+    rt: &R,
+    sender: Sender<R>,
+    taker: &mut Taker<R>,
+    writer: &Arc<WriterSeat, Global>,
+) -> Result<bool, Fail> {
+    let mut ringing = Ringing {
+        inner: sender,
+        bell: Arc::try_clone(writer)?,
     };
-    assert!(rt; sender.send(press()).is_ok());
-    writer.rest(&rt);
-    assert!(rt;
-        matches!(
-            taker.take(),
-            Some((
+    let is_sent = ringing.send(press()).is_ok();
+    if is_sent {
+        writer.rest(rt);
+    }
+    Ok(is_sent && is_press(taker.take()))
+}
+
+/// Whether it is the press, from place 0.
+fn is_press(taken: Option<(u64, Input)>) -> bool {
+    match taken {
+        Some(
+            (
                 0,
                 Input::Key {
                     down: true,
-                    key: 0x61
-                }
-            ))
-        )
-    );
+                    key: 0x61,
+                },
+            ),
+        ) => true,
+        _ => false,
+    }
+}
+
+/// Whether an input is refused where the sink is full, and how often that rings.
+fn refusal_rings() -> (bool, u64) {
     let mut full = Ringing {
         inner: Full,
         bell: counter(),
     };
-    assert!(rt; matches!(full.send(press()), Err((Fault::QueueFull, _))));
-    assert_eq!(rt; full.bell.rings.load(Ordering::SeqCst), 0);
+    let is_refused = matches!(full.send(press()), Err((Fault::QueueFull, _)));
+    (is_refused, full.bell.rings.load(Ordering::SeqCst))
+}
+
+/// An input that is sent rings the host's writer; one that is refused rings nobody.
+#[test]
+fn send_rings(rt: HostRuntime) -> Result<(), Fail> {
+    let writer = Arc::new(rt.alloc(), WriterSeat::new())?;
+    let (mut senders, mut taker) = relay(rt, rt.alloc(), 1)?;
+    let sender = senders.pop().ok_or("a sender")?;
+    let right = rings_and_relays(&rt, sender, &mut taker, &writer)?;
+    assert!(rt; right && refusal_rings() == (true, 0));
     Ok(())
 }

@@ -2,12 +2,12 @@
 
 ghost use Rattle.std.specs.Prelude.{◌<◌, length};
 
-use crate::common::{make_seat, pair};
+use crate::links::{Trial, is_right};
 use link::{Gave, Link, Took};
-use serving::TcpLink;
 use std::io::{ErrorKind, Read, Write};
 use std::net::{Shutdown, TcpStream};
 use std::test::*;
+use std::thread::Threads;
 use std::time::{Clock, Duration};
 use std::{io, thread};
 
@@ -27,55 +27,60 @@ fn take_some<L: Link>(link: &mut L, into: &mut [u8]) -> Took
     Took::Nothing
 }
 
+/// Whether bytes that are given come out in order, and bytes that come are taken.
+pub(crate) fn passes_both_ways<L: Link>(link: &mut L, far: &mut TcpStream) -> io::Result<bool> {
+    let gave = [link.give(b"RFB 003."), link.give(b"008\n")];
+    far.write_all(HELLO)?;
+    let mut into = [0u8; 64];
+    let took = take_some(link, &mut into);
+    let mut version = [0u8; 12];
+    far.read_exact(&mut version)?;
+    let is_given = gave == [Gave::Bytes(8), Gave::Bytes(4)] && version == *b"RFB 003.008\n";
+    let is_taken = took == Took::Bytes(14) && &into[..14] == HELLO;
+    Ok(is_given && is_taken && link.failures() == 0)
+}
+
 /// A byte that is given is kept, goes out before a wait, and comes in its order; so do bytes that come.
 #[test]
 fn bytes_come_and_go(rt: HostRuntime) -> Result<(), Fail> {
-    let seat = make_seat(&rt)?;
-    let (mut far, near) = pair(&rt)?;
-    let mut link = TcpLink::new(rt, rt.alloc(), near, &seat)?;
-    assert_eq!(rt; link.give(b"RFB 003."), Gave::Bytes(8));
-    assert_eq!(rt; link.give(b"008\n"), Gave::Bytes(4));
-    far.write_all(HELLO)?;
-    let mut into = [0u8; 64];
-    assert_eq!(rt; take_some(&mut link, &mut into), Took::Bytes(14));
-    assert_eq!(rt; &into[..14], HELLO);
-    let mut version = [0u8; 12];
-    far.read_exact(&mut version)?;
-    assert_eq!(rt; version, *b"RFB 003.008\n");
-    assert_eq!(rt; link.failures(), 0);
+    assert!(rt; is_right(rt, &rt, Trial::BothWays)?);
     Ok(())
+}
+
+/// Whether small slices stay here until they are sent on, all at once.
+pub(crate) fn keeps_small_slices<L: Link>(link: &mut L, far: &mut TcpStream) -> io::Result<bool> {
+    let first = link.give(b"ab");
+    far.set_nonblocking(true)?;
+    let mut into = [0u8; 4];
+    let early = far.read(&mut into).map_err(|error| error.kind());
+    far.set_nonblocking(false)?;
+    let second = link.give(b"cd");
+    link.flush();
+    far.read_exact(&mut into)?;
+    let is_kept = [first, second] == [Gave::Bytes(2); 2] && early == Err(ErrorKind::WouldBlock);
+    Ok(is_kept && into == *b"abcd")
 }
 
 /// Bytes that are kept stay here until they are sent on.
 #[test]
 fn small_slices_are_kept(rt: HostRuntime) -> Result<(), Fail> {
-    let seat = make_seat(&rt)?;
-    let (mut far, near) = pair(&rt)?;
-    let mut link = TcpLink::new(rt, rt.alloc(), near, &seat)?;
-    assert_eq!(rt; link.give(b"ab"), Gave::Bytes(2));
-    far.set_nonblocking(true)?;
-    let mut into = [0u8; 4];
-    let early = far.read(&mut into).map_err(|error| error.kind());
-    assert_eq!(rt; early, Err(ErrorKind::WouldBlock));
-    far.set_nonblocking(false)?;
-    assert_eq!(rt; link.give(b"cd"), Gave::Bytes(2));
-    link.flush();
-    far.read_exact(&mut into)?;
-    assert_eq!(rt; into, *b"abcd");
+    assert!(rt; is_right(rt, &rt, Trial::SmallSlices)?);
     Ok(())
+}
+
+/// Whether what a peer sends before it is closed is taken, and then its end, each time.
+pub(crate) fn sees_the_end<L: Link>(link: &mut L, mut far: TcpStream) -> io::Result<bool> {
+    far.write_all(b"R")?;
+    drop(far);
+    let mut into = [0u8; 4];
+    let first = take_some(link, &mut into);
+    let ends = [take_some(link, &mut into), take_some(link, &mut into)];
+    Ok(first == Took::Bytes(1) && ends == [Took::End; 2])
 }
 
 #[test]
 fn closed_peer_is_an_end(rt: HostRuntime) -> Result<(), Fail> {
-    let seat = make_seat(&rt)?;
-    let (mut far, near) = pair(&rt)?;
-    let mut link = TcpLink::new(rt, rt.alloc(), near, &seat)?;
-    far.write_all(b"R")?;
-    drop(far);
-    let mut into = [0u8; 4];
-    assert_eq!(rt; take_some(&mut link, &mut into), Took::Bytes(1));
-    assert_eq!(rt; take_some(&mut link, &mut into), Took::End);
-    assert_eq!(rt; take_some(&mut link, &mut into), Took::End);
+    assert!(rt; is_right(rt, &rt, Trial::ClosedPeer)?);
     Ok(())
 }
 
@@ -132,23 +137,30 @@ fn reads_pattern<L: Link>(link: &mut L, far: &mut TcpStream, wanted: usize) -> i
     Ok(false)
 }
 
+/// Whether slices of this length find no room at last, and are read in order; then there is room again.
+pub(crate) fn waits_for_a_viewer<L: Link>(
+    link: &mut L,
+    far: &mut TcpStream,
+    len: usize,
+) -> io::Result<bool> {
+    let given = give_until_full(link, len);
+    let is_full = given > 65_536 && link.give(b"x") == Gave::Nothing && link.failures() == 0;
+    let is_read = reads_pattern(link, far, given)?;
+    let mut into = [0u8; 4];
+    let took = link.take(&mut into);
+    let gave = link.give(b"x");
+    Ok(is_full && is_read && took == Took::Nothing && gave == Gave::Bytes(1))
+}
+
 /// A viewer that takes nothing is answered Nothing, and what was given waits for it: in slices that are kept, and in
 /// slices that are written at once.
 #[test]
 fn rest_waits_for_a_viewer(rt: HostRuntime) -> Result<(), Fail> {
     for len in [1_000, 16_384] {
-        let seat = make_seat(&rt)?;
-        let (mut far, near) = pair(&rt)?;
-        let mut link = TcpLink::new(rt, rt.alloc(), near, &seat)?;
-        let given = give_until_full(&mut link, len);
-        assert!(rt; given > 65_536, "{given} bytes in slices of {len}");
-        assert_eq!(rt; link.give(b"x"), Gave::Nothing);
-        assert_eq!(rt; link.failures(), 0);
-        let right = reads_pattern(&mut link, &mut far, given)?;
-        assert!(rt; right, "{given} bytes in slices of {len}");
-        let mut into = [0u8; 4];
-        assert_eq!(rt; link.take(&mut into), Took::Nothing);
-        assert_eq!(rt; link.give(b"x"), Gave::Bytes(1));
+        assert!(rt;
+            is_right(rt, &rt, Trial::NoRoom(len))?,
+            "in slices of {len}"
+        );
     }
     Ok(())
 }
@@ -213,20 +225,24 @@ fn reads_slowly<R: Clock>(rt: &R, far: &mut TcpStream, wanted: usize) -> io::Res
     Ok(read == wanted)
 }
 
+/// Whether a viewer that reads slowly has the whole answer.
+pub(crate) fn gives_a_long_answer<R: Threads + Clock + Send + Sync, L: Link + Send>(
+    rt: &R,
+    link: &mut L,
+    far: &mut TcpStream,
+) -> io::Result<bool> {
+    far.write_all(HELLO)?;
+    let (is_given, is_read) = thread::join(
+        rt,
+        || gives_until_end(link, LONG_ANSWER),
+        || reads_slowly(rt, far, LONG_ANSWER).unwrap_or(false),
+    );
+    Ok(is_given && is_read && link.failures() == 0)
+}
+
 /// A wait for room ends, also where nothing is kept: else the viewer's read would fail.
 #[test]
 fn slow_viewer_is_given_a_long_answer(rt: HostRuntime) -> Result<(), Fail> {
-    let seat = make_seat(&rt)?;
-    let (mut far, near) = pair(&rt)?;
-    far.write_all(HELLO)?;
-    let mut link = TcpLink::new(rt, rt.alloc(), near, &seat)?;
-    let (is_given, is_read) = thread::join(
-        &rt,
-        || gives_until_end(&mut link, LONG_ANSWER),
-        || reads_slowly(&rt, &mut far, LONG_ANSWER).unwrap_or(false),
-    );
-    assert!(rt; is_given);
-    assert!(rt; is_read);
-    assert_eq!(rt; link.failures(), 0);
+    assert!(rt; is_right(rt, &rt, Trial::LongAnswer)?);
     Ok(())
 }
