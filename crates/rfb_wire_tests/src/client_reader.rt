@@ -5,12 +5,11 @@ use raster::{Encoding, Rect};
 use rfb_wire::{ClientMessage, ClientReader};
 use std::alloc::Global;
 use std::process::Abort;
-use std::test::Fail;
 
 /// What a message says.
-#[derive(Drop)]
-enum Says<'a> {
-    Format(&'a [u8; 16]),
+#[derive(Clone, Copy)]
+enum Says {
+    Format([u8; 16]),
     /// How pixels are wanted, and whether CopyRect is among the encodings.
     Encodings(Encoding, bool),
     /// Whether only what has changed is asked for, and where.
@@ -19,17 +18,61 @@ enum Says<'a> {
     Key(bool, u32),
     /// The buttons, and the position.
     Pointer(u8, u16, u16),
-    Text(&'a [u8]),
+    Text(&'static [u8]),
+    /// A text of this many bytes, each of which is an M.
+    LongText(usize),
     LostText(u32),
 }
 
 /// A format of 16 bits, red 5, green 6 and blue 5 bits, most significant byte first.
 const FORMAT: [u8; 16] = [16, 16, 1, 1, 0, 31, 0, 63, 0, 31, 11, 5, 0, 0, 0, 0];
 
+/// Messages, and what they say.
+const MESSAGES: [(&[u8], Says); 9] = [
+    (
+        &[
+            0, 0, 0, 0, 16, 16, 1, 1, 0, 31, 0, 63, 0, 31, 11, 5, 0, 0, 0, 0,
+        ],
+        Says::Format(FORMAT),
+    ),
+    // CopyRect, one that isn't known, Hextile, Raw, RRE
+    (
+        &[
+            2, 0, 0, 5, 0, 0, 0, 1, 255, 255, 255, 0, 0, 0, 0, 5, 0, 0, 0, 0, 0, 0, 0, 2,
+        ],
+        Says::Encodings(Encoding::Hextile, true),
+    ),
+    (
+        &[2, 0, 0, 2, 0, 0, 0, 1, 255, 255, 255, 0],
+        Says::Encodings(Encoding::Raw, true),
+    ),
+    (&[2, 0, 0, 0], Says::Encodings(Encoding::Raw, false)),
+    (&[3, 255, 1, 2, 0, 3, 16, 0, 0, 1], Says::Ask(true, AREA)),
+    (&[4, 1, 9, 9, 0, 0, 255, 13], Says::Key(true, 0xFF0D)),
+    (&[5, 4, 1, 0, 0, 7], Says::Pointer(4, 256, 7)),
+    (
+        &[6, 0, 0, 0, 0, 0, 0, 3, 65, 255, 67],
+        Says::Text(&[65, 255, 67]),
+    ),
+    (&[6, 0, 0, 0, 0, 0, 0, 0], Says::Text(&[])),
+];
+
+const AREA: Rect = Rect {
+    x: 258,
+    y: 3,
+    w: 4096,
+    h: 1,
+};
+
 fn is_format(format: &Format, bytes: &[u8; 16]) -> bool {
     let mut written = [0; 16];
     format.write(&mut written);
     written == *bytes
+}
+
+/// Whether these are so many bytes, each of which is an M.
+fn is_long_text(bytes: &[u8], count: usize) -> bool {
+    bytes.len() == count && bytes.iter().all(|byte| *byte == b'M')
 }
 
 fn is_said(message: &ClientMessage, says: &Says) -> bool {
@@ -48,6 +91,7 @@ fn is_said(message: &ClientMessage, says: &Says) -> bool {
             mask == buttons && x == across && y == down
         }
         (ClientMessage::Cut(text), Says::Text(bytes)) => text.as_slice() == *bytes,
+        (ClientMessage::Cut(text), Says::LongText(count)) => is_long_text(text.as_slice(), *count),
         (ClientMessage::CutLost(len), Says::LostText(lost)) => len == lost,
         _ => false,
     }
@@ -61,10 +105,6 @@ fn gives(reader: &mut ClientReader, says: &Says) -> bool {
     }
 }
 
-fn gives_nothing(reader: &mut ClientReader) -> bool {
-    reader.take().is_none()
-}
-
 /// Whether this many bytes of the piece are used, and no fault is shown.
 fn uses(reader: &mut ClientReader, piece: &[u8], count: usize) -> bool {
     match reader.feed(piece) {
@@ -73,19 +113,8 @@ fn uses(reader: &mut ClientReader, piece: &[u8], count: usize) -> bool {
     }
 }
 
-fn shows_unknown_type(reader: &mut ClientReader, piece: &[u8], kind: u8) -> bool {
-    match reader.feed(piece) {
-        Err(Fault::UnknownMessage(found)) => found == kind,
-        _ => false,
-    }
-}
-
 fn shows_bad_format(reader: &mut ClientReader, piece: &[u8]) -> bool {
     matches!(reader.feed(piece), Err(Fault::BadFormat))
-}
-
-fn is_fine(reader: &ClientReader) -> bool {
-    reader.fault().is_none()
 }
 
 /// Whether all of both pieces is used, and they spell this.
@@ -93,83 +122,167 @@ fn reads_in_two(reader: &mut ClientReader, front: &[u8], back: &[u8], says: &Say
     uses(reader, front, front.len()) && uses(reader, back, back.len()) && gives(reader, says)
 }
 
-fn is_read_in_two(alloc: Global, front: &[u8], back: &[u8], says: &Says) -> bool {
-    let mut reader = ClientReader::new(alloc);
-    reads_in_two(&mut reader, front, back, says)
-}
-
-fn uses_each_byte(reader: &mut ClientReader, bytes: &[u8]) -> bool {
-    for piece in bytes.chunks(1) {
-        if !uses(reader, piece, 1) {
+/// Whether each of so many pieces is used up to this byte.
+fn uses_pieces(reader: &mut ClientReader, piece: &[u8], used: usize, count: usize) -> bool {
+    for _ in 0..count {
+        if !uses(reader, piece, used) {
             return false;
         }
     }
     true
 }
 
-fn is_read_byte_by_byte(alloc: Global, bytes: &[u8], says: &Says) -> bool {
-    let mut reader = ClientReader::new(alloc);
-    uses_each_byte(&mut reader, bytes) && gives(&mut reader, says)
+fn reads_byte_by_byte(reader: &mut ClientReader, bytes: &[u8], says: &Says) -> bool {
+    for piece in bytes.chunks(1) {
+        if !uses(reader, piece, 1) {
+            return false;
+        }
+    }
+    gives(reader, says)
 }
 
 /// A message is read wherever it is cut in two, and in a piece for each byte.
-fn is_read_in_pieces<R: Abort + AllocGlobal>(rt: &R, bytes: &[u8], says: &Says) {
-    for cut in 0..=bytes.len() {
-        let (front, back) = bytes.split_at(cut);
-        assert!(rt;
-            is_read_in_two(rt.alloc(), front, back, says),
-            "cut at {cut}"
-        );
+#[test]
+fn messages_in_pieces(rt: HostRuntime) {
+    for (i, (bytes, says)) in MESSAGES.iter().enumerate() {
+        for cut in 0..=bytes.len() {
+            let (front, back) = bytes.split_at(cut);
+            let mut reader = ClientReader::new(rt.alloc());
+            let is_read = reads_in_two(&mut reader, front, back, says);
+            assert!(rt; is_read, "message {i} cut at {cut}");
+        }
+        let mut reader = ClientReader::new(rt.alloc());
+        let is_read = reads_byte_by_byte(&mut reader, bytes, says);
+        assert!(rt; is_read, "message {i} byte by byte");
     }
-    assert!(rt; is_read_byte_by_byte(rt.alloc(), bytes, says));
 }
 
-#[test]
-fn format_in_pieces(rt: HostRuntime) {
-    let bytes = [
-        0, 0, 0, 0, 16, 16, 1, 1, 0, 31, 0, 63, 0, 31, 11, 5, 0, 0, 0, 0,
-    ];
-    is_read_in_pieces(&rt, &bytes, &Says::Format(&FORMAT));
+/// What is done with one reader, and what comes of it.
+#[derive(Clone, Copy)]
+enum Step {
+    /// So many bytes of a piece are used, and no fault is shown.
+    Uses(&'static [u8], usize),
+    /// The same of so many pieces, one after the other.
+    UsesAgain(&'static [u8], usize, usize),
+    /// The same of so many pieces of this many bytes, each of which is an M.
+    UsesLong(Long),
+    Gives(Says),
+    GivesNothing,
+    /// A text is given, and gives no bytes back.
+    GivesEmptyText,
+    /// A message of this type isn't known.
+    IsUnknown(&'static [u8], u8),
+    IsBadFormat(&'static [u8]),
+    IsFine,
+    IsAtFault,
 }
 
-#[test]
-fn encodings_in_pieces(rt: HostRuntime) {
-    // CopyRect, one that isn't known, Hextile, Raw, RRE
-    let bytes = [
-        2, 0, 0, 5, 0, 0, 0, 1, 255, 255, 255, 0, 0, 0, 0, 5, 0, 0, 0, 0, 0, 0, 0, 2,
-    ];
-    is_read_in_pieces(&rt, &bytes, &Says::Encodings(Encoding::Hextile, true));
-    let bytes = [2, 0, 0, 2, 0, 0, 0, 1, 255, 255, 255, 0];
-    is_read_in_pieces(&rt, &bytes, &Says::Encodings(Encoding::Raw, true));
-    is_read_in_pieces(&rt, &[2, 0, 0, 0], &Says::Encodings(Encoding::Raw, false));
+/// So many pieces of one length, of each of which this many bytes are used.
+#[derive(Clone, Copy)]
+struct Long {
+    len: usize,
+    used: usize,
+    count: usize,
 }
 
-#[test]
-fn request_in_pieces(rt: HostRuntime) {
-    let area = Rect {
-        x: 258,
-        y: 3,
-        w: 4096,
-        h: 1,
-    };
-    let bytes = [3, 255, 1, 2, 0, 3, 16, 0, 0, 1];
-    is_read_in_pieces(&rt, &bytes, &Says::Ask(true, area));
+const EMPTY_TEXT: [Step; 2] = [
+    Step::Uses(&[6, 0, 0, 0, 0, 0, 0, 0], 8),
+    Step::GivesEmptyText,
+];
+
+/// Of 65,535 numbers one alone is an encoding that is written.
+const LONGEST_LIST: [Step; 6] = [
+    Step::Uses(&[2, 0, 255, 255], 4),
+    Step::UsesAgain(&[0, 0, 0, 7], 4, 65533),
+    Step::Uses(&[0, 0, 0, 2], 4),
+    Step::GivesNothing,
+    Step::Uses(&[0, 0, 0, 0, 99], 4),
+    Step::Gives(Says::Encodings(Encoding::Rre, false)),
+];
+
+const LONGEST_TEXT_THAT_IS_KEPT: [Step; 3] = [
+    Step::Uses(&[6, 0, 0, 0, 0, 1, 0, 0], 8),
+    Step::UsesLong(Long {
+        len: 65536,
+        used: 65536,
+        count: 1,
+    }),
+    Step::Gives(Says::LongText(65536)),
+];
+
+const TEXT_THAT_IS_TOO_LONG: [Step; 3] = [
+    Step::Uses(&[6, 0, 0, 0, 0, 1, 0, 1], 8),
+    Step::UsesLong(Long {
+        len: 65537,
+        used: 65537,
+        count: 1,
+    }),
+    Step::Gives(Says::LostText(65537)),
+];
+
+/// The pieces have 1,048,576 bytes, of which 4,096 pieces hold one byte more than the text.
+const LONGEST_TEXT: [Step; 5] = [
+    Step::Uses(&[6, 0, 0, 0, 255, 255, 255, 255], 8),
+    Step::UsesLong(Long {
+        len: 1048576,
+        used: 1048576,
+        count: 4095,
+    }),
+    Step::GivesNothing,
+    Step::UsesLong(Long {
+        len: 1048576,
+        used: 1048575,
+        count: 1,
+    }),
+    Step::Gives(Says::LostText(4294967295)),
+];
+
+/// What is left to read of a text of 4,294,967,295 bytes is no message, and its first bytes are no fault.
+const LONGEST_TEXT_BEGUN: [Step; 3] = [
+    Step::Uses(&[6, 0, 0, 0, 255, 255, 255, 255, 65, 66, 67], 11),
+    Step::IsFine,
+    Step::GivesNothing,
+];
+
+const ONE_AT_A_TIME: [Step; 6] = [
+    Step::Uses(&[5, 1, 0, 2, 0, 3, 5, 0], 6),
+    Step::Uses(&[5, 0], 0),
+    Step::Gives(Says::Pointer(1, 2, 3)),
+    Step::GivesNothing,
+    Step::Uses(&[5, 0, 0, 2, 0, 3], 6),
+    Step::Gives(Says::Pointer(0, 2, 3)),
+];
+
+const UNKNOWN_TYPE: [Step; 6] = [
+    Step::IsFine,
+    Step::IsUnknown(&[7, 3, 0], 7),
+    Step::IsUnknown(&[3], 7),
+    Step::IsUnknown(&[], 7),
+    Step::GivesNothing,
+    Step::IsAtFault,
+];
+
+/// 24 bits a pixel, which the first of the 16 bytes shows.
+const REFUSED_FORMAT: [Step; 4] = [
+    Step::Uses(
+        &[
+            0, 0, 0, 0, 24, 24, 0, 1, 0, 255, 0, 255, 0, 255, 16, 8, 0, 0, 0,
+        ],
+        19,
+    ),
+    Step::IsFine,
+    Step::IsBadFormat(&[0]),
+    Step::IsBadFormat(&[0]),
+];
+
+fn uses_long(alloc: Global, reader: &mut ClientReader, long: &Long) -> bool {
+    match Vec::from_elem(alloc, b'M', long.len) {
+        Ok(piece) => uses_pieces(reader, piece.as_slice(), long.used, long.count),
+        Err(_) => false,
+    }
 }
 
-#[test]
-fn input_in_pieces(rt: HostRuntime) {
-    is_read_in_pieces(&rt, &[4, 1, 9, 9, 0, 0, 255, 13], &Says::Key(true, 0xFF0D));
-    is_read_in_pieces(&rt, &[5, 4, 1, 0, 0, 7], &Says::Pointer(4, 256, 7));
-}
-
-#[test]
-fn text_in_pieces(rt: HostRuntime) {
-    let bytes = [6, 0, 0, 0, 0, 0, 0, 3, 65, 255, 67];
-    is_read_in_pieces(&rt, &bytes, &Says::Text(&[65, 255, 67]));
-    is_read_in_pieces(&rt, &[6, 0, 0, 0, 0, 0, 0, 0], &Says::Text(&[]));
-}
-
-/// A text gives its bytes back.
+/// Whether a text is given. It gives its bytes back, and has none.
 fn gives_empty_text(reader: &mut ClientReader) -> bool {
     match reader.take() {
         Some(ClientMessage::Cut(text)) => text.into_vec().is_empty(),
@@ -177,154 +290,54 @@ fn gives_empty_text(reader: &mut ClientReader) -> bool {
     }
 }
 
-#[test]
-fn empty_text(rt: HostRuntime) {
-    let mut reader = ClientReader::new(rt.alloc());
-    let used = uses(&mut reader, &[6, 0, 0, 0, 0, 0, 0, 0], 8);
-    let given = gives_empty_text(&mut reader);
-    assert!(rt; used && given);
-}
-
-/// This many numbers of a list, none of which is an encoding that is written.
-fn uses_unknown_numbers(reader: &mut ClientReader, count: usize) -> bool {
-    for _ in 0..count {
-        if !uses(reader, &[0, 0, 0, 7], 4) {
-            return false;
-        }
+fn is_unknown(reader: &mut ClientReader, piece: &[u8], kind: u8) -> bool {
+    match reader.feed(piece) {
+        Err(Fault::UnknownMessage(found)) => found == kind,
+        _ => false,
     }
-    true
 }
 
-fn reads_longest_list(reader: &mut ClientReader) -> bool {
-    uses(reader, &[2, 0, 255, 255], 4)
-        && uses_unknown_numbers(reader, 65533)
-        && uses(reader, &[0, 0, 0, 2], 4)
-        && gives_nothing(reader)
-        && uses(reader, &[0, 0, 0, 0, 99], 4)
-        && gives(reader, &Says::Encodings(Encoding::Rre, false))
-}
-
-#[test]
-fn longest_list(rt: HostRuntime) {
-    let mut reader = ClientReader::new(rt.alloc());
-    let read = reads_longest_list(&mut reader);
-    assert!(rt; read);
-}
-
-#[test]
-fn longest_text_that_is_kept(rt: HostRuntime) -> Result<(), Fail> {
-    let text = Vec::from_elem(rt.alloc(), 77u8, 65536)?;
-    let head = [6, 0, 0, 0, 0, 1, 0, 0];
-    let read = is_read_in_two(
-        rt.alloc(),
-        &head,
-        text.as_slice(),
-        &Says::Text(text.as_slice()),
-    );
-    assert!(rt; read);
-    Ok(())
-}
-
-#[test]
-fn text_that_is_too_long(rt: HostRuntime) -> Result<(), Fail> {
-    let text = Vec::from_elem(rt.alloc(), 77u8, 65537)?;
-    let head = [6, 0, 0, 0, 0, 1, 0, 1];
-    let read = is_read_in_two(rt.alloc(), &head, text.as_slice(), &Says::LostText(65537));
-    assert!(rt; read);
-    Ok(())
-}
-
-/// This many pieces, each of which is used whole.
-fn uses_pieces(reader: &mut ClientReader, piece: &[u8], count: usize) -> bool {
-    for _ in 0..count {
-        if !uses(reader, piece, piece.len()) {
-            return false;
-        }
+/// Whether a step comes to what it has to.
+fn goes(alloc: Global, reader: &mut ClientReader, step: &Step) -> bool {
+    match step {
+        Step::Uses(piece, used) => uses(reader, piece, *used),
+        Step::UsesAgain(piece, used, count) => uses_pieces(reader, piece, *used, *count),
+        Step::UsesLong(long) => uses_long(alloc, reader, long),
+        Step::Gives(says) => gives(reader, says),
+        Step::GivesNothing => reader.take().is_none(),
+        Step::GivesEmptyText => gives_empty_text(reader),
+        Step::IsUnknown(piece, kind) => is_unknown(reader, piece, *kind),
+        Step::IsBadFormat(piece) => shows_bad_format(reader, piece),
+        Step::IsFine => reader.fault().is_none(),
+        Step::IsAtFault => reader.fault().is_some(),
     }
-    true
 }
 
-/// The pieces have 1,048,576 bytes, of which 4,096 pieces hold one byte more than the text.
-fn reads_longest_text(reader: &mut ClientReader, piece: &[u8]) -> bool {
-    uses(reader, &[6, 0, 0, 0, 255, 255, 255, 255], 8)
-        && uses_pieces(reader, piece, 4095)
-        && gives_nothing(reader)
-        && uses(reader, piece, 1048575)
-        && gives(reader, &Says::LostText(4294967295))
-}
-
-#[test]
-fn longest_text(rt: HostRuntime) -> Result<(), Fail> {
-    let piece = Vec::from_elem(rt.alloc(), 77u8, 1048576)?;
+/// Each step over a new reader comes to what it has to.
+fn plays<R: Abort + AllocGlobal>(rt: &R, name: &str, steps: &[Step]) {
     let mut reader = ClientReader::new(rt.alloc());
-    let read = reads_longest_text(&mut reader, piece.as_slice());
-    assert!(rt; read);
-    Ok(())
+    for (i, step) in steps.iter().enumerate() {
+        assert!(rt; goes(rt.alloc(), &mut reader, step), "{name}: step {i}");
+    }
 }
 
-/// What is left to read of a text of 4,294,967,295 bytes is no message, and its first bytes are no fault.
-fn begins_longest_text(reader: &mut ClientReader) -> bool {
-    uses(reader, &[6, 0, 0, 0, 255, 255, 255, 255, 65, 66, 67], 11)
-        && is_fine(reader)
-        && gives_nothing(reader)
-}
-
-#[test]
-fn longest_text_begun(rt: HostRuntime) {
-    let mut reader = ClientReader::new(rt.alloc());
-    let read = begins_longest_text(&mut reader);
-    assert!(rt; read);
-}
-
-fn reads_one_at_a_time(reader: &mut ClientReader) -> bool {
-    uses(reader, &[5, 1, 0, 2, 0, 3, 5, 0], 6)
-        && uses(reader, &[5, 0], 0)
-        && gives(reader, &Says::Pointer(1, 2, 3))
-        && gives_nothing(reader)
-        && uses(reader, &[5, 0, 0, 2, 0, 3], 6)
-        && gives(reader, &Says::Pointer(0, 2, 3))
-}
-
-#[test]
-fn one_message_at_a_time(rt: HostRuntime) {
-    let mut reader = ClientReader::new(rt.alloc());
-    let read = reads_one_at_a_time(&mut reader);
-    assert!(rt; read);
-}
-
-fn refuses_a_type(reader: &mut ClientReader) -> bool {
-    is_fine(reader)
-        && shows_unknown_type(reader, &[7, 3, 0], 7)
-        && shows_unknown_type(reader, &[3], 7)
-        && shows_unknown_type(reader, &[], 7)
-        && gives_nothing(reader)
-        && !is_fine(reader)
-}
-
-#[test]
-fn type_that_is_unknown(rt: HostRuntime) {
-    let mut reader = ClientReader::new(rt.alloc());
-    let read = refuses_a_type(&mut reader);
-    assert!(rt; read);
-}
-
-/// 24 bits a pixel, which the first of the 16 bytes shows.
-const REFUSED: [u8; 19] = [
-    0, 0, 0, 0, 24, 24, 0, 1, 0, 255, 0, 255, 0, 255, 16, 8, 0, 0, 0,
+const STREAMS: [(&str, &[Step]); 9] = [
+    ("an empty text", &EMPTY_TEXT),
+    ("the longest list", &LONGEST_LIST),
+    ("the longest text that is kept", &LONGEST_TEXT_THAT_IS_KEPT),
+    ("a text that is too long", &TEXT_THAT_IS_TOO_LONG),
+    ("the longest text", &LONGEST_TEXT),
+    ("the longest text, begun", &LONGEST_TEXT_BEGUN),
+    ("one message at a time", &ONE_AT_A_TIME),
+    ("a type that is unknown", &UNKNOWN_TYPE),
+    ("a format that is refused", &REFUSED_FORMAT),
 ];
 
-fn refuses_a_format(reader: &mut ClientReader) -> bool {
-    uses(reader, &REFUSED, 19)
-        && is_fine(reader)
-        && shows_bad_format(reader, &[0])
-        && shows_bad_format(reader, &[0])
-}
-
 #[test]
-fn format_that_is_refused(rt: HostRuntime) {
-    let mut reader = ClientReader::new(rt.alloc());
-    let read = refuses_a_format(&mut reader);
-    assert!(rt; read);
+fn streams(rt: HostRuntime) {
+    for (name, steps) in STREAMS {
+        plays(&rt, name, steps);
+    }
 }
 
 /// Whether a message type is read as one that is known: it is no fault.
@@ -372,9 +385,9 @@ fn changed(position: usize, value: u8) -> [u8; 16] {
 /// Whether the last byte of a format is read so: BadFormat, which stays, or a message.
 fn is_judged(reader: &mut ClientReader, last: &[u8], accepted: bool) -> bool {
     if accepted {
-        uses(reader, last, 1) && !gives_nothing(reader)
+        uses(reader, last, 1) && reader.take().is_some()
     } else {
-        shows_bad_format(reader, last) && shows_bad_format(reader, &[5]) && gives_nothing(reader)
+        shows_bad_format(reader, last) && shows_bad_format(reader, &[5]) && reader.take().is_none()
     }
 }
 

@@ -2,11 +2,11 @@
 
 ghost use Rattle.std.specs.Prelude.{◌<◌, ◌≤◌};
 
-use pixel_format::Fault;
 use rfb_wire::{
     HostHello, ViewerHello, write_bell, write_client_text, write_key, write_pointer,
     write_server_text,
 };
+use std::process::Abort;
 
 /// A host that offers None, says OK and has a screen of 2 by 1, named T.
 const HOST: [u8; 43] =
@@ -20,21 +20,19 @@ fn host_with(version: &[u8; 12], size: &[u8; 4]) -> [u8; 43] {
     bytes
 }
 
-/// The number of the fault that the host's bytes come to, and 0 where there is none.
-fn feed_host(hello: &mut HostHello, bytes: &[u8], size: usize) -> u64
+/// How many of a host's bytes are used, in pieces of this many, and the number of the fault that they come to, 0 where
+/// there is none.
+fn feed_host(hello: &mut HostHello, bytes: &[u8], size: usize) -> (usize, u64)
     requires { 0 < size }
 {
+    let mut used: usize = 0;
     for piece in bytes.chunks(size) {
         match hello.feed(piece) {
-            Ok(_) => {}
-            Err(fault) => return fault.number(),
+            Ok(count) => used = used.saturating_add(count),
+            Err(fault) => return (used, fault.number()),
         }
     }
-    0
-}
-
-fn is_joined(hello: &HostHello) -> bool {
-    hello.done().is_some()
+    (used, 0)
 }
 
 /// The number of the fault, 0 where the host is joined, and 99 where it is neither.
@@ -42,8 +40,8 @@ fn host_in_pieces(bytes: &[u8], size: usize) -> u64
     requires { 0 < size }
 {
     let mut hello = HostHello::new();
-    let fault = feed_host(&mut hello, bytes, size);
-    if fault == 0 && !is_joined(&hello) {
+    let (_, fault) = feed_host(&mut hello, bytes, size);
+    if fault == 0 && hello.done().is_none() {
         99
     } else {
         fault
@@ -95,11 +93,18 @@ fn versions(rt: HostRuntime) {
     }
 }
 
+/// Types of security, and their results.
+const SECURITY: [(&[u8], u64); 3] = [
+    (b"RFB 003.008\n\x01\x02", 3),
+    (b"RFB 003.008\n\x02\x02\x01\0\0\0\x01", 4),
+    (b"RFB 003.008\n\x02\x02\x01\0\0\0\0", 99),
+];
+
 #[test]
 fn security(rt: HostRuntime) {
-    assert!(rt; host_fault(b"RFB 003.008\n\x01\x02") == 3);
-    assert!(rt; host_fault(b"RFB 003.008\n\x02\x02\x01\0\0\0\x01") == 4);
-    assert!(rt; host_fault(b"RFB 003.008\n\x02\x02\x01\0\0\0\0") == 99);
+    for (i, (bytes, fault)) in SECURITY.iter().enumerate() {
+        assert!(rt; host_fault(bytes) == *fault, "security {i}");
+    }
 }
 
 /// A host that refuses with a reason of this many bytes, of which the first 255 are kept.
@@ -114,28 +119,21 @@ fn is_refused(count: u32) -> bool
 
 #[test]
 fn reasons(rt: HostRuntime) {
-    assert!(rt; is_refused(0) && is_refused(1));
-    assert!(rt; is_refused(255) && is_refused(256) && is_refused(300));
-}
-
-fn uses_all(hello: &mut HostHello, bytes: &[u8]) -> bool {
-    match hello.feed(bytes) {
-        Ok(used) => used == bytes.len(),
-        Err(_) => false,
+    for count in [0, 1, 255, 256, 300] {
+        assert!(rt; is_refused(count), "a reason of {count}");
     }
 }
 
-/// How long the name of a host of 2 by 1 is, where it is joined.
-fn name_length(hello: &HostHello) -> Option<usize> {
+/// How long the name of a host of 2 by 1 is, where it is joined after all of these bytes.
+fn name_length(bytes: &[u8]) -> Option<usize> {
+    let mut hello = HostHello::new();
+    if feed_host(&mut hello, bytes, 1000) != (bytes.len(), 0) {
+        return None;
+    }
     match hello.done() {
         Some(joined) if joined.w == 2 && joined.h == 1 => Some(joined.name.len()),
         _ => None,
     }
-}
-
-fn is_joined_with_name(bytes: &[u8], kept: usize) -> bool {
-    let mut hello = HostHello::new();
-    uses_all(&mut hello, bytes) && name_length(&hello) == Some(kept)
 }
 
 /// A host with a name of this many bytes.
@@ -146,14 +144,50 @@ fn is_named(count: u32, kept: usize) -> bool
     bytes[..38].copy_from_slice(&HOST[..38]);
     bytes[38..42].copy_from_slice(&count.to_be_bytes());
     let sent = &bytes[..42 + count as usize];
-    host_fault(sent) == 0 && is_joined_with_name(sent, kept)
+    host_fault(sent) == 0 && name_length(sent) == Some(kept)
 }
 
 #[test]
 fn long_names(rt: HostRuntime) {
-    assert!(rt; is_named(0, 0) && is_named(255, 255));
-    assert!(rt; is_named(256, 255) && is_named(300, 255));
+    for (count, kept) in [(0, 0), (255, 255), (256, 255), (300, 255)] {
+        assert!(rt; is_named(count, kept), "a name of {count}");
+    }
 }
+
+/// What is done with a viewer's handshake, and what comes of it.
+#[derive(Clone, Copy)]
+enum Step {
+    /// The viewer is to be sent exactly this, all of which is then sent.
+    Says(&'static [u8]),
+    /// So much of a piece is used, and no fault shown.
+    Uses(&'static [u8], usize),
+    /// The fault of this number is shown.
+    Shows(&'static [u8], u64),
+    /// Whether it is done.
+    IsDone(bool),
+}
+
+const TOLD: [Step; 10] = [
+    Step::Says(b"RFB 003.008\n"),
+    Step::Uses(b"RFB 003.008\n", 12),
+    Step::Says(b"\x01\x01"),
+    Step::Uses(b"\x01", 1),
+    Step::Says(b"\0\0\0\0"),
+    Step::IsDone(false),
+    Step::Uses(b"\x01", 1),
+    Step::IsDone(true),
+    Step::Uses(b"\x03", 0),
+    Step::Says(b"\0\x02\0\x01\x20\x18\0\x01\0\xFF\0\xFF\0\xFF\x10\x08\0\0\0\0\0\0\0\x01T"),
+];
+
+const OLD_VERSION: [Step; 4] = [
+    Step::Uses(b"RFB 003.003", 11),
+    Step::Shows(b"\n", 1),
+    Step::Shows(b"\x01", 1),
+    Step::Says(b""),
+];
+
+const OTHER_CHOICE: [Step; 2] = [Step::Shows(b"RFB 003.008\n\x02\x01", 13), Step::Says(b"")];
 
 /// Whether the viewer is to be sent exactly this, all of which is then sent.
 fn says(hello: &mut ViewerHello, wanted: &[u8]) -> bool {
@@ -163,59 +197,43 @@ fn says(hello: &mut ViewerHello, wanted: &[u8]) -> bool {
     says
 }
 
-/// Whether so much of a piece is used, and no fault shown.
-fn uses(hello: &mut ViewerHello, piece: &[u8], count: usize) -> bool {
+/// How much of a piece is used, and the number of the fault that is shown, 0 where there is none.
+fn feed_viewer(hello: &mut ViewerHello, piece: &[u8]) -> (usize, u64) {
     match hello.feed(piece) {
-        Ok(used) => used == count,
-        Err(_) => false,
+        Ok(used) => (used, 0),
+        Err(fault) => (0, fault.number()),
     }
 }
 
-/// Whether this fault is shown.
-fn shows(hello: &mut ViewerHello, piece: &[u8], number: u64) -> bool {
-    match hello.feed(piece) {
-        Ok(_) => false,
-        Err(fault) => fault.number() == number,
+/// Whether a step comes to what it has to.
+fn goes(hello: &mut ViewerHello, step: &Step) -> bool {
+    match step {
+        Step::Says(wanted) => says(hello, wanted),
+        Step::Uses(piece, count) => feed_viewer(hello, piece) == (*count, 0),
+        Step::Shows(piece, number) => feed_viewer(hello, piece) == (0, *number),
+        Step::IsDone(done) => hello.done() == *done,
     }
 }
 
-fn tells(hello: &mut ViewerHello) -> bool {
-    let init = b"\0\x02\0\x01\x20\x18\0\x01\0\xFF\0\xFF\0\xFF\x10\x08\0\0\0\0\0\0\0\x01T";
-    says(hello, b"RFB 003.008\n")
-        && uses(hello, b"RFB 003.008\n", 12)
-        && says(hello, b"\x01\x01")
-        && uses(hello, b"\x01", 1)
-        && says(hello, b"\0\0\0\0")
-        && !hello.done()
-        && uses(hello, b"\x01", 1)
-        && hello.done()
-        && uses(hello, b"\x03", 0)
-        && says(hello, init)
-}
-
-#[test]
-fn a_viewer_is_told(rt: HostRuntime) {
+/// Each step over a new handshake comes to what it has to.
+fn plays<R: Abort>(rt: &R, name: &str, steps: &[Step]) {
     let mut hello = ViewerHello::new(2, 1, b"T");
-    assert!(rt; tells(&mut hello));
+    for (i, step) in steps.iter().enumerate() {
+        assert!(rt; goes(&mut hello, step), "{name}: step {i}");
+    }
 }
 
-fn refuses_a_version(hello: &mut ViewerHello) -> bool {
-    uses(hello, b"RFB 003.003", 11)
-        && shows(hello, b"\n", 1)
-        && shows(hello, b"\x01", 1)
-        && hello.out().is_empty()
-}
-
-fn refuses_a_choice(hello: &mut ViewerHello) -> bool {
-    shows(hello, b"RFB 003.008\n\x02\x01", 13) && hello.out().is_empty()
-}
+const VIEWERS: [(&str, &[Step]); 3] = [
+    ("told", &TOLD),
+    ("an old version", &OLD_VERSION),
+    ("another choice", &OTHER_CHOICE),
+];
 
 #[test]
-fn a_viewer_is_refused(rt: HostRuntime) {
-    let mut old = ViewerHello::new(2, 1, b"T");
-    assert!(rt; refuses_a_version(&mut old));
-    let mut other = ViewerHello::new(2, 1, b"T");
-    assert!(rt; refuses_a_choice(&mut other));
+fn viewers_are_told_or_refused(rt: HostRuntime) {
+    for (name, steps) in VIEWERS {
+        plays(&rt, name, steps);
+    }
 }
 
 /// The viewer's side of a handshake: its version, the choice of None, and a shared-flag.
@@ -239,24 +257,16 @@ fn fault_of_change(position: usize, value: u8) -> u64 {
     }
 }
 
-/// The number of the fault that is shown, and 0 where there is none.
-fn feed_viewer(hello: &mut ViewerHello, piece: &[u8]) -> u64 {
-    match hello.feed(piece) {
-        Ok(_) => 0,
-        Err(fault) => fault.number(),
-    }
-}
-
 /// The number of the fault that a viewer's bytes, up to this many and then the rest, come to, 0 where the handshake is
 /// done, and 99 where it is neither.
 fn viewer_fault(bytes: &[u8; 14], cut: usize) -> u64 {
     let mut hello = ViewerHello::new(2, 1, b"T");
     let (front, back) = bytes.split_at(cut.min(14));
-    let first = feed_viewer(&mut hello, front);
+    let (_, first) = feed_viewer(&mut hello, front);
     if first != 0 {
         return first;
     }
-    let second = feed_viewer(&mut hello, back);
+    let (_, second) = feed_viewer(&mut hello, back);
     if second == 0 && !hello.done() {
         99
     } else {
@@ -285,34 +295,26 @@ fn every_byte_of_a_viewer(rt: HostRuntime) {
     }
 }
 
-/// What is used of a host's bytes, one at a time, and the number of the fault at which it ends: 0 where there is none,
-/// and 99 where a byte isn't used.
-fn feed_until_a_fault(hello: &mut HostHello, bytes: &[u8]) -> (usize, u64) {
-    for (used, piece) in bytes.chunks(1).enumerate() {
-        match hello.feed(piece) {
-            Ok(1) => {}
-            Ok(_) => return (used, 99),
-            Err(fault) => return (used, fault.number()),
-        }
-    }
-    (bytes.len(), 0)
-}
-
-/// Whether the last byte but one of these is the one that shows the fault: it comes with the last byte of its field,
-/// and no sooner.
-fn is_judged_at_its_end(bytes: &[u8], used: usize, number: u64) -> bool {
-    let mut hello = HostHello::new();
-    feed_until_a_fault(&mut hello, bytes) == (used, number)
-}
+/// Bytes of which the one behind so many shows the fault of this number, fed one by one: it comes with the last byte of
+/// its field, and no sooner.
+const JUDGED: [(&[u8], usize, u64); 6] = [
+    (b"XXX 003.008\n\x01", 11, 1),
+    (b"RFB 003.008\n\x02\x02\x05\0", 14, 3),
+    (b"RFB 003.008\n\x01\x01\x01\0\0\0\0", 17, 4),
+    (b"RFB 003.008\n\x01\x01\0\0\0\0\0\0\0\x01\0", 21, 5),
+    (b"RFB 003.008\n\0\0\0\0\x02no\0", 18, 2),
+    (b"RFB 003.008\n\0\0\0\0\0\0", 16, 2),
+];
 
 #[test]
 fn a_host_is_judged_at_the_end_of_a_field(rt: HostRuntime) {
-    assert!(rt; is_judged_at_its_end(b"XXX 003.008\n\x01", 11, 1));
-    assert!(rt; is_judged_at_its_end(b"RFB 003.008\n\x02\x02\x05\0", 14, 3));
-    assert!(rt; is_judged_at_its_end(b"RFB 003.008\n\x01\x01\x01\0\0\0\0", 17, 4));
-    assert!(rt; is_judged_at_its_end(b"RFB 003.008\n\x01\x01\0\0\0\0\0\0\0\x01\0", 21, 5));
-    assert!(rt; is_judged_at_its_end(b"RFB 003.008\n\0\0\0\0\x02no\0", 18, 2));
-    assert!(rt; is_judged_at_its_end(b"RFB 003.008\n\0\0\0\0\0\0", 16, 2));
+    for (i, (bytes, used, number)) in JUDGED.iter().enumerate() {
+        let mut hello = HostHello::new();
+        assert!(rt;
+            feed_host(&mut hello, bytes, 1) == (*used, *number),
+            "field {i}"
+        );
+    }
 }
 
 /// Whether this many bytes are these, and stand at the front.
@@ -320,25 +322,21 @@ fn is_written(out: &[u8], count: usize, wanted: &[u8]) -> bool {
     count == wanted.len() && out.starts_with(wanted)
 }
 
-fn writes_input(out: &mut [u8; 24]) -> bool {
+/// Whether each message is written as this, typed by hand.
+fn writes_messages(out: &mut [u8; 24]) -> bool {
     let key = write_key(true, 0xFF0D, out);
     let is_key = is_written(out, key, &[4, 1, 0, 0, 0, 0, 0xFF, 0x0D]);
     let pointer = write_pointer(5, 1, 0x203, out);
-    is_key && is_written(out, pointer, &[5, 5, 0, 1, 2, 3])
-}
-
-fn writes_texts(out: &mut [u8; 24]) -> bool {
+    let is_pointer = is_written(out, pointer, &[5, 5, 0, 1, 2, 3]);
     let of_client = write_client_text(b"A", out);
     let is_client = is_written(out, of_client, &[6, 0, 0, 0, 0, 0, 0, 1, b'A']);
     let of_server = write_server_text(b"B", out);
-    is_client && is_written(out, of_server, &[3, 0, 0, 0, 0, 0, 0, 1, b'B'])
+    let is_server = is_written(out, of_server, &[3, 0, 0, 0, 0, 0, 0, 1, b'B']);
+    let bell = write_bell(out);
+    is_key && is_pointer && is_client && is_server && is_written(out, bell, &[2])
 }
 
 #[test]
 fn messages_by_hand(rt: HostRuntime) {
-    let mut out = [0; 24];
-    assert!(rt; writes_input(&mut out));
-    assert!(rt; writes_texts(&mut out));
-    let bell = write_bell(&mut out);
-    assert!(rt; is_written(&out, bell, &[2]));
+    assert!(rt; writes_messages(&mut [0; 24]));
 }

@@ -1,13 +1,10 @@
 //! Joining a host whose screen is 2 by 1 and whose name is T, over links of every course.
 
-ghost use Rattle.std.specs.Prelude.{◌≤◌};
-
 use link::{Gave, Link, MemoryLink, Took, join_host};
 use pixel_format::Fault;
 use rfb_wire::Joined;
 use std::alloc::Global;
 use std::sync::Wait;
-use std::test::Fail;
 
 /// What the host sends: its version, the type None, OK, and ServerInit. Two bytes of a first update lie after it.
 const SENDS: [u8; 45] =
@@ -24,77 +21,106 @@ const GIVES: [u8; 64] = [
     0x00, 0x02, 0x00, 0x00, 0x00, 0x00, 0x03, 0x00, 0x00, 0x00, 0x00, 0x00, 0x00, 0x02, 0x00, 0x01,
 ];
 
-/// Whether this many of these were taken.
-fn has_taken(link: &MemoryLink, count: usize) -> bool
-    requires { count ≤ 45 }
-{
-    link.taken() == &SENDS[..count]
+/// A link that answers so many calls to take with the first, and then one with the last; so for calls to give.
+#[derive(Clone, Copy)]
+struct Course {
+    take: Took,
+    takes: usize,
+    last_take: Took,
+    give: Gave,
+    gives: usize,
+    last_give: Gave,
 }
 
-/// Whether the link was given this many of these.
-fn has_given(link: &MemoryLink, count: usize) -> bool
-    requires { count ≤ 64 }
-{
-    link.given() == &GIVES[..count]
-}
-
-/// A link that answers a call to take `count` times with the first, and then with the last; so for calls to give.
-fn link_to(
-    alloc: Global,
-    takes: (Took, usize, Took),
-    gives: (Gave, usize, Gave),
-) -> Result<MemoryLink, Fail> {
+fn link_to(alloc: Global, course: &Course) -> Result<MemoryLink, Fault> {
     let sends = SENDS.to_vec(alloc)?;
-    let mut answers_to_take = Vec::from_elem(alloc, takes.0, takes.1)?;
-    answers_to_take.push(takes.2)?;
-    let mut answers_to_give = Vec::from_elem(alloc, gives.0, gives.1)?;
-    answers_to_give.push(gives.2)?;
-    Ok(MemoryLink::new(alloc, sends, answers_to_take, answers_to_give)?)
+    let mut answers_to_take = Vec::from_elem(alloc, course.take, course.takes)?;
+    answers_to_take.push(course.last_take)?;
+    let mut answers_to_give = Vec::from_elem(alloc, course.give, course.gives)?;
+    answers_to_give.push(course.last_give)?;
+    MemoryLink::new(alloc, sends, answers_to_take, answers_to_give)
 }
 
-fn is_host(answer: &Result<Joined, Fault>) -> bool {
+/// How joining ends: the number of the fault, or 0 where the host is joined; how many bytes the link has taken by then,
+/// if that is looked at, and given; and how often it failed.
+#[derive(Clone, Copy)]
+struct Ending {
+    number: u64,
+    taken: Option<usize>,
+    given: usize,
+    failures: u64,
+}
+
+/// The number of the fault, 0 where it is this host, and 99 where it is another.
+fn number_of(answer: &Result<Joined, Fault>) -> u64 {
     match answer {
-        Ok(joined) => joined.w == 2 && joined.h == 1 && joined.name.as_slice() == b"T".as_slice(),
+        Ok(joined) if joined.w == 2 && joined.h == 1 && joined.name.as_slice() == b"T".as_slice() =>
+            0,
+        Ok(_) => 99,
+        Err(fault) => fault.number(),
+    }
+}
+
+/// Whether so many of the host's bytes were taken, if that is looked at, and so many of the others given.
+fn has_moved(link: &MemoryLink, ending: &Ending) -> bool {
+    let is_taken = match ending.taken {
+        Some(count) => SENDS.get(..count) == Some(link.taken()),
+        None => true,
+    };
+    is_taken && GIVES.get(..ending.given) == Some(link.given())
+}
+
+/// Whether joining over the link ends so.
+fn ends<R: Wait>(rt: &R, link: &mut MemoryLink, ending: &Ending) -> bool {
+    number_of(&join_host(rt, link)) == ending.number
+        && has_moved(link, ending)
+        && link.failures() == ending.failures
+}
+
+/// Whether joining over a link of this course ends so.
+fn joins<R: Wait + AllocGlobal>(rt: &R, course: &Course, ending: &Ending) -> bool {
+    match link_to(rt.alloc(), course) {
+        Ok(mut link) => ends(rt, &mut link, ending),
         Err(_) => false,
     }
 }
 
-/// Whether the host is joined over the link, which never fails.
-fn joins<R: Wait>(rt: &R, link: &mut MemoryLink) -> bool {
-    is_host(&join_host(rt, link))
-        && has_given(link, 64)
-        && has_taken(link, HANDSHAKE)
-        && link.failures() == 0
-}
+/// Each byte that the host sends is taken by itself, and each call to give takes up to 20.
+const BYTEWISE: Course = Course {
+    take: Took::Bytes(1),
+    takes: HANDSHAKE,
+    last_take: Took::Failed,
+    give: Gave::Bytes(20),
+    gives: 6,
+    last_give: Gave::Failed,
+};
 
+/// Nothing comes at first, and then all at once; and each byte by itself, both ways.
 #[test]
-fn joins_a_host(rt: HostRuntime) -> Result<(), Fail> {
-    let takes = (Took::Nothing, 3, Took::Bytes(45));
-    let mut link = link_to(rt.alloc(), takes, (Gave::Bytes(20), 6, Gave::Failed))?;
-    assert!(rt; joins(&rt, &mut link));
-    Ok(())
-}
-
-#[test]
-fn joins_a_host_byte_by_byte(rt: HostRuntime) -> Result<(), Fail> {
-    let takes = (Took::Bytes(1), 43, Took::Failed);
-    let mut link = link_to(rt.alloc(), takes, (Gave::Bytes(1), 64, Gave::Failed))?;
-    assert!(rt; joins(&rt, &mut link));
-    Ok(())
-}
-
-/// Whether joining fails with this number.
-fn fails<R: Wait>(rt: &R, link: &mut MemoryLink, number: u64) -> bool {
-    match join_host(rt, link) {
-        Ok(_) => false,
-        Err(fault) => fault.number() == number,
-    }
+fn joins_a_host(rt: HostRuntime) {
+    let ending = Ending {
+        number: 0,
+        taken: Some(HANDSHAKE),
+        given: 64,
+        failures: 0,
+    };
+    let at_once = Course {
+        take: Took::Nothing,
+        takes: 3,
+        last_take: Took::Bytes(45),
+        ..BYTEWISE
+    };
+    assert!(rt; joins(&rt, &at_once, &ending));
+    let bytewise = Course {
+        give: Gave::Bytes(1),
+        gives: 64,
+        ..BYTEWISE
+    };
+    assert!(rt; joins(&rt, &bytewise, &ending));
 }
 
 /// What was given before byte `count` of the handshake came.
-fn answered(count: usize) -> usize
-    ensures { result ≤ 14 }
-{
+fn answered(count: usize) -> usize {
     if count < 12 {
         0
     } else if count < 14 {
@@ -106,71 +132,72 @@ fn answered(count: usize) -> usize
     }
 }
 
-fn fails_at_byte_taken<R: Wait>(
-    rt: &R,
-    link: &mut MemoryLink,
-    count: usize,
-    number: u64,
-    failures: u64,
-) -> bool
-    requires { count ≤ 43 }
-{
-    fails(rt, link, number)
-        && has_taken(link, count)
-        && has_given(link, answered(count))
-        && link.failures() == failures
-}
-
 #[test]
-fn fails_at_each_byte_taken(rt: HostRuntime) -> Result<(), Fail> {
-    for (last, number, failures) in [(Took::Failed, 21, 1), (Took::End, 22, 0)] {
+fn fails_at_each_byte_taken(rt: HostRuntime) {
+    for (last_take, number, failures) in [(Took::Failed, 21, 1), (Took::End, 22, 0)] {
         for count in 0..HANDSHAKE {
-            let gives = (Gave::Bytes(20), 6, Gave::Failed);
-            let mut link = link_to(rt.alloc(), (Took::Bytes(1), count, last), gives)?;
-            let fails = fails_at_byte_taken(&rt, &mut link, count, number, failures);
-            assert!(rt; fails, "{number} at {count}");
+            let course = Course {
+                takes: count,
+                last_take,
+                ..BYTEWISE
+            };
+            let ending = Ending {
+                number,
+                taken: Some(count),
+                given: answered(count),
+                failures,
+            };
+            assert!(rt; joins(&rt, &course, &ending), "{number} at {count}");
         }
     }
-    Ok(())
 }
 
-fn fails_at_byte_given<R: Wait>(
-    rt: &R,
-    link: &mut MemoryLink,
-    count: usize,
-    number: u64,
-    failures: u64,
-) -> bool
-    requires { count ≤ 64 }
-{
-    fails(rt, link, number) && has_given(link, count) && link.failures() == failures
+/// Whether joining ends as this link's last answer to a call to give, behind so many, and with so much given.
+fn fails_at<R: Wait + AllocGlobal>(rt: &R, course: &Course, gives: usize, given: usize) -> bool {
+    let failed = Ending {
+        number: 21,
+        taken: None,
+        given,
+        failures: 1,
+    };
+    let ended = Ending {
+        number: 22,
+        failures: 0,
+        ..failed
+    };
+    let failing = Course {
+        gives,
+        last_give: Gave::Failed,
+        ..*course
+    };
+    let ending = Course {
+        last_give: Gave::End,
+        ..failing
+    };
+    joins(rt, &failing, &failed) && joins(rt, &ending, &ended)
 }
 
+/// Where the link fails or ends at each byte that is given, and at each whole answer or message.
 #[test]
-fn fails_at_each_byte_given(rt: HostRuntime) -> Result<(), Fail> {
-    for (last, number, failures) in [(Gave::Failed, 21, 1), (Gave::End, 22, 0)] {
-        for count in 0..64 {
-            let takes = (Took::Bytes(1), HANDSHAKE, Took::Failed);
-            let mut link = link_to(rt.alloc(), takes, (Gave::Bytes(1), count, last))?;
-            let fails = fails_at_byte_given(&rt, &mut link, count, number, failures);
-            assert!(rt; fails, "{number} at {count}");
-        }
+fn fails_at_each_byte_and_message_given(rt: HostRuntime) {
+    let bytewise = Course {
+        give: Gave::Bytes(1),
+        ..BYTEWISE
+    };
+    for count in 0..64 {
+        assert!(rt; fails_at(&rt, &bytewise, count, count), "at byte {count}");
     }
-    Ok(())
-}
-
-/// Where each call gives a whole answer or message, and the link fails or ends at one of them.
-#[test]
-fn fails_at_each_message_given(rt: HostRuntime) -> Result<(), Fail> {
-    for (last, number, failures) in [(Gave::Failed, 21, 1), (Gave::End, 22, 0)] {
-        for (count, given) in [0, 12, 13, 14, 34, 54].iter().enumerate() {
-            let takes = (Took::Bytes(45), 1, Took::Failed);
-            let mut link = link_to(rt.alloc(), takes, (Gave::Bytes(20), count, last))?;
-            let fails = fails_at_byte_given(&rt, &mut link, (*given).min(64), number, failures);
-            assert!(rt; fails, "{number} at {count}");
-        }
+    let at_once = Course {
+        take: Took::Bytes(45),
+        takes: 1,
+        ..BYTEWISE
+    };
+    for (count, given) in [0, 12, 13, 14, 34, 54].iter().enumerate() {
+        assert!(rt;
+            fails_at(&rt, &at_once, count, *given),
+            "at message {count}"
+        );
     }
-    Ok(())
 }
 
 /// Whether a call to take answers so, with these in front of the slice.
@@ -192,9 +219,18 @@ fn is_used_up(link: &mut MemoryLink) -> bool {
 }
 
 #[test]
-fn a_list_that_is_used_up_ends(rt: HostRuntime) -> Result<(), Fail> {
-    let takes = (Took::Bytes(3), 1, Took::Nothing);
-    let mut link = link_to(rt.alloc(), takes, (Gave::Bytes(2), 1, Gave::Failed))?;
-    assert!(rt; is_used_up(&mut link));
-    Ok(())
+fn a_list_that_is_used_up_ends(rt: HostRuntime) {
+    let course = Course {
+        take: Took::Bytes(3),
+        takes: 1,
+        last_take: Took::Nothing,
+        give: Gave::Bytes(2),
+        gives: 1,
+        last_give: Gave::Failed,
+    };
+    let is_used_up = match link_to(rt.alloc(), &course) {
+        Ok(mut link) => is_used_up(&mut link),
+        Err(_) => false,
+    };
+    assert!(rt; is_used_up);
 }
