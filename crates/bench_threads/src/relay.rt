@@ -1,15 +1,13 @@
-//! The time in microseconds that inputs take through a relay, one thread for each sender: `bench_relay SENDERS INPUTS`,
-//! with 1 to 64 senders. Without words it does nothing.
-#![tactic(auto)]
+//! The time in microseconds that inputs take through a relay, one thread for each sender.
 
 use input_relay::{Sender, Taker, relay};
 use roles::Input;
 use std::alloc::Global;
 use std::sync::Wait;
 use std::test::Fail;
+use std::thread;
 use std::thread::{JoinHandle, Threads};
 use std::time::{Clock, Instant};
-use std::{env, thread};
 
 /// Sends an input as soon as there is room.
 fn send<R: Wait + Drop>(rt: &R, sender: &mut Sender<R>, mut input: Input) {
@@ -78,24 +76,18 @@ fn micros<R: Threads + Wait + Clock + Copy + Drop + Send + 'static>(
     Ok(start_time.elapsed(&rt)?.as_micros())
 }
 
-/// The numbers of senders and inputs that were asked for.
-fn asked(rt: &HostRuntime) -> Result<Option<(u64, u64)>, Fail> {
-    let mut words = env::args(rt)?;
-    words.next();
-    match (words.next(), words.next()) {
-        (Some(senders), Some(inputs)) => Ok(Some((senders.parse()?, inputs.parse()?))),
-        _ => Ok(None),
+/// Prints the time that so many inputs take. There are from 1 to 64 senders, or nothing is done.
+pub(crate) fn print<R: Print + Threads + Wait + Clock + Copy + Drop + Send + 'static>(
+    rt: R,
+    alloc: Global,
+    senders: u64,
+    inputs: u64,
+) -> Result<(), Fail> {
+    if senders == 0 || senders > 64 {
+        return Ok(());
     }
-}
-
-fn main(rt: HostRuntime) -> Result<(), Fail> {
-    match asked(&rt)? {
-        Some((senders, inputs)) if 0 < senders && senders <= 64 => {
-            let (ends, mut taker) = relay(rt, rt.alloc(), senders)?;
-            let taken = micros(rt, rt.alloc(), ends, &mut taker, inputs / senders)?;
-            println!(rt; "{taken}")?;
-        }
-        _ => {}
-    }
+    let (ends, mut taker) = relay(rt, alloc, senders)?;
+    let taken = micros(rt, alloc, ends, &mut taker, inputs / senders)?;
+    println!(rt; "{taken}")?;
     Ok(())
 }

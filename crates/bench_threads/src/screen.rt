@@ -1,17 +1,10 @@
-//! What puts, looks and cuts of a screen of 1920 by 1080 take: `bench_screen ROUNDS LOOKS`. Without words it does
-//! nothing.
-#![tactic(auto)]
-
-mod answered;
-mod beside;
-mod calls;
-mod scene;
+//! What puts, looks and cuts of a screen of 1920 by 1080 take, in nanoseconds.
 
 ghost use Rattle.std.specs.Prelude.{◌≡◌};
 
+use crate::{answered, beside, calls};
 use shared_screen::shared;
 use std::alloc::Global;
-use std::env;
 use std::marker::Brand;
 use std::sync::Wait;
 use std::test::Fail;
@@ -54,29 +47,22 @@ fn run<J: Naming + Send + Sync, R: Threads + Wait + Clock + Sync + Send + Copy +
     Ok((alone, answered, both))
 }
 
-/// The numbers of rounds and looks that were asked for.
-fn asked(rt: &HostRuntime) -> Result<Option<(u64, u64)>, Fail> {
-    let mut words = env::args(rt)?;
-    words.next();
-    match (words.next(), words.next()) {
-        (Some(rounds), Some(looks)) => Ok(Some((rounds.parse()?, looks.parse()?))),
-        _ => Ok(None),
-    }
-}
-
-fn main(rt: HostRuntime) -> Result<(), Fail> {
-    let Some((rounds, looks)) = asked(&rt)? else {
-        return Ok(());
-    };
-    let (alone, answered, both) = run::<Brand, _>(rt, rt.alloc(), Opened::new(), rounds, looks)?;
-    for (name, time) in calls::NAMES.iter().zip(alone.iter()) {
-        println!(rt; "{name} {time}")?;
-    }
-    for (name, time) in answered::NAMES.iter().zip(answered.iter()) {
-        println!(rt; "{name} {time}")?;
-    }
-    for (name, time) in beside::NAMES.iter().zip(both.iter()) {
+fn print_all<R: Print>(rt: &R, names: &[&str], times: &[u128]) -> Result<(), Fail> {
+    for (name, time) in names.iter().zip(times.iter()) {
         println!(rt; "{name} {time}")?;
     }
     Ok(())
+}
+
+/// Prints what each call takes, alone, and beside other threads that look so often.
+pub(crate) fn print<R: Print + Threads + Wait + Clock + Sync + Send + Copy + Drop>(
+    rt: R,
+    alloc: Global,
+    rounds: u64,
+    looks: u64,
+) -> Result<(), Fail> {
+    let (alone, answered, both) = run::<Brand, _>(rt, alloc, Opened::new(), rounds, looks)?;
+    print_all(&rt, &calls::NAMES, &alone)?;
+    print_all(&rt, &answered::NAMES, &answered)?;
+    print_all(&rt, &beside::NAMES, &both)
 }
