@@ -2,8 +2,8 @@
 use Rattle.std.specs.Prelude.{◌≡◌, ◌≢◌, ◌≤◌, ◌⊎◌, ◌∷◌, List, [], codes, ℕ}
 use Rattle.std.specs.String.{string_bytes}
 use Rattle.clap.specs.Words.{Text, fault_of}
-use Rattle.serve.specs.declared.plan.Plan.{Plan}
-use Rattle.serve.specs.Statuses.{IsStatus}
+use Rattle.plan.specs.declared.plan.Plan.{Plan}
+use Rattle.plan.specs.Statuses.{IsStatus}
 use Rattle.settings.specs.Given.{AreSetBy}
 use Rattle.settings.specs.Serve.{IsBad, serve}
 use Rattle.settings.specs.declared.values.Settings.{Settings}

@@ -3,10 +3,11 @@
 ghost use Rattle.std.specs.Prelude.{map};
 ghost use Rattle.std.specs.String.{string_bytes};
 ghost use Rattle.command_line.specs.Tasks.{HasPlaces, IsAnswered, IsPlanOf};
-ghost use Rattle.serve.specs.Statuses.{IsStatus};
+ghost use Rattle.plan.specs.Statuses.{IsStatus};
 
 use crate::task::{Task, task_of};
-use serve::{Plan, serve};
+use plan::Plan;
+use serve::serve;
 use settings::{BadLine, Settings};
 use std::alloc::{AllocGlobal, Global};
 use std::env::Env;

@@ -7,17 +7,12 @@
 #![tactic(auto)]
 
 mod crew;
-mod handover;
-mod host;
-mod hosts;
 mod place;
 mod reader;
 mod run;
 mod seated;
-mod supply;
 mod welcome;
 mod writer;
 
 pub use place::{OfSender, Place, PlaceHandle};
 pub use run::{Running, run_all};
-pub use supply::{Hosts, NoHosts};

@@ -3,7 +3,7 @@
 ghost use Rattle.std.specs.Prelude.{◌≡◌, IfOk, IfErr};
 ghost use Rattle.pixel_format.specs.declared.fault.Fault.TheVariants.{Memory};
 ghost use Rattle.input_relay.specs.Ends.{place_of, relay_of};
-ghost use Rattle.reflector.specs.Running.{IsSameSender};
+ghost use Rattle.reflector.specs.Senders.{IsSameSender};
 
 use crate::crew::Crew;
 use crate::seated::{Seat, Seated};
@@ -43,7 +43,7 @@ pub struct Place<S, R: Wait + Drop> {
 pub struct OfSender<R: Wait + Drop>(pub Snapshot<Sender<R>>);
 
 impl<S, R: Wait + Drop> Promise<Place<S, R>> for OfSender<R> {
-    ghost use Rattle.reflector.specs.Running.{IsSameSender};
+    ghost use Rattle.reflector.specs.Senders.{IsSameSender};
 
     ghost kept_by = { λ promise place. IsSameSender promise.0.value place.sender };
 }

@@ -4,13 +4,10 @@ ghost use Rattle.std.specs.Prelude.{◌≡◌, ◌<◌, [], map, vec_capacity, I
 ghost use Rattle.pixel_format.specs.declared.fault.Fault.TheVariants.{Memory};
 ghost use Rattle.raster.specs.Screen.{opening};
 ghost use Rattle.host_decoder.specs.Decoder.{Decodes, IsFor, host_message};
-ghost use Rattle.reflector.specs.Running.{HasRun, IsLinkOf, IsOver};
+ghost use Rattle.host_turns.specs.Running.{HasRun, IsLinkOf, IsOver};
 
-use crate::handover::Handover;
-use crate::host::Ground;
-use crate::hosts::read_all;
-use crate::supply::Hosts;
 use host_decoder::HostScreen;
+use host_turns::{Ground, Handover, Hosts, read_all};
 use link::Link;
 use pixel_format::Fault;
 use reflect_core::Puts;
@@ -43,7 +40,7 @@ pub(crate) struct OfHosts<L: Link, H: Hosts<L>, P: Puts> {
 
 impl<L: Link, H: Hosts<L>, P: Puts + Drop> Promise<HostsRead<L, P>> for OfHosts<L, H, P> {
     ghost use Rattle.std.specs.Prelude.{map};
-    ghost use Rattle.reflector.specs.Running.{HasRun, IsLinkOf, IsOver};
+    ghost use Rattle.host_turns.specs.Running.{HasRun, IsLinkOf, IsOver};
 
     ghost kept_by = { λ promise read. HasRun promise.width promise.height (IsLinkOf L.state H.came) read.result (L.state promise.link.value) (map L.state read.links.items) (P.updates promise.publisher.value) (P.updates read.publisher) × IsOver H.are_out read.result };
 }

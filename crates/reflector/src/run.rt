@@ -5,16 +5,14 @@ ghost use Rattle.pixel_format.specs.declared.fault.Fault.TheVariants.{Memory, No
 ghost use Rattle.raster.specs.Size.{IsScreenSize};
 ghost use Rattle.input_relay.specs.Ends.{fresh, host_of, relay_of, strand_of};
 ghost use Rattle.tally_word.specs.History.{puts_of};
-ghost use Rattle.reflector.specs.Running.{HasRun, IsLinkOf, IsOver};
+ghost use Rattle.host_turns.specs.Running.{HasRun, IsLinkOf, IsOver};
 
 use crate::crew::Crew;
-use crate::handover::Handover;
-use crate::host::Ground;
 use crate::place::{PlaceHandle, start_place};
 use crate::reader::{HostsRead, ReaderHandle, start_reader};
-use crate::supply::Hosts;
 use crate::welcome::Welcome;
 use crate::writer::{WriterHandle, start_writer};
+use host_turns::{Ground, Handover, Hosts};
 use input_relay::{Sender, Taker, relay};
 use link::{Link, Rest};
 use pixel_format::Fault;

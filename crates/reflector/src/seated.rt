@@ -24,7 +24,7 @@ pub(crate) trait Seat {
 }
 
 impl Seat for Brand {
-    ghost use Rattle.reflector.specs.Running.{no_relay};
+    ghost use Rattle.reflector.specs.Senders.{no_relay};
 
     ghost relay = { no_relay };
 

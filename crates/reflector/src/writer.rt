@@ -6,7 +6,7 @@ ghost use Rattle.raster.specs.Size.{IsScreenSize};
 ghost use Rattle.input_relay.specs.Ends.{host_of};
 
 use crate::crew::Crew;
-use crate::handover::Handover;
+use host_turns::Handover;
 use host_writer::run_writer;
 use input_relay::Taker;
 use link::{Link, Rest};

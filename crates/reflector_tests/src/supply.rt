@@ -2,8 +2,8 @@
 
 use crate::board::Board;
 use crate::wire::{Peer, Wire};
+use host_turns::Hosts;
 use pixel_format::Fault;
-use reflector::Hosts;
 use rfb_wire::Joined;
 use std::alloc::Global;
 use std::sync::Arc;

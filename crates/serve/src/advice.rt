@@ -1,8 +1,8 @@
 //! What a fault means to whoever runs the program, and what to try: the one place of such texts.
 
-use crate::plan::{Plan, port_of};
 use crate::trouble::{Stage, Trouble};
 use pixel_format::Fault;
+use plan::{Plan, port_of};
 use roles::Role;
 use std::fmt;
 use std::fmt::{Display, Formatter};

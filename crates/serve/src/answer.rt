@@ -1,13 +1,12 @@
 //! What `serve` says and answers.
 
-ghost use Rattle.serve.specs.Statuses.{HasPlaces, IsStatus};
+ghost use Rattle.plan.specs.Statuses.{HasPlaces, IsStatus};
 
 use crate::advice::Advice;
 use crate::journal::Journal;
-use crate::plan::Plan;
 use crate::run::run;
-use crate::status::status_of;
 use crate::trouble::Trouble;
+use plan::{Plan, status_of};
 use std::alloc::Global;
 use std::net::{Net, TcpListener, TcpStream};
 use std::sync::Wait;

@@ -11,14 +11,9 @@ mod answer;
 mod journal;
 mod meet;
 mod open;
-mod plan;
 mod run;
-mod status;
 mod supply;
 mod trouble;
-mod turns;
 mod welcome;
 
 pub use answer::serve;
-pub use plan::Plan;
-pub use status::status_of;

@@ -1,11 +1,11 @@
 //! Listening for viewers.
 
 ghost use Rattle.std.specs.Prelude.{◌≡◌, IfOk};
-ghost use Rattle.serve.specs.Statuses.{places_for};
+ghost use Rattle.plan.specs.Statuses.{places_for};
 
-use crate::plan::{Plan, port_of};
 use crate::trouble::{Stage, Trouble};
 use pixel_format::Fault;
+use plan::{Plan, places_of, port_of};
 use roles::Role;
 use serving::{Event, Lobby, Log};
 use std::alloc::Global;
@@ -19,16 +19,6 @@ pub(crate) struct Entry {
     pub(crate) places: u64,
     pub(crate) listener: TcpListener,
     pub(crate) lobby: Arc<Lobby, Global>,
-}
-
-/// How many viewers of a role are to be served.
-fn places_of(plan: &Plan<'_>, role: Role) -> u64
-    ensures { result ≡ places_for role plan.now }
-{
-    match role {
-        Role::Full => plan.full_places,
-        Role::View => plan.view_places,
-    }
 }
 
 /// Listens for the viewers of a role, and tells the log where.

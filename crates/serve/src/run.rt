@@ -2,17 +2,18 @@
 
 ghost use Rattle.std.specs.Prelude.{◌≡◌, ◌≤◌, length};
 ghost use Rattle.raster.specs.Size.{IsScreenSize};
-ghost use Rattle.serve.specs.Statuses.{HasPlaces};
+ghost use Rattle.plan.specs.Statuses.{HasPlaces};
 
 use crate::meet::{Met, meet};
 use crate::open::open;
-use crate::plan::Plan;
 use crate::supply::Supply;
 use crate::trouble::{Stage, Trouble};
 use crate::welcome::{Rooms, bells, start_porter};
+use host_turns::Hosts;
 use link::{Link, Rest};
 use pixel_format::Fault;
-use reflector::{Hosts, Running, run_all};
+use plan::Plan;
+use reflector::{Running, run_all};
 use rfb_wire::Joined;
 use roles::Role;
 use serving::{Bell, Door, Log};

@@ -1,12 +1,12 @@
 //! The hosts that follow on one that has ended.
 
 ghost use Rattle.std.specs.Prelude.{◌≡◌, ◌≤◌, ⊤, IsNone, None, length};
-ghost use Rattle.serve.specs.Turns.{turn_of};
+ghost use Rattle.plan.specs.Turns.{turn_of};
 
 use crate::meet::connect;
-use crate::turns::Turns;
+use host_turns::Hosts;
 use pixel_format::Fault;
-use reflector::Hosts;
+use plan::Turns;
 use rfb_wire::Joined;
 use serving::{Event, JoiningLink, Log};
 use std::net::{Net, SocketAddr, TcpListener, TcpStream};

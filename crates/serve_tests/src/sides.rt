@@ -1,7 +1,8 @@
 //! What `serve` stands between: a host, and viewers of each role.
 
 use crate::loopback::free_port;
-use serve::{Plan, serve};
+use plan::Plan;
+use serve::serve;
 use std::alloc::Global;
 use std::net::{Net, TcpListener, TcpStream};
 use std::sync::Wait;

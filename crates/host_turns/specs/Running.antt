@@ -1,0 +1,145 @@
+-- What a run of hosts, one after another, leaves.
+use Rattle.std.specs.Prelude.{◌≡◌, ◌≢◌, ◌⊎◌, ℕ, ◌^◌, Bool, true, false, List, [], ◌∷◌, ◌++◌, length, Result, Ok, Err, ⊤}
+use Rattle.pixel_format.specs.declared.fault.Fault.{Fault}
+use Rattle.pixel_format.specs.declared.fault.Fault.TheVariants.{BadVersion, HostRefused, NoNone, SecurityFailed, BadScreen, LinkFailed, LinkEnded, Memory, NumbersOut}
+use Rattle.raster.specs.Screen.{Canvas, opening}
+use Rattle.raster.specs.Switch.{switch}
+use Rattle.raster.specs.Update.{Update}
+use Rattle.painter.specs.Same.{AreSameUpdates}
+use Rattle.rfb_wire.specs.Handshake.{Joined}
+use Rattle.link.specs.Links.{LinkState}
+use Rattle.link.specs.Joins.{FailsAs, Joins}
+use Rattle.host_reader.specs.Running.{EndsBetween, EndsWith}
+
+-- ---- one host
+
+-- A host's link was read over the opening screen of w by h, to the end that the answer tells; since a publisher had the
+-- updates old, its messages' updates were put.
+abbrev pub IsRead : ℕ → ℕ → Result (Unit {0}) Fault → (link_old link_new : LinkState) → (old new : List Update) → Type 0
+IsRead w h (Ok done) link_old link_new old new = EndsBetween w h opening link_old link_new old new
+IsRead w h (Err fault) link_old link_new old new = EndsWith w h opening fault link_old link_new old new
+
+-- One update was put that comes to the same as a switch, whatever was shown before.
+pub record IsSwitched (w h : ℕ) (old new : List Update) : Type 0 where
+  pub put : Update
+  pub added : new ≡ old ++ put ∷ []
+  pub same : (start : Canvas) → AreSameUpdates w h start (switch w h ∷ []) (put ∷ [])
+
+-- A host was joined at the size of the screen, over a link that was so before and after.
+pub record JoinsAt (w h : ℕ) (link_old link_new : LinkState) : Type 0 where
+  pub host : Joined
+  pub joins : Joins link_old link_new host
+  pub width : host.w ≡ w
+  pub height : host.h ≡ h
+
+-- It was joined, and its screen has another size.
+pub record JoinsElsewhere (w h : ℕ) (link_old link_new : LinkState) : Type 0 where
+  pub host : Joined
+  pub joins : Joins link_old link_new host
+  pub other : (host.w ≢ w) ⊎ (host.h ≢ h)
+
+-- Why a host isn't joined at the size of the screen: its handshake fails so, or its screen has another size.
+abbrev pub IsUnfit : ℕ → ℕ → Fault → (link_old link_new : LinkState) → Type 0
+IsUnfit w h fault link_old link_new = FailsAs fault link_old link_new ⊎ (JoinsElsewhere w h link_old link_new × (fault ≡ BadScreen))
+
+-- After so many updates memory is refused for what the next host wants, or there is no number for its switch.
+abbrev pub IsWant : ℕ → Fault → Type 0
+IsWant count fault = (fault ≡ Memory) ⊎ ((fault ≡ NumbersOut) × (count ≡ 2 ^ 62))
+
+-- ---- one host after another
+
+-- After this answer of reading or of joining a host the next one is taken: the host ended, or its link did or failed, or
+-- it has another version, refuses, wants a proof, or ended the handshake as failed (own).
+abbrev pub goes_on : Result (Unit {0}) Fault → Bool
+goes_on (Ok done) = true
+goes_on (Err BadVersion) = true
+goes_on (Err (HostRefused reason)) = true
+goes_on (Err NoNone) = true
+goes_on (Err SecurityFailed) = true
+goes_on (Err LinkFailed) = true
+goes_on (Err LinkEnded) = true
+goes_on (Err _) = false
+
+-- The stay of a host that was read: the answer, its link after its join and as it was left, and all updates that were
+-- put by then.
+pub record Stay : Type 0 where
+  pub answer : Result (Unit {0}) Fault
+  pub joined : LinkState
+  pub left : LinkState
+  pub put : List Update
+
+-- What comes of a further host: it is read, or it isn't.
+pub data Turn : Type 0 where
+  Read : Stay → Turn
+  Missed : Fault → Turn
+
+-- The answer of a turn.
+abbrev pub answer_of : Turn → Result (Unit {0}) Fault
+answer_of (Read stay) = stay.answer
+answer_of (Missed fault) = Err fault
+
+-- The links that were read, and the updates that were put, with those of a turn.
+abbrev pub links_with : List LinkState → Turn → List LinkState
+links_with links (Read stay) = links ++ stay.left ∷ []
+links_with links (Missed fault) = links
+
+abbrev pub put_with : List Update → Turn → List Update
+put_with old (Read stay) = stay.put
+put_with old (Missed fault) = old
+
+-- A host that comes over such a link has this turn, after the updates so far. It is joined at the size of the screen,
+-- then the switch is put, and then it is read over a black screen. Or it is missed, and nothing is put.
+abbrev pub IsTurn : ℕ → ℕ → (LinkState → Type 0) → List Update → Turn → Type 0
+IsTurn w h comes old (Read stay) = ((link : LinkState) × comes link × JoinsAt w h link stay.joined) × ((black : List Update) × IsSwitched w h old black × IsRead w h stay.answer stay.joined stay.left black stay.put)
+IsTurn w h comes old (Missed fault) = ((link : LinkState) × comes link × ((left : LinkState) × IsUnfit w h fault link left)) ⊎ IsWant (length old) fault
+
+-- A list of turns has the latest first.
+
+-- The answer of the latest of all hosts, the links of those that were read, in turn, and all updates that were put.
+abbrev pub last_answer : Stay → List Turn → Result (Unit {0}) Fault
+last_answer first [] = first.answer
+last_answer first (t ∷ ts) = answer_of t
+
+abbrev pub links_of : Stay → List Turn → List LinkState
+links_of first [] = first.left ∷ []
+links_of first (t ∷ ts) = links_with (links_of first ts) t
+
+abbrev pub put_by : Stay → List Turn → List Update
+put_by first [] = first.put
+put_by first (t ∷ ts) = put_with (put_by first ts) t
+
+-- They are the turns of hosts that come over such links. A host is taken only where the answer of the one before it
+-- goes on.
+abbrev pub AreTurns : ℕ → ℕ → (LinkState → Type 0) → Stay → List Turn → Type 0
+AreTurns w h comes first [] = ⊤
+AreTurns w h comes first (t ∷ ts) = AreTurns w h comes first ts × (goes_on (last_answer first ts) ≡ true) × IsTurn w h comes (put_by first ts) t
+
+-- A first host was read over its link, and then others in turn; the run ended with this answer. These links, of the
+-- hosts that were read, are handed back.
+pub record HasRun (w h : ℕ) (comes : LinkState → Type 0) (result : Result (Unit {0}) Fault) (link : LinkState) (links : List LinkState) (old new : List Update) : Type 0 where
+  pub first : Stay
+  pub begins : first.joined ≡ link
+  pub read : IsRead w h first.answer link first.left old first.put
+  pub turns : List Turn
+  pub in_turn : AreTurns w h comes first turns
+  pub last : result ≡ last_answer first turns
+  pub handed : links ≡ links_of first turns
+  pub put : new ≡ put_by first turns
+
+-- A link is that of an end that came so.
+abbrev pub IsLinkOf : {L : Type 0} → (L → LinkState) → (L → Type 0) → LinkState → Type 0
+IsLinkOf {L} state came link = (end : L) × came end × (link ≡ state end)
+
+-- Why a run ends: no host is taken after its answer, or none was left.
+abbrev pub IsOver : {H : Type 0} → (H → Type 0) → Result (Unit {0}) Fault → Type 0
+IsOver {H} are_out result = (goes_on result ≡ false) ⊎ ((hosts : H) × are_out hosts)
+
+-- ---- on the way
+
+-- A further host had its turn.
+pub record HasTurn (w h : ℕ) (comes : LinkState → Type 0) (result : Result (Unit {0}) Fault) (links_old links_new : List LinkState) (old new : List Update) : Type 0 where
+  pub turn : Turn
+  pub is : IsTurn w h comes old turn
+  pub answer : result ≡ answer_of turn
+  pub handed : links_new ≡ links_with links_old turn
+  pub put : new ≡ put_with old turn

@@ -1,0 +1,108 @@
+//! Which host is told.
+
+use link::StopFlag;
+use serving::Bell;
+use std::alloc::Global;
+use std::sync::atomic::{AtomicU64, Ordering};
+use std::sync::{Arc, Condvar, Mutex, Wait};
+
+/// The end of a connection that is written, and the number of its host.
+#[derive(Drop)]
+pub struct Errand<L: Drop> {
+    pub link: L,
+    number: u64,
+}
+
+#[derive(Drop)]
+struct Post<L: Drop> {
+    // The host that is told next. One that nobody took is dropped for the one after it.
+    next: Option<Errand<L>>,
+    is_over: bool,
+}
+
+/// Hands each host from the thread that reads it to the one that tells it. Hosts are numbered by how many were left
+/// before them.
+#[derive(Drop)]
+pub struct Handover<L: Drop, W: Bell + Drop> {
+    post: Mutex<Post<L>>,
+    came: Condvar,
+    left: AtomicU64,
+    // Where the thread that tells a host rests.
+    bell: Arc<W, Global>,
+}
+
+/// The flag of one host: it is set once the host is left.
+#[derive(Drop)]
+pub struct WhileHere<'a> {
+    left: &'a AtomicU64,
+    number: u64,
+}
+
+impl StopFlag for WhileHere<'_> {
+    ghost use Rattle.std.specs.Prelude.{⊤};
+
+    ghost was_set = { λ _. ⊤ };
+
+    fn is_set(&self) -> bool {
+        self.left.load(Ordering::SeqCst) != self.number
+    }
+}
+
+impl<L: Drop, W: Bell + Drop> Handover<L, W> {
+    /// The first host is told first.
+    pub fn new(link: L, bell: Arc<W, Global>) -> Handover<L, W> {
+        let next = Some(Errand { link, number: 0 });
+        Handover {
+            post: Mutex::new(Post {
+                next,
+                is_over: false,
+            }),
+            came: Condvar::new(),
+            left: AtomicU64::new(0),
+            bell,
+        }
+    }
+
+    /// From now on the host at the other end of this link is told.
+    pub fn give<R: Wait>(&self, rt: &R, link: L) {
+        let number = self.left.load(Ordering::SeqCst);
+        let mut guard = self.post.lock(rt);
+        guard.next = Some(Errand { link, number });
+        self.came.notify_all();
+    }
+
+    /// The host was left: it is told no more.
+    pub fn leave(&self) {
+        let _ = self.left.fetch_add(1, Ordering::SeqCst);
+        self.bell.rouse();
+    }
+
+    /// The host was left, and no other comes.
+    pub fn close<R: Wait>(&self, rt: &R) {
+        self.leave();
+        let mut guard = self.post.lock(rt);
+        guard.is_over = true;
+        self.came.notify_all();
+    }
+
+    /// Waits for the next host that is told. None where no other comes.
+    pub fn take<R: Wait>(&self, rt: &R) -> Option<Errand<L>> {
+        let guard = self.post.lock(rt);
+        let mut guard = self
+            .came
+            .wait_while(rt, guard, |post| post.next.is_none() && !post.is_over);
+        let post = &mut *guard;
+        if post.is_over {
+            return None;
+        }
+        post.next.take()
+    }
+
+    /// The flag of the host of an errand.
+    pub fn flag(&self, errand: &Errand<L>) -> WhileHere<'_> {
+        WhileHere {
+            left: &self.left,
+            number: errand.number,
+        }
+    }
+}

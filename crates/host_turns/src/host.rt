@@ -1,0 +1,182 @@
+//! The turn of one host.
+
+ghost use Rattle.std.specs.Prelude.{◌≡◌, ◌⊎◌, ◌<◌, [], ◌∷◌, ◌++◌, length, map, vec_capacity, vec_len, IfErr, IfOk, OnErr, OnOk};
+ghost use Rattle.raster.specs.Screen.{opening};
+ghost use Rattle.raster.specs.Size.{IsScreenSize};
+ghost use Rattle.host_decoder.specs.Decoder.{Decodes, IsFor, host_message};
+ghost use Rattle.pixel_format.specs.declared.fault.Fault.TheVariants.{Memory};
+ghost use Rattle.link.specs.Links.{LinkState};
+ghost use Rattle.host_turns.specs.Running.{HasTurn, IsLinkOf, IsRead, IsSwitched, IsUnfit, IsWant, JoinsAt};
+
+use crate::handover::Handover;
+use crate::supply::Hosts;
+use host_decoder::HostScreen;
+use host_reader::run_host;
+use link::{Link, join_host};
+use painter::Painter;
+use pixel_format::Fault;
+use reflect_core::Puts;
+use rfb_wire::Joined;
+use serving::Bell;
+use std::alloc::Global;
+use std::sync::Wait;
+
+/// What all hosts of a run have in common: the size of the screen in pixels.
+#[derive(Clone, Copy, Drop)]
+pub struct Ground {
+    pub alloc: Global,
+    pub width: u64,
+    pub height: u64,
+    pub ghost size: { IsScreenSize width height },
+}
+
+/// Reads a host over a black screen to its end.
+fn read<L: Link, P: Puts, R: Wait>(
+    rt: &R,
+    alloc: Global,
+    link: &mut L,
+    screen: HostScreen,
+    publisher: &mut P,
+) -> Result<(), Fault>
+    requires begins { Decodes screen.decoder screen.painter opening (host_message screen.decoder.width screen.decoder.height) }
+    requires pair { IsFor screen.decoder screen.painter }
+    requires publisher { (P.width publisher.old ≡ screen.decoder.width) × (P.height publisher.old ≡ screen.decoder.height) }
+    ensures publisher { (P.width publisher.new ≡ P.width publisher.old) × (P.height publisher.new ≡ P.height publisher.old) }
+    ensures read { IsRead screen.decoder.width screen.decoder.height result (L.state link.old) (L.state link.new) (P.updates publisher.old) (P.updates publisher.new) }
+{
+    let HostScreen {
+        mut decoder,
+        mut painter,
+    } = screen;
+    run_host(rt, alloc, link, &mut decoder, &mut painter, publisher)
+}
+
+/// The stay of a host that was joined: it is read to its end, and told no more. Its link comes after the others.
+pub(crate) fn stay<L: Link, H: Hosts<L>, P: Puts, W: Bell + Drop, R: Wait>(
+    rt: &R,
+    ground: &Ground,
+    mut link: L,
+    screen: HostScreen,
+    hosts: &mut H,
+    links: &mut Vec<L>,
+    publisher: &mut P,
+    handover: &Handover<L, W>,
+) -> Result<(), Fault>
+    requires room { vec_len links.old < vec_capacity links.old }
+    requires size { (screen.decoder.width ≡ ground.now.width) × (screen.decoder.height ≡ ground.now.height) }
+    requires begins { Decodes screen.decoder screen.painter opening (host_message ground.now.width ground.now.height) }
+    requires pair { IsFor screen.decoder screen.painter }
+    requires publisher { (P.width publisher.old ≡ ground.now.width) × (P.height publisher.old ≡ ground.now.height) }
+    ensures publisher { (P.width publisher.new ≡ P.width publisher.old) × (P.height publisher.new ≡ P.height publisher.old) }
+    ensures read { (left : LinkState) × (map L.state links.new.items ≡ map L.state links.old.items ++ left ∷ []) × IsRead ground.now.width ground.now.height result (L.state link) left (P.updates publisher.old) (P.updates publisher.new) }
+{
+    let answer = read(rt, ground.alloc, &mut link, screen, publisher);
+    handover.leave();
+    // The answer is given out as well: the kit's borrow checker wants its copy made before the call.
+    let told = answer;
+    hosts.left(&mut link, told);
+    // Not refused: the room was taken before.
+    let _ = links.push(link);
+    answer
+}
+
+/// Joins a host. `BadScreen` where its screen isn't of the run's size.
+fn join_at<L: Link, R: Wait>(rt: &R, ground: &Ground, link: &mut L) -> Result<Joined, Fault>
+    ensures ok { OnOk result (JoinsAt ground.now.width ground.now.height (L.state link.old) (L.state link.new)) }
+    ensures err { IfErr result (λ fault. IsUnfit ground.now.width ground.now.height fault (L.state link.old) (L.state link.new)) }
+{
+    let joined = join_host(rt, link)?;
+    if joined.w != ground.width || joined.h != ground.height {
+        return Err(Fault::BadScreen);
+    }
+    Ok(joined)
+}
+
+/// Puts a switch: the screen turns black.
+fn put_switch<P: Puts>(ground: &Ground, publisher: &mut P) -> Result<(), Fault>
+    requires { (P.width publisher.old ≡ ground.now.width) × (P.height publisher.old ≡ ground.now.height) }
+    ensures publisher { (P.width publisher.new ≡ P.width publisher.old) × (P.height publisher.new ≡ P.height publisher.old) }
+    ensures ok { OnOk result (IsSwitched ground.now.width ground.now.height (P.updates publisher.old) (P.updates publisher.new)) }
+    ensures err { IfErr result (λ fault. IsWant (length (P.updates publisher.old)) fault × (P.updates publisher.new ≡ P.updates publisher.old)) }
+{
+    let mut black = Painter::new(ground.alloc, ground.width, ground.height)?;
+    let patch = black.switch()?;
+    match publisher.put(patch) {
+        Ok(_) => Ok(()),
+        Err((fault, _patch)) => Err(fault),
+    }
+}
+
+/// Takes all the memory that a further host wants: room for its link, and what reads it.
+fn make_ready<L>(ground: &Ground, links: &mut Vec<L>) -> Result<HostScreen, Fault>
+    ensures links { links.new.items ≡ links.old.items }
+    ensures room { OnOk result (vec_len links.new < vec_capacity links.new) }
+    ensures size { IfOk result (λ screen. (screen.decoder.width ≡ ground.now.width) × (screen.decoder.height ≡ ground.now.height)) }
+    ensures begins { IfOk result (λ screen. Decodes screen.decoder screen.painter opening (host_message ground.now.width ground.now.height)) }
+    ensures pair { IfOk result (λ screen. IsFor screen.decoder screen.painter) }
+    ensures err { IfErr result (λ fault. fault ≡ Memory) }
+{
+    links.reserve(1)?;
+    HostScreen::new(ground.alloc, ground.width, ground.height)
+}
+
+/// Joins a host at the screen's size, and then puts the switch. The link has room among those that were read.
+fn meet<L: Link, H: Hosts<L>, P: Puts, R: Wait>(
+    rt: &R,
+    ground: &Ground,
+    hosts: &mut H,
+    link: &mut L,
+    links: &mut Vec<L>,
+    publisher: &mut P,
+) -> Result<HostScreen, Fault>
+    requires { (P.width publisher.old ≡ ground.now.width) × (P.height publisher.old ≡ ground.now.height) }
+    ensures publisher { (P.width publisher.new ≡ P.width publisher.old) × (P.height publisher.new ≡ P.height publisher.old) }
+    ensures links { links.new.items ≡ links.old.items }
+    ensures room { OnOk result (vec_len links.new < vec_capacity links.new) }
+    ensures size { IfOk result (λ screen. (screen.decoder.width ≡ ground.now.width) × (screen.decoder.height ≡ ground.now.height)) }
+    ensures begins { IfOk result (λ screen. Decodes screen.decoder screen.painter opening (host_message ground.now.width ground.now.height)) }
+    ensures pair { IfOk result (λ screen. IsFor screen.decoder screen.painter) }
+    ensures joins { OnOk result (JoinsAt ground.now.width ground.now.height (L.state link.old) (L.state link.new)) }
+    ensures switched { OnOk result (IsSwitched ground.now.width ground.now.height (P.updates publisher.old) (P.updates publisher.new)) }
+    ensures err { IfErr result (λ fault. ((left : LinkState) × IsUnfit ground.now.width ground.now.height fault (L.state link.old) left) ⊎ IsWant (length (P.updates publisher.old)) fault) }
+    ensures unput { OnErr result (P.updates publisher.new ≡ P.updates publisher.old) }
+{
+    let joined = join_at(rt, ground, link)?;
+    hosts.joined(link, &joined);
+    let screen = make_ready(ground, links)?;
+    put_switch(ground, publisher)?;
+    Ok(screen)
+}
+
+/// The turn of a further host, over the two ends of its connection: it is joined, the switch is put, and it is read to
+/// its end. Or it is missed. The one who tells the hosts goes on with it while it is read.
+pub(crate) fn take_turn<L: Link, H: Hosts<L>, P: Puts, W: Bell + Drop, R: Wait>(
+    rt: &R,
+    ground: &Ground,
+    ends: (L, L),
+    hosts: &mut H,
+    links: &mut Vec<L>,
+    publisher: &mut P,
+    handover: &Handover<L, W>,
+) -> Result<(), Fault>
+    requires came { H.came ends.0 }
+    requires publisher { (P.width publisher.old ≡ ground.now.width) × (P.height publisher.old ≡ ground.now.height) }
+    ensures publisher { (P.width publisher.new ≡ P.width publisher.old) × (P.height publisher.new ≡ P.height publisher.old) }
+    ensures turn { HasTurn ground.now.width ground.now.height (IsLinkOf L.state H.came) result (map L.state links.old.items) (map L.state links.new.items) (P.updates publisher.old) (P.updates publisher.new) }
+{
+    let (mut reader, writer) = ends;
+    match meet(rt, ground, hosts, &mut reader, links, publisher) {
+        Ok(screen) => {
+            handover.give(rt, writer);
+            stay(
+                rt, ground, reader, screen, hosts, links, publisher, handover,
+            )
+        }
+        Err(fault) => {
+            // The fault is given out as well, so it is copied first.
+            let why = fault;
+            hosts.left(&mut reader, Err(why));
+            Err(fault)
+        }
+    }
+}

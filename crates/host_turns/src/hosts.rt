@@ -1,0 +1,89 @@
+//! One host after another.
+
+ghost use Rattle.std.specs.Prelude.{◌≡◌, ◌<◌, List, [], map, vec_capacity};
+ghost use Rattle.raster.specs.Screen.{opening};
+ghost use Rattle.raster.specs.Update.{Update};
+ghost use Rattle.host_decoder.specs.Decoder.{Decodes, IsFor, host_message};
+ghost use Rattle.link.specs.Links.{LinkState};
+ghost use Rattle.host_turns.specs.Running.{HasRun, IsLinkOf, IsOver, goes_on};
+
+use crate::handover::Handover;
+use crate::host::{Ground, stay, take_turn};
+use crate::supply::Hosts;
+use host_decoder::HostScreen;
+use link::Link;
+use pixel_format::Fault;
+use reflect_core::Puts;
+use serving::Bell;
+use std::sync::Wait;
+
+/// Whether the next host is taken after this answer of reading or of joining one.
+fn goes_on(answer: &Result<(), Fault>) -> bool
+    ensures { result ≡ goes_on answer.now }
+{
+    match answer {
+        Ok(()) => true,
+        Err(
+            Fault::BadVersion
+            | Fault::HostRefused(_)
+            | Fault::NoNone
+            | Fault::SecurityFailed
+            | Fault::LinkFailed
+            | Fault::LinkEnded,
+        ) => true,
+        Err(_) => false,
+    }
+}
+
+/// Takes the further hosts in turn, until one ends so that no other is taken, or none is left.
+fn read_others<L: Link, H: Hosts<L>, P: Puts, W: Bell + Drop, R: Wait>(
+    rt: &R,
+    ground: &Ground,
+    answer: Result<(), Fault>,
+    hosts: &mut H,
+    links: &mut Vec<L>,
+    publisher: &mut P,
+    handover: &Handover<L, W>,
+) -> Result<(), Fault>
+    requires { (P.width publisher.old ≡ ground.now.width) × (P.height publisher.old ≡ ground.now.height) }
+    ensures run { (link : LinkState) (old : List Update) → HasRun ground.now.width ground.now.height (IsLinkOf L.state H.came) answer link (map L.state links.old.items) old (P.updates publisher.old)
+        → HasRun ground.now.width ground.now.height (IsLinkOf L.state H.came) result link (map L.state links.new.items) old (P.updates publisher.new) }
+    ensures over { IsOver H.are_out result }
+{
+    let mut last = answer;
+    for _ in rt.forever() {
+        if !goes_on(&last) {
+            return last;
+        }
+        let Some(ends) = hosts.next() else {
+            return last;
+        };
+        last = take_turn(rt, ground, ends, hosts, links, publisher, handover);
+    }
+    unreachable!()
+}
+
+/// Reads the first host and then the others, in turn. It answers as the last of them did.
+pub fn read_all<L: Link, H: Hosts<L>, P: Puts, W: Bell + Drop, R: Wait>(
+    rt: &R,
+    ground: &Ground,
+    first: L,
+    screen: HostScreen,
+    hosts: &mut H,
+    links: &mut Vec<L>,
+    publisher: &mut P,
+    handover: &Handover<L, W>,
+) -> Result<(), Fault>
+    requires room { (links.old.items ≡ []) × (0 < vec_capacity links.old) }
+    requires size { (screen.decoder.width ≡ ground.now.width) × (screen.decoder.height ≡ ground.now.height) }
+    requires begins { Decodes screen.decoder screen.painter opening (host_message ground.now.width ground.now.height) }
+    requires pair { IsFor screen.decoder screen.painter }
+    requires publisher { (P.width publisher.old ≡ ground.now.width) × (P.height publisher.old ≡ ground.now.height) }
+    ensures run { HasRun ground.now.width ground.now.height (IsLinkOf L.state H.came) result (L.state first) (map L.state links.new.items) (P.updates publisher.old) (P.updates publisher.new) }
+    ensures over { IsOver H.are_out result }
+{
+    let answer = stay(rt, ground, first, screen, hosts, links, publisher, handover);
+    let last = read_others(rt, ground, answer, hosts, links, publisher, handover);
+    handover.close(rt);
+    last
+}

@@ -1,0 +1,15 @@
+//! Reads the hosts of a run in turn: each is joined, over a screen that turns black, and read to its end.
+//!
+//! `read_all` runs in the thread that reads the hosts, and hands each of them (`Handover`) to the one that tells it. It
+//! takes memory for each further host: room for its link, and what reads it.
+#![tactic(auto)]
+
+mod handover;
+mod host;
+mod hosts;
+mod supply;
+
+pub use handover::{Errand, Handover, WhileHere};
+pub use host::Ground;
+pub use hosts::read_all;
+pub use supply::{Hosts, NoHosts};

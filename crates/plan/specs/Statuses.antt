@@ -1,0 +1,32 @@
+-- How the program ends, and how many viewers it may be told to serve.
+use Rattle.std.specs.Prelude.{ℕ, ◌≡◌, ◌≤◌, ◌⊎◌, Result, Ok, Err}
+use Rattle.pixel_format.specs.declared.fault.Fault.{Fault}
+use Rattle.pixel_format.specs.declared.fault.Fault.TheVariants.{Memory}
+use Rattle.roles.specs.declared.role.Role.{Role}
+use Rattle.roles.specs.declared.role.Role.TheVariants.{Full, View}
+use Rattle.plan.specs.declared.plan.Plan.{Plan}
+
+-- The exit status of a run: 0 where the host ended between two messages, 4 where memory was refused, else 3.
+abbrev pub status_for : Result (Unit {0}) Fault → ℕ
+status_for (Ok _) = 0
+status_for (Err Memory) = 4
+status_for (Err _) = 3
+
+-- How many viewers of a role are told to be served.
+abbrev pub places_for : Role → Plan → ℕ
+places_for Full plan = plan.full_places
+places_for View plan = plan.view_places
+
+-- The port of the viewers of a role.
+abbrev pub port_for : Role → Plan → ℕ
+port_for Full plan = plan.full
+port_for View plan = plan.view
+
+-- From 1 to 32 places for each role.
+abbrev pub HasPlaces : Plan → Type 0
+HasPlaces plan =
+    (1 ≤ plan.full_places) × (plan.full_places ≤ 32) × (1 ≤ plan.view_places) × (plan.view_places ≤ 32)
+
+-- A status with which the program may end once its line was read.
+abbrev pub IsStatus : ℕ → Type 0
+IsStatus status = (status ≡ 0) ⊎ ((status ≡ 3) ⊎ (status ≡ 4))

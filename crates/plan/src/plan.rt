@@ -1,0 +1,49 @@
+//! What is to be served, and where.
+
+ghost use Rattle.std.specs.Prelude.{◌≡◌};
+ghost use Rattle.plan.specs.Statuses.{places_for, port_for};
+
+use roles::Role;
+
+/// What `serve` is told.
+#[derive(Clone, Copy, Debug)]
+pub struct Plan<'a> {
+    /// The first VNC host, `IP:PORT`.
+    pub host: &'a str,
+    /// The hosts that follow on it, `IP:PORT` each, in their order.
+    pub next: &'a [String],
+    /// How many seconds after the last host has ended the first is tried again, or `None` where it isn't.
+    pub again: Option<u64>,
+    /// The address that both ports listen on.
+    pub bind: &'a str,
+    /// The port of viewers with full control.
+    pub full: u16,
+    /// The port of viewers that only look.
+    pub view: u16,
+    /// How many viewers with full control there may be at once.
+    pub full_places: u64,
+    /// How many viewers that only look there may be at once.
+    pub view_places: u64,
+    /// Whether a log is kept on standard error.
+    pub is_logged: bool,
+}
+
+/// The port of the viewers of a role.
+pub fn port_of(plan: &Plan<'_>, role: Role) -> u16
+    ensures { result ≡ port_for role plan.now }
+{
+    match role {
+        Role::Full => plan.full,
+        Role::View => plan.view,
+    }
+}
+
+/// How many viewers of a role are to be served.
+pub fn places_of(plan: &Plan<'_>, role: Role) -> u64
+    ensures { result ≡ places_for role plan.now }
+{
+    match role {
+        Role::Full => plan.full_places,
+        Role::View => plan.view_places,
+    }
+}
