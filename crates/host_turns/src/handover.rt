@@ -64,7 +64,7 @@ impl<L: Drop, W: Bell + Drop> Handover<L, W> {
     }
 
     /// From now on the host at the other end of this link is told.
-    pub fn give<R: Wait>(&self, rt: &R, link: L) {
+    pub(crate) fn give<R: Wait>(&self, rt: &R, link: L) {
         let number = self.left.load(Ordering::SeqCst);
         let mut guard = self.post.lock(rt);
         guard.next = Some(Errand { link, number });
@@ -72,7 +72,7 @@ impl<L: Drop, W: Bell + Drop> Handover<L, W> {
     }
 
     /// The host was left: it is told no more.
-    pub fn leave(&self) {
+    pub(crate) fn leave(&self) {
         let _ = self.left.fetch_add(1, Ordering::SeqCst);
         self.bell.rouse();
     }

@@ -63,7 +63,11 @@ fn read_others<L: Link, H: Hosts<L>, P: Puts, W: Bell + Drop, R: Wait>(
     unreachable!()
 }
 
-/// Reads the first host and then the others, in turn. It answers as the last of them did.
+/// Reads the first host and then the others, in turn, and adds the links of those that were read. Each is handed over to
+/// whoever tells it while it is read.
+///
+/// It answers as the last of them did: with the fault of reading it or of joining it, `BadScreen` where its screen has
+/// another size, `Memory` where memory is refused for what it wants, and `NumbersOut` where its switch has no number.
 pub fn read_all<L: Link, H: Hosts<L>, P: Puts, W: Bell + Drop, R: Wait>(
     rt: &R,
     ground: &Ground,
