@@ -1,5 +1,0 @@
-use Rattle.host_decoder.specs.Decoder.{IsFor}
-use Rattle.bench_kernels.proofs.host.read_messages.Given as goal
-
-abbrev pub invariant-loop : goal.invariant-loop
-invariant-loop l = IsFor l.screen.decoder l.screen.painter

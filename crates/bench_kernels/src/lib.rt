@@ -1,7 +1,0 @@
-//! What the benchmarks below `bench/` call from C. Each export runs public calls of the crates below.
-#![tactic(auto)]
-
-mod answers;
-mod host;
-mod memory;
-mod rows;

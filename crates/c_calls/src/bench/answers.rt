@@ -1,0 +1,133 @@
+//! What `bench/answers` calls.
+
+ghost use Rattle.std.specs.Prelude.{◌≡◌, ◌+◌, ◌*◌, ◌≤◌, length, IfOk};
+ghost use Rattle.raster.specs.Size.{IsScreenSize};
+
+use pixel_format::{Fault, Format};
+use raster::{Encoding, Rect};
+use reflect_core::Cut;
+use rfb_wire::Choice;
+use std::alloc::Global;
+use update_encoder::Answer;
+
+/// Room for one rectangle: its pixel values, and its bytes.
+#[derive(Drop)]
+struct Room {
+    values: Vec<u32>,
+    out: Vec<u8>,
+}
+
+/// How an answer is asked for.
+#[derive(Clone, Copy)]
+struct Asked {
+    format: Format,
+    choice: Choice,
+}
+
+/// Copies as many bytes as have room.
+fn keep(bytes: &[u8], sent: &mut [u8]) {
+    let len = bytes.len().min(sent.len());
+    sent[..len].copy_from_slice(&bytes[..len]);
+}
+
+/// Writes all rectangles of an answer of the whole screen, each over the one before, and copies them one after the
+/// other as far as there is room. Answers how many bytes they are.
+fn write_all(cut: &Cut, asked: &Asked, room: &mut Room, sent: &mut [u8]) -> u64
+    requires values { 16 * cut.now.width ≤ length room.old.values.items }
+    requires out { 12 + 64 * cut.now.width ≤ length room.old.out.items }
+    ensures values { length room.new.values.items ≡ length room.old.values.items }
+    ensures out { length room.new.out.items ≡ length room.old.out.items }
+{
+    let area = Rect {
+        x: 0,
+        y: 0,
+        w: cut.width,
+        h: cut.height,
+    };
+    let mut answer = Answer::start(cut, &area, asked.format, asked.choice);
+    let mut total: usize = 0;
+    for _turn in 0..answer.count() {
+        let next = answer.next(cut, room.values.as_mut_slice(), room.out.as_mut_slice());
+        if let Some(len) = next {
+            if total < sent.len() {
+                keep(&room.out[..len], &mut sent[total..]);
+            }
+            total = total.saturating_add(len);
+        }
+    }
+    total as u64
+}
+
+/// Marks all tiles as due, or the middle one alone.
+fn mark(due: &mut [bool], all: bool) {
+    due.fill(all);
+    let middle = due.len() / 2;
+    if let Some(one) = due.get_mut(middle) {
+        *one = true;
+    }
+}
+
+/// Copies colours into a cut, as its source does, where they are as many as the screen has.
+fn refresh(cut: &mut Cut, colours: &[u32])
+    ensures { (cut.new.width ≡ cut.old.width) × (cut.new.height ≡ cut.old.height) }
+{
+    if colours.len() == cut.colours.len() {
+        cut.colours.as_mut_slice().copy_from_slice(colours);
+    }
+}
+
+/// A screen of these colours as a cut, and room for a rectangle.
+fn prepare(alloc: Global, width: u64, height: u64) -> Result<(Cut, Room), Fault>
+    requires { IsScreenSize width height }
+    ensures { IfOk result (λ p. (p.0.width ≡ width) × (p.0.height ≡ height) × (length p.1.values.items ≡ 16 * width) × (length p.1.out.items ≡ 12 + 64 * width)) }
+{
+    let cut = Cut::new(alloc, width, height)?;
+    let values = vec![in alloc; 0u32; 16 * width as usize]?;
+    let out = vec![in alloc; 0u8; 12 + 64 * width as usize]?;
+    Ok((cut, Room { values, out }))
+}
+
+/// Copies colours into a cut, and writes an answer of the whole screen from it, this many times, and once more into
+/// `sent`; `kind`: the number of its encoding, and any other is Raw; `all`: of all tiles, else of one; `copies`: the
+/// colours are copied anew each time. Answers how many bytes an answer has after its header, and 0 where there is no
+/// memory, no such screen or format, or colours of another size.
+#[unsafe(no_mangle)]
+pub extern "C" fn bench_answers(
+    alloc: Global,
+    format: &[u8; 16],
+    kind: u32,
+    width: u32,
+    height: u32,
+    colours: &[u32],
+    all: bool,
+    copies: bool,
+    times: u32,
+    sent: &mut [u8],
+) -> u64 {
+    if width == 0 || width > 4096 || height == 0 || height > 4096 {
+        return 0;
+    }
+    let Ok(format) = Format::read(format) else {
+        return 0;
+    };
+    let Ok((mut cut, mut room)) = prepare(alloc, u64::from(width), u64::from(height)) else {
+        return 0;
+    };
+    if colours.len() != cut.colours.len() {
+        return 0;
+    }
+    let choice = Choice {
+        kind: Encoding::of_number(kind).unwrap_or(Encoding::Raw),
+        copy: false,
+    };
+    let asked = Asked { format, choice };
+    mark(cut.due.as_mut_slice(), all);
+    refresh(&mut cut, colours);
+    for _time in 0..times {
+        if copies {
+            refresh(&mut cut, colours);
+        }
+        write_all(&cut, &asked, &mut room, &mut []);
+    }
+    write_all(&cut, &asked, &mut room, sent)
+}

@@ -1,5 +1,0 @@
-use Rattle.host_decoder.specs.Decoder.{IsFor}
-use Rattle.fuzz_streams.proofs.host.read.Given as goal
-
-abbrev pub invariant-loop : goal.invariant-loop
-invariant-loop l = IsFor l.screen.decoder l.screen.painter
