@@ -1,105 +1,102 @@
 //! What a host may not send: each fault comes at the byte that shows it, and is final.
 
-ghost use Rattle.std.specs.Prelude.{◌≡◌};
-
-use crate::lent::Host;
+use crate::lent::{Host, Told};
 use std::process::Abort;
 
-/// Over a screen of 2 by 1 the last of these bytes shows the fault, at whatever place they are cut in two; it is named
-/// again whatever comes, and no event is given.
-fn fails<R: Abort + AllocGlobal>(rt: &R, bytes: &[u8], fault: u64) {
-    let mut host = Host::new(rt, 2, 1);
-    for cut in 0..bytes.len() {
-        let (begun, rest) = bytes.split_at(cut);
-        ends(rt, &mut host, begun, rest, fault);
-        host.again(rt);
-    }
-}
-
-fn ends<R: Abort>(rt: &R, host: &mut Host, begun: &[u8], rest: &[u8], fault: u64)
-    requires { host.old ≡ (2, 1) }
-    ensures { host.new ≡ (2, 1) }
-{
-    assert!(rt; host.feed(begun) == Ok(begun.len()));
-    assert!(rt; host.feed(rest) == Err(fault));
-    assert!(rt; host.whole().is_none());
-    assert!(rt; host.feed(&[]) == Err(fault));
-    assert!(rt; host.feed(&[2]) == Err(fault));
-    assert!(rt; host.whole().is_none());
-}
-
-#[test]
-fn unknown_messages(rt: HostRuntime) {
-    fails(&rt, &[4], 6);
-    fails(&rt, &[255], 6);
-}
-
-/// Too wide, too low, and outside by far; the encoding after it would be unknown, and is not looked at.
-#[test]
-fn rectangles_outside(rt: HostRuntime) {
-    fails(&rt, &[0, 0, 0, 1, 0, 1, 0, 0, 0, 2, 0, 1], 7);
-    fails(&rt, &[0, 0, 0, 1, 0, 0, 0, 0, 0, 0, 0, 2], 7);
-    fails(
-        &rt,
+/// What is at fault, bytes over a screen of 2 by 1 of which the last shows it, and the number of the fault.
+const FAULTS: [(&str, &[u8], u64); 13] = [
+    ("a message that is unknown", &[4], 6),
+    ("the last that is unknown", &[255], 6),
+    (
+        "a rectangle that is too wide",
+        &[0, 0, 0, 1, 0, 1, 0, 0, 0, 2, 0, 1],
+        7,
+    ),
+    (
+        "a rectangle that is too low",
+        &[0, 0, 0, 1, 0, 0, 0, 0, 0, 0, 0, 2],
+        7,
+    ),
+    // The encoding after it would be unknown, and is not looked at.
+    (
+        "a rectangle outside by far",
         &[0, 0, 0, 1, 255, 255, 255, 255, 255, 255, 255, 255],
         7,
-    );
-}
-
-#[test]
-fn unknown_encodings(rt: HostRuntime) {
-    fails(&rt, &[0, 0, 0, 1, 0, 0, 0, 0, 0, 2, 0, 1, 0, 0, 0, 7], 8);
-    fails(&rt, &[0, 0, 0, 1, 0, 0, 0, 0, 0, 2, 0, 1, 1, 0, 0, 0], 8);
-}
-
-/// Alone, and after a rectangle that was painted.
-#[test]
-fn copies_from_outside(rt: HostRuntime) {
-    fails(
-        &rt,
+    ),
+    (
+        "an encoding that is unknown",
+        &[0, 0, 0, 1, 0, 0, 0, 0, 0, 2, 0, 1, 0, 0, 0, 7],
+        8,
+    ),
+    (
+        "an encoding of a high number",
+        &[0, 0, 0, 1, 0, 0, 0, 0, 0, 2, 0, 1, 1, 0, 0, 0],
+        8,
+    ),
+    (
+        "a copy from outside",
         &[0, 0, 0, 1, 0, 1, 0, 0, 0, 1, 0, 1, 0, 0, 0, 1, 0, 2, 0, 0],
         14,
-    );
-    fails(
-        &rt,
+    ),
+    (
+        "a copy from outside after a rectangle that was painted",
         &[
             0, 0, 0, 2, 0, 0, 0, 0, 0, 1, 0, 1, 0, 0, 0, 0, 1, 2, 3, 4, 0, 1, 0, 0, 0, 1, 0, 1, 0,
             0, 0, 1, 0, 0, 0, 1,
         ],
         14,
-    );
-}
-
-#[test]
-fn subrectangles_outside(rt: HostRuntime) {
-    fails(
-        &rt,
+    ),
+    (
+        "a subrectangle outside in RRE",
         &[
             0, 0, 0, 1, 0, 0, 0, 0, 0, 2, 0, 1, 0, 0, 0, 2, 0, 0, 0, 1, 0, 0, 0, 0, 0, 0, 0xFF, 0,
             0, 1, 0, 0, 0, 2, 0, 1,
         ],
         9,
-    );
-}
-
-#[test]
-fn faults_in_hextile(rt: HostRuntime) {
-    fails(
-        &rt,
+    ),
+    (
+        "a subrectangle outside in Hextile",
         &[
             0, 0, 0, 1, 0, 0, 0, 0, 0, 2, 0, 1, 0, 0, 0, 5, 0x0E, 0, 0, 0xFF, 0, 0xFF, 0, 0, 0, 1,
             0x10, 0x10,
         ],
         9,
-    );
-    fails(
-        &rt,
+    ),
+    (
+        "no background",
         &[0, 0, 0, 1, 0, 0, 0, 0, 0, 2, 0, 1, 0, 0, 0, 5, 8],
         10,
-    );
-    fails(
-        &rt,
+    ),
+    (
+        "no foreground",
         &[0, 0, 0, 1, 0, 0, 0, 0, 0, 2, 0, 1, 0, 0, 0, 5, 0x0A],
         11,
-    );
+    ),
+];
+
+/// Whether the last of the bytes shows the fault, which is named again whatever comes, and no event is given.
+fn fails(host: &mut Host, begun: &[u8], rest: &[u8], fault: u64) -> bool {
+    host.feed(begun) == Ok(begun.len())
+        && host.feed(rest) == Err(fault)
+        && host.tells(&Told::Nothing)
+        && host.feed(&[]) == Err(fault)
+        && host.feed(&[2]) == Err(fault)
+        && host.tells(&Told::Nothing)
+}
+
+/// Whether a new host fails so where its bytes are cut in two at this place.
+fn fails_at<R: Abort + AllocGlobal>(rt: &R, bytes: &[u8], cut: usize, fault: u64) -> bool {
+    let (begun, rest) = bytes.split_at(cut.min(bytes.len()));
+    let mut host = Host::new(rt, 2, 1);
+    fails(&mut host, begun, rest, fault)
+}
+
+/// At whatever place the bytes are cut in two.
+#[test]
+fn faults(rt: HostRuntime) {
+    for (name, bytes, fault) in FAULTS {
+        for cut in 0..bytes.len() {
+            assert!(rt; fails_at(&rt, bytes, cut, fault), "{name} cut at {cut}");
+        }
+    }
 }

@@ -1,43 +1,47 @@
 //! What is lent to tests, and what they are told.
 
-ghost use Rattle.std.specs.Prelude.{◌≡◌, ◌<◌, length};
+ghost use Rattle.std.specs.Prelude.{◌≡◌, ◌≤◌, ◌<◌, ◌+◌, length};
 ghost use Rattle.raster.specs.Size.{IsScreenSize};
 
-use host_decoder::{HostDecoder, HostEvent, HostScreen};
-use painter::Painter;
+use host_decoder::{HostEvent, HostScreen};
+use painter::{Board, Painter};
 use std::marker::Model;
 use std::panic::Expect;
 use std::process::Abort;
 
-/// The type of a message (RFC 6143, section 7.6), with 4 for a text that was read past; and how many tiles an update
-/// touches, or how many bytes a text that is kept.
-pub type Told = (u8, usize);
+/// What is told of a host's bytes (RFC 6143, section 7.6).
+#[derive(Clone, Copy)]
+pub enum Told {
+    /// No message is whole.
+    Nothing,
+    /// An update that touches so many tiles.
+    Tiles(usize),
+    /// An update of these tiles, with these colours of one after the other.
+    Colours(&'static [u64], &'static [u32]),
+    Map,
+    Bell,
+    Text(&'static [u8]),
+    /// A text of so many bytes.
+    LongText(usize),
+    /// A text that was read past.
+    LostText,
+}
 
-fn told(event: &HostEvent) -> Told {
-    match event {
-        HostEvent::Paint(patch) => (0, patch.tiles().0.len()),
-        HostEvent::Map => (1, 0),
-        HostEvent::Bell(_) => (2, 0),
-        HostEvent::Cut(patch) => match patch.text_bytes() {
-            Some(text) => (3, text.len()),
-            None => (3, 0),
+/// Whether a whole message brings this.
+fn is_told(event: &HostEvent, told: &Told) -> bool {
+    match (event, told) {
+        (HostEvent::Paint(patch), Told::Tiles(count)) => patch.tiles().0.len() == *count,
+        (HostEvent::Paint(patch), Told::Colours(numbers, colours)) => {
+            patch.tiles().0 == *numbers && patch.tiles().1 == *colours
+        }
+        (HostEvent::Map, Told::Map) => true,
+        (HostEvent::Bell(_), Told::Bell) => true,
+        (HostEvent::Cut(patch), Told::Text(bytes)) => patch.text_bytes() == Some(*bytes),
+        (HostEvent::Cut(patch), Told::LongText(count)) => match patch.text_bytes() {
+            Some(text) => text.len() == *count,
+            None => false,
         },
-        HostEvent::LongCut => (4, 0),
-    }
-}
-
-/// The bytes of a text.
-fn text_of(event: &HostEvent) -> Option<&[u8]> {
-    match event {
-        HostEvent::Cut(patch) => patch.text_bytes(),
-        _ => None,
-    }
-}
-
-/// Whether it paints these tiles, and these colours of one after the other.
-fn paints(event: &HostEvent, numbers: &[u64], colours: &[u32]) -> bool {
-    match event {
-        HostEvent::Paint(patch) => patch.tiles().0 == numbers && patch.tiles().1 == colours,
+        (HostEvent::LongCut, Told::LostText) => true,
         _ => false,
     }
 }
@@ -48,6 +52,24 @@ pub fn black<R: Abort + AllocGlobal>(rt: &R, width: u64, height: u64) -> Painter
     ensures { (result.width ≡ width) × (result.height ≡ height) }
 {
     Painter::new(rt.alloc(), width, height).expect(rt, "no screen")
+}
+
+/// Whether the painter has a patch. It is applied to the board.
+pub fn applies(painter: &mut Painter, board: &mut Board) -> bool
+    requires width { painter.old.width ≡ board.old.width }
+    requires height { painter.old.height ≡ board.old.height }
+    requires number { board.old.number < 4 }
+    ensures painter { (painter.new.width ≡ painter.old.width) × (painter.new.height ≡ painter.old.height) }
+    ensures board { (board.new.width ≡ board.old.width) × (board.new.height ≡ board.old.height) }
+    ensures number { board.new.number ≤ board.old.number + 1 }
+{
+    match painter.patch() {
+        Ok(patch) => {
+            board.apply(&patch);
+            true
+        }
+        Err(_) => false,
+    }
 }
 
 /// A host's screen. It is lent to what is tested, and let go at one place: proofs of letting it go are long.
@@ -79,15 +101,6 @@ impl Host {
         }
     }
 
-    /// Another host, over the same screen.
-    pub fn again<R: Abort + AllocGlobal>(&mut self, rt: &R)
-        requires { IsScreenSize self.old.0 self.old.1 }
-        ensures { self.new ≡ self.old }
-    {
-        let (width, height) = self.screen.decoder.size();
-        self.screen.decoder = HostDecoder::new(rt.alloc(), width, height);
-    }
-
     pub fn size(&self) -> (u64, u64) {
         self.screen.decoder.size()
     }
@@ -102,28 +115,21 @@ impl Host {
         }
     }
 
-    /// What is told of the message that is whole, if there is one.
-    pub fn whole(&mut self) -> Option<Told>
+    /// Whether the message that is whole brings this. It is taken.
+    pub fn tells(&mut self, told: &Told) -> bool
         ensures { self.new ≡ self.old }
     {
-        let event = self.screen.decoder.whole()?;
-        Some(told(&event))
+        match self.screen.decoder.whole() {
+            Some(event) => is_told(&event, told),
+            None => matches!(told, Told::Nothing),
+        }
     }
 
-    /// Whether it is a text of these bytes.
-    pub fn whole_text_is(&mut self, bytes: &[u8]) -> Option<bool>
+    /// Whether no message is whole before this piece, and all of it is used.
+    pub fn uses(&mut self, piece: &[u8]) -> bool
         ensures { self.new ≡ self.old }
     {
-        let event = self.screen.decoder.whole()?;
-        Some(text_of(&event) == Some(bytes))
-    }
-
-    /// Whether it is an update of these tiles, with these colours of one after the other.
-    pub fn whole_paints(&mut self, numbers: &[u64], colours: &[u32]) -> Option<bool>
-        ensures { self.new ≡ self.old }
-    {
-        let event = self.screen.decoder.whole()?;
-        Some(paints(&event, numbers, colours))
+        self.tells(&Told::Nothing) && self.feed(piece) == Ok(piece.len())
     }
 
     /// The first row of the screen.

@@ -4,7 +4,7 @@ ghost use Rattle.std.specs.Prelude.{◌≡◌, ◌≤◌, ◌<◌, ◌+◌, ◌*
 ghost use Rattle.raster.specs.Screen.{IsWithin};
 ghost use Rattle.raster.specs.Size.{IsScreenSize};
 
-use crate::lent::black;
+use crate::lent::{applies, black};
 use painter::{Board, Painter, Patch};
 use raster::{Paint, Rect};
 use std::panic::Expect;
@@ -17,20 +17,17 @@ const SQUARE: Rect = Rect {
     h: 5,
 };
 
+const MIDDLE: Rect = Rect {
+    x: 1,
+    y: 1,
+    w: 3,
+    h: 3,
+};
+
 /// The colour at x, y is y * 5 + x + 1.
 const COUNTING: [u32; 25] = [
     1, 2, 3, 4, 5, 6, 7, 8, 9, 10, 11, 12, 13, 14, 15, 16, 17, 18, 19, 20, 21, 22, 23, 24, 25,
 ];
-
-/// What is tested is lent, and let go at one place: proofs of letting it go are long.
-fn paint_counting<R: Abort + AllocGlobal>(rt: &R, painter: &mut Painter) -> Patch
-    requires size { (painter.old.width ≡ 5) × (painter.old.height ≡ 5) }
-    ensures size { (painter.new.width ≡ 5) × (painter.new.height ≡ 5) }
-    ensures patch { (result.width ≡ 5) × (result.height ≡ 5) }
-{
-    painter.put(SQUARE, &COUNTING);
-    painter.patch().expect(rt, "a patch")
-}
 
 /// What row y shows after the middle 3 by 3 was copied from its position, moved by the source's top left.
 fn expected(sx: u32, sy: u32, y: u32) -> [u32; 5]
@@ -49,57 +46,49 @@ fn expected(sx: u32, sy: u32, y: u32) -> [u32; 5]
     row
 }
 
-/// One of the eight ways of a copy over its own source (RFC 6143, section 7.7.2), as a patch and on a board.
-fn copies_from<R: Abort + AllocGlobal>(rt: &R, sx: u32, sy: u32)
+/// Whether both show the square with its middle copied from there.
+fn are_copied(painter: &Painter, board: &Board, sx: u32, sy: u32) -> bool
+    requires source { (sx ≤ 2) × (sy ≤ 2) }
+    requires size { (painter.now.width ≡ 5) × (painter.now.height ≡ 5) }
+{
+    let mut are_copied = board.colours().len() == 25;
+    for y in 0..5 {
+        let row = expected(sx, sy, y);
+        let start = y as usize * 5;
+        are_copied = are_copied
+            && painter.row(u64::from(y)) == row.as_slice()
+            && board.colours().get(start..start + 5) == Some(row.as_slice());
+    }
+    are_copied
+}
+
+/// Whether a copy over its own source shows what it must, as a patch and on a board.
+fn copies(painter: &mut Painter, board: &mut Board, sx: u32, sy: u32) -> bool
+    requires source { (sx ≤ 2) × (sy ≤ 2) }
+    requires size { (painter.old.width ≡ 5) × (painter.old.height ≡ 5) }
+    requires board { (board.old.width ≡ 5) × (board.old.height ≡ 5) × (board.old.number ≡ 0) }
+{
+    painter.put(SQUARE, &COUNTING);
+    let is_put = applies(painter, board);
+    painter.paint(&Paint::Copy(MIDDLE, u64::from(sx), u64::from(sy)));
+    applies(painter, board) && is_put && are_copied(painter, board, sx, sy)
+}
+
+/// The same on new screens.
+fn copies_from<R: Abort + AllocGlobal>(rt: &R, sx: u32, sy: u32) -> bool
     requires { (sx ≤ 2) × (sy ≤ 2) }
 {
     let mut painter = black(rt, 5, 5);
     let mut board = Board::new(rt.alloc(), 5, 5).expect(rt, "a board");
-    copy_middle(rt, &mut painter, &mut board, sx, sy);
-    is_copied_from(rt, &painter, &board, sx, sy);
+    copies(&mut painter, &mut board, sx, sy)
 }
 
-fn copy_middle<R: Abort + AllocGlobal>(
-    rt: &R,
-    painter: &mut Painter,
-    board: &mut Board,
-    sx: u32,
-    sy: u32,
-)
-    requires source { (sx ≤ 2) × (sy ≤ 2) }
-    requires size { (painter.old.width ≡ 5) × (painter.old.height ≡ 5) }
-    requires board { (board.old.width ≡ 5) × (board.old.height ≡ 5) × (board.old.number ≡ 0) }
-    ensures { (painter.new.width ≡ 5) × (painter.new.height ≡ 5) }
-{
-    board.apply(&paint_counting(rt, painter));
-    let middle = Rect {
-        x: 1,
-        y: 1,
-        w: 3,
-        h: 3,
-    };
-    painter.paint(&Paint::Copy(middle, u64::from(sx), u64::from(sy)));
-    board.apply(&painter.patch().expect(rt, "a patch"));
-}
-
-fn is_copied_from<R: Abort>(rt: &R, painter: &Painter, board: &Board, sx: u32, sy: u32)
-    requires source { (sx ≤ 2) × (sy ≤ 2) }
-    requires size { (painter.now.width ≡ 5) × (painter.now.height ≡ 5) }
-{
-    assert_eq!(rt; board.colours().len(), 25);
-    for y in 0..5 {
-        let row = expected(sx, sy, y);
-        assert!(rt; painter.row(u64::from(y)) == row.as_slice());
-        let start = y as usize * 5;
-        assert!(rt; &board.colours()[start..start + 5] == row.as_slice());
-    }
-}
-
+/// The eight ways of a copy over its own source (RFC 6143, section 7.7.2), and one to where it stands.
 #[test]
 fn copies_over_its_source_in_all_directions(rt: HostRuntime) {
     for sy in 0..3 {
         for sx in 0..3 {
-            copies_from(&rt, sx, sy);
+            assert!(rt; copies_from(&rt, sx, sy), "from {sx}, {sy}");
         }
     }
 }
@@ -122,73 +111,82 @@ fn apply_copy<R: Abort + AllocGlobal>(rt: &R, board: &mut Board, patch: &Patch)
     board.apply(&copied);
 }
 
-#[test]
-fn board_counts_bells_and_keeps_texts(rt: HostRuntime) {
-    let mut board = Board::new(rt.alloc(), 2, 1).expect(&rt, "a board");
-    counts_and_keeps(&rt, &mut board);
+/// Whether this is the board's text, and the number of its update.
+fn is_text(board: &Board, bytes: &[u8], number: u64) -> bool {
+    board.text().number() == Some(number) && board.text().bytes() == bytes
 }
 
-fn counts_and_keeps<R: Abort + AllocGlobal>(rt: &R, board: &mut Board)
+/// Whether a board of 2 by 1 counts three Bells around a text, and keeps the text.
+fn counts_and_keeps<R: Abort + AllocGlobal>(rt: &R, board: &mut Board) -> bool
     requires { (board.old.width ≡ 2) × (board.old.height ≡ 1) × (board.old.number ≡ 0) }
 {
-    assert!(rt; board.size() == (2, 1));
-    assert!(rt; board.number() == 0 && board.text().number().is_none());
-    assert!(rt; board.colours() == [0, 0].as_slice());
+    let is_new = board.size() == (2, 1)
+        && board.number() == 0
+        && board.text().number().is_none()
+        && board.colours() == [0, 0].as_slice();
     let bell = Patch::bell(2, 1);
     board.apply(&bell);
     apply_copy(rt, board, &bell);
     board.apply(&text(rt, 2, 1, &[7]));
     board.apply(&bell);
-    assert!(rt; board.number() == 4 && board.bells() == 3);
-    is_text(rt, board, &[7], 3);
-    assert!(rt; board.colours() == [0, 0].as_slice());
+    is_new
+        && board.number() == 4
+        && board.bells() == 3
+        && is_text(board, &[7], 3)
+        && board.colours() == [0, 0].as_slice()
 }
 
-/// The board's text, and the number of its update.
-fn is_text<R: Abort>(rt: &R, board: &Board, bytes: &[u8], number: u64) {
-    assert!(rt; board.text().number() == Some(number));
-    assert!(rt; board.text().bytes() == bytes);
+#[test]
+fn board_counts_bells_and_keeps_texts(rt: HostRuntime) {
+    let mut board = Board::new(rt.alloc(), 2, 1).expect(&rt, "a board");
+    let counts = counts_and_keeps(&rt, &mut board);
+    assert!(rt; counts);
+}
+
+/// Whether a board of 1 by 1 keeps the longest text between two that are empty.
+fn keeps_longest<R: Abort + AllocGlobal>(rt: &R, board: &mut Board, longest: &[u8]) -> bool
+    requires board { (board.old.width ≡ 1) × (board.old.height ≡ 1) × (board.old.number ≡ 0) }
+    requires longest { length longest.now ≤ 65536 }
+{
+    board.apply(&text(rt, 1, 1, &[]));
+    apply_copy(rt, board, &text(rt, 1, 1, longest));
+    let is_kept = is_text(board, longest, 2);
+    board.apply(&text(rt, 1, 1, &[]));
+    is_kept && is_text(board, &[], 3)
 }
 
 #[test]
 fn board_keeps_the_longest_text(rt: HostRuntime) {
     let mut board = Board::new(rt.alloc(), 1, 1).expect(&rt, "a board");
     let longest = vec![in rt.alloc(); 0x41u8; 65536].expect(&rt, "memory");
-    keeps_longest(&rt, &mut board, longest.as_slice());
+    let keeps = keeps_longest(&rt, &mut board, longest.as_slice());
+    assert!(rt; keeps);
 }
 
-fn keeps_longest<R: Abort + AllocGlobal>(rt: &R, board: &mut Board, longest: &[u8])
-    requires board { (board.old.width ≡ 1) × (board.old.height ≡ 1) × (board.old.number ≡ 0) }
-    requires longest { length longest.now ≤ 65536 }
+/// A copy of a patch that is gone.
+fn copied<R: Abort + AllocGlobal>(rt: &R, painter: &mut Painter) -> Patch
+    requires { (painter.old.width ≡ 5) × (painter.old.height ≡ 5) }
+    ensures { (result.width ≡ 5) × (result.height ≡ 5) }
 {
-    board.apply(&text(rt, 1, 1, &[]));
-    apply_copy(rt, board, &text(rt, 1, 1, longest));
-    is_text(rt, board, longest, 2);
-    board.apply(&text(rt, 1, 1, &[]));
-    is_text(rt, board, &[], 3);
+    painter.put(SQUARE, &COUNTING);
+    let patch = painter.patch().expect(rt, "a patch");
+    patch.copy(rt.alloc()).expect(rt, "a copy")
+}
+
+/// Whether a copy of a patch paints the square.
+fn copy_is_equal<R: Abort + AllocGlobal>(rt: &R, painter: &mut Painter, board: &mut Board) -> bool
+    requires size { (painter.old.width ≡ 5) × (painter.old.height ≡ 5) }
+    requires board { (board.old.width ≡ 5) × (board.old.height ≡ 5) × (board.old.number ≡ 0) }
+{
+    let patch = copied(rt, painter);
+    board.apply(&patch);
+    patch.size() == (5, 5) && board.colours() == COUNTING.as_slice()
 }
 
 #[test]
 fn copy_of_a_patch_is_equal(rt: HostRuntime) {
+    let mut painter = black(&rt, 5, 5);
     let mut board = Board::new(rt.alloc(), 5, 5).expect(&rt, "a board");
-    let copied = copied(&rt);
-    is_equal(&rt, &mut board, &copied);
-}
-
-/// A copy of a patch that is gone.
-fn copied<R: Abort + AllocGlobal>(rt: &R) -> Patch
-    ensures { (result.width ≡ 5) × (result.height ≡ 5) }
-{
-    let mut painter = black(rt, 5, 5);
-    let patch = paint_counting(rt, &mut painter);
-    patch.copy(rt.alloc()).expect(rt, "a copy")
-}
-
-fn is_equal<R: Abort>(rt: &R, board: &mut Board, patch: &Patch)
-    requires patch { (patch.now.width ≡ 5) × (patch.now.height ≡ 5) }
-    requires board { (board.old.width ≡ 5) × (board.old.height ≡ 5) × (board.old.number ≡ 0) }
-{
-    assert!(rt; patch.size() == (5, 5));
-    board.apply(patch);
-    assert!(rt; board.colours() == COUNTING.as_slice());
+    let is_equal = copy_is_equal(&rt, &mut painter, &mut board);
+    assert!(rt; is_equal);
 }
