@@ -13,30 +13,29 @@ const TURNS: u64 = 1_000_000;
 #[derive(Drop)]
 pub(crate) struct Board {
     shown: [AtomicU64; 4],
-    handed: AtomicU64,
-    told: AtomicU64,
+    /// How many key events were handed out.
+    pub(crate) handed: AtomicU64,
+    /// Of how many the host was told.
+    pub(crate) told: AtomicU64,
     // The number of the update that turns the screen black.
     black: u64,
-    flaws: AtomicU64,
+    /// 1 where something went wrong.
+    pub(crate) flaws: AtomicU64,
 }
 
 /// What is waited for.
-#[derive(Clone, Copy, Drop)]
+#[derive(Drop)]
 pub(crate) enum Gate {
     /// Nothing.
     Open,
-    /// Place 1 was shown this update, or a later one.
-    First(u64),
+    /// This place, counted from 0, was shown this update, or a later one.
+    Shown(usize, u64),
     /// All four places were.
     All(u64),
     /// Viewers handed out this many key events.
     Handed(u64),
     /// The host was told of this many key events.
     Told(u64),
-}
-
-fn at_least(number: &AtomicU64, least: u64) -> bool {
-    least <= number.load(Ordering::SeqCst)
 }
 
 impl Board {
@@ -63,10 +62,19 @@ impl Board {
     pub(crate) fn is_open(&self, gate: &Gate) -> bool {
         match gate {
             Gate::Open => true,
-            Gate::First(colour) => at_least(&self.shown[0], *colour),
-            Gate::All(colour) => self.shown.iter().all(|shown| at_least(shown, *colour)),
-            Gate::Handed(count) => at_least(&self.handed, *count),
-            Gate::Told(count) => at_least(&self.told, *count),
+            Gate::Shown(place, update) => match self.shown.get(*place) {
+                Some(shown) => *update <= shown.load(Ordering::SeqCst),
+                None => false,
+            },
+            Gate::All(update) => {
+                let mut least = u64::MAX;
+                for shown in &self.shown {
+                    least = least.min(shown.load(Ordering::SeqCst));
+                }
+                *update <= least
+            }
+            Gate::Handed(count) => *count <= self.handed.load(Ordering::SeqCst),
+            Gate::Told(count) => *count <= self.told.load(Ordering::SeqCst),
         }
     }
 
@@ -78,50 +86,29 @@ impl Board {
             }
             thread::yield_now();
         }
-        self.flaw();
+        self.check(false);
         false
     }
 
-    /// Something went wrong.
-    pub(crate) fn flaw(&self) {
-        self.flaws.store(1, Ordering::SeqCst);
-    }
-
-    pub(crate) fn is_flawless(&self) -> bool {
-        self.flaws.load(Ordering::SeqCst) == 0
-    }
-
-    /// The update that this place was shown last.
-    pub(crate) fn shown(&self, place: usize) -> u64 {
-        match self.shown.get(place) {
-            Some(shown) => shown.load(Ordering::SeqCst),
-            None => 0,
+    /// Something went wrong where this isn't right.
+    pub(crate) fn check(&self, is_right: bool) {
+        if !is_right {
+            self.flaws.store(1, Ordering::SeqCst);
         }
     }
 
     /// This place was shown this colour. What was shown never goes back to an update before.
     pub(crate) fn show(&self, place: usize, colour: u64) {
-        let before = self.shown(place);
+        let Some(shown) = self.shown.get(place) else {
+            return;
+        };
+        let before = shown.load(Ordering::SeqCst);
         let number = if colour == 0 && 0 < before {
             self.black
         } else {
             colour
         };
-        if number < before {
-            self.flaw();
-        }
-        if let Some(shown) = self.shown.get(place) {
-            shown.store(number, Ordering::SeqCst);
-        }
-    }
-
-    /// One more key event was handed out.
-    pub(crate) fn hand(&self) {
-        let _ = self.handed.fetch_add(1, Ordering::SeqCst);
-    }
-
-    /// The host was told of one more key event. It answers how many there were before.
-    pub(crate) fn tell(&self) -> u64 {
-        self.told.fetch_add(1, Ordering::SeqCst)
+        self.check(before <= number);
+        shown.store(number, Ordering::SeqCst);
     }
 }

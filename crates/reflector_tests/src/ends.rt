@@ -1,14 +1,14 @@
 //! A run, and what it leaves.
 
-ghost use Rattle.std.specs.Prelude.{◌≡◌, ◌≤◌, All, vec_len};
+ghost use Rattle.std.specs.Prelude.{◌≡◌, ◌≤◌, All, vec_len, IfOk};
 ghost use Rattle.input_relay.specs.Ends.{host_of, relay_of};
 
 use crate::board::Board;
-use crate::host::Host;
-use crate::supply::Following;
-use crate::viewer::{Coming, Viewer};
+use crate::peer::Script;
+use crate::queue::Queue;
 use crate::wire::Wire;
 use arrayvec::ArrayVec;
+use host_turns::Hosts;
 use input_relay::settle;
 use link::Link;
 use pixel_format::Fault;
@@ -21,6 +21,7 @@ use serving::NoBell;
 use shared_screen::{Publisher, Watcher};
 use std::alloc::Global;
 use std::marker::Brand;
+use std::sync::atomic::Ordering;
 use std::sync::{Arc, Wait};
 use std::test::Fail;
 use std::thread::Threads;
@@ -37,36 +38,29 @@ const ALL: Rect = Rect {
 
 /// How a run is to end: with a fault of this number, or with none, 0; with this many links handed back; and with this
 /// update, its last.
-#[derive(Clone, Copy, Drop)]
 pub(crate) struct End {
     pub(crate) fault: u64,
     pub(crate) links: usize,
     pub(crate) last: u64,
 }
 
-/// A run: its board, both ends of its host, the hosts after it, its doors, and how it is to end.
+/// A run: which update turns the screen black, the viewers of each place, the two ends of each host, and how it is to
+/// end.
 pub(crate) struct Course {
-    pub(crate) board: Arc<Board, Global>,
-    pub(crate) reader: Host,
-    pub(crate) writer: Host,
-    pub(crate) others: Following<Host>,
-    pub(crate) doors: Vec<(Role, Coming<Viewer>)>,
+    pub(crate) name: &'static str,
+    pub(crate) black: u64,
+    pub(crate) places: &'static [&'static [Script]],
+    pub(crate) hosts: &'static [Script],
+    /// Whether another host may be asked for after the last.
+    pub(crate) may_end: bool,
     pub(crate) end: End,
-}
-
-/// The number of a fault, or 0.
-fn number_of(answer: &Result<(), Fault>) -> u64 {
-    match answer {
-        Ok(()) => 0,
-        Err(fault) => fault.number(),
-    }
 }
 
 /// Whether a watcher that meets the publisher cuts the last update, colour n all over.
 fn shows<J: Naming, R: Wait + Drop>(
     alloc: Global,
     publisher: &Publisher<J, R>,
-    mut watcher: Watcher<J>,
+    watcher: &mut Watcher<J>,
     last: u64,
 ) -> Result<bool, Fault>
     requires { (2 ≡ J.width) × (1 ≡ J.height) }
@@ -75,8 +69,10 @@ fn shows<J: Naming, R: Wait + Drop>(
     let mut cut = Cut::new(alloc, 2, 1)?;
     watcher.meet(publisher);
     let number = watcher.cut(&ALL, &have, &mut cut)?;
-    let is_last = cut.colours.iter().all(|colour| u64::from(*colour) == last);
-    Ok(is_last && number == last && cut.colours.len() == 2)
+    Ok(match cut.colours.as_slice() {
+        [one, two] => number == last && u64::from(*one) == last && u64::from(*two) == last,
+        _ => false,
+    })
 }
 
 /// Whether the run ended as it is to, each place shows the last update, and nothing is left of the input.
@@ -84,7 +80,7 @@ fn ends<J, L, R>(
     rt: R,
     alloc: Global,
     running: Running<L, Publisher<J, R>, Watcher<J>, R>,
-    end: End,
+    end: &End,
 ) -> Result<bool, Fail>
 where
     J: Naming + Send + Sync + 'static,
@@ -100,59 +96,99 @@ where
         taker,
         places,
     } = running;
-    let mut is_right = number_of(&result) == end.fault && links.len() == end.links;
+    let fault = match &result {
+        Ok(()) => 0,
+        Err(fault) => fault.number(),
+    };
+    let mut is_right = fault == end.fault && links.len() == end.links;
     let mut senders = Vec::new(alloc);
     for place in places {
-        let Place { watcher, sender } = place.join(&rt);
-        is_right = shows(alloc, &publisher, watcher, end.last)? && is_right;
+        let Place {
+            mut watcher,
+            sender,
+        } = place.join(&rt);
+        let shown = shows(alloc, &publisher, &mut watcher, end.last);
+        is_right = matches!(shown, Ok(true)) && is_right;
         senders.push(sender)?;
     }
     let mut settled = settle(senders, taker);
     Ok(is_right && settled.next().is_none())
 }
 
+/// The doors of the places, no fewer than one and no more than 64.
+fn doors_of(
+    alloc: Global,
+    board: &Arc<Board, Global>,
+    course: &Course,
+) -> Result<Vec<(Role, Queue)>, Fault>
+    ensures { IfOk result (λ doors. (1 ≤ vec_len doors) × (vec_len doors ≤ 64)) }
+{
+    let mut doors = Vec::new(alloc);
+    for (place, scripts) in course.places.iter().enumerate() {
+        let queue = Queue {
+            alloc,
+            board: Arc::try_clone(board)?,
+            place,
+            scripts,
+            may_end: true,
+        };
+        doors.push((Role::Full, queue))?;
+    }
+    match doors.len() {
+        1..=64 => Ok(doors),
+        _ => Err(Fault::NoPlace),
+    }
+}
+
 /// A run over a history that J names.
-fn over<J, R>(rt: R, alloc: Global, history: Opened, course: Course) -> Result<bool, Fail>
+fn over<J, R>(
+    rt: R,
+    alloc: Global,
+    history: Opened,
+    board: &Arc<Board, Global>,
+    course: &Course,
+) -> Result<bool, Fail>
 where
     J: Naming + Send + Sync + 'static,
     R: Threads + Wait + Clock + Copy + Drop + Send + 'static,
-    requires history { (history.seen.book ≡ J.book) × (2 ≡ J.width) × (1 ≡ J.height) }
-    requires doors { (1 ≤ vec_len course.doors) × (vec_len course.doors ≤ 64) }
+    requires { (history.seen.book ≡ J.book) × (2 ≡ J.width) × (1 ≡ J.height) }
 {
-    let Course {
-        board,
-        reader,
-        writer,
-        others,
-        doors,
-        end,
-    } = course;
     let mut name = ArrayVec::new();
     name.push(b'T');
-    let joined = Joined { w: 2, h: 1, name };
     let everyone = Arc::new(alloc, NoBell)?;
     let bell = Arc::new(alloc, NoBell)?;
-    let running = run_all::<J, Wire<Host>, Following<Host>, Coming<Viewer>, NoBell, NoBell, R>(
+    let mut hosts = Queue {
+        alloc,
+        board: Arc::try_clone(board)?,
+        place: 0,
+        scripts: course.hosts,
+        may_end: course.may_end,
+    };
+    let doors = doors_of(alloc, board, course)?;
+    let Some((reader, writer)) = Hosts::next(&mut hosts) else {
+        return Ok(false);
+    };
+    let running = run_all::<J, Wire, Queue, Queue, NoBell, NoBell, R>(
         rt,
         alloc,
         history,
-        Wire::new(reader),
-        Wire::new(writer),
-        joined,
-        others,
+        reader,
+        writer,
+        Joined { w: 2, h: 1, name },
+        hosts,
         doors,
         everyone,
         bell,
     )?;
-    let is_right = ends(rt, alloc, running, end)?;
-    Ok(is_right && board.is_flawless())
+    ends(rt, alloc, running, &course.end)
 }
 
 /// Whether a run goes as it has to.
-pub(crate) fn goes_right<R>(rt: R, alloc: Global, course: Course) -> Result<bool, Fail>
+pub(crate) fn goes_right<R>(rt: R, alloc: Global, course: &Course) -> Result<bool, Fail>
 where
     R: Threads + Wait + Clock + Copy + Drop + Send + 'static,
-    requires { (1 ≤ vec_len course.doors) × (vec_len course.doors ≤ 64) }
 {
-    over::<Brand, R>(rt, alloc, Opened::new(), course)
+    let board = Board::new(alloc, course.black)?;
+    let is_right = over::<Brand, R>(rt, alloc, Opened::new(), &board, course)?;
+    Ok(is_right && board.flaws.load(Ordering::SeqCst) == 0)
 }

@@ -6,16 +6,14 @@
 #[cfg(test)]
 mod board;
 #[cfg(test)]
+mod bytes;
+#[cfg(test)]
+mod courses;
+#[cfg(test)]
 mod ends;
 #[cfg(test)]
-mod follows;
+mod peer;
 #[cfg(test)]
-mod host;
-#[cfg(test)]
-mod runs;
-#[cfg(test)]
-mod supply;
-#[cfg(test)]
-mod viewer;
+mod queue;
 #[cfg(test)]
 mod wire;

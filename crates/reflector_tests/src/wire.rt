@@ -3,31 +3,23 @@
 ghost use Rattle.std.specs.Prelude.{◌≡◌};
 ghost use Rattle.serving.specs.Answers.{unused};
 
+use crate::peer::Peer;
 use link::{Gave, Link, Took};
 use pixel_format::LIMIT;
 use std::marker::Model;
 use told::Record;
 
-/// What is at the other end of a link.
-pub(crate) trait Peer: Drop {
-    /// The bytes that it sends, at the front of the slice.
-    fn speak(&mut self, into: &mut [u8]) -> Took;
-
-    /// How many of these bytes it takes.
-    fn hear(&mut self, bytes: &[u8]) -> Gave;
-}
-
 /// A link to a peer in memory.
 #[derive(Drop)]
-pub(crate) struct Wire<P: Peer> {
-    pub(crate) peer: P,
+pub(crate) struct Wire {
+    pub(crate) peer: Peer,
     taken: Record,
     given: Record,
     failures: u64,
     ends: u64,
 }
 
-impl<P: Peer> Model for Wire<P> {
+impl Model for Wire {
     ghost use Rattle.std.specs.Prelude.{◌≤◌, ◌^◌};
     ghost use Rattle.link.specs.Links.{LinkState};
 
@@ -38,11 +30,11 @@ impl<P: Peer> Model for Wire<P> {
     ghost invariant = { λ w. (w.failures ≤ 2 ^ 62) × (w.ends ≤ 2 ^ 62) };
 }
 
-impl<P: Peer> Wire<P> {
+impl Wire {
     ghost use Rattle.link.specs.Links.{with_end, with_failure};
 
     /// A link that has done nothing.
-    pub(crate) fn new(peer: P) -> Wire<P>
+    pub(crate) fn new(peer: Peer) -> Wire
         ensures { result ≡ unused }
     {
         Wire {
@@ -67,7 +59,7 @@ impl<P: Peer> Wire<P> {
     }
 }
 
-impl<P: Peer> Link for Wire<P> {
+impl Link for Wire {
     ghost state = { λ w. w };
 
     fn take(&mut self, into: &mut [u8]) -> Took {
@@ -111,14 +103,4 @@ impl<P: Peer> Link for Wire<P> {
     fn failures(&self) -> u64 {
         self.failures
     }
-}
-
-/// Says as much of these bytes as there is room for. The others are left.
-pub(crate) fn say(left: &mut &'static [u8], into: &mut [u8]) -> Took {
-    let count = left.len().min(into.len());
-    let (now, later) = left.split_at(count);
-    let (front, _) = into.split_at_mut(count);
-    front.copy_from_slice(now);
-    *left = later;
-    Took::Bytes(count)
 }
