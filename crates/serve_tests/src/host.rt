@@ -1,7 +1,8 @@
 //! A host of a screen of 2 by 1.
 
+use crate::loopback::{accept, update};
 use std::io::{Read, Write};
-use std::net::{Shutdown, TcpStream};
+use std::net::{Shutdown, TcpListener, TcpStream};
 use std::sync::atomic::{AtomicU64, Ordering};
 use std::time::{Clock, Duration};
 use std::{io, thread};
@@ -24,6 +25,71 @@ const TURNS: u64 = 20_000;
 /// After this many milliseconds with nothing to do each thread waits.
 const LULL_MILLIS: u64 = 200;
 
+/// What a host does that was connected to.
+pub(crate) struct Host {
+    /// Whether it listens at the second of two places.
+    pub(crate) is_second: bool,
+    /// The numbers of the first and the last update that it sends.
+    pub(crate) from: u16,
+    pub(crate) to: u16,
+    pub(crate) ending: Ending,
+}
+
+/// How a host ends.
+pub(crate) enum Ending {
+    /// It speaks another protocol, and closes.
+    OfAnotherProtocol,
+    /// Closes.
+    Closes,
+    /// Ends between two messages, and waits until the client has gone.
+    EndsWell,
+    /// Sends a message that there isn't, and waits until the client has gone.
+    EndsBadly,
+    /// Closes a little after so many viewers have asked for news. Nothing more is said to it meanwhile.
+    ClosesInLull(u64),
+}
+
+/// Whether a host is joined at its listener as it has to be, and asked anew after each of its updates, each of which is
+/// shown. Then it ends.
+pub(crate) fn is_host_right<R: Clock>(
+    rt: &R,
+    listener: &TcpListener,
+    host: &Host,
+    shown: &AtomicU64,
+) -> io::Result<bool> {
+    let mut stream = accept(listener)?;
+    is_client_right(rt, &mut stream, host, shown)
+}
+
+/// Whether the client of this connection does so.
+fn is_client_right<R: Clock>(
+    rt: &R,
+    stream: &mut TcpStream,
+    host: &Host,
+    shown: &AtomicU64,
+) -> io::Result<bool> {
+    if let Ending::OfAnotherProtocol = host.ending {
+        stream.write_all(b"HTTP/1.1 400 Bad Request\r\n\r\n")?;
+        return Ok(true);
+    }
+    let is_right = is_joined(stream)? && asks_anew(rt, stream, host, shown)?;
+    match host.ending {
+        Ending::OfAnotherProtocol | Ending::Closes => Ok(is_right),
+        Ending::EndsWell => {
+            stream.shutdown(Shutdown::Write)?;
+            Ok(goes(stream)? && is_right)
+        }
+        Ending::EndsBadly => {
+            stream.write_all(b"\xFF")?;
+            Ok(goes(stream)? && is_right)
+        }
+        Ending::ClosesInLull(count) => {
+            let are_waiting = is_shown(rt, shown, count);
+            Ok(is_silent(rt, stream)? && are_waiting && is_right)
+        }
+    }
+}
+
 /// Whether the client says what a client that joins has to say.
 fn is_joined(stream: &mut TcpStream) -> io::Result<bool> {
     let mut version = [0u8; 12];
@@ -42,10 +108,28 @@ fn is_joined(stream: &mut TcpStream) -> io::Result<bool> {
     Ok(is_version && choice == [1] && shared == [1] && asked.as_slice() == ASKED)
 }
 
-/// Whether the viewer was shown this many updates, or so many viewers wait, in time.
-fn is_shown<R: Clock>(rt: &R, shown: &AtomicU64, count: u64) -> bool {
+/// Whether the client asks anew after each update. Each is sent once the one before was shown.
+fn asks_anew<R: Clock>(
+    rt: &R,
+    stream: &mut TcpStream,
+    host: &Host,
+    shown: &AtomicU64,
+) -> io::Result<bool> {
+    for n in host.from..=host.to {
+        let mut asked = [0u8; 10];
+        stream.write_all(&update(n))?;
+        stream.read_exact(&mut asked)?;
+        if asked.as_slice() != ASKED_ANEW || !is_shown(rt, shown, u64::from(n)) {
+            return Ok(false);
+        }
+    }
+    Ok(true)
+}
+
+/// Whether the viewer was shown the update of this number, or so many viewers wait, in time.
+fn is_shown<R: Clock>(rt: &R, shown: &AtomicU64, number: u64) -> bool {
     for _ in 0..TURNS {
-        if count <= shown.load(Ordering::SeqCst) {
+        if number <= shown.load(Ordering::SeqCst) {
             return true;
         }
         thread::sleep(rt, Duration::from_millis(1));
@@ -53,88 +137,22 @@ fn is_shown<R: Clock>(rt: &R, shown: &AtomicU64, count: u64) -> bool {
     false
 }
 
-/// Ends the connection between two messages. What the client said meanwhile is read, since the system would call it
-/// broken else.
-fn ends(stream: &mut TcpStream) -> io::Result<()> {
+/// Whether the client goes in time. What it said meanwhile is read, since the system would call the connection broken
+/// else.
+fn goes(stream: &mut TcpStream) -> io::Result<bool> {
     let mut rest = [0u8; 64];
-    stream.shutdown(Shutdown::Write)?;
     for _ in 0..TURNS {
         if stream.read(&mut rest)? == 0 {
-            break;
+            return Ok(true);
         }
     }
-    Ok(())
+    Ok(false)
 }
 
-/// Whether the client joins as it has to, and asks anew after each of the updates, each of which was shown. Then the
-/// host ends, and waits until the client has gone.
-pub(crate) fn hosts_well<R: Clock>(
-    rt: &R,
-    stream: &mut TcpStream,
-    updates: &[[u8; 24]],
-    shown: &AtomicU64,
-) -> io::Result<bool> {
-    let is_right = hosts(rt, stream, updates, shown)?;
-    ends(stream)?;
-    Ok(is_right)
-}
-
-/// Whether the client joins as it has to, and asks anew after each of the updates. Each is sent once the one before was
-/// shown. The host ends once all were.
-pub(crate) fn hosts<R: Clock>(
-    rt: &R,
-    stream: &mut TcpStream,
-    updates: &[[u8; 24]],
-    shown: &AtomicU64,
-) -> io::Result<bool> {
-    if !is_joined(stream)? {
-        return Ok(false);
-    }
-    let mut count = 0u64;
-    for update in updates {
-        let mut asked = [0u8; 10];
-        stream.write_all(update)?;
-        stream.read_exact(&mut asked)?;
-        count = count.wrapping_add(1);
-        if asked.as_slice() != ASKED_ANEW || !is_shown(rt, shown, count) {
-            return Ok(false);
-        }
-    }
-    Ok(true)
-}
-
-/// Whether the client joins as it has to, and says nothing more while nothing happens. The host ends a little after so
-/// many viewers have asked for news.
-pub(crate) fn hosts_until<R: Clock>(
-    rt: &R,
-    stream: &mut TcpStream,
-    waiting: &AtomicU64,
-    count: u64,
-) -> io::Result<bool> {
-    if !is_joined(stream)? || !is_shown(rt, waiting, count) {
-        return Ok(false);
-    }
+/// Whether the client says nothing for a while.
+fn is_silent<R: Clock>(rt: &R, stream: &mut TcpStream) -> io::Result<bool> {
     thread::sleep(rt, Duration::from_millis(LULL_MILLIS));
     let mut more = [0u8; 1];
     stream.set_nonblocking(true)?;
     Ok(stream.read(&mut more).is_err())
-}
-
-/// Whether the client joins as it has to, and asks anew after each of the updates, each of which was shown. Then the
-/// host sends a message that there isn't, and waits until the client has gone.
-pub(crate) fn hosts_badly<R: Clock>(
-    rt: &R,
-    stream: &mut TcpStream,
-    updates: &[[u8; 24]],
-    shown: &AtomicU64,
-) -> io::Result<bool> {
-    let is_right = hosts(rt, stream, updates, shown)?;
-    let mut rest = [0u8; 64];
-    stream.write_all(b"\xFF")?;
-    for _ in 0..TURNS {
-        if stream.read(&mut rest)? == 0 {
-            break;
-        }
-    }
-    Ok(is_right)
 }

@@ -16,8 +16,10 @@ mod meeting;
 #[cfg(test)]
 mod options;
 #[cfg(test)]
-mod sides;
+mod scene;
 #[cfg(test)]
 mod turns;
+#[cfg(test)]
+mod updates;
 #[cfg(test)]
 mod viewer;

@@ -30,8 +30,9 @@ fn words_of(alloc: Global, line: &str) -> Result<Vec<String>, AllocError> {
 fn lines_that_are_no_command(rt: HostRuntime) -> Result<(), Fail> {
     for line in LINES.lines() {
         let words = words_of(rt.alloc(), line)?;
-        let status = run_words(rt, rt.alloc(), words.as_slice(), io::empty(), io::sink());
-        assert_eq!(rt; status, BAD_COMMAND);
+        if run_words(rt, rt.alloc(), words.as_slice(), io::empty(), io::sink()) != BAD_COMMAND {
+            return Err(Fail::new(line));
+        }
     }
     Ok(())
 }

@@ -1,9 +1,11 @@
 //! A viewer of a screen of 2 by 1.
 
+use crate::loopback::{RED_AND_BLUE, connect, update};
 use std::io;
 use std::io::{Read, Write};
-use std::net::TcpStream;
+use std::net::{Net, TcpStream};
 use std::sync::atomic::{AtomicU64, Ordering};
+use std::time::Clock;
 
 /// A viewer's side of the handshake: version 3.8, None, and shared (RFC 6143, 7.1.1, 7.1.2 and 7.3.1).
 const HELLO: &[u8] = b"RFB 003.008\n\x01\x01";
@@ -24,79 +26,103 @@ const BLACK: &[u8] = b"\0\0\0\x01\0\0\0\0\0\x02\0\x01\0\0\0\0\0\0\0\0\0\0\0\0";
 /// This many answers at most are black.
 const MOST_BLACK: u64 = 1_000_000;
 
-/// Whether it is greeted as it has to be.
-pub(crate) fn is_greeted(stream: &mut TcpStream) -> io::Result<bool> {
+/// What a viewer does once it is greeted.
+pub(crate) enum Viewer {
+    /// There is none.
+    Nobody,
+    /// Asks for the whole screen each time until that isn't black. It is red and blue then.
+    AsksForAll,
+    /// Asks for what is new each time, and is shown the updates from 1 up to this one, perhaps after a black screen.
+    Follows(u16),
+    /// As `Follows`, but each update is another host's, so that a black screen may come before each.
+    FollowsHosts(u16),
+    /// Asks for what is new of a black screen, of which there is nothing, and is let go without a byte. A read that
+    /// lasts too long is an error, so a place that isn't told of the end is found.
+    IsLetGo,
+}
+
+/// Whether a viewer at this port is greeted as it has to be, and then given what it has to be. It tells the number of
+/// the last update that it was shown.
+pub(crate) fn is_viewer_right<R: Net<Stream = TcpStream> + Clock>(
+    rt: &R,
+    port: u16,
+    viewer: &Viewer,
+    shown: &AtomicU64,
+) -> io::Result<bool> {
+    if let Viewer::Nobody = viewer {
+        return Ok(true);
+    }
+    let mut stream = connect(rt, port)?;
+    is_served(&mut stream, viewer, shown)
+}
+
+/// Whether a viewer with this connection is.
+fn is_served(stream: &mut TcpStream, viewer: &Viewer, shown: &AtomicU64) -> io::Result<bool> {
     let mut greeting = [0u8; 43];
     stream.write_all(HELLO)?;
     stream.read_exact(&mut greeting)?;
-    Ok(greeting.as_slice() == GREETING)
+    if greeting.as_slice() != GREETING {
+        return Ok(false);
+    }
+    match viewer {
+        Viewer::Nobody => Ok(true),
+        Viewer::AsksForAll => is_shown_all(stream, shown),
+        Viewer::Follows(last) => follows(stream, *last, false, shown),
+        Viewer::FollowsHosts(last) => follows(stream, *last, true, shown),
+        Viewer::IsLetGo => is_let_go(stream, shown),
+    }
 }
 
-/// The first answer that isn't black. It asks for the whole screen each time.
-pub(crate) fn first_answer(stream: &mut TcpStream) -> io::Result<[u8; 24]> {
+/// The answer of this request.
+fn answer(stream: &mut TcpStream, request: &[u8]) -> io::Result<[u8; 24]> {
     let mut answer = [0u8; 24];
-    for _ in 0..MOST_BLACK {
-        stream.write_all(ASK)?;
-        stream.read_exact(&mut answer)?;
-        if answer.as_slice() != BLACK {
-            break;
-        }
-    }
+    stream.write_all(request)?;
+    stream.read_exact(&mut answer)?;
     Ok(answer)
 }
 
-/// Whether it is shown each of these updates in turn, perhaps after a black screen. It asks for what is new each time.
-pub(crate) fn follows(
+/// Whether the first answer that isn't black is red and blue. It asks for the whole screen each time.
+fn is_shown_all(stream: &mut TcpStream, shown: &AtomicU64) -> io::Result<bool> {
+    for _ in 0..MOST_BLACK {
+        let given = answer(stream, ASK)?;
+        if given.as_slice() != BLACK {
+            shown.store(u64::from(RED_AND_BLUE), Ordering::SeqCst);
+            return Ok(given == update(RED_AND_BLUE));
+        }
+    }
+    Ok(false)
+}
+
+/// Whether it is shown each update in turn, before the first, or before each, perhaps a black screen. It asks for what
+/// is new each time.
+fn follows(
     stream: &mut TcpStream,
-    updates: &[[u8; 24]],
+    last: u16,
+    is_each_after_black: bool,
     shown: &AtomicU64,
 ) -> io::Result<bool> {
-    let mut answer = [0u8; 24];
-    let mut is_first = true;
-    for update in updates {
-        stream.write_all(ASK_NEW)?;
-        stream.read_exact(&mut answer)?;
-        if is_first && answer.as_slice() == BLACK {
-            stream.write_all(ASK_NEW)?;
-            stream.read_exact(&mut answer)?;
+    for n in 1..=last {
+        let mut given = answer(stream, ASK_NEW)?;
+        if given.as_slice() == BLACK && (is_each_after_black || n == 1) {
+            given = answer(stream, ASK_NEW)?;
         }
-        is_first = false;
-        if answer != *update {
+        if given != update(n) {
             return Ok(false);
         }
-        let _ = shown.fetch_add(1, Ordering::SeqCst);
+        shown.store(u64::from(n), Ordering::SeqCst);
     }
     Ok(true)
 }
 
-/// Whether it is shown a black screen, after which it asks for what is new.
-pub(crate) fn asks_for_news(stream: &mut TcpStream) -> io::Result<bool> {
-    let mut answer = [0u8; 24];
-    stream.write_all(ASK)?;
-    stream.read_exact(&mut answer)?;
+/// Whether it is shown a black screen, after which it asks for what is new, and is let go without a byte. It counts
+/// itself among those that wait.
+fn is_let_go(stream: &mut TcpStream, waiting: &AtomicU64) -> io::Result<bool> {
+    let given = answer(stream, ASK)?;
     stream.write_all(ASK_NEW)?;
-    Ok(answer.as_slice() == BLACK)
-}
-
-/// Whether it is shown each of these updates in turn over one connection, before each perhaps a black screen, and once
-/// it was shown one, counts it in the place of the same number. It asks for what is new each time.
-pub(crate) fn follows_in_turn(
-    stream: &mut TcpStream,
-    updates: &[[u8; 24]],
-    shown: &[AtomicU64],
-) -> io::Result<bool> {
-    let mut answer = [0u8; 24];
-    for (update, count) in updates.iter().zip(shown) {
-        stream.write_all(ASK_NEW)?;
-        stream.read_exact(&mut answer)?;
-        if answer.as_slice() == BLACK {
-            stream.write_all(ASK_NEW)?;
-            stream.read_exact(&mut answer)?;
-        }
-        if answer != *update {
-            return Ok(false);
-        }
-        count.store(1, Ordering::SeqCst);
+    if given.as_slice() != BLACK {
+        return Ok(false);
     }
-    Ok(true)
+    let _ = waiting.fetch_add(1, Ordering::SeqCst);
+    let mut more = [0u8; 1];
+    Ok(stream.read(&mut more)? == 0)
 }
