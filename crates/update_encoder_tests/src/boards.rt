@@ -1,9 +1,9 @@
 //! A board, which knows when each of its tiles was touched, and what a cut takes of it.
 
-ghost use Rattle.std.specs.Prelude.{◌≡◌, IfOk};
-ghost use Rattle.raster.specs.Screen.{IsWithin};
+ghost use Rattle.std.specs.Prelude.{◌≡◌};
 
 use painter::{Board, Painter, Patch};
+use pixel_format::Fault;
 use raster::Rect;
 use reflect_core::Cut;
 use std::alloc::Global;
@@ -34,18 +34,32 @@ const EDGE: Rect = Rect {
     h: 1,
 };
 
-/// A board to which a corner was painted, a Bell came, and one pixel was copied to the edge: the updates 1 to 3.
-fn painted(alloc: Global) -> Result<Board, Fail>
-    ensures { IfOk result (λ board. (board.width ≡ 33) × (board.height ≡ 17)) }
+/// Applies one of the first nine updates.
+fn apply(board: &mut Board, patch: &Patch)
+    requires width { patch.now.width ≡ board.old.width }
+    requires height { patch.now.height ≡ board.old.height }
+    ensures same_width { board.new.width ≡ board.old.width }
+    ensures same_height { board.new.height ≡ board.old.height }
 {
-    let mut board = Board::new(alloc, 33, 17)?;
+    if board.number() < 9 {
+        board.apply(patch);
+    }
+}
+
+/// Paints a corner of a new board, then comes a Bell, and one pixel is copied to the edge: the updates 1 to 3.
+fn paint(alloc: Global, board: &mut Board) -> Result<(), Fault>
+    requires width { board.old.width ≡ 33 }
+    requires height { board.old.height ≡ 17 }
+    ensures same_width { board.new.width ≡ 33 }
+    ensures same_height { board.new.height ≡ 17 }
+{
     let mut painter = Painter::new(alloc, 33, 17)?;
     painter.put(CORNER, &[5, 6, 7, 8]);
-    board.apply(&painter.patch()?);
-    board.apply(&Patch::bell(33, 17));
+    apply(board, &painter.patch()?);
+    apply(board, &Patch::bell(33, 17));
     painter.copy(EDGE, 16, 15);
-    board.apply(&painter.patch()?);
-    Ok(board)
+    apply(board, &painter.patch()?);
+    Ok(())
 }
 
 /// The numbers at which six tiles were touched.
@@ -63,60 +77,77 @@ fn stamps(board: &Board) -> [u64; 6]
     ]
 }
 
-#[test]
-fn tiles_are_stamped_where_they_are_painted(rt: HostRuntime) -> Result<(), Fail> {
-    let board = painted(rt.alloc())?;
-    assert!(rt; stamps(&board) == [1, 1, 3, 1, 1, 0]);
-    Ok(())
+/// What a viewer was sent, and what a cut of the board for it takes, in room that shows 9 all over.
+#[derive(Clone, Copy)]
+struct Taken {
+    name: &'static str,
+    /// The area that the viewer was sent, and the update at which it was.
+    sent: Rect,
+    number: u64,
+    due: [bool; 6],
+    were_sent: bool,
+    /// The colours of the corner's first row, of the edge, and of the last pixel.
+    colours: [u32; 4],
 }
 
-/// A cut of the board for a viewer that was sent an area at an update, in room that shows 9 all over.
-fn cut_of(alloc: Global, board: &Board, sent: &Rect, number: u64) -> Result<Cut, Fail>
-    requires screen { (board.now.width ≡ 33) × (board.now.height ≡ 17) }
-    requires sent { IsWithin sent.now 33 17 }
-    ensures { IfOk result (λ cut. (cut.width ≡ 33) × (cut.height ≡ 17)) }
+const TAKEN: [Taken; 2] = [
+    // Only the third tile was touched after the first update. No colour of another is copied.
+    Taken {
+        name: "the due tiles alone",
+        sent: ALL,
+        number: 1,
+        due: [false, false, true, false, false, false],
+        were_sent: true,
+        colours: [9, 9, 6, 9],
+    },
+    // Of 20 columns the second tile has four, so it was never sent.
+    Taken {
+        name: "a tile that was sent in part",
+        sent: Rect {
+            x: 0,
+            y: 0,
+            w: 20,
+            h: 17,
+        },
+        number: 3,
+        due: [false, true, true, false, true, true],
+        were_sent: false,
+        colours: [9, 6, 6, 0],
+    },
+];
+
+/// Whether a cut of the board takes this, three updates of which one is a Bell, and no text.
+fn is_taken(alloc: Global, board: &Board, taken: &Taken) -> Result<bool, Fault>
+    requires { (board.now.width ≡ 33) × (board.now.height ≡ 17) }
 {
+    if !taken.sent.within(65536, 65536) {
+        return Err(Fault::RectOutside);
+    }
     let mut have = Have::new(alloc, 33, 17)?;
-    have.keep(sent, number);
+    have.keep(&taken.sent, taken.number);
     let mut cut = Cut::new(alloc, 33, 17)?;
     cut.colours.as_mut_slice().fill(9);
     cut.fill(board, &ALL, &have);
-    Ok(cut)
-}
-
-/// The colours of the corner's first row, of the edge, and of the last pixel.
-fn shown(cut: &Cut) -> [u32; 4]
-    requires { (cut.now.width ≡ 33) × (cut.now.height ≡ 17) }
-{
     let colours = cut.colours.as_slice();
-    [colours[510], colours[511], colours[32], colours[560]]
+    let shown = [colours[510], colours[511], colours[32], colours[560]];
+    Ok(
+        (cut.number == 3)
+            & (cut.bells == 1)
+            & cut.text.number().is_none()
+            & (cut.due.as_slice() == taken.due.as_slice())
+            & (cut.all_were_sent == taken.were_sent)
+            & (shown == taken.colours),
+    )
 }
 
-/// Only the third tile was touched after the first update. No colour of another is copied.
+/// Tiles are stamped where they are painted, and cuts take those that are due.
 #[test]
-fn a_cut_takes_the_due_tiles_alone(rt: HostRuntime) -> Result<(), Fail> {
-    let board = painted(rt.alloc())?;
-    let cut = cut_of(rt.alloc(), &board, &ALL, 1)?;
-    assert!(rt; cut.number == 3 && cut.bells == 1 && cut.text.number().is_none());
-    assert!(rt; cut.due.as_slice() == [false, false, true, false, false, false].as_slice());
-    assert!(rt; cut.all_were_sent);
-    assert!(rt; shown(&cut) == [9, 9, 6, 9]);
-    Ok(())
-}
-
-/// Of 20 columns the second tile has four, so it was never sent.
-#[test]
-fn a_tile_that_was_sent_in_part_is_due(rt: HostRuntime) -> Result<(), Fail> {
-    let board = painted(rt.alloc())?;
-    let part = Rect {
-        x: 0,
-        y: 0,
-        w: 20,
-        h: 17,
-    };
-    let cut = cut_of(rt.alloc(), &board, &part, 3)?;
-    assert!(rt; cut.due.as_slice() == [false, true, true, false, true, true].as_slice());
-    assert!(rt; !cut.all_were_sent);
-    assert!(rt; shown(&cut) == [9, 6, 6, 0]);
+fn board_is_cut(rt: HostRuntime) -> Result<(), Fail> {
+    let mut board = Board::new(rt.alloc(), 33, 17)?;
+    paint(rt.alloc(), &mut board)?;
+    assert!(rt; stamps(&board) == [1, 1, 3, 1, 1, 0]);
+    for taken in TAKEN.iter() {
+        assert!(rt; is_taken(rt.alloc(), &board, taken)?, "{}", taken.name);
+    }
     Ok(())
 }

@@ -3,15 +3,11 @@
 #![tactic(auto)]
 
 #[cfg(test)]
+mod answers;
+#[cfg(test)]
 mod boards;
 #[cfg(test)]
-mod copies;
-#[cfg(test)]
-mod encodings;
-#[cfg(test)]
 mod formats;
-#[cfg(test)]
-mod many;
 #[cfg(test)]
 mod marks;
 #[cfg(test)]

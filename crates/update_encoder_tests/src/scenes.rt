@@ -1,113 +1,288 @@
-//! Screens as cuts, and all bytes of an answer.
+//! Screens, what is asked of each, and the bytes of the answer, typed by hand: in each encoding and where none of them
+//! saves bytes, where a rectangle is a CopyRect of the one before, and with the most rectangles.
 
-ghost use Rattle.std.specs.Prelude.{◌≡◌, ◌<◌, ◌≤◌, ◌+◌, ◌*◌, IfOk, length};
-ghost use Rattle.raster.specs.Screen.{IsWithin};
-ghost use Rattle.raster.specs.Size.{IsScreenSize};
-
-use pixel_format::{Fault, Format};
 use raster::{Encoding, Rect};
-use reflect_core::Cut;
-use rfb_wire::{Choice, write_update_head};
-use std::alloc::Global;
-use update_encoder::Answer;
+use rfb_wire::Choice;
 
-pub(crate) const RED: u32 = 0xFF0000;
+const RED: u32 = 0xFF0000;
 
-pub(crate) const GREEN: u32 = 0x00FF00;
+const GREEN: u32 = 0x00FF00;
 
-pub(crate) const BLUE: u32 = 0x0000FF;
+const BLUE: u32 = 0x0000FF;
 
-pub(crate) const RAW: Choice = Choice {
+const RAW: Choice = Choice {
     kind: Encoding::Raw,
     copy: false,
 };
 
-pub(crate) const RRE: Choice = Choice {
+const RRE: Choice = Choice {
     kind: Encoding::Rre,
     copy: false,
 };
 
-pub(crate) const HEXTILE: Choice = Choice {
+const HEXTILE: Choice = Choice {
     kind: Encoding::Hextile,
     copy: false,
 };
 
-/// 16 bits, most significant byte first, of 5, 6 and 5 bits.
-pub(crate) const FIVE_SIX_FIVE: [u8; 16] = [16, 16, 1, 1, 0, 31, 0, 63, 0, 31, 11, 5, 0, 0, 0, 0];
+const RRE_OR_COPY: Choice = Choice {
+    kind: Encoding::Rre,
+    copy: true,
+};
 
-pub(crate) fn rect(x: u64, y: u64, w: u64, h: u64) -> Rect
-    ensures { result ≡ record { x = x; y = y; w = w; h = h } }
-{
-    Rect { x, y, w, h }
+const ALL: u64 = 0xFFFF_FFFF_FFFF_FFFF;
+
+/// All but the second, of at most 64 tiles.
+const ALL_BUT_SECOND: u64 = 0xFFFF_FFFF_FFFF_FFFD;
+
+const EVERY_SECOND: u64 = 0x5555_5555_5555_5555;
+
+/// A screen, what is asked of it, and the answer.
+#[derive(Clone, Copy)]
+pub(crate) struct Scene {
+    pub(crate) name: &'static str,
+    pub(crate) width: u64,
+    pub(crate) height: u64,
+    /// The colour of the first pixel, of all between, and of the last.
+    pub(crate) colours: [u32; 3],
+    /// The tiles that are due, of each 64 in a row, the first in the lowest bit.
+    pub(crate) due: u64,
+    /// Whether each of these was sent before.
+    pub(crate) were_sent: bool,
+    /// The area that is asked for: the whole screen where there is none.
+    pub(crate) part: Option<Rect>,
+    /// Whether pixels have 16 bits, most significant byte first, of 5, 6 and 5 bits. Else they are the host's.
+    pub(crate) has_16_bits: bool,
+    pub(crate) choice: Choice,
+    /// The answer's first bytes.
+    pub(crate) bytes: &'static [u8],
+    /// How many follow these.
+    pub(crate) more: u64,
 }
 
-/// A black screen, of which every tile is due and was sent.
-pub(crate) fn black(alloc: Global, width: u64, height: u64) -> Result<Cut, Fault>
-    requires { IsScreenSize width height }
-    ensures { IfOk result (λ cut. (cut.width ≡ width) × (cut.height ≡ height)) }
-{
-    let mut cut = Cut::new(alloc, width, height)?;
-    cut.due.as_mut_slice().fill(true);
-    Ok(cut)
-}
+/// Two rows of 16 by 16 in red: the upper one in RRE, then a CopyRect, which goes before RRE.
+const RED_ROWS: Scene = Scene {
+    name: "the row below",
+    width: 16,
+    height: 32,
+    colours: [RED; 3],
+    due: ALL,
+    were_sent: true,
+    part: None,
+    has_16_bits: false,
+    choice: RRE_OR_COPY,
+    bytes: &[
+        0, 0, 0, 2, 0, 0, 0, 0, 0, 16, 0, 16, 0, 0, 0, 2, 0, 0, 0, 0, 0, 0, 0xFF, 0, 0, 0, 0, 16,
+        0, 16, 0, 16, 0, 0, 0, 1, 0, 0, 0, 0,
+    ],
+    more: 0,
+};
 
-/// Paints a rectangle of colours whose rows are `width` long, as far as there are any.
-fn paint_rows(colours: &mut [u32], width: usize, area: &Rect, colour: u32)
-    requires within { IsWithin area.now 4096 4096 }
-    requires wide { width ≤ 4096 }
-{
-    for y in area.y as usize..(area.y + area.h) as usize {
-        for x in area.x as usize..(area.x + area.w) as usize {
-            if let Some(place) = colours.get_mut(y * width + x) {
-                *place = colour;
-            }
-        }
-    }
-}
+/// The same two, both in RRE.
+const BOTH_IN_RRE: &[u8] = &[
+    0, 0, 0, 2, 0, 0, 0, 0, 0, 16, 0, 16, 0, 0, 0, 2, 0, 0, 0, 0, 0, 0, 0xFF, 0, 0, 0, 0, 16, 0,
+    16, 0, 16, 0, 0, 0, 2, 0, 0, 0, 0, 0, 0, 0xFF, 0,
+];
 
-/// Paints a rectangle, as far as it lies on the screen.
-pub(crate) fn paint(cut: &mut Cut, area: &Rect, colour: u32)
-    requires { IsWithin area.now 4096 4096 }
-    ensures { (cut.new.width ≡ cut.old.width) × (cut.new.height ≡ cut.old.height) }
-{
-    let width = cut.width as usize;
-    paint_rows(cut.colours.as_mut_slice(), width, area, colour);
-}
+/// Red, blue and blue in Raw, which has 12 bytes of pixels. RRE has 20.
+const THREE_IN_RAW: &[u8] = &[
+    0, 0, 0, 1, 0, 0, 0, 0, 0, 3, 0, 1, 0, 0, 0, 0, 0, 0, 0xFF, 0, 0xFF, 0, 0, 0, 0xFF, 0, 0, 0,
+];
 
-/// All bytes of an answer, after its header.
-pub(crate) fn answered(
-    alloc: Global,
-    cut: &Cut,
-    area: &Rect,
-    format: Format,
-    choice: Choice,
-) -> Result<Vec<u8>, Fault>
-    requires { IsWithin area.now cut.now.width cut.now.height }
-{
-    let mut values = vec![in alloc; 0u32; 16 * cut.width as usize]?;
-    let mut out = vec![in alloc; 0u8; 12 + 64 * cut.width as usize]?;
-    let mut bytes = vec![in alloc; 0u8; 4]?;
-    let mut answer = Answer::start(cut, area, format, choice);
-    write_update_head(answer.count() as u16, bytes.as_mut_slice());
-    for _turn in 0..answer.count() + 1 {
-        match answer.next(cut, values.as_mut_slice(), out.as_mut_slice()) {
-            None => return Ok(bytes),
-            Some(len) => bytes.extend_from_slice(&out[..len])?,
-        }
-    }
-    Ok(bytes)
-}
-
-/// All bytes of an answer of the whole screen in the host's format.
-pub(crate) fn whole_answer(alloc: Global, cut: &Cut, choice: Choice) -> Result<Vec<u8>, Fault> {
-    let area = rect(0, 0, cut.width, cut.height);
-    answered(alloc, cut, &area, Format::host(), choice)
-}
-
-/// Whether these are the bytes of such an answer.
-pub(crate) fn answers(alloc: Global, cut: &Cut, choice: Choice, expected: &[u8]) -> bool {
-    match whole_answer(alloc, cut, choice) {
-        Ok(bytes) => bytes.as_slice() == expected,
-        Err(_) => false,
-    }
-}
+pub(crate) const SCENES: [Scene; 19] = [
+    RED_ROWS,
+    Scene {
+        name: "a viewer that doesn't take CopyRect",
+        choice: RRE,
+        bytes: BOTH_IN_RRE,
+        ..RED_ROWS
+    },
+    Scene {
+        name: "a tile that was never sent",
+        were_sent: false,
+        bytes: BOTH_IN_RRE,
+        ..RED_ROWS
+    },
+    Scene {
+        name: "one pixel that differs",
+        colours: [RED, RED, GREEN],
+        bytes: &[
+            0, 0, 0, 2, 0, 0, 0, 0, 0, 16, 0, 16, 0, 0, 0, 2, 0, 0, 0, 0, 0, 0, 0xFF, 0, 0, 0, 0,
+            16, 0, 16, 0, 16, 0, 0, 0, 2, 0, 0, 0, 1, 0, 0, 0xFF, 0, 0, 0xFF, 0, 0, 0, 15, 0, 15,
+            0, 1, 0, 1,
+        ],
+        ..RED_ROWS
+    },
+    Scene {
+        name: "a row of tiles between that isn't due",
+        height: 48,
+        due: ALL_BUT_SECOND,
+        bytes: &[
+            0, 0, 0, 2, 0, 0, 0, 0, 0, 16, 0, 16, 0, 0, 0, 2, 0, 0, 0, 0, 0, 0, 0xFF, 0, 0, 0, 0,
+            32, 0, 16, 0, 16, 0, 0, 0, 2, 0, 0, 0, 0, 0, 0, 0xFF, 0,
+        ],
+        ..RED_ROWS
+    },
+    Scene {
+        name: "a lower row that is wider",
+        width: 32,
+        due: ALL_BUT_SECOND,
+        bytes: &[
+            0, 0, 0, 2, 0, 0, 0, 0, 0, 16, 0, 16, 0, 0, 0, 2, 0, 0, 0, 0, 0, 0, 0xFF, 0, 0, 0, 0,
+            16, 0, 32, 0, 16, 0, 0, 0, 2, 0, 0, 0, 0, 0, 0, 0xFF, 0,
+        ],
+        ..RED_ROWS
+    },
+    Scene {
+        name: "a lower row that isn't as high",
+        height: 24,
+        bytes: &[
+            0, 0, 0, 2, 0, 0, 0, 0, 0, 16, 0, 16, 0, 0, 0, 2, 0, 0, 0, 0, 0, 0, 0xFF, 0, 0, 0, 0,
+            16, 0, 16, 0, 8, 0, 0, 0, 2, 0, 0, 0, 0, 0, 0, 0xFF, 0,
+        ],
+        ..RED_ROWS
+    },
+    Scene {
+        name: "the one before is to the left, and not above",
+        width: 48,
+        height: 16,
+        due: ALL_BUT_SECOND,
+        bytes: &[
+            0, 0, 0, 2, 0, 0, 0, 0, 0, 16, 0, 16, 0, 0, 0, 2, 0, 0, 0, 0, 0, 0, 0xFF, 0, 0, 32, 0,
+            0, 0, 16, 0, 16, 0, 0, 0, 2, 0, 0, 0, 0, 0, 0, 0xFF, 0,
+        ],
+        ..RED_ROWS
+    },
+    // Red and then seven blue, a run each but for the background.
+    Scene {
+        name: "two colours in RRE",
+        width: 8,
+        height: 1,
+        colours: [RED, BLUE, BLUE],
+        choice: RRE,
+        bytes: &[
+            0, 0, 0, 1, 0, 0, 0, 0, 0, 8, 0, 1, 0, 0, 0, 2, 0, 0, 0, 1, 0, 0, 0xFF, 0, 0xFF, 0, 0,
+            0, 0, 1, 0, 0, 0, 7, 0, 1,
+        ],
+        ..RED_ROWS
+    },
+    Scene {
+        name: "two colours in Hextile",
+        width: 8,
+        height: 1,
+        colours: [RED, BLUE, BLUE],
+        choice: HEXTILE,
+        bytes: &[
+            0, 0, 0, 1, 0, 0, 0, 0, 0, 8, 0, 1, 0, 0, 0, 5, 0x0E, 0, 0, 0xFF, 0, 0xFF, 0, 0, 0, 1,
+            0x10, 0x60,
+        ],
+        ..RED_ROWS
+    },
+    Scene {
+        name: "two tiles of Hextile, of which the second leaves the colour off",
+        width: 17,
+        height: 1,
+        choice: HEXTILE,
+        bytes: &[
+            0, 0, 0, 1, 0, 0, 0, 0, 0, 17, 0, 1, 0, 0, 0, 5, 2, 0, 0, 0xFF, 0, 0,
+        ],
+        ..RED_ROWS
+    },
+    Scene {
+        name: "an area of 8 by 8 on a screen of 17 by 17",
+        width: 17,
+        height: 17,
+        colours: [0; 3],
+        part: Some(Rect {
+            x: 0,
+            y: 0,
+            w: 8,
+            h: 8,
+        }),
+        choice: RRE,
+        bytes: &[
+            0, 0, 0, 1, 0, 0, 0, 0, 0, 8, 0, 8, 0, 0, 0, 2, 0, 0, 0, 0, 0, 0, 0, 0,
+        ],
+        ..RED_ROWS
+    },
+    Scene {
+        name: "all of such a screen, in two rows of tiles",
+        width: 17,
+        height: 17,
+        colours: [0; 3],
+        choice: RRE,
+        bytes: &[
+            0, 0, 0, 2, 0, 0, 0, 0, 0, 17, 0, 16, 0, 0, 0, 2, 0, 0, 0, 0, 0, 0, 0, 0, 0, 0, 0, 16,
+            0, 17, 0, 1, 0, 0, 0, 2, 0, 0, 0, 0, 0, 0, 0, 0,
+        ],
+        ..RED_ROWS
+    },
+    Scene {
+        name: "three pixels, of which Raw is shorter than RRE",
+        width: 3,
+        height: 1,
+        colours: [RED, BLUE, BLUE],
+        choice: RRE,
+        bytes: THREE_IN_RAW,
+        ..RED_ROWS
+    },
+    Scene {
+        name: "three pixels in Raw",
+        width: 3,
+        height: 1,
+        colours: [RED, BLUE, BLUE],
+        choice: RAW,
+        bytes: THREE_IN_RAW,
+        ..RED_ROWS
+    },
+    // Hextile has 5 bytes and Raw 4.
+    Scene {
+        name: "one pixel, of which Raw is shorter than Hextile",
+        width: 1,
+        height: 1,
+        choice: HEXTILE,
+        bytes: &[
+            0, 0, 0, 1, 0, 0, 0, 0, 0, 1, 0, 1, 0, 0, 0, 0, 0, 0, 0xFF, 0,
+        ],
+        ..RED_ROWS
+    },
+    // F800 and 001F.
+    Scene {
+        name: "red and blue in 16 bits, most significant byte first",
+        width: 2,
+        height: 1,
+        colours: [RED, BLUE, BLUE],
+        has_16_bits: true,
+        choice: RAW,
+        bytes: &[
+            0, 0, 0, 1, 0, 0, 0, 0, 0, 2, 0, 1, 0, 0, 0, 0, 0xF8, 0, 0, 0x1F,
+        ],
+        ..RED_ROWS
+    },
+    // Of 33 pixels the first 16 and the last, in RRE and in Raw.
+    Scene {
+        name: "each run by itself",
+        width: 33,
+        height: 1,
+        colours: [BLUE, 0, BLUE],
+        due: ALL_BUT_SECOND,
+        choice: RRE,
+        bytes: &[
+            0, 0, 0, 2, 0, 0, 0, 0, 0, 16, 0, 1, 0, 0, 0, 2, 0, 0, 0, 1, 0xFF, 0, 0, 0, 0, 0, 0, 0,
+            0, 1, 0, 0, 0, 15, 0, 1, 0, 32, 0, 0, 0, 1, 0, 1, 0, 0, 0, 0, 0xFF, 0, 0, 0,
+        ],
+        ..RED_ROWS
+    },
+    // The header counts 32,768 rectangles. Each has 12 bytes of header and 1,024 of pixels: in all 33,947,652 bytes.
+    Scene {
+        name: "the most rectangles",
+        width: 4096,
+        height: 4096,
+        colours: [0; 3],
+        due: EVERY_SECOND,
+        choice: RAW,
+        bytes: &[0, 0, 0x80, 0],
+        more: 33_947_648,
+        ..RED_ROWS
+    },
+];

@@ -2,7 +2,9 @@
 
 ghost use Rattle.std.specs.Prelude.{◌≡◌, IfOk};
 
+use crate::numbers::rect;
 use painter::{Painter, Patch};
+use pixel_format::Fault;
 use raster::Rect;
 use reflect_core::{Asked, Cut, PlainScreen, Puts, ScreenSource};
 use std::alloc::Global;
@@ -17,12 +19,12 @@ const AREA: Rect = Rect {
 };
 
 /// Red and blue on a screen of 2 by 1.
-fn red_and_blue(alloc: Global) -> Result<Patch, Fail>
+fn red_and_blue(alloc: Global) -> Result<Patch, Fault>
     ensures { IfOk result (λ patch. (patch.width ≡ 2) × (patch.height ≡ 1)) }
 {
     let mut painter = Painter::new(alloc, 2, 1)?;
     painter.put(AREA, &[0xFF0000, 0x0000FF]);
-    Ok(painter.patch()?)
+    painter.patch()
 }
 
 /// The number of an update that was put, and 0 where it was refused.
@@ -33,28 +35,8 @@ fn put(screen: &mut PlainScreen, patch: Patch) -> u64
     screen.put(patch).unwrap_or(0)
 }
 
-/// A first cut of a screen of 2 by 1.
-fn cut_of(alloc: Global, screen: &mut PlainScreen) -> Result<Cut, Fail>
-    requires { (screen.old.width ≡ 2) × (screen.old.height ≡ 1) }
-{
-    let have = Have::new(alloc, 2, 1)?;
-    let mut cut = Cut::new(alloc, 2, 1)?;
-    screen.cut(&AREA, &have, &mut cut)?;
-    Ok(cut)
-}
-
-/// Whether it shows three updates, of which one is a Bell and the last a text, and red and blue, which are due.
-fn shows_red_and_blue(cut: &Cut) -> bool {
-    cut.number == 3
-        && cut.bells == 1
-        && cut.text.number() == Some(3)
-        && cut.text.bytes() == b"Hi".as_slice()
-        && cut.colours.as_slice() == [0xFF0000, 0x0000FF].as_slice()
-        && cut.due.as_slice() == [true].as_slice()
-}
-
 /// Puts red and blue, a Bell and a text on a screen of 2 by 1: the numbers of the three.
-fn put_three(alloc: Global, screen: &mut PlainScreen) -> Result<[u64; 3], Fail>
+fn put_three(alloc: Global, screen: &mut PlainScreen) -> Result<[u64; 3], Fault>
     requires { (screen.old.width ≡ 2) × (screen.old.height ≡ 1) }
     ensures { (screen.new.width ≡ 2) × (screen.new.height ≡ 1) }
 {
@@ -64,15 +46,27 @@ fn put_three(alloc: Global, screen: &mut PlainScreen) -> Result<[u64; 3], Fail>
     Ok([painted, bell, put(screen, Patch::text(2, 1, text))])
 }
 
+/// Whether a cut shows three updates, of which one is a Bell and the last a text, and red and blue, which are due.
+fn shows_red_and_blue(cut: &Cut) -> bool {
+    cut.number == 3
+        && cut.bells == 1
+        && cut.text.number() == Some(3)
+        && cut.text.bytes() == b"Hi".as_slice()
+        && cut.colours.as_slice() == [0xFF0000, 0x0000FF].as_slice()
+        && cut.due.as_slice() == [true].as_slice()
+}
+
 /// Whether what was put is shown by a look and a cut after the raise, and not before it.
-fn shows_what_was_raised(alloc: Global, screen: &mut PlainScreen) -> Result<bool, Fail>
+fn shows_what_was_raised(alloc: Global, screen: &mut PlainScreen) -> Result<bool, Fault>
     requires { (screen.old.width ≡ 2) × (screen.old.height ≡ 1) }
 {
     let before = screen.look();
     screen.raise();
     let behind = screen.look();
-    let cut = cut_of(alloc, screen)?;
-    Ok(before == 0 && behind == 3 && shows_red_and_blue(&cut))
+    let have = Have::new(alloc, 2, 1)?;
+    let mut cut = Cut::new(alloc, 2, 1)?;
+    screen.cut(&AREA, &have, &mut cut)?;
+    Ok((before == 0) & (behind == 3) & shows_red_and_blue(&cut))
 }
 
 #[test]
@@ -83,32 +77,24 @@ fn shows_what_was_put(rt: HostRuntime) -> Result<(), Fail> {
     Ok(())
 }
 
-fn pixel_at(x: u64, y: u64) -> Rect
-    ensures { result ≡ record { x = x; y = y; w = 1; h = 1 } }
-{
-    Rect { x, y, w: 1, h: 1 }
-}
-
-/// Whether the least rectangle that holds two far corners of 4 by 4 is pending.
-fn is_all_pending(asked: &Asked) -> bool {
-    match asked.area() {
-        Some(area) => area.x == 0 && area.y == 0 && area.w == 4 && area.h == 4,
-        None => false,
-    }
-}
-
-/// What lies between two requests is asked for too; a cut leaves the area, an answer doesn't.
+/// Of 4 by 4 two far corners are asked for, so all of it is. A cut leaves the area, an answer doesn't.
 #[test]
 fn asked_and_answered(rt: HostRuntime) {
+    let none = rect(0, 0, 0, 0);
+    let all = rect(0, 0, 4, 4);
     let mut asked = Asked::new(4, 4);
     asked.new_format();
-    assert!(rt; asked.has_asked() && asked.area().is_none());
-    asked.request(&pixel_at(0, 0));
-    asked.request(&pixel_at(3, 3));
-    assert!(rt; is_all_pending(&asked));
+    let is_asked = asked.has_asked() && asked.area().is_none();
+    asked.request(&rect(0, 0, 1, 1));
+    asked.request(&rect(3, 3, 1, 1));
+    let is_pending = asked.area().unwrap_or(none) == all;
     asked.was_cut(5);
-    assert!(rt; !asked.has_asked() && is_all_pending(&asked));
-    assert_eq!(rt; asked.last_cut(), Some(5));
+    let is_cut = !asked.has_asked() && asked.last_cut() == Some(5);
+    let stays_pending = asked.area().unwrap_or(none) == all;
     asked.answered();
-    assert!(rt; asked.area().is_none());
+    let is_answered = asked.area().is_none();
+    assert_eq!(rt;
+        [is_asked, is_pending, is_cut, stays_pending, is_answered],
+        [true; 5]
+    );
 }

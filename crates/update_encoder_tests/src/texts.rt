@@ -1,21 +1,33 @@
 //! The last text of the host's cut buffer (RFC 6143, section 7.6.4), of which 65,536 bytes are kept at most.
 
+ghost use Rattle.std.specs.Prelude.{◌≡◌, length};
+
 use painter::LastText;
 use pixel_format::LONGEST_TEXT;
 use std::test::Fail;
+
+/// Whether the text is the longest one after it is set and where no text follows, another where one does, and none
+/// before the first and after it is cleared.
+fn follows(text: &mut LastText, longest: &[u8]) -> [bool; 5]
+    requires { length longest.now ≡ 65536 }
+{
+    let is_empty = text.number().is_none() & text.bytes().is_empty();
+    text.set(longest, 7);
+    let is_longest = (text.number() == Some(7)) & (text.bytes() == longest);
+    text.follow(None, 8);
+    let stays = text.number() == Some(7);
+    text.follow(Some(b"Hi".as_slice()), 9);
+    let is_newer = (text.number() == Some(9)) & (text.bytes() == b"Hi".as_slice());
+    text.clear();
+    let is_cleared = text.number().is_none() & text.bytes().is_empty();
+    [is_empty, is_longest, stays, is_newer, is_cleared]
+}
 
 #[test]
 fn keeps_the_longest_text(rt: HostRuntime) -> Result<(), Fail> {
     let longest = vec![in rt.alloc(); 0x41u8; 65536]?;
     let mut text = LastText::new(rt.alloc())?;
-    assert!(rt; LONGEST_TEXT == 65536 && text.number().is_none() && text.bytes().is_empty());
-    text.set(longest.as_slice(), 7);
-    assert!(rt; text.number() == Some(7) && text.bytes() == longest.as_slice());
-    text.follow(None, 8);
-    assert!(rt; text.number() == Some(7));
-    text.follow(Some(b"Hi".as_slice()), 9);
-    assert!(rt; text.number() == Some(9) && text.bytes() == b"Hi".as_slice());
-    text.clear();
-    assert!(rt; text.number().is_none() && text.bytes().is_empty());
+    assert_eq!(rt; follows(&mut text, longest.as_slice()), [true; 5]);
+    assert_eq!(rt; LONGEST_TEXT, 65536);
     Ok(())
 }
