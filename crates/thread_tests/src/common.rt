@@ -1,0 +1,34 @@
+//! Connections over loopback, and a seat.
+
+use serving::Seat;
+use std::alloc::Global;
+use std::io;
+use std::net::{Ipv4Addr, SocketAddr, TcpListener, TcpStream};
+use std::sync::Arc;
+use std::time::Duration;
+
+/// A read that waits for this many seconds has failed.
+const LONG: u64 = 20;
+
+pub(crate) fn listen(rt: &HostRuntime) -> io::Result<TcpListener> {
+    TcpListener::bind(rt, SocketAddr::from((Ipv4Addr::LOCALHOST, 0)))
+}
+
+pub(crate) fn connect(rt: &HostRuntime, listener: &TcpListener) -> io::Result<TcpStream> {
+    let stream = TcpStream::connect(rt, listener.local_addr()?)?;
+    stream.set_read_timeout(Some(Duration::from_secs(LONG)))?;
+    Ok(stream)
+}
+
+/// The two ends of a connection: the one that connected, and the one that was accepted.
+pub(crate) fn pair(rt: &HostRuntime) -> io::Result<(TcpStream, TcpStream)> {
+    let listener = listen(rt)?;
+    let far = connect(rt, &listener)?;
+    let (near, _) = listener.accept()?;
+    Ok((far, near))
+}
+
+pub(crate) fn make_seat(rt: &HostRuntime) -> io::Result<Arc<Seat, Global>> {
+    let seat = Seat::new(rt, rt.alloc())?;
+    Ok(Arc::new(rt.alloc(), seat)?)
+}
