@@ -1,17 +1,15 @@
-//! A screen, a flag, a rest and links for the tests of the loops.
+//! A screen, a watch over a loop, and links for the tests of the loops.
 
-ghost use Rattle.std.specs.Prelude.{◌≡◌, IfOk, length};
+ghost use Rattle.std.specs.Prelude.{◌≡◌, IfOk};
 
 use link::{Gave, MemoryLink, Rest, StopFlag, Took};
 use painter::Painter;
 use pixel_format::Fault;
 use raster::Rect;
 use reflect_core::{PlainScreen, Puts};
-use roles::Strokes;
 use std::alloc::Global;
 use std::sync::Wait;
-use std::sync::atomic::{AtomicBool, AtomicU64, Ordering};
-use std::test::Fail;
+use std::sync::atomic::{AtomicU64, Ordering};
 
 const AREA: Rect = Rect {
     x: 0,
@@ -20,28 +18,18 @@ const AREA: Rect = Rect {
     h: 1,
 };
 
-/// A flag that ends the loops.
+/// More often than any flag is asked.
+pub(crate) const ALWAYS: u64 = 1 << 62;
+
+/// A flag that is set once it was asked this often, and a rest that counts how often it was rested on.
 #[derive(Drop)]
-pub(crate) struct Flag {
-    pub(crate) set: AtomicBool,
-}
-
-impl StopFlag for Flag {
-    ghost was_set = { λ flag. Unit {0} };
-
-    fn is_set(&self) -> bool {
-        self.set.load(Ordering::SeqCst)
-    }
-}
-
-/// A flag that is set once it was asked this often.
-#[derive(Drop)]
-pub(crate) struct SetAfter {
+pub(crate) struct Watch {
     calls: u64,
-    asked: AtomicU64,
+    pub(crate) asked: AtomicU64,
+    pub(crate) rests: AtomicU64,
 }
 
-impl StopFlag for SetAfter {
+impl StopFlag for Watch {
     ghost was_set = { λ flag. Unit {0} };
 
     fn is_set(&self) -> bool {
@@ -49,33 +37,23 @@ impl StopFlag for SetAfter {
     }
 }
 
-pub(crate) fn set_after(calls: u64) -> SetAfter {
-    SetAfter {
+impl Rest for Watch {
+    fn rest<R: Wait>(&self, _rt: &R) {
+        let _ = self.rests.fetch_add(1, Ordering::SeqCst);
+    }
+}
+
+/// A flag that is set once it was asked this often, and a rest on which none rested.
+pub(crate) fn make_watch(calls: u64) -> Watch {
+    Watch {
         calls,
         asked: AtomicU64::new(0),
-    }
-}
-
-/// Counts how often it was rested on.
-#[derive(Drop)]
-pub(crate) struct Rests {
-    pub(crate) count: AtomicU64,
-}
-
-impl Rest for Rests {
-    fn rest<R: Wait>(&self, _rt: &R) {
-        let _ = self.count.fetch_add(1, Ordering::SeqCst);
-    }
-}
-
-pub(crate) fn make_rests() -> Rests {
-    Rests {
-        count: AtomicU64::new(0),
+        rests: AtomicU64::new(0),
     }
 }
 
 /// A screen of 2 by 1, red and blue, whose tally was raised.
-pub(crate) fn red_and_blue(alloc: Global) -> Result<PlainScreen, Fail>
+pub(crate) fn red_and_blue(alloc: Global) -> Result<PlainScreen, Fault>
     ensures { IfOk result (λ screen. (screen.width ≡ 2) × (screen.height ≡ 1)) }
 {
     let mut painter = Painter::new(alloc, 2, 1)?;
@@ -86,6 +64,7 @@ pub(crate) fn red_and_blue(alloc: Global) -> Result<PlainScreen, Fail>
     Ok(screen)
 }
 
+/// The number of the fault, or 0.
 pub(crate) fn number(answer: Result<(), Fault>) -> u64 {
     match answer {
         Ok(()) => 0,
@@ -93,30 +72,24 @@ pub(crate) fn number(answer: Result<(), Fault>) -> u64 {
     }
 }
 
-pub(crate) fn make_flag() -> Flag {
-    Flag {
-        set: AtomicBool::new(false),
+/// Each of these as often as is said beside it, in order.
+fn in_full<T: Copy + Drop>(alloc: Global, runs: &[(T, usize)]) -> Result<Vec<T>, Fault> {
+    let mut full = Vec::new(alloc);
+    for (answer, times) in runs {
+        let count = full.len().saturating_add(*times);
+        full.resize(count, *answer)?;
     }
+    Ok(full)
 }
 
-/// Strokes of two places, of which nothing was taken.
-pub(crate) fn make_strokes(alloc: Global) -> Result<Strokes, Fail>
-    ensures { IfOk result (λ strokes. length strokes.counts ≡ 2) }
-{
-    Ok(Strokes::new(alloc, 2)?)
-}
-
-/// A link that sends these bytes by these answers, and takes this many at each `give`.
+/// A link that sends these bytes by these answers, and takes by those; beside each is how often it answers so.
 pub(crate) fn link_of(
     alloc: Global,
     sends: &[u8],
-    takes: &[Took],
-    gives: &[Gave],
-) -> Result<MemoryLink, Fail> {
-    Ok(MemoryLink::new(
-        alloc,
-        sends.to_vec(alloc)?,
-        takes.to_vec(alloc)?,
-        gives.to_vec(alloc)?,
-    )?)
+    takes: &[(Took, usize)],
+    gives: &[(Gave, usize)],
+) -> Result<MemoryLink, Fault> {
+    let takes = in_full(alloc, takes)?;
+    let gives = in_full(alloc, gives)?;
+    MemoryLink::new(alloc, sends.to_vec(alloc)?, takes, gives)
 }

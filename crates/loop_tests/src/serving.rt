@@ -4,7 +4,7 @@ ghost use Rattle.std.specs.Prelude.{◌≡◌, ◌⊎◌};
 ghost use Rattle.pixel_format.specs.declared.fault.Fault.TheVariants.{QueueFull, NumbersOut};
 ghost use Rattle.input_relay.specs.Ends.{inputs_of};
 
-use crate::common::{link_of, make_flag, make_rests, number, red_and_blue, set_after};
+use crate::common::{ALWAYS, link_of, make_watch, number, red_and_blue};
 use input_relay::{Sender, Taker, relay};
 use link::{Gave, MemoryLink, Took};
 use pixel_format::Fault;
@@ -37,38 +37,40 @@ impl<R: Wait + Drop> InputSink for FullFor<R> {
     }
 }
 
-/// The next input that was relayed, as four numbers: 4, down and the key; 5, the mask and the position; nothing else.
-fn next_input<R: Wait + Drop>(taker: &mut Taker<R>) -> [u64; 4] {
-    match taker.take() {
-        Some((_, Input::Key { down, key })) => [4, u64::from(down), u64::from(key), 0],
-        Some((_, Input::Pointer { mask, x, y })) => {
-            [5, u64::from(mask), u64::from(x), u64::from(y)]
-        }
-        Some((_, Input::Cut(_))) => [6, 0, 0, 0],
-        None => [0; 4],
-    }
+/// A viewer of a screen that is red and blue, and what comes of it.
+#[derive(Drop)]
+struct Case<'a> {
+    name: &'a str,
+    role: Role,
+    // What it sends, and by which answers its link takes and gives, beside each how often.
+    sends: &'a [u8],
+    takes: &'a [(Took, usize)],
+    gives: &'a [(Gave, usize)],
+    // For how many calls the relay is full, and how often the flag is asked before it is set.
+    full: u64,
+    stop: u64,
+    // The number of the fault, or 0, and how often the loop rests, at least and at most.
+    answer: u64,
+    rests: (u64, u64),
+    // What the viewer is given, and the next inputs that are relayed, in order.
+    given: &'a [u8],
+    relayed: &'a [[u64; 4]],
 }
 
-const ASK: [u8; 10] = [3, 0, 0, 0, 0, 0, 0, 2, 0, 1];
-
-const ANSWER: [u8; 24] = [
-    0, 0, 0, 1, 0, 0, 0, 0, 0, 2, 0, 1, 0, 0, 0, 0, 0, 0, 0xFF, 0, 0xFF, 0, 0, 0,
-];
-
-/// Serves a viewer of a screen that is red and blue. The number of the fault, or 0, and how often it rested.
-fn serve_over<R: Wait, W: Wait + Drop>(
+/// Serves the viewer. Whether the answer and the rests are as told.
+fn serves<R: Wait + Drop>(
     rt: &R,
     alloc: Global,
+    case: &Case<'_>,
     link: &mut MemoryLink,
-    sink: &mut FullFor<W>,
-    role: Role,
-) -> Result<(u64, u64), Fail> {
+    sink: &mut FullFor<R>,
+) -> Result<bool, Fault> {
     let mut screen = red_and_blue(alloc)?;
-    let mut session = Session::ready(alloc, 2, 1, role)?;
-    let flag = make_flag();
-    let rests = make_rests();
-    let answer = run_viewer(rt, link, &mut screen, sink, &mut session, &flag, &rests);
-    Ok((number(answer), rests.count.load(Ordering::SeqCst)))
+    let mut session = Session::ready(alloc, 2, 1, case.role)?;
+    let watch = make_watch(case.stop);
+    let answer = run_viewer(rt, link, &mut screen, sink, &mut session, &watch, &watch);
+    let rests = watch.rests.load(Ordering::SeqCst);
+    Ok(number(answer) == case.answer && case.rests.0 <= rests && rests <= case.rests.1)
 }
 
 /// A relay for one viewer, which is full for this many calls.
@@ -76,63 +78,48 @@ fn full_for<R: Wait + Drop + Copy>(
     rt: R,
     alloc: Global,
     calls: u64,
-) -> Result<(FullFor<R>, Taker<R>), Fail> {
+) -> Result<(FullFor<R>, Taker<R>), Fault> {
     let (mut senders, taker) = relay(rt, alloc, 1)?;
-    let sender = senders.pop().ok_or("a sender")?;
+    let sender = senders.pop().ok_or(Fault::Gone)?;
     Ok((FullFor { sender, calls }, taker))
 }
 
-/// Whether these are the next inputs that were relayed.
+/// Whether these are the next inputs that were relayed, each as four numbers: 4, down and the key; 5, the mask and the
+/// position; 6, a text; nothing else.
 fn relays<R: Wait + Drop>(taker: &mut Taker<R>, wanted: &[[u64; 4]]) -> bool {
+    let mut is_so = true;
     for input in wanted {
-        if next_input(taker) != *input {
-            return false;
-        }
+        let next = match taker.take() {
+            Some((_, Input::Key { down, key })) => [4, u64::from(down), u64::from(key), 0],
+            Some((_, Input::Pointer { mask, x, y })) => {
+                [5, u64::from(mask), u64::from(x), u64::from(y)]
+            }
+            Some((_, Input::Cut(_))) => [6, 0, 0, 0],
+            None => [0; 4],
+        };
+        is_so = is_so && next == *input;
     }
-    true
+    is_so
 }
 
-/// A viewer that asks, sends nothing a hundred times and ends, and takes one byte at each `give`, has the answer whole.
-#[test]
-fn viewer_has_its_answer(rt: HostRuntime) -> Result<(), Fail> {
-    let mut takes = Vec::new(rt.alloc());
-    takes.push(Took::Bytes(10))?;
-    for _ in 0..100 {
-        takes.push(Took::Nothing)?;
-    }
-    takes.push(Took::End)?;
-    let gives = Vec::from_elem(rt.alloc(), Gave::Bytes(1), 40)?;
-    let mut link = link_of(rt.alloc(), &ASK, takes.as_slice(), gives.as_slice())?;
-    let (mut sink, _taker) = full_for(rt, rt.alloc(), 0)?;
-    let found = serve_over(&rt, rt.alloc(), &mut link, &mut sink, Role::Full)?;
-    assert!(rt; found == (0, 0));
-    assert!(rt; link.given() == ANSWER.as_slice());
-    Ok(())
+/// Whether the viewer is served as told.
+fn goes_as_told<R: Wait + Drop + Copy>(
+    rt: R,
+    alloc: Global,
+    case: &Case<'_>,
+) -> Result<bool, Fault> {
+    let mut link = link_of(alloc, case.sends, case.takes, case.gives)?;
+    let (mut sink, mut taker) = full_for(rt, alloc, case.full)?;
+    let is_answered = serves(&rt, alloc, case, &mut link, &mut sink)?;
+    let is_relayed = relays(&mut taker, case.relayed);
+    Ok(is_answered && is_relayed && link.given() == case.given)
 }
 
-/// A viewer that ends with bytes unsent, which it had no room for.
-#[test]
-fn viewer_ends_with_bytes_unsent(rt: HostRuntime) -> Result<(), Fail> {
-    let takes = [Took::Bytes(10), Took::End];
-    let gives = [Gave::Bytes(3), Gave::Nothing, Gave::Nothing];
-    let mut link = link_of(rt.alloc(), &ASK, &takes, &gives)?;
-    let (mut sink, _taker) = full_for(rt, rt.alloc(), 0)?;
-    let found = serve_over(&rt, rt.alloc(), &mut link, &mut sink, Role::Full)?;
-    assert!(rt; found == (22, 0));
-    assert!(rt; link.given() == &ANSWER[..3]);
-    Ok(())
-}
+const ASK: [u8; 10] = [3, 0, 0, 0, 0, 0, 0, 2, 0, 1];
 
-/// A viewer whose bytes are at fault.
-#[test]
-fn viewer_at_fault(rt: HostRuntime) -> Result<(), Fail> {
-    let mut link = link_of(rt.alloc(), &[7], &[Took::Bytes(1)], &[])?;
-    let (mut sink, _taker) = full_for(rt, rt.alloc(), 0)?;
-    let found = serve_over(&rt, rt.alloc(), &mut link, &mut sink, Role::Full)?;
-    assert!(rt; found == (6, 0));
-    assert!(rt; link.given().is_empty());
-    Ok(())
-}
+const ANSWER: [u8; 24] = [
+    0, 0, 0, 1, 0, 0, 0, 0, 0, 2, 0, 1, 0, 0, 0, 0, 0, 0, 0xFF, 0, 0xFF, 0, 0, 0,
+];
 
 /// The letter a is pressed, two buttons at 258, 7, and the screen is asked for.
 const INPUT_AND_ASK: [u8; 24] = [
@@ -148,40 +135,166 @@ const RELAYED: [[u64; 4]; 5] = [
     [0; 4],
 ];
 
-/// A viewer's input is relayed in order, and then what it leaves held down is released. While the relay is full, three
-/// times, it rests; then the screen that was asked for after the input is given.
-#[test]
-fn viewer_input_is_relayed(rt: HostRuntime) -> Result<(), Fail> {
-    let cases: [(Role, u64); 3] = [(Role::Full, 0), (Role::Full, 3), (Role::View, 0)];
-    for (role, calls) in cases {
-        let (mut sink, mut taker) = full_for(rt, rt.alloc(), calls)?;
-        let takes: [Took; 3] = [Took::Bytes(24), Took::Nothing, Took::End];
-        let gives: [Gave; 2] = [Gave::Bytes(30), Gave::Bytes(30)];
-        let mut link = link_of(rt.alloc(), &INPUT_AND_ASK, &takes, &gives)?;
-        let found = serve_over(&rt, rt.alloc(), &mut link, &mut sink, role)?;
-        assert!(rt; found == (0, calls));
-        assert!(rt; link.given() == ANSWER.as_slice());
-        let is_relayed = match role {
-            Role::Full => relays(&mut taker, &RELAYED),
-            Role::View => relays(&mut taker, &RELAYED[4..]),
-        };
-        assert!(rt; is_relayed);
-    }
-    Ok(())
-}
+/// No input is relayed.
+const NO_INPUT: [[u64; 4]; 1] = [[0; 4]];
 
-/// Where the link fails while an input waits, the input goes in before the release.
+/// A viewer that asks, sends nothing a hundred times and ends, and takes one byte at each `give`, has the answer whole.
+const HAS_ITS_ANSWER: Case<'static> = Case {
+    name: "viewer has its answer",
+    role: Role::Full,
+    sends: &ASK,
+    takes: &[(Took::Bytes(10), 1), (Took::Nothing, 100), (Took::End, 1)],
+    gives: &[(Gave::Bytes(1), 40)],
+    full: 0,
+    stop: ALWAYS,
+    answer: 0,
+    rests: (0, 0),
+    given: &ANSWER,
+    relayed: &NO_INPUT,
+};
+
+/// A viewer that ends with bytes unsent, which it had no room for.
+const ENDS_WITH_BYTES_UNSENT: Case<'static> = Case {
+    name: "viewer ends with bytes unsent",
+    role: Role::Full,
+    sends: &ASK,
+    takes: &[(Took::Bytes(10), 1), (Took::End, 1)],
+    gives: &[(Gave::Bytes(3), 1), (Gave::Nothing, 2)],
+    full: 0,
+    stop: ALWAYS,
+    answer: 22,
+    rests: (0, 0),
+    given: &[0, 0, 0],
+    relayed: &NO_INPUT,
+};
+
+/// A viewer whose bytes are at fault.
+const AT_FAULT: Case<'static> = Case {
+    name: "viewer at fault",
+    role: Role::Full,
+    sends: &[7],
+    takes: &[(Took::Bytes(1), 1)],
+    gives: &[],
+    full: 0,
+    stop: ALWAYS,
+    answer: 6,
+    rests: (0, 0),
+    given: &[],
+    relayed: &NO_INPUT,
+};
+
+/// A viewer's input is relayed in order, and then what it leaves held down is released.
+const INPUT_IS_RELAYED: Case<'static> = Case {
+    name: "viewer input is relayed",
+    role: Role::Full,
+    sends: &INPUT_AND_ASK,
+    takes: &[(Took::Bytes(24), 1), (Took::Nothing, 1), (Took::End, 1)],
+    gives: &[(Gave::Bytes(30), 2)],
+    full: 0,
+    stop: ALWAYS,
+    answer: 0,
+    rests: (0, 0),
+    given: &ANSWER,
+    relayed: &RELAYED,
+};
+
+/// While the relay is full, three times, it rests; then the screen that was asked for after the input is given.
+const INPUT_WAITS: Case<'static> = Case {
+    name: "viewer input waits and is relayed",
+    role: Role::Full,
+    sends: &INPUT_AND_ASK,
+    takes: &[(Took::Bytes(24), 1), (Took::Nothing, 1), (Took::End, 1)],
+    gives: &[(Gave::Bytes(30), 2)],
+    full: 3,
+    stop: ALWAYS,
+    answer: 0,
+    rests: (3, 3),
+    given: &ANSWER,
+    relayed: &RELAYED,
+};
+
+/// The input of a viewer that may only see isn't relayed.
+const VIEW_IS_NOT_RELAYED: Case<'static> = Case {
+    name: "input of a view is not relayed",
+    role: Role::View,
+    sends: &INPUT_AND_ASK,
+    takes: &[(Took::Bytes(24), 1), (Took::Nothing, 1), (Took::End, 1)],
+    gives: &[(Gave::Bytes(30), 2)],
+    full: 0,
+    stop: ALWAYS,
+    answer: 0,
+    rests: (0, 0),
+    given: &ANSWER,
+    relayed: &NO_INPUT,
+};
+
+/// Where the link fails while an input waits, the input goes in before the release. It rests at most once for each call
+/// at which the relay is full.
+const WAITING_INPUT_GOES_IN_FIRST: Case<'static> = Case {
+    name: "waiting input goes in first",
+    role: Role::Full,
+    sends: &[3, 0, 0, 0, 0, 0, 0, 2, 0, 1, 4, 1, 0, 0, 0, 0, 0, 0x62],
+    takes: &[(Took::Bytes(18), 1)],
+    gives: &[(Gave::Bytes(3), 1), (Gave::Failed, 1)],
+    full: 4,
+    stop: ALWAYS,
+    answer: 21,
+    rests: (0, 4),
+    given: &[0, 0, 0],
+    relayed: &[[4, 1, 0x62, 0], [4, 0, 0x62, 0], [0; 4]],
+};
+
+/// A viewer that says nothing is let go once the flag is set, before its link fails.
+const SILENT_IS_LET_GO: Case<'static> = Case {
+    name: "silent viewer is let go",
+    role: Role::Full,
+    sends: &[],
+    takes: &[(Took::Nothing, 20), (Took::Failed, 1)],
+    gives: &[],
+    full: 0,
+    stop: 5,
+    answer: 0,
+    rests: (0, 0),
+    given: &[],
+    relayed: &NO_INPUT,
+};
+
+/// Where the sink stays full, a viewer that leaves is waited for until the flag is set; then its input is given up. What
+/// it asks for after the input isn't read.
+const FULL_SINK_IS_GIVEN_UP: Case<'static> = Case {
+    name: "full sink is given up",
+    role: Role::Full,
+    sends: &PRESS_AND_ASK,
+    takes: &[(Took::Bytes(18), 1)],
+    gives: &[(Gave::Bytes(30), 1)],
+    full: 50,
+    stop: 10,
+    answer: 0,
+    rests: (0, 10),
+    given: &[],
+    relayed: &NO_INPUT,
+};
+
+const CASES: [Case<'static>; 9] = [
+    HAS_ITS_ANSWER,
+    ENDS_WITH_BYTES_UNSENT,
+    AT_FAULT,
+    INPUT_IS_RELAYED,
+    INPUT_WAITS,
+    VIEW_IS_NOT_RELAYED,
+    WAITING_INPUT_GOES_IN_FIRST,
+    SILENT_IS_LET_GO,
+    FULL_SINK_IS_GIVEN_UP,
+];
+
+/// Each case goes as it is told above.
 #[test]
-fn waiting_input_goes_in_first(rt: HostRuntime) -> Result<(), Fail> {
-    let (mut sink, mut taker) = full_for(rt, rt.alloc(), 4)?;
-    let sends: [u8; 18] = [3, 0, 0, 0, 0, 0, 0, 2, 0, 1, 4, 1, 0, 0, 0, 0, 0, 0x62];
-    let gives: [Gave; 2] = [Gave::Bytes(3), Gave::Failed];
-    let mut link = link_of(rt.alloc(), &sends, &[Took::Bytes(18)], &gives)?;
-    let (answer, _) = serve_over(&rt, rt.alloc(), &mut link, &mut sink, Role::Full)?;
-    assert_eq!(rt; answer, 21);
-    assert_eq!(rt; link.given().len(), 3);
-    let wanted: [[u64; 4]; 3] = [[4, 1, 0x62, 0], [4, 0, 0x62, 0], [0; 4]];
-    assert!(rt; relays(&mut taker, &wanted));
+fn viewer_is_served(rt: HostRuntime) -> Result<(), Fail> {
+    for case in &CASES {
+        if !goes_as_told(rt, rt.alloc(), case)? {
+            return Err(Fail::new(case.name));
+        }
+    }
     Ok(())
 }
 
@@ -192,107 +305,55 @@ const PRESS_AND_ASK: [u8; 18] = [4, 1, 0, 0, 0, 0, 0, 0x61, 3, 0, 0, 0, 0, 0, 0,
 /// The links' calls of a run in which none fails.
 const CALLS: usize = 43;
 
-/// A link whose call of this number, from 0, answers so; and the link ends with the bytes.
-fn link_until(alloc: Global, call: usize, took: Took, gave: Gave) -> Result<MemoryLink, Fail> {
-    let mut takes = Vec::from_elem(alloc, Took::Bytes(1), call.min(18))?;
-    let mut gives = Vec::from_elem(alloc, Gave::Bytes(1), call.saturating_sub(18).min(24))?;
-    if call < 18 || call == 42 {
-        takes.push(took)?;
-    } else if call < 42 {
-        gives.push(gave)?;
-    }
-    link_of(alloc, &PRESS_AND_ASK, takes.as_slice(), gives.as_slice())
-}
-
-/// Whether a viewer whose link answers so at this call is served with this answer, is given the bytes before it, and
-/// what came of its input is relayed and released.
+/// Whether a viewer whose link answers so at this call, from 0, is served with this answer, is given the bytes before
+/// it, and what came of its input is relayed and released. The link ends with the bytes.
 fn is_served_until<R: Wait + Drop + Copy>(
     rt: R,
     alloc: Global,
     call: usize,
     last: (Took, Gave),
-    wanted: u64,
-) -> Result<bool, Fail> {
-    let mut link = link_until(alloc, call, last.0, last.1)?;
-    let (mut sink, mut taker) = full_for(rt, alloc, 0)?;
-    let (answer, _) = serve_over(&rt, alloc, &mut link, &mut sink, Role::Full)?;
+    answer: u64,
+) -> Result<bool, Fault> {
     let count = call.saturating_sub(18).min(24);
+    let is_taking = call < 18 || call == 42;
+    let is_giving = 18 <= call && call < 42;
     let pressed: [[u64; 4]; 3] = [[4, 1, 0x61, 0], [4, 0, 0x61, 0], [0; 4]];
-    let is_relayed = if call < 8 {
-        relays(&mut taker, &[[0; 4]])
-    } else {
-        relays(&mut taker, &pressed)
+    let case = Case {
+        name: "a call",
+        role: Role::Full,
+        sends: &PRESS_AND_ASK,
+        takes: &[
+            (Took::Bytes(1), call.min(18)),
+            (last.0, usize::from(is_taking)),
+        ],
+        gives: &[(Gave::Bytes(1), count), (last.1, usize::from(is_giving))],
+        full: 0,
+        stop: ALWAYS,
+        answer,
+        rests: (0, 0),
+        given: &ANSWER[..count],
+        relayed: if call < 8 { &NO_INPUT } else { &pressed },
     };
-    Ok(answer == wanted && link.given() == &ANSWER[..count] && is_relayed)
+    goes_as_told(rt, alloc, &case)
 }
 
-/// A link that fails at any of its calls is `LinkFailed`.
+/// A link that fails at any of its calls is `LinkFailed`. One that ends at any of its calls is `LinkEnded`, but between
+/// two messages with nothing unsent.
 #[test]
-fn viewer_fails_at_each_call(rt: HostRuntime) -> Result<(), Fail> {
+fn viewer_fails_or_ends_at_each_call(rt: HostRuntime) -> Result<(), Fail> {
     for call in 0..=CALLS {
-        let wanted = if call < CALLS { 21 } else { 0 };
-        let last = (Took::Failed, Gave::Failed);
-        assert!(rt;
-            is_served_until(rt, rt.alloc(), call, last, wanted)?,
-            "call {call}"
-        );
-    }
-    Ok(())
-}
-
-/// A link that ends at any of its calls is `LinkEnded`, but between two messages with nothing unsent.
-#[test]
-fn viewer_ends_at_each_call(rt: HostRuntime) -> Result<(), Fail> {
-    for call in 0..=CALLS {
+        let at_failure = if call < CALLS { 21 } else { 0 };
         let is_between = call == 0 || call == 8 || call >= 42;
-        let wanted = if is_between { 0 } else { 22 };
-        let last = (Took::End, Gave::End);
-        assert!(rt;
-            is_served_until(rt, rt.alloc(), call, last, wanted)?,
-            "call {call}"
-        );
+        let at_end = if is_between { 0 } else { 22 };
+        let fails = is_served_until(
+            rt,
+            rt.alloc(),
+            call,
+            (Took::Failed, Gave::Failed),
+            at_failure,
+        )?;
+        let ends = is_served_until(rt, rt.alloc(), call, (Took::End, Gave::End), at_end)?;
+        assert!(rt; fails && ends, "call {call}: {fails} where it fails");
     }
-    Ok(())
-}
-
-/// Serves a viewer until a flag is set that is asked this often before. The number of the fault, or 0, and how often it
-/// rested.
-fn serve_until<R: Wait, W: Wait + Drop>(
-    rt: &R,
-    alloc: Global,
-    link: &mut MemoryLink,
-    sink: &mut FullFor<W>,
-    calls: u64,
-) -> Result<(u64, u64), Fail> {
-    let mut screen = red_and_blue(alloc)?;
-    let mut session = Session::ready(alloc, 2, 1, Role::Full)?;
-    let flag = set_after(calls);
-    let rests = make_rests();
-    let answer = run_viewer(rt, link, &mut screen, sink, &mut session, &flag, &rests);
-    Ok((number(answer), rests.count.load(Ordering::SeqCst)))
-}
-
-/// A viewer that says nothing is let go once the flag is set, before its link fails.
-#[test]
-fn silent_viewer_is_let_go(rt: HostRuntime) -> Result<(), Fail> {
-    let mut takes = Vec::from_elem(rt.alloc(), Took::Nothing, 20)?;
-    takes.push(Took::Failed)?;
-    let mut link = link_of(rt.alloc(), &[], takes.as_slice(), &[])?;
-    let (mut sink, _taker) = full_for(rt, rt.alloc(), 0)?;
-    let found = serve_until(&rt, rt.alloc(), &mut link, &mut sink, 5)?;
-    assert!(rt; found == (0, 0));
-    Ok(())
-}
-
-/// Where the sink stays full, a viewer that leaves is waited for until the flag is set; then its input is given up.
-#[test]
-fn full_sink_is_given_up(rt: HostRuntime) -> Result<(), Fail> {
-    let gives: [Gave; 1] = [Gave::Bytes(30)];
-    let mut link = link_of(rt.alloc(), &PRESS_AND_ASK, &[Took::Bytes(18)], &gives)?;
-    let (mut sink, mut taker) = full_for(rt, rt.alloc(), 50)?;
-    let found = serve_until(&rt, rt.alloc(), &mut link, &mut sink, 10)?;
-    assert_eq!(rt; found.0, 0);
-    assert!(rt; found.1 <= 10);
-    assert!(rt; relays(&mut taker, &[[0; 4]]));
     Ok(())
 }

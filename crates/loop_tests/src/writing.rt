@@ -3,11 +3,9 @@
 ghost use Rattle.std.specs.Prelude.{◌≡◌, length, refl};
 ghost use Rattle.std.proofs.Common.{◌∙◌};
 
-use crate::common::{
-    Flag, link_of, make_flag, make_rests, make_strokes, number, red_and_blue, set_after,
-};
+use crate::common::{ALWAYS, Watch, link_of, make_watch, number, red_and_blue};
 use host_writer::run_writer;
-use input_relay::{Taker, relay};
+use input_relay::{Sender, Taker, relay};
 use link::{Gave, MemoryLink};
 use pixel_format::Fault;
 use raster::Rect;
@@ -25,7 +23,7 @@ use tiles::Have;
 struct TenLooks<'a> {
     screen: PlainScreen,
     looks: u64,
-    flag: &'a Flag,
+    flag: &'a Watch,
 }
 
 impl<'a> ScreenSource for TenLooks<'a> {
@@ -54,7 +52,7 @@ impl<'a> ScreenSource for TenLooks<'a> {
     fn look(&mut self) -> u64 {
         self.looks = self.looks.saturating_add(1);
         if self.looks == 10 {
-            self.flag.set.store(true, Ordering::SeqCst);
+            self.flag.asked.store(ALWAYS, Ordering::SeqCst);
         }
         self.screen.look()
     }
@@ -64,208 +62,226 @@ impl<'a> ScreenSource for TenLooks<'a> {
     }
 }
 
-/// The letter a is pressed; what is new of the whole screen is asked for.
-const PRESS_AND_REQUEST: [u8; 18] = [4, 1, 0, 0, 0, 0, 0, 0x61, 3, 1, 0, 0, 0, 0, 0, 2, 0, 1];
+/// An input that a place sends.
+#[derive(Clone, Copy)]
+enum Sent {
+    /// Whether the key goes down, and which it is.
+    Key(bool, u32),
+    /// The buttons that are down, and the position.
+    Pointer(u8, u16, u16),
+    /// A text of two letters.
+    Text,
+}
 
-/// Two buttons are down at 258, 7; the text of two letters.
-const POINT_AND_TEXT: [u8; 16] = [5, 3, 1, 2, 0, 7, 6, 0, 0, 0, 0, 0, 0, 2, 0x68, 0xE9];
+/// What a host is told of a screen of 2 by 1, up to its tenth look.
+#[derive(Drop)]
+struct Case<'a> {
+    name: &'a str,
+    // Whether the relay has one place, or two.
+    is_alone: bool,
+    // The inputs in the relay, each with the number of its place.
+    inputs: &'a [(usize, Sent)],
+    // By which answers its link gives, beside each how often, and how often the flag is asked before it is set.
+    gives: &'a [(Gave, usize)],
+    stop: u64,
+    // The number of the fault, or 0, and how often the loop rests, at least and at most.
+    answer: u64,
+    rests: (u64, u64),
+    // What the host is told, and how many inputs of the two places don't pass.
+    given: &'a [u8],
+    dropped: (u64, u64),
+}
 
-/// A button goes down at 0, 0, what is new is asked for, the button goes up at 1, 0, and the letter a is pressed.
-const STROKE_AND_PRESS: [u8; 30] = [
-    5, 1, 0, 0, 0, 0, 3, 1, 0, 0, 0, 0, 0, 2, 0, 1, 5, 0, 0, 1, 0, 0, 4, 1, 0, 0, 0, 0, 0, 0x61,
-];
+/// Sends these inputs, each at its place. Whether all were taken.
+fn send_all<R: Wait + Drop>(
+    alloc: Global,
+    senders: &mut [Sender<R>],
+    inputs: &[(usize, Sent)],
+) -> Result<bool, Fault> {
+    let mut are_taken = true;
+    for (place, sent) in inputs {
+        let sender = senders.get_mut(*place).ok_or(Fault::Gone)?;
+        let input = match *sent {
+            Sent::Key(down, key) => Input::Key { down, key },
+            Sent::Pointer(mask, x, y) => Input::Pointer { mask, x, y },
+            Sent::Text => Input::Cut(Text::from_vec([0x68, 0xE9].to_vec(alloc)?)),
+        };
+        are_taken &= sender.send(input).is_ok();
+    }
+    Ok(are_taken)
+}
 
-/// Holds the key of the letter a down.
-fn press_a() -> Input {
-    Input::Key {
-        down: true,
-        key: 0x61,
+/// The end of a relay in which these inputs wait.
+fn relay_with<R: Wait + Drop + Copy>(
+    rt: R,
+    alloc: Global,
+    case: &Case<'_>,
+) -> Result<Taker<R>, Fault> {
+    let made = if case.is_alone {
+        relay(rt, alloc, 1)
+    } else {
+        relay(rt, alloc, 2)
+    };
+    let (mut senders, taker) = made?;
+    if send_all(alloc, senders.as_mut_slice(), case.inputs)? {
+        Ok(taker)
+    } else {
+        Err(Fault::QueueFull)
     }
 }
 
-/// Lets it go.
-fn lift_a() -> Input {
-    Input::Key {
-        down: false,
-        key: 0x61,
-    }
-}
-
-/// These buttons are down at this position from the left.
-fn point(mask: u8, x: u16) -> Input {
-    Input::Pointer { mask, x, y: 0 }
-}
-
-/// Tells the host of a screen of 2 by 1 what was relayed, up to its tenth look. The number of the fault, or 0, and how
-/// often it rested.
-fn tell_over<R: Wait, W: Wait + Drop>(
+/// Tells the host what was relayed. Whether the answer, the rests and what doesn't pass are as told.
+fn tells<R: Wait + Drop>(
     rt: &R,
     alloc: Global,
+    case: &Case<'_>,
     link: &mut MemoryLink,
-    taker: &mut Taker<W>,
-    strokes: &mut Strokes,
-) -> Result<(u64, u64), Fail>
-    ensures { length strokes.new.counts ≡ length strokes.old.counts }
-{
-    let flag = make_flag();
+    taker: &mut Taker<R>,
+) -> Result<bool, Fault> {
+    let mut strokes = Strokes::new(alloc, 2)?;
+    let watch = make_watch(case.stop);
     let mut source = TenLooks {
         screen: red_and_blue(alloc)?,
         looks: 0,
-        flag: &flag,
+        flag: &watch,
     };
-    let rests = make_rests();
-    let answer = run_writer(rt, link, &mut source, taker, strokes, &flag, &rests);
-    Ok((number(answer), rests.count.load(Ordering::SeqCst)))
+    let answer = run_writer(rt, link, &mut source, taker, &mut strokes, &watch, &watch);
+    let rests = watch.rests.load(Ordering::SeqCst);
+    let is_rested = case.rests.0 <= rests && rests <= case.rests.1;
+    let dropped = (strokes.dropped(0), strokes.dropped(1));
+    Ok(number(answer) == case.answer && is_rested && dropped == case.dropped)
 }
 
-/// A relay in which that key was pressed.
-fn relay_with_press<R: Wait + Drop + Copy>(rt: R, alloc: Global) -> Result<Taker<R>, Fail> {
-    let (mut senders, taker) = relay(rt, alloc, 1)?;
-    let mut sender = senders.pop().ok_or("a sender")?;
-    if sender.send(press_a()).is_err() {
-        return Err("the relay is full".into());
-    }
-    Ok(taker)
+/// Whether the host is told as the case says.
+fn goes_as_told<R: Wait + Drop + Copy>(
+    rt: R,
+    alloc: Global,
+    case: &Case<'_>,
+) -> Result<bool, Fault> {
+    let mut taker = relay_with(rt, alloc, case)?;
+    let mut link = link_of(alloc, &[], &[], case.gives)?;
+    let is_answered = tells(&rt, alloc, case, &mut link, &mut taker)?;
+    Ok(is_answered && link.given() == case.given)
 }
+
+/// The letter a is pressed.
+const PRESS_A: Sent = Sent::Key(true, 0x61);
+
+/// The same in bytes; and what is new of the whole screen is asked for.
+const PRESS_AND_REQUEST: [u8; 18] = [4, 1, 0, 0, 0, 0, 0, 0x61, 3, 1, 0, 0, 0, 0, 0, 2, 0, 1];
 
 /// One input in the relay and one raise give that input's bytes and one request; the loop ends at the tenth look.
-#[test]
-fn writer_tells_input_and_asks(rt: HostRuntime) -> Result<(), Fail> {
-    let mut taker = relay_with_press(rt, rt.alloc())?;
-    let gives: [Gave; 6] = [
-        Gave::Nothing,
-        Gave::Bytes(7),
-        Gave::Nothing,
-        Gave::Bytes(7),
-        Gave::Bytes(7),
-        Gave::Bytes(7),
-    ];
-    let mut link = link_of(rt.alloc(), &[], &[], &gives)?;
-    let mut strokes = make_strokes(rt.alloc())?;
-    let found = tell_over(&rt, rt.alloc(), &mut link, &mut taker, &mut strokes)?;
-    assert!(rt; found == (0, 9));
-    assert!(rt; link.given() == PRESS_AND_REQUEST.as_slice());
-    Ok(())
-}
+const INPUT_AND_REQUEST: Case<'static> = Case {
+    name: "writer tells input and asks",
+    is_alone: true,
+    inputs: &[(0, PRESS_A)],
+    gives: &[
+        (Gave::Nothing, 1),
+        (Gave::Bytes(7), 1),
+        (Gave::Nothing, 1),
+        (Gave::Bytes(7), 3),
+    ],
+    stop: ALWAYS,
+    answer: 0,
+    rests: (9, 9),
+    given: &PRESS_AND_REQUEST,
+    dropped: (0, 0),
+};
 
 /// A key, a position and a text are told in their order, the request after the first of them, however the link cuts
 /// them.
-#[test]
-fn writer_tells_each_form(rt: HostRuntime) -> Result<(), Fail> {
-    let (mut senders, mut taker) = relay(rt, rt.alloc(), 1)?;
-    let mut sender = senders.pop().ok_or("a sender")?;
-    assert!(rt; sender.send(press_a()).is_ok());
-    assert!(rt;
-        sender
-            .send(Input::Pointer {
-                mask: 3,
-                x: 258,
-                y: 7
-            })
-            .is_ok()
-    );
-    let text = Text::from_vec([0x68, 0xE9].to_vec(rt.alloc())?);
-    assert!(rt; sender.send(Input::Cut(text)).is_ok());
-    let gives = Vec::from_elem(rt.alloc(), Gave::Bytes(1), 40)?;
-    let mut link = link_of(rt.alloc(), &[], &[], gives.as_slice())?;
-    let mut strokes = make_strokes(rt.alloc())?;
-    let found = tell_over(&rt, rt.alloc(), &mut link, &mut taker, &mut strokes)?;
-    assert!(rt; found == (0, 7));
-    let mut wanted = PRESS_AND_REQUEST.to_vec(rt.alloc())?;
-    wanted.extend_from_slice(&POINT_AND_TEXT)?;
-    assert!(rt; link.given() == wanted.as_slice());
-    Ok(())
-}
+const EACH_FORM: Case<'static> = Case {
+    name: "writer tells each form",
+    is_alone: true,
+    inputs: &[(0, PRESS_A), (0, Sent::Pointer(3, 258, 7)), (0, Sent::Text)],
+    gives: &[(Gave::Bytes(1), 40)],
+    stop: ALWAYS,
+    answer: 0,
+    rests: (7, 7),
+    // The key, the request, two buttons that are down at 258, 7, and the text of two letters.
+    given: &[
+        4, 1, 0, 0, 0, 0, 0, 0x61, 3, 1, 0, 0, 0, 0, 0, 2, 0, 1, 5, 3, 1, 2, 0, 7, 6, 0, 0, 0, 0,
+        0, 0, 2, 0x68, 0xE9,
+    ],
+    dropped: (0, 0),
+};
 
-/// Whether telling over a link that takes this many bytes one at a time, and then answers so, comes to this answer, and
-/// gives these bytes.
-fn is_told_until<R: Wait + Drop + Copy>(
-    rt: R,
-    alloc: Global,
-    count: usize,
-    last: Gave,
-    wanted: u64,
-) -> Result<bool, Fail> {
-    let mut taker = relay_with_press(rt, alloc)?;
-    let mut gives = Vec::from_elem(alloc, Gave::Bytes(1), count)?;
-    gives.push(last)?;
-    let mut link = link_of(alloc, &[], &[], gives.as_slice())?;
-    let mut strokes = make_strokes(alloc)?;
-    let (answer, _) = tell_over(&rt, alloc, &mut link, &mut taker, &mut strokes)?;
-    Ok(answer == wanted && link.given() == &PRESS_AND_REQUEST[..count.min(18)])
-}
-
-/// A link that fails at any of its 18 calls is `LinkFailed`.
-#[test]
-fn writer_fails_at_each_call(rt: HostRuntime) -> Result<(), Fail> {
-    for count in 0..=18 {
-        let wanted = if count < 18 { 21 } else { 0 };
-        assert!(rt;
-            is_told_until(rt, rt.alloc(), count, Gave::Failed, wanted)?,
-            "call {count}"
-        );
-    }
-    Ok(())
-}
-
-/// Where the link ends before the first byte of the input or of the request it is well, and inside them it is
-/// `LinkEnded`.
-#[test]
-fn writer_ends_at_each_call(rt: HostRuntime) -> Result<(), Fail> {
-    for count in 0..=18 {
-        let is_before = count == 0 || count == 8 || count == 18;
-        let wanted = if is_before { 0 } else { 22 };
-        assert!(rt;
-            is_told_until(rt, rt.alloc(), count, Gave::End, wanted)?,
-            "call {count}"
-        );
-    }
-    Ok(())
-}
-
-/// While the first place has a button down, nothing of the second passes: the host is told the stroke whole.
-#[test]
-fn writer_keeps_strokes_whole(rt: HostRuntime) -> Result<(), Fail> {
-    let (mut senders, mut taker) = relay(rt, rt.alloc(), 2)?;
-    let mut second = senders.pop().ok_or("a sender")?;
-    let mut first = senders.pop().ok_or("a sender")?;
-    assert!(rt; first.send(point(1, 0)).is_ok());
-    assert!(rt; second.send(press_a()).is_ok());
-    assert!(rt; second.send(lift_a()).is_ok());
-    assert!(rt; first.send(point(0, 1)).is_ok());
-    assert!(rt; second.send(press_a()).is_ok());
-    let gives = Vec::from_elem(rt.alloc(), Gave::Bytes(6), 40)?;
-    let mut link = link_of(rt.alloc(), &[], &[], gives.as_slice())?;
-    let mut strokes = make_strokes(rt.alloc())?;
-    let (answer, _) = tell_over(&rt, rt.alloc(), &mut link, &mut taker, &mut strokes)?;
-    assert_eq!(rt; answer, 0);
-    assert!(rt; link.given() == STROKE_AND_PRESS.as_slice());
-    assert_eq!(rt; strokes.dropped(0), 0);
-    assert_eq!(rt; strokes.dropped(1), 2);
-    Ok(())
-}
+/// While the first place has a button down, nothing of the second passes: the host is told the stroke whole. It rests at
+/// most once a look.
+const STROKES_ARE_WHOLE: Case<'static> = Case {
+    name: "writer keeps strokes whole",
+    is_alone: false,
+    inputs: &[
+        (0, Sent::Pointer(1, 0, 0)),
+        (1, PRESS_A),
+        (1, Sent::Key(false, 0x61)),
+        (0, Sent::Pointer(0, 1, 0)),
+        (1, PRESS_A),
+    ],
+    gives: &[(Gave::Bytes(6), 40)],
+    stop: ALWAYS,
+    answer: 0,
+    rests: (0, 10),
+    // A button goes down at 0, 0, what is new is asked for, the button goes up at 1, 0, and the letter a is pressed.
+    given: &[
+        5, 1, 0, 0, 0, 0, 3, 1, 0, 0, 0, 0, 0, 2, 0, 1, 5, 0, 0, 1, 0, 0, 4, 1, 0, 0, 0, 0, 0, 0x61,
+    ],
+    dropped: (0, 2),
+};
 
 /// A host that takes three bytes of an input and then nothing isn't waited for once the flag is set.
+const STALLED_IS_LET_GO: Case<'static> = Case {
+    name: "stalled host is let go",
+    is_alone: true,
+    inputs: &[(0, PRESS_A)],
+    gives: &[(Gave::Bytes(3), 1), (Gave::Nothing, 50)],
+    stop: 10,
+    answer: 0,
+    rests: (0, 10),
+    given: &[4, 1, 0],
+    dropped: (0, 0),
+};
+
+const CASES: [Case<'static>; 4] = [
+    INPUT_AND_REQUEST,
+    EACH_FORM,
+    STROKES_ARE_WHOLE,
+    STALLED_IS_LET_GO,
+];
+
+/// Each case goes as it is told above.
 #[test]
-fn stalled_host_is_let_go(rt: HostRuntime) -> Result<(), Fail> {
-    let mut taker = relay_with_press(rt, rt.alloc())?;
-    let mut gives = Vec::from_elem(rt.alloc(), Gave::Nothing, 50)?;
-    gives.insert(0, Gave::Bytes(3))?;
-    let mut link = link_of(rt.alloc(), &[], &[], gives.as_slice())?;
-    let mut strokes = make_strokes(rt.alloc())?;
-    let mut screen = red_and_blue(rt.alloc())?;
-    let flag = set_after(10);
-    let rests = make_rests();
-    let answer = run_writer(
-        &rt,
-        &mut link,
-        &mut screen,
-        &mut taker,
-        &mut strokes,
-        &flag,
-        &rests,
-    );
-    assert_eq!(rt; number(answer), 0);
-    assert!(rt; link.given() == &PRESS_AND_REQUEST[..3]);
+fn host_is_told(rt: HostRuntime) -> Result<(), Fail> {
+    for case in &CASES {
+        if !goes_as_told(rt, rt.alloc(), case)? {
+            return Err(Fail::new(case.name));
+        }
+    }
+    Ok(())
+}
+
+/// A link that fails at any of its 18 calls is `LinkFailed`. Where it ends before the first byte of the input or of the
+/// request it is well, and inside them it is `LinkEnded`. The bytes before that call are told.
+#[test]
+fn writer_fails_or_ends_at_each_call(rt: HostRuntime) -> Result<(), Fail> {
+    for count in 0..=18 {
+        let at_failure = if count < 18 { 21 } else { 0 };
+        let is_before = count == 0 || count == 8 || count == 18;
+        let at_end = if is_before { 0 } else { 22 };
+        for (last, answer) in [(Gave::Failed, at_failure), (Gave::End, at_end)] {
+            let case = Case {
+                name: "a call",
+                is_alone: true,
+                inputs: &[(0, PRESS_A)],
+                gives: &[(Gave::Bytes(1), count), (last, 1)],
+                stop: ALWAYS,
+                answer,
+                rests: (0, 10),
+                given: &PRESS_AND_REQUEST[..count.min(18)],
+                dropped: (0, 0),
+            };
+            assert!(rt; goes_as_told(rt, rt.alloc(), &case)?, "call {count}");
+        }
+    }
     Ok(())
 }
