@@ -1,25 +1,14 @@
-//! Tests of what threads share: `screen_pair` and `shared_screen`, and `serving`, over loopback alone, bounded in count
-//! and by the ten seconds that a viewer's handshake has. They stand in a crate of their own so that each of those is
-//! proved once.
+//! Tests of what runs on threads: the loops of a host and of a viewer, the pair and the shared screen, connections,
+//! whole runs, and `serve`. They stand in a crate of their own so that what they try is proved once.
 #![tactic(auto)]
 
 #[cfg(test)]
-mod bells;
+mod connections;
 #[cfg(test)]
-mod common;
+mod loops;
 #[cfg(test)]
-mod doors;
+mod runs;
 #[cfg(test)]
-mod hosts;
-#[cfg(test)]
-mod links;
-#[cfg(test)]
-mod pair;
-#[cfg(test)]
-mod rings;
-#[cfg(test)]
-mod scene;
+mod served;
 #[cfg(test)]
 mod shared;
-#[cfg(test)]
-mod viewers;

@@ -1,0 +1,9 @@
+//! Tests of `serving`, over loopback alone, bounded in count and by the ten seconds that a viewer's handshake has.
+
+mod bells;
+mod doors;
+mod hosts;
+mod links;
+mod rings;
+mod sockets;
+mod viewers;

@@ -1,0 +1,126 @@
+//! Viewers who come in, are turned away, and leave.
+
+use crate::connections::sockets::{connect, listen, make_seat};
+use link::{Gave, Link, Took};
+use roles::Role;
+use serving::{Door, Doorplate, Lobby, NoLog, TcpDoor, keep_door};
+use std::io::Read;
+use std::net::{TcpListener, TcpStream};
+use std::sync::{Arc, Wait};
+use std::test::*;
+use std::thread::Threads;
+use std::time::Clock;
+use std::{io, thread};
+
+/// Version 3.8, no security type, and the reason with its length (RFC 6143, 7.1.1 and 7.1.2).
+const REFUSAL: &[u8] = b"RFB 003.008\n\x00\x00\x00\x00\x14all places are taken";
+
+/// Greets each viewer with a byte and then serves it until it ends. It answers how many came.
+fn greets<D: Door>(door: &mut D) -> u64 {
+    let mut into = [0u8; 64];
+    for count in 0..1_000u64 {
+        let Some(mut link) = door.next() else {
+            return count;
+        };
+        if link.give(b"R") != Gave::Bytes(1) {
+            return u64::MAX;
+        }
+        for _ in 0..1_000 {
+            if !matches!(link.take(&mut into), Took::Nothing | Took::Bytes(_)) {
+                break;
+            }
+        }
+        door.left(link, 0, Ok(()));
+    }
+    u64::MAX
+}
+
+/// The first this many bytes that one who comes is told. Of a refusal all bytes are read.
+fn comes(rt: &HostRuntime, listener: &TcpListener, told: &mut [u8]) -> io::Result<TcpStream> {
+    let mut viewer = connect(rt, listener)?;
+    viewer.read_exact(told)?;
+    Ok(viewer)
+}
+
+/// Whether one who comes finds a place. Whoever comes before the place is seen to be free is told the second byte of a
+/// version.
+fn is_let_in(rt: &HostRuntime, listener: &TcpListener) -> io::Result<bool> {
+    let mut viewer = connect(rt, listener)?;
+    let mut told = [0u8; 2];
+    Ok(viewer.read(&mut told)? == 1)
+}
+
+/// One comes in, a second is told why not, and once the first has left there is a place again.
+fn visits(rt: &HostRuntime, listener: &TcpListener) -> io::Result<bool> {
+    let mut greeting = [0u8; 1];
+    let first = comes(rt, listener, &mut greeting)?;
+    let mut refusal = [0u8; 37];
+    let second = comes(rt, listener, &mut refusal)?;
+    drop(first);
+    drop(second);
+    if greeting != *b"R" || refusal.as_slice() != REFUSAL {
+        return Ok(false);
+    }
+    for _ in 0..1_000 {
+        if is_let_in(rt, listener)? {
+            return Ok(true);
+        }
+    }
+    Ok(false)
+}
+
+/// Whether the visits are right. Then the lobby is closed, which whoever keeps the door sees as the next one comes.
+fn visits_and_closes<R: Wait>(
+    rt: &R,
+    net: &HostRuntime,
+    listener: &TcpListener,
+    lobby: &Lobby,
+) -> bool {
+    let right = visits(net, listener).unwrap_or(false);
+    lobby.close(rt);
+    let last = connect(net, listener);
+    right && last.is_ok()
+}
+
+/// How many came to the door while it was kept, and whether each was told what it should be.
+fn serves<R: Threads + Wait + Clock + Send + Sync, D: Door + Send>(
+    rt: &R,
+    net: &HostRuntime,
+    listener: &TcpListener,
+    lobby: &Lobby,
+    door: &mut D,
+) -> (u64, bool) {
+    let ((came, ()), right) = thread::join(
+        rt,
+        || thread::join(
+            rt,
+            || greets(door),
+            || keep_door(rt, listener, lobby, Role::Full, &NoLog),
+        ),
+        || visits_and_closes(rt, net, listener, lobby),
+    );
+    (came, right)
+}
+
+/// The same of a new lobby of one place.
+fn opens<R: Threads + Wait + Clock + Copy + Drop + Send + Sync>(
+    rt: R,
+    net: &HostRuntime,
+) -> io::Result<(u64, bool)> {
+    let listener = listen(net)?;
+    let seat = make_seat(net)?;
+    let lobby = Arc::new(net.alloc(), Lobby::new(net.alloc(), 1)?)?;
+    let shared = Arc::try_clone(&lobby)?;
+    let plate = Doorplate {
+        place: 1,
+        role: Role::Full,
+    };
+    let mut door = TcpDoor::new(rt, net.alloc(), shared, seat, plate, NoLog);
+    Ok(serves(&rt, net, &listener, &lobby, &mut door))
+}
+
+#[test]
+fn full_lobby_refuses_and_is_free_again(rt: HostRuntime) -> Result<(), Fail> {
+    assert_eq!(rt; opens(rt, &rt)?, (2, true));
+    Ok(())
+}

@@ -1,0 +1,6 @@
+//! Tests of `host_reader`, `host_writer` and `viewer_server`, over links in memory.
+
+mod host;
+mod viewer;
+mod watch;
+mod writer;

@@ -1,0 +1,10 @@
+//! Tests of `reflector` over links in memory: viewers that stall, a relay that is full, and places that are used again.
+//! Update n paints colour n all over a screen of 2 by 1. A call that is held counts its turns, and fails at 1,000,000.
+
+mod board;
+mod bytes;
+mod courses;
+mod ends;
+mod peer;
+mod queue;
+mod wire;

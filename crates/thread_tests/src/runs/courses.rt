@@ -1,0 +1,315 @@
+//! The runs that are played.
+
+use crate::runs::board::Gate;
+use crate::runs::bytes::{
+    ASK, HELLO, ONE, PRESS_97, PRESS_98, THREE, TWO, UNKNOWN, WELCOME, WIDER,
+};
+use crate::runs::ends::{Course, End, goes_right};
+use crate::runs::peer::{Act, Key, Script, Taking};
+use std::test::*;
+
+/// This many key events are more than there is room for.
+const MANY: u64 = 300;
+
+/// Key 65 is pressed and released: 300 key events.
+const MANY_KEYS: [[Key; 2]; 150] = [[[4, 1, 0, 0, 0, 0, 0, 65], [4, 0, 0, 0, 0, 0, 0, 65]]; 150];
+
+/// Keys 97 and 98 are pressed and released.
+const TWO_KEYS: [[Key; 2]; 2] = [
+    [[4, 1, 0, 0, 0, 0, 0, 97], [4, 0, 0, 0, 0, 0, 0, 97]],
+    [[4, 1, 0, 0, 0, 0, 0, 98], [4, 0, 0, 0, 0, 0, 0, 98]],
+];
+
+/// The number of the update that turns the screen black, where another host comes.
+const BLACK: u64 = 2;
+
+/// Asks until it was shown the third update.
+const TO_THREE: &[Act] = &[Act::Says(HELLO), Act::AsksFor(3)];
+
+/// A viewer that asks until it was shown the third update, and takes all at once.
+const AT_ONCE: Script = Script {
+    acts: TO_THREE,
+    taking: Taking::AtOnce,
+};
+
+/// The same, but it takes nothing until the first was shown the third update.
+const STALLED: Script = Script {
+    acts: TO_THREE,
+    taking: Taking::Stalls(Gate::Shown(0, 3)),
+};
+
+/// The same, but each `give` doesn't return until then.
+const HELD: Script = Script {
+    acts: TO_THREE,
+    taking: Taking::Held(Gate::Shown(0, 3)),
+};
+
+/// A viewer that asks all along.
+const WATCHES: Script = Script {
+    acts: &[Act::Says(HELLO), Act::AsksFor(9)],
+    taking: Taking::AtOnce,
+};
+
+/// The end of a host that is told. It wants no key event.
+const IS_TOLD: Script = Script {
+    acts: &[Act::Ends],
+    taking: Taking::Told(Gate::Open, &[]),
+};
+
+/// The end that is read, of a host that ends once the viewer was shown its one update.
+const SENDS_ONE: Script = Script {
+    acts: &[Act::Says(ONE), Act::Waits(Gate::Shown(0, 1)), Act::Ends],
+    taking: Taking::Told(Gate::Open, &[]),
+};
+
+/// The same of one that sends three updates, and ends once all were shown the third.
+const SENDS_THREE: Script = Script {
+    acts: &[
+        Act::Says(ONE),
+        Act::Says(TWO),
+        Act::Says(THREE),
+        Act::Waits(Gate::All(3)),
+        Act::Ends,
+    ],
+    taking: Taking::Told(Gate::Open, &[]),
+};
+
+/// Hosts that can't be joined (RFC 6143, 7.1.1 to 7.1.3): one that ends, a handshake that is ended as failed, no type
+/// None, a refusal for the reason N, and another version.
+const ENDS: Script = Script {
+    acts: &[Act::Says(b"RFB"), Act::Ends],
+    taking: Taking::Joins,
+};
+
+const FAILS: Script = Script {
+    acts: &[Act::Says(b"RFB 003.008\n\x01\x01\0\0\0\x01"), Act::Ends],
+    taking: Taking::Joins,
+};
+
+const OFFERS_NO_NONE: Script = Script {
+    acts: &[Act::Says(b"RFB 003.008\n\x01\x02"), Act::Ends],
+    taking: Taking::Joins,
+};
+
+const REFUSES: Script = Script {
+    acts: &[Act::Says(b"RFB 003.008\n\0\0\0\0\x01N"), Act::Ends],
+    taking: Taking::Joins,
+};
+
+const IS_OLD: Script = Script {
+    acts: &[Act::Says(b"RFB 003.003\n"), Act::Ends],
+    taking: Taking::Joins,
+};
+
+/// A viewer whose `give` doesn't return until another was shown the third update holds neither that one nor the host.
+const HELD_VIEWER: Course = Course {
+    name: "held_viewer_holds_nobody",
+    black: 0,
+    places: &[&[AT_ONCE], &[HELD], &[AT_ONCE], &[AT_ONCE]],
+    hosts: &[SENDS_THREE, IS_TOLD],
+    may_end: true,
+    end: End {
+        fault: 0,
+        links: 1,
+        last: 3,
+    },
+};
+
+/// Three viewers that take nothing until the first was shown the third update are shown it then.
+const STALLED_VIEWERS: Course = Course {
+    name: "stalled_viewers_catch_up",
+    black: 0,
+    places: &[&[AT_ONCE], &[STALLED], &[STALLED], &[STALLED]],
+    hosts: &[SENDS_THREE, IS_TOLD],
+    may_end: true,
+    end: End {
+        fault: 0,
+        links: 1,
+        last: 3,
+    },
+};
+
+/// A relay that is full holds no update, and loses no input. A viewer that was shown the first update asks once more,
+/// and then hands out 300 key events. The host takes none of them until the viewer was shown the second update, which
+/// it sends once 257 were handed out.
+const FULL_RELAY: Course = Course {
+    name: "full_relay_holds_no_update",
+    black: 0,
+    places: &[&[Script {
+        acts: &[
+            Act::Says(HELLO),
+            Act::AsksFor(1),
+            Act::Says(ASK),
+            Act::Types(MANY),
+        ],
+        taking: Taking::AtOnce,
+    }]],
+    hosts: &[
+        Script {
+            acts: &[
+                Act::Says(ONE),
+                Act::Waits(Gate::Handed(257)),
+                Act::Says(TWO),
+                Act::Waits(Gate::Told(MANY)),
+                Act::Ends,
+            ],
+            taking: Taking::Told(Gate::Open, &[]),
+        },
+        Script {
+            acts: &[Act::Ends],
+            taking: Taking::Told(Gate::Shown(0, 2), &MANY_KEYS),
+        },
+    ],
+    may_end: true,
+    end: End {
+        fault: 0,
+        links: 1,
+        last: 2,
+    },
+};
+
+/// The first viewer of a place presses key 97, and its link fails inside an answer. The second presses key 98 and ends.
+/// What the first held down is released, and the second begins anew.
+const PLACE_AGAIN: Course = Course {
+    name: "place_is_used_again",
+    black: 0,
+    places: &[&[
+        Script {
+            acts: &[Act::Says(HELLO), Act::Says(PRESS_97), Act::AsksFor(1)],
+            taking: Taking::Breaks,
+        },
+        Script {
+            acts: &[Act::Says(HELLO), Act::Says(PRESS_98), Act::Ends],
+            taking: Taking::AtOnce,
+        },
+    ]],
+    hosts: &[
+        Script {
+            acts: &[Act::Says(ONE), Act::Waits(Gate::Told(4)), Act::Ends],
+            taking: Taking::Told(Gate::Open, &[]),
+        },
+        Script {
+            acts: &[Act::Ends],
+            taking: Taking::Told(Gate::Open, &TWO_KEYS),
+        },
+    ],
+    may_end: true,
+    end: End {
+        fault: 0,
+        links: 1,
+        last: 1,
+    },
+};
+
+/// A first host ends once the viewer was shown its one update. Hosts that can't be joined are passed over. One of the
+/// same size sends one update, and ends once that was shown. The last is one column wider: it ends the run, and turns
+/// nothing black. The viewer sees numbers that don't fall, none above 3.
+const WIDER_THIRD: Course = Course {
+    name: "third_host_is_one_column_wider",
+    black: BLACK,
+    places: &[&[WATCHES]],
+    hosts: &[
+        SENDS_ONE,
+        IS_TOLD,
+        ENDS,
+        IS_TOLD,
+        FAILS,
+        IS_TOLD,
+        OFFERS_NO_NONE,
+        IS_TOLD,
+        REFUSES,
+        IS_TOLD,
+        IS_OLD,
+        IS_TOLD,
+        Script {
+            acts: &[
+                Act::Says(WELCOME),
+                Act::Waits(Gate::Shown(0, 2)),
+                Act::Says(THREE),
+                Act::Waits(Gate::Shown(0, 3)),
+                Act::Ends,
+            ],
+            taking: Taking::Joins,
+        },
+        IS_TOLD,
+        Script {
+            acts: &[Act::Says(WIDER), Act::Ends],
+            taking: Taking::Joins,
+        },
+        IS_TOLD,
+    ],
+    may_end: false,
+    end: End {
+        fault: 5,
+        links: 2,
+        last: 3,
+    },
+};
+
+/// The first host sends an update, and then one of an encoding that wasn't asked for: a fault of its bytes ends the
+/// run. Another host would be there.
+const HOST_AT_FAULT: Course = Course {
+    name: "fault_takes_no_next_host",
+    black: BLACK,
+    places: &[&[WATCHES]],
+    hosts: &[
+        Script {
+            acts: &[
+                Act::Says(ONE),
+                Act::Waits(Gate::Shown(0, 1)),
+                Act::Says(UNKNOWN),
+                Act::Ends,
+            ],
+            taking: Taking::Told(Gate::Open, &[]),
+        },
+        IS_TOLD,
+        Script {
+            acts: &[Act::Says(WELCOME), Act::Says(THREE), Act::Ends],
+            taking: Taking::Joins,
+        },
+        IS_TOLD,
+    ],
+    may_end: false,
+    end: End {
+        fault: 8,
+        links: 1,
+        last: 1,
+    },
+};
+
+/// The first host ends, and the only other one inside its handshake. With no host left the run ends with the last
+/// answer, and the screen stays as it was.
+const NO_HOST_LEFT: Course = Course {
+    name: "last_answer_ends_the_run",
+    black: BLACK,
+    places: &[&[WATCHES]],
+    hosts: &[SENDS_ONE, IS_TOLD, ENDS, IS_TOLD],
+    may_end: true,
+    end: End {
+        fault: 22,
+        links: 1,
+        last: 1,
+    },
+};
+
+/// Each of the runs.
+static COURSES: [Course; 7] = [
+    HELD_VIEWER,
+    STALLED_VIEWERS,
+    FULL_RELAY,
+    PLACE_AGAIN,
+    WIDER_THIRD,
+    HOST_AT_FAULT,
+    NO_HOST_LEFT,
+];
+
+/// Each of the runs goes as it has to. The first that doesn't is named.
+#[test]
+fn runs_go_right(rt: HostRuntime) -> Result<(), Fail> {
+    for course in &COURSES {
+        if !goes_right(rt, rt.alloc(), course)? {
+            return Err(Fail::new(course.name));
+        }
+    }
+    Ok(())
+}

@@ -1,0 +1,194 @@
+//! A run, and what it leaves.
+
+ghost use Rattle.std.specs.Prelude.{◌≡◌, ◌≤◌, All, vec_len, IfOk};
+ghost use Rattle.input_relay.specs.Ends.{host_of, relay_of};
+
+use crate::runs::board::Board;
+use crate::runs::peer::Script;
+use crate::runs::queue::Queue;
+use crate::runs::wire::Wire;
+use arrayvec::ArrayVec;
+use host_turns::Hosts;
+use input_relay::settle;
+use link::Link;
+use pixel_format::Fault;
+use raster::Rect;
+use reflect_core::{Cut, ScreenSource};
+use reflector::{Place, Running, run_all};
+use rfb_wire::Joined;
+use roles::Role;
+use serving::NoBell;
+use shared_screen::{Publisher, Watcher};
+use std::alloc::Global;
+use std::marker::Brand;
+use std::sync::atomic::Ordering;
+use std::sync::{Arc, Wait};
+use std::test::Fail;
+use std::thread::Threads;
+use std::time::Clock;
+use tally_word::{Naming, Opened};
+use tiles::Have;
+
+const ALL: Rect = Rect {
+    x: 0,
+    y: 0,
+    w: 2,
+    h: 1,
+};
+
+/// How a run is to end: with a fault of this number, or with none, 0; with this many links handed back; and with this
+/// update, its last.
+pub(crate) struct End {
+    pub(crate) fault: u64,
+    pub(crate) links: usize,
+    pub(crate) last: u64,
+}
+
+/// A run: which update turns the screen black, the viewers of each place, the two ends of each host, and how it is to
+/// end.
+pub(crate) struct Course {
+    pub(crate) name: &'static str,
+    pub(crate) black: u64,
+    pub(crate) places: &'static [&'static [Script]],
+    pub(crate) hosts: &'static [Script],
+    /// Whether another host may be asked for after the last.
+    pub(crate) may_end: bool,
+    pub(crate) end: End,
+}
+
+/// Whether a watcher that meets the publisher cuts the last update, colour n all over.
+fn shows<J: Naming, R: Wait + Drop>(
+    alloc: Global,
+    publisher: &Publisher<J, R>,
+    watcher: &mut Watcher<J>,
+    last: u64,
+) -> Result<bool, Fault>
+    requires { (2 ≡ J.width) × (1 ≡ J.height) }
+{
+    let have = Have::new(alloc, 2, 1)?;
+    let mut cut = Cut::new(alloc, 2, 1)?;
+    watcher.meet(publisher);
+    let number = watcher.cut(&ALL, &have, &mut cut)?;
+    Ok(match cut.colours.as_slice() {
+        [one, two] => number == last && u64::from(*one) == last && u64::from(*two) == last,
+        _ => false,
+    })
+}
+
+/// Whether the run ended as it is to, each place shows the last update, and nothing is left of the input.
+fn ends<J, L, R>(
+    rt: R,
+    alloc: Global,
+    running: Running<L, Publisher<J, R>, Watcher<J>, R>,
+    end: &End,
+) -> Result<bool, Fail>
+where
+    J: Naming + Send + Sync + 'static,
+    L: Link,
+    R: Threads + Wait + Drop + Copy,
+    requires screen { (2 ≡ J.width) × (1 ≡ J.height) }
+    requires relay { All (λ place. relay_of place.promise.0.value ≡ host_of running.taker) running.places.items }
+{
+    let Running {
+        result,
+        links,
+        publisher,
+        taker,
+        places,
+    } = running;
+    let fault = match &result {
+        Ok(()) => 0,
+        Err(fault) => fault.number(),
+    };
+    let mut is_right = fault == end.fault && links.len() == end.links;
+    let mut senders = Vec::new(alloc);
+    for place in places {
+        let Place {
+            mut watcher,
+            sender,
+        } = place.join(&rt);
+        let shown = shows(alloc, &publisher, &mut watcher, end.last);
+        is_right = matches!(shown, Ok(true)) && is_right;
+        senders.push(sender)?;
+    }
+    let mut settled = settle(senders, taker);
+    Ok(is_right && settled.next().is_none())
+}
+
+/// The doors of the places, no fewer than one and no more than 64.
+fn doors_of(
+    alloc: Global,
+    board: &Arc<Board, Global>,
+    course: &Course,
+) -> Result<Vec<(Role, Queue)>, Fault>
+    ensures { IfOk result (λ doors. (1 ≤ vec_len doors) × (vec_len doors ≤ 64)) }
+{
+    let mut doors = Vec::new(alloc);
+    for (place, scripts) in course.places.iter().enumerate() {
+        let queue = Queue {
+            alloc,
+            board: Arc::try_clone(board)?,
+            place,
+            scripts,
+            may_end: true,
+        };
+        doors.push((Role::Full, queue))?;
+    }
+    match doors.len() {
+        1..=64 => Ok(doors),
+        _ => Err(Fault::NoPlace),
+    }
+}
+
+/// A run over a history that J names.
+fn over<J, R>(
+    rt: R,
+    alloc: Global,
+    history: Opened,
+    board: &Arc<Board, Global>,
+    course: &Course,
+) -> Result<bool, Fail>
+where
+    J: Naming + Send + Sync + 'static,
+    R: Threads + Wait + Clock + Copy + Drop + Send + 'static,
+    requires { (history.seen.book ≡ J.book) × (2 ≡ J.width) × (1 ≡ J.height) }
+{
+    let mut name = ArrayVec::new();
+    name.push(b'T');
+    let everyone = Arc::new(alloc, NoBell)?;
+    let bell = Arc::new(alloc, NoBell)?;
+    let mut hosts = Queue {
+        alloc,
+        board: Arc::try_clone(board)?,
+        place: 0,
+        scripts: course.hosts,
+        may_end: course.may_end,
+    };
+    let doors = doors_of(alloc, board, course)?;
+    let Some((reader, writer)) = Hosts::next(&mut hosts) else {
+        return Ok(false);
+    };
+    let running = run_all::<J, Wire, Queue, Queue, NoBell, NoBell, R>(
+        rt,
+        alloc,
+        history,
+        reader,
+        writer,
+        Joined { w: 2, h: 1, name },
+        hosts,
+        doors,
+        everyone,
+        bell,
+    )?;
+    ends(rt, alloc, running, &course.end)
+}
+
+/// Whether a run goes as it has to.
+pub(crate) fn goes_right<R>(rt: R, alloc: Global, course: &Course) -> Result<bool, Fail>
+where
+    R: Threads + Wait + Clock + Copy + Drop + Send + 'static,
+{
+    let board = Board::new(alloc, course.black)?;
+    let is_right = over::<Brand, R>(rt, alloc, Opened::new(), &board, course)?;
+    Ok(is_right && board.flaws.load(Ordering::SeqCst) == 0)
+}

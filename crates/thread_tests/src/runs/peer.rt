@@ -1,0 +1,170 @@
+//! A peer at the other end of a link: a viewer, or an end of a host.
+
+use crate::runs::board::{Board, Gate};
+use crate::runs::bytes::{ANSWER, ANSWER_LEN, ASK, GREETING, PRESS, RELEASE};
+use link::{Gave, Took};
+use std::alloc::Global;
+use std::sync::Arc;
+use std::sync::atomic::Ordering;
+use std::thread;
+
+/// A key event (RFC 6143, 7.5.4).
+pub(crate) type Key = [u8; 8];
+
+/// What a peer does.
+pub(crate) enum Act {
+    /// Sends these bytes.
+    Says(&'static [u8]),
+    /// Holds the call until the gate is open.
+    Waits(Gate),
+    /// Asks, again after each answer, until it was shown this colour.
+    AsksFor(u64),
+    /// Hands out this many key events, one at a time: key 65 is pressed and released by turns.
+    Types(u64),
+    /// Ends.
+    Ends,
+}
+
+/// How a peer takes what it is given. A viewer takes all of its greeting at once.
+pub(crate) enum Taking {
+    /// A viewer: all of it at once.
+    AtOnce,
+    /// A viewer: nothing of it until the gate is open.
+    Stalls(Gate),
+    /// A viewer: each `give` is held until the gate is open.
+    Held(Gate),
+    /// A viewer: one byte at the first `give`. At the second one its link fails.
+    Breaks,
+    /// A host that hears a handshake out. It wants no key event.
+    Joins,
+    /// A host that is told: it wants to be asked for the screen, and these key events, by twos. The first of them it
+    /// takes only once the gate is open.
+    Told(Gate, &'static [[Key; 2]]),
+}
+
+/// What a peer does, one act after another and then nothing more, and how it takes what it is given.
+pub(crate) struct Script {
+    pub(crate) acts: &'static [Act],
+    pub(crate) taking: Taking,
+}
+
+/// A peer of one place, or of none.
+#[derive(Drop)]
+pub(crate) struct Peer {
+    pub(crate) board: Arc<Board, Global>,
+    pub(crate) place: usize,
+    pub(crate) script: &'static Script,
+    /// The number of its next act.
+    pub(crate) next: usize,
+    /// What is left of the bytes that it sends.
+    pub(crate) left: &'static [u8],
+    /// How often it asked, how many key events it handed out, and how many answers it was given whole.
+    pub(crate) asked: usize,
+    pub(crate) typed: u64,
+    pub(crate) answers: usize,
+    pub(crate) heard: Vec<u8>,
+}
+
+impl Peer {
+    /// Begins its next act, or goes on with it: what it sends of that, and whether the act is done. An act that is held
+    /// too long fails, and after an end there is nothing more.
+    fn act(&mut self) -> Result<bool, Took> {
+        match self.script.acts.get(self.next) {
+            Some(Act::Says(bytes)) => {
+                self.left = bytes;
+                Ok(true)
+            }
+            Some(Act::Waits(gate)) if self.board.hold(gate) => Ok(true),
+            Some(Act::Waits(_)) => Err(Took::Failed),
+            Some(Act::AsksFor(colour)) => {
+                let was_shown = self.board.is_open(&Gate::Shown(self.place, *colour));
+                if !was_shown && self.asked <= self.answers {
+                    self.asked = self.asked.wrapping_add(1);
+                    self.left = ASK;
+                }
+                Ok(was_shown)
+            }
+            Some(Act::Types(count)) if self.typed < *count => {
+                self.typed = self.typed.wrapping_add(1);
+                let _ = self.board.handed.fetch_add(1, Ordering::SeqCst);
+                self.left = if self.typed % 2 == 1 { PRESS } else { RELEASE };
+                Ok(false)
+            }
+            Some(Act::Types(_)) => Ok(true),
+            Some(Act::Ends) => Err(Took::End),
+            None => Ok(false),
+        }
+    }
+
+    /// The bytes that it sends, at the front of the slice: as many as there is room for. The others are left.
+    pub(crate) fn speak(&mut self, into: &mut [u8]) -> Took {
+        if self.left.is_empty() {
+            match self.act() {
+                Ok(true) => self.next = self.next.wrapping_add(1),
+                Ok(false) => {}
+                Err(took) => return took,
+            }
+        }
+        if self.left.is_empty() {
+            thread::yield_now();
+            return Took::Nothing;
+        }
+        let count = self.left.len().min(into.len());
+        let (now, later) = self.left.split_at(count);
+        let (front, _) = into.split_at_mut(count);
+        front.copy_from_slice(now);
+        self.left = later;
+        Took::Bytes(count)
+    }
+
+    /// Takes these bytes, as a viewer, and looks at the next answer, if it is whole: both of its colours are the same.
+    fn keep(&mut self, bytes: &[u8]) -> Gave {
+        if self.heard.extend_from_slice(bytes).is_err() {
+            self.board.check(false);
+            return Gave::Failed;
+        }
+        let start = GREETING
+            .len()
+            .saturating_add(self.answers.saturating_mul(ANSWER_LEN));
+        if let Some(answer) = self.heard.get(start..)
+            && ANSWER_LEN <= answer.len()
+        {
+            self.answers = self.answers.wrapping_add(1);
+            let (head, colours) = answer.split_at(ANSWER.len());
+            self.board.check(head == ANSWER && colours[0] == colours[4]);
+            self.board.show(self.place, u64::from(colours[0]));
+        }
+        Gave::Bytes(bytes.len())
+    }
+
+    /// How many of these bytes it takes.
+    pub(crate) fn hear(&mut self, bytes: &[u8]) -> Gave {
+        let is_greeted = GREETING.len() <= self.heard.len();
+        let is_key = bytes.first() == Some(&4);
+        match &self.script.taking {
+            Taking::Stalls(gate) if is_greeted && !self.board.is_open(gate) => {
+                thread::yield_now();
+                return Gave::Nothing;
+            }
+            Taking::Held(gate) if is_greeted && !self.board.hold(gate) => return Gave::Failed,
+            Taking::Breaks if GREETING.len() < self.heard.len() => return Gave::Failed,
+            Taking::Breaks if is_greeted => {
+                let (first, _) = bytes.split_at(bytes.len().min(1));
+                return self.keep(first);
+            }
+            Taking::Told(gate, _) if is_key && !self.board.hold(gate) => return Gave::Failed,
+            Taking::Told(_, keys) if is_key => {
+                let number = self.board.told.fetch_add(1, Ordering::SeqCst);
+                self.board.check(match keys.get(number as usize / 2) {
+                    Some(pair) => pair[number as usize % 2].as_slice() == bytes,
+                    None => false,
+                });
+            }
+            // What isn't a key event asks for the screen.
+            Taking::Told(..) => self.board.check(bytes.first() == Some(&3)),
+            Taking::Joins => self.board.check(!is_key),
+            _ => return self.keep(bytes),
+        }
+        Gave::Bytes(bytes.len())
+    }
+}

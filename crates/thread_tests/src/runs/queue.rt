@@ -1,0 +1,90 @@
+//! Peers that come one after another: the viewers of a place, and the hosts.
+
+use crate::runs::board::Board;
+use crate::runs::bytes::GREETING;
+use crate::runs::peer::{Peer, Script, Taking};
+use crate::runs::wire::Wire;
+use host_turns::Hosts;
+use pixel_format::Fault;
+use rfb_wire::Joined;
+use serving::Door;
+use std::alloc::Global;
+use std::sync::Arc;
+
+/// One peer after another, by their scripts: the viewers of a place; or of each host the end that is read, and then
+/// the end that is told. Where a host is asked for though no more are to be taken, something is wrong.
+#[derive(Drop)]
+pub(crate) struct Queue {
+    pub(crate) alloc: Global,
+    pub(crate) board: Arc<Board, Global>,
+    pub(crate) place: usize,
+    pub(crate) scripts: &'static [Script],
+    /// Whether another host may be asked for where none is left.
+    pub(crate) may_end: bool,
+}
+
+impl Queue {
+    ghost use Rattle.std.specs.Prelude.{◌≡◌, IfSome};
+    ghost use Rattle.serving.specs.Answers.{unused};
+
+    /// A link to the next peer.
+    fn wire(&mut self) -> Option<Wire>
+        ensures { IfSome result (λ wire. wire ≡ unused) }
+    {
+        let (script, later) = self.scripts.split_first()?;
+        self.scripts = later;
+        let board = Arc::try_clone(&self.board).ok()?;
+        Some(Wire::new(Peer {
+            board,
+            place: self.place,
+            script,
+            next: 0,
+            left: b"",
+            asked: 0,
+            typed: 0,
+            answers: 0,
+            heard: Vec::new(self.alloc),
+        }))
+    }
+}
+
+impl Door for Queue {
+    type Viewer = Wire;
+
+    fn next(&mut self) -> Option<Wire> {
+        self.wire()
+    }
+
+    fn left(&mut self, viewer: Wire, _answers: u64, why: Result<(), Fault>) {
+        let is_right = match &viewer.peer.script.taking {
+            Taking::Breaks => matches!(why, Err(Fault::LinkFailed)),
+            _ => why.is_ok(),
+        };
+        let was_greeted = viewer.peer.heard.starts_with(GREETING);
+        self.board.check(is_right && was_greeted);
+    }
+}
+
+impl Hosts<Wire> for Queue {
+    ghost use Rattle.std.specs.Prelude.{◌≡◌, ⊤};
+    ghost use Rattle.serving.specs.Answers.{unused};
+
+    // It has done nothing.
+    ghost came = { λ wire. wire ≡ unused };
+
+    ghost are_out = { λ _. ⊤ };
+
+    fn next(&mut self) -> Option<(Wire, Wire)> {
+        match (self.wire(), self.wire()) {
+            (Some(reader), Some(writer)) => Some((reader, writer)),
+            _ => {
+                self.board.check(self.may_end);
+                None
+            }
+        }
+    }
+
+    fn joined(&mut self, _reader: &mut Wire, _host: &Joined) {}
+
+    fn left(&mut self, _reader: &mut Wire, _why: Result<(), Fault>) {}
+}

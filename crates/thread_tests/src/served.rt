@@ -1,0 +1,13 @@
+//! Tests of `serve` over loopback alone, a host and a viewer in threads, and `serve` between them, in which each wait
+//! ends; and of the lines that `settings` and `command_line` read.
+
+mod ending;
+mod host;
+mod lines;
+mod loopback;
+mod meeting;
+mod options;
+mod scene;
+mod turns;
+mod updates;
+mod viewer;

@@ -1,0 +1,29 @@
+//! A host that ends while a place of each role waits for news, and the host's writer for something to tell.
+
+use crate::served::host::{Ending, Host};
+use crate::served::scene::{Scene, Told, play_all};
+use crate::served::viewer::Viewer;
+use std::test::*;
+
+const SCENES: &[Scene] = &[Scene {
+    name: "the end of a host lets both viewers go",
+    told: Told::First,
+    again: None,
+    is_taken: false,
+    hosts: &[Host {
+        is_second: false,
+        from: 1,
+        to: 0,
+        ending: Ending::ClosesInLull(2),
+    }],
+    full: Viewer::IsLetGo,
+    view: Viewer::IsLetGo,
+    status: 0,
+}];
+
+/// The end of a host ends the wait of each place, so that its viewer is let go, and that of the writer, for which
+/// `serve` waits.
+#[test]
+fn end_of_a_host_ends_each_wait(rt: HostRuntime) -> Result<(), Fail> {
+    play_all(rt, rt.alloc(), SCENES)
+}

@@ -1,0 +1,47 @@
+//! Updates that reach a viewer.
+
+use crate::served::host::{Ending, Host};
+use crate::served::loopback::RED_AND_BLUE;
+use crate::served::scene::{Scene, Told, play_all};
+use crate::served::viewer::Viewer;
+use std::test::*;
+
+/// The host ends once its updates were shown, and so does `serve`, well.
+const SCENES: &[Scene] = &[
+    Scene {
+        name: "a viewer is greeted, and its answer is the host's update",
+        told: Told::First,
+        again: None,
+        is_taken: false,
+        hosts: &[Host {
+            is_second: false,
+            from: RED_AND_BLUE,
+            to: RED_AND_BLUE,
+            ending: Ending::Closes,
+        }],
+        full: Viewer::AsksForAll,
+        view: Viewer::Nobody,
+        status: 0,
+    },
+    // A wake-up that is lost would be seen after a read's longest wait.
+    Scene {
+        name: "a thousand updates each reach a viewer that asks for what is new",
+        told: Told::First,
+        again: None,
+        is_taken: false,
+        hosts: &[Host {
+            is_second: false,
+            from: 1,
+            to: 1_000,
+            ending: Ending::Closes,
+        }],
+        full: Viewer::Follows(1_000),
+        view: Viewer::Nobody,
+        status: 0,
+    },
+];
+
+#[test]
+fn updates_reach_a_viewer(rt: HostRuntime) -> Result<(), Fail> {
+    play_all(rt, rt.alloc(), SCENES)
+}
