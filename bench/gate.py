@@ -66,7 +66,9 @@ class Samples:
                 if "--crate-name" not in words:
                     continue
                 crate = words[words.index("--crate-name") + 1]
-                what = "edits" if "--incremental" in words else "tests" if "--test" in words else "proof"
+                # rt checks a crate with an edit in a folder of this name.
+                is_edited = (process / "cwd").readlink().name.startswith("rt-edit-")
+                what = "edits" if is_edited else "tests" if "--test" in words else "proof"
                 ticks = (process / "stat").read_text().rpartition(")")[2].split()
                 memory = (process / "status").read_text().partition("VmHWM:")[2].split()[0]
             except (OSError, IndexError):
