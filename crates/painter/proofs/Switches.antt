@@ -1,7 +1,7 @@
 -- A black screen of which all tiles are touched brings a switch, over whatever was shown before.
 use Rattle.std.proofs.Common.{◌≡◌, ℕ, ◌+◌, ◌-◌, ◌<◌, true, List, [], ◌∷◌, ◌++◌, sym, ap, subst, ◌∙◌, arith}
 use Rattle.std.specs.Prelude.{if◌then◌else◌}
-use Rattle.raster.specs.Screen.{Canvas, LooksLike, holds, lay, opening, tile_count, tile_rect, value_at, values_of, whole_screen}
+use Rattle.raster.specs.Screen.{Canvas, LooksLike, holds, opening, value_at, values_of, whole_screen}
 use Rattle.raster.specs.Update.{Paint, Paints, Put, Update, after_paints, paints_of}
 use Rattle.raster.specs.Switch.{switch}
 use Rattle.raster.proofs.Places.{holds_has, values_at}

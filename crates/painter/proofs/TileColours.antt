@@ -3,11 +3,13 @@
 use Rattle.std.proofs.Common.{◌≡◌, ℕ, zero, suc, ◌+◌, ◌*◌, ◌-◌, ◌/◌, ◌%◌, ◌<◌, ◌≤◌, Bool, true, false, List, [], ◌∷◌, ◌++◌, length, length-append, take, drop, map, All, get_or, inl, inr, refl, ap, sym, subst, ◌∙◌, arith, zero-add}
 use Rattle.std.specs.Prelude.{filter, if◌then◌else◌, min}
 use Rattle.std.specs.List.{flat_map, range_with_len, sum_by}
+use Rattle.std.specs.List.Sorted.{IsStrictlyIncreasing}
 use Rattle.std.proofs.Math.Nat.{add-mul, mod-lt, mul-add, mul-le-mul}
 use Rattle.std.proofs.Math.Seq.{drop-append_seam, take-append_seam}
 use Rattle.std.proofs.lemmas.Bool.{cases_lt}
 use Rattle.std.proofs.lemmas.List.Elements.{All-filter}
 use Rattle.std.proofs.lemmas.List.FromFn.{get_or-range_with_len, length-range_with_len, sum_by-map-range_with_len_more}
+use Rattle.std.proofs.lemmas.List.Kept.{IsStrictlyIncreasing-filter}
 use Rattle.std.proofs.lemmas.List.Sums.{sum_by-cons}
 use Rattle.std.proofs.lemmas.Nat.{div-add-mod', div-mul-add, mod-mul-add}
 use Rattle.raster.specs.declared.rect.Rect.{Rect}
@@ -15,7 +17,7 @@ use Rattle.raster.specs.Screen.{Canvas, part_of, tile_count, tile_rect, tiles_ac
 use Rattle.raster.specs.Update.{Paint, Put}
 use Rattle.raster.proofs.Places.{length_values}
 use Rattle.painter.specs.Painter.{Painting, colour_count, colours_in, colours_of, is_touched, tile_put, tile_puts, touched_below, worked}
-use Rattle.painter.specs.Patch.{AreTiles, tile_area, tile_paints}
+use Rattle.painter.specs.Patch.{AreTiles, AreTouchedTiles, tile_area, tile_paints}
 use Rattle.raster.specs.declared.tile.TheConstants.{TILE_SIDE}
 
 -- ---- they are the tiles of a patch
@@ -182,3 +184,37 @@ puts_few w h c passes lw =
     let none : min w (0 * TILE_SIDE) ≡ 0 = omega arith in
     let total : before w h down 0 ≡ w * h + 0 * min TILE_SIDE (h - down * TILE_SIDE) = ap (λ k. w * k + min w (0 * TILE_SIDE) * min TILE_SIDE (h - down * TILE_SIDE)) all ∙ ap (λ k. w * h + k * min TILE_SIDE (h - down * TILE_SIDE)) none in
     omega (arith, some_le_all colour_count (tile_put w h c) passes (range_with_len 0 n), sum_before w h c n lw, last, total)
+
+-- ---- all of a patch
+
+-- Numbers from 0 on rise.
+rising_range : (n : ℕ) → IsStrictlyIncreasing (range_with_len 0 n)
+rising_range n k lt =
+    let less : k + 1 < n = rw (length-range_with_len 0 n) at lt in
+    let one : get_or (range_with_len 0 n) k 0 ≡ k = get_or-range_with_len 0 n k 0 (omega (arith, less)) ∙ zero-add k in
+    let next : get_or (range_with_len 0 n) (k + 1) 0 ≡ k + 1 = get_or-range_with_len 0 n (k + 1) 0 less ∙ zero-add (k + 1) in
+    omega (arith, one, next)
+
+-- Tiles that are put have a colour for each of their positions.
+puts_count : (w h : ℕ) (c : Canvas) (ts : List ℕ) → colours_of (map (tile_put w h c) ts) ≡ sum_by (tile_area w h) ts
+puts_count w h c [] = refl
+puts_count w h c (t ∷ ts) =
+    let r : Rect = tile_rect w h t in
+    sum_by-cons colour_count (tile_put w h c t) (map (tile_put w h c) ts)
+    ∙ (ap (λ n. n + colours_of (map (tile_put w h c) ts)) (length_values r.w r.h (part_of r c)) ∙ (ap (λ n. tile_area w h t + n) (puts_count w h c ts) ∙ sym (sum_by-cons (tile_area w h) t ts)))
+
+-- What was touched is each tile once, with at most a colour for each position of the screen.
+pub are_touched_tiles : (screen : Painting) (ts colours : List ℕ) → 0 < screen.width → ts ≡ touched_below screen (tile_count screen.width screen.height)
+    → colours ≡ flat_map (λ t. colours_in (worked screen) (tile_rect screen.width screen.height t)) (touched_below screen (tile_count screen.width screen.height))
+    → AreTouchedTiles screen.width screen.height ts colours
+are_touched_tiles screen ts colours wide is_ts is_colours =
+    let n : ℕ = tile_count screen.width screen.height in
+    let all : List ℕ = touched_below screen n in
+    let area : sum_by (tile_area screen.width screen.height) ts ≡ sum_by (tile_area screen.width screen.height) all = ap (sum_by (tile_area screen.width screen.height)) is_ts in
+    let tiles : AreTiles screen.width screen.height ts colours = are_tiles screen ts colours is_ts is_colours in
+    record {
+      tiles = tiles;
+      rising = subst (λ (ks : List ℕ). IsStrictlyIncreasing ks) (sym is_ts) (IsStrictlyIncreasing-filter (is_touched screen) (range_with_len 0 n) (rising_range n));
+      few =
+          omega (arith, tiles.count, area, puts_count screen.width screen.height (worked screen) all, puts_few screen.width screen.height (worked screen) (is_touched screen) wide);
+    }

@@ -1,6 +1,7 @@
 -- What one whole message of the host changes on a screen.
 use Rattle.std.specs.Prelude.{◌≡◌, ℕ, ◌*◌, ◌<◌, ◌≤◌, Bool, true, false, List, [], ◌∷◌, length, take, drop, All, Option, Some, None}
 use Rattle.std.specs.List.{sum_by}
+use Rattle.std.specs.List.Sorted.{IsStrictlyIncreasing}
 use Rattle.raster.specs.Screen.{Canvas, LooksLike, tile_count, tile_rect, value_at}
 use Rattle.raster.specs.Update.{Paint, Put, Update, Paints, Bell, Cut, after_paints, paints_of}
 use Rattle.painter.specs.declared.patch.Change.{Change}
@@ -27,15 +28,21 @@ pub record AreTiles (w h : ℕ) (numbers colours : List ℕ) : Type 0 where
   pub there : All (λ t. t < tile_count w h) numbers
   pub count : length colours ≡ sum_by (tile_area w h) numbers
 
+-- They are each tile at most once, in rising order, with at most one colour for each position of the screen.
+pub record AreTouchedTiles (w h : ℕ) (numbers colours : List ℕ) : Type 0 where
+  pub tiles : AreTiles w h numbers colours
+  pub rising : IsStrictlyIncreasing numbers
+  pub few : length colours ≤ w * h
+
 -- The update that one in the code stands for.
 abbrev pub update_of : ℕ → ℕ → Change → Update
 update_of w h (code.Tiles numbers colours) = Paints (tile_paints w h numbers.items colours.items)
 update_of w h code.Bell = Bell
 update_of w h (code.Text text) = Cut text.items
 
--- Its tiles are of a screen of w by h; its text has at most 65,536 bytes.
+-- Its tiles are of a screen of w by h, each once; its text has at most 65,536 bytes.
 abbrev pub IsFor : ℕ → ℕ → Change → Type 0
-IsFor w h (code.Tiles numbers colours) = AreTiles w h numbers.items colours.items
+IsFor w h (code.Tiles numbers colours) = AreTouchedTiles w h numbers.items colours.items
 IsFor w h code.Bell = Unit {0}
 IsFor w h (code.Text text) = length text.items ≤ LONGEST_TEXT
 

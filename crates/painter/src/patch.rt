@@ -1,7 +1,7 @@
 //! What one whole message of the host changes on a screen.
 
 ghost use Rattle.std.specs.Prelude.{◌≡◌, ℕ, ◌<◌, ◌≤◌, ◌*◌, length, All, IfOk, IfErr, IfSome};
-ghost use Rattle.painter.specs.Patch.{AreTiles, ShowsOver, is_bell, text_of, tile_paints};
+ghost use Rattle.painter.specs.Patch.{AreTiles, AreTouchedTiles, ShowsOver, is_bell, text_of, tile_paints};
 ghost use Rattle.pixel_format.specs.declared.fault.Fault.TheVariants.{Memory};
 ghost use Rattle.pixel_format.specs.declared.limits.TheConstants.{LONGEST_TEXT};
 ghost use Rattle.raster.specs.Screen.{LooksLike, meets, tile_count, tile_rect, value_at};
@@ -74,10 +74,10 @@ fn touch_tiles(grid: &mut Grid, width: u64, height: u64, numbers: &[u64], n: u64
 }
 
 impl Patch {
-    /// Tiles that a FramebufferUpdate touched, by their numbers, with their colours, one tile after the other.
+    /// Tiles that a FramebufferUpdate touched, each once, by their numbers, with their colours, one tile after the other.
     pub(crate) fn of_tiles(width: u64, height: u64, numbers: Vec<u64>, colours: Vec<u32>) -> Self
         requires size { IsScreenSize width height }
-        requires tiles { AreTiles width height numbers.items colours.items }
+        requires tiles { AreTouchedTiles width height numbers.items colours.items }
         ensures { result ≡ record { width = width; height = height; update = Paints (tile_paints width height numbers.items colours.items) } }
     {
         Patch {
@@ -138,11 +138,11 @@ impl Patch {
         (self.width, self.height)
     }
 
-    /// The numbers of the tiles that it paints, and their colours, one whole tile after the other: none of a Bell or a
-    /// text.
+    /// The numbers of the tiles that it paints, rising, and their colours, one whole tile after the other, at most one
+    /// for each position of the screen: none of a Bell or a text.
     pub fn tiles(&self) -> (&[u64], &[u32])
         ensures paints { tile_paints self.now.width self.now.height result.0.now result.1.now ≡ paints_of self.now.update }
-        ensures tiles { AreTiles self.now.width self.now.height result.0.now result.1.now }
+        ensures tiles { AreTouchedTiles self.now.width self.now.height result.0.now result.1.now }
     {
         match &self.change {
             Change::Tiles(numbers, colours) => (numbers.as_slice(), colours.as_slice()),

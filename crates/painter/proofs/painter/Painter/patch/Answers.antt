@@ -5,7 +5,7 @@ use Rattle.raster.specs.Screen.{tile_count, tile_rect}
 use Rattle.painter.specs.Patch.{SizedUpdate, tile_paints}
 use Rattle.painter.specs.Same.{AreSameFrom}
 use Rattle.painter.specs.Painter.{Painting, colours_in, colours_of, is_touched, tile_puts, touched_below, worked}
-use Rattle.painter.proofs.TileColours.{are_tiles, patch_paints, puts_few}
+use Rattle.painter.proofs.TileColours.{are_touched_tiles, patch_paints, puts_few}
 use Rattle.painter.proofs.TilePuts.{patch_is_same}
 use Rattle.painter.proofs.painter.Painter.patch.Goals as goal
 
@@ -21,7 +21,8 @@ patch_of w h now ts colours made is wide high is_ts is_colours =
 pub of_tiles-requires-clause-tiles : goal.of_tiles-requires-clause-tiles
 of_tiles-requires-clause-tiles c =
     let now : Painting = c.args.self.now in
-    rw c.size-width.ensures.0 (rw c.size-width.ensures.1 (are_tiles now c.in_ok-numbers.numbers.items c.in_ok-numbers.colours.items c.in_ok-numbers.ensures.numbers c.in_ok-numbers.ensures.colours))
+    let wide : 0 < now.width = subst (λ (v : Painting). 0 < v.width) c.self.view_is (omega (arith, c.self.invariant.0.wide.0)) in
+    rw c.size-width.ensures.0 (rw c.size-width.ensures.1 (are_touched_tiles now c.in_ok-numbers.numbers.items c.in_ok-numbers.colours.items wide c.in_ok-numbers.ensures.numbers c.in_ok-numbers.ensures.colours))
 
 pub returns-clause-patch : goal.returns-clause-patch
 returns-clause-patch c =
