@@ -5,6 +5,7 @@ use Rattle.std.proofs.lemmas.List.{take_all}
 use Rattle.raster.specs.declared.rect.Rect.{Rect}
 use Rattle.raster.specs.Update.{Update}
 use Rattle.reflect_core.specs.Asked.{pending, last_cut}
+use Rattle.reflect_core.specs.Plain.{Plain}
 use Rattle.viewer_session.specs.Record.{events}
 use Rattle.viewer_session.specs.Turn.{has_reason}
 use Rattle.viewer_session.specs.Viewer.{Setup, Viewer, after_cut}
@@ -20,14 +21,20 @@ reason_is s st p looked k =
     ∙ ap (λ (o : Option Rect). nat_lt (unwrap_or (last_cut es) 0) looked || (is_some o && st.asked.asked)) k.serves.keeps.asked.area
     ∙ ap (λ (b : Bool). nat_lt (unwrap_or (last_cut es) 0) looked || (is_some (pending es) && b)) k.serves.keeps.asked.asked
 
-counted_by : (old : Held) (session : State) (us : List Update) (looked : ℕ) (b : Bool) → wants_cut old.session.asked looked ≡ b → (wants_cut old.session.asked looked ≡ false → session ≡ old.session)
-    → (wants_cut old.session.asked looked ≡ true → CutsAt old.session session us (length us) (length us)) → HasCounted old.session us → HasCounted session us
-counted_by old session us looked true e idle cuts k = (cuts e).counted
-counted_by old session us looked false e idle cuts k = subst (λ (st : State). HasCounted st us) (sym (idle e)) k
+counted_by : {S : Type 0} (cutting : S → ℕ → S → Type 0) (screen : S) (old : Held) (session : State) (us : List Update) (looked : ℕ) (b : Bool) → wants_cut old.session.asked looked ≡ b → (wants_cut old.session.asked looked ≡ false → session ≡ old.session)
+    → (wants_cut old.session.asked looked ≡ true → CutsAt cutting screen screen old.session session us (length us) (length us)) → HasCounted old.session us → HasCounted session us
+counted_by cutting screen old session us looked true e idle cuts k = (cuts e).counted
+counted_by cutting screen old session us looked false e idle cuts k = subst (λ (st : State). HasCounted st us) (sym (idle e)) k
 
-pub has_turned : (old : Held) (session : State) (us : List Update) (looked : ℕ) → (wants_cut old.session.asked looked ≡ false → session ≡ old.session)
-    → (wants_cut old.session.asked looked ≡ true → CutsAt old.session session us (length us) (length us)) → HasTurned old (with_session old session) looked us
-has_turned old session us looked idle cuts =
+-- Whatever a turn does, a source for one thread stays as it is.
+pub screen_stays : (before after : Plain) (old new : State) (us : List Update) (least most : ℕ) (looked : ℕ) (b : Bool) → wants_cut old.asked looked ≡ b → (wants_cut old.asked looked ≡ false → after ≡ before)
+    → (wants_cut old.asked looked ≡ true → CutsAt (λ (a : Plain) number (c : Plain). (number ≡ length a.updates) × (c ≡ a)) before after old new us least most) → after ≡ before
+screen_stays before after old new us least most looked true e idle cuts = (cuts e).cut.1
+screen_stays before after old new us least most looked false e idle cuts = idle e
+
+pub has_turned : {S : Type 0} (cutting : S → ℕ → S → Type 0) (screen : S) (old : Held) (session : State) (us : List Update) (looked : ℕ) → (wants_cut old.session.asked looked ≡ false → session ≡ old.session)
+    → (wants_cut old.session.asked looked ≡ true → CutsAt cutting screen screen old.session session us (length us) (length us)) → HasTurned old (with_session old session) looked us
+has_turned cutting screen old session us looked idle cuts =
     record {
       others = refl;
       stays = λ s p k e. subst (λ (st : State). Stands s st (without_look p)) (sym (idle (reason_is s old.session p looked k ∙ e))) (stands_without_look s old.session p k);
@@ -35,5 +42,5 @@ has_turned old session us looked idle cuts =
           λ s p counted k e.
           let cut = cuts (reason_is s old.session p looked k ∙ e) in
           subst (λ (known : List Update). Stands s session (after_cut s known p)) (take_all cut.number us cut.fresh) (cut.stands s p counted k);
-      counted = counted_by old session us looked (wants_cut old.session.asked looked) refl idle cuts;
+      counted = counted_by cutting screen old session us looked (wants_cut old.session.asked looked) refl idle cuts;
     }

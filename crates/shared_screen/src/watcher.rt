@@ -8,7 +8,6 @@ ghost use Rattle.reflect_core.specs.Sequential.{Begins};
 ghost use Rattle.reflect_core.specs.Sequential as step;
 ghost use Rattle.reflect_core.specs.Source.{IsCutOf};
 ghost use Rattle.tally_word.specs.Reaches.{Reaches};
-ghost use Rattle.tally_word.proofs.Reaching.{reaches_itself, reaches_on};
 ghost use Rattle.tally_word.specs.History.{puts_of};
 
 use crate::news::News;
@@ -102,11 +101,7 @@ impl<J: Naming> ScreenSource for Watcher<J> {
 
     ghost looks = { λ old reply new. Reaches old (step.Look reply ∷ []) new };
 
-    ghost moves = { λ old new. Reaches old [] new };
-
-    ghost moves_none = { reaches_itself };
-
-    ghost moves_on = { reaches_on };
+    ghost cuts = { λ old number new. (number ≡ length new.updates) × Reaches old (step.Cut (view new.updates) ∷ []) new };
 
     fn size(&self) -> (u64, u64) {
         (self.width, self.height)
@@ -120,7 +115,6 @@ impl<J: Naming> ScreenSource for Watcher<J> {
         ensures grows { Begins self.old.updates self.new.updates }
         ensures near { (result ≤ length self.new.updates) × (length self.new.updates ≤ result + 1) }
         ensures history { Reaches self.old (step.Look result ∷ []) self.new }
-        ensures moves { Reaches self.old [] self.new }
     {
         let number = self.glance.look();
         let front = self.glance.front();
@@ -138,7 +132,6 @@ impl<J: Naming> ScreenSource for Watcher<J> {
         ensures rises { IfOk result (λ n. (self.old.tally ≤ n) × (self.old.tally ≤ self.new.tally) × (n ≤ self.new.tally + 1)) }
         ensures grows { Begins self.old.updates self.new.updates }
         ensures history { IfOk result (λ _. Reaches self.old (step.Cut (view self.new.updates) ∷ []) self.new) }
-        ensures moves { Reaches self.old [] self.new }
         ensures room { (into.new.width ≡ into.old.width) × (into.new.height ≡ into.old.height) }
         ensures gone { IfErr result (λ fault. (fault ≡ Gone) × (self.new ≡ self.old) × (into.new ≡ into.old)) }
     {

@@ -46,11 +46,11 @@ unread_by : (q : Viewer) (box : Unpassed) → q.waiting ≡ box.waiting → Wait
 unread_by q box waits (inl none) = inl none
 unread_by q box waits (inr some) = inr (ap is_some waits ∙ some)
 
-serves_with : {S : Type 0} (looks : S → ℕ → S → Type 0) (moves refused : S → S → Type 0) (may_end was_set : Type 0) (may_refuse : Fault → Type 0) (a c : S) (us : List Update) (s : Setup) (p : Viewer) (st : State) (box : Unpassed) (x y z : List Input)
-    (answer left final : Result (Unit {0}) Fault) (old now new : LinkState) → (k : HasServed looks moves refused may_end was_set may_refuse a c us s p st box x y answer old now) → new ≡ now → Leaves was_set may_refuse (waiting_list box.waiting ++ left_in st.held) y z left
-    → EndsServing refused may_end was_set may_refuse k.behind c s (viewer_after s us p k.acts) final old now → Serves looks moves refused may_end was_set may_refuse a c us s p x z final old new
-serves_with looks moves refused may_end was_set may_refuse a c us s p st box x y z answer left final old now new k same leaves ends =
-    subst (λ (l : LinkState). Serves looks moves refused may_end was_set may_refuse a c us s p x z final old l) (sym same)
+serves_with : {S : Type 0} (looks cuts : S → ℕ → S → Type 0) (may_end was_set : Type 0) (may_refuse : Fault → Type 0) (a c : S) (us : List Update) (s : Setup) (p : Viewer) (st : State) (box : Unpassed) (x y z : List Input)
+    (answer left final : Result (Unit {0}) Fault) (old now new : LinkState) → (k : HasServed looks cuts may_end was_set may_refuse a c us s p st box x y answer old now) → new ≡ now → Leaves was_set may_refuse (waiting_list box.waiting ++ left_in st.held) y z left
+    → EndsServing looks may_end was_set may_refuse k.behind c s (viewer_after s us p k.acts) final old now → Serves looks cuts may_end was_set may_refuse a c us s p x z final old new
+serves_with looks cuts may_end was_set may_refuse a c us s p st box x y z answer left final old now new k same leaves ends =
+    subst (λ (l : LinkState). Serves looks cuts may_end was_set may_refuse a c us s p x z final old l) (sym same)
     (record {
       acts = k.acts;
       behind = k.behind;
@@ -66,17 +66,17 @@ serves_with looks moves refused may_end was_set may_refuse a c us s p st box x y
     })
 
 -- It ended at a fault.
-pub serves_fault : {S : Type 0} (looks : S → ℕ → S → Type 0) (moves refused : S → S → Type 0) (may_end was_set : Type 0) (may_refuse : Fault → Type 0) (a c : S) (us : List Update) (s : Setup) (p : Viewer) (st : State) (box : Unpassed) (x y z : List Input)
-    (answer left : Result (Unit {0}) Fault) (old now new : LinkState) → HasServed looks moves refused may_end was_set may_refuse a c us s p st box x y answer old now → new ≡ now → Leaves was_set may_refuse (waiting_list box.waiting ++ left_in st.held) y z left
-    → Serves looks moves refused may_end was_set may_refuse a c us s p x z answer old new
-serves_fault looks moves refused may_end was_set may_refuse a c us s p st box x y z answer left old now new k same leaves =
-    serves_with looks moves refused may_end was_set may_refuse a c us s p st box x y z answer left answer old now new k same leaves k.ends
+pub serves_fault : {S : Type 0} (looks cuts : S → ℕ → S → Type 0) (may_end was_set : Type 0) (may_refuse : Fault → Type 0) (a c : S) (us : List Update) (s : Setup) (p : Viewer) (st : State) (box : Unpassed) (x y z : List Input)
+    (answer left : Result (Unit {0}) Fault) (old now new : LinkState) → HasServed looks cuts may_end was_set may_refuse a c us s p st box x y answer old now → new ≡ now → Leaves was_set may_refuse (waiting_list box.waiting ++ left_in st.held) y z left
+    → Serves looks cuts may_end was_set may_refuse a c us s p x z answer old new
+serves_fault looks cuts may_end was_set may_refuse a c us s p st box x y z answer left old now new k same leaves =
+    serves_with looks cuts may_end was_set may_refuse a c us s p st box x y z answer left answer old now new k same leaves k.ends
 
 -- It ended well, and all is as the leaving ended.
-pub serves_left : {S : Type 0} (looks : S → ℕ → S → Type 0) (moves refused : S → S → Type 0) (may_end was_set : Type 0) (may_refuse : Fault → Type 0) (a c : S) (us : List Update) (s : Setup) (p : Viewer) (st : State) (box : Unpassed) (x y z : List Input)
-    (left : Result (Unit {0}) Fault) (old now new : LinkState) → HasServed looks moves refused may_end was_set may_refuse a c us s p st box x y (Ok tt) old now → new ≡ now → Leaves was_set may_refuse (waiting_list box.waiting ++ left_in st.held) y z left
-    → Serves looks moves refused may_end was_set may_refuse a c us s p x z left old new
-serves_left looks moves refused may_end was_set may_refuse a c us s p st box x y z (Ok done) old now new k same leaves =
-    serves_with looks moves refused may_end was_set may_refuse a c us s p st box x y z (Ok tt) (Ok done) (Ok done) old now new k same leaves k.ends
-serves_left looks moves refused may_end was_set may_refuse a c us s p st box x y z (Err fault) old now new k same leaves =
-    serves_with looks moves refused may_end was_set may_refuse a c us s p st box x y z (Ok tt) (Err fault) (Err fault) old now new k same leaves (inl (k.ends.0, inr (inl leaves.why)))
+pub serves_left : {S : Type 0} (looks cuts : S → ℕ → S → Type 0) (may_end was_set : Type 0) (may_refuse : Fault → Type 0) (a c : S) (us : List Update) (s : Setup) (p : Viewer) (st : State) (box : Unpassed) (x y z : List Input)
+    (left : Result (Unit {0}) Fault) (old now new : LinkState) → HasServed looks cuts may_end was_set may_refuse a c us s p st box x y (Ok tt) old now → new ≡ now → Leaves was_set may_refuse (waiting_list box.waiting ++ left_in st.held) y z left
+    → Serves looks cuts may_end was_set may_refuse a c us s p x z left old new
+serves_left looks cuts may_end was_set may_refuse a c us s p st box x y z (Ok done) old now new k same leaves =
+    serves_with looks cuts may_end was_set may_refuse a c us s p st box x y z (Ok tt) (Ok done) (Ok done) old now new k same leaves k.ends
+serves_left looks cuts may_end was_set may_refuse a c us s p st box x y z (Err fault) old now new k same leaves =
+    serves_with looks cuts may_end was_set may_refuse a c us s p st box x y z (Ok tt) (Err fault) (Err fault) old now new k same leaves (inl (k.ends.0, inr (inl leaves.why)))

@@ -34,10 +34,10 @@ use Rattle.viewer_session.proofs.Passing.{passed_as, passed_begins, began_messag
 
 -- ---- more updates
 
-taken_more : (us known : List Update) (n : ℕ) → Begins us known → n ≤ length us → take n known ≡ take n us
+pub taken_more : (us known : List Update) (n : ℕ) → Begins us known → n ≤ length us → take n known ≡ take n us
 taken_more us known n b le = ap (take n) b.1 ∙ take-append-le n us b.0 le
 
-length_more : (us known : List Update) → Begins us known → length us ≤ length known
+pub length_more : (us known : List Update) → Begins us known → length us ≤ length known
 length_more us known b = omega (arith, ap length b.1, length-append us b.0)
 
 cuts_more : (s : Setup) (us known : List Update) (p : Viewer) (looked : ℕ) (cut : Option ℕ) → Begins us known → CutsWell s us p looked cut → CutsWell s known p looked cut
@@ -57,11 +57,11 @@ act_same s us known p (Turn looked (Some n)) b k = ap (λ t. after_cut s t (afte
 act_same s us known p (Written count) b k = refl
 act_same s us known p Passed b k = refl
 
-after_same : (s : Setup) (us known : List Update) (p : Viewer) (acts : List Act) → Begins us known → AllMayBe s us p acts → viewer_after s known p acts ≡ viewer_after s us p acts
+pub after_same : (s : Setup) (us known : List Update) (p : Viewer) (acts : List Act) → Begins us known → AllMayBe s us p acts → viewer_after s known p acts ≡ viewer_after s us p acts
 after_same s us known p [] b k = refl
 after_same s us known p (act ∷ acts) b k = ap (after_act s known act) (after_same s us known p acts b k.0) ∙ act_same s us known (viewer_after s us p acts) act b k.1
 
-all_more : (s : Setup) (us known : List Update) (p : Viewer) (acts : List Act) → Begins us known → AllMayBe s us p acts → AllMayBe s known p acts
+pub all_more : (s : Setup) (us known : List Update) (p : Viewer) (acts : List Act) → Begins us known → AllMayBe s us p acts → AllMayBe s known p acts
 all_more s us known p [] b k = tt
 all_more s us known p (act ∷ acts) b k = (
   all_more s us known p acts b k.0,
@@ -133,12 +133,12 @@ abbrev pub IsTurned : Bool → Setup → Viewer → Type 0
 IsTurned true s p = IsBetween p → has_turned p.entries ≡ true
 IsTurned false s p = Unit {0}
 
-pub record IsServing {S : Type 0} (looks : S → ℕ → S → Type 0) (moves : S → S → Type 0) (source_old source_new : S) (us : List Update) (most : ℕ) (s : Setup) (p : Viewer) (st : State) (box : Unpassed) (sent_old sent_new : List Input) (is_offered : Bool) (old new : LinkState) : Type 0 where
+pub record IsServing {S : Type 0} (looks cuts : S → ℕ → S → Type 0) (source_old source_new : S) (us : List Update) (most : ℕ) (s : Setup) (p : Viewer) (st : State) (box : Unpassed) (sent_old sent_new : List Input) (is_offered : Bool) (old new : LinkState) : Type 0 where
   pub begun : (role : Role) × (greet : Bool) × (p ≡ new_viewer role greet)
   pub acts : List Act
   pub sent : List Input
   pub may_be : AllMayBe s us p acts
-  pub shown : IsShown looks moves source_old acts source_new
+  pub shown : IsShown looks cuts source_old acts source_new
   pub taken : new.taken ≡ old.taken ++ (bytes_in acts ++ box.unread)
   pub given : new.given ≡ old.given ++ take (viewer_after s us p acts).written (out_bytes s (viewer_after s us p acts))
   pub stands : Stands s st (without_input (viewer_after s us p acts))
@@ -149,9 +149,9 @@ pub record IsServing {S : Type 0} (looks : S → ℕ → S → Type 0) (moves : 
   pub counted : HasCounted st us
   pub turned : IsTurned is_offered s (viewer_after s us p acts)
 
-pub serving_begins : {S : Type 0} (looks : S → ℕ → S → Type 0) (moves : S → S → Type 0) (source : S) (us : List Update) (most : ℕ) (s : Setup) (role : Role) (greet : Bool) (st : State) (box : Unpassed) (sent : List Input) (link : LinkState)
-    → st.asked.last ≡ None → box ≡ all_passed → Stands s st (new_viewer role greet) → IsServing looks moves source source us most s (new_viewer role greet) st box sent sent false link link
-serving_begins looks moves source us most s role greet st box sent link uncut empty k =
+pub serving_begins : {S : Type 0} (looks cuts : S → ℕ → S → Type 0) (source : S) (us : List Update) (most : ℕ) (s : Setup) (role : Role) (greet : Bool) (st : State) (box : Unpassed) (sent : List Input) (link : LinkState)
+    → st.asked.last ≡ None → box ≡ all_passed → Stands s st (new_viewer role greet) → IsServing looks cuts source source us most s (new_viewer role greet) st box sent sent false link link
+serving_begins looks cuts source us most s role greet st box sent link uncut empty k =
     record {
       acts = [];
       begun = (role, greet, refl);
@@ -170,9 +170,9 @@ serving_begins looks moves source us most s role greet st box sent link uncut em
     }
 
 -- The link, the inbox and the sink are as they were.
-pub serving_still : {S : Type 0} (looks : S → ℕ → S → Type 0) (moves : S → S → Type 0) (a b : S) (us : List Update) (most : ℕ) (s : Setup) (p : Viewer) (st : State) (box next : Unpassed) (x y z : List Input) (is_offered : Bool) (old now new : LinkState)
-    → IsServing looks moves a b us most s p st box x y is_offered old now → next ≡ box → z ≡ y → new.taken ≡ now.taken → new.given ≡ now.given → IsServing looks moves a b us most s p st next x z is_offered old new
-serving_still looks moves a b us most s p st box next x y z is_offered old now new k same none e f =
+pub serving_still : {S : Type 0} (looks cuts : S → ℕ → S → Type 0) (a b : S) (us : List Update) (most : ℕ) (s : Setup) (p : Viewer) (st : State) (box next : Unpassed) (x y z : List Input) (is_offered : Bool) (old now new : LinkState)
+    → IsServing looks cuts a b us most s p st box x y is_offered old now → next ≡ box → z ≡ y → new.taken ≡ now.taken → new.given ≡ now.given → IsServing looks cuts a b us most s p st next x z is_offered old new
+serving_still looks cuts a b us most s p st box next x y z is_offered old now new k same none e f =
     record {
       begun = k.begun;
       acts = k.acts;
@@ -196,16 +196,16 @@ same_front xs ys more n e le = ap (take n) e ∙ take-append-le n xs more le
 -- ---- input goes on
 
 -- A turn is to be had again.
-pub serving_anew : {S : Type 0} (looks : S → ℕ → S → Type 0) (moves : S → S → Type 0) (a b : S) (us : List Update) (most : ℕ) (s : Setup) (p : Viewer) (st : State) (box : Unpassed) (x y : List Input) (is_offered : Bool) (old now : LinkState)
-    → IsServing looks moves a b us most s p st box x y is_offered old now → IsServing looks moves a b us most s p st box x y false old now
-serving_anew looks moves a b us most s p st box x y is_offered old now k =
+pub serving_anew : {S : Type 0} (looks cuts : S → ℕ → S → Type 0) (a b : S) (us : List Update) (most : ℕ) (s : Setup) (p : Viewer) (st : State) (box : Unpassed) (x y : List Input) (is_offered : Bool) (old now : LinkState)
+    → IsServing looks cuts a b us most s p st box x y is_offered old now → IsServing looks cuts a b us most s p st box x y false old now
+serving_anew looks cuts a b us most s p st box x y is_offered old now k =
     record { begun = k.begun; acts = k.acts; sent = k.sent; may_be = k.may_be; shown = k.shown; taken = k.taken; given = k.given; stands = k.stands; waiting = k.waiting; took = k.took; passed = k.passed; numbers = k.numbers; counted = k.counted; turned = tt }
 
-serving_passed_some : {S : Type 0} (looks : S → ℕ → S → Type 0) (moves : S → S → Type 0) (a b : S) (us : List Update) (most : ℕ) (s : Setup) (p : Viewer) (st : State) (box next : Unpassed) (o : Option Input) (x y z : List Input) (old now : LinkState)
-    → IsServing looks moves a b us most s p st box x y false old now → box.waiting ≡ o → next ≡ record box { waiting = None } → z ≡ y ++ waiting_list o → IsServing looks moves a b us most s p st next x z false old now
-serving_passed_some looks moves a b us most s p st box next None x y z old now k w same e =
-    serving_still looks moves a b us most s p st box next x y z false old now now k (same ∙ ap (λ (t : Option Input). record box { waiting = t }) (sym w)) (e ∙ append-nil y) refl refl
-serving_passed_some looks moves a b us most s p st box next (Some input) x y z old now k w same e =
+serving_passed_some : {S : Type 0} (looks cuts : S → ℕ → S → Type 0) (a b : S) (us : List Update) (most : ℕ) (s : Setup) (p : Viewer) (st : State) (box next : Unpassed) (o : Option Input) (x y z : List Input) (old now : LinkState)
+    → IsServing looks cuts a b us most s p st box x y false old now → box.waiting ≡ o → next ≡ record box { waiting = None } → z ≡ y ++ waiting_list o → IsServing looks cuts a b us most s p st next x z false old now
+serving_passed_some looks cuts a b us most s p st box next None x y z old now k w same e =
+    serving_still looks cuts a b us most s p st box next x y z false old now now k (same ∙ ap (λ (t : Option Input). record box { waiting = t }) (sym w)) (e ∙ append-nil y) refl refl
+serving_passed_some looks cuts a b us most s p st box next (Some input) x y z old now k w same e =
     let q : Viewer = viewer_after s us p k.acts in
     let waits : q.waiting ≡ Some input = k.waiting ∙ w in
     record {
@@ -225,15 +225,15 @@ serving_passed_some looks moves a b us most s p st box next (Some input) x y z o
       turned = tt;
     }
 
-pub serving_passed : {S : Type 0} (looks : S → ℕ → S → Type 0) (moves : S → S → Type 0) (may_refuse : Fault → Type 0) (a b : S) (us : List Update) (most : ℕ) (s : Setup) (p : Viewer) (st : State) (box next : Unpassed) (is_full : Bool) (x y z : List Input) (old now : LinkState)
-    → IsServing looks moves a b us most s p st box x y false old now → Passes may_refuse (Ok is_full) box next y z → IsServing looks moves a b us most s p st next x z false old now
-serving_passed looks moves may_refuse a b us most s p st box next true x y z old now k e = serving_still looks moves a b us most s p st box next x y z false old now now k e.1 e.2 refl refl
-serving_passed looks moves may_refuse a b us most s p st box next false x y z old now k e = serving_passed_some looks moves a b us most s p st box next box.waiting x y z old now k refl e.0 e.1
+pub serving_passed : {S : Type 0} (looks cuts : S → ℕ → S → Type 0) (may_refuse : Fault → Type 0) (a b : S) (us : List Update) (most : ℕ) (s : Setup) (p : Viewer) (st : State) (box next : Unpassed) (is_full : Bool) (x y z : List Input) (old now : LinkState)
+    → IsServing looks cuts a b us most s p st box x y false old now → Passes may_refuse (Ok is_full) box next y z → IsServing looks cuts a b us most s p st next x z false old now
+serving_passed looks cuts may_refuse a b us most s p st box next true x y z old now k e = serving_still looks cuts a b us most s p st box next x y z false old now now k e.1 e.2 refl refl
+serving_passed looks cuts may_refuse a b us most s p st box next false x y z old now k e = serving_passed_some looks cuts a b us most s p st box next box.waiting x y z old now k refl e.0 e.1
 
 -- Bytes were read.
-pub serving_read : {S : Type 0} (looks : S → ℕ → S → Type 0) (moves : S → S → Type 0) (a b : S) (us : List Update) (most : ℕ) (s : Setup) (p : Viewer) (st new : State) (box next : Unpassed) (x y : List Input) (is_offered : Bool) (old now : LinkState)
-    → IsServing looks moves a b us most s p st box x y is_offered old now → IsSameSession st new → Reads st new box next → IsServing looks moves a b us most s p new next x y false old now
-serving_read looks moves a b us most s p st new box next x y is_offered old now k same r =
+pub serving_read : {S : Type 0} (looks cuts : S → ℕ → S → Type 0) (a b : S) (us : List Update) (most : ℕ) (s : Setup) (p : Viewer) (st new : State) (box next : Unpassed) (x y : List Input) (is_offered : Bool) (old now : LinkState)
+    → IsServing looks cuts a b us most s p st box x y is_offered old now → IsSameSession st new → Reads st new box next → IsServing looks cuts a b us most s p new next x y false old now
+serving_read looks cuts a b us most s p st new box next x y is_offered old now k same r =
     let q : Viewer = viewer_after s us p k.acts in
     let none : q.waiting ≡ None = k.waiting ∙ r.none in
     let bare : without_input q ≡ q = ap (λ (o : Option Input). record q { waiting = o }) (sym none) in
@@ -259,16 +259,16 @@ serving_read looks moves a b us most s p st new box next x y is_offered old now 
       turned = tt;
     }
 
-read_if_any : {S : Type 0} (looks : S → ℕ → S → Type 0) (moves : S → S → Type 0) (a b : S) (us : List Update) (most : ℕ) (s : Setup) (p : Viewer) (st new : State) (box next : Unpassed) (x y : List Input) (old now : LinkState)
-    → IsServing looks moves a b us most s p st box x y false old now → IsSameSession st new → ReadsIfAny st new box next → IsServing looks moves a b us most s p new next x y false old now
-read_if_any looks moves a b us most s p st new box next x y old now k same (inl e) =
-    subst (λ (t : State). IsServing looks moves a b us most s p t next x y false old now) (sym e.0) (serving_still looks moves a b us most s p st box next x y y false old now now k e.1 refl refl refl)
-read_if_any looks moves a b us most s p st new box next x y old now k same (inr r) = serving_read looks moves a b us most s p st new box next x y false old now k same r
+read_if_any : {S : Type 0} (looks cuts : S → ℕ → S → Type 0) (a b : S) (us : List Update) (most : ℕ) (s : Setup) (p : Viewer) (st new : State) (box next : Unpassed) (x y : List Input) (old now : LinkState)
+    → IsServing looks cuts a b us most s p st box x y false old now → IsSameSession st new → ReadsIfAny st new box next → IsServing looks cuts a b us most s p new next x y false old now
+read_if_any looks cuts a b us most s p st new box next x y old now k same (inl e) =
+    subst (λ (t : State). IsServing looks cuts a b us most s p t next x y false old now) (sym e.0) (serving_still looks cuts a b us most s p st box next x y y false old now now k e.1 refl refl refl)
+read_if_any looks cuts a b us most s p st new box next x y old now k same (inr r) = serving_read looks cuts a b us most s p st new box next x y false old now k same r
 
-pub serving_relayed : {S : Type 0} (looks : S → ℕ → S → Type 0) (moves : S → S → Type 0) (may_refuse : Fault → Type 0) (a b : S) (us : List Update) (most : ℕ) (s : Setup) (p : Viewer) (st new : State) (box next : Unpassed) (is_full : Bool) (x y z : List Input) (old now : LinkState)
-    → IsServing looks moves a b us most s p st box x y false old now → IsSameSession st new → GoesOn may_refuse (Ok is_full) st new box next y z → IsServing looks moves a b us most s p new next x z false old now
-serving_relayed looks moves may_refuse a b us most s p st new box next is_full x y z old now k same g =
-    read_if_any looks moves a b us most s p st new g.0 next x z old now (serving_passed looks moves may_refuse a b us most s p st box g.0 is_full x y z old now k g.1) same g.2
+pub serving_relayed : {S : Type 0} (looks cuts : S → ℕ → S → Type 0) (may_refuse : Fault → Type 0) (a b : S) (us : List Update) (most : ℕ) (s : Setup) (p : Viewer) (st new : State) (box next : Unpassed) (is_full : Bool) (x y z : List Input) (old now : LinkState)
+    → IsServing looks cuts a b us most s p st box x y false old now → IsSameSession st new → GoesOn may_refuse (Ok is_full) st new box next y z → IsServing looks cuts a b us most s p new next x z false old now
+serving_relayed looks cuts may_refuse a b us most s p st new box next is_full x y z old now k same g =
+    read_if_any looks cuts a b us most s p st new g.0 next x z old now (serving_passed looks cuts may_refuse a b us most s p st box g.0 is_full x y z old now k g.1) same g.2
 
 -- ---- a turn
 
@@ -283,10 +283,10 @@ cut_front s us p le =
     let more : List ℕ = sent_at s.w s.h p.entries us in
     same_front (out_bytes s p) (out_bytes s (after_cut s us p)) more p.written (sym (append_assoc hello p.said_after more)) le
 
-pub serving_turns : {S : Type 0} (looks : S → ℕ → S → Type 0) (moves : S → S → Type 0) (a b c : S) (us known : List Update) (most now_most : ℕ) (s : Setup) (p : Viewer) (st next : State) (box : Unpassed) (x y : List Input) (w : Bool) (old now : LinkState)
-    → IsServing looks moves a b us most s p st box x y false old now → Begins us known → is_ready st ≡ true → (t : Turns looks moves b c st next known most now_most) → wants_cut st.asked t.looked ≡ w
-    → IsServing looks moves a c known now_most s p next box x y true old now
-serving_turns looks moves a b c us known most now_most s p st next box x y false old now k begins ready t none =
+pub serving_turns : {S : Type 0} (looks cuts : S → ℕ → S → Type 0) (a b c : S) (us known : List Update) (most now_most : ℕ) (s : Setup) (p : Viewer) (st next : State) (box : Unpassed) (x y : List Input) (w : Bool) (old now : LinkState)
+    → IsServing looks cuts a b us most s p st box x y false old now → Begins us known → is_ready st ≡ true → (t : Turns looks cuts b c st next known most now_most) → wants_cut st.asked t.looked ≡ w
+    → IsServing looks cuts a c known now_most s p next box x y true old now
+serving_turns looks cuts a b c us known most now_most s p st next box x y false old now k begins ready t none =
     let q : Viewer = viewer_after s us p k.acts in
     let bare : Viewer = without_input q in
     let same : viewer_after s known p k.acts ≡ q = after_same s us known p k.acts begins k.may_be in
@@ -300,22 +300,22 @@ serving_turns looks moves a b c us known most now_most s p st next box x y false
         all_more s us known p k.acts begins k.may_be,
         subst (λ v. MayBe s known v (Turn t.looked None)) (sym same) (sym (ready_is s st bare k.stands) ∙ ready, t.seen, sym (reason_is s st bare t.looked k.stands) ∙ none),
       );
-      shown = (b, t.behind, k.shown, t.replied, t.moved);
+      shown = (b, t.behind, k.shown, t.replied, (t.idle none).1);
       taken = k.taken;
       given = k.given ∙ ap (λ v. old.given ++ take v.written (out_bytes s v)) (sym after);
-      stands = subst (λ v. Stands s next (without_input v)) (sym after) (subst (λ u. Stands s u (after_look t.looked bare)) (sym (t.idle none)) (stands_saw s st bare t.looked k.stands));
+      stands = subst (λ v. Stands s next (without_input v)) (sym after) (subst (λ u. Stands s u (after_look t.looked bare)) (sym (t.idle none).0) (stands_saw s st bare t.looked k.stands));
       waiting = ap (λ (v : Viewer). v.waiting) after ∙ k.waiting;
       took = k.took;
       passed = subst (λ v. HasPassed v k.sent) (sym after) (passed_as q (after_look t.looked q) k.sent k.passed refl refl refl refl refl);
       numbers = subst (λ v. NumbersUpTo now_most v.entries) (sym after) (t.bounded, numbers_more most now_most q.entries le k.numbers);
-      counted = subst (λ u. HasCounted u known) (sym (t.idle none)) (counted_more st us known begins k.counted);
+      counted = subst (λ u. HasCounted u known) (sym (t.idle none).0) (counted_more st us known begins k.counted);
       turned = λ between. subst (λ (v : Viewer). has_turned v.entries ≡ true) (sym after) refl;
     }
-serving_turns looks moves a b c us known most now_most s p st next box x y true old now k begins ready t reason =
+serving_turns looks cuts a b c us known most now_most s p st next box x y true old now k begins ready t reason =
     let q : Viewer = viewer_after s us p k.acts in
     let bare : Viewer = without_input q in
     let same : viewer_after s known p k.acts ≡ q = after_same s us known p k.acts begins k.may_be in
-    let cut : CutsAt st next known (max most t.looked) now_most = t.cuts reason in
+    let cut : CutsAt cuts t.behind c st next known (max most t.looked) now_most = t.cut reason in
     let first : List Update = take cut.number known in
     let v : Viewer = after_cut s first (after_look t.looked q) in
     let after : after_cut s first (after_look t.looked (viewer_after s known p k.acts)) ≡ v = ap (λ u. after_cut s first (after_look t.looked u)) same in
@@ -332,7 +332,7 @@ serving_turns looks moves a b c us known most now_most s p st next box x y true 
         subst (λ u. MayBe s known u (Turn t.looked (Some cut.number))) (sym same)
             (sym (ready_is s st bare k.stands) ∙ ready, t.seen, (sym (reason_is s st bare t.looked k.stands) ∙ reason, cut.known, (omega (arith, fresh), numbers_more most cut.number q.entries (omega (arith, fresh)) k.numbers))),
       );
-      shown = (b, t.behind, k.shown, t.replied, t.moved);
+      shown = (b, t.behind, k.shown, t.replied, cut.cut);
       taken = k.taken;
       given = k.given ∙ (ap (λ t. old.given ++ t) (sym (cut_front s first (after_look t.looked q) k.stands.serves.written)) ∙ ap (λ u. old.given ++ take u.written (out_bytes s u)) (sym after));
       stands = subst (λ u. Stands s next (without_input u)) (sym after) (cut.stands s (after_look t.looked bare) (counted_more st us known begins k.counted) (stands_saw s st bare t.looked k.stands));
@@ -347,16 +347,16 @@ serving_turns looks moves a b c us known most now_most s p st next box x y true 
     }
 
 -- The same over more updates, of a source and a session that are the same.
-serving_known : {S : Type 0} (looks : S → ℕ → S → Type 0) (moves : S → S → Type 0) (a b c : S) (us known : List Update) (most now_most : ℕ) (s : Setup) (p : Viewer) (st next : State) (box : Unpassed) (x y : List Input) (is_offered : Bool) (old now : LinkState)
-    → IsServing looks moves a b us most s p st box x y is_offered old now → Begins us known → next ≡ st → c ≡ b → now_most ≡ most → IsServing looks moves a c known now_most s p next box x y is_offered old now
-serving_known looks moves a b c us known most now_most s p st next box x y is_offered old now k begins still there rises =
+serving_known : {S : Type 0} (looks cuts : S → ℕ → S → Type 0) (a b c : S) (us known : List Update) (most now_most : ℕ) (s : Setup) (p : Viewer) (st next : State) (box : Unpassed) (x y : List Input) (is_offered : Bool) (old now : LinkState)
+    → IsServing looks cuts a b us most s p st box x y is_offered old now → Begins us known → next ≡ st → c ≡ b → now_most ≡ most → IsServing looks cuts a c known now_most s p next box x y is_offered old now
+serving_known looks cuts a b c us known most now_most s p st next box x y is_offered old now k begins still there rises =
     let same : viewer_after s known p k.acts ≡ viewer_after s us p k.acts = after_same s us known p k.acts begins k.may_be in
     record {
       acts = k.acts;
       begun = k.begun;
       sent = k.sent;
       may_be = all_more s us known p k.acts begins k.may_be;
-      shown = subst (λ t. IsShown looks moves a k.acts t) (sym there) k.shown;
+      shown = subst (λ t. IsShown looks cuts a k.acts t) (sym there) k.shown;
       taken = k.taken;
       given = k.given ∙ ap (λ v. old.given ++ take v.written (out_bytes s v)) (sym same);
       stands = subst (λ t. Stands s t (without_input (viewer_after s known p k.acts))) (sym still) (subst (λ v. Stands s st (without_input v)) (sym same) k.stands);
@@ -369,9 +369,9 @@ serving_known looks moves a b c us known most now_most s p st next box x y is_of
     }
 
 -- Nothing is unsent, and it isn't ready, so it isn't between two messages.
-serving_unready : {S : Type 0} (looks : S → ℕ → S → Type 0) (moves : S → S → Type 0) (a b : S) (us : List Update) (most : ℕ) (s : Setup) (p : Viewer) (st : State) (box : Unpassed) (x y : List Input) (old now : LinkState)
-    → IsServing looks moves a b us most s p st box x y false old now → length st.unsent ≡ 0 → is_ready st ≡ false → IsServing looks moves a b us most s p st box x y true old now
-serving_unready looks moves a b us most s p st box x y old now k none ready =
+serving_unready : {S : Type 0} (looks cuts : S → ℕ → S → Type 0) (a b : S) (us : List Update) (most : ℕ) (s : Setup) (p : Viewer) (st : State) (box : Unpassed) (x y : List Input) (old now : LinkState)
+    → IsServing looks cuts a b us most s p st box x y false old now → length st.unsent ≡ 0 → is_ready st ≡ false → IsServing looks cuts a b us most s p st box x y true old now
+serving_unready looks cuts a b us most s p st box x y old now k none ready =
     record {
       begun = k.begun;
       acts = k.acts;
@@ -390,24 +390,24 @@ serving_unready looks moves a b us most s p st box x y old now k none ready =
     }
 
 -- A turn was offered.
-offered_if : {S : Type 0} (looks : S → ℕ → S → Type 0) (moves : S → S → Type 0) (a b c : S) (us known : List Update) (most now_most : ℕ) (s : Setup) (p : Viewer) (st next : State) (box : Unpassed) (x y : List Input) (is : Bool) (old now : LinkState)
-    → IsServing looks moves a b us most s p st box x y false old now → Begins us known → length st.unsent ≡ 0 → is_ready st ≡ is
-    → (is_ready st ≡ false → (next ≡ st) × (c ≡ b) × (now_most ≡ most)) → (is_ready st ≡ true → Turns looks moves b c st next known most now_most)
-    → IsServing looks moves a c known now_most s p next box x y true old now
-offered_if looks moves a b c us known most now_most s p st next box x y true old now k begins none ready idle turns =
+offered_if : {S : Type 0} (looks cuts : S → ℕ → S → Type 0) (a b c : S) (us known : List Update) (most now_most : ℕ) (s : Setup) (p : Viewer) (st next : State) (box : Unpassed) (x y : List Input) (is : Bool) (old now : LinkState)
+    → IsServing looks cuts a b us most s p st box x y false old now → Begins us known → length st.unsent ≡ 0 → is_ready st ≡ is
+    → (is_ready st ≡ false → (next ≡ st) × (c ≡ b) × (now_most ≡ most)) → (is_ready st ≡ true → Turns looks cuts b c st next known most now_most)
+    → IsServing looks cuts a c known now_most s p next box x y true old now
+offered_if looks cuts a b c us known most now_most s p st next box x y true old now k begins none ready idle turns =
     let t = turns ready in
-    serving_turns looks moves a b c us known most now_most s p st next box x y (wants_cut st.asked t.looked) old now k begins ready t refl
-offered_if looks moves a b c us known most now_most s p st next box x y false old now k begins none ready idle turns =
+    serving_turns looks cuts a b c us known most now_most s p st next box x y (wants_cut st.asked t.looked) old now k begins ready t refl
+offered_if looks cuts a b c us known most now_most s p st next box x y false old now k begins none ready idle turns =
     let same = idle ready in
-    serving_known looks moves a b c us known most now_most s p st next box x y true old now (serving_unready looks moves a b us most s p st box x y old now k none ready) begins same.0 same.1 same.2
+    serving_known looks cuts a b c us known most now_most s p st next box x y true old now (serving_unready looks cuts a b us most s p st box x y old now k none ready) begins same.0 same.1 same.2
 
-pub serving_offered : {S : Type 0} (looks : S → ℕ → S → Type 0) (moves refused : S → S → Type 0) (may_end : Type 0) (a b c : S) (us known : List Update) (most now_most : ℕ) (s : Setup) (p : Viewer) (st next : State) (box : Unpassed) (x y : List Input) (is_offered : Bool) (old now : LinkState)
-    → IsServing looks moves a b us most s p st box x y false old now → Begins us known → Offers looks moves refused may_end b c st next known most now_most (Ok is_offered)
-    → IsServing looks moves a c known now_most s p next box x y is_offered old now
-serving_offered looks moves refused may_end a b c us known most now_most s p st next box x y true old now k begins o =
-    offered_if looks moves a b c us known most now_most s p st next box x y (is_ready st) old now k begins o.0 refl o.1 o.2
-serving_offered looks moves refused may_end a b c us known most now_most s p st next box x y false old now k begins o =
-    serving_known looks moves a b c us known most now_most s p st next box x y false old now k begins o.1 o.2 o.3
+pub serving_offered : {S : Type 0} (looks cuts : S → ℕ → S → Type 0) (may_end : Type 0) (a b c : S) (us known : List Update) (most now_most : ℕ) (s : Setup) (p : Viewer) (st next : State) (box : Unpassed) (x y : List Input) (is_offered : Bool) (old now : LinkState)
+    → IsServing looks cuts a b us most s p st box x y false old now → Begins us known → Offers looks cuts may_end b c st next known most now_most (Ok is_offered)
+    → IsServing looks cuts a c known now_most s p next box x y is_offered old now
+serving_offered looks cuts may_end a b c us known most now_most s p st next box x y true old now k begins o =
+    offered_if looks cuts a b c us known most now_most s p st next box x y (is_ready st) old now k begins o.0 refl o.1 o.2
+serving_offered looks cuts may_end a b c us known most now_most s p st next box x y false old now k begins o =
+    serving_known looks cuts a b c us known most now_most s p st next box x y false old now k begins o.1 o.2 o.3
 
 -- ---- giving and taking
 
@@ -415,9 +415,9 @@ turned_still : (is_offered : Bool) (s : Setup) (p : Viewer) (n : ℕ) → IsTurn
 turned_still true s p n k = λ b. k (record { greeted = b.greeted; begins = b.begins })
 turned_still false s p n k = tt
 
-pub serving_said : {S : Type 0} (looks : S → ℕ → S → Type 0) (moves : S → S → Type 0) (a b : S) (us : List Update) (most : ℕ) (s : Setup) (p : Viewer) (st next : State) (box : Unpassed) (x y : List Input) (is_offered : Bool) (old now new : LinkState)
-    → IsServing looks moves a b us most s p st box x y is_offered old now → Says st next now new → IsServing looks moves a b us most s p next box x y is_offered old new
-serving_said looks moves a b us most s p st next box x y is_offered old now new k says =
+pub serving_said : {S : Type 0} (looks cuts : S → ℕ → S → Type 0) (a b : S) (us : List Update) (most : ℕ) (s : Setup) (p : Viewer) (st next : State) (box : Unpassed) (x y : List Input) (is_offered : Bool) (old now new : LinkState)
+    → IsServing looks cuts a b us most s p st box x y is_offered old now → Says st next now new → IsServing looks cuts a b us most s p next box x y is_offered old new
+serving_said looks cuts a b us most s p st next box x y is_offered old now new k says =
     let q : Viewer = viewer_after s us p k.acts in
     let left = unsent_left s st (without_input q) k.stands.serves in
     let within = says.within in
@@ -443,10 +443,10 @@ serving_said looks moves a b us most s p st next box x y is_offered old now new 
     }
 
 -- Bytes came.
-serving_took : {S : Type 0} (looks : S → ℕ → S → Type 0) (moves : S → S → Type 0) (a b : S) (us : List Update) (most : ℕ) (s : Setup) (p : Viewer) (st : State) (box next : Unpassed) (x y : List Input) (is_offered : Bool) (piece : List ℕ) (old now new : LinkState)
-    → IsServing looks moves a b us most s p st box x y is_offered old now → box ≡ all_passed → next.unread ≡ piece → next.waiting ≡ None → new.taken ≡ now.taken ++ piece → new.given ≡ now.given
-    → IsServing looks moves a b us most s p st next x y is_offered old new
-serving_took looks moves a b us most s p st box next x y is_offered piece old now new k empty all none e f =
+serving_took : {S : Type 0} (looks cuts : S → ℕ → S → Type 0) (a b : S) (us : List Update) (most : ℕ) (s : Setup) (p : Viewer) (st : State) (box next : Unpassed) (x y : List Input) (is_offered : Bool) (piece : List ℕ) (old now new : LinkState)
+    → IsServing looks cuts a b us most s p st box x y is_offered old now → box ≡ all_passed → next.unread ≡ piece → next.waiting ≡ None → new.taken ≡ now.taken ++ piece → new.given ≡ now.given
+    → IsServing looks cuts a b us most s p st next x y is_offered old new
+serving_took looks cuts a b us most s p st box next x y is_offered piece old now new k empty all none e f =
     let bytes : List ℕ = bytes_in k.acts in
     record {
       begun = k.begun;
@@ -468,22 +468,22 @@ serving_took looks moves a b us most s p st box next x y is_offered piece old no
     }
 
 -- They were read: a turn is to be had again.
-serving_heard_if : {S : Type 0} (looks : S → ℕ → S → Type 0) (moves : S → S → Type 0) (a b : S) (us : List Update) (most : ℕ) (s : Setup) (p : Viewer) (st next : State) (box after : Unpassed) (x y : List Input) (is_offered : Bool) (piece : List ℕ) (old now new : LinkState)
-    → IsServing looks moves a b us most s p st box x y is_offered old now → box ≡ all_passed → IsSameSession st next → new.taken ≡ now.taken ++ piece → new.given ≡ now.given → HasHeard piece st next after
-    → IsServing looks moves a b us most s p next after x y false old new
-serving_heard_if looks moves a b us most s p st next box after x y is_offered [] old now new k empty same e f h =
-    serving_anew looks moves a b us most s p next after x y is_offered old new
-    (subst (λ (t : State). IsServing looks moves a b us most s p t after x y is_offered old new) (sym h.0)
-    (serving_still looks moves a b us most s p st box after x y y is_offered old now new k (h.1 ∙ sym empty) refl (e ∙ append-nil now.taken) f))
-serving_heard_if looks moves a b us most s p st next box after x y is_offered (z ∷ zs) old now new k empty same e f h =
+serving_heard_if : {S : Type 0} (looks cuts : S → ℕ → S → Type 0) (a b : S) (us : List Update) (most : ℕ) (s : Setup) (p : Viewer) (st next : State) (box after : Unpassed) (x y : List Input) (is_offered : Bool) (piece : List ℕ) (old now new : LinkState)
+    → IsServing looks cuts a b us most s p st box x y is_offered old now → box ≡ all_passed → IsSameSession st next → new.taken ≡ now.taken ++ piece → new.given ≡ now.given → HasHeard piece st next after
+    → IsServing looks cuts a b us most s p next after x y false old new
+serving_heard_if looks cuts a b us most s p st next box after x y is_offered [] old now new k empty same e f h =
+    serving_anew looks cuts a b us most s p next after x y is_offered old new
+    (subst (λ (t : State). IsServing looks cuts a b us most s p t after x y is_offered old new) (sym h.0)
+    (serving_still looks cuts a b us most s p st box after x y y is_offered old now new k (h.1 ∙ sym empty) refl (e ∙ append-nil now.taken) f))
+serving_heard_if looks cuts a b us most s p st next box after x y is_offered (z ∷ zs) old now new k empty same e f h =
     let came : Unpassed = record { unread = z ∷ zs; waiting = None } in
-    serving_read looks moves a b us most s p st next came after x y is_offered old new
-    (serving_took looks moves a b us most s p st box came x y is_offered (z ∷ zs) old now new k empty refl refl e f) same h
+    serving_read looks cuts a b us most s p st next came after x y is_offered old new
+    (serving_took looks cuts a b us most s p st box came x y is_offered (z ∷ zs) old now new k empty refl refl e f) same h
 
-pub serving_heard : {S : Type 0} (looks : S → ℕ → S → Type 0) (moves : S → S → Type 0) (a b : S) (us : List Update) (most : ℕ) (s : Setup) (p : Viewer) (st next : State) (box after : Unpassed) (x y : List Input) (is_offered : Bool) (answer : Result Bool Fault) (old now new : LinkState)
-    → IsServing looks moves a b us most s p st box x y is_offered old now → box ≡ all_passed → IsSameSession st next → Hears answer st next after now new → IsServing looks moves a b us most s p next after x y false old new
-serving_heard looks moves a b us most s p st next box after x y is_offered answer old now new k empty same h =
-    serving_heard_if looks moves a b us most s p st next box after x y is_offered h.piece old now new k empty same h.taken h.given h.heard
+pub serving_heard : {S : Type 0} (looks cuts : S → ℕ → S → Type 0) (a b : S) (us : List Update) (most : ℕ) (s : Setup) (p : Viewer) (st next : State) (box after : Unpassed) (x y : List Input) (is_offered : Bool) (answer : Result Bool Fault) (old now new : LinkState)
+    → IsServing looks cuts a b us most s p st box x y is_offered old now → box ≡ all_passed → IsSameSession st next → Hears answer st next after now new → IsServing looks cuts a b us most s p next after x y false old new
+serving_heard looks cuts a b us most s p st next box after x y is_offered answer old now new k empty same h =
+    serving_heard_if looks cuts a b us most s p st next box after x y is_offered h.piece old now new k empty same h.taken h.given h.heard
 
 -- ---- the end
 
@@ -493,10 +493,10 @@ held_by s us p acts st lw lh begun may stands =
     subst (λ (q : Viewer). EachAnswerHolds s us (viewer_after s us q acts)) (sym begun.2)
     (holds_after_each_answer s lw lh us begun.0 begun.1 acts (subst (λ (q : Viewer). AllMayBe s us q acts) begun.2 may))
 
-served_by : {S : Type 0} (looks : S → ℕ → S → Type 0) (moves refused : S → S → Type 0) (may_end was_set : Type 0) (may_refuse : Fault → Type 0) (a b c : S) (us : List Update) (most : ℕ) (s : Setup) (p : Viewer) (st : State) (box : Unpassed) (x y : List Input) (is_offered : Bool) (answer : Result (Unit {0}) Fault) (old new : LinkState)
-    → (k : IsServing looks moves a b us most s p st box x y is_offered old new) → WaitsIfLeft box → EndsServing refused may_end was_set may_refuse b c s (viewer_after s us p k.acts) answer old new
-    → HasServed looks moves refused may_end was_set may_refuse a c us s p st box x y answer old new
-served_by looks moves refused may_end was_set may_refuse a b c us most s p st box x y is_offered answer old new k unread ends =
+served_by : {S : Type 0} (looks cuts : S → ℕ → S → Type 0) (may_end was_set : Type 0) (may_refuse : Fault → Type 0) (a b c : S) (us : List Update) (most : ℕ) (s : Setup) (p : Viewer) (st : State) (box : Unpassed) (x y : List Input) (is_offered : Bool) (answer : Result (Unit {0}) Fault) (old new : LinkState)
+    → (k : IsServing looks cuts a b us most s p st box x y is_offered old new) → WaitsIfLeft box → EndsServing looks may_end was_set may_refuse b c s (viewer_after s us p k.acts) answer old new
+    → HasServed looks cuts may_end was_set may_refuse a c us s p st box x y answer old new
+served_by looks cuts may_end was_set may_refuse a b c us most s p st box x y is_offered answer old new k unread ends =
     record {
       acts = k.acts;
       behind = b;
@@ -515,17 +515,17 @@ served_by looks moves refused may_end was_set may_refuse a b c us most s p st bo
     }
 
 -- The flag was set.
-pub served_stop : {S : Type 0} (looks : S → ℕ → S → Type 0) (moves refused : S → S → Type 0) (may_end was_set : Type 0) (may_refuse : Fault → Type 0) (a b : S) (us : List Update) (most : ℕ) (s : Setup) (p : Viewer) (st : State) (box : Unpassed) (x y : List Input) (is_offered : Bool) (old new : LinkState)
-    → IsServing looks moves a b us most s p st box x y is_offered old new → WaitsIfLeft box → was_set → new.failed ≡ old.failed → new.ended ≡ old.ended → HasServed looks moves refused may_end was_set may_refuse a b us s p st box x y (Ok tt) old new
-served_stop looks moves refused may_end was_set may_refuse a b us most s p st box x y is_offered old new k unread set f e = served_by looks moves refused may_end was_set may_refuse a b b us most s p st box x y is_offered (Ok tt) old new k unread (refl, f, inl (set, e))
+pub served_stop : {S : Type 0} (looks cuts : S → ℕ → S → Type 0) (may_end was_set : Type 0) (may_refuse : Fault → Type 0) (a b : S) (us : List Update) (most : ℕ) (s : Setup) (p : Viewer) (st : State) (box : Unpassed) (x y : List Input) (is_offered : Bool) (old new : LinkState)
+    → IsServing looks cuts a b us most s p st box x y is_offered old new → WaitsIfLeft box → was_set → new.failed ≡ old.failed → new.ended ≡ old.ended → HasServed looks cuts may_end was_set may_refuse a b us s p st box x y (Ok tt) old new
+served_stop looks cuts may_end was_set may_refuse a b us most s p st box x y is_offered old new k unread set f e = served_by looks cuts may_end was_set may_refuse a b b us most s p st box x y is_offered (Ok tt) old new k unread (refl, f, inl (set, e))
 
 -- The source has ended.
-pub served_gone : {S : Type 0} (looks : S → ℕ → S → Type 0) (moves refused : S → S → Type 0) (may_end was_set : Type 0) (may_refuse : Fault → Type 0) (a b c : S) (us known : List Update) (most least now_most : ℕ) (s : Setup) (p : Viewer) (st next : State) (box : Unpassed) (x y : List Input) (is_offered : Bool) (fault : Fault) (old new : LinkState)
-    → IsServing looks moves a b us most s p st box x y is_offered old new → WaitsIfLeft box → Begins us known → Offers looks moves refused may_end b c st next known least now_most (Err fault)
-    → HasServed looks moves refused may_end was_set may_refuse a c known s p next box x y (Err fault) old new
-served_gone looks moves refused may_end was_set may_refuse a b c us known most least now_most s p st next box x y is_offered fault old new k unread begins o =
-    subst (λ t. HasServed looks moves refused may_end was_set may_refuse a c known s p t box x y (Err fault) old new) (sym o.2)
-    (served_by looks moves refused may_end was_set may_refuse a b c known most s p st box x y is_offered (Err fault) old new (serving_known looks moves a b b us known most most s p st st box x y is_offered old new k begins refl refl refl) unread (inr (o.0, o.1, o.3)))
+pub served_gone : {S : Type 0} (looks cuts : S → ℕ → S → Type 0) (may_end was_set : Type 0) (may_refuse : Fault → Type 0) (a b c : S) (us known : List Update) (most least now_most : ℕ) (s : Setup) (p : Viewer) (st next : State) (box : Unpassed) (x y : List Input) (is_offered : Bool) (fault : Fault) (old new : LinkState)
+    → IsServing looks cuts a b us most s p st box x y is_offered old new → WaitsIfLeft box → Begins us known → Offers looks cuts may_end b c st next known least now_most (Err fault)
+    → HasServed looks cuts may_end was_set may_refuse a c known s p next box x y (Err fault) old new
+served_gone looks cuts may_end was_set may_refuse a b c us known most least now_most s p st next box x y is_offered fault old new k unread begins o =
+    subst (λ t. HasServed looks cuts may_end was_set may_refuse a c known s p t box x y (Err fault) old new) (sym o.2)
+    (served_by looks cuts may_end was_set may_refuse a b c known most s p st box x y is_offered (Err fault) old new (serving_known looks cuts a b b us known most most s p st st box x y is_offered old new k begins refl refl refl) unread (inr (o.0, o.1, o.3)))
 
 bare_halts : (fault : Fault) (s : Setup) (p : Viewer) (old new : LinkState) → LinkHalts fault s (without_input p) old new → LinkHalts fault s p old new
 bare_halts LinkEnded s p old new (rose, inl unsent) = (rose, inl unsent)
@@ -537,37 +537,37 @@ halts_on : (fault : Fault) (s : Setup) (p : Viewer) (old now new : LinkState) �
 halts_on fault s p old now new f e k = subst (λ n. HaltsBy fault s p old.failed new.failed n new.ended) e (subst (λ n. HaltsBy fault s p n new.failed now.ended new.ended) f k)
 
 -- The link halts.
-pub served_halt : {S : Type 0} (looks : S → ℕ → S → Type 0) (moves refused : S → S → Type 0) (may_end was_set : Type 0) (may_refuse : Fault → Type 0) (a b : S) (us : List Update) (most : ℕ) (s : Setup) (p : Viewer) (st : State) (box : Unpassed) (x y : List Input) (is_offered : Bool) (fault : Fault) (old now new : LinkState)
-    → IsServing looks moves a b us most s p st box x y is_offered old new → WaitsIfLeft box → now.failed ≡ old.failed → now.ended ≡ old.ended → ((t : Setup) (q : Viewer) → Stands t st q → LinkHalts fault t q now new)
-    → HasServed looks moves refused may_end was_set may_refuse a b us s p st box x y (Err fault) old new
-served_halt looks moves refused may_end was_set may_refuse a b us most s p st box x y is_offered fault old now new k unread f e halts =
+pub served_halt : {S : Type 0} (looks cuts : S → ℕ → S → Type 0) (may_end was_set : Type 0) (may_refuse : Fault → Type 0) (a b : S) (us : List Update) (most : ℕ) (s : Setup) (p : Viewer) (st : State) (box : Unpassed) (x y : List Input) (is_offered : Bool) (fault : Fault) (old now new : LinkState)
+    → IsServing looks cuts a b us most s p st box x y is_offered old new → WaitsIfLeft box → now.failed ≡ old.failed → now.ended ≡ old.ended → ((t : Setup) (q : Viewer) → Stands t st q → LinkHalts fault t q now new)
+    → HasServed looks cuts may_end was_set may_refuse a b us s p st box x y (Err fault) old new
+served_halt looks cuts may_end was_set may_refuse a b us most s p st box x y is_offered fault old now new k unread f e halts =
     let q : Viewer = viewer_after s us p k.acts in
-    served_by looks moves refused may_end was_set may_refuse a b b us most s p st box x y is_offered (Err fault) old new k unread (inl (refl, inr (inr (halts_on fault s q old now new f e (bare_halts fault s q now new (halts s (without_input q) k.stands))))))
+    served_by looks cuts may_end was_set may_refuse a b b us most s p st box x y is_offered (Err fault) old new k unread (inl (refl, inr (inr (halts_on fault s q old now new f e (bare_halts fault s q now new (halts s (without_input q) k.stands))))))
 
 -- The viewer's bytes are at fault.
-pub served_fault : {S : Type 0} (looks : S → ℕ → S → Type 0) (moves refused : S → S → Type 0) (may_end was_set : Type 0) (may_refuse : Fault → Type 0) (a b : S) (us : List Update) (most : ℕ) (s : Setup) (p : Viewer) (st : State) (box : Unpassed) (x y : List Input) (is_offered : Bool) (fault : Fault) (old new : LinkState)
-    → IsServing looks moves a b us most s p st box x y is_offered old new → WaitsIfLeft box → fault_in st ≡ Some fault → HasServed looks moves refused may_end was_set may_refuse a b us s p st box x y (Err fault) old new
-served_fault looks moves refused may_end was_set may_refuse a b us most s p st box x y is_offered fault old new k unread at =
-    served_by looks moves refused may_end was_set may_refuse a b b us most s p st box x y is_offered (Err fault) old new k unread (inl (refl, inl (sym (fault_stands s st (without_input (viewer_after s us p k.acts)) k.stands) ∙ at)))
+pub served_fault : {S : Type 0} (looks cuts : S → ℕ → S → Type 0) (may_end was_set : Type 0) (may_refuse : Fault → Type 0) (a b : S) (us : List Update) (most : ℕ) (s : Setup) (p : Viewer) (st : State) (box : Unpassed) (x y : List Input) (is_offered : Bool) (fault : Fault) (old new : LinkState)
+    → IsServing looks cuts a b us most s p st box x y is_offered old new → WaitsIfLeft box → fault_in st ≡ Some fault → HasServed looks cuts may_end was_set may_refuse a b us s p st box x y (Err fault) old new
+served_fault looks cuts may_end was_set may_refuse a b us most s p st box x y is_offered fault old new k unread at =
+    served_by looks cuts may_end was_set may_refuse a b b us most s p st box x y is_offered (Err fault) old new k unread (inl (refl, inl (sym (fault_stands s st (without_input (viewer_after s us p k.acts)) k.stands) ∙ at)))
 
 -- Input went on no further: the sink refused it for good, or the bytes after it are at fault.
-pub served_relay : {S : Type 0} (looks : S → ℕ → S → Type 0) (moves refused : S → S → Type 0) (may_end was_set : Type 0) (may_refuse : Fault → Type 0) (a b : S) (us : List Update) (most : ℕ) (s : Setup) (p : Viewer) (st next : State) (box after : Unpassed) (x y z : List Input) (fault : Fault) (old now : LinkState)
-    → IsServing looks moves a b us most s p st box x y false old now → WaitsIfLeft after → IsSameSession st next → GoesOn may_refuse (Err fault) st next box after y z
-    → HasServed looks moves refused may_end was_set may_refuse a b us s p next after x z (Err fault) old now
-served_relay looks moves refused may_end was_set may_refuse a b us most s p st next box after x y z fault old now k unread same (inl g) =
+pub served_relay : {S : Type 0} (looks cuts : S → ℕ → S → Type 0) (may_end was_set : Type 0) (may_refuse : Fault → Type 0) (a b : S) (us : List Update) (most : ℕ) (s : Setup) (p : Viewer) (st next : State) (box after : Unpassed) (x y z : List Input) (fault : Fault) (old now : LinkState)
+    → IsServing looks cuts a b us most s p st box x y false old now → WaitsIfLeft after → IsSameSession st next → GoesOn may_refuse (Err fault) st next box after y z
+    → HasServed looks cuts may_end was_set may_refuse a b us s p next after x z (Err fault) old now
+served_relay looks cuts may_end was_set may_refuse a b us most s p st next box after x y z fault old now k unread same (inl g) =
     let e = g.0 in
-    subst (λ t. HasServed looks moves refused may_end was_set may_refuse a b us s p t after x z (Err fault) old now) (sym g.1)
-    (served_by looks moves refused may_end was_set may_refuse a b b us most s p st after x z false (Err fault) old now (serving_still looks moves a b us most s p st box after x y z false old now now k e.1 e.2 refl refl) unread (inl (refl, inr (inl e.3))))
-served_relay looks moves refused may_end was_set may_refuse a b us most s p st next box after x y z fault old now k unread same (inr g) =
-    served_fault looks moves refused may_end was_set may_refuse a b us most s p next after x z false fault old now
-    (serving_read looks moves a b us most s p st next g.0 after x z false old now (serving_passed looks moves may_refuse a b us most s p st box g.0 false x y z old now k g.1) same g.2) unread g.3
+    subst (λ t. HasServed looks cuts may_end was_set may_refuse a b us s p t after x z (Err fault) old now) (sym g.1)
+    (served_by looks cuts may_end was_set may_refuse a b b us most s p st after x z false (Err fault) old now (serving_still looks cuts a b us most s p st box after x y z false old now now k e.1 e.2 refl refl) unread (inl (refl, inr (inl e.3))))
+served_relay looks cuts may_end was_set may_refuse a b us most s p st next box after x y z fault old now k unread same (inr g) =
+    served_fault looks cuts may_end was_set may_refuse a b us most s p next after x z false fault old now
+    (serving_read looks cuts a b us most s p st next g.0 after x z false old now (serving_passed looks cuts may_refuse a b us most s p st box g.0 false x y z old now k g.1) same g.2) unread g.3
 
 -- No more is heard: the link halted, or the bytes are at fault.
-heard_no_more : {S : Type 0} (looks : S → ℕ → S → Type 0) (moves refused : S → S → Type 0) (may_end was_set : Type 0) (may_refuse : Fault → Type 0) (a b : S) (us : List Update) (most : ℕ) (s : Setup) (p : Viewer) (st : State) (box : Unpassed) (x y : List Input) (is_offered : Bool) (fault : Fault) (piece : List ℕ) (old now new : LinkState)
-    → IsServing looks moves a b us most s p st box x y is_offered old new → WaitsIfLeft box → now.failed ≡ old.failed → now.ended ≡ old.ended → HeardSo (Err fault) piece st now new
-    → HasServed looks moves refused may_end was_set may_refuse a b us s p st box x y (Err fault) old new
-heard_no_more looks moves refused may_end was_set may_refuse a b us most s p st box x y is_offered fault piece old now new k unread f e (inl at) = served_fault looks moves refused may_end was_set may_refuse a b us most s p st box x y is_offered fault old new k unread at.0
-heard_no_more looks moves refused may_end was_set may_refuse a b us most s p st box x y is_offered fault piece old now new k unread f e (inr halts) = served_halt looks moves refused may_end was_set may_refuse a b us most s p st box x y is_offered fault old now new k unread f e halts.1
+heard_no_more : {S : Type 0} (looks cuts : S → ℕ → S → Type 0) (may_end was_set : Type 0) (may_refuse : Fault → Type 0) (a b : S) (us : List Update) (most : ℕ) (s : Setup) (p : Viewer) (st : State) (box : Unpassed) (x y : List Input) (is_offered : Bool) (fault : Fault) (piece : List ℕ) (old now new : LinkState)
+    → IsServing looks cuts a b us most s p st box x y is_offered old new → WaitsIfLeft box → now.failed ≡ old.failed → now.ended ≡ old.ended → HeardSo (Err fault) piece st now new
+    → HasServed looks cuts may_end was_set may_refuse a b us s p st box x y (Err fault) old new
+heard_no_more looks cuts may_end was_set may_refuse a b us most s p st box x y is_offered fault piece old now new k unread f e (inl at) = served_fault looks cuts may_end was_set may_refuse a b us most s p st box x y is_offered fault old new k unread at.0
+heard_no_more looks cuts may_end was_set may_refuse a b us most s p st box x y is_offered fault piece old now new k unread f e (inr halts) = served_halt looks cuts may_end was_set may_refuse a b us most s p st box x y is_offered fault old now new k unread f e halts.1
 
 waits_if_heard : (piece : List ℕ) (st next : State) (after : Unpassed) → HasHeard piece st next after → WaitsIfLeft after
 waits_if_heard [] st next after h = inl (ap (λ (i : Unpassed). i.unread) h.1)
@@ -576,11 +576,11 @@ waits_if_heard (z ∷ zs) st next after h = h.all
 pub waits_after : (answer : Result Bool Fault) (st next : State) (after : Unpassed) (now new : LinkState) → Hears answer st next after now new → WaitsIfLeft after
 waits_after answer st next after now new h = waits_if_heard h.piece st next after h.heard
 
-pub served_hear : {S : Type 0} (looks : S → ℕ → S → Type 0) (moves refused : S → S → Type 0) (may_end was_set : Type 0) (may_refuse : Fault → Type 0) (a b : S) (us : List Update) (most : ℕ) (s : Setup) (p : Viewer) (st next : State) (box after : Unpassed) (x y : List Input) (is_offered : Bool) (fault : Fault) (old now new : LinkState)
-    → IsServing looks moves a b us most s p st box x y is_offered old now → box ≡ all_passed → IsSameSession st next → now.failed ≡ old.failed → now.ended ≡ old.ended → Hears (Err fault) st next after now new
-    → HasServed looks moves refused may_end was_set may_refuse a b us s p next after x y (Err fault) old new
-served_hear looks moves refused may_end was_set may_refuse a b us most s p st next box after x y is_offered fault old now new k empty same f e h =
-    heard_no_more looks moves refused may_end was_set may_refuse a b us most s p next after x y false fault h.piece old now new (serving_heard looks moves a b us most s p st next box after x y is_offered (Err fault) old now new k empty same h)
+pub served_hear : {S : Type 0} (looks cuts : S → ℕ → S → Type 0) (may_end was_set : Type 0) (may_refuse : Fault → Type 0) (a b : S) (us : List Update) (most : ℕ) (s : Setup) (p : Viewer) (st next : State) (box after : Unpassed) (x y : List Input) (is_offered : Bool) (fault : Fault) (old now new : LinkState)
+    → IsServing looks cuts a b us most s p st box x y is_offered old now → box ≡ all_passed → IsSameSession st next → now.failed ≡ old.failed → now.ended ≡ old.ended → Hears (Err fault) st next after now new
+    → HasServed looks cuts may_end was_set may_refuse a b us s p next after x y (Err fault) old new
+served_hear looks cuts may_end was_set may_refuse a b us most s p st next box after x y is_offered fault old now new k empty same f e h =
+    heard_no_more looks cuts may_end was_set may_refuse a b us most s p next after x y false fault h.piece old now new (serving_heard looks cuts a b us most s p st next box after x y is_offered (Err fault) old now new k empty same h)
     (waits_after (Err fault) st next after now new h) f e h.so
 
 -- Nothing was heard.
@@ -588,22 +588,22 @@ unheard : (piece : List ℕ) (st next : State) (after : Unpassed) → HasHeard p
 unheard piece st next after h e = subst (λ (t : List ℕ). HasHeard t st next after) e h
 
 -- The link ended, and all is done.
-pub served_end : {S : Type 0} (looks : S → ℕ → S → Type 0) (moves refused : S → S → Type 0) (may_end was_set : Type 0) (may_refuse : Fault → Type 0) (a b : S) (us : List Update) (most : ℕ) (s : Setup) (p : Viewer) (st next : State) (box after : Unpassed) (x y : List Input) (old now new : LinkState)
-    → IsServing looks moves a b us most s p st box x y true old now → box ≡ all_passed → now.failed ≡ old.failed → now.ended ≡ old.ended → (h : Hears (Ok false) st next after now new)
-    → HasServed looks moves refused may_end was_set may_refuse a b us s p next after x y (Ok tt) old new
-served_end looks moves refused may_end was_set may_refuse a b us most s p st next box after x y old now new k empty f e h =
+pub served_end : {S : Type 0} (looks cuts : S → ℕ → S → Type 0) (may_end was_set : Type 0) (may_refuse : Fault → Type 0) (a b : S) (us : List Update) (most : ℕ) (s : Setup) (p : Viewer) (st next : State) (box after : Unpassed) (x y : List Input) (old now new : LinkState)
+    → IsServing looks cuts a b us most s p st box x y true old now → box ≡ all_passed → now.failed ≡ old.failed → now.ended ≡ old.ended → (h : Hears (Ok false) st next after now new)
+    → HasServed looks cuts may_end was_set may_refuse a b us s p next after x y (Ok tt) old new
+served_end looks cuts may_end was_set may_refuse a b us most s p st next box after x y old now new k empty f e h =
     let so = h.so in
     let same : (next ≡ st) × (after ≡ all_passed) = unheard h.piece st next after h.heard so.0 in
-    let m : IsServing looks moves a b us most s p st after x y true old new =
-    serving_still looks moves a b us most s p st box after x y y true old now new k (same.1 ∙ sym empty) refl (h.taken ∙ (ap (λ t. now.taken ++ t) so.0 ∙ append-nil now.taken)) h.given in
-    let n : IsServing looks moves a b us most s p next after x y true old new = subst (λ (t : State). IsServing looks moves a b us most s p t after x y true old new) (sym same.0) m in
+    let m : IsServing looks cuts a b us most s p st after x y true old new =
+    serving_still looks cuts a b us most s p st box after x y y true old now new k (same.1 ∙ sym empty) refl (h.taken ∙ (ap (λ t. now.taken ++ t) so.0 ∙ append-nil now.taken)) h.given in
+    let n : IsServing looks cuts a b us most s p next after x y true old new = subst (λ (t : State). IsServing looks cuts a b us most s p t after x y true old new) (sym same.0) m in
     let q : Viewer = viewer_after s us p n.acts in
     let bare : IsBetween (without_input q) = so.4 s (without_input q) n.stands in
     let between : IsBetween q = record { greeted = bare.greeted; begins = bare.begins } in
     let left = unsent_left s next (without_input q) n.stands.serves in
     let none = so.3 in
     let written = n.stands.serves.written in
-    served_by looks moves refused may_end was_set may_refuse a b b us most s p next after x y true (Ok tt) old new n (inl (ap (λ (i : Unpassed). i.unread) same.1))
+    served_by looks cuts may_end was_set may_refuse a b b us most s p next after x y true (Ok tt) old new n (inl (ap (λ (i : Unpassed). i.unread) same.1))
     (refl, so.2 ∙ f, inr (subst (λ t. HasRisen t new.ended) e so.1, record { between = between; passed = n.waiting ∙ ap (λ (i : Unpassed). i.waiting) same.1; turned = n.turned between; written = omega (arith, left, none, written) }))
 
 -- Where all was sent before the link ended a turn was offered.

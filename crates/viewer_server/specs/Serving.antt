@@ -14,7 +14,7 @@ use Rattle.viewer_session.specs.Record.{Entry, Took, Saw, MadeCut, Began, Number
 use Rattle.viewer_session.specs.Turn.{has_reason}
 use Rattle.viewer_session.specs.Acts.{Act, Bytes, Turn, Written, Passed, viewer_after}
 use Rattle.viewer_session.specs.Viewer.{Setup, Viewer, out_bytes, may_look, viewer_fault, after_bytes, after_cut}
-use Rattle.viewer_session.specs.Session.{State, Stands, IsBetween, after_look, after_writing, with_marks, without_input}
+use Rattle.viewer_session.specs.Session.{State, Stands, HasOnlyLooked, IsBetween, after_look, after_writing, with_marks, without_input}
 
 -- A list of acts has the latest first.
 
@@ -36,14 +36,19 @@ abbrev pub AllMayBe : Setup → List Update → Viewer → List Act → Type 0
 AllMayBe s us p [] = Unit {0}
 AllMayBe s us p (act ∷ acts) = AllMayBe s us p acts × MayBe s us (viewer_after s us p acts) act
 
--- The looks of the turns are all that was done to the source, each with the source's own reply, but for the cuts after
--- them.
-abbrev pub IsShown : {S : Type 0} → (S → ℕ → S → Type 0) → (S → S → Type 0) → S → List Act → S → Type 0
-IsShown {S} looks moves old [] new = new ≡ old
-IsShown {S} looks moves old (Bytes marks bytes ∷ acts) new = IsShown looks moves old acts new
-IsShown {S} looks moves old (Turn looked cut ∷ acts) new = (before : S) × (behind : S) × IsShown looks moves old acts before × looks before looked behind × moves behind new
-IsShown {S} looks moves old (Written count ∷ acts) new = IsShown looks moves old acts new
-IsShown {S} looks moves old (Passed ∷ acts) new = IsShown looks moves old acts new
+-- After the look the source was cut once, with this number, or left alone.
+abbrev pub HasCut : {S : Type 0} → (cuts : S → ℕ → S → Type 0) → Option ℕ → (before after : S) → Type 0
+HasCut {S} cuts None before after = after ≡ before
+HasCut {S} cuts (Some number) before after = cuts before number after
+
+-- The looks and cuts of the turns are all that was done to the source: one look a turn, with the source's own reply, and
+-- then one cut, with its own number, where the turn has one.
+abbrev pub IsShown : {S : Type 0} → (looks cuts : S → ℕ → S → Type 0) → S → List Act → S → Type 0
+IsShown {S} looks cuts old [] new = new ≡ old
+IsShown {S} looks cuts old (Bytes marks bytes ∷ acts) new = IsShown looks cuts old acts new
+IsShown {S} looks cuts old (Turn looked cut ∷ acts) new = (before : S) × (behind : S) × IsShown looks cuts old acts before × looks before looked behind × HasCut cuts cut behind new
+IsShown {S} looks cuts old (Written count ∷ acts) new = IsShown looks cuts old acts new
+IsShown {S} looks cuts old (Passed ∷ acts) new = IsShown looks cuts old acts new
 
 -- The bytes that came, in order.
 abbrev pub bytes_in : List Act → List ℕ
@@ -84,11 +89,11 @@ IsRefused may_refuse fault = may_refuse fault × (fault ≡ QueueFull → ⊥)
 
 -- The flag was set; the link said that it ended, and all was done; the viewer is at this fault; the source has ended,
 -- which was looked at once more; the sink refused an input for good; or the link halted.
-abbrev pub EndsServing : {S : Type 0} → (refused : S → S → Type 0) → (may_end was_set : Type 0) → (may_refuse : Fault → Type 0) → (behind new : S) → Setup → Viewer → Result (Unit {0}) Fault → (old new : LinkState) → Type 0
-EndsServing {S} refused may_end was_set may_refuse behind source s p (Ok done) old new =
+abbrev pub EndsServing : {S : Type 0} → (looks : S → ℕ → S → Type 0) → (may_end was_set : Type 0) → (may_refuse : Fault → Type 0) → (behind new : S) → Setup → Viewer → Result (Unit {0}) Fault → (old new : LinkState) → Type 0
+EndsServing {S} looks may_end was_set may_refuse behind source s p (Ok done) old new =
     (source ≡ behind) × (new.failed ≡ old.failed) × ((was_set × (new.ended ≡ old.ended)) ⊎ (HasRisen old.ended new.ended × IsDone s p))
-EndsServing {S} refused may_end was_set may_refuse behind source s p (Err fault) old new =
-    ((source ≡ behind) × ((viewer_fault p ≡ Some fault) ⊎ (IsRefused may_refuse fault ⊎ LinkHalts fault s p old new))) ⊎ ((fault ≡ Gone) × may_end × refused behind source)
+EndsServing {S} looks may_end was_set may_refuse behind source s p (Err fault) old new =
+    ((source ≡ behind) × ((viewer_fault p ≡ Some fault) ⊎ (IsRefused may_refuse fault ⊎ LinkHalts fault s p old new))) ⊎ ((fault ≡ Gone) × may_end × HasOnlyLooked looks behind source)
 
 -- The sink took a beginning of what is allowed of the viewer, which has left: first the input of its messages, in
 -- order, then the releases; all that the messages before the last bring; and all of it, unless the flag was set or it
@@ -110,16 +115,16 @@ EachAnswerHolds s us p =
 -- A viewer was served: the acts that were done for it are such as may be done; all bytes that were taken are read, but
 -- for those after a message whose input waits; what it was given is the beginning of its hello and answers that counts
 -- as written; one who follows its answers holds what was asked for; and what the sink took is its input.
-pub record Serves {S : Type 0} (looks : S → ℕ → S → Type 0) (moves refused : S → S → Type 0) (may_end was_set : Type 0) (may_refuse : Fault → Type 0) (source_old source_new : S) (us : List Update) (s : Setup) (p : Viewer)
+pub record Serves {S : Type 0} (looks cuts : S → ℕ → S → Type 0) (may_end was_set : Type 0) (may_refuse : Fault → Type 0) (source_old source_new : S) (us : List Update) (s : Setup) (p : Viewer)
     (sent_old sent_new : List Input) (answer : Result (Unit {0}) Fault) (old new : LinkState) : Type 0 where
   pub acts : List Act
   pub behind : S
   pub left : List ℕ
   pub may_be : AllMayBe s us p acts
-  pub shown : IsShown looks moves source_old acts behind
+  pub shown : IsShown looks cuts source_old acts behind
   pub taken : new.taken ≡ old.taken ++ (bytes_in acts ++ left)
   pub unread : (left ≡ []) ⊎ (is_some (viewer_after s us p acts).waiting ≡ true)
   pub given : new.given ≡ old.given ++ take (viewer_after s us p acts).written (out_bytes s (viewer_after s us p acts))
   pub holds : s.w ≤ 4096 → s.h ≤ 4096 → EachAnswerHolds s us (viewer_after s us p acts)
   pub relays : Relays was_set may_refuse (viewer_after s us p acts) sent_old sent_new
-  pub ends : EndsServing refused may_end was_set may_refuse behind source_new s (viewer_after s us p acts) answer old new
+  pub ends : EndsServing looks may_end was_set may_refuse behind source_new s (viewer_after s us p acts) answer old new

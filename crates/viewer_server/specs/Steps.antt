@@ -11,7 +11,7 @@ use Rattle.link.specs.Links.{LinkState, HasRisen, with_end, with_failure}
 use Rattle.reflect_core.specs.Sequential.{Begins}
 use Rattle.viewer_session.specs.Record.{messages_in}
 use Rattle.viewer_session.specs.Viewer.{Setup, Viewer, out_bytes, after_bytes}
-use Rattle.viewer_session.specs.Session.{State, Stands, Turns, HasCounted, IsBetween, after_writing, fault_in, is_ready, with_marks, without_input}
+use Rattle.viewer_session.specs.Session.{State, Stands, HasOnlyLooked, Turns, HasCounted, IsBetween, after_writing, fault_in, is_ready, with_marks, without_input}
 use Rattle.viewer_session.specs.Acts.{Act, HasPassed, viewer_after, waiting_list}
 use Rattle.viewer_server.specs.Serving.{AllMayBe, IsShown, bytes_in, EachAnswerHolds, EndsServing, IsRefused, LinkHalts}
 
@@ -82,11 +82,11 @@ SaysNoMore (Ok done) st old new = (new.failed ≡ old.failed) × (new.ended ≡ 
 SaysNoMore (Err fault) st old new = (s : Setup) (p : Viewer) → Stands s st p → LinkHalts fault s p old new
 
 -- A turn was had where no bytes were unsent, or the source has ended.
-abbrev pub Offers : {S : Type 0} → (S → ℕ → S → Type 0) → (moves refused : S → S → Type 0) → Type 0 → (old new : S) → (before after : State) → List Update → (least most : ℕ) → Result Bool Fault → Type 0
-Offers {S} looks moves refused may_end old new before after us least most (Ok true) =
-    (length before.unsent ≡ 0) × (is_ready before ≡ false → (after ≡ before) × (new ≡ old) × (most ≡ least)) × (is_ready before ≡ true → Turns looks moves old new before after us least most)
-Offers {S} looks moves refused may_end old new before after us least most (Ok false) = (0 < length before.unsent) × (after ≡ before) × (new ≡ old) × (most ≡ least)
-Offers {S} looks moves refused may_end old new before after us least most (Err fault) = (fault ≡ Gone) × may_end × (after ≡ before) × refused old new
+abbrev pub Offers : {S : Type 0} → (looks cuts : S → ℕ → S → Type 0) → Type 0 → (old new : S) → (before after : State) → List Update → (least most : ℕ) → Result Bool Fault → Type 0
+Offers {S} looks cuts may_end old new before after us least most (Ok true) =
+    (length before.unsent ≡ 0) × (is_ready before ≡ false → (after ≡ before) × (new ≡ old) × (most ≡ least)) × (is_ready before ≡ true → Turns looks cuts old new before after us least most)
+Offers {S} looks cuts may_end old new before after us least most (Ok false) = (0 < length before.unsent) × (after ≡ before) × (new ≡ old) × (most ≡ least)
+Offers {S} looks cuts may_end old new before after us least most (Err fault) = (fault ≡ Gone) × may_end × (after ≡ before) × HasOnlyLooked looks old new
 
 -- These bytes came to the session, if there are any.
 abbrev pub HasHeard : List ℕ → (old new : State) → Unpassed → Type 0
@@ -111,13 +111,13 @@ pub record Hears (answer : Result Bool Fault) (before after : State) (box : Unpa
 -- ---- all of them
 
 -- A viewer was served until it left.
-pub record HasServed {S : Type 0} (looks : S → ℕ → S → Type 0) (moves refused : S → S → Type 0) (may_end was_set : Type 0) (may_refuse : Fault → Type 0) (source_old source_new : S) (us : List Update) (s : Setup) (p : Viewer) (st : State)
+pub record HasServed {S : Type 0} (looks cuts : S → ℕ → S → Type 0) (may_end was_set : Type 0) (may_refuse : Fault → Type 0) (source_old source_new : S) (us : List Update) (s : Setup) (p : Viewer) (st : State)
     (box : Unpassed) (sent_old sent_new : List Input) (answer : Result (Unit {0}) Fault) (old new : LinkState) : Type 0 where
   pub acts : List Act
   pub behind : S
   pub sent : List Input
   pub may_be : AllMayBe s us p acts
-  pub shown : IsShown looks moves source_old acts behind
+  pub shown : IsShown looks cuts source_old acts behind
   pub taken : new.taken ≡ old.taken ++ (bytes_in acts ++ box.unread)
   pub unread : WaitsIfLeft box
   pub given : new.given ≡ old.given ++ take (viewer_after s us p acts).written (out_bytes s (viewer_after s us p acts))
@@ -126,7 +126,7 @@ pub record HasServed {S : Type 0} (looks : S → ℕ → S → Type 0) (moves re
   pub took : sent_new ≡ sent_old ++ sent
   pub passed : HasPassed (viewer_after s us p acts) sent
   pub holds : s.w ≤ 4096 → s.h ≤ 4096 → EachAnswerHolds s us (viewer_after s us p acts)
-  pub ends : EndsServing refused may_end was_set may_refuse behind source_new s (viewer_after s us p acts) answer old new
+  pub ends : EndsServing looks may_end was_set may_refuse behind source_new s (viewer_after s us p acts) answer old new
 
 -- Why leaving ends before all is in: the flag was set, or the sink refused an input for good.
 abbrev pub LeavesBy : (was_set : Type 0) → (may_refuse : Fault → Type 0) → Result (Unit {0}) Fault → (sent all : List Input) → Type 0

@@ -1,8 +1,9 @@
 //! Serving one viewer, and what follows where it has left.
 
 ghost use Rattle.std.specs.Prelude.{◌≡◌, Bool, None};
+ghost use Rattle.reflect_core.specs.Sequential.{Begins};
 ghost use Rattle.roles.specs.declared.role.Role as roles;
-ghost use Rattle.viewer_session.specs.Session.{HasOnlyLooked, Stands};
+ghost use Rattle.viewer_session.specs.Session.{Stands};
 ghost use Rattle.viewer_session.specs.Viewer.{Setup, new_viewer};
 ghost use Rattle.viewer_server.specs.Serving.{Serves};
 
@@ -36,8 +37,9 @@ pub fn run_viewer<L: Link, S: ScreenSource, K: InputSink, F: StopFlag, Z: Rest, 
 ) -> Result<(), Fault>
     requires screen { (S.width source.old ≡ session.old.width) × (S.height source.old ≡ session.old.height) }
     requires uncut { session.old.asked.last ≡ None }
-    ensures { (s : Setup) (role : roles.Role) (greet : Bool) → Stands s session.old (new_viewer role greet)
-        → Serves S.looks S.moves (λ before after. HasOnlyLooked S.looks S.known S.answered before after) S.may_end (F.was_set stop.now) K.may_refuse source.old source.new (S.known source.new) s (new_viewer role greet) (K.sent sink.old) (K.sent sink.new) result (L.state link.old) (L.state link.new) }
+    ensures grows { Begins (S.known source.old) (S.known source.new) }
+    ensures serves { (s : Setup) (role : roles.Role) (greet : Bool) → Stands s session.old (new_viewer role greet)
+        → Serves S.looks S.cuts S.may_end (F.was_set stop.now) K.may_refuse source.old source.new (S.known source.new) s (new_viewer role greet) (K.sent sink.old) (K.sent sink.new) result (L.state link.old) (L.state link.new) }
 {
     let mut inbox = Inbox::new();
     let served = serve(rt, link, source, sink, session, &mut inbox, stop, rest);

@@ -3,7 +3,7 @@
 ghost use Rattle.std.specs.Prelude.{◌≡◌, Bool, None};
 ghost use Rattle.reflect_core.specs.Sequential.{Begins};
 ghost use Rattle.roles.specs.declared.role.Role as roles;
-ghost use Rattle.viewer_session.specs.Session.{HasOnlyLooked, IsSameSession, Stands};
+ghost use Rattle.viewer_session.specs.Session.{IsSameSession, Stands};
 ghost use Rattle.viewer_session.specs.Viewer.{Setup, new_viewer};
 ghost use Rattle.viewer_server.specs.Steps.{GoesOn, HasServed, Hears, Offers, Says, SaysNoMore, WaitsIfLeft, all_passed};
 
@@ -21,7 +21,7 @@ fn offer<S: ScreenSource>(source: &mut S, session: &mut Session) -> Result<bool,
     ensures source { (S.width source.new ≡ S.width source.old) × (S.height source.new ≡ S.height source.old) }
     ensures session { (session.new.width ≡ session.old.width) × (session.new.height ≡ session.old.height) }
     ensures grows { Begins (S.known source.old) (S.known source.new) }
-    ensures offers { Offers S.looks S.moves (λ before after. HasOnlyLooked S.looks S.known S.answered before after) S.may_end source.old source.new session.old session.new (S.known source.new) (S.answered source.old) (S.answered source.new) result }
+    ensures offers { Offers S.looks S.cuts S.may_end source.old source.new session.old session.new (S.known source.new) (S.answered source.old) (S.answered source.new) result }
 {
     if !session.out().is_empty() {
         return Ok(false);
@@ -103,8 +103,9 @@ pub(crate) fn serve<L: Link, S: ScreenSource, K: InputSink, F: StopFlag, Z: Rest
     requires screen { (S.width source.old ≡ session.old.width) × (S.height source.old ≡ session.old.height) }
     requires uncut { session.old.asked.last ≡ None }
     requires empty { inbox.old ≡ all_passed }
-    ensures { (s : Setup) (role : roles.Role) (greet : Bool) → Stands s session.old (new_viewer role greet)
-        → HasServed S.looks S.moves (λ before after. HasOnlyLooked S.looks S.known S.answered before after) S.may_end (F.was_set stop.now) K.may_refuse source.old source.new (S.known source.new) s (new_viewer role greet) session.new inbox.new (K.sent sink.old) (K.sent sink.new) result (L.state link.old) (L.state link.new) }
+    ensures grows { Begins (S.known source.old) (S.known source.new) }
+    ensures serves { (s : Setup) (role : roles.Role) (greet : Bool) → Stands s session.old (new_viewer role greet)
+        → HasServed S.looks S.cuts S.may_end (F.was_set stop.now) K.may_refuse source.old source.new (S.known source.new) s (new_viewer role greet) session.new inbox.new (K.sent sink.old) (K.sent sink.new) result (L.state link.old) (L.state link.new) }
 {
     for _ in rt.forever() {
         if stop.is_set() {

@@ -25,23 +25,22 @@ bound_by true most later looked le stays cuts = omega (arith, le, cuts refl)
 bound_by false most later looked le stays cuts = omega (arith, le, stays refl)
 
 -- A turn, from its look and what follows it.
-pub turns_by : {S : Type 0} (looks : S → ℕ → S → Type 0) (moves : S → S → Type 0) (before behind after : S) (old new : State) (us : List Update) (least later most looked : ℕ) (r : Result Bool Fault)
-    → looks before looked behind → moves behind after → looked ≤ length us → (least ≤ later) × (looked ≤ later) → (wants_cut old.asked looked ≡ false → most ≡ later)
-    → (wants_cut old.asked looked ≡ false → new ≡ old) → (wants_cut old.asked looked ≡ true → IfOk r (λ _. CutsAt old new us later most)) → IfOk r (λ _. Turns looks moves before after old new us least most)
-turns_by looks moves before behind after old new us least later most looked (Err fault) replied moved seen answered stays idle cuts = tt
-turns_by looks moves before behind after old new us least later most looked (Ok begun) replied moved seen answered stays idle cuts =
+pub turns_by : {S : Type 0} (looks cutting : S → ℕ → S → Type 0) (before behind after : S) (old new : State) (us : List Update) (least later most looked : ℕ) (r : Result Bool Fault)
+    → looks before looked behind → looked ≤ length us → (least ≤ later) × (looked ≤ later) → (wants_cut old.asked looked ≡ false → most ≡ later)
+    → (wants_cut old.asked looked ≡ false → (new ≡ old) × (after ≡ behind)) → (wants_cut old.asked looked ≡ true → IfOk r (λ _. CutsAt cutting behind after old new us later most)) → IfOk r (λ _. Turns looks cutting before after old new us least most)
+turns_by looks cutting before behind after old new us least later most looked (Err fault) replied seen answered stays idle cuts = tt
+turns_by looks cutting before behind after old new us least later most looked (Ok begun) replied seen answered stays idle cuts =
     record {
       looked = looked;
       behind = behind;
       replied = replied;
-      moved = moved;
       seen = seen;
-      rises = bound_by (wants_cut old.asked looked) most later least answered.0 stays (λ yes. let cut : CutsAt old new us later most = cuts yes in omega (arith, cut.fresh, cut.bounded));
-      bounded = bound_by (wants_cut old.asked looked) most later looked answered.1 stays (λ yes. let cut : CutsAt old new us later most = cuts yes in omega (arith, cut.fresh, cut.bounded));
+      rises = bound_by (wants_cut old.asked looked) most later least answered.0 stays (λ yes. let cut : CutsAt cutting behind after old new us later most = cuts yes in omega (arith, cut.fresh, cut.bounded));
+      bounded = bound_by (wants_cut old.asked looked) most later looked answered.1 stays (λ yes. let cut : CutsAt cutting behind after old new us later most = cuts yes in omega (arith, cut.fresh, cut.bounded));
       idle = idle;
-      cuts = λ yes.
-          let cut : CutsAt old new us later most = cuts yes in
-          record { number = cut.number; known = cut.known; fresh = omega (arith, cut.fresh, answered); bounded = cut.bounded; counted = cut.counted; stands = cut.stands };
+      cut = λ yes.
+          let cut : CutsAt cutting behind after old new us later most = cuts yes in
+          record { number = cut.number; cut = cut.cut; known = cut.known; fresh = omega (arith, cut.fresh, answered); bounded = cut.bounded; counted = cut.counted; stands = cut.stands };
     }
 
 -- What is cut for lies on the screen: the pending area, or a rectangle of no size at its corner.

@@ -129,7 +129,7 @@ role_turn : (s : Setup) (us : List Update) (p : Viewer) (looked : ℕ) (cut : Op
 role_turn s us p looked None = refl
 role_turn s us p looked (Some n) = refl
 
-role_after : (s : Setup) (us : List Update) (p : Viewer) (acts : List Act) → (viewer_after s us p acts).role ≡ p.role
+pub role_after : (s : Setup) (us : List Update) (p : Viewer) (acts : List Act) → (viewer_after s us p acts).role ≡ p.role
 role_after s us p [] = refl
 role_after s us p (Bytes marks bytes ∷ acts) = same_role (with_marks marks (viewer_after s us p acts)) bytes ∙ role_after s us p acts
 role_after s us p (Turn looked cut ∷ acts) = role_turn s us (viewer_after s us p acts) looked cut ∙ role_after s us p acts

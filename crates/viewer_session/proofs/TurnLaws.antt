@@ -355,18 +355,19 @@ tells s es us =
     append_assoc (bell_at us (last_cut (events s.w s.h es))) (text_at us (last_cut (events s.w s.h es))) (update_part (update_at s.w s.h es us))
 
 -- A cut, and what of it begins to be sent.
-pub turned : (st now : State) (known : List Update) (least most n : ℕ) (cut : cutting.Cut) (nowhere : Rect) (wanted : Wanted) (have : SentTiles) (bell text : Bool) (update piece bytes : List ℕ)
-    → st ≡ now → is_ready now ≡ true → IsCutFor st cut nowhere known n → (least ≤ n) × (n ≤ most)
+pub turned : {S : Type 0} (cuts : S → ℕ → S → Type 0) (before after : S) (st now : State) (known : List Update) (least most n : ℕ) (cut : cutting.Cut) (nowhere : Rect) (wanted : Wanted) (have : SentTiles) (bell text : Bool) (update piece bytes : List ℕ)
+    → cuts before n after → st ≡ now → is_ready now ≡ true → IsCutFor st cut nowhere known n → (least ≤ n) × (n ≤ most)
     → bell ≡ rings st.asked.last st.cut.bells cut.bells → text ≡ has_newer st.asked.last cut.text → update ≡ update_part (update_in st.format st.choice cut st.asked.area)
     → wanted.last ≡ Some n
     → ((es : List Event) → AskedStands st.asked es → AskedStands wanted (answered_at n (update_in st.format st.choice cut st.asked.area) (WasCut n ∷ es)))
     → ((es : List Event) → HaveStands st.have es → HaveStands have (answered_at n (update_in st.format st.choice cut st.asked.area) es))
     → bytes ≡ (if bell then bell_bytes else []) ++ ((if text then text_message cut.text else []) ++ update)
-    → CutsAt now (record st { asked = wanted; have = have; cut = cut; piece = piece; unsent = bytes }) known least most
-turned st now known least most n cut nowhere wanted have bell text update piece bytes same ready c fresh rung newer found last asked has e =
+    → CutsAt cuts before after now (record st { asked = wanted; have = have; cut = cut; piece = piece; unsent = bytes }) known least most
+turned cuts before after st now known least most n cut nowhere wanted have bell text update piece bytes was same ready c fresh rung newer found last asked has e =
     let us : List Update = take n known in
     record {
       number = n;
+      cut = was;
       known = c.is.known;
       fresh = fresh.0;
       bounded = fresh.1;

@@ -276,36 +276,31 @@ wants_cut wanted looked = nat_lt (unwrap_or wanted.last 0) looked || (is_some wa
 abbrev pub HasCounted : State → List Update → Type 0
 HasCounted st us = (number : ℕ) → st.asked.last ≡ Some number → (number ≤ length us) × (st.cut.bells ≡ bells (take number us))
 
--- It was cut: at a number that is at least the one and at most the other of these, of the updates that the source
--- knows. The new state stands for the viewers that the cut makes of those of the old, where the cut before it was one
--- of this source.
-pub record CutsAt (old new : State) (us : List Update) (least most : ℕ) : Type 0 where
+-- The source was cut once, with this number (cuts): at least the one and at most the other of these, of the updates that
+-- the source knows. The new state stands for the viewers that the cut makes of those of the old, where the cut before it
+-- was one of this source.
+pub record CutsAt {S : Type 0} (cuts : S → ℕ → S → Type 0) (before after : S) (old new : State) (us : List Update) (least most : ℕ) : Type 0 where
   pub number : ℕ
+  pub cut : cuts before number after
   pub known : number ≤ length us
   pub fresh : least ≤ number
   pub bounded : number ≤ most
   pub counted : HasCounted new us
   pub stands : (s : Setup) (p : Viewer) → HasCounted old us → Stands s old p → Stands s new (after_cut s (take number us) p)
 
--- The source was looked at, with a reply that is known and is the source's own (looks), and then cut where there is
--- reason, at a number that is at least the reply. After the look nothing but a cut has moved the source. Reply and
--- number are at most what the source has answered by now.
-pub record Turns {S : Type 0} (looks : S → ℕ → S → Type 0) (moves : S → S → Type 0) (before after : S) (old new : State) (us : List Update) (least most : ℕ) : Type 0 where
+-- The source was looked at once, with a reply that is known and is the source's own (looks), and then cut once where
+-- there is reason, at a number that is at least the reply, and else left alone. Reply and number are at most what the
+-- source has answered by now.
+pub record Turns {S : Type 0} (looks cuts : S → ℕ → S → Type 0) (before after : S) (old new : State) (us : List Update) (least most : ℕ) : Type 0 where
   pub looked : ℕ
   pub behind : S
   pub replied : looks before looked behind
-  pub moved : moves behind after
   pub seen : looked ≤ length us
   pub rises : least ≤ most
   pub bounded : looked ≤ most
-  pub idle : wants_cut old.asked looked ≡ false → new ≡ old
-  pub cuts : wants_cut old.asked looked ≡ true → CutsAt old new us (max least looked) most
+  pub idle : wants_cut old.asked looked ≡ false → (new ≡ old) × (after ≡ behind)
+  pub cut : wants_cut old.asked looked ≡ true → CutsAt cuts behind after old new us (max least looked) most
 
--- The source was looked at, with a reply of its own (looks), and its cut was refused: it knows and has answered what it
--- had after the look.
-pub record HasOnlyLooked {S : Type 0} (looks : S → ℕ → S → Type 0) (known : S → List Update) (answered : S → ℕ) (before after : S) : Type 0 where
-  pub looked : ℕ
-  pub behind : S
-  pub replied : looks before looked behind
-  pub knows : known after ≡ known behind
-  pub has_answered : answered after ≡ answered behind
+-- The source was looked at once, with a reply of its own (looks), and its cut was refused.
+abbrev pub HasOnlyLooked : {S : Type 0} → (looks : S → ℕ → S → Type 0) → (before after : S) → Type 0
+HasOnlyLooked {S} looks before after = (looked : ℕ) × looks before looked after

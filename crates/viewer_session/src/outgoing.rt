@@ -125,13 +125,13 @@ impl Outgoing {
         requires within { IsWithin area.now (S.width source.old) (S.height source.old) }
         requires screen { (have.now.width ≡ S.width source.old) × (have.now.height ≡ S.height source.old) }
         requires room { (self.old.cut.width ≡ S.width source.old) × (self.old.cut.height ≡ S.height source.old) }
-        ensures moves { S.moves source.old source.new }
         ensures size { (S.width source.new ≡ S.width source.old) × (S.height source.new ≡ S.height source.old) }
         ensures room { (self.new.cut.width ≡ self.old.cut.width) × (self.new.cut.height ≡ self.old.cut.height) }
         ensures sent { (self.new.piece ≡ []) × (self.new.unsent ≡ []) }
         ensures grows { Begins (S.known source.old) (S.known source.new) }
         ensures ok { IfOk result (λ n. IsCutOf (S.known source.new) n area.now have.now self.new.cut × (S.answered source.old ≤ n) × (n ≤ S.answered source.new)) }
-        ensures err { IfErr result (λ fault. (fault ≡ Gone) × S.may_end × (S.known source.new ≡ S.known source.old) × (S.answered source.new ≡ S.answered source.old) × (self.new ≡ self.old)) }
+        ensures cuts { IfOk result (λ n. S.cuts source.old n source.new) }
+        ensures err { IfErr result (λ fault. (fault ≡ Gone) × S.may_end × (source.new ≡ source.old) × (self.new ≡ self.old)) }
     {
         self.coming = Coming::nothing();
         source.cut(area, have, &mut self.cut)

@@ -1,7 +1,6 @@
 //! What the host's writer tells.
 
-ghost use Rattle.std.specs.Prelude.{◌≡◌, length, refl};
-ghost use Rattle.std.proofs.Common.{◌∙◌};
+ghost use Rattle.std.specs.Prelude.{◌≡◌, length};
 
 use crate::loops::watch::{ALWAYS, Watch, link_of, make_watch, number, red_and_blue};
 use host_writer::run_writer;
@@ -39,11 +38,7 @@ impl<'a> ScreenSource for TenLooks<'a> {
 
     ghost looks = { λ old reply new. (reply ≡ old.screen.tally) × (new.screen ≡ old.screen) };
 
-    ghost moves = { λ old new. new.screen ≡ old.screen };
-
-    ghost moves_none = { λ s. refl };
-
-    ghost moves_on = { λ a b c e f. f ∙ e };
+    ghost cuts = { λ old number new. (number ≡ length old.screen.updates) × (new ≡ old) };
 
     fn size(&self) -> (u64, u64) {
         self.screen.size()

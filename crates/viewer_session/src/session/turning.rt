@@ -71,18 +71,18 @@ impl Session {
     /// newer, and an update of the pending area where a tile of it is due. The first cut brings neither Bell nor text.
     /// It answers whether anything is begun.
     ///
-    /// It takes no memory, and fails where the source has ended (`Gone`), if it may end; then the session is as it was.
+    /// It takes no memory, and fails where the source has ended (`Gone`), if it may end; then session and source are as
+    /// they were.
     pub fn turn_at<S: ScreenSource>(&mut self, source: &mut S, looked: u64) -> Result<bool, Fault>
         requires ready { is_ready self.old ≡ true }
         requires screen { (S.width source.old ≡ self.old.width) × (S.height source.old ≡ self.old.height) }
         ensures same { IsSameViewer self.old self.new }
-        ensures moves { S.moves source.old source.new }
         ensures size { (S.width source.new ≡ S.width source.old) × (S.height source.new ≡ S.height source.old) }
         ensures grows { Begins (S.known source.old) (S.known source.new) }
         ensures idle { wants_cut self.old.asked looked ≡ false → (result ≡ Ok false) × (self.new ≡ self.old) × (source.new ≡ source.old) }
-        ensures cuts { wants_cut self.old.asked looked ≡ true → IfOk result (λ _. CutsAt self.old self.new (S.known source.new) (S.answered source.old) (S.answered source.new)) }
+        ensures cuts { wants_cut self.old.asked looked ≡ true → IfOk result (λ _. CutsAt S.cuts source.old source.new self.old self.new (S.known source.new) (S.answered source.old) (S.answered source.new)) }
         ensures begun { IfOk result (λ begun. begun ≡ not (length self.new.unsent == 0)) }
-        ensures err { IfErr result (λ fault. (fault ≡ Gone) × S.may_end × (self.new ≡ self.old) × (S.known source.new ≡ S.known source.old) × (S.answered source.new ≡ S.answered source.old)) }
+        ensures err { IfErr result (λ fault. (fault ≡ Gone) × S.may_end × (self.new ≡ self.old) × (source.new ≡ source.old)) }
     {
         if !self.has_reason(looked) {
             return Ok(false);
@@ -100,17 +100,16 @@ impl Session {
 
     /// One turn. It does nothing and answers false while bytes are unsent, before the hello is done, and after a fault.
     /// Otherwise it looks once and goes on as `turn_at`. Where that fails (`Gone`) the session is as it was, and the
-    /// source knows what it knew after the look.
+    /// source as the look left it.
     pub fn turn<S: ScreenSource>(&mut self, source: &mut S) -> Result<bool, Fault>
         requires { (S.width source.old ≡ self.old.width) × (S.height source.old ≡ self.old.height) }
         ensures same { IsSameViewer self.old self.new }
-        ensures moves { S.moves source.old source.new }
         ensures size { (S.width source.new ≡ S.width source.old) × (S.height source.new ≡ S.height source.old) }
         ensures grows { Begins (S.known source.old) (S.known source.new) }
         ensures waits { is_ready self.old ≡ false → (result ≡ Ok false) × (self.new ≡ self.old) × (source.new ≡ source.old) }
-        ensures turns { is_ready self.old ≡ true → IfOk result (λ _. Turns S.looks S.moves source.old source.new self.old self.new (S.known source.new) (S.answered source.old) (S.answered source.new)) }
+        ensures turns { is_ready self.old ≡ true → IfOk result (λ _. Turns S.looks S.cuts source.old source.new self.old self.new (S.known source.new) (S.answered source.old) (S.answered source.new)) }
         ensures begun { is_ready self.old ≡ true → IfOk result (λ begun. begun ≡ not (length self.new.unsent == 0)) }
-        ensures err { IfErr result (λ fault. (fault ≡ Gone) × S.may_end × (self.new ≡ self.old) × HasOnlyLooked S.looks S.known S.answered source.old source.new) }
+        ensures err { IfErr result (λ fault. (fault ≡ Gone) × S.may_end × (self.new ≡ self.old) × HasOnlyLooked S.looks source.old source.new) }
     {
         if !self.is_ready() {
             return Ok(false);

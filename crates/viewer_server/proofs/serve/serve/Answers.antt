@@ -2,7 +2,7 @@ use Rattle.std.proofs.Common.{◌≡◌, ◌<◌, ◌⊎◌, true, false, Option
 use Rattle.std.specs.Prelude.{is_some}
 use Rattle.std.proofs.lemmas.Result.{err_from_is_err_and}
 use Rattle.link.specs.Links.{LinkState}
-use Rattle.viewer_session.specs.Session.{HasOnlyLooked}
+use Rattle.viewer_session.proofs.Parts.{begins_same, begins_on}
 use Rattle.viewer_server.specs.Steps.{Unpassed, WaitsIfLeft, all_passed}
 use Rattle.viewer_server.proofs.Saying.{some_bytes}
 use Rattle.viewer_server.proofs.Servings.{serving_begins, serving_still, serving_relayed, serving_offered, serving_said, serving_anew, serving_heard, served_stop, served_relay, served_gone, served_halt, served_hear, served_end, was_offered, waits_after, box_clear, is_not}
@@ -15,43 +15,44 @@ loop-init g c = (
   tt,
   record {
     left = inl (ap (λ (i : Unpassed). i.unread) c.requires.empty);
+    grows = begins_same _;
     wide = c.requires.screen.0;
     high = c.requires.screen.1;
     failed = refl;
     ended = refl;
-    serving = λ s role greet k. serving_begins g.S.ScreenSource.looks g.S.ScreenSource.moves c.args.source.now _ _ s role greet c.args.session.now c.args.inbox.now _ _ c.requires.uncut c.requires.empty k;
+    serving = λ s role greet k. serving_begins g.S.ScreenSource.looks g.S.ScreenSource.cuts c.args.source.now _ _ s role greet c.args.session.now c.args.inbox.now _ _ c.requires.uncut c.requires.empty k;
   },
 )
 
-pub returns-then-is_set : goal.returns-then-is_set
-returns-then-is_set g c = λ s role greet k.
+pub returns-then-is_set-clause-serves : goal.returns-then-is_set-clause-serves
+returns-then-is_set-clause-serves g c = λ s role greet k.
     let inv = c.loop.invariant.2 in
-    served_stop g.S.ScreenSource.looks g.S.ScreenSource.moves _ g.S.ScreenSource.may_end _ g.K.InputSink.may_refuse _ _ _ _ s _ _ _ _ _ _ _ _ (inv.serving s role greet k) inv.left (c.is_set.ensures c.if-is_set.true) inv.failed inv.ended
+    served_stop g.S.ScreenSource.looks g.S.ScreenSource.cuts g.S.ScreenSource.may_end _ g.K.InputSink.may_refuse _ _ _ _ s _ _ _ _ _ _ _ _ (inv.serving s role greet k) inv.left (c.is_set.ensures c.if-is_set.true) inv.failed inv.ended
 
-pub returns-in_err-is_full : goal.returns-in_err-is_full
-returns-in_err-is_full g c = λ s role greet k.
+pub returns-in_err-is_full-clause-serves : goal.returns-in_err-is_full-clause-serves
+returns-in_err-is_full-clause-serves g c = λ s role greet k.
     let inv = c.loop.invariant.2 in
     let p = err_from_is_err_and c.from_residual.result c.from_residual.ensures.1 in
     rw (p.1, p.2)
-    (served_relay g.S.ScreenSource.looks g.S.ScreenSource.moves _ g.S.ScreenSource.may_end _ g.K.InputSink.may_refuse _ _ _ _ s _ _ _ _ _ _ _ _ _ _ _ (inv.serving s role greet k) c.relay.ensures.left c.relay.ensures.same c.in_err-is_full.ensures.goes_on)
+    (served_relay g.S.ScreenSource.looks g.S.ScreenSource.cuts g.S.ScreenSource.may_end _ g.K.InputSink.may_refuse _ _ _ _ s _ _ _ _ _ _ _ _ _ _ _ (inv.serving s role greet k) c.relay.ensures.left c.relay.ensures.same c.in_err-is_full.ensures.goes_on)
 
-pub returns-in_err-is_offered : goal.returns-in_err-is_offered
-returns-in_err-is_offered g c = λ s role greet k.
+pub returns-in_err-is_offered-clause-serves : goal.returns-in_err-is_offered-clause-serves
+returns-in_err-is_offered-clause-serves g c = λ s role greet k.
     let inv = c.loop.invariant.2 in
     let p = err_from_is_err_and c.from_residual-in_err-is_offered.result c.from_residual-in_err-is_offered.ensures.1 in
-    let relayed = serving_relayed g.S.ScreenSource.looks g.S.ScreenSource.moves g.K.InputSink.may_refuse _ _ _ _ s _ _ _ _ _ c.in_ok-is_full.is_full _ _ _ _ _ (inv.serving s role greet k) c.relay.ensures.same c.in_ok-is_full.ensures.goes_on in
+    let relayed = serving_relayed g.S.ScreenSource.looks g.S.ScreenSource.cuts g.K.InputSink.may_refuse _ _ _ _ s _ _ _ _ _ c.in_ok-is_full.is_full _ _ _ _ _ (inv.serving s role greet k) c.relay.ensures.same c.in_ok-is_full.ensures.goes_on in
     rw (p.1, p.2)
-    (served_gone g.S.ScreenSource.looks g.S.ScreenSource.moves _ g.S.ScreenSource.may_end _ g.K.InputSink.may_refuse _ _ _ _ _ _ 0 0 s _ _ _ _ _ _ _ _ _ _ relayed c.relay.ensures.left c.offer.ensures.grows c.in_err-is_offered.ensures.offers)
+    (served_gone g.S.ScreenSource.looks g.S.ScreenSource.cuts g.S.ScreenSource.may_end _ g.K.InputSink.may_refuse _ _ _ _ _ _ 0 0 s _ _ _ _ _ _ _ _ _ _ relayed c.relay.ensures.left c.offer.ensures.grows c.in_err-is_offered.ensures.offers)
 
-pub returns-in_err-say : goal.returns-in_err-say
-returns-in_err-say g c = λ s role greet k.
+pub returns-in_err-say-clause-serves : goal.returns-in_err-say-clause-serves
+returns-in_err-say-clause-serves g c = λ s role greet k.
     let inv = c.loop.invariant.2 in
     let p = err_from_is_err_and c.from_residual-in_err-say.result c.from_residual-in_err-say.ensures.1 in
-    let relayed = serving_relayed g.S.ScreenSource.looks g.S.ScreenSource.moves g.K.InputSink.may_refuse _ _ _ _ s _ _ _ _ _ c.in_ok-is_full.is_full _ _ _ _ _ (inv.serving s role greet k) c.relay.ensures.same c.in_ok-is_full.ensures.goes_on in
-    let offered = serving_offered g.S.ScreenSource.looks g.S.ScreenSource.moves (λ a b. HasOnlyLooked g.S.ScreenSource.looks g.S.ScreenSource.known g.S.ScreenSource.answered a b) g.S.ScreenSource.may_end _ _ _ _ _ _ _ s _ _ _ _ _ _ c.in_ok-is_offered.is_offered _ _ relayed c.offer.ensures.grows c.in_ok-is_offered.ensures.offers in
-    let said = serving_said g.S.ScreenSource.looks g.S.ScreenSource.moves _ _ _ _ s _ _ _ _ _ _ c.in_ok-is_offered.is_offered _ _ _ offered c.say.ensures.says in
+    let relayed = serving_relayed g.S.ScreenSource.looks g.S.ScreenSource.cuts g.K.InputSink.may_refuse _ _ _ _ s _ _ _ _ _ c.in_ok-is_full.is_full _ _ _ _ _ (inv.serving s role greet k) c.relay.ensures.same c.in_ok-is_full.ensures.goes_on in
+    let offered = serving_offered g.S.ScreenSource.looks g.S.ScreenSource.cuts g.S.ScreenSource.may_end _ _ _ _ _ _ _ s _ _ _ _ _ _ c.in_ok-is_offered.is_offered _ _ relayed c.offer.ensures.grows c.in_ok-is_offered.ensures.offers in
+    let said = serving_said g.S.ScreenSource.looks g.S.ScreenSource.cuts _ _ _ _ s _ _ _ _ _ _ c.in_ok-is_offered.is_offered _ _ _ offered c.say.ensures.says in
     rw (p.1, p.2)
-    (served_halt g.S.ScreenSource.looks g.S.ScreenSource.moves _ g.S.ScreenSource.may_end _ g.K.InputSink.may_refuse _ _ _ _ s _ _ _ _ _ _ _ _ (g.L.Link.state c.loop.link) _ said c.relay.ensures.left inv.failed inv.ended c.in_err-say.ensures.why)
+    (served_halt g.S.ScreenSource.looks g.S.ScreenSource.cuts g.S.ScreenSource.may_end _ g.K.InputSink.may_refuse _ _ _ _ s _ _ _ _ _ _ _ _ (g.L.Link.state c.loop.link) _ said c.relay.ensures.left inv.failed inv.ended c.in_err-say.ensures.why)
 
 pub loop-preserved-then-is_full : goal.loop-preserved-then-is_full
 loop-preserved-then-is_full g c =
@@ -61,34 +62,35 @@ loop-preserved-then-is_full g c =
       tt,
       record {
         left = c.relay.ensures.left;
+        grows = begins_on _ _ _ inv.grows c.offer.ensures.grows;
         wide = c.offer.ensures.source.0 ∙ (inv.wide ∙ sym (c.say.ensures.says.size.0 ∙ (c.offer.ensures.session.0 ∙ c.relay.ensures.same.width)));
         high = c.offer.ensures.source.1 ∙ (inv.high ∙ sym (c.say.ensures.says.size.1 ∙ (c.offer.ensures.session.1 ∙ c.relay.ensures.same.height)));
         failed = ap (λ (l : LinkState). l.failed) same ∙ (c.in_ok-say.ensures.why.0 ∙ inv.failed);
         ended = ap (λ (l : LinkState). l.ended) same ∙ (c.in_ok-say.ensures.why.1 ∙ inv.ended);
         serving = λ s role greet k.
-            let relayed = serving_relayed g.S.ScreenSource.looks g.S.ScreenSource.moves g.K.InputSink.may_refuse _ _ _ _ s _ _ _ _ _ c.in_ok-is_full.is_full _ _ _ _ _ (inv.serving s role greet k) c.relay.ensures.same c.in_ok-is_full.ensures.goes_on in
-            let offered = serving_offered g.S.ScreenSource.looks g.S.ScreenSource.moves (λ a b. HasOnlyLooked g.S.ScreenSource.looks g.S.ScreenSource.known g.S.ScreenSource.answered a b) g.S.ScreenSource.may_end _ _ _ _ _ _ _ s _ _ _ _ _ _ c.in_ok-is_offered.is_offered _ _ relayed c.offer.ensures.grows c.in_ok-is_offered.ensures.offers in
-            let said = serving_said g.S.ScreenSource.looks g.S.ScreenSource.moves _ _ _ _ s _ _ _ _ _ _ c.in_ok-is_offered.is_offered _ _ _ offered c.say.ensures.says in
-            serving_still g.S.ScreenSource.looks g.S.ScreenSource.moves _ _ _ _ s _ _ _ _ _ _ _ false _ _ _ (serving_anew g.S.ScreenSource.looks g.S.ScreenSource.moves _ _ _ _ s _ _ _ _ _ c.in_ok-is_offered.is_offered _ _ said) refl refl (ap (λ (l : LinkState). l.taken) same) (ap (λ (l : LinkState). l.given) same);
+            let relayed = serving_relayed g.S.ScreenSource.looks g.S.ScreenSource.cuts g.K.InputSink.may_refuse _ _ _ _ s _ _ _ _ _ c.in_ok-is_full.is_full _ _ _ _ _ (inv.serving s role greet k) c.relay.ensures.same c.in_ok-is_full.ensures.goes_on in
+            let offered = serving_offered g.S.ScreenSource.looks g.S.ScreenSource.cuts g.S.ScreenSource.may_end _ _ _ _ _ _ _ s _ _ _ _ _ _ c.in_ok-is_offered.is_offered _ _ relayed c.offer.ensures.grows c.in_ok-is_offered.ensures.offers in
+            let said = serving_said g.S.ScreenSource.looks g.S.ScreenSource.cuts _ _ _ _ s _ _ _ _ _ _ c.in_ok-is_offered.is_offered _ _ _ offered c.say.ensures.says in
+            serving_still g.S.ScreenSource.looks g.S.ScreenSource.cuts _ _ _ _ s _ _ _ _ _ _ _ false _ _ _ (serving_anew g.S.ScreenSource.looks g.S.ScreenSource.cuts _ _ _ _ s _ _ _ _ _ c.in_ok-is_offered.is_offered _ _ said) refl refl (ap (λ (l : LinkState). l.taken) same) (ap (λ (l : LinkState). l.given) same);
       },
     )
 
-pub returns-in_err-goes_on : goal.returns-in_err-goes_on
-returns-in_err-goes_on g c = λ s role greet k.
+pub returns-in_err-goes_on-clause-serves : goal.returns-in_err-goes_on-clause-serves
+returns-in_err-goes_on-clause-serves g c = λ s role greet k.
     let inv = c.loop.invariant.2 in
     let p = err_from_is_err_and c.from_residual-in_err-goes_on.result c.from_residual-in_err-goes_on.ensures.1 in
-    let relayed = serving_relayed g.S.ScreenSource.looks g.S.ScreenSource.moves g.K.InputSink.may_refuse _ _ _ _ s _ _ _ _ _ c.in_ok-is_full.is_full _ _ _ _ _ (inv.serving s role greet k) c.relay.ensures.same c.in_ok-is_full.ensures.goes_on in
-    let offered = serving_offered g.S.ScreenSource.looks g.S.ScreenSource.moves (λ a b. HasOnlyLooked g.S.ScreenSource.looks g.S.ScreenSource.known g.S.ScreenSource.answered a b) g.S.ScreenSource.may_end _ _ _ _ _ _ _ s _ _ _ _ _ _ c.in_ok-is_offered.is_offered _ _ relayed c.offer.ensures.grows c.in_ok-is_offered.ensures.offers in
-    let said = serving_said g.S.ScreenSource.looks g.S.ScreenSource.moves _ _ _ _ s _ _ _ _ _ _ c.in_ok-is_offered.is_offered _ _ _ offered c.say.ensures.says in
+    let relayed = serving_relayed g.S.ScreenSource.looks g.S.ScreenSource.cuts g.K.InputSink.may_refuse _ _ _ _ s _ _ _ _ _ c.in_ok-is_full.is_full _ _ _ _ _ (inv.serving s role greet k) c.relay.ensures.same c.in_ok-is_full.ensures.goes_on in
+    let offered = serving_offered g.S.ScreenSource.looks g.S.ScreenSource.cuts g.S.ScreenSource.may_end _ _ _ _ _ _ _ s _ _ _ _ _ _ c.in_ok-is_offered.is_offered _ _ relayed c.offer.ensures.grows c.in_ok-is_offered.ensures.offers in
+    let said = serving_said g.S.ScreenSource.looks g.S.ScreenSource.cuts _ _ _ _ s _ _ _ _ _ _ c.in_ok-is_offered.is_offered _ _ _ offered c.say.ensures.says in
     rw (p.1, p.2)
-    (served_hear g.S.ScreenSource.looks g.S.ScreenSource.moves _ g.S.ScreenSource.may_end _ g.K.InputSink.may_refuse _ _ _ _ s _ _ _ _ _ _ _ c.in_ok-is_offered.is_offered _ _ (g.L.Link.state c.say.new.link) _ said (box_clear c.relay.new.inbox (sym c.waits.ensures ∙ c.if-not-waits.true) c.relay.ensures.left) c.hear.ensures.same (c.in_ok-say.ensures.why.0 ∙ inv.failed) (c.in_ok-say.ensures.why.1 ∙ inv.ended) c.in_err-goes_on.ensures.hears)
+    (served_hear g.S.ScreenSource.looks g.S.ScreenSource.cuts g.S.ScreenSource.may_end _ g.K.InputSink.may_refuse _ _ _ _ s _ _ _ _ _ _ _ c.in_ok-is_offered.is_offered _ _ (g.L.Link.state c.say.new.link) _ said (box_clear c.relay.new.inbox (sym c.waits.ensures ∙ c.if-not-waits.true) c.relay.ensures.left) c.hear.ensures.same (c.in_ok-say.ensures.why.0 ∙ inv.failed) (c.in_ok-say.ensures.why.1 ∙ inv.ended) c.in_err-goes_on.ensures.hears)
 
-pub returns-then-not-goes_on : goal.returns-then-not-goes_on
-returns-then-not-goes_on g c = λ s role greet k.
+pub returns-then-not-goes_on-clause-serves : goal.returns-then-not-goes_on-clause-serves
+returns-then-not-goes_on-clause-serves g c = λ s role greet k.
     let inv = c.loop.invariant.2 in
-    let relayed = serving_relayed g.S.ScreenSource.looks g.S.ScreenSource.moves g.K.InputSink.may_refuse _ _ _ _ s _ _ _ _ _ c.in_ok-is_full.is_full _ _ _ _ _ (inv.serving s role greet k) c.relay.ensures.same c.in_ok-is_full.ensures.goes_on in
-    let offered = serving_offered g.S.ScreenSource.looks g.S.ScreenSource.moves (λ a b. HasOnlyLooked g.S.ScreenSource.looks g.S.ScreenSource.known g.S.ScreenSource.answered a b) g.S.ScreenSource.may_end _ _ _ _ _ _ _ s _ _ _ _ _ _ c.in_ok-is_offered.is_offered _ _ relayed c.offer.ensures.grows c.in_ok-is_offered.ensures.offers in
-    let said = serving_said g.S.ScreenSource.looks g.S.ScreenSource.moves _ _ _ _ s _ _ _ _ _ _ c.in_ok-is_offered.is_offered _ _ _ offered c.say.ensures.says in
+    let relayed = serving_relayed g.S.ScreenSource.looks g.S.ScreenSource.cuts g.K.InputSink.may_refuse _ _ _ _ s _ _ _ _ _ c.in_ok-is_full.is_full _ _ _ _ _ (inv.serving s role greet k) c.relay.ensures.same c.in_ok-is_full.ensures.goes_on in
+    let offered = serving_offered g.S.ScreenSource.looks g.S.ScreenSource.cuts g.S.ScreenSource.may_end _ _ _ _ _ _ _ s _ _ _ _ _ _ c.in_ok-is_offered.is_offered _ _ relayed c.offer.ensures.grows c.in_ok-is_offered.ensures.offers in
+    let said = serving_said g.S.ScreenSource.looks g.S.ScreenSource.cuts _ _ _ _ s _ _ _ _ _ _ c.in_ok-is_offered.is_offered _ _ _ offered c.say.ensures.says in
     let h = rw c.if-not-goes_on.true at c.in_ok-goes_on.ensures.hears in
     let why : (c.in_ok-is_offered.is_offered ≡ true) ⊎ (0 < length c.say.new.session.unsent) =
     elim c.if-is_offered.branch [
@@ -96,7 +98,7 @@ returns-then-not-goes_on g c = λ s role greet k.
       | else-is_offered w ↦ inr (some_bytes w.out.result.now c.say.new.session.unsent w.is_empty.result w.out.ensures.empty w.is_empty.ensures (is_not w.is_empty.result (sym w.value-is ∙ c.if-not-is_empty.true)))
     ] in
     let is = was_offered c.in_ok-is_offered.is_offered _ _ _ _ _ h why in
-    served_end g.S.ScreenSource.looks g.S.ScreenSource.moves _ g.S.ScreenSource.may_end _ g.K.InputSink.may_refuse _ _ _ _ s _ _ _ _ _ _ _ _ (g.L.Link.state c.say.new.link) _ (rw is at said) (box_clear c.relay.new.inbox (sym c.waits.ensures ∙ c.if-not-waits.true) c.relay.ensures.left) (c.in_ok-say.ensures.why.0 ∙ inv.failed) (c.in_ok-say.ensures.why.1 ∙ inv.ended) h
+    served_end g.S.ScreenSource.looks g.S.ScreenSource.cuts g.S.ScreenSource.may_end _ g.K.InputSink.may_refuse _ _ _ _ s _ _ _ _ _ _ _ _ (g.L.Link.state c.say.new.link) _ (rw is at said) (box_clear c.relay.new.inbox (sym c.waits.ensures ∙ c.if-not-waits.true) c.relay.ensures.left) (c.in_ok-say.ensures.why.0 ∙ inv.failed) (c.in_ok-say.ensures.why.1 ∙ inv.ended) h
 
 pub loop-preserved-then-not-is_empty : goal.loop-preserved-then-not-is_empty
 loop-preserved-then-not-is_empty g c =
@@ -106,15 +108,16 @@ loop-preserved-then-not-is_empty g c =
       tt,
       record {
         left = waits_after _ _ _ _ _ _ h;
+        grows = begins_on _ _ _ inv.grows c.offer.ensures.grows;
         wide = c.offer.ensures.source.0 ∙ (inv.wide ∙ sym (c.hear.ensures.same.width ∙ (c.say.ensures.says.size.0 ∙ (c.offer.ensures.session.0 ∙ c.relay.ensures.same.width))));
         high = c.offer.ensures.source.1 ∙ (inv.high ∙ sym (c.hear.ensures.same.height ∙ (c.say.ensures.says.size.1 ∙ (c.offer.ensures.session.1 ∙ c.relay.ensures.same.height))));
         failed = h.so.0 ∙ (c.in_ok-say.ensures.why.0 ∙ inv.failed);
         ended = h.so.1 ∙ (c.in_ok-say.ensures.why.1 ∙ inv.ended);
         serving = λ s role greet k.
-            let relayed = serving_relayed g.S.ScreenSource.looks g.S.ScreenSource.moves g.K.InputSink.may_refuse _ _ _ _ s _ _ _ _ _ c.in_ok-is_full.is_full _ _ _ _ _ (inv.serving s role greet k) c.relay.ensures.same c.in_ok-is_full.ensures.goes_on in
-            let offered = serving_offered g.S.ScreenSource.looks g.S.ScreenSource.moves (λ a b. HasOnlyLooked g.S.ScreenSource.looks g.S.ScreenSource.known g.S.ScreenSource.answered a b) g.S.ScreenSource.may_end _ _ _ _ _ _ _ s _ _ _ _ _ _ c.in_ok-is_offered.is_offered _ _ relayed c.offer.ensures.grows c.in_ok-is_offered.ensures.offers in
-            let said = serving_said g.S.ScreenSource.looks g.S.ScreenSource.moves _ _ _ _ s _ _ _ _ _ _ c.in_ok-is_offered.is_offered _ _ _ offered c.say.ensures.says in
-            serving_heard g.S.ScreenSource.looks g.S.ScreenSource.moves _ _ _ _ s _ _ _ _ _ _ _ c.in_ok-is_offered.is_offered _ _ (g.L.Link.state c.say.new.link) _ said (box_clear c.relay.new.inbox (sym c.waits.ensures ∙ c.if-not-waits.true) c.relay.ensures.left) c.hear.ensures.same h;
+            let relayed = serving_relayed g.S.ScreenSource.looks g.S.ScreenSource.cuts g.K.InputSink.may_refuse _ _ _ _ s _ _ _ _ _ c.in_ok-is_full.is_full _ _ _ _ _ (inv.serving s role greet k) c.relay.ensures.same c.in_ok-is_full.ensures.goes_on in
+            let offered = serving_offered g.S.ScreenSource.looks g.S.ScreenSource.cuts g.S.ScreenSource.may_end _ _ _ _ _ _ _ s _ _ _ _ _ _ c.in_ok-is_offered.is_offered _ _ relayed c.offer.ensures.grows c.in_ok-is_offered.ensures.offers in
+            let said = serving_said g.S.ScreenSource.looks g.S.ScreenSource.cuts _ _ _ _ s _ _ _ _ _ _ c.in_ok-is_offered.is_offered _ _ _ offered c.say.ensures.says in
+            serving_heard g.S.ScreenSource.looks g.S.ScreenSource.cuts _ _ _ _ s _ _ _ _ _ _ _ c.in_ok-is_offered.is_offered _ _ (g.L.Link.state c.say.new.link) _ said (box_clear c.relay.new.inbox (sym c.waits.ensures ∙ c.if-not-waits.true) c.relay.ensures.left) c.hear.ensures.same h;
       },
     )
 
@@ -125,14 +128,27 @@ loop-preserved g c =
       tt,
       record {
         left = c.relay.ensures.left;
+        grows = begins_on _ _ _ inv.grows c.offer.ensures.grows;
         wide = c.offer.ensures.source.0 ∙ (inv.wide ∙ sym (c.say.ensures.says.size.0 ∙ (c.offer.ensures.session.0 ∙ c.relay.ensures.same.width)));
         high = c.offer.ensures.source.1 ∙ (inv.high ∙ sym (c.say.ensures.says.size.1 ∙ (c.offer.ensures.session.1 ∙ c.relay.ensures.same.height)));
         failed = c.in_ok-say.ensures.why.0 ∙ inv.failed;
         ended = c.in_ok-say.ensures.why.1 ∙ inv.ended;
         serving = λ s role greet k.
-            let relayed = serving_relayed g.S.ScreenSource.looks g.S.ScreenSource.moves g.K.InputSink.may_refuse _ _ _ _ s _ _ _ _ _ c.in_ok-is_full.is_full _ _ _ _ _ (inv.serving s role greet k) c.relay.ensures.same c.in_ok-is_full.ensures.goes_on in
-            let offered = serving_offered g.S.ScreenSource.looks g.S.ScreenSource.moves (λ a b. HasOnlyLooked g.S.ScreenSource.looks g.S.ScreenSource.known g.S.ScreenSource.answered a b) g.S.ScreenSource.may_end _ _ _ _ _ _ _ s _ _ _ _ _ _ c.in_ok-is_offered.is_offered _ _ relayed c.offer.ensures.grows c.in_ok-is_offered.ensures.offers in
-            let said = serving_said g.S.ScreenSource.looks g.S.ScreenSource.moves _ _ _ _ s _ _ _ _ _ _ c.in_ok-is_offered.is_offered _ _ _ offered c.say.ensures.says in
-            serving_anew g.S.ScreenSource.looks g.S.ScreenSource.moves _ _ _ _ s _ _ _ _ _ c.in_ok-is_offered.is_offered _ _ said;
+            let relayed = serving_relayed g.S.ScreenSource.looks g.S.ScreenSource.cuts g.K.InputSink.may_refuse _ _ _ _ s _ _ _ _ _ c.in_ok-is_full.is_full _ _ _ _ _ (inv.serving s role greet k) c.relay.ensures.same c.in_ok-is_full.ensures.goes_on in
+            let offered = serving_offered g.S.ScreenSource.looks g.S.ScreenSource.cuts g.S.ScreenSource.may_end _ _ _ _ _ _ _ s _ _ _ _ _ _ c.in_ok-is_offered.is_offered _ _ relayed c.offer.ensures.grows c.in_ok-is_offered.ensures.offers in
+            let said = serving_said g.S.ScreenSource.looks g.S.ScreenSource.cuts _ _ _ _ s _ _ _ _ _ _ c.in_ok-is_offered.is_offered _ _ _ offered c.say.ensures.says in
+            serving_anew g.S.ScreenSource.looks g.S.ScreenSource.cuts _ _ _ _ s _ _ _ _ _ c.in_ok-is_offered.is_offered _ _ said;
       },
     )
+
+pub returns-in_err-is_offered-clause-grows : goal.returns-in_err-is_offered-clause-grows
+returns-in_err-is_offered-clause-grows g c = begins_on _ _ _ c.loop.invariant.2.grows c.offer.ensures.grows
+
+pub returns-in_err-say-clause-grows : goal.returns-in_err-say-clause-grows
+returns-in_err-say-clause-grows g c = begins_on _ _ _ c.loop.invariant.2.grows c.offer.ensures.grows
+
+pub returns-in_err-goes_on-clause-grows : goal.returns-in_err-goes_on-clause-grows
+returns-in_err-goes_on-clause-grows g c = begins_on _ _ _ c.loop.invariant.2.grows c.offer.ensures.grows
+
+pub returns-then-not-goes_on-clause-grows : goal.returns-then-not-goes_on-clause-grows
+returns-then-not-goes_on-clause-grows g c = begins_on _ _ _ c.loop.invariant.2.grows c.offer.ensures.grows

@@ -78,10 +78,10 @@ returns-clause-cuts g c = λ reason.
       within = cut_within st.asked.area (unwrap_or st.asked.area nowhere) nowhere st.asked.width st.asked.height cut.width cut.height refl (refl, refl)
           (subst (λ (o : Option Rect). LiesOn st.asked.width st.asked.height o) area_is c.area-area.ensures.within) (i.asked_size.0 ∙ sym (c.take.ensures.room.0 ∙ i.cut_size.0)) (i.asked_size.1 ∙ sym (c.take.ensures.room.1 ∙ i.cut_size.1));
     } in
-    subst (λ (t : State). CutsAt now (record t { cut = c.begin.new.self.cut; piece = piece; unsent = bytes }) known least most) (sym mid_is)
-    (subst (λ (t : Cut). CutsAt now (record st { asked = answer.asked; have = answer.have; cut = t; piece = piece; unsent = bytes }) known least most) (sym begun)
-    (turned st now known least most n cut nowhere answer.asked answer.have bell text (answer_coming true found cut) piece bytes
-    c.self.view_is c.requires.ready cut_for (ok.1, ok.2) rung newer part (c.answer-answer.ensures.last ∙ c.was_cut.ensures.last)
+    subst (λ (t : State). CutsAt g.S.ScreenSource.cuts c.args.source.now c.take.new.source now (record t { cut = c.begin.new.self.cut; piece = piece; unsent = bytes }) known least most) (sym mid_is)
+    (subst (λ (t : Cut). CutsAt g.S.ScreenSource.cuts c.args.source.now c.take.new.source now (record st { asked = answer.asked; have = answer.have; cut = t; piece = piece; unsent = bytes }) known least most) (sym begun)
+    (turned g.S.ScreenSource.cuts c.args.source.now c.take.new.source st now known least most n cut nowhere answer.asked answer.have bell text (answer_coming true found cut) piece bytes
+    c.in_ok-number.ensures.cuts c.self.view_is c.requires.ready cut_for (ok.1, ok.2) rung newer part (c.answer-answer.ensures.last ∙ c.was_cut.ensures.last)
     (λ es a. subst (λ (o : Option Rect). AskedStands answer.asked (answered_at n (update_in st.format st.choice cut o) (WasCut n ∷ es))) area_is (c.answer-answer.ensures.asked (WasCut n ∷ es) (c.was_cut.ensures.stands es a)))
     (λ es h. subst (λ (o : Option Rect). HaveStands answer.have (answered_at n (update_in st.format st.choice cut o) es)) area_is (c.answer-answer.ensures.have es h))
     bytes_are))
