@@ -46,10 +46,16 @@ where
     ghost invariant = { λ w. pending w.handle ≡ [] };
 }
 
-/// Knows all changes from now on, and sees that the tally stands at the number of updates: where one was published and
-/// isn't raised, it is. It says whether these are all updates.
-fn catch_up<J: Naming>(front: &mut Front<J>, roll: &Roll<J>, number: u64) -> bool
-    requires { (number ≡ length (puts_of front.old)) × (number < 2 ^ 62) }
+/// Knows all changes from now on, and sees that the tally stands at the number of updates: where one was published, as
+/// the news tell, and isn't raised, it is. It says whether these are all updates.
+fn catch_up<J: Naming>(
+    front: &mut Front<J>,
+    roll: &Roll<J>,
+    number: u64,
+    news: &PairNews<J>,
+) -> bool
+    requires count { (number ≡ length (puts_of front.old)) × (number < 2 ^ 62) }
+    requires published { news.now ≡ puts_of front.old }
     ensures grows { Begins front.old front.new }
     ensures count { IsTrue result → length front.new ≡ 2 * number }
 {
@@ -61,7 +67,7 @@ fn catch_up<J: Naming>(front: &mut Front<J>, roll: &Roll<J>, number: u64) -> boo
     if changes != (2 * number).saturating_sub(1) {
         return false;
     }
-    front.raise(roll, changes, number)
+    front.raise(roll, changes, number, news)
 }
 
 impl<J: Naming, R: Wait + Drop> PairWriter<J, R> {
@@ -108,8 +114,9 @@ impl<J: Naming, R: Wait + Drop> Puts for PairWriter<J, R> {
             return Err((Fault::NumbersOut, patch));
         }
         let mut front = copy.front();
+        let news = tell(&self.handle);
         // No other end adds changes, so neither of these is ever so.
-        if !catch_up(&mut front, &self.roll, number) {
+        if !catch_up(&mut front, &self.roll, number, &news) {
             return Err((Fault::Memory, patch));
         }
         front.is_legal();

@@ -1,10 +1,8 @@
 //! The end that puts updates.
 
-ghost use Rattle.std.specs.Prelude.{◌≡◌, ◌*◌, ◌+◌, ◌<◌, ◌≤◌, ◌^◌, ◌∷◌, ◌++◌, [], length, IfOk, IfErr, MatchBool};
+ghost use Rattle.std.specs.Prelude.{◌≡◌, ◌*◌, ◌+◌, ◌<◌, ◌≤◌, ◌^◌, ◌∷◌, ◌++◌, [], length, IfOk, IfErr};
 ghost use Rattle.left_right.specs.Handles.{published, pending};
-ghost use Rattle.raster.specs.Update.{Update};
 ghost use Rattle.reflect_core.specs.Plain.{IsPutRefusal};
-ghost use Rattle.reflect_core.specs.Sequential.{Begins};
 ghost use Rattle.tally_word.specs.History.{Put, Raise, puts_of};
 
 use crate::news::News;
@@ -12,11 +10,11 @@ use left_right::{Absorb, WriteHandle};
 use painter::Patch;
 use pixel_format::{Fault, LIMIT};
 use reflect_core::Puts;
-use screen_pair::{PairNews, Published, Stamped, publish, tell};
+use screen_pair::{Published, Stamped, publish, tell};
 use std::marker::Model;
 use std::sync::Wait;
 use std::thread;
-use tally_word::{Change, Front, Naming, Raiser};
+use tally_word::{Change, Naming, Raiser};
 
 /// Puts updates, and raises the tally after each: contracts see its history, all changes so far.
 #[derive(Drop)]
@@ -43,21 +41,6 @@ where
     ghost view = { λ p. p.raiser };
 
     ghost invariant = { λ p. (pending p.handle ≡ []) × (puts_of (published p.handle) ≡ puts_of p.raiser) × (tally_of p.raiser ≡ length (puts_of p.raiser)) };
-}
-
-/// Raises the tally to the number of updates that are published, as the news of the pair tell.
-fn lift<J: Naming>(
-    raiser: &mut Raiser<J>,
-    number: u64,
-    front: &Front<J>,
-    news: &PairNews<J>,
-) -> bool
-    requires published { puts_of front.now ≡ news.now }
-    requires put { (u : Update) × (front.now ≡ raiser.old ++ Put u ∷ []) }
-    requires number { (number ≡ length (puts_of front.now)) × (number ≤ 2 ^ 62) }
-    ensures { MatchBool result (raiser.new ≡ front.now ++ Raise number ∷ []) (Begins front.now raiser.new × (length front.now < length raiser.new)) }
-{
-    raiser.raise(number, front)
 }
 
 impl<J: Naming, R: Wait + Drop> Publisher<J, R> {
@@ -118,7 +101,7 @@ impl<J: Naming, R: Wait + Drop> Puts for Publisher<J, R> {
             return Err((Fault::Memory, patch));
         }
         let news = tell(&self.handle);
-        if !lift(&mut self.raiser, number + 1, &front, &news) {
+        if !self.raiser.raise(number + 1, &front, &news) {
             // Nor is this.
             for _ in self.rt.forever() {
                 thread::yield_now();

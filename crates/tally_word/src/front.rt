@@ -8,6 +8,7 @@ use crate::change::Change;
 use crate::law::{Add, Law, Look, Nothing};
 use crate::naming::Naming;
 use crate::roll::Roll;
+use crate::shows::Shows;
 use logbook::{Offer, Seen};
 use painter::Patch;
 use std::marker::{Model, PhantomData};
@@ -91,9 +92,16 @@ impl<J: Naming> Front<J> {
         found == changes
     }
 
-    /// Raises the tally to the number of the updates that are known, by one exchange, and says whether it did: not
-    /// where there are more changes, which are known then.
-    pub fn raise(&mut self, roll: &Roll<J>, changes: u64, number: u64) -> bool
+    /// Raises the tally to the number of the updates that are known, all of which are shown to be published, by one
+    /// exchange, and says whether it did: not where there are more changes, which are known then.
+    pub fn raise<S: Shows<J>>(
+        &mut self,
+        roll: &Roll<J>,
+        changes: u64,
+        number: u64,
+        shown: &S,
+    ) -> bool
+        requires published { S.published shown.now ≡ puts_of self.old }
         requires count { (changes ≡ length self.old) × (changes < 2 ^ 63) }
         requires next { (number ≡ length (puts_of self.old)) × (number ≡ tally_of self.old + 1) }
         ensures grows { Begins self.old self.new }

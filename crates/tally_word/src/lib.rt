@@ -14,6 +14,7 @@ mod news;
 mod opened;
 mod raiser;
 mod roll;
+mod shows;
 
 pub use change::Change;
 pub use front::Front;
@@ -24,3 +25,4 @@ pub use news::TallyNews;
 pub use opened::Opened;
 pub use raiser::{Raiser, tally};
 pub use roll::Roll;
+pub use shows::Shows;
