@@ -1,6 +1,5 @@
 //! Which host is told.
 
-use link::StopFlag;
 use serving::Bell;
 use std::alloc::Global;
 use std::sync::atomic::{AtomicU64, Ordering};
@@ -10,7 +9,7 @@ use std::sync::{Arc, Condvar, Mutex, Wait};
 #[derive(Drop)]
 pub struct Errand<L: Drop> {
     pub link: L,
-    number: u64,
+    pub number: u64,
 }
 
 #[derive(Drop)]
@@ -29,23 +28,6 @@ pub struct Handover<L: Drop, W: Bell + Drop> {
     left: AtomicU64,
     // Where the thread that tells a host rests.
     bell: Arc<W, Global>,
-}
-
-/// The flag of one host: it is set once the host is left.
-#[derive(Drop)]
-pub struct WhileHere<'a> {
-    left: &'a AtomicU64,
-    number: u64,
-}
-
-impl StopFlag for WhileHere<'_> {
-    ghost use Rattle.std.specs.Prelude.{⊤};
-
-    ghost was_set = { λ _. ⊤ };
-
-    fn is_set(&self) -> bool {
-        self.left.load(Ordering::SeqCst) != self.number
-    }
 }
 
 impl<L: Drop, W: Bell + Drop> Handover<L, W> {
@@ -98,11 +80,8 @@ impl<L: Drop, W: Bell + Drop> Handover<L, W> {
         post.next.take()
     }
 
-    /// The flag of the host of an errand.
-    pub fn flag(&self, errand: &Errand<L>) -> WhileHere<'_> {
-        WhileHere {
-            left: &self.left,
-            number: errand.number,
-        }
+    /// Whether the host of this number was left.
+    pub fn is_left(&self, number: u64) -> bool {
+        self.left.load(Ordering::SeqCst) != number
     }
 }

@@ -1,1 +1,6 @@
+mod Growing
+mod OneHistory
 mod Places
+mod Promising
+mod Telling
+mod Visiting

@@ -1,1 +1,5 @@
 pub mod Senders
+pub mod Tellings
+pub mod Visits
+pub mod Promise
+pub mod History

@@ -7,6 +7,9 @@
 #![tactic(auto)]
 
 mod crew;
+mod errands;
+mod join;
+mod law;
 mod place;
 mod reader;
 mod run;
@@ -14,5 +17,7 @@ mod seated;
 mod welcome;
 mod writer;
 
-pub use place::{OfSender, Place, PlaceHandle};
+pub use join::join_place;
+pub use law::{looks_and_cuts_are_one_history, visits_are_of_one_list, visits_keep_the_promise};
+pub use place::{OfPlace, Place, PlaceHandle};
 pub use run::{Running, run_all};

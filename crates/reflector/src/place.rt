@@ -1,18 +1,21 @@
 //! A place, which serves one viewer after another.
 
-ghost use Rattle.std.specs.Prelude.{◌≡◌, IfOk, IfErr};
-ghost use Rattle.pixel_format.specs.declared.fault.Fault.TheVariants.{Memory};
-ghost use Rattle.input_relay.specs.Ends.{place_of, relay_of};
+ghost use Rattle.std.specs.Prelude.{◌≡◌, ◌⊎◌, ⊤, IfOk, IfErr};
+ghost use Rattle.pixel_format.specs.declared.fault.Fault.TheVariants.{Memory, NumbersOut, QueueFull};
+ghost use Rattle.input_relay.specs.Ends.{inputs_of, place_of, relay_of};
+ghost use Rattle.serving.specs.Answers.{unused};
+ghost use Rattle.reflector.specs.Promise.{KeepsPromise};
 ghost use Rattle.reflector.specs.Senders.{IsSameSender};
+ghost use Rattle.reflector.specs.Visits.{HasVisits, IsReceived, at, setup_of};
 
 use crate::crew::Crew;
 use crate::seated::{Seat, Seated};
 use crate::welcome::Welcome;
 use input_relay::Sender;
-use link::{Rest, StopFlag};
+use link::{Link, Rest, StopFlag};
 use pixel_format::Fault;
 use reflect_core::ScreenSource;
-use roles::InputSink;
+use roles::{InputSink, Role};
 use serving::{Bell, Door, Ringing, Stop};
 use std::alloc::Global;
 use std::marker::Brand;
@@ -31,25 +34,43 @@ const REST_MILLIS: u64 = 1;
 
 /// What a place gives back.
 #[derive(Drop)]
-pub struct Place<S, R: Wait + Drop> {
+pub struct Place<S, D, R: Wait + Drop> {
+    /// Where its viewers came from.
+    pub door: D,
     /// What it looked at and cut.
     pub watcher: S,
     /// What sent its viewers' input.
     pub sender: Sender<R>,
 }
 
-/// That a place gives back the sender that it began with. It may have sent more.
+/// That a place gives back the door, the watcher and the sender that it began with, after its visits: each viewer that
+/// the door let in, in turn, was served in this role, over a screen of this size and name (`IsReceived`). So it keeps
+/// the promise of the program: all of them were shown whole screens of one list, and no more went on of their input
+/// than the role allows (`KeepsPromise`).
 #[derive(Drop)]
-pub struct OfSender<R: Wait + Drop>(pub Snapshot<Sender<R>>);
+pub struct OfPlace<S, D, R: Wait + Drop> {
+    pub role: Role,
+    pub width: u64,
+    pub height: u64,
+    pub name: Snapshot<Vec<u8>>,
+    pub door: Snapshot<D>,
+    pub watcher: Snapshot<S>,
+    pub sender: Snapshot<Sender<R>>,
+}
 
-impl<S, R: Wait + Drop> Promise<Place<S, R>> for OfSender<R> {
+impl<S: ScreenSource, D: Door, R: Wait + Drop> Promise<Place<S, D, R>> for OfPlace<S, D, R> {
+    ghost use Rattle.std.specs.Prelude.{◌≡◌, ◌⊎◌, ⊤};
+    ghost use Rattle.pixel_format.specs.declared.fault.Fault.TheVariants.{NumbersOut, QueueFull};
+    ghost use Rattle.input_relay.specs.Ends.{inputs_of};
     ghost use Rattle.reflector.specs.Senders.{IsSameSender};
+    ghost use Rattle.reflector.specs.Promise.{KeepsPromise};
+    ghost use Rattle.reflector.specs.Visits.{HasVisits, IsReceived, at, setup_of};
 
-    ghost kept_by = { λ promise place. IsSameSender promise.0.value place.sender };
+    ghost kept_by = { λ promise place. IsSameSender promise.sender.value place.sender × HasVisits D.lets_in D.sees_off (λ source_old source_new sent_old sent_new why left. IsReceived S.looks S.cuts S.may_end ⊤ (λ fault. (fault ≡ QueueFull) ⊎ (fault ≡ NumbersOut)) S.known (setup_of promise.width promise.height promise.name.value.items) promise.role source_old source_new sent_old sent_new why left) (at promise.door.value promise.watcher.value (inputs_of promise.sender.value)) (at place.door place.watcher (inputs_of place.sender)) × KeepsPromise D.lets_in D.sees_off S.known (setup_of promise.width promise.height promise.name.value.items) promise.role (at promise.door.value promise.watcher.value (inputs_of promise.sender.value)) (at place.door place.watcher (inputs_of place.sender)) };
 }
 
 /// The thread of a place.
-pub type PlaceHandle<S, R> = PromisedHandle<Place<S, R>, OfSender<R>>;
+pub type PlaceHandle<S, D, R> = PromisedHandle<Place<S, D, R>, OfPlace<S, D, R>>;
 
 /// Rests for a moment: the relay is full, and whoever takes of it rings no bell.
 #[derive(Drop)]
@@ -63,7 +84,31 @@ impl<R: Clock + Drop> Rest for Nap<R> {
     }
 }
 
-/// Serves one viewer after another, until no more come or the flag is set. One for whom there is no memory is let go.
+/// Serves one viewer, and answers how many answers were begun, and how it ended. One for whom there is no memory is let
+/// go (`Memory`).
+fn receive<L: Link, S: ScreenSource, K: InputSink, F: StopFlag, Z: Rest, R: Wait>(
+    rt: &R,
+    welcome: &Welcome,
+    link: &mut L,
+    source: &mut S,
+    sink: &mut K,
+    stop: &F,
+    rest: &Z,
+) -> (u64, Result<(), Fault>)
+    requires screen { (s : S) → (S.width s ≡ welcome.now.width) × (S.height s ≡ welcome.now.height) }
+    requires fresh { L.state link.old ≡ unused }
+    ensures { IsReceived S.looks S.cuts S.may_end (F.was_set stop.now) K.may_refuse S.known (setup_of welcome.now.width welcome.now.height welcome.now.name.items) welcome.now.role source.old source.new (K.sent sink.old) (K.sent sink.new) result.1 (L.state link.new) }
+{
+    match welcome.open() {
+        Ok(mut session) => {
+            let why = run_viewer(rt, link, source, sink, &mut session, stop, rest);
+            (session.answers(), why)
+        }
+        Err(fault) => (0, Err(fault)),
+    }
+}
+
+/// Serves one viewer after another, until no more come or the flag is set.
 fn serve_viewers<S: ScreenSource, K: InputSink, D: Door, F: StopFlag, Z: Rest, R: Wait>(
     rt: &R,
     welcome: &Welcome,
@@ -74,6 +119,7 @@ fn serve_viewers<S: ScreenSource, K: InputSink, D: Door, F: StopFlag, Z: Rest, R
     rest: &Z,
 )
     requires { (s : S) → (S.width s ≡ welcome.now.width) × (S.height s ≡ welcome.now.height) }
+    ensures { HasVisits D.lets_in D.sees_off (λ source_old source_new sent_old sent_new why left. IsReceived S.looks S.cuts S.may_end (F.was_set stop.now) K.may_refuse S.known (setup_of welcome.now.width welcome.now.height welcome.now.name.items) welcome.now.role source_old source_new sent_old sent_new why left) (at door.old source.old (K.sent sink.old)) (at door.new source.new (K.sent sink.new)) }
 {
     for _ in rt.forever() {
         if stop.is_set() {
@@ -82,13 +128,7 @@ fn serve_viewers<S: ScreenSource, K: InputSink, D: Door, F: StopFlag, Z: Rest, R
         let Some(mut link) = door.next() else {
             return;
         };
-        let (answers, why) = match welcome.open() {
-            Ok(mut session) => {
-                let why = run_viewer(rt, &mut link, source, sink, &mut session, stop, rest);
-                (session.answers(), why)
-            }
-            Err(fault) => (0, Err(fault)),
-        };
+        let (answers, why) = receive(rt, welcome, &mut link, source, sink, stop, rest);
         door.left(link, answers, why);
     }
     unreachable!()
@@ -115,7 +155,8 @@ fn serve_from<
 ) -> Sender<R>
     requires screen { (s : S) → (S.width s ≡ welcome.now.width) × (S.height s ≡ welcome.now.height) }
     requires named { (relay_of sender ≡ T.relay) × (place_of sender ≡ T.place) }
-    ensures { (relay_of result ≡ T.relay) × (place_of result ≡ T.place) }
+    ensures named { (relay_of result ≡ T.relay) × (place_of result ≡ T.place) }
+    ensures visits { HasVisits D.lets_in D.sees_off (λ source_old source_new sent_old sent_new why left. IsReceived S.looks S.cuts S.may_end (F.was_set stop.now) (λ fault. (fault ≡ QueueFull) ⊎ (fault ≡ NumbersOut)) S.known (setup_of welcome.now.width welcome.now.height welcome.now.name.items) welcome.now.role source_old source_new sent_old sent_new why left) (at door.old source.old (inputs_of sender)) (at door.new source.new (inputs_of result)) }
 {
     let inner: Seated<T, R> = Seated::new(sender);
     let mut sink = Ringing { inner, bell };
@@ -133,9 +174,11 @@ fn keep<S: ScreenSource, D: Door, W: Bell + Drop, F: StopFlag, R: Wait + Clock +
     sender: Sender<R>,
     bell: W,
     stop: &F,
-) -> Place<S, R>
+) -> Place<S, D, R>
     requires { (s : S) → (S.width s ≡ welcome.width) × (S.height s ≡ welcome.height) }
-    ensures { IsSameSender sender result.sender }
+    ensures sender { IsSameSender sender result.sender }
+    ensures visits { HasVisits D.lets_in D.sees_off (λ source_old source_new sent_old sent_new why left. IsReceived S.looks S.cuts S.may_end (F.was_set stop.now) (λ fault. (fault ≡ QueueFull) ⊎ (fault ≡ NumbersOut)) S.known (setup_of welcome.width welcome.height welcome.name.items) welcome.role source_old source_new sent_old sent_new why left) (at door watcher (inputs_of sender)) (at result.door result.watcher (inputs_of result.sender)) }
+    ensures promise { KeepsPromise D.lets_in D.sees_off S.known (setup_of welcome.width welcome.height welcome.name.items) welcome.role (at door watcher (inputs_of sender)) (at result.door result.watcher (inputs_of result.sender)) }
 {
     let rest = Nap { clock: rt };
     let sender = serve_from::<Brand, S, D, W, F, Nap<R>, R>(
@@ -148,7 +191,11 @@ fn keep<S: ScreenSource, D: Door, W: Bell + Drop, F: StopFlag, R: Wait + Clock +
         stop,
         &rest,
     );
-    Place { watcher, sender }
+    Place {
+        door,
+        watcher,
+        sender,
+    }
 }
 
 /// Starts the thread of a place. It fails where memory is refused, or no thread can be made (`Memory`).
@@ -158,7 +205,7 @@ pub(crate) fn start_place<S, D, B, W, R>(
     door: D,
     watcher: S,
     sender: Sender<R>,
-) -> Result<PlaceHandle<S, R>, Fault>
+) -> Result<PlaceHandle<S, D, R>, Fault>
 where
     S: ScreenSource + Drop + Send + 'static,
     D: Door + Send + 'static,
@@ -166,18 +213,30 @@ where
     W: Bell + Drop + Send + Sync + 'static,
     R: Threads + Wait + Clock + Copy + Drop + Send + 'static,
     requires { (s : S) → (S.width s ≡ welcome.width) × (S.height s ≡ welcome.height) }
-    ensures ok { IfOk result (λ handle. handle.promise.0.value ≡ sender) }
+    ensures welcome { IfOk result (λ handle. (handle.promise.role ≡ welcome.role) × (handle.promise.width ≡ welcome.width) × (handle.promise.height ≡ welcome.height) × (handle.promise.name.value.items ≡ welcome.name.items)) }
+    ensures ends { IfOk result (λ handle. (handle.promise.door.value ≡ door) × (handle.promise.watcher.value ≡ watcher) × (handle.promise.sender.value ≡ sender)) }
     ensures err { IfErr result (λ fault. fault ≡ Memory) }
 {
     let rt = crew.rt;
     let bell = Arc::try_clone(&crew.writer)?;
     let stop: Arc<Stop<Arc<B, Global>>, Global> = Arc::try_clone(&crew.stop)?;
-    let promise = OfSender(Snapshot::of(&sender));
+    let promise = OfPlace {
+        role: welcome.role,
+        width: welcome.width,
+        height: welcome.height,
+        name: Snapshot::of(&welcome.name),
+        door: Snapshot::of(&door),
+        watcher: Snapshot::of(&watcher),
+        sender: Snapshot::of(&sender),
+    };
     let started = Builder::new().stack_size(STACK).spawn_with(
         &rt,
         promise,
-        move ||
+        move || -> Place<S, D, R>
             requires { (s : S) → (S.width s ≡ welcome.width) × (S.height s ≡ welcome.height) }
+            ensures sender { IsSameSender sender result.sender }
+            ensures visits { HasVisits D.lets_in D.sees_off (λ source_old source_new sent_old sent_new why left. IsReceived S.looks S.cuts S.may_end ⊤ (λ fault. (fault ≡ QueueFull) ⊎ (fault ≡ NumbersOut)) S.known (setup_of welcome.width welcome.height welcome.name.items) welcome.role source_old source_new sent_old sent_new why left) (at door watcher (inputs_of sender)) (at result.door result.watcher (inputs_of result.sender)) }
+            ensures promise { KeepsPromise D.lets_in D.sees_off S.known (setup_of welcome.width welcome.height welcome.name.items) welcome.role (at door watcher (inputs_of sender)) (at result.door result.watcher (inputs_of result.sender)) }
         { keep(rt, welcome, door, watcher, sender, bell, &*stop) },
     );
     match started {

@@ -1,17 +1,23 @@
 //! A run: one host after another, and their viewers' places.
 
-ghost use Rattle.std.specs.Prelude.{◌≡◌, ◌⊎◌, ◌+◌, ◌≤◌, ℕ, [], All, map, length, vec_len, IfOk, IfErr};
+ghost use Rattle.std.specs.Prelude.{◌≡◌, ◌⊎◌, ◌+◌, ◌≤◌, ℕ, [], ◌∷◌, ⊤, All, drop, map, length, slice_index_or, vec_len, IfOk, IfErr};
+ghost use Rattle.reflect_core.specs.Sequential.{nothing_put};
 ghost use Rattle.pixel_format.specs.declared.fault.Fault.TheVariants.{Memory, NoPlace};
 ghost use Rattle.raster.specs.Size.{IsScreenSize};
-ghost use Rattle.input_relay.specs.Ends.{fresh, host_of, relay_of, strand_of};
+ghost use Rattle.input_relay.specs.Ends.{fresh, host_of, relay_of, strand_of, taken_of};
+ghost use Rattle.roles.specs.Strokes.{StrokesStand};
+ghost use Rattle.reflect_core.specs.Sequential as step;
+ghost use Rattle.tally_word.specs.Reaches.{Reaches};
+ghost use Rattle.reflector.specs.Tellings.{HasTold, TellsHosts, desk};
 ghost use Rattle.tally_word.specs.History.{puts_of};
 ghost use Rattle.host_turns.specs.Running.{HasRun, IsLinkOf, IsOver};
+ghost use Rattle.reflector.specs.Visits.{IsOfScreen};
 
 use crate::crew::Crew;
 use crate::place::{PlaceHandle, start_place};
 use crate::reader::{HostsRead, ReaderHandle, start_reader};
 use crate::welcome::Welcome;
-use crate::writer::{WriterHandle, start_writer};
+use crate::writer::{HostsTold, WriterHandle, start_writer};
 use host_turns::{Ground, Handover, Hosts};
 use input_relay::{Sender, Taker, relay};
 use link::{Link, Rest};
@@ -28,7 +34,7 @@ use std::time::Clock;
 use tally_word::{Naming, Opened};
 
 /// What a run leaves.
-pub struct Running<L, P, S, R: Wait + Drop> {
+pub struct Running<L, P, S: ScreenSource, D: Door, R: Wait + Drop> {
     /// The answer with which the run ended: of reading the last host, or of joining one.
     pub result: Result<(), Fault>,
     /// The link that each host was read of, in turn.
@@ -37,14 +43,24 @@ pub struct Running<L, P, S, R: Wait + Drop> {
     pub publisher: P,
     /// What took the viewers' input.
     pub taker: Taker<R>,
+    /// Whose key or button is down, of what was taken, and how many inputs of each place weren't told.
+    pub strokes: Strokes,
     /// The places, by their numbers, each still to be joined: it gives back its watcher and its sender.
-    pub places: Vec<PlaceHandle<S, R>>,
+    pub places: Vec<PlaceHandle<S, D, R>>,
 }
 
 /// The threads of a run.
-struct Started<L: Link, H: Hosts<L>, P: Puts + Drop, S, R: Wait + Drop> {
-    places: Vec<PlaceHandle<S, R>>,
-    writer: WriterHandle<R>,
+struct Started<
+    L: Link,
+    H: Hosts<L>,
+    P: Puts + Drop,
+    S: ScreenSource,
+    D: Door,
+    W: Bell + Drop,
+    R: Wait + Drop,
+> {
+    places: Vec<PlaceHandle<S, D, R>>,
+    writer: WriterHandle<L, W, S, R>,
     reader: ReaderHandle<L, H, P>,
 }
 
@@ -55,7 +71,7 @@ fn start_places<S, D, B, W, R>(
     mut doors: Vec<(Role, D)>,
     mut watchers: Vec<S>,
     senders: Vec<Sender<R>>,
-) -> Result<Vec<PlaceHandle<S, R>>, Fault>
+) -> Result<Vec<PlaceHandle<S, D, R>>, Fault>
 where
     S: ScreenSource + Drop + Send + 'static,
     D: Door + Send + 'static,
@@ -65,7 +81,10 @@ where
     requires size { IsScreenSize joined.now.w joined.now.h }
     requires screen { (s : S) → (S.width s ≡ joined.now.w) × (S.height s ≡ joined.now.h) }
     requires count { (vec_len doors ≡ vec_len senders) × (vec_len watchers ≡ vec_len senders) }
-    ensures of { IfOk result (λ places. map (λ place. place.promise.0.value) places.items ≡ senders.items) }
+    ensures of { IfOk result (λ places. map (λ place. place.promise.sender.value) places.items ≡ senders.items) }
+    ensures doors { IfOk result (λ places. map (λ place. (place.promise.role, place.promise.door.value)) places.items ≡ doors.items) }
+    ensures watchers { IfOk result (λ places. map (λ place. place.promise.watcher.value) places.items ≡ watchers.items) }
+    ensures screen { IfOk result (λ places. All (λ place. IsOfScreen joined.now.w joined.now.h joined.now.name place.promise.width place.promise.height place.promise.name.value.items) places.items) }
     ensures err { IfErr result (λ fault. fault ≡ Memory) }
 {
     let mut places = Vec::new(crew.alloc);
@@ -91,7 +110,7 @@ fn start_all<L, H, P, S, D, B, W, R>(
     mut watchers: Vec<S>,
     senders: Vec<Sender<R>>,
     taker: Taker<R>,
-) -> Result<Started<L, H, P, S, R>, Fault>
+) -> Result<Started<L, H, P, S, D, W, R>, Fault>
 where
     L: Link + Send + 'static,
     H: Hosts<L> + Send + 'static,
@@ -105,8 +124,11 @@ where
     requires publisher { (P.width publisher ≡ joined.now.w) × (P.height publisher ≡ joined.now.h) }
     requires screen { (s : S) → (S.width s ≡ joined.now.w) × (S.height s ≡ joined.now.h) }
     requires count { (vec_len doors ≡ vec_len senders) × (vec_len watchers ≡ vec_len senders + 1) }
-    ensures places { IfOk result (λ started. map (λ place. place.promise.0.value) started.places.items ≡ senders.items) }
-    ensures writer { IfOk result (λ started. started.writer.promise.0.value ≡ taker) }
+    ensures places { IfOk result (λ started. map (λ place. place.promise.sender.value) started.places.items ≡ senders.items) }
+    ensures doors { IfOk result (λ started. map (λ place. (place.promise.role, place.promise.door.value)) started.places.items ≡ doors.items) }
+    ensures watchers { IfOk result (λ started. map (λ place. place.promise.watcher.value) started.places.items ≡ drop 1 watchers.items) }
+    ensures screen { IfOk result (λ started. All (λ place. IsOfScreen joined.now.w joined.now.h joined.now.name place.promise.width place.promise.height place.promise.name.value.items) started.places.items) }
+    ensures writer { IfOk result (λ started. (started.writer.promise.taker.value ≡ taker) × (started.writer.promise.source.value ≡ slice_index_or watchers.items 0 started.writer.promise.source.value) × StrokesStand started.writer.promise.strokes.value []) }
     ensures reader { IfOk result (λ started. (started.reader.promise.width ≡ joined.now.w) × (started.reader.promise.height ≡ joined.now.h) × (started.reader.promise.link.value ≡ first) × (started.reader.promise.publisher.value ≡ publisher)) }
     ensures err { IfErr result (λ fault. fault ≡ Memory) }
 {
@@ -130,20 +152,23 @@ where
 }
 
 /// Waits until the hosts are read, tells all threads to end, and waits for the hosts' writer.
-fn end_all<L, H, P, S, B, W, R>(
+fn end_all<L, H, P, S, D, B, W, R>(
     crew: &Crew<R, B, W>,
-    started: Started<L, H, P, S, R>,
-) -> Running<L, P, S, R>
+    started: Started<L, H, P, S, D, W, R>,
+) -> Running<L, P, S, D, R>
 where
     L: Link,
     H: Hosts<L>,
     P: Puts + Drop,
+    S: ScreenSource,
+    D: Door,
     B: Bell + Drop,
     W: Bell + Drop,
     R: Threads + Wait + Drop,
     ensures run { HasRun started.reader.promise.width started.reader.promise.height (IsLinkOf L.state H.came) result.result (L.state started.reader.promise.link.value) (map L.state result.links.items) (P.updates started.reader.promise.publisher.value) (P.updates result.publisher) }
     ensures over { IsOver H.are_out result.result }
-    ensures taker { host_of result.taker ≡ host_of started.writer.promise.0.value }
+    ensures taker { host_of result.taker ≡ host_of started.writer.promise.taker.value }
+    ensures told { HasTold (λ (a : Unit {0}) link b. ⊤) (λ (a : Unit {0}) link b. ⊤) (λ (a : Unit {0}). ⊤) S.looks S.width S.height (desk tt started.writer.promise.source.value (taken_of started.writer.promise.taker.value) started.writer.promise.strokes.value) (taken_of result.taker) result.strokes }
     ensures places { result.places ≡ started.places }
 {
     let Started {
@@ -157,12 +182,13 @@ where
         publisher,
     } = reader.join(&crew.rt);
     crew.stop.set();
-    let taker = writer.join(&crew.rt);
+    let HostsTold { taker, strokes } = writer.join(&crew.rt);
     Running {
         result,
         links,
         publisher,
         taker,
+        strokes,
         places,
     }
 }
@@ -176,7 +202,7 @@ fn run_over<L, H, P, S, D, B, W, R>(
     doors: Vec<(Role, D)>,
     publisher: P,
     watchers: Vec<S>,
-) -> Result<Running<L, P, S, R>, Fault>
+) -> Result<Running<L, P, S, D, R>, Fault>
 where
     L: Link + Send + 'static,
     H: Hosts<L> + Send + 'static,
@@ -192,8 +218,12 @@ where
     requires doors { (1 ≤ vec_len doors) × (vec_len doors ≤ 64) × (vec_len watchers ≡ vec_len doors + 1) }
     ensures run { IfOk result (λ run. HasRun joined.now.w joined.now.h (IsLinkOf L.state H.came) run.result (L.state links.0) (map L.state run.links.items) (P.updates publisher) (P.updates run.publisher)) }
     ensures over { IfOk result (λ run. IsOver H.are_out run.result) }
-    ensures places { IfOk result (λ run. map (λ place. strand_of place.promise.0.value) run.places.items ≡ fresh (vec_len doors)) }
-    ensures relay { IfOk result (λ run. All (λ place. relay_of place.promise.0.value ≡ host_of run.taker) run.places.items) }
+    ensures places { IfOk result (λ run. map (λ place. strand_of place.promise.sender.value) run.places.items ≡ fresh (vec_len doors)) }
+    ensures relay { IfOk result (λ run. All (λ place. relay_of place.promise.sender.value ≡ host_of run.taker) run.places.items) }
+    ensures told { IfOk result (λ run. (source : S) × (source ≡ slice_index_or watchers.items 0 source) × TellsHosts S.looks S.width S.height source (taken_of run.taker) run.strokes) }
+    ensures doors { IfOk result (λ run. map (λ place. (place.promise.role, place.promise.door.value)) run.places.items ≡ doors.items) }
+    ensures watchers { IfOk result (λ run. map (λ place. place.promise.watcher.value) run.places.items ≡ drop 1 watchers.items) }
+    ensures screen { IfOk result (λ run. All (λ place. IsOfScreen joined.now.w joined.now.h joined.now.name place.promise.width place.promise.height place.promise.name.value.items) run.places.items) }
     ensures err { IfErr result (λ fault. fault ≡ Memory) }
 {
     let (read, written) = links;
@@ -243,7 +273,7 @@ pub fn run_all<J, L, H, D, B, W, R>(
     doors: Vec<(Role, D)>,
     everyone: Arc<B, Global>,
     writer_bell: Arc<W, Global>,
-) -> Result<Running<L, Publisher<J, R>, Watcher<J>, R>, Fault>
+) -> Result<Running<L, Publisher<J, R>, Watcher<J>, D, R>, Fault>
 where
     J: Naming + Send + Sync + 'static,
     L: Link + Send + 'static,
@@ -257,8 +287,12 @@ where
     requires doors { (1 ≤ vec_len doors) × (vec_len doors ≤ 64) }
     ensures run { IfOk result (λ run. HasRun J.width J.height (IsLinkOf L.state H.came) run.result (L.state reader) (map L.state run.links.items) [] (puts_of run.publisher)) }
     ensures over { IfOk result (λ run. IsOver H.are_out run.result) }
-    ensures places { IfOk result (λ run. map (λ place. strand_of place.promise.0.value) run.places.items ≡ fresh (vec_len doors)) }
-    ensures relay { IfOk result (λ run. All (λ place. relay_of place.promise.0.value ≡ host_of run.taker) run.places.items) }
+    ensures places { IfOk result (λ run. map (λ place. strand_of place.promise.sender.value) run.places.items ≡ fresh (vec_len doors)) }
+    ensures relay { IfOk result (λ run. All (λ place. relay_of place.promise.sender.value ≡ host_of run.taker) run.places.items) }
+    ensures told { IfOk result (λ run. TellsHosts (λ old reply new. Reaches old (step.Look reply ∷ []) new) (λ _. J.width) (λ _. J.height) nothing_put (taken_of run.taker) run.strokes) }
+    ensures doors { IfOk result (λ run. map (λ place. (place.promise.role, place.promise.door.value)) run.places.items ≡ doors.items) }
+    ensures watchers { IfOk result (λ run. All (λ place. place.promise.watcher.value ≡ nothing_put) run.places.items) }
+    ensures screen { IfOk result (λ run. All (λ place. IsOfScreen joined.w joined.h joined.name place.promise.width place.promise.height place.promise.name.value.items) run.places.items) }
     ensures err { IfErr result (λ fault. (fault ≡ Memory) ⊎ (fault ≡ NoPlace)) }
 {
     let stop = Arc::new(alloc, Stop::new(Arc::try_clone(&everyone)?))?;

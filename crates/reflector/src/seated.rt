@@ -42,6 +42,7 @@ pub(crate) struct Seated<T: Seat, R: Wait + Drop> {
 impl<T: Seat, R: Wait + Drop> Seated<T, R> {
     pub(crate) fn new(sender: Sender<R>) -> Self
         requires { (relay_of sender ≡ T.relay) × (place_of sender ≡ T.place) }
+        ensures { result.sender ≡ sender }
     {
         Seated {
             sender,
@@ -51,7 +52,8 @@ impl<T: Seat, R: Wait + Drop> Seated<T, R> {
 
     /// The sender again.
     pub(crate) fn into_sender(self) -> Sender<R>
-        ensures { (relay_of result ≡ T.relay) × (place_of result ≡ T.place) }
+        ensures named { (relay_of result ≡ T.relay) × (place_of result ≡ T.place) }
+        ensures same { result ≡ self.sender }
     {
         let Seated { sender, of: _ } = self;
         sender

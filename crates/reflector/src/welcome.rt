@@ -1,8 +1,11 @@
 //! What a viewer is welcomed with.
 
-ghost use Rattle.std.specs.Prelude.{◌≡◌, ◌≤◌, length, None, IfOk, IfErr};
+ghost use Rattle.std.specs.Prelude.{◌≡◌, ◌≤◌, length, true, None, IfOk, IfErr};
 ghost use Rattle.pixel_format.specs.declared.fault.Fault.TheVariants.{Memory};
 ghost use Rattle.raster.specs.Size.{IsScreenSize};
+ghost use Rattle.viewer_session.specs.Session.{Stands};
+ghost use Rattle.viewer_session.specs.Viewer.{Setup, new_viewer};
+ghost use Rattle.reflector.specs.Visits.{name_of};
 
 use pixel_format::Fault;
 use roles::Role;
@@ -18,8 +21,8 @@ pub(crate) struct Welcome {
     alloc: Global,
     pub(crate) width: u64,
     pub(crate) height: u64,
-    name: Vec<u8>,
-    role: Role,
+    pub(crate) name: Vec<u8>,
+    pub(crate) role: Role,
     pub(crate) ghost size: { IsScreenSize width height },
     pub(crate) ghost named: { (1 ≤ length name.items) × (length name.items ≤ 255) },
 }
@@ -36,6 +39,7 @@ impl Welcome {
         requires size { IsScreenSize width height }
         requires name { length name.now ≤ 255 }
         ensures size { IfOk result (λ welcome. (welcome.width ≡ width) × (welcome.height ≡ height)) }
+        ensures named { IfOk result (λ welcome. (welcome.role ≡ role) × (welcome.name.items ≡ name_of name.now)) }
         ensures err { IfErr result (λ fault. fault ≡ Memory) }
     {
         let name = if name.is_empty() { NO_NAME } else { name };
@@ -53,6 +57,7 @@ impl Welcome {
     pub(crate) fn open(&self) -> Result<Session, Fault>
         ensures size { IfOk result (λ session. (session.width ≡ self.now.width) × (session.height ≡ self.now.height)) }
         ensures uncut { IfOk result (λ session. session.asked.last ≡ None) }
+        ensures stands { IfOk result (λ session. (s : Setup) → s.w ≡ self.now.width → s.h ≡ self.now.height → s.name ≡ self.now.name.items → Stands s session (new_viewer self.now.role true)) }
         ensures err { IfErr result (λ fault. fault ≡ Memory) }
     {
         Session::open(

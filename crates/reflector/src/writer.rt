@@ -1,11 +1,13 @@
 //! The thread that tells the hosts.
 
-ghost use Rattle.std.specs.Prelude.{◌≡◌, IfOk, IfErr};
+ghost use Rattle.std.specs.Prelude.{◌≡◌, ⊤, IfOk, IfErr};
 ghost use Rattle.pixel_format.specs.declared.fault.Fault.TheVariants.{Memory};
 ghost use Rattle.raster.specs.Size.{IsScreenSize};
-ghost use Rattle.input_relay.specs.Ends.{host_of};
+ghost use Rattle.input_relay.specs.Ends.{host_of, taken_of};
+ghost use Rattle.reflector.specs.Tellings.{HasTold, desk};
 
 use crate::crew::Crew;
+use crate::errands::{Errands, Round};
 use host_turns::Handover;
 use host_writer::run_writer;
 use input_relay::Taker;
@@ -15,52 +17,72 @@ use reflect_core::ScreenSource;
 use roles::Strokes;
 use serving::Bell;
 use std::alloc::Global;
+use std::marker::PhantomData;
 use std::snapshot::Snapshot;
 use std::sync::{Arc, Wait};
 use std::thread;
 use std::thread::{Promise, PromisedHandle, Threads};
 
-/// That the taker comes back that the thread began with. It may have taken more.
+/// What telling the hosts came to: what took the viewers' input, and whose key or button is down of what was taken.
 #[derive(Drop)]
-pub(crate) struct OfTaker<R: Wait + Drop>(pub(crate) Snapshot<Taker<R>>);
+pub(crate) struct HostsTold<R: Wait + Drop> {
+    pub(crate) taker: Taker<R>,
+    pub(crate) strokes: Strokes,
+}
 
-impl<R: Wait + Drop> Promise<Taker<R>> for OfTaker<R> {
-    ghost use Rattle.std.specs.Prelude.{◌≡◌};
-    ghost use Rattle.input_relay.specs.Ends.{host_of};
+/// That the taker comes back that the thread began with, after hosts were told one after another what it took.
+#[derive(Drop)]
+pub(crate) struct OfTaker<L, E, S, R: Wait + Drop> {
+    pub(crate) errands: Snapshot<E>,
+    pub(crate) source: Snapshot<S>,
+    pub(crate) taker: Snapshot<Taker<R>>,
+    pub(crate) strokes: Snapshot<Strokes>,
+    of: PhantomData<L>,
+}
 
-    ghost kept_by = { λ promise taker. host_of taker ≡ host_of promise.0.value };
+impl<L: Link, E: Errands<L>, S: ScreenSource, R: Wait + Drop> Promise<HostsTold<R>>
+    for OfTaker<L, E, S, R> {
+    ghost use Rattle.std.specs.Prelude.{◌≡◌, ⊤};
+    ghost use Rattle.input_relay.specs.Ends.{host_of, taken_of};
+    ghost use Rattle.reflector.specs.Tellings.{HasTold, desk};
+
+    ghost kept_by = { λ promise told. (host_of told.taker ≡ host_of promise.taker.value) × HasTold E.hands_out E.takes_back (λ _. ⊤) S.looks S.width S.height (desk promise.errands.value promise.source.value (taken_of promise.taker.value) promise.strokes.value) (taken_of told.taker) told.strokes };
 }
 
 /// The thread that tells the hosts.
-pub(crate) type WriterHandle<R> = PromisedHandle<Taker<R>, OfTaker<R>>;
+pub(crate) type WriterHandle<L, W, S, R> = PromisedHandle<
+    HostsTold<R>,
+    OfTaker<L, Round<L, W>, S, R>,
+>;
 
 /// Tells one host after another, each until it is left or its link ends, and the rest of the input goes on to the next.
 /// A fault of a link isn't told: the reader's tells it.
-fn write<L: Link, W: Bell + Drop, S: ScreenSource + Drop, Z: Rest, R: Wait + Drop>(
+fn write<L: Link, E: Errands<L>, S: ScreenSource + Drop, Z: Rest, R: Wait + Drop>(
     rt: &R,
-    handover: &Handover<L, W>,
+    mut errands: E,
     mut source: S,
     mut taker: Taker<R>,
     mut strokes: Strokes,
     rest: &Z,
-) -> Taker<R>
+) -> HostsTold<R>
     requires { (s : S) → IsScreenSize (S.width s) (S.height s) }
-    ensures { host_of result ≡ host_of taker }
+    ensures relay { host_of result.taker ≡ host_of taker }
+    ensures told { HasTold E.hands_out E.takes_back E.was_set S.looks S.width S.height (desk errands source (taken_of taker) strokes) (taken_of result.taker) result.strokes }
 {
     for _ in rt.forever() {
-        let Some(mut errand) = handover.take(rt) else {
-            return taker;
+        let Some(mut link) = errands.next(rt) else {
+            return HostsTold { taker, strokes };
         };
-        let flag = handover.flag(&errand);
         let _ = run_writer(
             rt,
-            &mut errand.link,
+            &mut link,
             &mut source,
             &mut taker,
             &mut strokes,
-            &flag,
+            &errands,
             rest,
         );
+        errands.told(link);
     }
     unreachable!()
 }
@@ -72,7 +94,7 @@ pub(crate) fn start_writer<L, S, B, W, R>(
     source: S,
     taker: Taker<R>,
     strokes: Strokes,
-) -> Result<WriterHandle<R>, Fault>
+) -> Result<WriterHandle<L, W, S, R>, Fault>
 where
     L: Link + Send + 'static,
     S: ScreenSource + Drop + Send + 'static,
@@ -80,18 +102,27 @@ where
     W: Bell + Rest + Drop + Send + Sync + 'static,
     R: Threads + Wait + Copy + Drop + Send + 'static,
     requires { (s : S) → IsScreenSize (S.width s) (S.height s) }
-    ensures of { IfOk result (λ handle. handle.promise.0.value ≡ taker) }
+    ensures of { IfOk result (λ handle. (handle.promise.source.value ≡ source) × (handle.promise.taker.value ≡ taker) × (handle.promise.strokes.value ≡ strokes)) }
     ensures err { IfErr result (λ fault. fault ≡ Memory) }
 {
     let rt = crew.rt;
     let rest = Arc::try_clone(&crew.writer)?;
-    let promise = OfTaker(Snapshot::of(&taker));
+    let errands = Round::new(handover);
+    let promise = OfTaker {
+        errands: Snapshot::of(&errands),
+        source: Snapshot::of(&source),
+        taker: Snapshot::of(&taker),
+        strokes: Snapshot::of(&strokes),
+        of: PhantomData,
+    };
     let started = thread::spawn_with(
         &rt,
         promise,
-        move ||
+        move || -> HostsTold<R>
             requires { (s : S) → IsScreenSize (S.width s) (S.height s) }
-        { write(&rt, &*handover, source, taker, strokes, &*rest) },
+            ensures relay { host_of result.taker ≡ host_of taker }
+            ensures told { HasTold (λ _ _ _. ⊤) (λ _ _ _. ⊤) (λ _. ⊤) S.looks S.width S.height (desk errands source (taken_of taker) strokes) (taken_of result.taker) result.strokes }
+        { write(&rt, errands, source, taker, strokes, &*rest) },
     );
     match started {
         Ok(handle) => Ok(handle),

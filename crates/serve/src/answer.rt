@@ -1,6 +1,7 @@
 //! What `serve` says and answers.
 
-ghost use Rattle.plan.specs.Statuses.{HasPlaces, IsStatus};
+ghost use Rattle.std.specs.Prelude.{◌≡◌, Err, MatchResult};
+ghost use Rattle.plan.specs.Statuses.{HasPlaces, IsStatus, status_for};
 
 use crate::advice::Advice;
 use crate::journal::Journal;
@@ -24,6 +25,20 @@ fn say<R: Eprint>(rt: &R, plan: &Plan<'_>, trouble: &Trouble) {
     let _ = rt.eprintln(format_args!("reflectord: {advice}"));
 }
 
+/// Says what went wrong, if something did, and answers the exit status for how it ended.
+fn answer<R: Eprint>(rt: &R, plan: &Plan<'_>, ended: Result<(), Trouble>) -> u8
+    ensures status { MatchResult ended (λ _. result ≡ 0) (λ trouble. result ≡ status_for (Err trouble.fault)) }
+    ensures range { IsStatus result }
+{
+    match ended {
+        Ok(()) => status_of(&Ok(())),
+        Err(trouble) => {
+            say(rt, plan, &trouble);
+            status_of(&Err(trouble.fault))
+        }
+    }
+}
+
 /// Reflects a host until it ends, and answers the exit status: 0 where the host ended between two messages, 4 where
 /// memory was refused, and 3 for every other fault, also where a port can't be bound or the host can't be reached or
 /// joined. What was at fault is said on standard error: `fault N`, and a line of plain words.
@@ -42,11 +57,6 @@ where
     ensures { IsStatus result }
 {
     let log = Journal::new(rt, alloc, plan.is_logged);
-    match run(rt, alloc, plan, log) {
-        Ok(()) => status_of(&Ok(())),
-        Err(trouble) => {
-            say(&rt, plan, &trouble);
-            status_of(&Err(trouble.fault))
-        }
-    }
+    let ended = run(rt, alloc, plan, log);
+    answer(&rt, plan, ended)
 }

@@ -24,7 +24,7 @@ pub(crate) struct Met<R: Clock + Drop> {
 }
 
 /// Connects to a host: the end to be read, over which the handshake has ten seconds, and the end to be written.
-pub(crate) fn connect<R: Net<Stream = TcpStream> + Clock + Copy + Drop>(
+fn connect<R: Net<Stream = TcpStream> + Clock + Copy + Drop>(
     rt: R,
     address: &SocketAddr,
 ) -> io::Result<(JoiningLink<R>, JoiningLink<R>)> {
@@ -35,6 +35,25 @@ pub(crate) fn connect<R: Net<Stream = TcpStream> + Clock + Copy + Drop>(
     Ok((reader, JoiningLink::without_limit(rt, writer)))
 }
 
+/// Tries to connect to a host, and tells the log how the try ended.
+pub(crate) fn reach<R, G>(
+    rt: R,
+    address: SocketAddr,
+    log: &G,
+) -> io::Result<(JoiningLink<R>, JoiningLink<R>)>
+where
+    R: Net<Stream = TcpStream> + Clock + Copy + Drop,
+    G: Log,
+{
+    let tried = connect(rt, &address);
+    let refused = match &tried {
+        Ok(_) => None,
+        Err(error) => Some(error.kind()),
+    };
+    log.tell(&Event::HostTried { address, refused });
+    tried
+}
+
 /// Connects to the first host and joins it, and tells the log.
 #[tactic(auto, using(crate::proofs::Sizes::is_screen))]
 pub(crate) fn meet<R, G>(rt: R, address: SocketAddr, log: &G) -> Result<Met<R>, Trouble>
@@ -43,7 +62,7 @@ where
     G: Log,
     ensures { IfOk result (λ met. IsScreenSize met.joined.w met.joined.h) }
 {
-    let (mut reader, writer) = match connect(rt, &address) {
+    let (mut reader, writer) = match reach(rt, address, log) {
         Ok(ends) => ends,
         Err(error) => return Err(Trouble::of(Stage::Connect, error)),
     };

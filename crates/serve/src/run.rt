@@ -55,6 +55,7 @@ where
         links: _links,
         publisher: _publisher,
         taker: _taker,
+        strokes: _strokes,
         places: _places,
     } = run_all::<J, L, H, D, B, W, R>(
         rt, alloc, history, reader, writer_end, joined, hosts, doors, everyone, writer,

@@ -3,7 +3,7 @@
 ghost use Rattle.std.specs.Prelude.{◌≡◌, ◌≤◌, ⊤, IsNone, None, length};
 ghost use Rattle.plan.specs.Turns.{turn_of};
 
-use crate::meet::connect;
+use crate::meet::reach;
 use host_turns::Hosts;
 use pixel_format::Fault;
 use plan::Turns;
@@ -68,27 +68,6 @@ impl<
         thread::sleep(&self.rt, pause);
         Some(self.turns.begin_anew())
     }
-
-    /// Tries to connect to the host whose turn it is, and tells the log.
-    fn reach(&self) -> Option<(JoiningLink<R>, JoiningLink<R>)> {
-        let address = self.present;
-        match connect(self.rt, &address) {
-            Ok(ends) => {
-                self.log.tell(&Event::HostTried {
-                    address,
-                    refused: None,
-                });
-                Some(ends)
-            }
-            Err(error) => {
-                self.log.tell(&Event::HostTried {
-                    address,
-                    refused: Some(error.kind()),
-                });
-                None
-            }
-        }
-    }
 }
 
 impl<
@@ -103,7 +82,7 @@ impl<
         let rt = self.rt;
         for _ in rt.forever() {
             self.present = self.turn()?;
-            if let Some(ends) = self.reach() {
+            if let Ok(ends) = reach(rt, self.present, &self.log) {
                 return Some(ends);
             }
         }

@@ -1,6 +1,8 @@
 //! Where viewers come from.
 
-ghost use Rattle.std.specs.Prelude.{◌≡◌, IfSome};
+ghost use Rattle.std.specs.Prelude.{◌≡◌, Bool, Result, IfSome, is_some};
+ghost use Rattle.pixel_format.specs.declared.fault.Fault.{Fault};
+ghost use Rattle.link.specs.Links.{LinkState};
 ghost use Rattle.serving.specs.Answers.{unused};
 
 use link::Link;
@@ -11,10 +13,20 @@ pub trait Door: Drop {
     /// Their links, which may go to another thread.
     type Viewer: Link + Send;
 
+    /// What asking for the next viewer may make of the one door is the other, where one came, or none. What this means
+    /// is up to each door.
+    ghost lets_in: { Self → Bool → Self → Type 0 };
+
+    /// What taking back a viewer whose link was left so, and whose visit ended so, may make of the one door is the
+    /// other. What this means is up to each door.
+    ghost sees_off: { Self → LinkState → Result (Unit {0}) Fault → Self → Type 0 };
+
     /// The next viewer, or `None` where no more come. It may wait without an end.
     fn next(&mut self) -> Option<Self::Viewer>
-        ensures { IfSome result (λ link. Self.Viewer.state link ≡ unused) };
+        ensures came { IfSome result (λ link. Self.Viewer.state link ≡ unused) }
+        ensures lets_in { lets_in self.old (is_some result) self.new };
 
     /// Takes back a viewer's link that was served to its end: how many answers it was begun, and how serving ended.
-    fn left(&mut self, viewer: Self::Viewer, answers: u64, why: Result<(), Fault>);
+    fn left(&mut self, viewer: Self::Viewer, answers: u64, why: Result<(), Fault>)
+        ensures { sees_off self.old (Self.Viewer.state viewer) why self.new };
 }

@@ -177,7 +177,14 @@ impl<R: Wait + Clock + Drop, G: Log + Drop> TcpDoor<R, G> {
 }
 
 impl<R: Wait + Clock + Drop + Copy + Send, G: Log + Drop + Send> Door for TcpDoor<R, G> {
+    ghost use Rattle.std.specs.Prelude.{⊤};
+
     type Viewer = TcpLink<R>;
+
+    // No clause says who comes, or what becomes of who has left.
+    ghost lets_in = { λ _ _ _. ⊤ };
+
+    ghost sees_off = { λ _ _ _ _. ⊤ };
 
     /// A viewer whose link can't be made is let go, and the next one waited for.
     fn next(&mut self) -> Option<TcpLink<R>> {

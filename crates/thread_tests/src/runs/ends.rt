@@ -14,7 +14,7 @@ use link::Link;
 use pixel_format::Fault;
 use raster::Rect;
 use reflect_core::{Cut, ScreenSource};
-use reflector::{Place, Running, run_all};
+use reflector::{Place, Running, join_place, run_all};
 use rfb_wire::Joined;
 use roles::Role;
 use serving::NoBell;
@@ -56,18 +56,12 @@ pub(crate) struct Course {
     pub(crate) end: End,
 }
 
-/// Whether a watcher that meets the publisher cuts the last update, colour n all over.
-fn shows<J: Naming, R: Wait + Drop>(
-    alloc: Global,
-    publisher: &Publisher<J, R>,
-    watcher: &mut Watcher<J>,
-    last: u64,
-) -> Result<bool, Fault>
+/// Whether a watcher that met the publisher cuts the last update, colour n all over.
+fn shows<J: Naming>(alloc: Global, watcher: &mut Watcher<J>, last: u64) -> Result<bool, Fault>
     requires { (2 ≡ J.width) × (1 ≡ J.height) }
 {
     let have = Have::new(alloc, 2, 1)?;
     let mut cut = Cut::new(alloc, 2, 1)?;
-    watcher.meet(publisher);
     let number = watcher.cut(&ALL, &have, &mut cut)?;
     Ok(match cut.colours.as_slice() {
         [one, two] => number == last && u64::from(*one) == last && u64::from(*two) == last,
@@ -79,7 +73,7 @@ fn shows<J: Naming, R: Wait + Drop>(
 fn ends<J, L, R>(
     rt: R,
     alloc: Global,
-    running: Running<L, Publisher<J, R>, Watcher<J>, R>,
+    running: Running<L, Publisher<J, R>, Watcher<J>, Queue, R>,
     end: &End,
 ) -> Result<bool, Fail>
 where
@@ -87,13 +81,14 @@ where
     L: Link,
     R: Threads + Wait + Drop + Copy,
     requires screen { (2 ≡ J.width) × (1 ≡ J.height) }
-    requires relay { All (λ place. relay_of place.promise.0.value ≡ host_of running.taker) running.places.items }
+    requires relay { All (λ place. relay_of place.promise.sender.value ≡ host_of running.taker) running.places.items }
 {
     let Running {
         result,
         links,
         publisher,
         taker,
+        strokes: _,
         places,
     } = running;
     let fault = match &result {
@@ -104,10 +99,11 @@ where
     let mut senders = Vec::new(alloc);
     for place in places {
         let Place {
+            door: _,
             mut watcher,
             sender,
-        } = place.join(&rt);
-        let shown = shows(alloc, &publisher, &mut watcher, end.last);
+        } = join_place(&rt, place, &publisher);
+        let shown = shows(alloc, &mut watcher, end.last);
         is_right = matches!(shown, Ok(true)) && is_right;
         senders.push(sender)?;
     }

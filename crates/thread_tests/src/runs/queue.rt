@@ -49,7 +49,13 @@ impl Queue {
 }
 
 impl Door for Queue {
+    ghost use Rattle.std.specs.Prelude.{⊤};
+
     type Viewer = Wire;
+
+    ghost lets_in = { λ _ _ _. ⊤ };
+
+    ghost sees_off = { λ _ _ _ _. ⊤ };
 
     fn next(&mut self) -> Option<Wire> {
         self.wire()

@@ -1,7 +1,8 @@
 -- The places that were started give back the relay's senders.
-use Rattle.std.proofs.Common.{◌≡◌, ◌∙◌, vec_len}
-use Rattle.input_relay.specs.Ends.{fresh, host_of, relay_of, strand_of}
+use Rattle.std.proofs.Common.{◌≡◌, ◌∙◌, ap, vec_len}
+use Rattle.input_relay.specs.Ends.{fresh, host_of, relay_of, strand_of, taken_of}
 use Rattle.reflector.proofs.Places.{all_of_senders, of_senders}
+use Rattle.reflector.proofs.Telling.{tells_hosts}
 use Rattle.reflector.proofs.run.run_over.Goals as goal
 
 pub returns-in-Ok-clause-places : goal.returns-in-Ok-clause-places
@@ -11,4 +12,12 @@ returns-in-Ok-clause-places g c =
 
 pub returns-in-Ok-clause-relay : goal.returns-in-Ok-clause-relay
 returns-in-Ok-clause-relay g c =
-    rw (c.end_all.ensures.places, c.end_all.ensures.taker, c.in-Ok.ensures.writer) (all_of_senders (λ s. relay_of s ≡ host_of c.in_ok-senders.taker) _ _ _ c.in-Ok.ensures.places c.in_ok-senders.ensures.one)
+    rw (c.end_all.ensures.places, c.end_all.ensures.taker, c.in-Ok.ensures.writer.0) (all_of_senders (λ s. relay_of s ≡ host_of c.in_ok-senders.taker) _ _ _ c.in-Ok.ensures.places c.in_ok-senders.ensures.one)
+
+pub returns-in-Ok-clause-screen : goal.returns-in-Ok-clause-screen
+returns-in-Ok-clause-screen g c = rw c.end_all.ensures.places c.in-Ok.ensures.screen
+
+pub returns-in-Ok-clause-told : goal.returns-in-Ok-clause-told
+returns-in-Ok-clause-told g c =
+    let writer = c.in-Ok.ensures.writer in
+    (c.in-Ok.started.writer.promise.source.value, writer.1, tells_hosts _ _ _ _ _ _ _ _ (ap (λ t. taken_of t) writer.0 ∙ c.in_ok-senders.ensures.taken) writer.2 c.end_all.ensures.told)

@@ -1,11 +1,23 @@
-use Rattle.reflector.proofs.Places.{grown}
-use Rattle.std.proofs.Common.{ap, length, rules}
+use Rattle.reflector.proofs.Places.{first_left, grown, grown_by, pair_of}
+use Rattle.screen_pair.proofs.Every.{all_snoc}
+use Rattle.std.proofs.Common.{◌<◌, ◌∙◌, ap, arith, length, rules}
+use Rattle.reflector.specs.Visits.{IsOfScreen, name_of}
 use Rattle.reflector.proofs.run.start_places.Goals as goal
 
 pub loop-sender-preserved : goal.loop-sender-preserved
 loop-sender-preserved g c =
-    let steps = c.in-Some.ensures.steps.0 in let gone = ap length steps in record {
-      begun = rw c.in_ok-push.ensures.items (grown _ c.loop-sender.places.items c.in_ok-place.place c.in-Some.sender _ _ c.in_ok-place.ensures.ok (rw (← steps) c.loop-sender.invariant.begun));
-      doors = search rules;
-      watchers = search rules;
+    let inv = c.loop-sender.invariant in
+    let steps = c.in-Some.ensures.steps.0 in let gone = ap length steps in
+    let doors_here : 0 < length c.loop-sender.doors.items = omega (arith, inv.door_count, gone) in
+    let watchers_here : 0 < length c.loop-sender.watchers.items = omega (arith, inv.watcher_count, gone) in
+    let door = first_left _ _ _ doors_here c.remove-role.ensures.value c.remove-role.ensures.by_index.2 in
+    let watcher = first_left _ _ _ watchers_here c.remove-watcher.ensures.value c.remove-watcher.ensures.by_index.2 in
+    let told = c.in_ok-welcome.ensures in let of = c.in_ok-place.ensures.welcome in let ends = c.in_ok-place.ensures.ends in
+    record {
+      begun = rw c.in_ok-push.ensures.items (grown _ c.loop-sender.places.items c.in_ok-place.place c.in-Some.sender _ _ ends.2 (rw (← steps) inv.begun));
+      doors = rw c.in_ok-push.ensures.items (grown_by _ c.loop-sender.places.items c.in_ok-place.place c.remove-role.result _ _ _ door (pair_of _ _ c.remove-role.result (of.0 ∙ told.named.0) ends.0) inv.doors);
+      watchers = rw c.in_ok-push.ensures.items (grown_by _ c.loop-sender.places.items c.in_ok-place.place c.remove-watcher.result _ _ _ watcher ends.1 inv.watchers);
+      screen = rw c.in_ok-push.ensures.items (all_snoc (λ place. IsOfScreen c.args.joined.now.w c.args.joined.now.h c.args.joined.now.name place.promise.width place.promise.height place.promise.name.value.items) c.loop-sender.places.items c.in_ok-place.place inv.screen (rw (← c.joined.view_is) (of.1 ∙ told.size.0), rw (← c.joined.view_is) (of.2 ∙ told.size.1), rw (← c.joined.view_is) (of.3 ∙ (told.named.1 ∙ ap name_of c.as_slice.ensures.value))));
+      door_count = search rules;
+      watcher_count = search rules;
     }

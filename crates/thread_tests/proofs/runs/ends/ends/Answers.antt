@@ -15,8 +15,8 @@ pub loop-place-preserved : goal.loop-place-preserved
 loop-place-preserved g c =
     let steps : into_iter_items c.loop-place.place-iterator ≡ c.in-Some.place ∷ into_iter_items c.next.new.self = c.in-Some.ensures.steps.0 in
     let all = rw steps at c.loop-place.invariant.left in
-    let one : relay_of c.join-watcher.result.sender ≡ host_of c.args.running.taker = c.join-watcher.ensures.0 ∙ all 0 c.in-Some.place (omega arith) in
+    let one : relay_of c.join_place-watcher.result.sender ≡ host_of c.args.running.taker = c.join_place-watcher.ensures.sender.0 ∙ all 0 c.in-Some.place (omega arith) in
     record {
-      back = rw c.in_ok-push.ensures.items (all_snoc (λ sender. relay_of sender ≡ host_of c.args.running.taker) c.loop-place.senders.items c.join-watcher.result.sender c.loop-place.invariant.back one);
+      back = rw c.in_ok-push.ensures.items (all_snoc (λ sender. relay_of sender ≡ host_of c.args.running.taker) c.loop-place.senders.items c.join_place-watcher.result.sender c.loop-place.invariant.back one);
       left = λ k d lt. all (suc k) d (omega (arith, lt));
     }

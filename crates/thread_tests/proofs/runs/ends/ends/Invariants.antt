@@ -7,5 +7,5 @@ use Rattle.thread_tests.proofs.runs.ends.ends.Given as goal
 abbrev pub invariant-loop-place : goal.invariant-loop-place
 invariant-loop-place g l = record {
   back : All (λ sender. relay_of sender ≡ host_of l.fn.running.taker) l.senders.items;
-  left : All (λ place. relay_of place.promise.0.value ≡ host_of l.fn.running.taker) (into_iter_items l.place-iterator);
+  left : All (λ place. relay_of place.promise.sender.value ≡ host_of l.fn.running.taker) (into_iter_items l.place-iterator);
 }

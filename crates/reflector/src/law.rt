@@ -1,0 +1,42 @@
+//! What the visits of a place have in common.
+
+ghost use Rattle.std.specs.Prelude.{◌≡◌, ◌≤◌, ◌+◌, ◌∷◌, [], List, length};
+ghost use Rattle.raster.specs.Update.{Update, view};
+ghost use Rattle.reflect_core.specs.Sequential.{Begins, Shared};
+ghost use Rattle.reflect_core.specs.Sequential as step;
+ghost use Rattle.tally_word.specs.Reaches.{Reaches};
+ghost use Rattle.viewer_server.specs.Serving.{IsShown};
+ghost use Rattle.viewer_session.specs.Acts.{Act};
+ghost use Rattle.reflector.specs.History.{IsOneHistory, LooksFollow, own_steps};
+ghost use Rattle.roles.specs.declared.role.Role as roles;
+ghost use Rattle.viewer_session.specs.Viewer.{Setup};
+ghost use Rattle.reflector.specs.Promise.{KeepsPromise};
+ghost use Rattle.reflector.specs.Visits.{AllBegin, AreVisits, At, HasVisits, IsReceived};
+
+use link::StopFlag;
+use reflect_core::ScreenSource;
+use roles::InputSink;
+use serving::Door;
+
+/// Each visit of a place is of one list: what its source knew before each of them begins what it knows in the end.
+pub fn visits_are_of_one_list<S: ScreenSource, K: InputSink, D: Door, F: StopFlag>()
+    ensures { (stop : F) (s : Setup) (role : roles.Role) (old : At D S) (befores : List (At D S)) (last : At D S)
+        → AreVisits D.lets_in D.sees_off (λ source_old source_new sent_old sent_new why left. IsReceived S.looks S.cuts S.may_end (F.was_set stop) K.may_refuse S.known s role source_old source_new sent_old sent_new why left) old befores last
+        → AllBegin S.known befores last }
+{}
+
+/// The visits of a place keep the promise, over each list that begins with what its source knows in the end.
+pub fn visits_keep_the_promise<S: ScreenSource, K: InputSink, D: Door, F: StopFlag>()
+    ensures { (stop : F) (s : Setup) (role : roles.Role) (old new : At D S) → s.w ≤ 4096 → s.h ≤ 4096
+        → HasVisits D.lets_in D.sees_off (λ source_old source_new sent_old sent_new why left. IsReceived S.looks S.cuts S.may_end (F.was_set stop) K.may_refuse S.known s role source_old source_new sent_old sent_new why left) old new
+        → KeepsPromise D.lets_in D.sees_off S.known s role old new }
+{}
+
+/// The looks and cuts of each viewer that is served over a shared screen are steps of one history, in their order and
+/// with their replies; and a look after a cut numbered k replies at least k - 1. The premise is a part of what a place
+/// promises of each visit (`IsReceived`: `shown`).
+pub fn looks_and_cuts_are_one_history()
+    ensures { (us : List Update) (old : Shared) (acts : List Act) (new : Shared) → old.tally ≤ length old.updates → length old.updates ≤ old.tally + 1
+        → IsShown (λ a n b. Reaches a (step.Look n ∷ []) b) (λ a n b. (n ≡ length b.updates) × Reaches a (step.Cut (view b.updates) ∷ []) b) old acts new → Begins new.updates us
+        → IsOneHistory old (own_steps us acts) new × LooksFollow acts }
+{}
