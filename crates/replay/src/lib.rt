@@ -7,7 +7,10 @@
 ghost use Rattle.std.specs.Prelude.{◌≡◌, ◌≤◌, ◌⊎◌, length, IfOk};
 ghost use Rattle.raster.specs.Size.{IsScreenSize};
 
+mod reads;
+
 use pixel_format::Fault;
+use reads::FewReads;
 use reflect_world::{Step, World, play};
 use replay_script::{Access, Line, shown};
 use roles::Role;
@@ -15,8 +18,11 @@ use std::alloc::{AllocError, Global};
 use std::io::{BufRead, BufReader, BufWriter, ErrorKind, Read, Write};
 use std::{io, slice};
 
-/// A script is read up to this many lines.
-const LINES: u64 = 1 << 40;
+/// A script is read by at most this many reads.
+const READS: u64 = 1 << 40;
+
+/// A line has at most this many bytes, its line feed among them: enough for a whole Raw update of the largest screen.
+const LONGEST_LINE: u64 = 1 << 28;
 
 /// The widest and highest screen that is served, in pixels.
 const LARGEST: u64 = 4096;
@@ -32,7 +38,8 @@ const ALL: u64 = u64::MAX;
 enum Stop {
     /// The line of this number has another form, or is on a viewer that isn't open or is open already.
     Line(u64),
-    /// The reader or the writer failed, there is no end, or the numbers of updates have run out.
+    /// The reader or the writer failed, the script or one of its lines has no end, or the numbers of updates have run
+    /// out.
     Failed,
     /// Memory was refused.
     Memory,
@@ -63,12 +70,13 @@ impl From<io::Error> for Stop {
     }
 }
 
-/// Plays a script, and answers the exit status: 0; 2 at a bad line; 3 after a fault of the host, or where the reader or
-/// the writer fails or the script has no end; 4 where memory is refused.
+/// Plays a script, and answers the exit status: 0; 2 at a bad line; 3 after a fault of the host, where the reader or
+/// the writer fails, where the script has no end after 2^40 reads, or where a line has more than 256 MiB with its line
+/// feed; 4 where memory is refused.
 pub fn replay<R: Read + Drop, W: Write + Drop>(alloc: Global, reader: R, writer: W) -> u8
     ensures { (result ≡ 0) ⊎ ((2 ≤ result) × (result ≤ 4)) }
 {
-    let Ok(mut input) = BufReader::new(alloc, reader) else {
+    let Ok(mut input) = BufReader::new(alloc, FewReads::new(reader, READS)) else {
         return 4;
     };
     let Ok(mut output) = BufWriter::new(alloc, writer) else {
@@ -126,7 +134,8 @@ fn play_lines<B: BufRead, W: Write>(
     output: &mut W,
 ) -> Result<bool, Stop> {
     let mut line = Vec::new(alloc);
-    for number in 2..LINES {
+    // Each line takes a byte at least, and the reads run out long before this many.
+    for number in 2..u64::MAX {
         if !next_line(input, &mut line)? {
             return Ok(world.host_fault().is_some());
         }
@@ -137,15 +146,18 @@ fn play_lines<B: BufRead, W: Write>(
     Err(Stop::Failed)
 }
 
-/// Reads the next line, without its line feed, and answers whether there is one.
+/// Reads the next line, without its line feed, and answers whether there is one. It fails at a line that is too long.
 fn next_line<B: BufRead>(input: &mut B, line: &mut Vec<u8>) -> Result<bool, Stop> {
     line.clear();
-    if input.read_until(b'\n', line)? == 0 {
+    let count = input.by_ref().take(LONGEST_LINE).read_until(b'\n', line)?;
+    if count == 0 {
         return Ok(false);
     }
     if line.last() == Some(&b'\n') {
         // The line feed.
         let _ = line.pop();
+    } else if count as u64 == LONGEST_LINE {
+        return Err(Stop::Failed);
     }
     Ok(true)
 }

@@ -22,6 +22,24 @@ impl<'a> io::Read for TornReader<'a> {
     }
 }
 
+/// Gives a script, and then blanks for ever. It counts how often it was asked.
+#[derive(Drop)]
+struct EndlessReader<'a> {
+    script: &'a [u8],
+    asked: u64,
+}
+
+impl<'a> io::Read for EndlessReader<'a> {
+    fn read(&mut self, buf: &mut [u8]) -> io::Result<usize> {
+        self.asked = self.asked.saturating_add(1);
+        if self.script.is_empty() {
+            buf.fill(b' ');
+            return Ok(buf.len());
+        }
+        self.script.read(buf)
+    }
+}
+
 /// Takes nothing.
 #[derive(Drop)]
 struct FullWriter;
@@ -42,6 +60,17 @@ const SCRIPT: &[u8] = b"screen 2 1 T\nopen 1 full\nturn 1\n";
 fn ends_torn(alloc: Global, script: Option<&[u8]>, printed: &str) -> bool {
     let mut output = Vec::new(alloc);
     replay(alloc, TornReader(script), &mut output) == 3 && output.as_slice() == printed.as_bytes()
+}
+
+/// An endless line ends a script in at most this many reads: 256 MiB, and each read brings 4 KiB or more.
+const ENDLESS_READS: u64 = 1 << 16;
+
+/// Whether a line without an end after these bytes ends the script with status 3 and this printed, in few reads.
+fn ends_endless(alloc: Global, script: &[u8], printed: &str) -> bool {
+    let mut output = Vec::new(alloc);
+    let mut reader = EndlessReader { script, asked: 0 };
+    let status = replay(alloc, &mut reader, &mut output);
+    status == 3 && output.as_slice() == printed.as_bytes() && reader.asked <= ENDLESS_READS
 }
 
 /// Whether bytes are read and shown as a script spells them.
@@ -69,6 +98,11 @@ pub fn play_links(rt: &HostRuntime) -> Result<(), Fail> {
         ),
         ("reader that fails at once", ends_torn(alloc, None, "")),
         ("writer that fails", replay(alloc, SCRIPT, FullWriter) == 3),
+        ("first line without an end", ends_endless(alloc, b"", "")),
+        (
+            "later line without an end",
+            ends_endless(alloc, SCRIPT, "1: -\n"),
+        ),
         (
             "first line that is no text",
             plays(alloc, b"screen 2 1 \xFF\n", "line 1\n", 2),
