@@ -1,0 +1,6 @@
+-- That nothing is read after a breach: the induction stands in proofs/Breaches.antt.
+use Rattle.web_frames.proofs.Breaches.{nothing_after_a_breach}
+use Rattle.web_frames.proofs.law.nothing_is_read_after_a_breach.Goals as goal
+
+pub returns : goal.returns
+returns c = nothing_after_a_breach

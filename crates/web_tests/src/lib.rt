@@ -1,0 +1,14 @@
+//! Tests of `web_frames` and `web_link`, which stand in a crate of their own so that each of those is proved once.
+//! Frames are spelled by hand after RFC 6455, sections 5.2 and 5.7.
+#![tactic(auto)]
+
+#[cfg(test)]
+mod client;
+#[cfg(test)]
+mod gathering;
+#[cfg(test)]
+mod giving;
+#[cfg(test)]
+mod reader;
+#[cfg(test)]
+mod taking;
