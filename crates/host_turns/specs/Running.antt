@@ -42,9 +42,14 @@ pub record JoinsElsewhere (w h : ℕ) (link_old link_new : LinkState) : Type 0 w
 abbrev pub IsUnfit : ℕ → ℕ → Fault → (link_old link_new : LinkState) → Type 0
 IsUnfit w h fault link_old link_new = FailsAs fault link_old link_new ⊎ (JoinsElsewhere w h link_old link_new × (fault ≡ BadScreen))
 
--- After so many updates memory is refused for what the next host wants, or there is no number for its switch.
+-- After so many updates memory is refused for what a host wants that was joined, or there is no number for its switch.
 abbrev pub IsWant : ℕ → Fault → Type 0
 IsWant count fault = (fault ≡ Memory) ⊎ ((fault ≡ NumbersOut) × (count ≡ 2 ^ 62))
+
+-- Why a host is missed that comes over a link, after so many updates: it isn't joined at the size of the screen, or it is,
+-- and then there is want.
+abbrev pub IsMissed : ℕ → ℕ → ℕ → Fault → LinkState → Type 0
+IsMissed w h count fault link = (left : LinkState) × (IsUnfit w h fault link left ⊎ (JoinsAt w h link left × IsWant count fault))
 
 -- ---- one host after another
 
@@ -88,10 +93,11 @@ put_with old (Read stay) = stay.put
 put_with old (Missed fault) = old
 
 -- A host that comes over such a link has this turn, after the updates so far. It is joined at the size of the screen,
--- then the switch is put, and then it is read over a black screen. Or it is missed, and nothing is put.
+-- then the switch is put, and then it is read over a black screen. Or it is missed, and nothing is put: it isn't joined
+-- so, or it is, and there is want.
 abbrev pub IsTurn : ℕ → ℕ → (LinkState → Type 0) → List Update → Turn → Type 0
 IsTurn w h comes old (Read stay) = ((link : LinkState) × comes link × JoinsAt w h link stay.joined) × ((black : List Update) × IsSwitched w h old black × IsRead w h stay.answer stay.joined stay.left black stay.put)
-IsTurn w h comes old (Missed fault) = ((link : LinkState) × comes link × ((left : LinkState) × IsUnfit w h fault link left)) ⊎ IsWant (length old) fault
+IsTurn w h comes old (Missed fault) = (link : LinkState) × comes link × IsMissed w h (length old) fault link
 
 -- A list of turns has the latest first.
 
@@ -130,9 +136,9 @@ pub record HasRun (w h : ℕ) (comes : LinkState → Type 0) (result : Result (U
 abbrev pub IsLinkOf : {L : Type 0} → (L → LinkState) → (L → Type 0) → LinkState → Type 0
 IsLinkOf {L} state came link = (end : L) × came end × (link ≡ state end)
 
--- Why a run ends: no host is taken after its answer, or none was left.
-abbrev pub IsOver : {H : Type 0} → (H → Type 0) → Result (Unit {0}) Fault → Type 0
-IsOver {H} are_out result = (goes_on result ≡ false) ⊎ ((hosts : H) × are_out hosts)
+-- Why a run ends: no host is taken after its answer, or the supply that it leaves has none.
+abbrev pub IsOver : {H : Type 0} → (H → Type 0) → H → Result (Unit {0}) Fault → Type 0
+IsOver {H} are_out hosts result = (goes_on result ≡ false) ⊎ are_out hosts
 
 -- ---- on the way
 

@@ -6,7 +6,7 @@ ghost use Rattle.raster.specs.Size.{IsScreenSize};
 ghost use Rattle.host_decoder.specs.Decoder.{Decodes, IsFor, host_message};
 ghost use Rattle.pixel_format.specs.declared.fault.Fault.TheVariants.{Memory};
 ghost use Rattle.link.specs.Links.{LinkState};
-ghost use Rattle.host_turns.specs.Running.{HasTurn, IsLinkOf, IsRead, IsSwitched, IsUnfit, IsWant, JoinsAt};
+ghost use Rattle.host_turns.specs.Running.{HasTurn, IsLinkOf, IsRead, IsMissed, IsSwitched, IsUnfit, IsWant, JoinsAt};
 
 use crate::handover::Handover;
 use crate::supply::Hosts;
@@ -138,7 +138,7 @@ fn meet<L: Link, H: Hosts<L>, P: Puts, R: Wait>(
     ensures pair { IfOk result (λ screen. IsFor screen.decoder screen.painter) }
     ensures joins { OnOk result (JoinsAt ground.now.width ground.now.height (L.state link.old) (L.state link.new)) }
     ensures switched { OnOk result (IsSwitched ground.now.width ground.now.height (P.updates publisher.old) (P.updates publisher.new)) }
-    ensures err { IfErr result (λ fault. ((left : LinkState) × IsUnfit ground.now.width ground.now.height fault (L.state link.old) left) ⊎ IsWant (length (P.updates publisher.old)) fault) }
+    ensures err { IfErr result (λ fault. IsMissed ground.now.width ground.now.height (length (P.updates publisher.old)) fault (L.state link.old)) }
     ensures unput { OnErr result (P.updates publisher.new ≡ P.updates publisher.old) }
 {
     let joined = join_at(rt, ground, link)?;

@@ -48,7 +48,7 @@ fn read_others<L: Link, H: Hosts<L>, P: Puts, W: Bell + Drop, R: Wait>(
     requires { (P.width publisher.old ≡ ground.now.width) × (P.height publisher.old ≡ ground.now.height) }
     ensures run { (link : LinkState) (old : List Update) → HasRun ground.now.width ground.now.height (IsLinkOf L.state H.came) answer link (map L.state links.old.items) old (P.updates publisher.old)
         → HasRun ground.now.width ground.now.height (IsLinkOf L.state H.came) result link (map L.state links.new.items) old (P.updates publisher.new) }
-    ensures over { IsOver H.are_out result }
+    ensures over { IsOver H.are_out hosts.new result }
 {
     let mut last = answer;
     for _ in rt.forever() {
@@ -84,7 +84,7 @@ pub fn read_all<L: Link, H: Hosts<L>, P: Puts, W: Bell + Drop, R: Wait>(
     requires pair { IsFor screen.decoder screen.painter }
     requires publisher { (P.width publisher.old ≡ ground.now.width) × (P.height publisher.old ≡ ground.now.height) }
     ensures run { HasRun ground.now.width ground.now.height (IsLinkOf L.state H.came) result (L.state first) (map L.state links.new.items) (P.updates publisher.old) (P.updates publisher.new) }
-    ensures over { IsOver H.are_out result }
+    ensures over { IsOver H.are_out hosts.new result }
 {
     let answer = stay(rt, ground, first, screen, hosts, links, publisher, handover);
     let last = read_others(rt, ground, answer, hosts, links, publisher, handover);

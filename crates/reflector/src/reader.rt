@@ -21,8 +21,9 @@ use std::thread::{Promise, PromisedHandle, Threads};
 
 /// What reading the hosts came to.
 #[derive(Drop)]
-pub(crate) struct HostsRead<L: Link, P: Drop> {
+pub(crate) struct HostsRead<L: Link, H: Hosts<L>, P: Drop> {
     pub(crate) result: Result<(), Fault>,
+    pub(crate) hosts: H,
     pub(crate) links: Vec<L>,
     pub(crate) publisher: P,
 }
@@ -38,15 +39,15 @@ pub(crate) struct OfHosts<L: Link, H: Hosts<L>, P: Puts> {
     pub(crate) hosts: PhantomData<H>,
 }
 
-impl<L: Link, H: Hosts<L>, P: Puts + Drop> Promise<HostsRead<L, P>> for OfHosts<L, H, P> {
+impl<L: Link, H: Hosts<L>, P: Puts + Drop> Promise<HostsRead<L, H, P>> for OfHosts<L, H, P> {
     ghost use Rattle.std.specs.Prelude.{map};
     ghost use Rattle.host_turns.specs.Running.{HasRun, IsLinkOf, IsOver};
 
-    ghost kept_by = { λ promise read. HasRun promise.width promise.height (IsLinkOf L.state H.came) read.result (L.state promise.link.value) (map L.state read.links.items) (P.updates promise.publisher.value) (P.updates read.publisher) × IsOver H.are_out read.result };
+    ghost kept_by = { λ promise read. HasRun promise.width promise.height (IsLinkOf L.state H.came) read.result (L.state promise.link.value) (map L.state read.links.items) (P.updates promise.publisher.value) (P.updates read.publisher) × IsOver H.are_out read.hosts read.result };
 }
 
 /// The thread that reads the hosts.
-pub(crate) type ReaderHandle<L, H, P> = PromisedHandle<HostsRead<L, P>, OfHosts<L, H, P>>;
+pub(crate) type ReaderHandle<L, H, P> = PromisedHandle<HostsRead<L, H, P>, OfHosts<L, H, P>>;
 
 /// What the thread begins with: the first host's link, what reads it, and room for one link.
 #[derive(Drop)]
@@ -65,14 +66,14 @@ fn read<L: Link, H: Hosts<L>, P: Puts + Drop, B: Bell + Drop, W: Bell + Drop, R:
     publisher: P,
     bell: B,
     handover: &Handover<L, W>,
-) -> HostsRead<L, P>
+) -> HostsRead<L, H, P>
     requires room { (begun.links.items ≡ []) × (0 < vec_capacity begun.links) }
     requires size { (begun.screen.decoder.width ≡ begun.ground.width) × (begun.screen.decoder.height ≡ begun.ground.height) }
     requires begins { Decodes begun.screen.decoder begun.screen.painter opening (host_message begun.ground.width begun.ground.height) }
     requires pair { IsFor begun.screen.decoder begun.screen.painter }
     requires publisher { (P.width publisher ≡ begun.ground.width) × (P.height publisher ≡ begun.ground.height) }
     ensures run { HasRun begun.ground.width begun.ground.height (IsLinkOf L.state H.came) result.result (L.state begun.link) (map L.state result.links.items) (P.updates publisher) (P.updates result.publisher) }
-    ensures over { IsOver H.are_out result.result }
+    ensures over { IsOver H.are_out result.hosts result.result }
 {
     let Begun {
         ground,
@@ -97,6 +98,7 @@ fn read<L: Link, H: Hosts<L>, P: Puts + Drop, B: Bell + Drop, W: Bell + Drop, R:
     let Ringing { inner, bell: _ } = ringing;
     HostsRead {
         result,
+        hosts,
         links,
         publisher: inner,
     }

@@ -34,11 +34,13 @@ use std::time::Clock;
 use tally_word::{Naming, Opened};
 
 /// What a run leaves.
-pub struct Running<L, P, S: ScreenSource, D: Door, R: Wait + Drop> {
+pub struct Running<L, H, P, S: ScreenSource, D: Door, R: Wait + Drop> {
     /// The answer with which the run ended: of reading the last host, or of joining one.
     pub result: Result<(), Fault>,
     /// The link that each host was read of, in turn.
     pub links: Vec<L>,
+    /// The supply of hosts, with those that had no turn.
+    pub hosts: H,
     /// The screen, with all that was put.
     pub publisher: P,
     /// What took the viewers' input.
@@ -155,7 +157,7 @@ where
 fn end_all<L, H, P, S, D, B, W, R>(
     crew: &Crew<R, B, W>,
     started: Started<L, H, P, S, D, W, R>,
-) -> Running<L, P, S, D, R>
+) -> Running<L, H, P, S, D, R>
 where
     L: Link,
     H: Hosts<L>,
@@ -166,7 +168,7 @@ where
     W: Bell + Drop,
     R: Threads + Wait + Drop,
     ensures run { HasRun started.reader.promise.width started.reader.promise.height (IsLinkOf L.state H.came) result.result (L.state started.reader.promise.link.value) (map L.state result.links.items) (P.updates started.reader.promise.publisher.value) (P.updates result.publisher) }
-    ensures over { IsOver H.are_out result.result }
+    ensures over { IsOver H.are_out result.hosts result.result }
     ensures taker { host_of result.taker ≡ host_of started.writer.promise.taker.value }
     ensures told { HasTold (λ (a : Unit {0}) link b. ⊤) (λ (a : Unit {0}) link b. ⊤) (λ (a : Unit {0}). ⊤) S.looks S.width S.height (desk tt started.writer.promise.source.value (taken_of started.writer.promise.taker.value) started.writer.promise.strokes.value) (taken_of result.taker) result.strokes }
     ensures places { result.places ≡ started.places }
@@ -178,6 +180,7 @@ where
     } = started;
     let HostsRead {
         result,
+        hosts,
         links,
         publisher,
     } = reader.join(&crew.rt);
@@ -186,6 +189,7 @@ where
     Running {
         result,
         links,
+        hosts,
         publisher,
         taker,
         strokes,
@@ -202,7 +206,7 @@ fn run_over<L, H, P, S, D, B, W, R>(
     doors: Vec<(Role, D)>,
     publisher: P,
     watchers: Vec<S>,
-) -> Result<Running<L, P, S, D, R>, Fault>
+) -> Result<Running<L, H, P, S, D, R>, Fault>
 where
     L: Link + Send + 'static,
     H: Hosts<L> + Send + 'static,
@@ -217,7 +221,7 @@ where
     requires screen { (s : S) → (S.width s ≡ joined.now.w) × (S.height s ≡ joined.now.h) }
     requires doors { (1 ≤ vec_len doors) × (vec_len doors ≤ 64) × (vec_len watchers ≡ vec_len doors + 1) }
     ensures run { IfOk result (λ run. HasRun joined.now.w joined.now.h (IsLinkOf L.state H.came) run.result (L.state links.0) (map L.state run.links.items) (P.updates publisher) (P.updates run.publisher)) }
-    ensures over { IfOk result (λ run. IsOver H.are_out run.result) }
+    ensures over { IfOk result (λ run. IsOver H.are_out run.hosts run.result) }
     ensures places { IfOk result (λ run. map (λ place. strand_of place.promise.sender.value) run.places.items ≡ fresh (vec_len doors)) }
     ensures relay { IfOk result (λ run. All (λ place. relay_of place.promise.sender.value ≡ host_of run.taker) run.places.items) }
     ensures told { IfOk result (λ run. (source : S) × (source ≡ slice_index_or watchers.items 0 source) × TellsHosts S.looks S.width S.height source (taken_of run.taker) run.strokes) }
@@ -273,7 +277,7 @@ pub fn run_all<J, L, H, D, B, W, R>(
     doors: Vec<(Role, D)>,
     everyone: Arc<B, Global>,
     writer_bell: Arc<W, Global>,
-) -> Result<Running<L, Publisher<J, R>, Watcher<J>, D, R>, Fault>
+) -> Result<Running<L, H, Publisher<J, R>, Watcher<J>, D, R>, Fault>
 where
     J: Naming + Send + Sync + 'static,
     L: Link + Send + 'static,
@@ -286,7 +290,7 @@ where
     requires size { IsScreenSize joined.w joined.h × (joined.w ≡ J.width) × (joined.h ≡ J.height) }
     requires doors { (1 ≤ vec_len doors) × (vec_len doors ≤ 64) }
     ensures run { IfOk result (λ run. HasRun J.width J.height (IsLinkOf L.state H.came) run.result (L.state reader) (map L.state run.links.items) [] (puts_of run.publisher)) }
-    ensures over { IfOk result (λ run. IsOver H.are_out run.result) }
+    ensures over { IfOk result (λ run. IsOver H.are_out run.hosts run.result) }
     ensures places { IfOk result (λ run. map (λ place. strand_of place.promise.sender.value) run.places.items ≡ fresh (vec_len doors)) }
     ensures relay { IfOk result (λ run. All (λ place. relay_of place.promise.sender.value ≡ host_of run.taker) run.places.items) }
     ensures told { IfOk result (λ run. TellsHosts (λ old reply new. Reaches old (step.Look reply ∷ []) new) (λ _. J.width) (λ _. J.height) nothing_put (taken_of run.taker) run.strokes) }

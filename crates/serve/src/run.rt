@@ -53,6 +53,7 @@ where
     let Running {
         result,
         links: _links,
+        hosts: _hosts,
         publisher: _publisher,
         taker: _taker,
         strokes: _strokes,

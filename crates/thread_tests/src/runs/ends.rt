@@ -70,15 +70,16 @@ fn shows<J: Naming>(alloc: Global, watcher: &mut Watcher<J>, last: u64) -> Resul
 }
 
 /// Whether the run ended as it is to, each place shows the last update, and nothing is left of the input.
-fn ends<J, L, R>(
+fn ends<J, L, H, R>(
     rt: R,
     alloc: Global,
-    running: Running<L, Publisher<J, R>, Watcher<J>, Queue, R>,
+    running: Running<L, H, Publisher<J, R>, Watcher<J>, Queue, R>,
     end: &End,
 ) -> Result<bool, Fail>
 where
     J: Naming + Send + Sync + 'static,
     L: Link,
+    H: Drop,
     R: Threads + Wait + Drop + Copy,
     requires screen { (2 ≡ J.width) × (1 ≡ J.height) }
     requires relay { All (λ place. relay_of place.promise.sender.value ≡ host_of running.taker) running.places.items }
@@ -88,6 +89,7 @@ where
         links,
         publisher,
         taker,
+        hosts: _hosts,
         strokes: _,
         places,
     } = running;

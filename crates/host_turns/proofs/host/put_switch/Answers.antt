@@ -1,5 +1,5 @@
 -- The patch of a painter of the screen's size is a switch on that screen.
-use Rattle.std.proofs.Common.{ℕ, [], ◌∷◌}
+use Rattle.std.proofs.Common.{[], ◌∷◌}
 use Rattle.raster.specs.Screen.{Canvas}
 use Rattle.raster.specs.Switch.{switch}
 use Rattle.painter.specs.Same.{AreSameUpdates}

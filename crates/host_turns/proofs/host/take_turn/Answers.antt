@@ -1,6 +1,5 @@
 -- A host that was met has a stay; another is missed, and nothing was put.
 use Rattle.std.proofs.Common.{[], ◌∷◌, ◌++◌, map, ap, refl, ◌∙◌}
-use Rattle.link.specs.Links.{LinkState}
 use Rattle.host_turns.specs.Running.{Missed, Read, Stay}
 use Rattle.host_turns.proofs.Turns.{missed}
 use Rattle.host_turns.proofs.host.take_turn.Goals as goal
