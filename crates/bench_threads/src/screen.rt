@@ -3,6 +3,7 @@
 ghost use Rattle.std.specs.Prelude.{◌≡◌};
 
 use crate::{answered, beside, calls};
+use screen_pair::Publishes;
 use shared_screen::shared;
 use std::alloc::Global;
 use std::marker::Brand;
@@ -15,10 +16,10 @@ use tally_word::{Naming, Opened};
 /// This many watchers may look at once.
 const PLACES: usize = 16;
 
-fn run<J: Naming + Send + Sync, R: Threads + Wait + Clock + Sync + Send + Copy + Drop>(
+fn run<J: Naming + Publishes + Send + Sync, R: Threads + Wait + Clock + Sync + Send + Copy + Drop>(
     rt: R,
     alloc: Global,
-    opened: Opened,
+    opened: Opened<J>,
     rounds: u64,
     looks: u64,
 ) -> Result<([u128; 8], [u128; 2], [u128; 5]), Fail>

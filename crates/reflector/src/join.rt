@@ -9,6 +9,7 @@ ghost use Rattle.reflector.specs.Visits.{HasVisits, at, setup_of};
 ghost use Rattle.tally_word.specs.History.{puts_of};
 
 use crate::place::{Place, PlaceHandle};
+use screen_pair::Publishes;
 use serving::Door;
 use shared_screen::{Publisher, Watcher};
 use std::sync::Wait;
@@ -26,7 +27,7 @@ pub fn join_place<J, D, R>(
     publisher: &Publisher<J, R>,
 ) -> Place<Watcher<J>, D, R>
 where
-    J: Naming,
+    J: Naming + Publishes,
     D: Door,
     R: Threads + Wait + Drop,
     ensures sender { IsSameSender handle.promise.sender.value result.sender }

@@ -25,6 +25,7 @@ use pixel_format::Fault;
 use reflect_core::{Puts, ScreenSource};
 use rfb_wire::Joined;
 use roles::{Role, Strokes};
+use screen_pair::Publishes;
 use serving::{Bell, Door, Stop};
 use shared_screen::{Publisher, Watcher, shared};
 use std::alloc::Global;
@@ -269,7 +270,7 @@ where
 pub fn run_all<J, L, H, D, B, W, R>(
     rt: R,
     alloc: Global,
-    history: Opened,
+    history: Opened<J>,
     reader: L,
     writer: L,
     joined: Joined,
@@ -279,7 +280,7 @@ pub fn run_all<J, L, H, D, B, W, R>(
     writer_bell: Arc<W, Global>,
 ) -> Result<Running<L, H, Publisher<J, R>, Watcher<J>, D, R>, Fault>
 where
-    J: Naming + Send + Sync + 'static,
+    J: Naming + Publishes + Send + Sync + 'static,
     L: Link + Send + 'static,
     H: Hosts<L> + Send + 'static,
     D: Door + Send + 'static,

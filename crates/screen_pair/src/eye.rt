@@ -1,14 +1,15 @@
 //! The readers' ends of a pair.
 
-ghost use Rattle.std.specs.Prelude.{◌≡◌, ◌⊎◌, ◌≤◌, [], length, take, IfOk, IfErr};
+ghost use Rattle.std.specs.Prelude.{◌≡◌, ◌⊎◌, ◌≤◌, ◌-◌, [], length, take, IfOk, IfErr};
 ghost use Rattle.pixel_format.specs.declared.fault.Fault.TheVariants.{Gone};
 ghost use Rattle.raster.specs.Screen.{IsWithin};
 ghost use Rattle.reflect_core.specs.Sequential.{Begins};
 ghost use Rattle.reflect_core.specs.Source.{IsCutOf};
-ghost use Rattle.tally_word.specs.History.{puts_of};
+ghost use Rattle.tally_word.specs.History.{puts_of, ArePublished};
 
 use crate::news::PairNews;
 use crate::published::Published;
+use crate::publishes::Publishes;
 use crate::writer::PairWriter;
 use left_right::ReadHandle;
 use pixel_format::Fault;
@@ -58,6 +59,14 @@ impl<J: Naming> Eye<J> {
         self.number
     }
 
+    /// All that it knows but the last update was raised, and so is published.
+    pub fn is_published(&self)
+        ensures { ArePublished J.published (length self.now - 1) self.now }
+    {
+        self.front.is_legal();
+        self.front.is_backed();
+    }
+
     /// It knows the longer of its list and the one that was told from now on. Each of the two begins that.
     pub fn learn(&mut self, news: &PairNews<J>)
         ensures one { (self.new ≡ self.old) ⊎ (self.new ≡ news.now) }
@@ -69,6 +78,8 @@ impl<J: Naming> Eye<J> {
 
     /// The same with what the publisher has published.
     pub fn meet<R: Wait + Drop>(&mut self, writer: &PairWriter<J, R>)
+    where
+        J: Publishes,
         ensures one { (self.new ≡ self.old) ⊎ (self.new ≡ writer.now) }
         ensures mine { Begins self.old self.new }
         ensures told { Begins writer.now self.new }

@@ -9,6 +9,7 @@ ghost use Rattle.tally_word.specs.History.{puts_of};
 
 use crate::news::PairNews;
 use crate::published::Published;
+use crate::publishes::Publishes;
 use crate::stamped::Stamped;
 use left_right::WriteHandle;
 use painter::Patch;
@@ -68,12 +69,14 @@ pub fn publish<J: Naming, R: Wait + Drop>(
 }
 
 /// News of what is published.
-pub fn tell<J: Naming, R: Wait + Drop>(
+pub fn tell<J: Naming + Publishes, R: Wait + Drop>(
     handle: &WriteHandle<Published<J>, Stamped<J>, R>,
 ) -> PairNews<J>
     ensures news { result ≡ puts_of (published handle.now) }
+    ensures published { J.published result }
     ensures few { length result ≤ 2 ^ 62 }
 {
+    J::told_by(handle);
     let copy = handle.published();
     PairNews {
         front: copy.front(),

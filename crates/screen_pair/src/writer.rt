@@ -9,6 +9,7 @@ ghost use Rattle.tally_word.specs.History.{puts_of};
 
 use crate::news::PairNews;
 use crate::published::Published;
+use crate::publishes::Publishes;
 use crate::publishing::{publish, tell};
 use crate::stamped::Stamped;
 use left_right::{Absorb, WriteHandle};
@@ -46,16 +47,11 @@ where
     ghost invariant = { λ w. pending w.handle ≡ [] };
 }
 
-/// Knows all changes from now on, and sees that the tally stands at the number of updates: where one was published, as
-/// the news tell, and isn't raised, it is. It says whether these are all updates.
-fn catch_up<J: Naming>(
-    front: &mut Front<J>,
-    roll: &Roll<J>,
-    number: u64,
-    news: &PairNews<J>,
-) -> bool
+/// Knows all changes from now on, and sees that the tally stands at the number of updates: where one was published and
+/// isn't raised, it is. It says whether these are all updates.
+fn catch_up<J: Naming>(front: &mut Front<J>, roll: &Roll<J>, number: u64) -> bool
     requires count { (number ≡ length (puts_of front.old)) × (number < 2 ^ 62) }
-    requires published { news.now ≡ puts_of front.old }
+    requires published { J.published (puts_of front.old) }
     ensures grows { Begins front.old front.new }
     ensures count { IsTrue result → length front.new ≡ 2 * number }
 {
@@ -67,7 +63,7 @@ fn catch_up<J: Naming>(
     if changes != (2 * number).saturating_sub(1) {
         return false;
     }
-    front.raise(roll, changes, number, news)
+    front.raise(roll, changes, number)
 }
 
 impl<J: Naming, R: Wait + Drop> PairWriter<J, R> {
@@ -84,6 +80,8 @@ impl<J: Naming, R: Wait + Drop> PairWriter<J, R> {
 
     /// News of what is published.
     pub fn tell(&self) -> PairNews<J>
+    where
+        J: Publishes,
         ensures { result ≡ self.now }
     {
         tell(&self.handle)
@@ -95,7 +93,7 @@ impl<J: Naming, R: Wait + Drop> PairWriter<J, R> {
     }
 }
 
-impl<J: Naming, R: Wait + Drop> Puts for PairWriter<J, R> {
+impl<J: Naming + Publishes, R: Wait + Drop> Puts for PairWriter<J, R> {
     ghost updates = { λ w. w };
 
     ghost width = { λ w. J.width };
@@ -114,9 +112,9 @@ impl<J: Naming, R: Wait + Drop> Puts for PairWriter<J, R> {
             return Err((Fault::NumbersOut, patch));
         }
         let mut front = copy.front();
-        let news = tell(&self.handle);
+        J::told_by(&self.handle);
         // No other end adds changes, so neither of these is ever so.
-        if !catch_up(&mut front, &self.roll, number, &news) {
+        if !catch_up(&mut front, &self.roll, number) {
             return Err((Fault::Memory, patch));
         }
         front.is_legal();

@@ -16,6 +16,7 @@ use plan::Plan;
 use reflector::{Running, run_all};
 use rfb_wire::Joined;
 use roles::Role;
+use screen_pair::Publishes;
 use serving::{Bell, Door, Log};
 use std::alloc::Global;
 use std::marker::Brand;
@@ -29,7 +30,7 @@ use tally_word::{Naming, Opened};
 fn over<J, L, H, D, B, W, R>(
     rt: R,
     alloc: Global,
-    history: Opened,
+    history: Opened<J>,
     ends: (L, L),
     joined: Joined,
     hosts: H,
@@ -38,7 +39,7 @@ fn over<J, L, H, D, B, W, R>(
     writer: Arc<W, Global>,
 ) -> Result<(), Fault>
 where
-    J: Naming + Send + Sync + 'static,
+    J: Naming + Publishes + Send + Sync + 'static,
     L: Link + Send + 'static,
     H: Hosts<L> + Send + 'static,
     D: Door + Send + 'static,

@@ -38,7 +38,7 @@ fn watchers<J: Naming>(
 pub fn shared<J: Naming, R: Wait + Drop + Copy>(
     rt: R,
     alloc: Global,
-    history: Opened,
+    history: Opened<J>,
     width: u64,
     height: u64,
     places: usize,
@@ -51,7 +51,7 @@ pub fn shared<J: Naming, R: Wait + Drop + Copy>(
     ensures watchers { IfOk result (λ ends. All (λ w. w ≡ record { updates = []; tally = 0 }) ends.1.items) }
     ensures err { IfErr result (λ fault. (fault ≡ Memory) ⊎ (fault ≡ NoPlace)) }
 {
-    let (roll, front) = history.named::<J>();
+    let (roll, front) = history.named();
     let roll = Arc::new(alloc, roll)?;
     let handle = opened(rt, alloc, &front, width, height, places)?;
     let eyes = eyes(alloc, &handle, &front, places)?;

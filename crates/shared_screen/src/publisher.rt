@@ -10,7 +10,7 @@ use left_right::{Absorb, WriteHandle};
 use painter::Patch;
 use pixel_format::{Fault, LIMIT};
 use reflect_core::Puts;
-use screen_pair::{Published, Stamped, publish, tell};
+use screen_pair::{Published, Publishes, Stamped, publish, tell};
 use std::marker::Model;
 use std::sync::Wait;
 use std::thread;
@@ -58,6 +58,8 @@ impl<J: Naming, R: Wait + Drop> Publisher<J, R> {
 
     /// News of all that was put; the tally is raised to it.
     pub fn tell(&self) -> News<J>
+    where
+        J: Publishes,
         ensures { result ≡ record { updates = puts_of self.now; tally = length (puts_of self.now) } }
     {
         News {
@@ -72,7 +74,7 @@ impl<J: Naming, R: Wait + Drop> Publisher<J, R> {
     }
 }
 
-impl<J: Naming, R: Wait + Drop> Puts for Publisher<J, R> {
+impl<J: Naming + Publishes, R: Wait + Drop> Puts for Publisher<J, R> {
     ghost updates = { λ p. puts_of p };
 
     ghost width = { λ p. J.width };
@@ -100,8 +102,8 @@ impl<J: Naming, R: Wait + Drop> Puts for Publisher<J, R> {
         if let Err(patch) = publish(&mut self.handle, patch, number + 1, front.again()) {
             return Err((Fault::Memory, patch));
         }
-        let news = tell(&self.handle);
-        if !self.raiser.raise(number + 1, &front, &news) {
+        J::told_by(&self.handle);
+        if !self.raiser.raise(number + 1, &front) {
             // Nor is this.
             for _ in self.rt.forever() {
                 thread::yield_now();

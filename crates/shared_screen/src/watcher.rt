@@ -8,14 +8,14 @@ ghost use Rattle.reflect_core.specs.Sequential.{Begins};
 ghost use Rattle.reflect_core.specs.Sequential as step;
 ghost use Rattle.reflect_core.specs.Source.{IsCutOf};
 ghost use Rattle.tally_word.specs.Reaches.{Reaches};
-ghost use Rattle.tally_word.specs.History.{puts_of};
+ghost use Rattle.tally_word.specs.History.{puts_of, ArePublished};
 
 use crate::news::News;
 use crate::publisher::Publisher;
 use pixel_format::Fault;
 use raster::Rect;
 use reflect_core::{Cut, ScreenSource};
-use screen_pair::Eye;
+use screen_pair::{Eye, Publishes};
 use std::marker::Model;
 use std::sync::Wait;
 use tally_word::{Glance, Naming};
@@ -78,6 +78,8 @@ impl<J: Naming> Watcher<J> {
 
     /// The same with all that the publisher has put.
     pub fn meet<R: Wait + Drop>(&mut self, publisher: &Publisher<J, R>)
+    where
+        J: Publishes,
         ensures one { (self.new.updates ≡ self.old.updates) ⊎ (self.new.updates ≡ puts_of publisher.now) }
         ensures mine { Begins self.old.updates self.new.updates }
         ensures told { Begins (puts_of publisher.now) self.new.updates }
@@ -108,18 +110,20 @@ impl<J: Naming> ScreenSource for Watcher<J> {
     }
 
     /// One load: it enters no copy. It answers the greater of the number raised last and the number of its last cut
-    /// less one.
+    /// less one. So many updates are published.
     fn look(&mut self) -> u64
         ensures reply { result ≡ self.new.tally }
         ensures rises { self.old.tally ≤ result }
         ensures grows { Begins self.old.updates self.new.updates }
         ensures near { (result ≤ length self.new.updates) × (length self.new.updates ≤ result + 1) }
         ensures history { Reaches self.old (step.Look result ∷ []) self.new }
+        ensures published { ArePublished J.published result self.new.updates }
     {
         let number = self.glance.look();
         let front = self.glance.front();
         front.is_legal();
         self.eye.learn_first(&front, number);
+        self.eye.is_published();
         self.told = number;
         number.max(self.last.saturating_sub(1))
     }

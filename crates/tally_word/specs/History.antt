@@ -1,5 +1,5 @@
 -- The history of a shared screen: a list of changes, and what they leave.
-use Rattle.std.specs.Prelude.{◌≡◌, ℕ, suc, List, [], ◌∷◌}
+use Rattle.std.specs.Prelude.{◌≡◌, ℕ, suc, List, [], ◌∷◌, ◌<◌, ◌≤◌, take}
 use Rattle.raster.specs.Update.{Update}
 use Rattle.reflect_core.specs.Sequential.{Step}
 use Rattle.reflect_core.specs.Sequential as step
@@ -35,6 +35,14 @@ TakeTurns n t (Raise m ∷ cs) = (n ≡ suc t) × (m ≡ n) × TakeTurns n m cs
 -- That, from the beginning (own).
 abbrev pub IsLegal : List Change → Type 0
 IsLegal cs = TakeTurns 0 0 cs
+
+-- The first n of these updates are published, for each n from 1 to t (own).
+pub record ArePublished (published : List Update → Type 0) (t : ℕ) (us : List Update) : Type 0 where
+  pub first : (n : ℕ) → 0 < n → n ≤ t → published (take n us)
+
+-- The updates of a history up to its tally are published (own).
+abbrev pub IsBacked : (List Update → Type 0) → List Change → Type 0
+IsBacked published cs = ArePublished published (tally_of cs) (puts_of cs)
 
 -- A change as a step of the sequential screen (own).
 abbrev pub step_of : Change → Step

@@ -2,13 +2,12 @@
 
 ghost use Rattle.std.specs.Prelude.{◌≡◌, ◌≤◌, ◌<◌, ◌^◌, ◌+◌, ◌++◌, ◌∷◌, [], length, MatchBool};
 ghost use Rattle.reflect_core.specs.Sequential.{Begins};
-ghost use Rattle.tally_word.specs.History.{Put, Raise, puts_of, tally_of, IsLegal};
+ghost use Rattle.tally_word.specs.History.{Put, Raise, puts_of, tally_of, IsLegal, IsBacked};
 
 use crate::change::Change;
 use crate::law::{Add, Law, Look, Nothing};
 use crate::naming::Naming;
 use crate::roll::Roll;
-use crate::shows::Shows;
 use logbook::{Offer, Seen};
 use painter::Patch;
 use std::marker::{Model, PhantomData};
@@ -16,20 +15,20 @@ use std::marker::{Model, PhantomData};
 /// A beginning of the history, which was seen: contracts see its changes. It has no bytes.
 #[derive(Drop)]
 pub struct Front<J: Naming> {
-    pub(crate) seen: Seen<Change, u64, Law>,
+    pub(crate) seen: Seen<Change, u64, Law<J>>,
     pub(crate) of: PhantomData<J>,
 }
 
 impl<J: Naming> Model for Front<J> {
     ghost use Rattle.std.specs.Prelude.{◌≡◌, List};
     ghost use Rattle.tally_word.specs.History as history;
-    ghost use Rattle.tally_word.specs.History.{IsLegal};
+    ghost use Rattle.tally_word.specs.History.{IsLegal, IsBacked};
 
     ghost Value = { List history.Change };
 
     ghost view = { λ f. f.seen.log };
 
-    ghost invariant = { λ f. (f.seen.book ≡ J.book) × IsLegal f.seen.log };
+    ghost invariant = { λ f. (f.seen.book ≡ J.book) × IsLegal f.seen.log × IsBacked J.published f.seen.log };
 }
 
 impl<J: Naming> Front<J> {
@@ -59,13 +58,23 @@ impl<J: Naming> Front<J> {
         let _ = &self.seen;
     }
 
+    /// Its updates up to the tally are published.
+    pub fn is_backed(&self)
+        ensures { IsBacked J.published self.now }
+    {
+        let _ = &self.seen;
+    }
+
     /// All changes so far are known from now on: one load, which answers how many they are.
     pub fn look(&mut self, roll: &Roll<J>) -> u64
         ensures grows { Begins self.old self.new }
         ensures count { result ≡ length self.new }
     {
-        let mut offer: Offer<Change, u64, Law, Nothing> = self.seen.plain::<Nothing, u64, Add>(&0);
-        roll.word.load::<Look, Nothing>(&mut self.seen, &mut offer)
+        let mut offer: Offer<Change, u64, Law<J>, Nothing> = self
+            .seen
+            .plain::<Nothing, u64, Add<J>>(&0);
+        roll.word
+            .load::<Look<J>, Nothing>(&mut self.seen, &mut offer)
     }
 
     /// Puts a patch's update after the changes that are known, by one exchange, and says whether it did: not where
@@ -76,13 +85,13 @@ impl<J: Naming> Front<J> {
         ensures grows { Begins self.old self.new }
         ensures put { MatchBool result (self.new ≡ self.old ++ Put patch.now.update ∷ []) (length self.old < length self.new) }
     {
-        let mut offer: Offer<Change, u64, Law, Nothing> = self
+        let mut offer: Offer<Change, u64, Law<J>, Nothing> = self
             .seen
-            .plain::<Nothing, Patch, Add>(patch);
+            .plain::<Nothing, Patch, Add<J>>(patch);
         let mut pen = self.seen.no_pen();
         let found = roll
             .word
-            .compare_exchange::<Add, Nothing>(
+            .compare_exchange::<Add<J>, Nothing>(
                 changes,
                 changes + 1,
                 &mut self.seen,
@@ -92,28 +101,22 @@ impl<J: Naming> Front<J> {
         found == changes
     }
 
-    /// Raises the tally to the number of the updates that are known, all of which are shown to be published, by one
-    /// exchange, and says whether it did: not where there are more changes, which are known then.
-    pub fn raise<S: Shows<J>>(
-        &mut self,
-        roll: &Roll<J>,
-        changes: u64,
-        number: u64,
-        shown: &S,
-    ) -> bool
-        requires published { S.published shown.now ≡ puts_of self.old }
+    /// Raises the tally to the number of the updates that are known, all of which are published, by one exchange, and
+    /// says whether it did: not where there are more changes, which are known then.
+    pub fn raise(&mut self, roll: &Roll<J>, changes: u64, number: u64) -> bool
+        requires published { J.published (puts_of self.old) }
         requires count { (changes ≡ length self.old) × (changes < 2 ^ 63) }
         requires next { (number ≡ length (puts_of self.old)) × (number ≡ tally_of self.old + 1) }
         ensures grows { Begins self.old self.new }
         ensures raised { MatchBool result (self.new ≡ self.old ++ Raise number ∷ []) (length self.old < length self.new) }
     {
-        let mut offer: Offer<Change, u64, Law, Nothing> = self
+        let mut offer: Offer<Change, u64, Law<J>, Nothing> = self
             .seen
-            .plain::<Nothing, u64, Add>(&number);
+            .plain::<Nothing, u64, Add<J>>(&number);
         let mut pen = self.seen.no_pen();
         let found = roll
             .word
-            .compare_exchange::<Add, Nothing>(
+            .compare_exchange::<Add<J>, Nothing>(
                 changes,
                 changes + 1,
                 &mut self.seen,

@@ -14,15 +14,13 @@ mod news;
 mod opened;
 mod raiser;
 mod roll;
-mod shows;
 
 pub use change::Change;
 pub use front::Front;
 pub use glance::Glance;
 pub use law::Law;
-pub use naming::Naming;
+pub use naming::{Naming, Publicity};
 pub use news::TallyNews;
 pub use opened::Opened;
 pub use raiser::{Raiser, tally};
 pub use roll::Roll;
-pub use shows::Shows;

@@ -11,7 +11,6 @@ use crate::glance::Glance;
 use crate::naming::Naming;
 use crate::news::TallyNews;
 use crate::roll::Roll;
-use crate::shows::Shows;
 use pixel_format::Fault;
 use std::alloc::Global;
 use std::marker::Model;
@@ -65,16 +64,16 @@ impl<J: Naming> Raiser<J> {
     }
 
     /// Raises the tally to the number of the updates of `front`, of which one was put since the last raise, and all of
-    /// which are shown to be published; it says whether it did: not where there are more changes, which it knows then.
-    pub fn raise<S: Shows<J>>(&mut self, number: u64, front: &Front<J>, shown: &S) -> bool
-        requires published { S.published shown.now ≡ puts_of front.now }
+    /// which are published; it says whether it did: not where there are more changes, which it knows then.
+    pub fn raise(&mut self, number: u64, front: &Front<J>) -> bool
+        requires published { J.published (puts_of front.now) }
         requires put { (u : Update) × (front.now ≡ self.old ++ Put u ∷ []) }
         requires number { (number ≡ length (puts_of front.now)) × (number ≤ 2 ^ 62) }
         ensures { MatchBool result (self.new ≡ front.now ++ Raise number ∷ []) (Begins front.now self.new × (length front.now < length self.new)) }
     {
         let mut known = front.again();
         known.is_legal();
-        let raised = known.raise(&self.roll, 2 * number - 1, number, shown);
+        let raised = known.raise(&self.roll, 2 * number - 1, number);
         self.front = known;
         raised
     }

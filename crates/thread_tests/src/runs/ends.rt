@@ -17,6 +17,7 @@ use reflect_core::{Cut, ScreenSource};
 use reflector::{Place, Running, join_place, run_all};
 use rfb_wire::Joined;
 use roles::Role;
+use screen_pair::Publishes;
 use serving::NoBell;
 use shared_screen::{Publisher, Watcher};
 use std::alloc::Global;
@@ -77,7 +78,7 @@ fn ends<J, L, H, R>(
     end: &End,
 ) -> Result<bool, Fail>
 where
-    J: Naming + Send + Sync + 'static,
+    J: Naming + Publishes + Send + Sync + 'static,
     L: Link,
     H: Drop,
     R: Threads + Wait + Drop + Copy,
@@ -142,12 +143,12 @@ fn doors_of(
 fn over<J, R>(
     rt: R,
     alloc: Global,
-    history: Opened,
+    history: Opened<J>,
     board: &Arc<Board, Global>,
     course: &Course,
 ) -> Result<bool, Fail>
 where
-    J: Naming + Send + Sync + 'static,
+    J: Naming + Publishes + Send + Sync + 'static,
     R: Threads + Wait + Clock + Copy + Drop + Send + 'static,
     requires { (history.seen.book ≡ J.book) × (2 ≡ J.width) × (1 ≡ J.height) }
 {

@@ -4,7 +4,7 @@ ghost use Rattle.std.specs.Prelude.{◌≡◌, ◌≤◌};
 
 use crate::shared::puts::{ALL, Reads, Room, beside, puts_many};
 use pixel_format::Fault;
-use screen_pair::{Eye, PairWriter, pair};
+use screen_pair::{Eye, PairWriter, Publishes, pair};
 use std::alloc::Global;
 use std::marker::Brand;
 use std::sync::{Arc, Wait};
@@ -27,7 +27,7 @@ impl<J: Naming> Reads for Eye<J> {
 }
 
 /// Whether each cuts the last update once it has met the writer.
-fn all_cut_the_last<J: Naming, R: Wait + Drop>(
+fn all_cut_the_last<J: Naming + Publishes, R: Wait + Drop>(
     eyes: &mut [Eye<J>],
     writer: &PairWriter<J, R>,
     room: &mut Room,
@@ -57,7 +57,7 @@ fn are_gone<J: Naming>(eyes: &mut [Eye<J>], room: &mut Room) -> bool
 }
 
 /// Whether all is right beside a thousand puts, and after the writer's end.
-fn reads_beside<J: Naming + Send + Sync, R: Threads + Wait + Sync + Send + Copy + Drop>(
+fn reads_beside<J: Naming + Publishes + Send + Sync, R: Threads + Wait + Sync + Send + Copy + Drop>(
     rt: R,
     alloc: Global,
     mut writer: PairWriter<J, R>,
@@ -73,10 +73,10 @@ fn reads_beside<J: Naming + Send + Sync, R: Threads + Wait + Sync + Send + Copy 
 }
 
 /// The same of a new pair with this many eyes; or, where memory may be short, whether five puts are answered.
-fn plays<J: Naming + Send + Sync, R: Threads + Wait + Sync + Send + Copy + Drop>(
+fn plays<J: Naming + Publishes + Send + Sync, R: Threads + Wait + Sync + Send + Copy + Drop>(
     rt: R,
     alloc: Global,
-    opened: Opened,
+    opened: Opened<J>,
     places: usize,
     is_short: bool,
 ) -> Result<bool, Fault>
@@ -84,7 +84,7 @@ fn plays<J: Naming + Send + Sync, R: Threads + Wait + Sync + Send + Copy + Drop>
     requires places { (1 ≤ places) × (places ≤ 65) }
 {
     let mut room = Room::new(alloc)?;
-    let (roll, front) = opened.named::<J>();
+    let (roll, front) = opened.named();
     let roll = Arc::new(alloc, roll)?;
     let (mut writer, mut eyes) = pair(rt, alloc, &roll, &front, 4, 4, places)?;
     if is_short {

@@ -5,6 +5,7 @@ ghost use Rattle.std.specs.Prelude.{◌≡◌, ◌≤◌};
 use crate::shared::puts::{ALL, MANY, Reads, Room, beside, puts_many, puts_one};
 use pixel_format::Fault;
 use reflect_core::ScreenSource;
+use screen_pair::Publishes;
 use shared_screen::{Publisher, Watcher, shared};
 use std::alloc::Global;
 use std::marker::Brand;
@@ -29,7 +30,7 @@ impl<J: Naming> Reads for Watcher<J> {
 
 /// Puts three patches, and says whether the second watcher, which is told of each, sees each: it looks at n, and a cut
 /// shows n. The first, which meets the publisher after them, has to look at the last.
-fn tells_three<J: Naming, R: Wait + Drop>(
+fn tells_three<J: Naming + Publishes, R: Wait + Drop>(
     alloc: Global,
     publisher: &mut Publisher<J, R>,
     watchers: &mut [Watcher<J>],
@@ -72,7 +73,7 @@ fn is_gone<J: Naming>(watchers: &mut [Watcher<J>], room: &mut Room) -> bool
 
 /// Whether all is right where all watchers but the last read beside a thousand puts, and each then looks at the last
 /// number, also the one that never looked.
-fn reads_beside<J: Naming + Send + Sync, R: Threads + Wait + Sync + Send + Copy + Drop>(
+fn reads_beside<J: Naming + Publishes + Send + Sync, R: Threads + Wait + Sync + Send + Copy + Drop>(
     rt: R,
     alloc: Global,
     publisher: &mut Publisher<J, R>,
@@ -100,10 +101,10 @@ enum Trial {
 }
 
 /// Whether it comes out right with this many watchers.
-fn plays<J: Naming + Send + Sync, R: Threads + Wait + Sync + Send + Copy + Drop>(
+fn plays<J: Naming + Publishes + Send + Sync, R: Threads + Wait + Sync + Send + Copy + Drop>(
     rt: R,
     alloc: Global,
-    opened: Opened,
+    opened: Opened<J>,
     places: usize,
     trial: Trial,
 ) -> Result<bool, Fault>
