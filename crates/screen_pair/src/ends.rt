@@ -13,8 +13,8 @@ use crate::writer::PairWriter;
 use left_right::WriteHandle;
 use pixel_format::Fault;
 use std::alloc::Global;
-use std::sync::{Arc, Wait};
-use tally_word::{Front, Naming, Roll};
+use std::sync::Wait;
+use tally_word::{Front, Naming, Raiser};
 
 /// This many eyes of a pair, which know no update. It fails where memory is refused (`Memory`) or no place is left
 /// (`NoPlace`).
@@ -44,22 +44,21 @@ pub fn eyes<J: Naming, R: Wait + Drop>(
 pub fn pair<J: Naming, R: Wait + Drop>(
     rt: R,
     alloc: Global,
-    roll: &Arc<Roll<J>, Global>,
-    front: &Front<J>,
+    raiser: Raiser<J>,
     width: u64,
     height: u64,
     places: usize,
 ) -> Result<(PairWriter<J, R>, Vec<Eye<J>>), Fault>
     requires size { IsScreenSize width height × (width ≡ J.width) × (height ≡ J.height) }
-    requires empty { front.now ≡ [] }
+    requires empty { raiser ≡ [] }
     requires places { (1 ≤ places) × (places ≤ 65) }
     ensures writer { IfOk result (λ ends. ends.0 ≡ []) }
     ensures count { IfOk result (λ ends. vec_len ends.1 ≡ places) }
     ensures eyes { IfOk result (λ ends. All (λ eye. eye ≡ []) ends.1.items) }
     ensures err { IfErr result (λ fault. (fault ≡ Memory) ⊎ (fault ≡ NoPlace)) }
 {
-    let handle = opened(rt, alloc, front, width, height, places)?;
-    let eyes = eyes(alloc, &handle, front, places)?;
-    let roll = Arc::try_clone(roll)?;
-    Ok((PairWriter::new(handle, roll), eyes))
+    let front = raiser.front();
+    let handle = opened(rt, alloc, &front, width, height, places)?;
+    let eyes = eyes(alloc, &handle, &front, places)?;
+    Ok((PairWriter::new(handle, raiser), eyes))
 }

@@ -16,10 +16,9 @@ use left_right::{Absorb, WriteHandle};
 use painter::Patch;
 use pixel_format::{Fault, LIMIT};
 use reflect_core::Puts;
-use std::alloc::Global;
 use std::marker::Model;
-use std::sync::{Arc, Wait};
-use tally_word::{Change, Front, Naming, Roll};
+use std::sync::Wait;
+use tally_word::{Change, Front, Naming, Raiser};
 
 /// Publishes updates: contracts see the list of those that are published.
 #[derive(Drop)]
@@ -28,7 +27,7 @@ where
     Published<J>: Absorb<Stamped<J>, State = [Change; 0]>,
 {
     handle: WriteHandle<Published<J>, Stamped<J>, R>,
-    roll: Arc<Roll<J>, Global>,
+    raiser: Raiser<J>,
 }
 
 impl<J: Naming, R: Wait + Drop> Model for PairWriter<J, R>
@@ -38,44 +37,44 @@ where
     ghost use Rattle.std.specs.Prelude.{◌≡◌, [], List};
     ghost use Rattle.left_right.specs.Handles.{published, pending};
     ghost use Rattle.raster.specs.Update.{Update};
+    ghost use Rattle.reflect_core.specs.Sequential.{Begins};
     ghost use Rattle.tally_word.specs.History.{puts_of};
 
     ghost Value = { List Update };
 
     ghost view = { λ w. puts_of (published w.handle) };
 
-    ghost invariant = { λ w. pending w.handle ≡ [] };
+    ghost invariant = { λ w. (pending w.handle ≡ []) × Begins (published w.handle) w.raiser };
 }
 
-/// Knows all changes from now on, and sees that the tally stands at the number of updates: where one was published and
-/// isn't raised, it is. It says whether these are all updates.
-fn catch_up<J: Naming>(front: &mut Front<J>, roll: &Roll<J>, number: u64) -> bool
-    requires count { (number ≡ length (puts_of front.old)) × (number < 2 ^ 62) }
-    requires published { J.published (puts_of front.old) }
-    ensures grows { Begins front.old front.new }
-    ensures count { IsTrue result → length front.new ≡ 2 * number }
+/// Sees that the tally stands at the number of updates that are published: where the last of them isn't raised, it is.
+/// It says whether these are all updates: not where an earlier publish was refused.
+fn catch_up<J: Naming>(raiser: &mut Raiser<J>, shown: &Front<J>, number: u64) -> bool
+    requires begins { Begins shown.now raiser.old }
+    requires count { (number ≡ length (puts_of shown.now)) × (number < 2 ^ 62) }
+    requires published { J.published (puts_of shown.now) }
+    ensures grows { Begins raiser.old raiser.new }
+    ensures count { IsTrue result → length raiser.new ≡ 2 * number }
 {
-    let changes = front.look(roll);
-    front.is_legal();
+    let changes = raiser.changes();
+    raiser.is_legal();
     if changes == 2 * number {
         return true;
     }
     if changes != (2 * number).saturating_sub(1) {
         return false;
     }
-    front.raise(roll, changes, number)
+    raiser.raise(number);
+    true
 }
 
 impl<J: Naming, R: Wait + Drop> PairWriter<J, R> {
     /// The publisher of copies that are opening screens.
-    pub(crate) fn new(
-        handle: WriteHandle<Published<J>, Stamped<J>, R>,
-        roll: Arc<Roll<J>, Global>,
-    ) -> Self
-        requires { (published handle ≡ []) × (pending handle ≡ []) }
+    pub(crate) fn new(handle: WriteHandle<Published<J>, Stamped<J>, R>, raiser: Raiser<J>) -> Self
+        requires { (published handle ≡ []) × (pending handle ≡ []) × (raiser ≡ []) }
         ensures { result ≡ [] }
     {
-        PairWriter { handle, roll }
+        PairWriter { handle, raiser }
     }
 
     /// News of what is published.
@@ -111,17 +110,15 @@ impl<J: Naming + Publishes, R: Wait + Drop> Puts for PairWriter<J, R> {
         if number >= LIMIT {
             return Err((Fault::NumbersOut, patch));
         }
-        let mut front = copy.front();
+        let front = copy.front();
         J::told_by(&self.handle);
-        // No other end adds changes, so neither of these is ever so.
-        if !catch_up(&mut front, &self.roll, number) {
+        // An update that was refused its publish stays the last of the history.
+        if !catch_up(&mut self.raiser, &front, number) {
             return Err((Fault::Memory, patch));
         }
-        front.is_legal();
-        if !front.put(&self.roll, 2 * number, &patch) {
-            return Err((Fault::Memory, patch));
-        }
-        if let Err(patch) = publish(&mut self.handle, patch, number + 1, front) {
+        self.raiser.is_legal();
+        self.raiser.put(&patch);
+        if let Err(patch) = publish(&mut self.handle, patch, number + 1, self.raiser.front()) {
             return Err((Fault::Memory, patch));
         }
         Ok(number + 1)

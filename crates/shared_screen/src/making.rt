@@ -51,11 +51,12 @@ pub fn shared<J: Naming, R: Wait + Drop + Copy>(
     ensures watchers { IfOk result (λ ends. All (λ w. w ≡ record { updates = []; tally = 0 }) ends.1.items) }
     ensures err { IfErr result (λ fault. (fault ≡ Memory) ⊎ (fault ≡ NoPlace)) }
 {
-    let (roll, front) = history.named();
+    let (roll, author) = history.named();
     let roll = Arc::new(alloc, roll)?;
+    let (raiser, glance) = tally(&roll, author)?;
+    let front = raiser.front();
     let handle = opened(rt, alloc, &front, width, height, places)?;
     let eyes = eyes(alloc, &handle, &front, places)?;
-    let (raiser, glance) = tally(&roll, &front)?;
     let watchers = watchers(alloc, width, height, eyes, &glance)?;
-    Ok((Publisher::new(handle, raiser, rt), watchers))
+    Ok((Publisher::new(handle, raiser), watchers))
 }

@@ -13,10 +13,9 @@ use reflect_core::Puts;
 use screen_pair::{Published, Publishes, Stamped, publish, tell};
 use std::marker::Model;
 use std::sync::Wait;
-use std::thread;
-use tally_word::{Change, Naming, Raiser};
+use tally_word::{Change, Front, Naming, Raiser};
 
-/// Puts updates, and raises the tally after each: contracts see its history, all changes so far.
+/// Puts updates, and raises the tally after each: contracts see its history, all that was put and raised.
 #[derive(Drop)]
 pub struct Publisher<J: Naming, R: Wait + Drop>
 where
@@ -24,7 +23,7 @@ where
 {
     handle: WriteHandle<Published<J>, Stamped<J>, R>,
     raiser: Raiser<J>,
-    rt: R,
+    front: Front<J>,
 }
 
 impl<J: Naming, R: Wait + Drop> Model for Publisher<J, R>
@@ -33,27 +32,29 @@ where
 {
     ghost use Rattle.std.specs.Prelude.{◌≡◌, [], List, length};
     ghost use Rattle.left_right.specs.Handles.{published, pending};
+    ghost use Rattle.reflect_core.specs.Sequential.{Begins};
     ghost use Rattle.tally_word.specs.History as history;
     ghost use Rattle.tally_word.specs.History.{puts_of, tally_of};
 
     ghost Value = { List history.Change };
 
-    ghost view = { λ p. p.raiser };
+    ghost view = { λ p. p.front };
 
-    ghost invariant = { λ p. (pending p.handle ≡ []) × (puts_of (published p.handle) ≡ puts_of p.raiser) × (tally_of p.raiser ≡ length (puts_of p.raiser)) };
+    ghost invariant = { λ p. (pending p.handle ≡ []) × (puts_of (published p.handle) ≡ puts_of p.front) × (tally_of p.front ≡ length (puts_of p.front)) × Begins p.front p.raiser };
 }
 
 impl<J: Naming, R: Wait + Drop> Publisher<J, R> {
     /// The publisher of copies that are opening screens.
-    pub(crate) fn new(
-        handle: WriteHandle<Published<J>, Stamped<J>, R>,
-        raiser: Raiser<J>,
-        rt: R,
-    ) -> Self
+    pub(crate) fn new(handle: WriteHandle<Published<J>, Stamped<J>, R>, raiser: Raiser<J>) -> Self
         requires { (published handle ≡ []) × (pending handle ≡ []) × (raiser ≡ []) }
         ensures { result ≡ [] }
     {
-        Publisher { handle, raiser, rt }
+        let front = raiser.front();
+        Publisher {
+            handle,
+            raiser,
+            front,
+        }
     }
 
     /// News of all that was put; the tally is raised to it.
@@ -64,7 +65,7 @@ impl<J: Naming, R: Wait + Drop> Publisher<J, R> {
     {
         News {
             pair: tell(&self.handle),
-            tally: self.raiser.tell(),
+            tally: self.front.tell(),
         }
     }
 
@@ -93,23 +94,18 @@ impl<J: Naming + Publishes, R: Wait + Drop> Puts for Publisher<J, R> {
         if number >= LIMIT {
             return Err((Fault::NumbersOut, patch));
         }
-        let mut front = self.raiser.front();
-        front.is_legal();
-        // No other end adds changes, so this is never so.
-        if !front.put(self.raiser.roll(), 2 * number, &patch) {
+        self.front.is_legal();
+        // An update that was refused its publish stays the last of the history.
+        if self.raiser.changes() != 2 * number {
             return Err((Fault::Memory, patch));
         }
-        if let Err(patch) = publish(&mut self.handle, patch, number + 1, front.again()) {
+        self.raiser.put(&patch);
+        if let Err(patch) = publish(&mut self.handle, patch, number + 1, self.raiser.front()) {
             return Err((Fault::Memory, patch));
         }
         J::told_by(&self.handle);
-        if !self.raiser.raise(number + 1, &front) {
-            // Nor is this.
-            for _ in self.rt.forever() {
-                thread::yield_now();
-            }
-            unreachable!()
-        }
+        self.raiser.raise(number + 1);
+        self.front = self.raiser.front();
         Ok(number + 1)
     }
 }

@@ -1,5 +1,5 @@
 -- What holds of the history and its word between any two steps, and what a step tells.
-use Rattle.std.specs.Prelude.{ℕ, ◌≡◌, ◌==◌, true, List, [], ◌∷◌, ◌++◌, length, MatchBool}
+use Rattle.std.specs.Prelude.{ℕ, ◌≡◌, true, List, [], ◌∷◌, ◌++◌, length, Some}
 use Rattle.logbook.specs.Pages.{Cell, Step, View, Book, Named}
 use Rattle.raster.specs.Update.{Update}
 use Rattle.tally_word.specs.History.{Change, IsLegal, IsBacked}
@@ -16,12 +16,11 @@ abbrev pub word_of : Book → Named
 word_of book = record { tracked = true; key = 0; book = book }
 
 -- All changes so far were seen, and their number was found.
-abbrev pub Looks : (List Update → Type 0) → Step Change → View Change ℕ → ℕ → View Change ℕ → Type 0
+abbrev pub Looks : (List Update → Type 0) → Step Change → View Change (ℕ × ℕ) → ℕ → View Change (ℕ × ℕ) → Type 0
 Looks published s v found w = (length w.0 ≡ found) × IsLegal w.0 × IsBacked published w.0
 
--- The change was put after all that had been seen; or there were more changes, and all of them were seen.
-abbrev pub Adds : (List Update → Type 0) → Step Change → View Change ℕ → ℕ → View Change ℕ → Type 0
+-- The offer ran, and tells the numbers of changes before and after; and where there were as many as expected, the
+-- change was put after all that had been seen.
+abbrev pub Adds : (List Update → Type 0) → Step Change → View Change (ℕ × ℕ) → ℕ → View Change (ℕ × ℕ) → Type 0
 Adds published s v found w =
-    MatchBool (found == s.old)
-    ((w.0 ≡ v.0 ++ s.ask ∷ []) × IsLegal w.0 × IsBacked published w.0)
-    ((length w.0 ≡ found) × IsLegal w.0 × IsBacked published w.0)
+    (w.1.1 ≡ Some (found, length w.0)) × (IsLegal w.0 × IsBacked published w.0) × (found ≡ s.old → w.0 ≡ v.0 ++ s.ask ∷ [])

@@ -1,21 +1,21 @@
 //! What was seen of the history.
 
-ghost use Rattle.std.specs.Prelude.{◌≡◌, ◌≤◌, ◌<◌, ◌^◌, ◌+◌, ◌++◌, ◌∷◌, [], length, MatchBool};
+ghost use Rattle.std.specs.Prelude.{◌≡◌, length};
 ghost use Rattle.reflect_core.specs.Sequential.{Begins};
-ghost use Rattle.tally_word.specs.History.{Put, Raise, puts_of, tally_of, IsLegal, IsBacked};
+ghost use Rattle.tally_word.specs.History.{IsLegal, IsBacked};
 
 use crate::change::Change;
 use crate::law::{Add, Law, Look, Nothing};
 use crate::naming::Naming;
+use crate::news::TallyNews;
 use crate::roll::Roll;
 use logbook::{Offer, Seen};
-use painter::Patch;
 use std::marker::{Model, PhantomData};
 
 /// A beginning of the history, which was seen: contracts see its changes. It has no bytes.
 #[derive(Drop)]
 pub struct Front<J: Naming> {
-    pub(crate) seen: Seen<Change, u64, Law<J>>,
+    pub(crate) seen: Seen<Change, (u64, u64), Law<J>>,
     pub(crate) of: PhantomData<J>,
 }
 
@@ -65,64 +65,24 @@ impl<J: Naming> Front<J> {
         let _ = &self.seen;
     }
 
+    /// News of what is known.
+    pub fn tell(&self) -> TallyNews<J>
+        ensures { result ≡ self.now }
+    {
+        TallyNews {
+            front: self.again(),
+        }
+    }
+
     /// All changes so far are known from now on: one load, which answers how many they are.
     pub fn look(&mut self, roll: &Roll<J>) -> u64
         ensures grows { Begins self.old self.new }
         ensures count { result ≡ length self.new }
     {
-        let mut offer: Offer<Change, u64, Law<J>, Nothing> = self
+        let mut offer: Offer<Change, (u64, u64), Law<J>, Nothing> = self
             .seen
             .plain::<Nothing, u64, Add<J>>(&0);
         roll.word
             .load::<Look<J>, Nothing>(&mut self.seen, &mut offer)
-    }
-
-    /// Puts a patch's update after the changes that are known, by one exchange, and says whether it did: not where
-    /// there are more changes, which are known then.
-    pub fn put(&mut self, roll: &Roll<J>, changes: u64, patch: &Patch) -> bool
-        requires count { (changes ≡ length self.old) × (changes < 2 ^ 63) }
-        requires raised { tally_of self.old ≡ length (puts_of self.old) }
-        ensures grows { Begins self.old self.new }
-        ensures put { MatchBool result (self.new ≡ self.old ++ Put patch.now.update ∷ []) (length self.old < length self.new) }
-    {
-        let mut offer: Offer<Change, u64, Law<J>, Nothing> = self
-            .seen
-            .plain::<Nothing, Patch, Add<J>>(patch);
-        let mut pen = self.seen.no_pen();
-        let found = roll
-            .word
-            .compare_exchange::<Add<J>, Nothing>(
-                changes,
-                changes + 1,
-                &mut self.seen,
-                &mut offer,
-                &mut pen,
-            );
-        found == changes
-    }
-
-    /// Raises the tally to the number of the updates that are known, all of which are published, by one exchange, and
-    /// says whether it did: not where there are more changes, which are known then.
-    pub fn raise(&mut self, roll: &Roll<J>, changes: u64, number: u64) -> bool
-        requires published { J.published (puts_of self.old) }
-        requires count { (changes ≡ length self.old) × (changes < 2 ^ 63) }
-        requires next { (number ≡ length (puts_of self.old)) × (number ≡ tally_of self.old + 1) }
-        ensures grows { Begins self.old self.new }
-        ensures raised { MatchBool result (self.new ≡ self.old ++ Raise number ∷ []) (length self.old < length self.new) }
-    {
-        let mut offer: Offer<Change, u64, Law<J>, Nothing> = self
-            .seen
-            .plain::<Nothing, u64, Add<J>>(&number);
-        let mut pen = self.seen.no_pen();
-        let found = roll
-            .word
-            .compare_exchange::<Add<J>, Nothing>(
-                changes,
-                changes + 1,
-                &mut self.seen,
-                &mut offer,
-                &mut pen,
-            );
-        found == changes
     }
 }

@@ -5,9 +5,11 @@
 //! waits, and none takes memory. A call that makes an end may be refused it (`Memory`). No handle is needed.
 #![tactic(auto)]
 
+mod author;
 mod change;
 mod front;
 mod glance;
+mod half;
 mod law;
 mod naming;
 mod news;
@@ -15,6 +17,7 @@ mod opened;
 mod raiser;
 mod roll;
 
+pub use author::Author;
 pub use change::Change;
 pub use front::Front;
 pub use glance::Glance;

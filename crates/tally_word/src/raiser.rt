@@ -1,27 +1,26 @@
 //! The end that raises the tally.
 
-ghost use Rattle.std.specs.Prelude.{◌≡◌, ◌≤◌, ◌<◌, ◌^◌, ◌+◌, ◌++◌, ◌∷◌, [], length, IfOk, IfErr, MatchBool};
+ghost use Rattle.std.specs.Prelude.{◌≡◌, ◌<◌, ◌^◌, ◌+◌, ◌++◌, ◌∷◌, [], length, IfOk, IfErr};
 ghost use Rattle.pixel_format.specs.declared.fault.Fault.TheVariants.{Memory};
-ghost use Rattle.raster.specs.Update.{Update};
-ghost use Rattle.reflect_core.specs.Sequential.{Begins};
-ghost use Rattle.tally_word.specs.History.{Put, Raise, puts_of, IsLegal};
+ghost use Rattle.tally_word.specs.History.{Put, Raise, puts_of, tally_of, IsLegal};
 
+use crate::author::Author;
 use crate::front::Front;
 use crate::glance::Glance;
 use crate::naming::Naming;
 use crate::news::TallyNews;
 use crate::roll::Roll;
+use painter::Patch;
 use pixel_format::Fault;
 use std::alloc::Global;
 use std::marker::Model;
 use std::sync::Arc;
 
-/// Raises the tally: contracts see the changes that it knows. The one that puts updates should have it, and no one
-/// else.
+/// Puts updates, and raises the tally: contracts see all changes. There is one of a history.
 #[derive(Drop)]
 pub struct Raiser<J: Naming> {
     roll: Arc<Roll<J>, Global>,
-    front: Front<J>,
+    author: Author<J>,
 }
 
 impl<J: Naming> Model for Raiser<J> {
@@ -30,24 +29,21 @@ impl<J: Naming> Model for Raiser<J> {
 
     ghost Value = { List history.Change };
 
-    ghost view = { λ r. r.front };
+    ghost view = { λ r. r.author };
 }
 
-/// A raiser and a glance of a history, which know what the front does. It fails where the count of the word's owners is
-/// full (`Memory`).
+/// A raiser and a glance of a history, which know what its author does. It fails where the count of the word's owners
+/// is full (`Memory`).
 pub fn tally<J: Naming>(
     roll: &Arc<Roll<J>, Global>,
-    front: &Front<J>,
+    author: Author<J>,
 ) -> Result<(Raiser<J>, Glance<J>), Fault>
-    ensures ok { IfOk result (λ ends. (ends.0 ≡ front.now) × (ends.1 ≡ front.now)) }
+    ensures ok { IfOk result (λ ends. (ends.0 ≡ author) × (ends.1 ≡ author)) }
     ensures err { IfErr result (λ fault. fault ≡ Memory) }
 {
-    let raiser = Raiser {
-        roll: Arc::try_clone(roll)?,
-        front: front.again(),
-    };
-    let glance = Glance::new(Arc::try_clone(roll)?, front);
-    Ok((raiser, glance))
+    let glance = Glance::new(Arc::try_clone(roll)?, &author.front());
+    let roll = Arc::try_clone(roll)?;
+    Ok((Raiser { roll, author }, glance))
 }
 
 impl<J: Naming> Raiser<J> {
@@ -55,35 +51,47 @@ impl<J: Naming> Raiser<J> {
     pub fn front(&self) -> Front<J>
         ensures { result ≡ self.now }
     {
-        self.front.again()
+        self.author.front()
     }
 
-    /// The word.
-    pub fn roll(&self) -> &Roll<J> {
-        &self.roll
-    }
-
-    /// Raises the tally to the number of the updates of `front`, of which one was put since the last raise, and all of
-    /// which are published; it says whether it did: not where there are more changes, which it knows then.
-    pub fn raise(&mut self, number: u64, front: &Front<J>) -> bool
-        requires published { J.published (puts_of front.now) }
-        requires put { (u : Update) × (front.now ≡ self.old ++ Put u ∷ []) }
-        requires number { (number ≡ length (puts_of front.now)) × (number ≤ 2 ^ 62) }
-        ensures { MatchBool result (self.new ≡ front.now ++ Raise number ∷ []) (Begins front.now self.new × (length front.now < length self.new)) }
+    /// Its changes are legal.
+    pub fn is_legal(&self)
+        ensures { IsLegal self.now }
     {
-        let mut known = front.again();
-        known.is_legal();
-        let raised = known.raise(&self.roll, 2 * number - 1, number);
-        self.front = known;
-        raised
+        self.author.front().is_legal();
+    }
+
+    /// How many changes there are.
+    pub fn changes(&self) -> u64
+        ensures { result ≡ length self.now }
+    {
+        self.author.changes()
+    }
+
+    /// Puts a patch's update, where all before it were raised. It always does.
+    pub fn put(&mut self, patch: &Patch)
+        requires few { length self.old < 2 ^ 63 }
+        requires raised { tally_of self.old ≡ length (puts_of self.old) }
+        ensures { self.new ≡ self.old ++ Put patch.now.update ∷ [] }
+    {
+        self.author.put(&self.roll, patch);
+    }
+
+    /// Raises the tally to the number of the updates, of which one was put since the last raise, and all of which are
+    /// published. It always does.
+    pub fn raise(&mut self, number: u64)
+        requires published { J.published (puts_of self.old) }
+        requires few { length self.old < 2 ^ 63 }
+        requires next { (number ≡ length (puts_of self.old)) × (number ≡ tally_of self.old + 1) }
+        ensures { self.new ≡ self.old ++ Raise number ∷ [] }
+    {
+        self.author.raise(&self.roll, number);
     }
 
     /// News of what it knows.
     pub fn tell(&self) -> TallyNews<J>
         ensures { result ≡ self.now }
     {
-        TallyNews {
-            front: self.front.again(),
-        }
+        self.author.front().tell()
     }
 }

@@ -10,7 +10,7 @@ use std::marker::Brand;
 use std::sync::{Arc, Wait};
 use std::test::*;
 use std::thread::Threads;
-use tally_word::{Naming, Opened};
+use tally_word::{Naming, Opened, tally};
 
 impl<J: Naming> Reads for Eye<J> {
     ghost fits = { (4 ≡ J.width) × (4 ≡ J.height) };
@@ -84,9 +84,10 @@ fn plays<J: Naming + Publishes + Send + Sync, R: Threads + Wait + Sync + Send + 
     requires places { (1 ≤ places) × (places ≤ 65) }
 {
     let mut room = Room::new(alloc)?;
-    let (roll, front) = opened.named();
+    let (roll, author) = opened.named();
     let roll = Arc::new(alloc, roll)?;
-    let (mut writer, mut eyes) = pair(rt, alloc, &roll, &front, 4, 4, places)?;
+    let (raiser, _glance) = tally(&roll, author)?;
+    let (mut writer, mut eyes) = pair(rt, alloc, raiser, 4, 4, places)?;
     if is_short {
         puts_many(alloc, &mut writer, 5, true)
     } else {

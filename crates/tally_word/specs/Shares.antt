@@ -1,0 +1,29 @@
+-- The two shares of the number of changes: the rule has the one, and the only end that changes the history the other.
+-- The number moves only where the two come together, so that end knows it.
+use Rattle.std.specs.Prelude.{◌≡◌, ℕ, Bool, true, false, List, [], ◌∷◌, length}
+use base.Fml.{Fml, ftrue, fsep}
+use base.Share.{quarter, three_quarters}
+use Rattle.logbook.specs.Kept.{fact, part}
+use Rattle.tally_word.specs.History.{Change}
+
+-- The number's ghost name.
+abbrev pub name_of : List ℕ → ℕ
+name_of [] = 0
+name_of (n ∷ ns) = n
+
+-- The rule's share.
+abbrev pub kept : List ℕ → List Change → Fml
+kept names log = part (name_of names) 0 quarter (length log)
+
+-- The other, where it isn't in an offer.
+abbrev pub holding : List ℕ → Bool → ℕ → Fml
+holding names true n = part (name_of names) 0 three_quarters n
+holding names false n = ftrue
+
+-- How many changes there were before a step, and how many after it.
+abbrev pub IsMove : List Change → List Change → ℕ × ℕ → Type 0
+IsMove before after answer = answer ≡ (length before, length after)
+
+-- What comes back: there were as many changes as were known, and the share is of the number now.
+abbrev pub turned : List ℕ → List Change → ℕ × ℕ → Fml
+turned names known answer = fsep (fact (answer.0 ≡ length known)) (holding names true answer.1)
