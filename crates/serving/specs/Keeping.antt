@@ -1,9 +1,8 @@
 -- What a link keeps of the bytes that it was given.
 use Rattle.std.specs.Prelude.{ℕ, List}
 
--- The bytes that the system has taken, those that are kept after them, in order, and how many more there is room for.
+-- The bytes that are kept, in order, and how many more there is room for.
 pub record KeptBytes : Type 0 where
-  pub sent : List ℕ
   pub bytes : List ℕ
   pub room : ℕ
 

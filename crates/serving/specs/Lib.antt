@@ -1,3 +1,4 @@
 pub mod Answers
 pub mod Keeping
 pub mod Hello
+pub mod Wires

@@ -69,6 +69,7 @@ impl Account {
     ghost use Rattle.std.specs.Io.{ReadsAtMost, WritesAtMost};
     ghost use Rattle.link.specs.Links.{TakesAs, GivesAs, with_end, with_failure};
     ghost use Rattle.serving.specs.Answers.{unused, took_for, gave_for};
+    ghost use Rattle.serving.specs.Wires.{moved};
 
     /// Of a link that has done nothing.
     pub(crate) fn new() -> Account
@@ -96,11 +97,13 @@ impl Account {
         self.ends = LIMIT.min(self.ends + 1);
     }
 
-    /// What the link took by a read into this slice that was answered so.
+    /// What the link took by a receive into this slice that was answered so.
     pub(crate) fn take(&mut self, answer: &io::Result<usize>, into: &[u8]) -> Took
         requires { ReadsAtMost answer.now into.now }
         ensures answer { result ≡ took_for answer.now }
         ensures state { TakesAs result self.old self.new into.now }
+        ensures taken { self.new.taken ≡ self.old.taken ++ moved answer.now into.now }
+        ensures given { self.new.given ≡ self.old.given }
     {
         let took = took_of(answer);
         match took {
@@ -115,11 +118,13 @@ impl Account {
         took
     }
 
-    /// What the link gave by a write of these bytes that was answered so.
+    /// What the link gave by a send of these bytes that was answered so.
     pub(crate) fn give(&mut self, answer: &io::Result<usize>, bytes: &[u8]) -> Gave
         requires { WritesAtMost answer.now bytes.now }
         ensures answer { result ≡ gave_for answer.now }
         ensures state { GivesAs result self.old self.new bytes.now }
+        ensures given { self.new.given ≡ self.old.given ++ moved answer.now bytes.now }
+        ensures taken { self.new.taken ≡ self.old.taken }
     {
         let gave = gave_of(answer);
         match gave {

@@ -1,10 +1,9 @@
 //! What a link keeps of the bytes that it was given.
 
+use crate::socket::Socket;
 use std::alloc::{AllocError, Global};
 use std::io;
-use std::io::Write;
 use std::marker::Model;
-use told::Record;
 
 /// This many bytes are kept at most.
 pub(crate) const MOST_KEPT: usize = 65_536;
@@ -15,8 +14,6 @@ pub(crate) struct Kept {
     bytes: Vec<u8>,
     // This many of them have gone out.
     gone: usize,
-    // All that has gone out.
-    sent: Record,
 }
 
 impl Model for Kept {
@@ -25,26 +22,22 @@ impl Model for Kept {
 
     ghost Value = { KeptBytes };
 
-    ghost view = { λ k. record { sent = k.sent.bytes; bytes = drop k.gone k.bytes.items; room = most_kept - length k.bytes.items } };
+    ghost view = { λ k. record { bytes = drop k.gone k.bytes.items; room = most_kept - length k.bytes.items } };
 
     ghost invariant = { λ k. (k.gone ≤ length k.bytes.items) × (length k.bytes.items ≤ most_kept) × (most_kept ≤ vec_capacity k.bytes) };
 }
 
 impl Kept {
     ghost use Rattle.std.specs.Prelude.{◌≡◌, ◌-◌, ◌≤◌, ◌++◌, ◌↔◌, if◌then◌else◌, [], IsTrue, nat_eq, length, take, drop, min, IfOk, OnErr};
-    ghost use Rattle.std.specs.Io.KnownBytes.{WriteAppends};
     ghost use Rattle.serving.specs.Keeping.{most_kept};
+    ghost use Rattle.serving.specs.Wires.{moved};
 
     /// No byte, and room for `MOST_KEPT`, which is taken here. It fails where that memory is refused.
     pub(crate) fn new(alloc: Global) -> Result<Kept, AllocError>
-        ensures { IfOk result (λ kept. kept ≡ record { sent = []; bytes = []; room = most_kept }) }
+        ensures { IfOk result (λ kept. kept ≡ record { bytes = []; room = most_kept }) }
     {
         let bytes = Vec::with_capacity(alloc, MOST_KEPT)?;
-        Ok(Kept {
-            bytes,
-            gone: 0,
-            sent: Record::new(),
-        })
+        Ok(Kept { bytes, gone: 0 })
     }
 
     /// Whether no byte is kept.
@@ -66,7 +59,6 @@ impl Kept {
         ensures count { result ≡ min (length bytes.now) self.old.room }
         ensures bytes { self.new.bytes ≡ self.old.bytes ++ take result bytes.now }
         ensures room { self.new.room ≡ self.old.room - result }
-        ensures sent { self.new.sent ≡ self.old.sent }
     {
         let count = bytes.len().min(MOST_KEPT - self.bytes.len());
         let (first, _) = bytes.split_at(count);
@@ -79,13 +71,9 @@ impl Kept {
     /// The first bytes have gone out.
     fn pass(&mut self, count: usize)
         requires { count ≤ length self.old.bytes }
-        ensures sent { self.new.sent ≡ self.old.sent ++ take count self.old.bytes }
         ensures bytes { self.new.bytes ≡ drop count self.old.bytes }
         ensures room { self.new.room ≡ (if nat_eq (length self.new.bytes) 0 then most_kept else self.old.room) }
     {
-        let (_, kept) = self.bytes.split_at(self.gone);
-        let (sent, _) = kept.split_at(count);
-        self.sent.note(sent);
         self.gone += count;
         if self.gone == self.bytes.len() {
             self.bytes.clear();
@@ -93,24 +81,17 @@ impl Kept {
         }
     }
 
-    /// Writes once of what is kept, in order, and answers how many bytes went out. These aren't kept from then on;
-    /// where the writer fails nothing has changed.
-    pub(crate) fn write_to<W: Write>(&mut self, writer: &mut W) -> io::Result<usize>
+    /// Sends once of what is kept, in order, and answers how many bytes went out. These aren't kept from then on; where
+    /// the socket fails nothing has changed.
+    pub(crate) fn send_to<S: Socket>(&mut self, socket: &mut S) -> io::Result<usize>
         ensures ok { IfOk result (λ count. (count ≤ length self.old.bytes) × (self.new.bytes ≡ drop count self.old.bytes)) }
         ensures err { OnErr result (self.new ≡ self.old) }
-        ensures all { self.new.sent ++ self.new.bytes ≡ self.old.sent ++ self.old.bytes }
-        ensures written { WriteAppends (W.contents writer.old) (W.contents writer.new) result self.old.bytes }
+        ensures all { S.sent socket.new ++ self.new.bytes ≡ S.sent socket.old ++ self.old.bytes }
+        ensures sent { S.sent socket.new ≡ S.sent socket.old ++ moved result self.old.bytes }
+        ensures received { S.received socket.new ≡ S.received socket.old }
     {
-        let count = writer.write(&self.bytes[self.gone..])?;
+        let count = socket.send(&self.bytes[self.gone..])?;
         self.pass(count);
         Ok(count)
-    }
-
-    /// These bytes have gone out past it, where none is kept.
-    pub(crate) fn note_sent(&mut self, bytes: &[u8])
-        requires { length self.old.bytes ≡ 0 }
-        ensures { self.new ≡ record self.old { sent = self.old.sent ++ bytes.now } }
-    {
-        self.sent.note(bytes);
     }
 }

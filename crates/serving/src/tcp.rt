@@ -6,13 +6,15 @@ use crate::account::{Account, gave_of};
 use crate::event::Parting;
 use crate::hello::{HELLO_LEN, Patience, longest_wait};
 use crate::kept::{Kept, MOST_KEPT};
+use crate::noted::Noted;
 use crate::options::outlast;
 use crate::seat::Seat;
+use crate::socket::Socket;
 use link::{Gave, Link, Took};
 use mio::net::TcpStream;
 use std::alloc::Global;
 use std::io;
-use std::io::{ErrorKind, Read, Write};
+use std::io::ErrorKind;
 use std::marker::Model;
 use std::sync::{Arc, Wait};
 use std::time::{Clock, Duration, Instant};
@@ -39,10 +41,12 @@ fn parting_after(before: Parting, answer: &io::Result<usize>) -> Parting {
 /// `give` keeps small slices, and `take` writes what is kept before it waits, so an answer of many rectangles is one
 /// call of the system. A large slice is written from where it lies; where it finds no room it stays with the caller,
 /// uncopied. While bytes can't go out, rings are left unanswered, so a viewer that takes nothing costs nothing.
+///
+/// It is proved over every socket; a viewer's is a stream over TCP.
 #[derive(Drop)]
-pub struct TcpLink<R: Wait + Clock + Drop> {
+pub struct TcpLink<R: Wait + Clock + Drop, S: Socket = Noted<TcpStream>> {
     rt: R,
-    stream: TcpStream,
+    socket: S,
     seat: Arc<Seat, Global>,
     kept: Kept,
     // The last `give` had no room.
@@ -60,24 +64,22 @@ pub struct TcpLink<R: Wait + Clock + Drop> {
     account: Account,
 }
 
-impl<R: Wait + Clock + Drop> Model for TcpLink<R> {
-    ghost use Rattle.std.specs.Prelude.{◌≡◌, ◌-◌, ◌++◌, length};
-    ghost use Rattle.link.specs.Links.{LinkState};
+impl<R: Wait + Clock + Drop, S: Socket> Model for TcpLink<R, S> {
+    ghost use Rattle.std.specs.Prelude.{◌≡◌, ◌-◌, true, length};
     ghost use Rattle.serving.specs.Hello.{hello_len};
+    ghost use Rattle.serving.specs.Wires.{Wired, Carries};
 
-    ghost Value = { LinkState };
+    ghost Value = { Wired };
 
-    ghost view = { λ l. l.account };
+    ghost view = { λ l. record { own = l.account; sent = S.sent l.socket; received = S.received l.socket; kept = l.kept.bytes; is_open = true } };
 
-    // What was given is what has gone out and then what is kept; what is missing of the hello are the bytes that
-    // weren't taken.
-    ghost invariant = { λ l. (l.account.given ≡ l.kept.sent ++ l.kept.bytes) × (l.missing ≡ hello_len - length l.account.taken) };
+    // What is missing of the hello are the bytes that weren't taken.
+    ghost invariant = { λ l. Carries (record { own = l.account; sent = S.sent l.socket; received = S.received l.socket; kept = l.kept.bytes; is_open = true }) × (l.missing ≡ hello_len - length l.account.taken) };
 }
 
 impl<R: Wait + Clock + Drop> TcpLink<R> {
-    ghost use Rattle.std.specs.Prelude.{◌≡◌, ◌<◌, length, IfOk};
-    ghost use Rattle.link.specs.Links.{TakesAs, GivesAs};
-    ghost use Rattle.serving.specs.Answers.{unused};
+    ghost use Rattle.std.specs.Prelude.{◌≡◌, IfOk};
+    ghost use Rattle.serving.specs.Wires.{fresh};
 
     /// A link that has taken and given nothing. It fails where memory is refused, or an option or the clock by the
     /// system.
@@ -87,18 +89,39 @@ impl<R: Wait + Clock + Drop> TcpLink<R> {
         stream: std::net::TcpStream,
         seat: &Arc<Seat, Global>,
     ) -> io::Result<TcpLink<R>>
-        ensures { IfOk result (λ link. link ≡ unused) }
+        ensures { IfOk result (λ link. link ≡ fresh) }
     {
         outlast(&stream)?;
         stream.set_nonblocking(true)?;
+        let mut stream = TcpStream::from_std(stream);
+        seat.hear(&rt, &mut stream)?;
+        TcpLink::over(rt, alloc, Noted::new(stream), seat)
+    }
+}
+
+impl<R: Wait + Clock + Drop, S: Socket> TcpLink<R, S> {
+    ghost use Rattle.std.specs.Prelude.{◌≡◌, ◌<◌, [], length, IfOk};
+    ghost use Rattle.link.specs.Links.{TakesAs, GivesAs};
+    ghost use Rattle.serving.specs.Wires.{Carries, fresh};
+
+    /// A link that has taken and given nothing, over a socket of which that holds, too, and which never waits. It fails
+    /// where memory is refused, or the clock by the system. Whoever makes it sees to it that the seat hears the socket.
+    pub fn over(
+        rt: R,
+        alloc: Global,
+        socket: S,
+        seat: &Arc<Seat, Global>,
+    ) -> io::Result<TcpLink<R, S>>
+        requires sent { S.sent socket ≡ [] }
+        requires received { S.received socket ≡ [] }
+        ensures { IfOk result (λ link. link ≡ fresh) }
+    {
         let opened = Instant::now(&rt)?;
         let kept = Kept::new(alloc)?;
         let seat = Arc::try_clone(seat)?;
-        let mut stream = TcpStream::from_std(stream);
-        seat.hear(&rt, &mut stream)?;
         Ok(TcpLink {
             rt,
-            stream,
+            socket,
             seat,
             kept,
             is_full: false,
@@ -110,6 +133,22 @@ impl<R: Wait + Clock + Drop> TcpLink<R> {
             sent: 0,
             account: Account::new(),
         })
+    }
+
+    /// The socket below.
+    pub fn socket(&self) -> &S
+        ensures sent { S.sent result.now ≡ self.now.sent }
+        ensures received { S.received result.now ≡ self.now.received }
+    {
+        &self.socket
+    }
+
+    /// At every moment what was given is what the socket has sent and then what is kept, and what was taken is what it
+    /// has received.
+    pub fn carries(&self)
+        ensures { Carries self.now }
+    {
+        let _ = &self.missing;
     }
 
     /// How the connection stands. No clause says so.
@@ -129,12 +168,12 @@ impl<R: Wait + Clock + Drop> TcpLink<R> {
 
     /// Writes once of what is kept. False where nothing is left, or nothing more goes out now.
     fn write_kept(&mut self) -> bool
-        ensures { self.new ≡ self.old }
+        ensures { self.new.own ≡ self.old.own }
     {
         if self.kept.is_empty() {
             return false;
         }
-        let answer = self.kept.write_to(&mut self.stream);
+        let answer = self.kept.send_to(&mut self.socket);
         self.parting = parting_after(self.parting, &answer);
         match gave_of(&answer) {
             Gave::Bytes(count) => {
@@ -160,7 +199,7 @@ impl<R: Wait + Clock + Drop> TcpLink<R> {
 
     /// Writes what is kept, as far as the system takes it now.
     fn write_all_kept(&mut self)
-        ensures { self.new ≡ self.old }
+        ensures { self.new.own ≡ self.old.own }
     {
         // Each round but the last writes a byte at least.
         for _ in 0..=MOST_KEPT {
@@ -172,19 +211,17 @@ impl<R: Wait + Clock + Drop> TcpLink<R> {
 
     /// Writes a large slice at once, where nothing is kept.
     fn write_large(&mut self, bytes: &[u8]) -> Gave
-        ensures { GivesAs result self.old self.new bytes.now }
+        ensures { GivesAs result self.old.own self.new.own bytes.now }
     {
         if bytes.len() < LARGE || !self.kept.is_empty() {
             return Gave::Nothing;
         }
-        let answer = self.stream.write(bytes);
+        let answer = self.socket.send(bytes);
         let gave = self.account.give(&answer, bytes);
         self.parting = parting_after(self.parting, &answer);
         self.is_blocked = gave == Gave::Nothing;
         if let Gave::Bytes(count) = gave {
             self.sent = self.sent.saturating_add(count as u64);
-            let (sent, _) = bytes.split_at(count);
-            self.kept.note_sent(sent);
         }
         gave
     }
@@ -192,7 +229,7 @@ impl<R: Wait + Clock + Drop> TcpLink<R> {
     /// Keeps as many of the bytes as there is room for, and none where the system had no room.
     fn keep(&mut self, bytes: &[u8]) -> Gave
         requires { 0 < length bytes.now }
-        ensures { GivesAs result self.old self.new bytes.now }
+        ensures { GivesAs result self.old.own self.new.own bytes.now }
     {
         if self.is_blocked {
             self.is_full = true;
@@ -211,9 +248,9 @@ impl<R: Wait + Clock + Drop> TcpLink<R> {
     /// Reads without a wait. That the peer has ended is told only once nothing is kept.
     fn read(&mut self, into: &mut [u8]) -> Took
         requires { 0 < length into.old }
-        ensures { TakesAs result self.old self.new into.new }
+        ensures { TakesAs result self.old.own self.new.own into.new }
     {
-        let answer = self.stream.read(into);
+        let answer = self.socket.receive(into);
         if !self.kept.is_empty() && matches!(answer, Ok(0)) {
             return Took::Nothing;
         }
@@ -230,7 +267,7 @@ impl<R: Wait + Clock + Drop> TcpLink<R> {
 
     /// Waits. False where it can't, or the hello is late. A clock that can't be read is late.
     fn wait(&mut self) -> bool
-        ensures { self.new ≡ self.old }
+        ensures { self.new.own ≡ self.old.own }
     {
         let Ok(passed) = self.opened.elapsed(&self.rt) else {
             return false;
@@ -252,8 +289,8 @@ impl<R: Wait + Clock + Drop> TcpLink<R> {
     }
 }
 
-impl<R: Wait + Clock + Drop> Link for TcpLink<R> {
-    ghost state = { λ l. l };
+impl<R: Wait + Clock + Drop, S: Socket> Link for TcpLink<R, S> {
+    ghost state = { λ l. l.own };
 
     fn take(&mut self, into: &mut [u8]) -> Took {
         self.write_all_kept();
