@@ -4,6 +4,8 @@ mod bells;
 mod doors;
 mod hosts;
 mod links;
+mod memory_links;
+mod memory_socket;
 mod rings;
 mod sockets;
 mod viewers;

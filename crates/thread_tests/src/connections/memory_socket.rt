@@ -1,0 +1,122 @@
+//! A socket in memory.
+
+ghost use Rattle.std.specs.Prelude.{◌≡◌};
+
+use serving::{HostSocket, Socket};
+use std::alloc::Global;
+use std::io;
+use std::io::ErrorKind;
+use std::time::Duration;
+
+/// What one send or receive comes to.
+#[derive(Clone, Copy)]
+pub(crate) enum Turn {
+    /// This many bytes go at most.
+    AtMost(usize),
+    /// It fails so.
+    Fails(ErrorKind),
+}
+
+/// The turns of the sends, or those of the receives. After the last one as many bytes go as can.
+#[derive(Drop)]
+struct Turns {
+    turns: Vec<Turn>,
+    used: usize,
+}
+
+impl Turns {
+    fn new(turns: Vec<Turn>) -> Turns {
+        Turns { turns, used: 0 }
+    }
+
+    /// How many bytes go at most at the next turn.
+    fn next(&mut self) -> io::Result<usize> {
+        let turn = self.turns.get(self.used);
+        self.used = self.used.saturating_add(1);
+        match turn {
+            Some(Turn::AtMost(most)) => Ok(*most),
+            Some(Turn::Fails(kind)) => Err(io::Error::from(*kind)),
+            None => Ok(usize::MAX),
+        }
+    }
+}
+
+/// A socket whose peer sends these bytes and takes any. What was sent and received are lists in memory.
+#[derive(Drop)]
+pub(crate) struct MemorySocket {
+    comes: Vec<u8>,
+    came: usize,
+    sends: Turns,
+    receives: Turns,
+    is_closed: bool,
+    pub(crate) sent: Vec<u8>,
+    pub(crate) received: Vec<u8>,
+}
+
+impl MemorySocket {
+    ghost use Rattle.std.specs.Prelude.{◌≡◌, []};
+
+    pub(crate) fn new(
+        alloc: Global,
+        comes: Vec<u8>,
+        sends: Vec<Turn>,
+        receives: Vec<Turn>,
+    ) -> MemorySocket
+        ensures sent { result.sent.items ≡ [] }
+        ensures received { result.received.items ≡ [] }
+    {
+        MemorySocket {
+            comes,
+            came: 0,
+            sends: Turns::new(sends),
+            receives: Turns::new(receives),
+            is_closed: false,
+            sent: Vec::new(alloc),
+            received: Vec::new(alloc),
+        }
+    }
+
+    fn check(&self) -> io::Result<()> {
+        if self.is_closed {
+            return Err(io::Error::from(ErrorKind::NotConnected));
+        }
+        Ok(())
+    }
+}
+
+impl Socket for MemorySocket {
+    ghost sent = { λ socket. socket.sent.items };
+
+    ghost received = { λ socket. socket.received.items };
+
+    fn send(&mut self, bytes: &[u8]) -> io::Result<usize> {
+        self.check()?;
+        let count = self.sends.next()?.min(bytes.len());
+        let (first, _) = bytes.split_at(count);
+        self.sent.extend_from_slice(first)?;
+        Ok(count)
+    }
+
+    fn receive(&mut self, into: &mut [u8]) -> io::Result<usize> {
+        self.check()?;
+        let most = self.receives.next()?.min(into.len());
+        let (_, left) = self.comes.split_at(self.came.min(self.comes.len()));
+        let count = most.min(left.len());
+        let (next, _) = left.split_at(count);
+        let (first, _) = into.split_at_mut(count);
+        first.copy_from_slice(next);
+        self.received.extend_from_slice(next)?;
+        self.came = self.came.saturating_add(count);
+        Ok(count)
+    }
+}
+
+impl HostSocket for MemorySocket {
+    fn limit(&self, _longest: Option<Duration>) -> io::Result<()> {
+        Ok(())
+    }
+
+    fn close(&mut self) {
+        self.is_closed = true;
+    }
+}
