@@ -1,0 +1,14 @@
+-- Where viewers are waited for, and where the hosts are.
+use Rattle.std.specs.Prelude.{◌≡◌, ℕ, List}
+use Rattle.std.specs.Net.Grammar.{IsIpText}
+use Rattle.std.specs.Net.Socket.{IsPlainSocket, socket_ip}
+use Rattle.std.specs.declared.net.socket_addr.SocketAddr.{SocketAddr}
+use Rattle.roles.specs.declared.role.Role.{Role}
+use Rattle.plan.specs.declared.plan.Plan.{Plan}
+use Rattle.plan.specs.Statuses.{port_for}
+
+-- The address at which the viewers of a role come in: the IP address that the plan's text to bind writes, at the port of
+-- the role, without a flow label or a scope.
+pub record IsAddressFor (role : Role) (plan : Plan) (address : SocketAddr) : Type 0 where
+  pub ip : IsIpText plan.bind.now (socket_ip address)
+  pub port : IsPlainSocket address (port_for role plan)
