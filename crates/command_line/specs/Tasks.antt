@@ -10,10 +10,6 @@ use Rattle.settings.specs.declared.values.Settings.{Settings}
 use Rattle.command_line.specs.declared.task.Task.{Task}
 use Rattle.command_line.specs.declared.task.Task.TheVariants.{Replay, Serve, Explain}
 
--- From 1 to 32 places for each role.
-abbrev pub HasPlaces : Settings → Type 0
-HasPlaces s = (1 ≤ s.full_places) × (s.full_places ≤ 32) × (1 ≤ s.view_places) × (s.view_places ≤ 32)
-
 -- `serve` is told what the line sets.
 pub record IsPlanOf (s : Settings) (plan : Plan) : Type 0 where
   pub host : plan.host.now ≡ string_bytes s.host
@@ -43,9 +39,20 @@ IsAsked words Replay = words ≡ replay_line
 IsAsked words (Serve settings) = (rest : List Text) × (words ≡ codes "serve" ∷ rest) × AreSetBy rest settings
 IsAsked words (Explain bad) = IsNoTask words bad.status
 
--- How a task may end: a script with 0, or with 2 to 4; a run as `serve` may; what can't be done with its own status.
+-- What was done: a script was played, or a plan was served that says what the line sets, and ended with this status; what
+-- can't be done has its own.
+abbrev pub IsDone : (serves : Plan → ℕ → Type 0) → (plays : ℕ → Type 0) → Task → ℕ → Type 0
+IsDone serves plays Replay status = plays status
+IsDone serves plays (Serve settings) status = (plan : Plan) × IsPlanOf settings plan × serves plan status
+IsDone serves plays (Explain bad) status = status ≡ bad.status
+
+-- A script may end with 0, or with 2 to 4.
+abbrev pub MayEndAScript : ℕ → Type 0
+MayEndAScript status = (status ≡ 0) ⊎ ((2 ≤ status) × (status ≤ 4))
+
+-- How a task may end: a script as it may; a run as `serve` may; what can't be done with its own status.
 abbrev pub EndsAs : Task → ℕ → Type 0
-EndsAs Replay status = (status ≡ 0) ⊎ ((2 ≤ status) × (status ≤ 4))
+EndsAs Replay status = MayEndAScript status
 EndsAs (Serve settings) status = IsStatus status
 EndsAs (Explain bad) status = status ≡ bad.status
 

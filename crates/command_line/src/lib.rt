@@ -4,5 +4,5 @@
 mod program;
 mod task;
 
-pub use program::{run, run_words};
+pub use program::{perform, run, run_words};
 pub use task::Task;

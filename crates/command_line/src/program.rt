@@ -2,8 +2,10 @@
 
 ghost use Rattle.std.specs.Prelude.{map};
 ghost use Rattle.std.specs.String.{string_bytes};
-ghost use Rattle.command_line.specs.Tasks.{HasPlaces, IsAnswered, IsPlanOf};
-ghost use Rattle.plan.specs.Statuses.{IsStatus};
+ghost use Rattle.command_line.specs.Tasks.{IsAnswered, IsAsked, IsDone, IsPlanOf, MayEndAScript};
+ghost use Rattle.command_line.specs.declared.task.Task.{Task as Asked};
+ghost use Rattle.plan.specs.Statuses.{HasPlaces, IsStatus};
+ghost use Rattle.plan.specs.declared.plan.Plan.{Plan as Told};
 
 use crate::task::{Task, task_of};
 use plan::Plan;
@@ -51,29 +53,33 @@ fn plan_of(settings: &Settings) -> Plan<'_>
     }
 }
 
-/// Reflects hosts, as the line says.
-fn start<R>(rt: R, alloc: Global, settings: &Settings) -> u8
+/// Has done what these words say, which are those after the program's name, and answers the exit status: of `replay`
+/// that of playing a script, of `serve` that of serving a plan, which says of the hosts, the address, the ports, the places
+/// and the rest what the words set, and of any other line its own, 2 or 4.
+#[tactic(auto, using(crate::proofs::Places::has_places))]
+pub fn perform<S, P, T>(alloc: Global, words: &[String], serves: S, plays: P, tells: T) -> u8
 where
-    R: Net<Stream = TcpStream, Listener = TcpListener>
-        + Threads
-        + Wait
-        + Clock
-        + Eprint
-        + Copy
-        + Drop
-        + Send
-        + 'static,
-    requires { HasPlaces settings.now }
-    ensures { IsStatus result }
+    S: FnOnce(Plan<'_>) -> u8 + Drop,
+    P: FnOnce() -> u8 + Drop,
+    T: FnOnce(&str) + Drop,
+    requires serves { (plan : Told) → HasPlaces plan → S.pre serves plan }
+    requires plays { P.pre plays }
+    requires tells { T.IsAlwaysCallable tells }
+    ensures { (task : Asked) × IsAsked (map string_bytes words.now) task × IsDone (λ plan status. S.post serves plan status) (λ status. P.post plays status) task result }
 {
-    let plan = plan_of(settings);
-    serve(rt, alloc, &plan)
+    match task_of(alloc, words) {
+        Task::Replay => plays(),
+        Task::Serve(settings) => serves(plan_of(&settings)),
+        Task::Explain(BadLine { status, text }) => {
+            tells(text.as_str());
+            status
+        }
+    }
 }
 
 /// Does what these words say, which are those after the program's name, and answers the exit status: that of
 /// `replay::replay` or of `serve`; 2 where the line is no command, with what is wrong with it on standard error;
 /// 4 where memory is refused.
-#[tactic(auto, using(crate::proofs::Places::has_places))]
 pub fn run_words<R, I, O>(rt: R, alloc: Global, words: &[String], reader: I, writer: O) -> u8
 where
     R: Net<Stream = TcpStream, Listener = TcpListener>
@@ -89,15 +95,21 @@ where
     O: Write + Drop,
     ensures { IsAnswered (map string_bytes words.now) result }
 {
-    match task_of(alloc, words) {
-        Task::Replay => replay::replay(alloc, reader, writer),
-        Task::Serve(settings) => start(rt, alloc, &settings),
-        Task::Explain(BadLine { status, text }) => {
+    perform(
+        alloc,
+        words,
+        move |plan: Plan<'_>| -> u8
+            requires { HasPlaces plan }
+            ensures { IsStatus result }
+        { serve(rt, alloc, &plan) },
+        move || -> u8
+            ensures { MayEndAScript result }
+        { replay::replay(alloc, reader, writer) },
+        move |text: &str| {
             // Where standard error takes no text the status alone says it.
-            let _ = rt.eprint(text.as_str());
-            status
-        }
-    }
+            let _ = rt.eprint(text);
+        },
+    )
 }
 
 /// Does what the words after the program's name say, as `run_words` does. The status is 2 where they can't be read, and

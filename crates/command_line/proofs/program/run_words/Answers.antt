@@ -1,9 +1,6 @@
--- The task that the words ask for is the one that was done.
-use Rattle.command_line.specs.declared.task.Task.TheVariants.{Replay, Serve}
+-- What was done may end so.
+use Rattle.command_line.proofs.Ends.{ends_as}
 use Rattle.command_line.proofs.program.run_words.Goals as goal
 
-pub returns-in-Replay : goal.returns-in-Replay
-returns-in-Replay g c = (Replay, c.in-Replay.ensures, c.replay.ensures)
-
-pub returns-in-Serve : goal.returns-in-Serve
-returns-in-Serve g c = (Serve c.in-Serve.settings, c.in-Serve.ensures, c.start.ensures)
+pub returns : goal.returns
+returns g c = (c.perform.ensures.0, c.perform.ensures.1, ends_as _ _ c.perform.ensures.0 _ c.perform.ensures.2 (λ plan s may. may.1) (λ s may. may))
