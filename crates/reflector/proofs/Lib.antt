@@ -4,3 +4,4 @@ mod Places
 mod Promising
 mod Telling
 mod Visiting
+mod Watching

@@ -2,6 +2,7 @@
 
 ghost use Rattle.std.specs.Prelude.{◌≡◌, ◌⊎◌};
 ghost use Rattle.input_relay.specs.Ends.{inputs_of};
+ghost use Rattle.roles.specs.declared.role.Role.TheVariants.{View};
 ghost use Rattle.reflect_core.specs.Sequential.{Begins, Shared};
 ghost use Rattle.reflector.specs.Promise.{IsServedWhole};
 ghost use Rattle.reflector.specs.Senders.{IsSameSender};
@@ -20,7 +21,8 @@ use tally_word::Naming;
 ///
 /// What the place's watcher knew begins what it knows then, and so do the publisher's updates; one of these two is all
 /// that it knows. Over this list each viewer that the place's door let in, in turn, was served whole screens in the
-/// place's role, and no more was sent of its input than the role allows (`IsServedWhole`).
+/// place's role, and no more was sent of its input than the role allows (`IsServedWhole`). Where they only look on the
+/// sender has sent nothing.
 pub fn join_place<J, D, R>(
     rt: &R,
     handle: PlaceHandle<Watcher<J>, D, R>,
@@ -31,6 +33,7 @@ where
     D: Door,
     R: Threads + Wait + Drop,
     ensures sender { IsSameSender handle.promise.sender.value result.sender }
+    ensures view { handle.promise.role ≡ View → inputs_of result.sender ≡ inputs_of handle.promise.sender.value }
     ensures list { Begins (puts_of publisher.now) result.watcher.updates }
     ensures promise { (last : Shared) × Begins last.updates result.watcher.updates × ((result.watcher.updates ≡ last.updates) ⊎ (result.watcher.updates ≡ puts_of publisher.now)) × HasVisits D.lets_in D.sees_off (λ source_old source_new sent_old sent_new why left. IsServedWhole result.watcher.updates (setup_of handle.promise.width handle.promise.height handle.promise.name.value.items) handle.promise.role sent_old sent_new left) (at handle.promise.door.value handle.promise.watcher.value (inputs_of handle.promise.sender.value)) (at result.door last (inputs_of result.sender)) }
 {

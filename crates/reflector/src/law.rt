@@ -9,6 +9,7 @@ ghost use Rattle.viewer_server.specs.Serving.{IsShown};
 ghost use Rattle.viewer_session.specs.Acts.{Act};
 ghost use Rattle.reflector.specs.History.{IsOneHistory, LooksFollow, own_steps};
 ghost use Rattle.roles.specs.declared.role.Role as roles;
+ghost use Rattle.roles.specs.declared.role.Role.TheVariants.{View};
 ghost use Rattle.viewer_session.specs.Viewer.{Setup};
 ghost use Rattle.reflector.specs.Promise.{KeepsPromise};
 ghost use Rattle.reflector.specs.Visits.{AllBegin, AreVisits, At, HasVisits, IsReceived};
@@ -30,6 +31,11 @@ pub fn visits_keep_the_promise<S: ScreenSource, K: InputSink, D: Door, F: StopFl
     ensures { (stop : F) (s : Setup) (role : roles.Role) (old new : At D S) → s.w ≤ 4096 → s.h ≤ 4096
         → HasVisits D.lets_in D.sees_off (λ source_old source_new sent_old sent_new why left. IsReceived S.looks S.cuts S.may_end (F.was_set stop) K.may_refuse S.known s role source_old source_new sent_old sent_new why left) old new
         → KeepsPromise D.lets_in D.sees_off S.known s role old new }
+{}
+
+/// A place that keeps the promise to viewers that only look on sends nothing of their input, nor a release.
+pub fn viewers_that_look_on_send_nothing<S: ScreenSource, D: Door>()
+    ensures { (s : Setup) (old new : At D S) → KeepsPromise D.lets_in D.sees_off S.known s View old new → new.sent ≡ old.sent }
 {}
 
 /// The looks and cuts of each viewer that is served over a shared screen are steps of one history, in their order and

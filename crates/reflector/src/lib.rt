@@ -18,6 +18,9 @@ mod welcome;
 mod writer;
 
 pub use join::join_place;
-pub use law::{looks_and_cuts_are_one_history, visits_are_of_one_list, visits_keep_the_promise};
+pub use law::{
+    looks_and_cuts_are_one_history, viewers_that_look_on_send_nothing, visits_are_of_one_list,
+    visits_keep_the_promise,
+};
 pub use place::{OfPlace, Place, PlaceHandle};
 pub use run::{Running, run_all};
