@@ -1,5 +1,6 @@
 //! What a fault means to whoever runs the program, and what to try: the one place of such texts.
 
+use crate::quoted::Quoted;
 use crate::trouble::{Stage, Trouble};
 use pixel_format::Fault;
 use plan::{Plan, port_of};
@@ -29,6 +30,26 @@ impl Display for Said<'_> {
     }
 }
 
+/// The reason that a host gave that refused, between quotation marks.
+#[derive(Drop)]
+struct Given<'a> {
+    fault: &'a Fault,
+}
+
+impl Display for Given<'_> {
+    fn fmt<W: fmt::Write>(&self, f: &mut Formatter<W>) -> fmt::Result {
+        match self.fault {
+            Fault::HostRefused(reason) => {
+                let reason = Quoted {
+                    bytes: reason.as_slice(),
+                };
+                write!(f, ": \"{reason}\"")
+            }
+            _ => Ok(()),
+        }
+    }
+}
+
 fn options_of(role: Role) -> (&'static str, &'static str) {
     match role {
         Role::Full => ("--full", "viewers with full control"),
@@ -40,7 +61,7 @@ fn options_of(role: Role) -> (&'static str, &'static str) {
 fn join_advice(fault: &Fault) -> &'static str {
     match fault {
         Fault::BadVersion => "it doesn't begin as a VNC server of RFB 3.8 does; is the port right?",
-        Fault::HostRefused(_) => "it refused the connection; its reason stands above",
+        Fault::HostRefused(_) => "it gave this reason",
         Fault::NoNone => {
             "it wants a password or another proof; let it offer security type None, on loopback or behind an SSH tunnel"
         }
@@ -82,6 +103,7 @@ impl Display for Advice<'_> {
             trouble: self.trouble,
         };
         let fault = &self.trouble.fault;
+        let given = Given { fault };
         if let Fault::Memory = fault {
             return write!(
                 f,
@@ -117,15 +139,25 @@ impl Display for Advice<'_> {
                 "can't connect to the host {}{said}; is a VNC server running there, at that port?",
                 plan.host
             ),
-            Stage::Join => write!(f, "the host {}: {fault}: {}", plan.host, join_advice(fault)),
+            Stage::Join => write!(
+                f,
+                "the host {}: {fault}: {}{given}",
+                plan.host,
+                join_advice(fault)
+            ),
             Stage::Start => write!(
                 f,
                 "can't start{said}; the system may be short of threads or descriptors"
             ),
             Stage::Run if plan.next.is_empty() => {
-                write!(f, "the host {}: {fault}: {}", plan.host, run_advice(fault))
+                write!(
+                    f,
+                    "the host {}: {fault}: {}{given}",
+                    plan.host,
+                    run_advice(fault)
+                )
             }
-            Stage::Run => write!(f, "the last host: {fault}: {}", run_advice(fault)),
+            Stage::Run => write!(f, "the last host: {fault}: {}{given}", run_advice(fault)),
         }
     }
 }

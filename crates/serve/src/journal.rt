@@ -1,5 +1,6 @@
 //! The log: a line an event, on standard error.
 
+use crate::quoted::Quoted;
 use jiff::Timestamp;
 use pixel_format::Fault;
 use roles::Role;
@@ -73,21 +74,6 @@ impl Display for Place {
             Some(address) => write!(f, "{address}"),
             None => f.write_str("-"),
         }
-    }
-}
-
-/// Bytes of a peer, of which each that isn't printable is escaped.
-#[derive(Drop)]
-struct Quoted<'a> {
-    bytes: &'a [u8],
-}
-
-impl Display for Quoted<'_> {
-    fn fmt<W: fmt::Write>(&self, f: &mut Formatter<W>) -> fmt::Result {
-        for byte in self.bytes {
-            write!(f, "{}", byte.escape_ascii())?;
-        }
-        Ok(())
     }
 }
 

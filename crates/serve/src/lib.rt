@@ -11,6 +11,7 @@ mod answer;
 mod journal;
 mod meet;
 mod open;
+mod quoted;
 mod run;
 mod supply;
 mod trouble;
