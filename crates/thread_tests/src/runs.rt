@@ -4,6 +4,7 @@
 mod board;
 mod bytes;
 mod courses;
+mod dead_links;
 mod ends;
 mod peer;
 mod queue;

@@ -3,11 +3,15 @@
 
 mod ending;
 mod host;
+mod input;
+mod journal;
 mod lines;
 mod loopback;
 mod meeting;
 mod options;
+mod room;
 mod scene;
 mod turns;
 mod updates;
 mod viewer;
+mod visits;

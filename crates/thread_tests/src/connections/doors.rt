@@ -102,12 +102,14 @@ fn serves<R: Threads + Wait + Clock + Send + Sync, D: Door + Send>(
     (came, right)
 }
 
-/// The same of a new lobby of one place.
+/// The same of a new lobby of one place. A listener that doesn't wait has nobody at most times, so that the system often
+/// lets nobody in.
 fn opens<R: Threads + Wait + Clock + Copy + Drop + Send + Sync>(
     rt: R,
     net: &HostRuntime,
 ) -> io::Result<(u64, bool)> {
     let listener = listen(net)?;
+    listener.set_nonblocking(true)?;
     let seat = make_seat(net)?;
     let lobby = Arc::new(net.alloc(), Lobby::new(net.alloc(), 1)?)?;
     let shared = Arc::try_clone(&lobby)?;

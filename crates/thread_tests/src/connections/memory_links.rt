@@ -1,5 +1,7 @@
 //! Links over a socket in memory, where each byte that goes either way can be seen.
 
+ghost use Rattle.std.specs.Prelude.{◌≡◌, [], IfOk};
+
 use crate::connections::memory_socket::{MemorySocket, Turn};
 use crate::connections::sockets::make_seat;
 use link::{Gave, Link, Took};
@@ -34,7 +36,10 @@ fn socket(
     comes: &[u8],
     sends: Vec<Turn>,
     receives: Vec<Turn>,
-) -> io::Result<MemorySocket> {
+) -> io::Result<MemorySocket>
+    ensures sent { IfOk result (λ socket. socket.sent.items ≡ []) }
+    ensures received { IfOk result (λ socket. socket.received.items ≡ []) }
+{
     let mut all = Vec::new(alloc);
     all.extend_from_slice(comes)?;
     Ok(MemorySocket::new(alloc, all, sends, receives))

@@ -40,6 +40,8 @@ pub(crate) enum Taking {
     /// A host that is told: it wants to be asked for the screen, and these key events, by twos. The first of them it
     /// takes only once the gate is open.
     Told(Gate, &'static [[Key; 2]]),
+    /// A host that is told: its link fails at the first key event, which is the next of these. It is told nothing more.
+    FailsAt(&'static [[Key; 2]]),
 }
 
 /// What a peer does, one act after another and then nothing more, and how it takes what it is given.
@@ -98,6 +100,7 @@ impl Peer {
 
     /// The bytes that it sends, at the front of the slice: as many as there is room for. The others are left.
     pub(crate) fn speak(&mut self, into: &mut [u8]) -> Took {
+        self.look();
         if self.left.is_empty() {
             match self.act() {
                 Ok(true) => self.next = self.next.wrapping_add(1),
@@ -117,12 +120,18 @@ impl Peer {
         Took::Bytes(count)
     }
 
-    /// Takes these bytes, as a viewer, and looks at the next answer, if it is whole: both of its colours are the same.
+    /// Takes these bytes, as a viewer.
     fn keep(&mut self, bytes: &[u8]) -> Gave {
         if self.heard.extend_from_slice(bytes).is_err() {
             self.board.check(false);
             return Gave::Failed;
         }
+        Gave::Bytes(bytes.len())
+    }
+
+    /// Looks at the next answer, if it is whole: both of its colours are the same. What is given comes only once the
+    /// link is taken from, or flushed.
+    pub(crate) fn look(&mut self) {
         let start = GREETING
             .len()
             .saturating_add(self.answers.saturating_mul(ANSWER_LEN));
@@ -134,7 +143,15 @@ impl Peer {
             self.board.check(head == ANSWER && colours[0] == colours[4]);
             self.board.show(self.place, u64::from(colours[0]));
         }
-        Gave::Bytes(bytes.len())
+    }
+
+    /// Hears a key event, as a host: the next of these.
+    fn hear_key(&mut self, keys: &[[Key; 2]], bytes: &[u8]) {
+        let number = self.board.told.fetch_add(1, Ordering::SeqCst);
+        self.board.check(match keys.get(number as usize / 2) {
+            Some(pair) => pair[number as usize % 2].as_slice() == bytes,
+            None => false,
+        });
     }
 
     /// How many of these bytes it takes.
@@ -153,13 +170,17 @@ impl Peer {
                 return self.keep(first);
             }
             Taking::Told(gate, _) if is_key && !self.board.hold(gate) => return Gave::Failed,
-            Taking::Told(_, keys) if is_key => {
-                let number = self.board.told.fetch_add(1, Ordering::SeqCst);
-                self.board.check(match keys.get(number as usize / 2) {
-                    Some(pair) => pair[number as usize % 2].as_slice() == bytes,
-                    None => false,
-                });
+            Taking::Told(_, keys) if is_key => self.hear_key(keys, bytes),
+            Taking::FailsAt(keys) if is_key => {
+                // Nothing more is to come.
+                self.board.check(self.typed == 0);
+                self.typed = 1;
+                self.hear_key(keys, bytes);
+                return Gave::Failed;
             }
+            Taking::FailsAt(_) => self
+                .board
+                .check(self.typed == 0 && bytes.first() == Some(&3)),
             // What isn't a key event asks for the screen.
             Taking::Told(..) => self.board.check(bytes.first() == Some(&3)),
             Taking::Joins => self.board.check(!is_key),

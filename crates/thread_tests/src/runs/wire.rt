@@ -100,6 +100,10 @@ impl Link for Wire {
         }
     }
 
+    fn flush(&mut self) {
+        self.peer.look();
+    }
+
     fn failures(&self) -> u64 {
         self.failures
     }

@@ -8,17 +8,19 @@ use std::test::*;
 const SCENES: &[Scene] = &[Scene {
     name: "the end of a host lets both viewers go",
     told: Told::First,
-    again: None,
+    options: "",
     is_taken: false,
     hosts: &[Host {
-        is_second: false,
+        at: 0,
         from: 1,
         to: 0,
+        is_told: false,
         ending: Ending::ClosesInLull(2),
     }],
     full: Viewer::IsLetGo,
     view: Viewer::IsLetGo,
     status: 0,
+    lines: &[],
 }];
 
 /// The end of a host ends the wait of each place, so that its viewer is let go, and that of the writer, for which

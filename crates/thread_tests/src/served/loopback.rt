@@ -1,5 +1,6 @@
 //! Sockets of loopback, and what is sent through them.
 
+use std::io::ErrorKind;
 use std::net::{Ipv4Addr, Net, SocketAddr, TcpListener, TcpStream};
 use std::time::{Clock, Duration};
 use std::{io, thread};
@@ -67,4 +68,13 @@ pub(crate) fn connect<R: Net<Stream = TcpStream> + Clock>(
         thread::sleep(rt, Duration::from_millis(10));
     }
     TcpStream::connect(rt, address)
+}
+
+/// Whether nobody listens at this port on another address of this machine.
+pub(crate) fn is_closed_beside<R: Net<Stream = TcpStream>>(rt: &R, port: u16) -> bool {
+    let beside = SocketAddr::from((Ipv4Addr::new(127, 0, 0, 2), port));
+    match TcpStream::connect(rt, beside) {
+        Ok(_) => false,
+        Err(error) => error.kind() == ErrorKind::ConnectionRefused,
+    }
 }

@@ -1,14 +1,16 @@
-//! What `serve` stands between: hosts, and a viewer of each role.
+//! What `serve` stands between: hosts, and a viewer of each role. It is the program that serves, by a line of words, on
+//! a runtime whose standard error and clock are the scene's.
 
 use crate::served::host::{Host, is_host_right};
+use crate::served::lines::words_of;
 use crate::served::loopback::{free_port, listen};
+use crate::served::room::{Ear, Room};
 use crate::served::viewer::{Viewer, is_viewer_right};
-use plan::Plan;
-use serve::serve;
+use command_line::run_words;
+use roles::Role;
 use std::alloc::{AllocError, Global};
 use std::net::{Net, TcpListener, TcpStream};
 use std::sync::Wait;
-use std::sync::atomic::AtomicU64;
 use std::test::*;
 use std::thread::Threads;
 use std::time::Clock;
@@ -20,14 +22,14 @@ const PARTS: usize = 4;
 /// The exit status of a fault that isn't want of memory.
 pub(crate) const FAULT: u8 = 3;
 
-/// What `serve` is told, whom it meets, and how it ends.
+/// What `serve` is told, whom it meets, how it ends, and what it says.
 pub(crate) struct Scene {
     /// What is said where it isn't so.
     pub(crate) name: &'static str,
     /// Where hosts are told to be.
     pub(crate) told: Told,
-    /// The first is tried anew after so many seconds, if at all.
-    pub(crate) again: Option<u64>,
+    /// Further options of the line.
+    pub(crate) options: &'static str,
     /// Whether the port of viewers with full control is taken.
     pub(crate) is_taken: bool,
     /// The hosts that are there, one after another.
@@ -36,6 +38,9 @@ pub(crate) struct Scene {
     pub(crate) view: Viewer,
     /// The exit status.
     pub(crate) status: u8,
+    /// What stands on standard error, beside what the visits of viewers leave there: a line of the log after its time,
+    /// or how another line begins.
+    pub(crate) lines: &'static [Line],
 }
 
 /// Where hosts are told to be.
@@ -44,64 +49,99 @@ pub(crate) enum Told {
     First,
     /// Where nobody listens.
     Nobody,
-    /// At the first listener, where nobody listens, and at the second listener.
+    /// At the first listener, where nobody listens, at the second and at the third listener.
     EachInTurn,
 }
 
-/// Two hosts that listen, the addresses of the first, of nobody and of the second, and the ports at which `serve`
-/// listens for viewers of each role.
+/// A line of standard error.
+pub(crate) enum Line {
+    /// It has no address.
+    Is(&'static str),
+    /// It has the address of a port of loopback in its middle.
+    Of(&'static str, usize, &'static str),
+}
+
+/// The numbers of ports: of the listeners of three hosts, of nobody, and those at which `serve` listens for viewers of
+/// each role.
+pub(crate) const FIRST: usize = 0;
+
+pub(crate) const SECOND: usize = 1;
+
+pub(crate) const THIRD: usize = 2;
+
+pub(crate) const NOBODY: usize = 3;
+
+pub(crate) const FULL: usize = 4;
+
+pub(crate) const VIEW: usize = 5;
+
+/// Three hosts that listen, and the ports.
 #[derive(Drop)]
 struct Stage {
-    first: TcpListener,
-    second: TcpListener,
-    addresses: Vec<String>,
-    full: u16,
-    view: u16,
+    hosts: [TcpListener; 3],
+    ports: [u16; 6],
 }
 
 impl Stage {
     /// Sets a stage for a scene.
     fn set<R: Net<Stream = TcpStream, Listener = TcpListener>>(
         rt: &R,
-        alloc: Global,
         scene: &Scene,
-    ) -> Result<Stage, Fail> {
-        let first = listen(rt)?;
-        let second = listen(rt)?;
-        let [at_first, at_second, nobody, full, view] = ports(rt, &first, &second)?;
-        let addresses = addresses(alloc, &[at_first, nobody, at_second])?;
-        Ok(Stage {
-            first,
-            second,
-            addresses,
-            full: if scene.is_taken { at_second } else { full },
-            view,
-        })
+    ) -> io::Result<Stage> {
+        let hosts = [listen(rt)?, listen(rt)?, listen(rt)?];
+        let mut ports = ports(rt, &hosts)?;
+        if scene.is_taken {
+            ports[FULL] = ports[SECOND];
+        }
+        Ok(Stage { hosts, ports })
+    }
+
+    /// The line of words that tells `serve` of it.
+    fn line(&self, alloc: Global, scene: &Scene) -> Result<String, AllocError> {
+        let [first, second, third, nobody, full, view] = self.ports;
+        let hosts = match scene.told {
+            Told::First => format!(in alloc; "127.0.0.1:{first}")?,
+            Told::Nobody => format!(in alloc; "127.0.0.1:{nobody}")?,
+            Told::EachInTurn => format!(in alloc;
+                "127.0.0.1:{first} 127.0.0.1:{nobody} 127.0.0.1:{second} 127.0.0.1:{third}"
+            )?,
+        };
+        let options = scene.options;
+        format!(in alloc;
+            "serve --full {full} --view {view} --full-places 1 --view-places 1 {options} --host {hosts}"
+        )
+    }
+
+    /// Notes the lines of a scene that are to stand on standard error.
+    fn note<R: Wait + Clock + Drop>(&self, ear: &Ear<R>, lines: &[Line]) -> Result<(), AllocError> {
+        for line in lines {
+            let line = match line {
+                Line::Is(text) => String::from_str(ear.alloc, text)?,
+                Line::Of(before, number, after) => {
+                    let port = self.ports.get(*number).copied().unwrap_or(0);
+                    format!(in ear.alloc; "{before}127.0.0.1:{port}{after}")?
+                }
+            };
+            ear.want(line)?;
+        }
+        Ok(())
     }
 }
 
-/// The ports of two listeners, and three that nobody has.
+/// The ports of three listeners, and three that nobody has.
 fn ports<R: Net<Stream = TcpStream, Listener = TcpListener>>(
     rt: &R,
-    first: &TcpListener,
-    second: &TcpListener,
-) -> io::Result<[u16; 5]> {
+    hosts: &[TcpListener; 3],
+) -> io::Result<[u16; 6]> {
+    let [first, second, third] = hosts;
     Ok([
         first.local_addr()?.port(),
         second.local_addr()?.port(),
+        third.local_addr()?.port(),
         free_port(rt)?,
         free_port(rt)?,
         free_port(rt)?,
     ])
-}
-
-/// The addresses of these ports.
-fn addresses(alloc: Global, ports: &[u16]) -> Result<Vec<String>, Fail> {
-    let mut addresses = Vec::new(alloc);
-    for port in ports {
-        addresses.push(format!(in alloc; "127.0.0.1:{port}")?)?;
-    }
-    Ok(addresses)
 }
 
 /// Plays each scene: an error with its name where it isn't as it has to be.
@@ -111,7 +151,6 @@ where
         + Threads
         + Wait
         + Clock
-        + Eprint
         + Copy
         + Drop
         + Send
@@ -119,91 +158,91 @@ where
         + 'static,
 {
     for scene in scenes {
-        let stage = Stage::set(&rt, alloc, scene)?;
-        if !is_played(rt, alloc, scene, &stage)? {
+        let stage = Stage::set(&rt, scene)?;
+        let room = Room::new(alloc)?;
+        stage.note(&Ear::new(rt, alloc, room), scene.lines)?;
+        if !is_played(rt, alloc, room, scene, &stage)? {
             return Err(Fail::new(scene.name));
         }
     }
     Ok(())
 }
 
-/// Whether each part of a scene is right: the hosts, a viewer of each role, and `serve`. No host is called once too
-/// often.
-fn is_played<R>(rt: R, alloc: Global, scene: &Scene, stage: &Stage) -> Result<bool, AllocError>
+/// Whether each part of a scene is right: the hosts, a viewer of each role, and `serve`, also in what it says. No host
+/// is called once too often.
+fn is_played<R>(
+    rt: R,
+    alloc: Global,
+    room: &'static Room,
+    scene: &Scene,
+    stage: &Stage,
+) -> Result<bool, AllocError>
 where
     R: Net<Stream = TcpStream, Listener = TcpListener>
         + Threads
         + Wait
         + Clock
-        + Eprint
         + Copy
         + Drop
         + Send
         + Sync
         + 'static,
 {
-    let shown = AtomicU64::new(0);
+    let ear = Ear::new(rt, alloc, room);
+    let [.., full, view] = stage.ports;
     let is_right = |part: usize| match part {
-        0 => are_hosts_right(&rt, scene.hosts, stage, &shown),
-        1 => is_viewer_right(&rt, stage.full, &scene.full, &shown).unwrap_or(false),
-        2 => is_viewer_right(&rt, stage.view, &scene.view, &shown).unwrap_or(false),
-        _ => status(rt, alloc, scene, stage) == Some(scene.status),
+        0 => are_hosts_right(&ear, scene.hosts, stage),
+        1 => is_viewer_right(&ear, Role::Full, full, &scene.full).unwrap_or(false),
+        2 => is_viewer_right(&ear, Role::View, view, &scene.view).unwrap_or(false),
+        _ => status(rt, alloc, room, scene, stage) == Ok(scene.status),
     };
     let are_right = thread::map_indices(&rt, alloc, PARTS, &is_right)?;
-    Ok(!are_right.contains(&false) && is_left_alone(&stage.first) && is_left_alone(&stage.second))
+    Ok(!are_right.contains(&false) && ear.is_told() && are_left_alone(&stage.hosts))
 }
 
 /// Whether each host is right, one after another.
-fn are_hosts_right<R: Clock>(rt: &R, hosts: &[Host], stage: &Stage, shown: &AtomicU64) -> bool {
+fn are_hosts_right<R: Wait + Clock + Drop>(ear: &Ear<R>, hosts: &[Host], stage: &Stage) -> bool {
     let mut are_right = true;
     for host in hosts {
-        let listener = if host.is_second {
-            &stage.second
-        } else {
-            &stage.first
+        let is_right = match stage.hosts.get(host.at) {
+            Some(listener) => is_host_right(ear, listener, host).unwrap_or(false),
+            None => false,
         };
-        are_right = is_host_right(rt, listener, host, shown).unwrap_or(false) && are_right;
+        are_right = is_right && are_right;
     }
     are_right
 }
 
 /// The status of `serve` between them.
-fn status<R>(rt: R, alloc: Global, scene: &Scene, stage: &Stage) -> Option<u8>
+fn status<R>(
+    rt: R,
+    alloc: Global,
+    room: &'static Room,
+    scene: &Scene,
+    stage: &Stage,
+) -> Result<u8, AllocError>
 where
     R: Net<Stream = TcpStream, Listener = TcpListener>
         + Threads
         + Wait
         + Clock
-        + Eprint
         + Copy
         + Drop
         + Send
         + 'static,
 {
-    let addresses = stage.addresses.as_slice();
-    let (first, others) = addresses.split_first()?;
-    let (nobody, _) = others.split_first()?;
-    let none: [String; 0] = [];
-    let (host, next) = match scene.told {
-        Told::First => (first, none.as_slice()),
-        Told::Nobody => (nobody, none.as_slice()),
-        Told::EachInTurn => (first, others),
-    };
-    let plan = Plan {
-        host: host.as_str(),
-        next,
-        again: scene.again,
-        bind: "127.0.0.1",
-        full: stage.full,
-        view: stage.view,
-        full_places: 2,
-        view_places: 1,
-        is_logged: false,
-    };
-    Some(serve(rt, alloc, &plan))
+    let line = stage.line(alloc, scene)?;
+    let words = words_of(alloc, line.as_str())?;
+    let ear = Ear::new(rt, alloc, room);
+    Ok(run_words(ear, alloc, words.as_slice(), io::empty(), io::sink()))
 }
 
-/// Whether nobody calls a host.
-fn is_left_alone(listener: &TcpListener) -> bool {
-    listener.set_nonblocking(true).is_ok() && listener.accept().is_err()
+/// Whether nobody calls these hosts.
+fn are_left_alone(hosts: &[TcpListener]) -> bool {
+    let mut are_left_alone = true;
+    for listener in hosts {
+        let is_called = listener.set_nonblocking(true).is_err() || listener.accept().is_ok();
+        are_left_alone = are_left_alone && !is_called;
+    }
+    are_left_alone
 }

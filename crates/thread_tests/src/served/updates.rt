@@ -11,33 +11,37 @@ const SCENES: &[Scene] = &[
     Scene {
         name: "a viewer is greeted, and its answer is the host's update",
         told: Told::First,
-        again: None,
+        options: "",
         is_taken: false,
         hosts: &[Host {
-            is_second: false,
+            at: 0,
             from: RED_AND_BLUE,
             to: RED_AND_BLUE,
+            is_told: false,
             ending: Ending::Closes,
         }],
         full: Viewer::AsksForAll,
         view: Viewer::Nobody,
         status: 0,
+        lines: &[],
     },
     // A wake-up that is lost would be seen after a read's longest wait.
     Scene {
         name: "a thousand updates each reach a viewer that asks for what is new",
         told: Told::First,
-        again: None,
+        options: "",
         is_taken: false,
         hosts: &[Host {
-            is_second: false,
+            at: 0,
             from: 1,
             to: 1_000,
+            is_told: false,
             ending: Ending::Closes,
         }],
         full: Viewer::Follows(1_000),
         view: Viewer::Nobody,
         status: 0,
+        lines: &[],
     },
 ];
 

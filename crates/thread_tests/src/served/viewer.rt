@@ -1,22 +1,27 @@
 //! A viewer of a screen of 2 by 1.
 
-use crate::served::loopback::{RED_AND_BLUE, connect, update};
+use crate::served::host::INIT;
+use crate::served::input::{types, types_in_vain};
+use crate::served::loopback::{RED_AND_BLUE, connect, is_closed_beside, update};
+use crate::served::room::Ear;
+use crate::served::visits::{Leaving, are_visits_right};
+use roles::Role;
 use std::io;
 use std::io::{Read, Write};
-use std::net::{Net, TcpStream};
-use std::sync::atomic::{AtomicU64, Ordering};
+use std::net::{Net, TcpListener, TcpStream};
+use std::sync::Wait;
+use std::sync::atomic::Ordering;
 use std::time::Clock;
 
 /// A viewer's side of the handshake: version 3.8, None, and shared (RFC 6143, 7.1.1, 7.1.2 and 7.3.1).
-const HELLO: &[u8] = b"RFB 003.008\n\x01\x01";
+pub(crate) const HELLO: &[u8] = b"RFB 003.008\n\x01\x01";
 
-/// The server's side: the version, one type of security, that it went well, and a screen of 2 by 1 with its format and
-/// its name, T (RFC 6143, 7.1.1 to 7.1.3, 7.3.2 and 7.4).
-const GREETING: &[u8] =
-    b"RFB 003.008\n\x01\x01\0\0\0\0\0\x02\0\x01\x20\x18\0\x01\0\xFF\0\xFF\0\xFF\x10\x08\0\0\0\0\0\0\0\x01T";
+/// The server's side up to its screen: the version, one type of security, and that it went well (RFC 6143, 7.1.1 to
+/// 7.1.3).
+const GREETING: &[u8] = b"RFB 003.008\n\x01\x01\0\0\0\0";
 
 /// Asks for the whole screen, or for what is new of it (RFC 6143, 7.5.3).
-const ASK: &[u8] = b"\x03\0\0\0\0\0\0\x02\0\x01";
+pub(crate) const ASK: &[u8] = b"\x03\0\0\0\0\0\0\x02\0\x01";
 
 const ASK_NEW: &[u8] = b"\x03\x01\0\0\0\0\0\x02\0\x01";
 
@@ -36,45 +41,71 @@ pub(crate) enum Viewer {
     Follows(u16),
     /// As `Follows`, but each update is another host's, so that a black screen may come before each.
     FollowsHosts(u16),
+    /// As `FollowsHosts`, and after each update it types what a host is to be told.
+    Types(u16),
+    /// As `FollowsHosts`, and after each update it types what no host is to be told.
+    TypesInVain(u16),
     /// Asks for what is new of a black screen, of which there is nothing, and is let go without a byte. A read that
     /// lasts too long is an error, so a place that isn't told of the end is found.
     IsLetGo,
+    /// Viewers come one after another and leave so. While one is there another finds no place.
+    Visits(&'static [Leaving]),
 }
 
-/// Whether a viewer at this port is greeted as it has to be, and then given what it has to be. It tells the number of
-/// the last update that it was shown.
-pub(crate) fn is_viewer_right<R: Net<Stream = TcpStream> + Clock>(
-    rt: &R,
+/// Whether a viewer at the port of this role is greeted as it has to be, and then given what it has to be. It tells the
+/// number of the last update that it was shown. Nobody listens at the port on another address.
+pub(crate) fn is_viewer_right<R>(
+    ear: &Ear<R>,
+    role: Role,
     port: u16,
     viewer: &Viewer,
-    shown: &AtomicU64,
-) -> io::Result<bool> {
-    if let Viewer::Nobody = viewer {
-        return Ok(true);
-    }
-    let mut stream = connect(rt, port)?;
-    is_served(&mut stream, viewer, shown)
-}
-
-/// Whether a viewer with this connection is.
-fn is_served(stream: &mut TcpStream, viewer: &Viewer, shown: &AtomicU64) -> io::Result<bool> {
-    let mut greeting = [0u8; 43];
-    stream.write_all(HELLO)?;
-    stream.read_exact(&mut greeting)?;
-    if greeting.as_slice() != GREETING {
-        return Ok(false);
-    }
+) -> io::Result<bool>
+where
+    R: Net<Stream = TcpStream, Listener = TcpListener> + Wait + Clock + Drop,
+{
     match viewer {
         Viewer::Nobody => Ok(true),
-        Viewer::AsksForAll => is_shown_all(stream, shown),
-        Viewer::Follows(last) => follows(stream, *last, false, shown),
-        Viewer::FollowsHosts(last) => follows(stream, *last, true, shown),
-        Viewer::IsLetGo => is_let_go(stream, shown),
+        Viewer::Visits(leavings) => are_visits_right(ear, role, port, leavings),
+        _ => {
+            let mut stream = connect(ear, port)?;
+            let is_greeted = is_greeted(&mut stream, INIT)? && is_closed_beside(ear, port);
+            Ok(is_greeted && is_served(ear, &mut stream, viewer)?)
+        }
+    }
+}
+
+/// Whether a viewer with this connection is greeted, with this screen at the end.
+pub(crate) fn is_greeted(stream: &mut TcpStream, init: &[u8]) -> io::Result<bool> {
+    let mut greeting = [0u8; 18];
+    let mut screen = [0u8; 64];
+    let Some(screen) = screen.get_mut(..init.len()) else {
+        return Ok(false);
+    };
+    stream.write_all(HELLO)?;
+    stream.read_exact(&mut greeting)?;
+    stream.read_exact(screen)?;
+    Ok(greeting.as_slice() == GREETING && &*screen == init)
+}
+
+/// Whether a viewer that was greeted is given what it has to be.
+fn is_served<R: Wait + Clock + Drop>(
+    ear: &Ear<R>,
+    stream: &mut TcpStream,
+    viewer: &Viewer,
+) -> io::Result<bool> {
+    match viewer {
+        Viewer::Nobody | Viewer::Visits(_) => Ok(true),
+        Viewer::AsksForAll => is_shown_all(ear, stream),
+        Viewer::IsLetGo => is_let_go(ear, stream),
+        Viewer::Follows(last)
+        | Viewer::FollowsHosts(last)
+        | Viewer::Types(last)
+        | Viewer::TypesInVain(last) => follows(ear, stream, viewer, *last),
     }
 }
 
 /// The answer of this request.
-fn answer(stream: &mut TcpStream, request: &[u8]) -> io::Result<[u8; 24]> {
+pub(crate) fn answer(stream: &mut TcpStream, request: &[u8]) -> io::Result<[u8; 24]> {
     let mut answer = [0u8; 24];
     stream.write_all(request)?;
     stream.read_exact(&mut answer)?;
@@ -82,47 +113,66 @@ fn answer(stream: &mut TcpStream, request: &[u8]) -> io::Result<[u8; 24]> {
 }
 
 /// Whether the first answer that isn't black is red and blue. It asks for the whole screen each time.
-fn is_shown_all(stream: &mut TcpStream, shown: &AtomicU64) -> io::Result<bool> {
+fn is_shown_all<R: Drop>(ear: &Ear<R>, stream: &mut TcpStream) -> io::Result<bool> {
     for _ in 0..MOST_BLACK {
         let given = answer(stream, ASK)?;
         if given.as_slice() != BLACK {
-            shown.store(u64::from(RED_AND_BLUE), Ordering::SeqCst);
+            ear.room
+                .shown
+                .store(u64::from(RED_AND_BLUE), Ordering::SeqCst);
             return Ok(given == update(RED_AND_BLUE));
         }
     }
     Ok(false)
 }
 
-/// Whether it is shown each update in turn, before the first, or before each, perhaps a black screen. It asks for what
-/// is new each time.
-fn follows(
+/// Whether it is shown the updates from 1 up to this one, the first of them, or each, perhaps after a black screen. It
+/// asks for what is new each time.
+fn follows<R: Wait + Clock + Drop>(
+    ear: &Ear<R>,
     stream: &mut TcpStream,
+    viewer: &Viewer,
     last: u16,
-    is_each_after_black: bool,
-    shown: &AtomicU64,
 ) -> io::Result<bool> {
-    for n in 1..=last {
+    let is_each_after_black = !matches!(viewer, Viewer::Follows(_));
+    for number in 1..=last {
         let mut given = answer(stream, ASK_NEW)?;
-        if given.as_slice() == BLACK && (is_each_after_black || n == 1) {
+        if given.as_slice() == BLACK && (is_each_after_black || number == 1) {
             given = answer(stream, ASK_NEW)?;
         }
-        if given != update(n) {
+        if given != update(number) || !goes_on(ear, stream, viewer, number)? {
             return Ok(false);
         }
-        shown.store(u64::from(n), Ordering::SeqCst);
     }
     Ok(true)
 }
 
+/// What a viewer does that was shown this update, and whether it may go on.
+fn goes_on<R: Wait + Clock + Drop>(
+    ear: &Ear<R>,
+    stream: &mut TcpStream,
+    viewer: &Viewer,
+    number: u16,
+) -> io::Result<bool> {
+    match viewer {
+        Viewer::TypesInVain(_) => types_in_vain(ear, stream, number),
+        Viewer::Types(_) => types(ear, stream, number),
+        _ => {
+            ear.room.shown.store(u64::from(number), Ordering::SeqCst);
+            Ok(true)
+        }
+    }
+}
+
 /// Whether it is shown a black screen, after which it asks for what is new, and is let go without a byte. It counts
 /// itself among those that wait.
-fn is_let_go(stream: &mut TcpStream, waiting: &AtomicU64) -> io::Result<bool> {
+pub(crate) fn is_let_go<R: Drop>(ear: &Ear<R>, stream: &mut TcpStream) -> io::Result<bool> {
     let given = answer(stream, ASK)?;
     stream.write_all(ASK_NEW)?;
     if given.as_slice() != BLACK {
         return Ok(false);
     }
-    let _ = waiting.fetch_add(1, Ordering::SeqCst);
+    let _ = ear.room.shown.fetch_add(1, Ordering::SeqCst);
     let mut more = [0u8; 1];
     Ok(stream.read(&mut more)? == 0)
 }

@@ -1,0 +1,72 @@
+//! A host's link that fails while input is told.
+
+use crate::runs::board::Gate;
+use crate::runs::bytes::{HELLO, ONE, PRESS_97, THREE, WELCOME};
+use crate::runs::ends::{Course, End, goes_right};
+use crate::runs::peer::{Act, Key, Script, Taking};
+use std::test::*;
+
+/// Keys 97 and 98 are pressed and released (RFC 6143, 7.5.4).
+const KEYS: [[Key; 2]; 2] = [
+    [[4, 1, 0, 0, 0, 0, 0, 97], [4, 0, 0, 0, 0, 0, 0, 97]],
+    [[4, 1, 0, 0, 0, 0, 0, 98], [4, 0, 0, 0, 0, 0, 0, 98]],
+];
+
+/// What follows on the press of key 97: its release, and both of key 98.
+const OTHERS: &[u8] = b"\x04\0\0\0\0\0\0\x61\x04\x01\0\0\0\0\0\x62\x04\0\0\0\0\0\0\x62";
+
+/// The first host's link fails as the first of four key events is told: nothing more is told over it. The host ends
+/// after that, the next one is told the three others, and is asked for the screen.
+static GOES_ON: Course = Course {
+    name: "input goes on to the next host",
+    black: 2,
+    places: &[&[Script {
+        acts: &[
+            Act::Says(HELLO),
+            Act::AsksFor(1),
+            Act::Says(PRESS_97),
+            Act::Says(OTHERS),
+            Act::AsksFor(3),
+        ],
+        taking: Taking::AtOnce,
+    }]],
+    hosts: &[
+        Script {
+            acts: &[Act::Says(ONE), Act::Waits(Gate::Told(1)), Act::Ends],
+            taking: Taking::Told(Gate::Open, &[]),
+        },
+        Script {
+            acts: &[Act::Ends],
+            taking: Taking::FailsAt(&KEYS),
+        },
+        Script {
+            acts: &[
+                Act::Says(WELCOME),
+                Act::Says(THREE),
+                Act::Waits(Gate::Shown(0, 3)),
+                Act::Waits(Gate::Told(4)),
+                Act::Ends,
+            ],
+            taking: Taking::Joins,
+        },
+        Script {
+            acts: &[Act::Ends],
+            taking: Taking::Told(Gate::Open, &KEYS),
+        },
+    ],
+    may_end: true,
+    end: End {
+        fault: 0,
+        links: 2,
+        last: 3,
+    },
+};
+
+#[test]
+fn input_goes_on_after_a_dead_link(rt: HostRuntime) -> Result<(), Fail> {
+    if goes_right(rt, rt.alloc(), &GOES_ON)? {
+        Ok(())
+    } else {
+        Err(Fail::new(GOES_ON.name))
+    }
+}

@@ -1,0 +1,216 @@
+//! What the parts of a scene share, and the runtime on which `serve` runs in it.
+
+use std::alloc::{AllocError, Global};
+use std::boxed::Box;
+use std::fmt::Display;
+use std::io::ErrorKind;
+use std::net::{Net, SocketAddr, TcpListener, TcpStream};
+use std::sync::atomic::{AtomicU64, Ordering};
+use std::sync::{Mutex, Wait};
+use std::thread::Threads;
+use std::time::{Clock, Duration};
+use std::{io, thread};
+
+/// A wait has this many turns of a millisecond.
+const TURNS: u64 = 20_000;
+
+/// What the parts of a scene share.
+#[derive(Drop)]
+pub(crate) struct Room {
+    /// What stands on standard error.
+    text: Mutex<String>,
+    /// The lines that are to stand there.
+    wanted: Mutex<Vec<String>>,
+    /// How many seconds the clock is ahead.
+    ahead: AtomicU64,
+    /// The number of the last update that the viewer with full control was shown, or how many viewers wait for news.
+    pub(crate) shown: AtomicU64,
+    /// The number of the last update after which the host was asked anew.
+    pub(crate) asked: AtomicU64,
+    /// The number of the last update after which the viewer that only looks on has typed in vain.
+    pub(crate) looked: AtomicU64,
+}
+
+/// A runtime whose standard error stands in a room, and whose clock the room puts forward.
+#[derive(Clone, Copy, Drop)]
+pub(crate) struct Ear<R: Drop> {
+    rt: R,
+    pub(crate) alloc: Global,
+    pub(crate) room: &'static Room,
+}
+
+impl Room {
+    /// An empty room. It is never freed: threads of `serve` may outlast it.
+    pub(crate) fn new(alloc: Global) -> Result<&'static Room, AllocError> {
+        let room = Box::new(
+            alloc,
+            Room {
+                text: Mutex::new(String::new(alloc)),
+                wanted: Mutex::new(Vec::new(alloc)),
+                ahead: AtomicU64::new(0),
+                shown: AtomicU64::new(0),
+                asked: AtomicU64::new(0),
+                looked: AtomicU64::new(0),
+            },
+        )?;
+        Ok(Box::leak(room))
+    }
+}
+
+impl<R: Drop> Ear<R> {
+    /// A runtime over this one, for a part of the scene in this room.
+    pub(crate) fn new(rt: R, alloc: Global, room: &'static Room) -> Ear<R> {
+        Ear { rt, alloc, room }
+    }
+
+    /// The clock is so many seconds ahead from now on.
+    pub(crate) fn put_forward(&self, seconds: u64) {
+        self.room.ahead.store(seconds, Ordering::SeqCst);
+    }
+}
+
+impl<R: Wait + Clock + Drop> Ear<R> {
+    /// This line is to stand on standard error.
+    pub(crate) fn want(&self, line: String) -> Result<(), AllocError> {
+        self.room.wanted.lock(self).push(line)?;
+        Ok(())
+    }
+
+    /// Whether this stands on standard error.
+    pub(crate) fn has(&self, words: &str) -> bool {
+        self.room.text.lock(self).as_str().contains(words)
+    }
+
+    /// Whether it comes to stand there in time.
+    pub(crate) fn hears(&self, words: &str) -> bool {
+        for _ in 0..TURNS {
+            if self.has(words) {
+                return true;
+            }
+            thread::sleep(&self.rt, Duration::from_millis(1));
+        }
+        false
+    }
+
+    /// Whether this number comes to be reached in time.
+    pub(crate) fn reaches(&self, number: &AtomicU64, wanted: u64) -> bool {
+        for _ in 0..TURNS {
+            if wanted <= number.load(Ordering::SeqCst) {
+                return true;
+            }
+            thread::sleep(&self.rt, Duration::from_millis(1));
+        }
+        false
+    }
+
+    /// Whether the lines that are to stand on standard error come to stand there in time, and no others.
+    pub(crate) fn is_told(&self) -> bool {
+        for _ in 0..TURNS {
+            if self.has_all_lines() {
+                return true;
+            }
+            thread::sleep(&self.rt, Duration::from_millis(1));
+        }
+        false
+    }
+
+    /// Whether they stand there now. No two lines that are wanted fit the same one.
+    fn has_all_lines(&self) -> bool {
+        let text = self.room.text.lock(self);
+        let wanted = self.room.wanted.lock(self);
+        let mut are_there = text.as_str().lines().count() == wanted.len();
+        for line in wanted.iter() {
+            are_there = are_there && stands_in(text.as_str(), line.as_str());
+        }
+        are_there
+    }
+}
+
+/// Whether one of the lines of a text is as it is wanted.
+fn stands_in(text: &str, wanted: &str) -> bool {
+    for told in text.lines() {
+        if fits(told, wanted) {
+            return true;
+        }
+    }
+    false
+}
+
+/// Whether a line is as it is wanted: one of the log after its time, and but for its seconds; any other as it begins.
+fn fits(told: &str, wanted: &str) -> bool {
+    if told.starts_with(wanted) {
+        return true;
+    }
+    let Some((time, line)) = told.split_once(' ') else {
+        return false;
+    };
+    let is_right = match line.split_once(" seconds=") {
+        Some((before, rest)) => match rest.split_once(' ') {
+            Some((_, after)) => is_joint(wanted, before, after),
+            None => false,
+        },
+        None => line == wanted,
+    };
+    time.ends_with('Z') && is_right
+}
+
+/// Whether these two, with a blank between them, are the line.
+fn is_joint(line: &str, before: &str, after: &str) -> bool {
+    match line.strip_prefix(before) {
+        Some(rest) => rest.strip_prefix(' ') == Some(after),
+        None => false,
+    }
+}
+
+impl<R: Wait + Drop> Wait for Ear<R> {}
+
+impl<R: Threads + Drop> Threads for Ear<R> {}
+
+impl<R: Wait + Clock + Drop> Eprint for Ear<R> {
+    fn eprint<D: Display + Drop>(&self, value: D) -> io::Result<()> {
+        match write!(self.room.text.lock(self), "{value}") {
+            Ok(()) => Ok(()),
+            Err(_) => Err(io::Error::from(ErrorKind::OutOfMemory)),
+        }
+    }
+
+    fn eprintln<D: Display + Drop>(&self, value: D) -> io::Result<()> {
+        match write!(self.room.text.lock(self), "{value}\n") {
+            Ok(()) => Ok(()),
+            Err(_) => Err(io::Error::from(ErrorKind::OutOfMemory)),
+        }
+    }
+}
+
+impl<R: Clock + Drop> Clock for Ear<R> {
+    fn monotonic(&self) -> io::Result<Duration> {
+        let ahead = Duration::from_secs(self.room.ahead.load(Ordering::SeqCst));
+        Ok(self.rt.monotonic()?.saturating_add(ahead))
+    }
+
+    fn since_1970(&self) -> io::Result<Duration> {
+        self.rt.since_1970()
+    }
+
+    fn sleep(&self, duration: Duration) {
+        self.rt.sleep(duration)
+    }
+}
+
+impl<R: Net<Stream = TcpStream, Listener = TcpListener> + Drop> Net for Ear<R> {
+    type Stream = TcpStream;
+
+    type Listener = TcpListener;
+
+    fn bind(&self, address: SocketAddr) -> io::Result<TcpListener> {
+        self.rt.bind(address)
+    }
+
+    fn connect(&self, address: SocketAddr) -> io::Result<TcpStream> {
+        self.rt.connect(address)
+    }
+
+    fn connect_timeout(&self, address: SocketAddr, timeout: Duration) -> io::Result<TcpStream> {
+        self.rt.connect_timeout(address, timeout)
+    }
+}
