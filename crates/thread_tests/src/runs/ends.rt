@@ -18,7 +18,7 @@ use reflector::{Place, Running, join_place, run_all};
 use rfb_wire::Joined;
 use roles::Role;
 use screen_pair::Publishes;
-use serving::NoBell;
+use serving::{Door, NoBell};
 use shared_screen::{Publisher, Watcher};
 use std::alloc::Global;
 use std::marker::Brand;
@@ -71,16 +71,17 @@ fn shows<J: Naming>(alloc: Global, watcher: &mut Watcher<J>, last: u64) -> Resul
 }
 
 /// Whether the run ended as it is to, each place shows the last update, and nothing is left of the input.
-fn ends<J, L, H, R>(
+fn ends<J, L, H, D, R>(
     rt: R,
     alloc: Global,
-    running: Running<L, H, Publisher<J, R>, Watcher<J>, Queue, R>,
+    running: Running<L, H, Publisher<J, R>, Watcher<J>, D, R>,
     end: &End,
 ) -> Result<bool, Fail>
 where
     J: Naming + Publishes + Send + Sync + 'static,
     L: Link,
     H: Drop,
+    D: Door,
     R: Threads + Wait + Drop + Copy,
     requires screen { (2 ≡ J.width) × (1 ≡ J.height) }
     requires relay { All (λ place. relay_of place.promise.sender.value ≡ host_of running.taker) running.places.items }
