@@ -1,13 +1,15 @@
-//! What `serve` is told, where its viewers come in, whose turn it is of its hosts, and the exit status for how it ends.
-//! No memory and no handles.
+//! What `serve` is told, where its viewers come in, whose turn it is of its hosts and after which pause, and the exit
+//! status for how it ends. No memory and no handles.
 #![tactic(auto)]
 
 mod address;
 mod plan;
+mod rested;
 mod status;
 mod turns;
 
 pub use address::address_of;
 pub use plan::{Plan, places_of, port_of};
+pub use rested::Rested;
 pub use status::status_of;
 pub use turns::Turns;

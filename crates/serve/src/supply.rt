@@ -6,13 +6,12 @@ ghost use Rattle.plan.specs.Turns.{turn_of};
 use crate::meet::reach;
 use host_turns::Hosts;
 use pixel_format::Fault;
-use plan::Turns;
+use plan::{Rested, Turns};
 use rfb_wire::Joined;
 use serving::{Event, JoiningLink, Log};
 use std::net::{Net, SocketAddr, TcpListener, TcpStream};
 use std::sync::Wait;
-use std::thread;
-use std::time::{Clock, Duration};
+use std::time::Clock;
 
 /// The hosts over TCP, in their order. One that can't be reached is passed over, and the log is told of each try.
 #[derive(Drop)]
@@ -23,8 +22,6 @@ pub(crate) struct Supply<
     rt: R,
     log: G,
     turns: Turns,
-    /// How long after the last host the first has its turn again, or `None` where it hasn't.
-    pause: Option<Duration>,
     /// The host whose turn it is.
     present: SocketAddr,
 }
@@ -40,33 +37,31 @@ impl<
         first: SocketAddr,
         further: Vec<SocketAddr>,
         again: Option<u64>,
-    ) -> Supply<R, G> {
-        let pause = match again {
-            Some(seconds) => Some(Duration::from_secs(seconds)),
-            None => None,
-        };
+    ) -> Supply<R, G>
+        ensures hosts { (result.turns.first ≡ first) × (result.turns.further ≡ further) × (result.turns.done ≡ 0) }
+        ensures again { result.turns.again ≡ again }
+    {
         Supply {
             rt,
             log,
-            turns: Turns::new(first, further),
-            pause,
+            turns: Turns::new(first, further, again),
             present: first,
         }
     }
 
-    /// Whose turn it is next: that of the first host after a pause. It is nobody's where each host had one, and the
+    /// Whose turn it is next: that of the first host after its pause. It is nobody's where each host had one, and the
     /// first is to have no other.
     fn turn(&mut self) -> Option<SocketAddr>
-        ensures value { result ≡ turn_of self.old.turns self.old.pause }
-        ensures pause { self.new.pause ≡ self.old.pause }
-        ensures out { IsNone result → (self.new.pause ≡ None) × (length self.new.turns.further.items ≤ self.new.turns.done) }
+        ensures value { result ≡ turn_of self.old.turns }
+        ensures again { self.new.turns.again ≡ self.old.turns.again }
+        ensures out { IsNone result → (self.new.turns.again ≡ None) × (length self.new.turns.further.items ≤ self.new.turns.done) }
     {
         if let Some(address) = self.turns.next() {
             return Some(address);
         }
-        let pause = self.pause?;
-        thread::sleep(&self.rt, pause);
-        Some(self.turns.begin_anew())
+        let seconds = self.turns.again()?;
+        let rested = Rested::after(&self.rt, seconds);
+        Some(self.turns.begin_anew(rested))
     }
 }
 
@@ -76,7 +71,7 @@ impl<
 > Hosts<JoiningLink<R>> for Supply<R, G> {
     ghost came = { λ _. ⊤ };
 
-    ghost are_out = { λ supply. (supply.pause ≡ None) × (length supply.turns.further.items ≤ supply.turns.done) };
+    ghost are_out = { λ supply. (supply.turns.again ≡ None) × (length supply.turns.further.items ≤ supply.turns.done) };
 
     fn next(&mut self) -> Option<(JoiningLink<R>, JoiningLink<R>)> {
         let rt = self.rt;

@@ -1,0 +1,43 @@
+//! A pause is made, and once.
+
+use plan::Rested;
+use std::io;
+use std::sync::atomic::{AtomicU64, Ordering};
+use std::test::*;
+use std::time::{Clock, Duration};
+
+/// A clock that stands still, and counts for how many milliseconds it was to sleep, and how often.
+#[derive(Drop)]
+struct Stopped {
+    millis: AtomicU64,
+    times: AtomicU64,
+}
+
+impl Clock for Stopped {
+    fn monotonic(&self) -> io::Result<Duration> {
+        Ok(Duration::ZERO)
+    }
+
+    fn since_1970(&self) -> io::Result<Duration> {
+        Ok(Duration::ZERO)
+    }
+
+    fn sleep(&self, duration: Duration) {
+        let millis = duration.as_millis() as u64;
+        let _ = self.millis.fetch_add(millis, Ordering::SeqCst);
+        let _ = self.times.fetch_add(1, Ordering::SeqCst);
+    }
+}
+
+/// A pause of five seconds asks the system for that once.
+#[test]
+fn pause_is_made_once(rt: HostRuntime) {
+    let clock = Stopped {
+        millis: AtomicU64::new(0),
+        times: AtomicU64::new(0),
+    };
+    drop(Rested::after(&clock, 5));
+    let millis = clock.millis.load(Ordering::SeqCst);
+    let times = clock.times.load(Ordering::SeqCst);
+    assert!(rt; millis == 5_000 && times == 1);
+}
