@@ -260,6 +260,8 @@ where
 /// another version, refuses, offers no type None, ended the handshake as failed, or its link failed or ended. Every
 /// other fault ends the run, and so does the last of the supply, with the last answer.
 ///
+/// Each door is for the role that stands beside it, in which its place serves its viewers.
+///
 /// `everyone` is rung after each put: whoever waits for news, the hosts' writer too. `writer_bell` is rung after each
 /// input. The hosts' writer goes on with each host that is read; what was cut short at the end of one isn't written
 /// again.
@@ -290,6 +292,7 @@ where
     requires history { history.seen.book ≡ J.book }
     requires size { IsScreenSize joined.w joined.h × (joined.w ≡ J.width) × (joined.h ≡ J.height) }
     requires doors { (1 ≤ vec_len doors) × (vec_len doors ≤ 64) }
+    requires roles { All (λ door. D.is_for door.1 door.0) doors.items }
     ensures run { IfOk result (λ run. HasRun J.width J.height (IsLinkOf L.state H.came) run.result (L.state reader) (map L.state run.links.items) [] (puts_of run.publisher)) }
     ensures over { IfOk result (λ run. IsOver H.are_out run.hosts run.result) }
     ensures places { IfOk result (λ run. map (λ place. strand_of place.promise.sender.value) run.places.items ≡ fresh (vec_len doors)) }

@@ -1,7 +1,8 @@
 //! What `serve` says and answers.
 
-ghost use Rattle.std.specs.Prelude.{◌≡◌, Err, MatchResult};
+ghost use Rattle.std.specs.Prelude.{◌≡◌, Err, MatchResult, Result};
 ghost use Rattle.plan.specs.Statuses.{HasPlaces, IsStatus, status_for};
+ghost use Rattle.serve.specs.declared.trouble.Trouble.{Trouble as Failure};
 
 use crate::advice::Advice;
 use crate::journal::Journal;
@@ -25,12 +26,13 @@ fn say<R: Eprint>(rt: &R, plan: &Plan<'_>, trouble: &Trouble) {
     let _ = rt.eprintln(format_args!("reflectord: {advice}"));
 }
 
-/// Says what went wrong, if something did, and answers the exit status for how it ended.
-fn answer<R: Eprint>(rt: &R, plan: &Plan<'_>, ended: Result<(), Trouble>) -> u8
-    ensures status { MatchResult ended (λ _. result ≡ 0) (λ trouble. result ≡ status_for (Err trouble.fault)) }
+/// Runs, says what went wrong, if something did, and answers the exit status for how it ended.
+fn answer<R: Eprint, F: FnOnce() -> Result<(), Trouble>>(rt: &R, plan: &Plan<'_>, runs: F) -> u8
+    requires { F.pre runs }
+    ensures status { (ended : Result (Unit {0}) Failure) × F.post runs ended × MatchResult ended (λ _. result ≡ 0) (λ trouble. result ≡ status_for (Err trouble.fault)) }
     ensures range { IsStatus result }
 {
-    match ended {
+    match runs() {
         Ok(()) => status_of(&Ok(())),
         Err(trouble) => {
             say(rt, plan, &trouble);
@@ -57,6 +59,11 @@ where
     ensures { IsStatus result }
 {
     let log = Journal::new(rt, alloc, plan.is_logged);
-    let ended = run(rt, alloc, plan, log);
-    answer(&rt, plan, ended)
+    answer(
+        &rt,
+        plan,
+        || -> Result<(), Trouble>
+            requires { HasPlaces plan.now }
+        { run(rt, alloc, plan, log) },
+    )
 }

@@ -8,6 +8,7 @@
 
 mod advice;
 mod answer;
+mod bound;
 mod journal;
 mod meet;
 mod open;

@@ -1,46 +1,52 @@
 //! Listening for viewers.
 
 ghost use Rattle.std.specs.Prelude.{◌≡◌, IfOk};
-ghost use Rattle.plan.specs.Statuses.{places_for};
+ghost use Rattle.std.specs.Arc.{arc_value};
+ghost use Rattle.std.specs.Net.Socket.{socket_port};
+ghost use Rattle.plan.specs.Addresses.{IsAddressFor};
+ghost use Rattle.plan.specs.Statuses.{port_for};
 
+use crate::bound::Bound;
 use crate::trouble::{Stage, Trouble};
 use pixel_format::Fault;
-use plan::{Plan, places_of, port_of};
+use plan::{Plan, address_of, places_of};
 use roles::Role;
 use serving::{Event, Lobby, Log};
 use std::alloc::Global;
-use std::net::{IpAddr, Net, SocketAddr, TcpListener, TcpStream};
+use std::net::{Net, TcpListener, TcpStream};
 use std::sync::Arc;
 
-/// Where the viewers of a role come in.
+/// Where the viewers of a role come in, and the lobby to which they are let. It listens at the port that the plan has for
+/// the role of that lobby.
 #[derive(Drop)]
-pub(crate) struct Entry {
-    pub(crate) role: Role,
-    pub(crate) places: u64,
-    pub(crate) listener: TcpListener,
+pub(crate) struct Entry<'a> {
+    pub(crate) plan: Plan<'a>,
+    pub(crate) bound: Bound,
     pub(crate) lobby: Arc<Lobby, Global>,
+    pub(crate) ghost port: { socket_port bound.address ≡ port_for (arc_value lobby).role plan },
 }
 
-/// Listens for the viewers of a role, and tells the log where.
-pub(crate) fn open<R: Net<Stream = TcpStream, Listener = TcpListener>, G: Log>(
+/// Listens for the viewers of a role, where the plan says, and tells the log where.
+pub(crate) fn open<'a, R: Net<Stream = TcpStream, Listener = TcpListener>, G: Log>(
     rt: &R,
     alloc: Global,
-    plan: &Plan<'_>,
+    plan: &Plan<'a>,
     role: Role,
     log: &G,
-) -> Result<Entry, Trouble>
-    ensures { IfOk result (λ entry. entry.places ≡ places_for role plan.now) }
+) -> Result<Entry<'a>, Trouble>
+    ensures plan { IfOk result (λ entry. entry.plan ≡ plan.now) }
+    ensures address { IfOk result (λ entry. IsAddressFor role plan.now entry.bound.address) }
+    ensures role { IfOk result (λ entry. (arc_value entry.lobby).role ≡ role) }
 {
     let places = places_of(plan, role);
-    let Ok(ip) = plan.bind.parse::<IpAddr>() else {
+    let Ok(address) = address_of(plan, role) else {
         return Err(Trouble::new(Stage::ReadBind, Fault::LinkFailed));
     };
-    let address = SocketAddr::new(ip, port_of(plan, role));
-    let listener = match TcpListener::bind(rt, address) {
-        Ok(listener) => listener,
+    let bound = match Bound::at(rt, address) {
+        Ok(bound) => bound,
         Err(error) => return Err(Trouble::of(Stage::Listen(role), error)),
     };
-    let Ok(lobby) = Lobby::new(alloc, places) else {
+    let Ok(lobby) = Lobby::new(alloc, role, places) else {
         return Err(Trouble::new(Stage::Start, Fault::Memory));
     };
     let Ok(lobby) = Arc::new(alloc, lobby) else {
@@ -52,9 +58,8 @@ pub(crate) fn open<R: Net<Stream = TcpStream, Listener = TcpListener>, G: Log>(
         places,
     });
     Ok(Entry {
-        role,
-        places,
-        listener,
+        plan: *plan,
+        bound,
         lobby,
     })
 }

@@ -1,8 +1,9 @@
 //! A run, from its first port to its end.
 
-ghost use Rattle.std.specs.Prelude.{◌≡◌, ◌≤◌, length};
+ghost use Rattle.std.specs.Prelude.{◌≡◌, ◌≤◌, All, length};
 ghost use Rattle.raster.specs.Size.{IsScreenSize};
 ghost use Rattle.plan.specs.Statuses.{HasPlaces};
+ghost use Rattle.serve.specs.Doors.{AreAsPlanned};
 
 use crate::meet::{Met, meet};
 use crate::open::open;
@@ -49,6 +50,7 @@ where
     requires history { history.seen.book ≡ J.book }
     requires size { IsScreenSize joined.w joined.h × (joined.w ≡ J.width) × (joined.h ≡ J.height) }
     requires doors { (1 ≤ length doors.items) × (length doors.items ≤ 64) }
+    requires roles { All (λ door. D.is_for door.1 door.0) doors.items }
 {
     let (reader, writer_end) = ends;
     let Running {
@@ -65,13 +67,16 @@ where
     result
 }
 
-/// Starts all threads, and waits until the last host has ended. It answers what reading or joining that was answered.
+/// Starts all threads, with the places that the plan says, and waits until the last host has ended. It answers what
+/// reading or joining that was answered.
 fn reflect<G, R>(
     rt: R,
     alloc: Global,
+    plan: &Plan<'_>,
+    hosts: (SocketAddr, Vec<SocketAddr>),
     met: Met<R>,
-    supply: Supply<R, G>,
     rooms: Rooms<R, G>,
+    log: G,
 ) -> Result<(), Fault>
 where
     G: Log + Drop + Send + 'static,
@@ -84,9 +89,13 @@ where
         + Send
         + 'static,
     requires size { IsScreenSize met.joined.w met.joined.h }
-    requires doors { (1 ≤ length rooms.doors.items) × (length rooms.doors.items ≤ 64) }
+    requires places { HasPlaces plan.now }
+    requires doors { AreAsPlanned plan.now rooms.doors.items }
 {
-    let (writer, everyone) = bells(alloc, rooms.seats)?;
+    let (first, further) = hosts;
+    let supply = Supply::new(rt, log, first, further, plan.again);
+    let Rooms { doors, seats } = rooms;
+    let (writer, everyone) = bells(alloc, seats)?;
     over::<Brand, _, _, _, _, _, _>(
         rt,
         alloc,
@@ -94,7 +103,7 @@ where
         (met.reader, met.writer),
         met.joined,
         supply,
-        rooms.doors,
+        doors,
         everyone,
         writer,
     )
@@ -132,17 +141,16 @@ where
         + 'static,
     requires { HasPlaces plan.now }
 {
-    let (first, further) = addresses(alloc, plan)?;
+    let hosts = addresses(alloc, plan)?;
     let full = open(&rt, alloc, plan, Role::Full, &log)?;
     let view = open(&rt, alloc, plan, Role::View, &log)?;
-    let met = meet(rt, first, &log)?;
-    let supply = Supply::new(rt, log, first, further, plan.again);
+    let met = meet(rt, hosts.0, &log)?;
     let mut rooms = Rooms::new(alloc);
     rooms.add_all(rt, alloc, &full, log)?;
     rooms.add_all(rt, alloc, &view, log)?;
     let full = start_porter(rt, alloc, full, log)?;
     let view = start_porter(rt, alloc, view, log)?;
-    let why = reflect(rt, alloc, met, supply, rooms);
+    let why = reflect(rt, alloc, plan, hosts, met, rooms, log);
     full.close(&rt);
     view.close(&rt);
     match why {

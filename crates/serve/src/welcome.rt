@@ -1,12 +1,16 @@
 //! Places for viewers, and who lets them in.
 
-ghost use Rattle.std.specs.Prelude.{◌≡◌, ◌+◌, ◌<◌, [], length, OnOk};
+ghost use Rattle.std.specs.Prelude.{◌≡◌, ◌+◌, ◌++◌, ◌<◌, ◌∷◌, [], length, replicate, OnOk};
+ghost use Rattle.std.specs.Arc.{arc_value};
+ghost use Rattle.plan.specs.Statuses.{places_for};
+ghost use Rattle.serve.specs.Doors.{HaveTheirRoles, roles_in};
 
 use crate::open::Entry;
 use crate::trouble::{Stage, Trouble};
 use pixel_format::Fault;
+use plan::places_of;
 use roles::Role;
-use serving::{Doorplate, Everyone, Lobby, Log, Seat, TcpDoor, WriterSeat, keep_door};
+use serving::{Everyone, Lobby, Log, Seat, TcpDoor, WriterSeat, keep_door};
 use std::alloc::Global;
 use std::io;
 use std::net::{Net, SocketAddr, TcpStream};
@@ -28,6 +32,7 @@ const KNOCK_MILLIS: u64 = 200;
 pub(crate) struct Rooms<R: Wait + Clock + Drop, G: Log + Drop> {
     pub(crate) doors: Vec<(Role, TcpDoor<R, G>)>,
     pub(crate) seats: Vec<Arc<Seat, Global>>,
+    pub(crate) ghost told: { HaveTheirRoles doors.items },
 }
 
 impl<R: Wait + Clock + Drop + Copy + Net, G: Log + Drop + Copy> Rooms<R, G> {
@@ -42,34 +47,42 @@ impl<R: Wait + Clock + Drop + Copy + Net, G: Log + Drop + Copy> Rooms<R, G> {
     }
 
     /// One place more, at which its thread waits on this seat.
-    fn add(&mut self, rt: R, alloc: Global, entry: &Entry, seat: Seat, log: G) -> Result<(), Fault>
+    fn add(
+        &mut self,
+        rt: R,
+        alloc: Global,
+        entry: &Entry<'_>,
+        seat: Seat,
+        log: G,
+    ) -> Result<(), Fault>
         requires { length self.old.doors.items < 64 }
-        ensures { OnOk result (length self.new.doors.items ≡ length self.old.doors.items + 1) }
+        ensures count { OnOk result (length self.new.doors.items ≡ length self.old.doors.items + 1) }
+        ensures roles { OnOk result (roles_in self.new.doors.items ≡ roles_in self.old.doors.items ++ (arc_value entry.now.lobby).role ∷ []) }
     {
-        let plate = Doorplate {
-            place: self.doors.len() as u64 + 1,
-            role: entry.role,
-        };
+        let place = self.doors.len() as u64 + 1;
         let seat = Arc::new(alloc, seat)?;
         self.seats.push(Arc::try_clone(&seat)?)?;
         let lobby = Arc::try_clone(&entry.lobby)?;
-        let door = TcpDoor::new(rt, alloc, lobby, seat, plate, log);
-        self.doors.push((entry.role, door))?;
+        let role = lobby.role();
+        let door = TcpDoor::new(rt, alloc, lobby, seat, place, log);
+        self.doors.push((role, door))?;
         Ok(())
     }
 
-    /// The places of one role more.
+    /// The places of one role more, as many as the entry's plan says.
     pub(crate) fn add_all(
         &mut self,
         rt: R,
         alloc: Global,
-        entry: &Entry,
+        entry: &Entry<'_>,
         log: G,
     ) -> Result<(), Trouble>
-        requires { length self.old.doors.items + entry.now.places < 65 }
-        ensures { OnOk result (length self.new.doors.items ≡ length self.old.doors.items + entry.now.places) }
+        requires { length self.old.doors.items + places_for (arc_value entry.now.lobby).role entry.now.plan < 65 }
+        ensures count { OnOk result (length self.new.doors.items ≡ length self.old.doors.items + places_for (arc_value entry.now.lobby).role entry.now.plan) }
+        ensures roles { OnOk result (roles_in self.new.doors.items ≡ roles_in self.old.doors.items ++ replicate (places_for (arc_value entry.now.lobby).role entry.now.plan) (arc_value entry.now.lobby).role) }
     {
-        for _place in 0..entry.places {
+        let places = places_of(&entry.plan, entry.lobby.role());
+        for _place in 0..places {
             let seat = match Seat::new(&rt, alloc) {
                 Ok(seat) => seat,
                 Err(error) => return Err(Trouble::of(Stage::Start, error)),
@@ -106,26 +119,25 @@ pub(crate) struct Hall {
 pub(crate) fn start_porter<R, G>(
     rt: R,
     alloc: Global,
-    entry: Entry,
+    entry: Entry<'_>,
     log: G,
 ) -> Result<Hall, Trouble>
 where
     R: Threads + Wait + Clock + Copy + Drop + Send + 'static,
     G: Log + Drop + Send + 'static,
 {
-    let address = entry.listener.local_addr();
     let Entry {
-        role,
-        listener,
+        plan: _,
+        bound,
         lobby,
-        ..
     } = entry;
+    let address = bound.listener().local_addr();
     let Ok(theirs) = Arc::try_clone(&lobby) else {
         return Err(Trouble::new(Stage::Start, Fault::Memory));
     };
     let started = Builder::new().stack_size(STACK).spawn(
         &rt,
-        move || keep_door(&rt, &listener, &theirs, role, &log),
+        move || keep_door(&rt, bound.listener(), &theirs, &log),
     );
     match started {
         Ok(_porter) => Ok(Hall { lobby, address }),

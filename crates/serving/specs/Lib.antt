@@ -1,4 +1,5 @@
 pub mod Answers
+pub mod Doors
 pub mod Keeping
 pub mod Hello
 pub mod Wires

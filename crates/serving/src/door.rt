@@ -1,8 +1,9 @@
 //! Where viewers come from.
 
-ghost use Rattle.std.specs.Prelude.{◌≡◌, Bool, Result, IfSome, is_some};
+ghost use Rattle.std.specs.Prelude.{◌≡◌, Bool, Result, IfSome, is_some, ⊤};
 ghost use Rattle.pixel_format.specs.declared.fault.Fault.{Fault};
 ghost use Rattle.link.specs.Links.{LinkState};
+ghost use Rattle.roles.specs.declared.role.Role.{Role};
 ghost use Rattle.serving.specs.Answers.{unused};
 
 use link::Link;
@@ -12,6 +13,9 @@ use pixel_format::Fault;
 pub trait Door: Drop {
     /// Their links, which may go to another thread.
     type Viewer: Link + Send;
+
+    /// That its viewers may be served in this role. A door that doesn't say is for either.
+    ghost is_for: { Self → Role → Type 0 } = { λ _ _. ⊤ };
 
     /// What asking for the next viewer may make of the one door is the other, where one came, or none. What this means
     /// is up to each door.

@@ -1,6 +1,7 @@
 //! Who comes in.
 
-ghost use Rattle.std.specs.Prelude.{◌≡◌};
+ghost use Rattle.std.specs.Prelude.{◌≡◌, IfOk};
+ghost use Rattle.serving.specs.Doors.{role_behind};
 
 use crate::door::Door;
 use crate::event::{Doorplate, Event, Log, Visit};
@@ -45,15 +46,20 @@ enum Entrance {
 /// What the places of one role share: who came in, and how many places are free.
 #[derive(Drop)]
 pub struct Lobby {
+    role: Role,
     waiting: Mutex<Waiting>,
     came: Condvar,
     freed: Condvar,
 }
 
 impl Lobby {
-    /// A lobby whose places are all free. It fails where memory is refused for the streams on their way.
-    pub fn new(alloc: Global, places: u64) -> Result<Lobby, AllocError> {
+    /// A lobby for the viewers of a role, whose places are all free. It fails where memory is refused for the streams on
+    /// their way.
+    pub fn new(alloc: Global, role: Role, places: u64) -> Result<Lobby, AllocError>
+        ensures { IfOk result (λ lobby. lobby.role ≡ role) }
+    {
         Ok(Lobby {
+            role,
             waiting: Mutex::new(Waiting {
                 streams: Vec::with_capacity(alloc, places as usize)?,
                 free: places,
@@ -63,6 +69,13 @@ impl Lobby {
             came: Condvar::new(),
             freed: Condvar::new(),
         })
+    }
+
+    /// The role of its viewers.
+    pub fn role(&self) -> Role
+        ensures { result ≡ self.now.role }
+    {
+        self.role
     }
 
     /// No more viewers come: each door that waits here, or will, has no next one. Those on their way to a place are let
@@ -137,15 +150,16 @@ impl Lobby {
     }
 }
 
-/// The door of one place: its viewers come from a lobby, it waits for them at a seat, and a log is told who comes and
-/// who leaves.
+/// The door of one place: its viewers come from a lobby and have its role, it waits for them at a seat, and a log is
+/// told who comes and who leaves.
 #[derive(Drop)]
 pub struct TcpDoor<R: Wait + Clock + Drop, G: Log + Drop> {
     rt: R,
     alloc: Global,
     lobby: Arc<Lobby, Global>,
     seat: Arc<Seat, Global>,
-    plate: Doorplate,
+    // The number of the place.
+    place: u64,
     log: G,
     // A viewer was let in of whom the lobby hasn't been told that he is gone.
     has_served: bool,
@@ -154,32 +168,47 @@ pub struct TcpDoor<R: Wait + Clock + Drop, G: Log + Drop> {
 }
 
 impl<R: Wait + Clock + Drop, G: Log + Drop> TcpDoor<R, G> {
-    /// A door that has let nobody in.
+    /// The door of the place of this number, which has let nobody in.
     pub fn new(
         rt: R,
         alloc: Global,
         lobby: Arc<Lobby, Global>,
         seat: Arc<Seat, Global>,
-        plate: Doorplate,
+        place: u64,
         log: G,
-    ) -> TcpDoor<R, G> {
+    ) -> TcpDoor<R, G>
+        ensures { (result.lobby ≡ lobby) × (result.place ≡ place) }
+    {
         TcpDoor {
             rt,
             alloc,
             lobby,
             seat,
-            plate,
+            place,
             log,
             has_served: false,
             address: None,
         }
     }
+
+    /// What a log is told of the place: its number, and the role of the lobby.
+    fn plate(&self) -> Doorplate
+        ensures { (result.place ≡ self.now.place) × (result.role ≡ role_behind self.now) }
+    {
+        Doorplate {
+            place: self.place,
+            role: self.lobby.role(),
+        }
+    }
 }
 
 impl<R: Wait + Clock + Drop + Copy + Send, G: Log + Drop + Send> Door for TcpDoor<R, G> {
-    ghost use Rattle.std.specs.Prelude.{⊤};
+    ghost use Rattle.std.specs.Prelude.{◌≡◌, ⊤};
+    ghost use Rattle.serving.specs.Doors.{role_behind};
 
     type Viewer = TcpLink<R>;
+
+    ghost is_for = { λ door role. role ≡ role_behind door };
 
     // No clause says who comes, or what becomes of who has left.
     ghost lets_in = { λ _ _ _. ⊤ };
@@ -188,6 +217,7 @@ impl<R: Wait + Clock + Drop + Copy + Send, G: Log + Drop + Send> Door for TcpDoo
 
     /// A viewer whose link can't be made is let go, and the next one waited for.
     fn next(&mut self) -> Option<TcpLink<R>> {
+        let plate = self.plate();
         for _ in self.rt.forever() {
             if self.has_served {
                 self.lobby.free(&self.rt);
@@ -198,7 +228,7 @@ impl<R: Wait + Clock + Drop + Copy + Send, G: Log + Drop + Send> Door for TcpDoo
             self.address = stream.peer_addr().ok();
             if let Ok(link) = TcpLink::new(self.rt, self.alloc, stream, &self.seat) {
                 self.log.tell(&Event::ViewerIn {
-                    plate: self.plate,
+                    plate,
                     address: self.address,
                 });
                 return Some(link);
@@ -217,8 +247,9 @@ impl<R: Wait + Clock + Drop + Copy + Send, G: Log + Drop + Send> Door for TcpDoo
             bytes: viewer.sent(),
         };
         drop(viewer);
+        let plate = self.plate();
         self.log.tell(&Event::ViewerOut {
-            plate: self.plate,
+            plate,
             address: self.address,
             visit,
         });
@@ -241,15 +272,9 @@ fn patience_after<R: Clock>(rt: &R, in_vain: Option<Instant>) -> Duration {
     }
 }
 
-/// Lets viewers of a role in while places are free, and tells the others, and the log, why not. The last of these stays
-/// open until the next comes, so that its text isn't lost. It ends with the first who comes once the lobby is closed.
-pub fn keep_door<R: Wait + Clock, G: Log>(
-    rt: &R,
-    listener: &TcpListener,
-    lobby: &Lobby,
-    role: Role,
-    log: &G,
-) {
+/// Lets viewers in while places are free, and tells the others, and the log, why not. The last of these stays open until
+/// the next comes, so that its text isn't lost. It ends with the first who comes once the lobby is closed.
+pub fn keep_door<R: Wait + Clock, G: Log>(rt: &R, listener: &TcpListener, lobby: &Lobby, log: &G) {
     let mut last: Option<TcpStream> = None;
     let mut in_vain: Option<Instant> = None;
     for stream in listener.incoming() {
@@ -270,7 +295,7 @@ pub fn keep_door<R: Wait + Clock, G: Log>(
                 // A peer that is gone already needs no reason.
                 let _ = (&refused).write(&refusal_bytes());
                 log.tell(&Event::NoPlace {
-                    role,
+                    role: lobby.role(),
                     address: refused.peer_addr().ok(),
                 });
                 last = Some(refused);

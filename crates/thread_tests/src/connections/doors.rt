@@ -3,7 +3,7 @@
 use crate::connections::sockets::{connect, listen, make_seat};
 use link::{Gave, Link, Took};
 use roles::Role;
-use serving::{Door, Doorplate, Lobby, NoLog, TcpDoor, keep_door};
+use serving::{Door, Lobby, NoLog, TcpDoor, keep_door};
 use std::io::Read;
 use std::net::{TcpListener, TcpStream};
 use std::sync::{Arc, Wait};
@@ -95,7 +95,7 @@ fn serves<R: Threads + Wait + Clock + Send + Sync, D: Door + Send>(
         || thread::join(
             rt,
             || greets(door),
-            || keep_door(rt, listener, lobby, Role::Full, &NoLog),
+            || keep_door(rt, listener, lobby, &NoLog),
         ),
         || visits_and_closes(rt, net, listener, lobby),
     );
@@ -111,13 +111,9 @@ fn opens<R: Threads + Wait + Clock + Copy + Drop + Send + Sync>(
     let listener = listen(net)?;
     listener.set_nonblocking(true)?;
     let seat = make_seat(net)?;
-    let lobby = Arc::new(net.alloc(), Lobby::new(net.alloc(), 1)?)?;
+    let lobby = Arc::new(net.alloc(), Lobby::new(net.alloc(), Role::Full, 1)?)?;
     let shared = Arc::try_clone(&lobby)?;
-    let plate = Doorplate {
-        place: 1,
-        role: Role::Full,
-    };
-    let mut door = TcpDoor::new(rt, net.alloc(), shared, seat, plate, NoLog);
+    let mut door = TcpDoor::new(rt, net.alloc(), shared, seat, 1, NoLog);
     Ok(serves(&rt, net, &listener, &lobby, &mut door))
 }
 
