@@ -1,0 +1,10 @@
+pub mod SomeOf
+pub mod RunsOver
+pub mod JoinedDrawn
+pub mod MostFrequent
+pub mod DrawnSpelled
+pub mod Counts
+pub mod Spelled
+pub mod Shorter
+pub mod RowHas
+pub mod WrittenParts

@@ -1,0 +1,115 @@
+-- The joined form of a rectangle in RRE and in Hextile (own): what decodes it is as ever (RFC 6143, 7.7.3, 7.7.4).
+use Rattle.std.specs.Prelude.{◌≡◌, ℕ, zero, suc, ◌+◌, ◌-◌, ◌==◌, Bool, true, false, ◌&&◌, ◌||◌, not, nat_le, nat_lt, if◌then◌else◌, List, [], ◌∷◌, ◌++◌, length, map, filter, take, take_while, slice_index, Option, Some, None}
+use Rattle.std.specs.List.{flat_map, list_all, range_with_len}
+use Rattle.std.specs.Int.{w32, to_be_bytes}
+use Rattle.pixel_format.specs.PixelFormat.{PixelFormat, pixel_bytes}
+use Rattle.raster.specs.declared.encoding.Encoding.{Encoding}
+use Rattle.raster.specs.declared.encoding.Encoding.TheVariants.{Raw, Rre, Hextile}
+use Rattle.raster.specs.Screen.{Canvas, values_of, value_at, part_of, tile_count, tile_rect}
+use Rattle.raster.specs.Encoding.{Subrect, Carried, nothing_carried, run_from, runs_of_row, raw_bytes, rre_subrect_bytes, drawn_bytes, drawn_leaves, form}
+use Rattle.joined_runs.specs.declared.runs.Runs.{Runs}
+use Rattle.joined_runs.specs.declared.runs.Runs.TheVariants.{OfRows, Joined}
+
+-- ---- the background
+
+-- How often a value stands in a list.
+abbrev pub count_of : List ℕ → ℕ → ℕ
+count_of values value = length (filter (λ v. v == value) values)
+
+-- No value stands there more often.
+abbrev pub is_most_frequent : List ℕ → ℕ → Bool
+is_most_frequent values value = list_all (λ v. nat_le (count_of values v) (count_of values value)) values
+
+-- The most frequent value; of several the one that comes first.
+abbrev pub most_frequent : List ℕ → ℕ
+most_frequent values = slice_index (filter (is_most_frequent values) values) 0
+
+-- ---- the runs
+
+-- The runs of all rows over any background, from the top and in a row from the left.
+abbrev pub runs_over : Canvas → ℕ → ℕ → ℕ → List Subrect
+runs_over canvas background w h = flat_map (runs_of_row canvas background w) (range_with_len 0 h)
+
+-- Row y has a run of the same left and right end and the same value.
+abbrev pub stands_in : Canvas → ℕ → Subrect → ℕ → Bool
+stands_in canvas w run y =
+    (canvas run.area.x y == run.value)
+    && (((run.area.x == 0) || not (canvas (run.area.x - 1) y == run.value))
+    && ((run_from canvas w y run.area.x).area.w == run.area.w))
+
+-- The row above has it, so that it is joined to that one.
+abbrev pub is_below : Canvas → ℕ → Subrect → Bool
+is_below canvas w run = not (run.area.y == 0) && stands_in canvas w run (run.area.y - 1)
+
+-- A run, joined with those directly below it.
+abbrev pub with_below : Canvas → ℕ → ℕ → Subrect → Subrect
+with_below canvas w h run =
+    let below = length (take_while (stands_in canvas w run) (range_with_len (run.area.y + 1) (h - (run.area.y + 1)))) in
+    record { value = run.value; area = record { x = run.area.x; y = run.area.y; w = run.area.w; h = 1 + below } }
+
+-- The subrectangles that are written for runs of rows: these themselves; or those that aren't joined to one above them,
+-- each joined with those below it.
+abbrev pub written : Runs → Canvas → ℕ → ℕ → List Subrect → List Subrect
+written OfRows canvas w h runs = runs
+written Joined canvas w h runs = map (with_below canvas w h) (filter (λ run. not (is_below canvas w run)) runs)
+
+-- The joined runs of a rectangle over a background.
+abbrev pub joined_runs : Canvas → ℕ → ℕ → ℕ → List Subrect
+joined_runs canvas background w h = written Joined canvas w h (runs_over canvas background w h)
+
+-- ---- RRE (RFC 6143, 7.7.3)
+
+-- How many joined runs there are, the background, which is the first pixel's value, and the joined runs.
+abbrev pub joined_rre_bytes : PixelFormat → ℕ → ℕ → Canvas → List ℕ
+joined_rre_bytes format w h canvas =
+    let subrects = joined_runs canvas (canvas 0 0) w h in
+    to_be_bytes w32 (length subrects) ++ pixel_bytes format (canvas 0 0) ++ flat_map (rre_subrect_bytes format) subrects
+
+-- ---- Hextile (RFC 6143, 7.7.4)
+
+-- A tile: the joined runs over its most frequent value. Its mask, what is left off, and when it is Raw, are as ever.
+abbrev pub joined_tile_bytes : PixelFormat → Carried → ℕ → ℕ → Canvas → List ℕ × Carried
+joined_tile_bytes format before w h canvas =
+    let background = most_frequent (values_of w h canvas) in
+    let subrects = joined_runs canvas background w h in
+    let drawn = drawn_bytes format before background subrects in
+    let as_raw = 1 ∷ raw_bytes format (values_of w h canvas) in
+    if nat_le (length as_raw) (length drawn) then (as_raw, nothing_carried) else (drawn, drawn_leaves background subrects)
+
+-- This many tiles of a rectangle, the first of them number k.
+abbrev pub joined_tiles_from : PixelFormat → ℕ → ℕ → Canvas → Carried → ℕ → ℕ → List ℕ
+joined_tiles_from format w h canvas before k zero = []
+joined_tiles_from format w h canvas before k (suc n) =
+    let here = tile_rect w h k in
+    let first = joined_tile_bytes format before here.w here.h (part_of here canvas) in
+    first.0 ++ joined_tiles_from format w h canvas first.1 (k + 1) n
+
+-- The tiles of a rectangle, each of joined runs.
+abbrev pub joined_hextile_bytes : PixelFormat → ℕ → ℕ → Canvas → List ℕ
+joined_hextile_bytes format w h canvas = joined_tiles_from format w h canvas nothing_carried 0 (tile_count w h)
+
+-- ---- both forms
+
+-- The first of two spellings, unless the other has fewer bytes.
+abbrev pub shorter : List ℕ → List ℕ → List ℕ
+shorter bytes others = if nat_le (length bytes) (length others) then bytes else others
+
+-- The data of a rectangle of these values in an encoding. Joined runs may have more bytes in Hextile alone: where the
+-- most frequent value isn't the first, there can be more runs, and it may have to be said. The rectangle is then
+-- written as the runs of rows.
+abbrev pub form_of : Runs → Encoding → PixelFormat → ℕ → ℕ → List ℕ → List ℕ
+form_of OfRows encoding format w h values = form encoding format w h values
+form_of Joined Raw format w h values = raw_bytes format values
+form_of Joined Rre format w h values = joined_rre_bytes format w h (value_at w values)
+form_of Joined Hextile format w h values = shorter (joined_hextile_bytes format w h (value_at w values)) (form Hextile format w h values)
+
+-- It is used only where it has fewer bytes than Raw.
+abbrev pub saves_bytes_as : Runs → Encoding → PixelFormat → ℕ → ℕ → List ℕ → Bool
+saves_bytes_as runs encoding format w h values = nat_lt (length (form_of runs encoding format w h values)) (length (raw_bytes format values))
+
+-- What an encoder answers: where the form has fewer bytes than Raw they stand at the front of out, and their number is
+-- answered. Else there is no answer.
+abbrev pub IsEncodedAs : Runs → Encoding → PixelFormat → ℕ → ℕ → List ℕ → List ℕ → Option ℕ → Type 0
+IsEncodedAs runs encoding format w h values out (Some n) =
+    (saves_bytes_as runs encoding format w h values ≡ true) × (n ≡ length (form_of runs encoding format w h values)) × (take n out ≡ form_of runs encoding format w h values)
+IsEncodedAs runs encoding format w h values out None = saves_bytes_as runs encoding format w h values ≡ false

@@ -1,0 +1,13 @@
+//! The second form in which rectangles are written: runs that are joined with those below them (RFC 6143, 7.7.3, 7.7.4).
+//!
+//! Both forms are read by what reads the encodings. `specs/Joined` defines the second, `law` says what holds of it, and
+//! `joining` tells which runs are joined, for both codecs. Nothing takes memory.
+#![tactic(auto)]
+
+mod joining;
+mod law;
+mod runs;
+
+pub use joining::{RowRun, height};
+pub use law::{form_is_read, forms_differ, joined_is_shorter};
+pub use runs::Runs;
