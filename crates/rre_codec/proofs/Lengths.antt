@@ -1,7 +1,7 @@
 -- How long a form is, and when it saves bytes. `encode` stops where Raw is as short.
-use Rattle.std.proofs.Common.{◌≡◌, ℕ, true, false, List, [], ◌∷◌, ◌++◌, length, take, drop, ◌+◌, ◌-◌, ◌*◌, ◌/◌, ◌<◌, ◌≤◌, sym, ap, ◌∙◌, append_assoc, length-append, arith}
+use Rattle.std.proofs.Common.{◌≡◌, ℕ, true, false, List, [], ◌∷◌, ◌++◌, length, take, drop, ◌+◌, ◌-◌, ◌*◌, ◌/◌, ◌<◌, ◌≤◌, refl, sym, ap, ◌∙◌, append_assoc, length-append, arith}
 use Rattle.std.specs.List.{flat_map}
-use Rattle.std.specs.Int.{w16, to_be_bytes}
+use Rattle.std.specs.Int.{w16, w32, to_be_bytes}
 use Rattle.std.proofs.lemmas.Bool.{lt-ltb, le-ltb}
 use Rattle.std.proofs.lemmas.List.{length-take, take-append-le, take_at, drop_at, take-append-drop}
 use Rattle.std.proofs.Math.Nat.{mul-div_cancel_left}
@@ -9,7 +9,10 @@ use Rattle.pixel_format.specs.PixelFormat.{PixelFormat, pixel_len, pixel_bytes}
 use Rattle.pixel_format.proofs.Pixels.{pixel_size}
 use Rattle.raster.specs.declared.encoding.Encoding.TheVariants.{Rre}
 use Rattle.raster.specs.Screen.{value_at}
-use Rattle.raster.specs.Encoding.{Subrect, raw_bytes, rre_subrect_bytes, runs, form, saves_bytes}
+use Rattle.raster.specs.Encoding.{Subrect, raw_bytes, rre_subrect_bytes, runs}
+use Rattle.joined_runs.specs.declared.runs.Runs.{Runs}
+use Rattle.joined_runs.specs.declared.runs.Runs.TheVariants.{OfRows, Joined}
+use Rattle.joined_runs.specs.Joined.{written, form_of, saves_bytes_as}
 use Rattle.rre_codec.proofs.RunsPut.{subrect_len}
 
 raw_len : (format : PixelFormat) (values : List ℕ) → length (raw_bytes format values) ≡ length values * pixel_len format
@@ -20,7 +23,7 @@ raw_len format (v ∷ vs) =
     let sizes : (length vs + 1) * p ≡ length vs * p + p = omega arith in
     omega (arith, length-append (pixel_bytes format v) (raw_bytes format vs), pixel_size format v, rest, sizes)
 
-one_len : (format : PixelFormat) (s : Subrect) → length (rre_subrect_bytes format s) ≡ subrect_len format
+pub one_len : (format : PixelFormat) (s : Subrect) → length (rre_subrect_bytes format s) ≡ subrect_len format
 one_len format s =
     let p : List ℕ = pixel_bytes format s.value in
     let x : List ℕ = to_be_bytes w16 s.area.x in
@@ -46,19 +49,28 @@ head_len format out v ss le =
     let p : List ℕ = pixel_bytes format v in
     omega (arith, behind_len format (take 4 out ++ p) ss, length-append (take 4 out) p, length-take 4 out, pixel_size format v)
 
-pub rre_len : (format : PixelFormat) (w h : ℕ) (values : List ℕ) → length (form Rre format w h values) ≡ 4 + pixel_len format + subrect_len format * length (runs (value_at w values) w h)
-rre_len format w h values =
-    let ss : List Subrect = runs (value_at w values) w h in
+-- The subrectangles that are written.
+abbrev pub subrects : Runs → ℕ → ℕ → List ℕ → List Subrect
+subrects form w h values = written form (value_at w values) w h (runs (value_at w values) w h)
+
+pub rre_is : (form : Runs) (format : PixelFormat) (w h : ℕ) (values : List ℕ)
+    → form_of form Rre format w h values ≡ to_be_bytes w32 (length (subrects form w h values)) ++ pixel_bytes format (value_at w values 0 0) ++ flat_map (rre_subrect_bytes format) (subrects form w h values)
+rre_is OfRows format w h values = refl
+rre_is Joined format w h values = refl
+
+pub rre_len : (form : Runs) (format : PixelFormat) (w h : ℕ) (values : List ℕ) → length (form_of form Rre format w h values) ≡ 4 + pixel_len format + subrect_len format * length (subrects form w h values)
+rre_len form format w h values =
+    let ss : List Subrect = subrects form w h values in
     let p : List ℕ = pixel_bytes format (value_at w values 0 0) in
-    let rest : length (flat_map (rre_subrect_bytes format) ss) ≡ subrect_len format * length ss = all_len format ss in
-    omega (arith, length-append p (flat_map (rre_subrect_bytes format) ss), pixel_size format (value_at w values 0 0), rest)
+    let n : List ℕ = to_be_bytes w32 (length ss) in
+    omega (arith, ap length (rre_is form format w h values), length-append n p, length-append (n ++ p) (flat_map (rre_subrect_bytes format) ss), all_len format ss, pixel_size format (value_at w values 0 0))
 
 -- It is shorter than Raw, or it isn't.
-pub rre_saves : (format : PixelFormat) (w h end : ℕ) (values : List ℕ) → end ≡ 4 + pixel_len format + subrect_len format * length (runs (value_at w values) w h) → end < length values * pixel_len format → saves_bytes Rre format w h values ≡ true
-rre_saves format w h end values e lt = lt-ltb (length (form Rre format w h values)) (length (raw_bytes format values)) (omega (arith, rre_len format w h values, raw_len format values))
+pub rre_saves : (form : Runs) (format : PixelFormat) (w h end : ℕ) (values : List ℕ) → end ≡ 4 + pixel_len format + subrect_len format * length (subrects form w h values) → end < length values * pixel_len format → saves_bytes_as form Rre format w h values ≡ true
+rre_saves form format w h end values e lt = lt-ltb (length (form_of form Rre format w h values)) (length (raw_bytes format values)) (omega (arith, rre_len form format w h values, raw_len format values))
 
-pub rre_saves_nothing : (format : PixelFormat) (w h : ℕ) (values : List ℕ) → length values * pixel_len format ≤ 4 + pixel_len format + subrect_len format * length (runs (value_at w values) w h) → saves_bytes Rre format w h values ≡ false
-rre_saves_nothing format w h values le = le-ltb (length (form Rre format w h values)) (length (raw_bytes format values)) (omega (arith, rre_len format w h values, raw_len format values))
+pub rre_saves_nothing : (form : Runs) (format : PixelFormat) (w h : ℕ) (values : List ℕ) → length values * pixel_len format ≤ 4 + pixel_len format + subrect_len format * length (subrects form w h values) → saves_bytes_as form Rre format w h values ≡ false
+rre_saves_nothing form format w h values le = le-ltb (length (form_of form Rre format w h values)) (length (raw_bytes format values)) (omega (arith, rre_len form format w h values, raw_len format values))
 
 -- The number of subrectangles, from where they end.
 pub count_by_len : (format : PixelFormat) (head n : ℕ) → (head + subrect_len format * n - head) / subrect_len format ≡ n

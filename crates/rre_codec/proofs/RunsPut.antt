@@ -7,6 +7,9 @@ use Rattle.raster.specs.Screen.{Canvas, value_at}
 use Rattle.raster.specs.Encoding.{Subrect, rre_subrect_bytes, run_from, runs, runs_of_row}
 use Rattle.raster.proofs.Runs.{run_some, run_within}
 use Rattle.raster.proofs.RowScan.{IsFresh, runs_behind, found_other, found_background}
+use Rattle.joined_runs.specs.declared.runs.Runs.{Runs}
+use Rattle.joined_runs.specs.Joined.{written}
+use Rattle.joined_runs.proofs.WrittenParts.{written_first, written_append}
 
 -- How many bytes a subrectangle has.
 abbrev pub subrect_len : PixelFormat → ℕ
@@ -53,19 +56,25 @@ put_one format all rest before out new used end stop s h e b =
     rw one
     (put_more format all (s ∷ []) rest before out new used end h (rw (← one) (b ∙ ap (λ t. take end out ++ t) (sym (append-nil (rre_subrect_bytes format s))))))
 
--- The run at a fresh position is put, if it is not of the background.
-pub row_puts : (format : PixelFormat) (canvas : Canvas) (background w y x v len : ℕ) (all : List Subrect) (before out new : List ℕ) (used end stop : ℕ) → x < w → IsFresh canvas y x → v ≡ canvas x y → len ≡ (run_from canvas w y x).area.w
-    → HasPut format all (runs_behind canvas background w y x) before out used end → (v ≡ background → ⊥) → stop ≡ end + subrect_len format
-    → take stop new ≡ take end out ++ rre_subrect_bytes format (record { value = v; area = record { x = x; y = y; w = len; h = 1 } }) → HasPut format all (runs_behind canvas background w y (x + len)) before new used stop
-row_puts format canvas background w y x v len all before out new used end stop lx fresh is long h ne e b =
-    let here = rw (found_other canvas background w y x lx fresh (λ same. ne (is ∙ same))) at h in
+-- What is written for the run at a fresh position is put, if it is not of the background.
+pub row_puts : (format : PixelFormat) (runs : Runs) (canvas : Canvas) (background w h y x v len : ℕ) (all : List Subrect) (before out new : List ℕ) (used end stop : ℕ) → x < w → IsFresh canvas y x → v ≡ canvas x y → len ≡ (run_from canvas w y x).area.w
+    → HasPut format all (written runs canvas w h (runs_behind canvas background w y x)) before out used end → (v ≡ background → ⊥)
+    → stop ≡ end + subrect_len format * length (written runs canvas w h (record { value = v; area = record { x = x; y = y; w = len; h = 1 } } ∷ []))
+    → take stop new ≡ take end out ++ flat_map (rre_subrect_bytes format) (written runs canvas w h (record { value = v; area = record { x = x; y = y; w = len; h = 1 } } ∷ []))
+    → HasPut format all (written runs canvas w h (runs_behind canvas background w y (x + len))) before new used stop
+row_puts format runs canvas background w h y x v len all before out new used end stop lx fresh is long put ne e b =
+    let run : Subrect = run_from canvas w y x in
+    let rest : List Subrect = runs_behind canvas background w y (x + run.area.w) in
+    let here = rw (found_other canvas background w y x lx fresh (λ same. ne (is ∙ same))) at put in
+    let split = rw (written_first canvas w h runs run rest) at here in
+    let stop_is = rw (is, long) at e in
     let bytes = rw (is, long) at b in
-    rw long (put_one format all (runs_behind canvas background w y (x + (run_from canvas w y x).area.w)) before out new used end stop (run_from canvas w y x) here e bytes)
+    rw (long, stop_is) (put_more format all (written runs canvas w h (run ∷ [])) (written runs canvas w h rest) before out new used end split (rw stop_is at bytes))
 
-pub row_skips : (format : PixelFormat) (canvas : Canvas) (background w y x v len : ℕ) (all : List Subrect) (before out : List ℕ) (used end : ℕ) → x < w → IsFresh canvas y x → v ≡ canvas x y → len ≡ (run_from canvas w y x).area.w
-    → HasPut format all (runs_behind canvas background w y x) before out used end → v ≡ background → HasPut format all (runs_behind canvas background w y (x + len)) before out used end
-row_skips format canvas background w y x v len all before out used end lx fresh is long h e =
-    rw long (rw (found_background canvas background w y x lx fresh (sym is ∙ e)) at h)
+pub row_skips : (format : PixelFormat) (runs : Runs) (canvas : Canvas) (background w h y x v len : ℕ) (all : List Subrect) (before out : List ℕ) (used end : ℕ) → x < w → IsFresh canvas y x → v ≡ canvas x y → len ≡ (run_from canvas w y x).area.w
+    → HasPut format all (written runs canvas w h (runs_behind canvas background w y x)) before out used end → v ≡ background → HasPut format all (written runs canvas w h (runs_behind canvas background w y (x + len))) before out used end
+row_skips format runs canvas background w h y x v len all before out used end lx fresh is long put e =
+    rw long (rw (found_background canvas background w y x lx fresh (sym is ∙ e)) at put)
 
 -- A run has a pixel, and ends in its row.
 pub run_fits : (canvas : Canvas) (w y x len : ℕ) → x < w → len ≡ (run_from canvas w y x).area.w → (0 < len) × (x + len ≤ w)
@@ -74,13 +83,16 @@ run_fits canvas w y x len lx long =
     let b = run_within canvas w y x lx in
     (omega (arith, a, long), omega (arith, b, long))
 
--- There is no room for the run at a fresh position.
-pub row_too_long : (format : PixelFormat) (canvas : Canvas) (background w y x v : ℕ) (all : List Subrect) (before out : List ℕ) (used end : ℕ) → x < w → IsFresh canvas y x → v ≡ canvas x y
-    → HasPut format all (runs_behind canvas background w y x) before out used end → (v ≡ background → ⊥) → end + subrect_len format ≤ used + subrect_len format * length all
-row_too_long format canvas background w y x v all before out used end lx fresh is h ne =
-    let here = rw (found_other canvas background w y x lx fresh (λ same. ne (is ∙ same))) at h in
-    let p = put_at_least format all (run_from canvas w y x ∷ []) (runs_behind canvas background w y (x + (run_from canvas w y x).area.w)) before out used end here in
-    omega (arith, p)
+-- There is no room for what is written for the run at a fresh position.
+pub row_too_long : (format : PixelFormat) (runs : Runs) (canvas : Canvas) (background w h y x v len : ℕ) (all : List Subrect) (before out : List ℕ) (used end : ℕ) → x < w → IsFresh canvas y x → v ≡ canvas x y → len ≡ (run_from canvas w y x).area.w
+    → HasPut format all (written runs canvas w h (runs_behind canvas background w y x)) before out used end → (v ≡ background → ⊥)
+    → end + subrect_len format * length (written runs canvas w h (record { value = v; area = record { x = x; y = y; w = len; h = 1 } } ∷ [])) ≤ used + subrect_len format * length all
+row_too_long format runs canvas background w h y x v len all before out used end lx fresh is long put ne =
+    let run : Subrect = run_from canvas w y x in
+    let rest : List Subrect = runs_behind canvas background w y (x + run.area.w) in
+    let here = rw (found_other canvas background w y x lx fresh (λ same. ne (is ∙ same))) at put in
+    let split = rw (written_first canvas w h runs run rest) at here in
+    rw (is, long) (put_at_least format all (written runs canvas w h (run ∷ [])) (written runs canvas w h rest) before out used end split)
 
 -- ---- row after row
 
@@ -109,18 +121,20 @@ put_all format all before out used end h =
     (rw same at h.count, rw same at h.bytes)
 
 -- A row is put.
-pub row_is_put : (format : PixelFormat) (canvas : Canvas) (w h y b : ℕ) (before out new : List ℕ) (used end stop : ℕ) → y < h → b ≡ canvas 0 0 → HasPut format (runs canvas w h) (runs_below canvas w h y) before out used end
-    → stop ≡ end + subrect_len format * length (runs_of_row canvas b w y) → take stop new ≡ take end out ++ flat_map (rre_subrect_bytes format) (runs_of_row canvas b w y)
-    → HasPut format (runs canvas w h) (runs_below canvas w h (y + 1)) before new used stop
-row_is_put format canvas w h y b before out new used end stop lt is put e bytes =
+pub row_is_put : (format : PixelFormat) (form : Runs) (canvas : Canvas) (w h y b : ℕ) (before out new : List ℕ) (used end stop : ℕ) → y < h → b ≡ canvas 0 0 → HasPut format (written form canvas w h (runs canvas w h)) (written form canvas w h (runs_below canvas w h y)) before out used end
+    → stop ≡ end + subrect_len format * length (written form canvas w h (runs_of_row canvas b w y)) → take stop new ≡ take end out ++ flat_map (rre_subrect_bytes format) (written form canvas w h (runs_of_row canvas b w y))
+    → HasPut format (written form canvas w h (runs canvas w h)) (written form canvas w h (runs_below canvas w h (y + 1))) before new used stop
+row_is_put format form canvas w h y b before out new used end stop lt is put e bytes =
     let here = rw (below_next canvas w h y lt) at put in
+    let split = rw (written_append canvas w h form (runs_of_row canvas (canvas 0 0) w y) (runs_below canvas w h (y + 1))) at here in
     let end_is = rw is at e in
     let says = rw is at bytes in
-    rw end_is (put_more format (runs canvas w h) (runs_of_row canvas (canvas 0 0) w y) (runs_below canvas w h (y + 1)) before out new used end here (rw (← end_is) says))
+    rw end_is (put_more format (written form canvas w h (runs canvas w h)) (written form canvas w h (runs_of_row canvas (canvas 0 0) w y)) (written form canvas w h (runs_below canvas w h (y + 1))) before out new used end split (rw (← end_is) says))
 
 -- There is no room for it.
-pub row_no_room : (format : PixelFormat) (canvas : Canvas) (w h y b : ℕ) (before out : List ℕ) (used end : ℕ) → y < h → b ≡ canvas 0 0 → HasPut format (runs canvas w h) (runs_below canvas w h y) before out used end
-    → end + subrect_len format * length (runs_of_row canvas b w y) ≤ used + subrect_len format * length (runs canvas w h)
-row_no_room format canvas w h y b before out used end lt is put =
+pub row_no_room : (format : PixelFormat) (form : Runs) (canvas : Canvas) (w h y b : ℕ) (before out : List ℕ) (used end : ℕ) → y < h → b ≡ canvas 0 0 → HasPut format (written form canvas w h (runs canvas w h)) (written form canvas w h (runs_below canvas w h y)) before out used end
+    → end + subrect_len format * length (written form canvas w h (runs_of_row canvas b w y)) ≤ used + subrect_len format * length (written form canvas w h (runs canvas w h))
+row_no_room format form canvas w h y b before out used end lt is put =
     let here = rw (below_next canvas w h y lt) at put in
-    rw is (put_at_least format (runs canvas w h) (runs_of_row canvas (canvas 0 0) w y) (runs_below canvas w h (y + 1)) before out used end here)
+    let split = rw (written_append canvas w h form (runs_of_row canvas (canvas 0 0) w y) (runs_below canvas w h (y + 1))) at here in
+    rw is (put_at_least format (written form canvas w h (runs canvas w h)) (written form canvas w h (runs_of_row canvas (canvas 0 0) w y)) (written form canvas w h (runs_below canvas w h (y + 1))) before out used end split)

@@ -3,21 +3,14 @@
 ghost use Rattle.std.specs.Prelude.{◌≡◌, ◌+◌, ◌<◌, ◌≤◌, ◌^◌, ◌++◌, ◌==◌, length, take, take_while};
 ghost use Rattle.pixel_format.specs.PixelFormat.{pixel_len};
 ghost use Rattle.raster.specs.Encoding.{rre_subrect_bytes};
+ghost use Rattle.joined_runs.specs.Found.{subrect_as_high};
 
+use joined_runs::RowRun;
 use pixel_format::Format;
 use raster::{RECT_LEN, Rect};
 
 /// How many bytes the number of subrectangles has.
 pub const COUNT_LEN: usize = 4;
-
-/// A run: `len` pixels of one value, from column `x` of row `y` on.
-#[derive(Clone, Copy)]
-pub struct Run {
-    pub value: u32,
-    pub x: usize,
-    pub y: usize,
-    pub len: usize,
-}
 
 /// How many values at the front are this one.
 pub fn run_len(values: &[u32], value: u32) -> usize
@@ -26,19 +19,21 @@ pub fn run_len(values: &[u32], value: u32) -> usize
     values.iter().take_while(|v| **v == value).count()
 }
 
-/// Writes a run as a subrectangle of height 1, from index `used` of `out` on: its pixel, and then its place.
-pub fn put_run(format: &Format, run: &Run, out: &mut [u8], used: usize)
+/// Writes a run as a subrectangle that is `high` pixels high, from index `used` of `out` on: its pixel, and then its
+/// place.
+pub fn put_run(format: &Format, run: &RowRun, high: usize, out: &mut [u8], used: usize)
     requires x { run.now.x < 2 ^ 16 }
     requires y { run.now.y < 2 ^ 16 }
     requires len { run.now.len < 2 ^ 16 }
+    requires high { high < 2 ^ 16 }
     requires room { used + pixel_len format.now + RECT_LEN ≤ length out.old }
-    ensures { take (used + pixel_len format.now + RECT_LEN) out.new ≡ take used out.old ++ rre_subrect_bytes format.now (record { value = run.now.value; area = record { x = run.now.x; y = run.now.y; w = run.now.len; h = 1 } }) }
+    ensures { take (used + pixel_len format.now + RECT_LEN) out.new ≡ take used out.old ++ rre_subrect_bytes format.now (subrect_as_high run.now high) }
 {
     let place = Rect {
         x: run.x as u64,
         y: run.y as u64,
         w: run.len as u64,
-        h: 1,
+        h: high as u64,
     };
     format.put_pixel(run.value, &mut out[used..]);
     let at = used + format.bytes();
