@@ -8,10 +8,14 @@ use Rattle.std.proofs.lemmas.List.Elements.{All-nil, All-cons}
 use Rattle.pixel_format.specs.PixelFormat.{PixelFormat, pixel_len, pixel_bytes}
 use Rattle.pixel_format.proofs.Pixels.{pixel_size}
 use Rattle.raster.specs.Screen.{Canvas, values_of}
-use Rattle.raster.specs.Encoding.{Subrect, Carried, nothing_carried, runs, raw_bytes, place_bytes, coloured_bytes, is_said, unless_said, drawn_bytes, drawn_leaves, tile_bytes}
+use Rattle.raster.specs.Encoding.{Subrect, Carried, nothing_carried, raw_bytes, place_bytes, coloured_bytes, is_said, unless_said, drawn_bytes, drawn_leaves}
 use Rattle.raster.proofs.Spellings.{Each}
 use Rattle.raster.proofs.Runs.{each_run, run_some, run_within}
 use Rattle.raster.proofs.Places.{length_values}
+use Rattle.joined_runs.specs.declared.runs.Runs.{Runs}
+use Rattle.joined_runs.specs.declared.runs.Runs.TheVariants.{OfRows, Joined}
+use Rattle.joined_runs.specs.Joined.{background_of, subrects_of, tile_bytes_as}
+use Rattle.joined_runs.proofs.JoinedDrawn.{each_joined, joined_within}
 use Rattle.hextile_codec.specs.declared.runs.Run.{Run}
 use Rattle.hextile_codec.specs.declared.kind.Kind.{Kind}
 use Rattle.hextile_codec.specs.declared.kind.Kind.TheVariants.{Raw, Plain, TwoColours, Coloured}
@@ -136,61 +140,70 @@ kind_leaves background (s ∷ ss) = leaves_by (list_all (λ t. t.value == s.valu
 
 -- ---- the choice
 
-module _ (format : PixelFormat) (before : Carried) (w h : ℕ) (canvas : Canvas) where
+module _ (form : Runs) (format : PixelFormat) (before : Carried) (w h : ℕ) (canvas : Canvas) where
   abbrev as_raw : List ℕ
   as_raw = 1 ∷ raw_bytes format (values_of w h canvas)
 
   abbrev as_drawn : List ℕ
-  as_drawn = drawn_bytes format before (canvas 0 0) (runs canvas w h)
+  as_drawn = drawn_bytes format before (background_of form w h canvas) (subrects_of form w h canvas)
 
   pub as_raw_len : length as_raw ≡ 1 + pixel_len format * (w * h)
   as_raw_len =
       let e : length (raw_bytes format (values_of w h canvas)) ≡ pixel_len format * (w * h) = raw_len format (values_of w h canvas) ∙ ap (λ n. pixel_len format * n) (length_values w h canvas) in
       omega (arith, e)
 
-  is_raw : 1 + pixel_len format * (w * h) ≤ length as_drawn → tile_bytes format before w h canvas ≡ (as_raw, nothing_carried)
+  is_raw : 1 + pixel_len format * (w * h) ≤ length as_drawn → tile_bytes_as form format before w h canvas ≡ (as_raw, nothing_carried)
   is_raw le =
       let test : nat_le (length as_raw) (length as_drawn) ≡ true = le-leb (length as_raw) (length as_drawn) (omega (arith, as_raw_len)) in
-      ap (λ b. cond b (as_raw, nothing_carried) (as_drawn, drawn_leaves (canvas 0 0) (runs canvas w h))) test
+      ap (λ b. cond b (as_raw, nothing_carried) (as_drawn, drawn_leaves (background_of form w h canvas) (subrects_of form w h canvas))) test
 
-  is_drawn : length as_drawn < 1 + pixel_len format * (w * h) → tile_bytes format before w h canvas ≡ (as_drawn, drawn_leaves (canvas 0 0) (runs canvas w h))
+  is_drawn : length as_drawn < 1 + pixel_len format * (w * h) → tile_bytes_as form format before w h canvas ≡ (as_drawn, drawn_leaves (background_of form w h canvas) (subrects_of form w h canvas))
   is_drawn lt =
       let test : nat_le (length as_raw) (length as_drawn) ≡ false = lt-leb (length as_raw) (length as_drawn) (omega (arith, as_raw_len)) in
-      ap (λ b. cond b (as_raw, nothing_carried) (as_drawn, drawn_leaves (canvas 0 0) (runs canvas w h))) test
+      ap (λ b. cond b (as_raw, nothing_carried) (as_drawn, drawn_leaves (background_of form w h canvas) (subrects_of form w h canvas))) test
 
-  pub chosen_raw : (found : List Subrect) (background len : ℕ) → len ≡ 1 + pixel_len format * (w * h) → 1 + pixel_len format * (w * h) ≤ length as_drawn → IsChosen format before w h canvas found (record { kind = Raw; background = background; len = len })
+  pub chosen_raw : (found : List Subrect) (background len : ℕ) → len ≡ 1 + pixel_len format * (w * h) → 1 + pixel_len format * (w * h) ≤ length as_drawn → IsChosen form format before w h canvas found (record { kind = Raw; background = background; len = len })
   chosen_raw found background len size le =
       let is = is_raw le in
       record { len = size ∙ (sym as_raw_len ∙ ap (λ (t : List ℕ × Carried). length t.0) (sym is)); leaves = ap (λ (t : List ℕ × Carried). t.1) (sym is); written = ap (λ (t : List ℕ × Carried). t.0) is }
 
-  drawn_as : (found : List Subrect) (background : ℕ) (kind : Kind) (bytes : List ℕ) → bytes ≡ drawn_bytes format before background found → kind ≡ kind_of found → found ≡ runs canvas w h → IsWrittenAs format before w h canvas found background kind bytes
+  drawn_as : (found : List Subrect) (background : ℕ) (kind : Kind) (bytes : List ℕ) → bytes ≡ drawn_bytes format before background found → kind ≡ kind_of found → found ≡ subrects_of form w h canvas → IsWrittenAs form format before w h canvas found background kind bytes
   drawn_as found background Raw bytes e k r = absurd (never_raw found (sym k))
   drawn_as found background Plain bytes e k r = (e, k, r)
   drawn_as found background (TwoColours v) bytes e k r = (e, k, r)
   drawn_as found background Coloured bytes e k r = (e, k, r)
 
-  pub chosen_drawn : (found : List Subrect) (background len : ℕ) (kind : Kind) → found ≡ runs canvas w h → background ≡ canvas 0 0 → kind ≡ kind_of found → len ≡ drawn_len format before background kind (length found) → len < 1 + pixel_len format * (w * h)
-      → IsChosen format before w h canvas found (record { kind = kind; background = background; len = len })
+  pub chosen_drawn : (found : List Subrect) (background len : ℕ) (kind : Kind) → found ≡ subrects_of form w h canvas → background ≡ background_of form w h canvas → kind ≡ kind_of found → len ≡ drawn_len format before background kind (length found) → len < 1 + pixel_len format * (w * h)
+      → IsChosen form format before w h canvas found (record { kind = kind; background = background; len = len })
   chosen_drawn found background len kind all first is size lt =
-      let same : drawn_bytes format before background found ≡ as_drawn = ap (λ b. drawn_bytes format before b found) first ∙ ap (λ ss. drawn_bytes format before (canvas 0 0) ss) all in
+      let same : drawn_bytes format before background found ≡ as_drawn = ap (λ b. drawn_bytes format before b found) first ∙ ap (λ ss. drawn_bytes format before (background_of form w h canvas) ss) all in
       let has : len ≡ length as_drawn = size ∙ (drawn_has format before background found kind is ∙ ap length same) in
       let drawn = is_drawn (omega (arith, has)) in
       record {
         len = has ∙ ap (λ (t : List ℕ × Carried). length t.0) (sym drawn);
-        leaves = ap (λ k. leaves_of k background) is ∙ (kind_leaves background found ∙ (ap (λ b. drawn_leaves b found) first ∙ (ap (λ ss. drawn_leaves (canvas 0 0) ss) all ∙ ap (λ (t : List ℕ × Carried). t.1) (sym drawn))));
-        written = drawn_as found background kind (tile_bytes format before w h canvas).0 (ap (λ (t : List ℕ × Carried). t.0) drawn ∙ sym same) is all;
+        leaves = ap (λ k. leaves_of k background) is ∙ (kind_leaves background found ∙ (ap (λ b. drawn_leaves b found) first ∙ (ap (λ ss. drawn_leaves (background_of form w h canvas) ss) all ∙ ap (λ (t : List ℕ × Carried). t.1) (sym drawn))));
+        written = drawn_as found background kind (tile_bytes_as form format before w h canvas).0 (ap (λ (t : List ℕ × Carried). t.0) drawn ∙ sym same) is all;
       }
 
--- ---- the runs are small
+-- ---- the subrectangles are small
 
 abbrev is_small : Subrect → Type 0
-is_small s = (s.area.x < 16) × (s.area.y < 16) × (0 < s.area.w) × (s.area.w ≤ 16)
+is_small s = (s.area.x < 16) × (s.area.y < 16) × (0 < s.area.w) × (s.area.w ≤ 16) × ((0 < s.area.h) × (s.area.h ≤ 16))
 
 all_small : (rs : List Run) → Each is_small (map subrect_of rs) → All IsSmall rs
 all_small [] e = All-nil IsSmall
-all_small (r ∷ rs) e = All-cons IsSmall r rs (record { x = e.0.0; y = e.0.1; some = e.0.2; most = e.0.3 }) (all_small rs e.1)
+all_small (r ∷ rs) e = All-cons IsSmall r rs (record { x = e.0.0; y = e.0.1; some = e.0.2; most = e.0.3; high = e.0.4 }) (all_small rs e.1)
 
-pub small_runs : (canvas : Canvas) (w h : ℕ) (rs : List Run) → w ≤ 16 → h ≤ 16 → map subrect_of rs ≡ runs canvas w h → All IsSmall rs
-small_runs canvas w h rs lw lh e =
-    all_small rs
-    (rw e (each_run canvas w h is_small (λ x y lx ly. let a = run_within canvas w y x lx in let b = run_some canvas w y x lx in (omega arith, omega arith, b, omega (arith, a)))))
+each_small : (form : Runs) (canvas : Canvas) (w h : ℕ) → w ≤ 16 → h ≤ 16 → Each is_small (subrects_of form w h canvas)
+each_small OfRows canvas w h lw lh =
+    each_run canvas w h is_small (λ x y lx ly. let a = run_within canvas w y x lx in let b = run_some canvas w y x lx in (omega arith, omega arith, b, omega (arith, a), (omega arith, omega arith)))
+each_small Joined canvas w h lw lh =
+    let background : ℕ = background_of Joined w h canvas in
+    each_joined canvas background w h is_small (λ x y lx ly.
+    let a = run_within canvas w y x lx in
+    let b = run_some canvas w y x lx in
+    let d = joined_within canvas background w h x y ly in
+    (omega arith, omega arith, b, omega (arith, a), (omega arith, omega (arith, d))))
+
+pub small_runs : (form : Runs) (canvas : Canvas) (w h : ℕ) (rs : List Run) → w ≤ 16 → h ≤ 16 → map subrect_of rs ≡ subrects_of form w h canvas → All IsSmall rs
+small_runs form canvas w h rs lw lh e = all_small rs (rw e (each_small form canvas w h lw lh))

@@ -21,3 +21,7 @@ pub mod MaskBits
 pub mod MarkedRuns
 pub mod LowestBit
 pub mod RowMarks
+pub mod MostFound
+pub mod TilePixels
+pub mod JoinedFound
+pub mod Encoded

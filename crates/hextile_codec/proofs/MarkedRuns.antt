@@ -33,45 +33,45 @@ bit_false false e = refl
 -- ---- positions, counted through the four rows
 
 -- Whether a run begins at position p.
-abbrev pub begins_at : Canvas → ℕ → ℕ → Bool
-begins_at canvas y p = begins_run canvas (canvas 0 0) (y + p / 16) (p % 16)
+abbrev pub begins_at : Canvas → ℕ → ℕ → ℕ → Bool
+begins_at canvas background y p = begins_run canvas background (y + p / 16) (p % 16)
 
 -- The run that begins there.
 abbrev pub run_at : Canvas → ℕ → ℕ → Subrect
 run_at canvas y p = run_from canvas 16 (y + p / 16) (p % 16)
 
 -- The runs from position p on.
-abbrev pub runs_behind : Canvas → ℕ → ℕ → List Subrect
-runs_behind canvas y p = map (run_at canvas y) (filter (begins_at canvas y) (range_with_len p (64 - p)))
+abbrev pub runs_behind : Canvas → ℕ → ℕ → ℕ → List Subrect
+runs_behind canvas background y p = map (run_at canvas y) (filter (begins_at canvas background y) (range_with_len p (64 - p)))
 
 split : (p : ℕ) → 16 * (p / 16) + p % 16 ≡ p
 split p = let e = mod-add-div' p 16 in omega (arith, e)
 
-begin_marked : (canvas : Canvas) (y : ℕ) (marks : Marks) → AreMarks canvas y marks → (p : ℕ) → p < 64 → bit_at marks.begins p ≡ bit_of (begins_at canvas y p)
-begin_marked canvas y marks are p lt =
+begin_marked : (canvas : Canvas) (background : ℕ) (y : ℕ) (marks : Marks) → AreMarks canvas background y marks → (p : ℕ) → p < 64 → bit_at marks.begins p ≡ bit_of (begins_at canvas background y p)
+begin_marked canvas background y marks are p lt =
     let whole = split p in
     let low : p % 16 < 16 = mod-lt p (omega arith) in
     ap (bit_at marks.begins) (sym whole) ∙ are.begins (p / 16) (p % 16) (omega (arith, whole, lt)) low
 
 -- ---- where the next run begins
 
-pub record IsNextBegin (canvas : Canvas) (y p first : ℕ) : Type 0 where
+pub record IsNextBegin (canvas : Canvas) (background : ℕ) (y p first : ℕ) : Type 0 where
   pub inside : first < 64
   pub from : p ≤ first
-  pub begins : begins_at canvas y first ≡ true
-  pub none : (k : ℕ) → p ≤ k → k < first → begins_at canvas y k ≡ false
+  pub begins : begins_at canvas background y first ≡ true
+  pub none : (k : ℕ) → p ≤ k → k < first → begins_at canvas background y k ≡ false
 
 -- Of the bits of positions at which runs begin, those from p on.
-pub record AreLeft (canvas : Canvas) (y p begins : ℕ) : Type 0 where
-  pub above : (k : ℕ) → p ≤ k → k < 64 → bit_at begins k ≡ bit_of (begins_at canvas y k)
+pub record AreLeft (canvas : Canvas) (background : ℕ) (y p begins : ℕ) : Type 0 where
+  pub above : (k : ℕ) → p ≤ k → k < 64 → bit_at begins k ≡ bit_of (begins_at canvas background y k)
   pub below : (k : ℕ) → k < p → bit_at begins k ≡ 0
   pub few : begins < 2 ^ 64
 
-pub all_left : (canvas : Canvas) (y : ℕ) (marks : Marks) → AreMarks canvas y marks → AreLeft canvas y 0 marks.begins
-all_left canvas y marks are = record { above = λ k lo hi. begin_marked canvas y marks are k hi; below = λ k lt. absurd (omega (arith, lt)); few = are.few }
+pub all_left : (canvas : Canvas) (background : ℕ) (y : ℕ) (marks : Marks) → AreMarks canvas background y marks → AreLeft canvas background y 0 marks.begins
+all_left canvas background y marks are = record { above = λ k lo hi. begin_marked canvas background y marks are k hi; below = λ k lt. absurd (omega (arith, lt)); few = are.few }
 
-pub next_begin : (canvas : Canvas) (y p begins : ℕ) → AreLeft canvas y p begins → 0 < begins → IsNextBegin canvas y p (trailing_zeros w64 begins)
-next_begin canvas y p begins are some =
+pub next_begin : (canvas : Canvas) (background : ℕ) (y p begins : ℕ) → AreLeft canvas background y p begins → 0 < begins → IsNextBegin canvas background y p (trailing_zeros w64 begins)
+next_begin canvas background y p begins are some =
     let t : ℕ = trailing_zeros w64 begins in
     let b = bit_at-trailing_zeros w64 begins some are.few in
     let from : p ≤ t = elim (cases_lt t p) [
@@ -86,10 +86,10 @@ next_begin canvas y p begins are some =
     }
 
 -- The lowest is cleared.
-pub one_cleared : (canvas : Canvas) (y p begins : ℕ) → AreLeft canvas y p begins → 0 < begins → AreLeft canvas y (trailing_zeros w64 begins + 1) (bit_and begins (begins - 1))
-one_cleared canvas y p begins are some =
+pub one_cleared : (canvas : Canvas) (background : ℕ) (y p begins : ℕ) → AreLeft canvas background y p begins → 0 < begins → AreLeft canvas background y (trailing_zeros w64 begins + 1) (bit_and begins (begins - 1))
+one_cleared canvas background y p begins are some =
     let first : ℕ = trailing_zeros w64 begins in
-    let n = next_begin canvas y p begins are some in
+    let n = next_begin canvas background y p begins are some in
     let b = bit_at-trailing_zeros w64 begins some are.few in
     record {
       above = λ k lo hi. cleared_other begins some are.few k (λ e. absurd (omega (arith, e, lo))) ∙ are.above k (omega (arith, lo, n.from)) hi;
@@ -101,8 +101,8 @@ one_cleared canvas y p begins are some =
     }
 
 -- Then there are fewer.
-pub fewer_left : (canvas : Canvas) (y p begins : ℕ) → AreLeft canvas y p begins → 0 < begins → bit_and begins (begins - 1) < begins
-fewer_left canvas y p begins are some =
+pub fewer_left : (canvas : Canvas) (background : ℕ) (y p begins : ℕ) → AreLeft canvas background y p begins → 0 < begins → bit_and begins (begins - 1) < begins
+fewer_left canvas background y p begins are some =
     let t : ℕ = trailing_zeros w64 begins in
     let left : ℕ = bit_and begins (begins - 1) in
     let b = bit_at-trailing_zeros w64 begins some are.few in
@@ -113,9 +113,9 @@ fewer_left canvas y p begins are some =
       | inr same ↦ let e : left ≡ begins = omega (arith, le, same) in let both : bit_at left t ≡ bit_at begins t = ap (λ n. bit_at n t) e in absurd (omega (arith, both, gone, b.1))
     ]
 
-pub next_run : (canvas : Canvas) (y p first : ℕ) → IsNextBegin canvas y p first → runs_behind canvas y p ≡ run_at canvas y first ∷ runs_behind canvas y (first + 1)
-next_run canvas y p first n =
-    let q : ℕ → Bool = begins_at canvas y in
+pub next_run : (canvas : Canvas) (background : ℕ) (y p first : ℕ) → IsNextBegin canvas background y p first → runs_behind canvas background y p ≡ run_at canvas y first ∷ runs_behind canvas background y (first + 1)
+next_run canvas background y p first n =
+    let q : ℕ → Bool = begins_at canvas background y in
     let f : ℕ → Subrect = run_at canvas y in
     let m : ℕ = 64 - (first + 1) in
     let count : 64 - p ≡ (first - p) + suc m = omega (arith, n.inside, n.from) in
@@ -125,21 +125,21 @@ next_run canvas y p first n =
     ∙ (ap (λ k. map f (filter q (range_with_len k (suc m)))) place ∙ ap (λ b. map f (cond b (first ∷ filter q (range_with_len (first + 1) m)) (filter q (range_with_len (first + 1) m)))) n.begins))
 
 -- There is none.
-pub no_run : (canvas : Canvas) (y p begins : ℕ) → AreLeft canvas y p begins → begins ≡ 0 → runs_behind canvas y p ≡ []
-no_run canvas y p begins are none =
-    ap (map (run_at canvas y)) (none_pass (begins_at canvas y) p (64 - p) (λ k lo hi. bit_false _ (sym (are.above k lo (omega (arith, hi, lo))) ∙ (ap (λ m. bit_at m k) none ∙ bit_at-zero k))))
+pub no_run : (canvas : Canvas) (background : ℕ) (y p begins : ℕ) → AreLeft canvas background y p begins → begins ≡ 0 → runs_behind canvas background y p ≡ []
+no_run canvas background y p begins are none =
+    ap (map (run_at canvas y)) (none_pass (begins_at canvas background y) p (64 - p) (λ k lo hi. bit_false _ (sym (are.above k lo (omega (arith, hi, lo))) ∙ (ap (λ m. bit_at m k) none ∙ bit_at-zero k))))
 
 -- With the runs from position p on those so far are all of the four rows.
-abbrev pub AreSoFar : List Run → List Run → Canvas → ℕ → ℕ → Type 0
-AreSoFar before now canvas y p = map subrect_of now ++ runs_behind canvas y p ≡ map subrect_of before ++ runs_behind canvas y 0
+abbrev pub AreSoFar : List Run → List Run → Canvas → ℕ → ℕ → ℕ → Type 0
+AreSoFar before now canvas background y p = map subrect_of now ++ runs_behind canvas background y p ≡ map subrect_of before ++ runs_behind canvas background y 0
 
 -- The runs in front of position p are found, and the bits from p on are left.
-pub record AreMarked (before now : List Run) (canvas : Canvas) (y begins : ℕ) : Type 0 where
+pub record AreMarked (before now : List Run) (canvas : Canvas) (background : ℕ) (y begins : ℕ) : Type 0 where
   pub p : ℕ
   pub inside : p ≤ 64
   pub few : length now ≤ length before + p
-  pub left : AreLeft canvas y p begins
-  pub so_far : AreSoFar before now canvas y p
+  pub left : AreLeft canvas background y p begins
+  pub so_far : AreSoFar before now canvas background y p
 
 -- ---- where it ends
 
@@ -147,10 +147,10 @@ not_false : (b : Bool) → not b ≡ false → b ≡ true
 not_false true e = refl
 not_false false e = absurd cc
 
-same_along : (canvas : Canvas) (y : ℕ) (marks : Marks) (p t : ℕ) → AreMarks canvas y marks → p < 64 → ((i : ℕ) → i < t → bit_at marks.ends (p + i) ≡ 0) → (k : ℕ) → k ≤ t → p % 16 + k < 16
+same_along : (canvas : Canvas) (background : ℕ) (y : ℕ) (marks : Marks) (p t : ℕ) → AreMarks canvas background y marks → p < 64 → ((i : ℕ) → i < t → bit_at marks.ends (p + i) ≡ 0) → (k : ℕ) → k ≤ t → p % 16 + k < 16
     → canvas (p % 16 + k) (y + p / 16) ≡ canvas (p % 16) (y + p / 16)
-same_along canvas y marks p t are lp none zero le lt = let z : p % 16 + zero ≡ p % 16 = omega arith in ap (λ i. canvas i (y + p / 16)) z
-same_along canvas y marks p t are lp none (suc k) le lt =
+same_along canvas background y marks p t are lp none zero le lt = let z : p % 16 + zero ≡ p % 16 = omega arith in ap (λ i. canvas i (y + p / 16)) z
+same_along canvas background y marks p t are lp none (suc k) le lt =
     let x : ℕ = p % 16 in
     let r : ℕ = p / 16 in
     let whole = split p in
@@ -158,12 +158,12 @@ same_along canvas y marks p t are lp none (suc k) le lt =
     let next : x + k + 1 ≡ x + suc k = omega arith in
     let bit : bit_of (not (canvas (x + k) (y + r) == canvas (x + k + 1) (y + r))) ≡ 0 = sym (are.ends r (x + k) (omega (arith, whole, lp)) (omega (arith, lt))) ∙ (ap (bit_at marks.ends) place ∙ none k (omega (arith, le))) in
     let same : canvas (x + k) (y + r) ≡ canvas (x + k + 1) (y + r) = eqb-true (canvas (x + k) (y + r)) (canvas (x + k + 1) (y + r)) (not_false (canvas (x + k) (y + r) == canvas (x + k + 1) (y + r)) (bit_false _ bit)) in
-    ap (λ i. canvas i (y + r)) (sym next) ∙ (sym same ∙ same_along canvas y marks p t are lp none k (omega (arith, le)) (omega (arith, lt)))
+    ap (λ i. canvas i (y + r)) (sym next) ∙ (sym same ∙ same_along canvas background y marks p t are lp none k (omega (arith, le)) (omega (arith, lt)))
 
 -- It has as many positions as the next bit of its row tells.
-pub run_ends : (canvas : Canvas) (y : ℕ) (marks : Marks) (p : ℕ) → AreMarks canvas y marks → p < 64
+pub run_ends : (canvas : Canvas) (background : ℕ) (y : ℕ) (marks : Marks) (p : ℕ) → AreMarks canvas background y marks → p < 64
     → (trailing_zeros w64 (marks.ends / 2 ^ p) + 1 ≡ (run_at canvas y p).area.w) × (p % 16 + (trailing_zeros w64 (marks.ends / 2 ^ p) + 1) ≤ 16)
-run_ends canvas y marks p are lp =
+run_ends canvas background y marks p are lp =
     let x : ℕ = p % 16 in
     let r : ℕ = p / 16 in
     let row : ℕ = y + r in
@@ -194,7 +194,7 @@ run_ends canvas y marks p are lp =
     let not_less : (len < t + 1) → ⊥ =
     λ less.
     let stops : q (x + len) ≡ false = front_stops q x (16 - x) (omega (arith, less, upto)) in
-    let same : canvas (x + len) row ≡ canvas x row = same_along canvas y marks p t are lp none len (omega (arith, less)) (omega (arith, less, upto)) in
+    let same : canvas (x + len) row ≡ canvas x row = same_along canvas background y marks p t are lp none len (omega (arith, less)) (omega (arith, less, upto)) in
     let passes : q (x + len) ≡ true = eq-eqb (canvas (x + len) row) (canvas x row) same in
     let both : true ≡ false = sym passes ∙ stops in
     cc in
@@ -206,7 +206,7 @@ run_ends canvas y marks p are lp =
     let next : x + t + 1 ≡ x + (t + 1) = omega arith in
     let ended : bit_at marks.ends (16 * r + (x + t)) ≡ 1 = ap (bit_at marks.ends) place ∙ (sym (bit_shift marks.ends p t) ∙ b.1) in
     let differs : not (canvas (x + t) row == canvas (x + t + 1) row) ≡ true = bit_true _ (sym (are.ends r (x + t) four inside) ∙ ended) in
-    let here : canvas (x + t) row ≡ canvas x row = same_along canvas y marks p t are lp none t (omega arith) (omega (arith, inside)) in
+    let here : canvas (x + t) row ≡ canvas x row = same_along canvas background y marks p t are lp none t (omega arith) (omega (arith, inside)) in
     let behind : canvas (x + t + 1) row ≡ canvas x row = ap (λ i. canvas i row) next ∙ eqb-true (canvas (x + (t + 1)) row) (canvas x row) passes in
     let same : (canvas (x + t) row == canvas (x + t + 1) row) ≡ true = eq-eqb (canvas (x + t) row) (canvas (x + t + 1) row) (here ∙ sym behind) in
     let both : false ≡ true = sym (ap (λ (c : Bool). not c) same) ∙ differs in
@@ -221,18 +221,18 @@ run_ends canvas y marks p are lp =
       upto,
     )
 
-subrect_same : (canvas : Canvas) (w y x v len : ℕ) → v ≡ canvas x y → len ≡ (run_from canvas w y x).area.w → subrect_of (record { value = v; x = x; y = y; len = len }) ≡ run_from canvas w y x
+subrect_same : (canvas : Canvas) (w y x v len : ℕ) → v ≡ canvas x y → len ≡ (run_from canvas w y x).area.w → subrect_of (record { value = v; x = x; y = y; len = len; high = 1 }) ≡ run_from canvas w y x
 subrect_same canvas w y x v len a b = rw (a, b) refl
 
 -- It is added.
-pub run_marked : (before now : List Run) (canvas : Canvas) (y p first value len : ℕ) → IsNextBegin canvas y p first → value ≡ canvas (first % 16) (y + first / 16) → len ≡ (run_at canvas y first).area.w
-    → AreSoFar before now canvas y p → AreSoFar before (now ++ record { value = value; x = first % 16; y = y + first / 16; len = len } ∷ []) canvas y (first + 1)
-run_marked before now canvas y p first value len n is long so =
-    let run : Run = record { value = value; x = first % 16; y = y + first / 16; len = len } in
+pub run_marked : (before now : List Run) (canvas : Canvas) (background : ℕ) (y p first value len : ℕ) → IsNextBegin canvas background y p first → value ≡ canvas (first % 16) (y + first / 16) → len ≡ (run_at canvas y first).area.w
+    → AreSoFar before now canvas background y p → AreSoFar before (now ++ record { value = value; x = first % 16; y = y + first / 16; len = len; high = 1 } ∷ []) canvas background y (first + 1)
+run_marked before now canvas background y p first value len n is long so =
+    let run : Run = record { value = value; x = first % 16; y = y + first / 16; len = len; high = 1 } in
     let same : subrect_of run ≡ run_at canvas y first = subrect_same canvas 16 (y + first / 16) (first % 16) value len is long in
-    ap (λ t. t ++ runs_behind canvas y (first + 1)) (map-append subrect_of now (run ∷ []))
-    ∙ (append_assoc (map subrect_of now) (subrect_of run ∷ []) (runs_behind canvas y (first + 1))
-    ∙ (ap (λ s. map subrect_of now ++ s ∷ runs_behind canvas y (first + 1)) same ∙ (ap (λ t. map subrect_of now ++ t) (sym (next_run canvas y p first n)) ∙ so)))
+    ap (λ t. t ++ runs_behind canvas background y (first + 1)) (map-append subrect_of now (run ∷ []))
+    ∙ (append_assoc (map subrect_of now) (subrect_of run ∷ []) (runs_behind canvas background y (first + 1))
+    ∙ (ap (λ s. map subrect_of now ++ s ∷ runs_behind canvas background y (first + 1)) same ∙ (ap (λ t. map subrect_of now ++ t) (sym (next_run canvas background y p first n)) ∙ so)))
 
 -- ---- the positions of four rows, row after row
 
@@ -243,17 +243,17 @@ range_split a (suc n) m =
     let t : a + suc n ≡ a + 1 + n = omega arith in
     rw (s, t) (ap (λ l. a ∷ l) (range_split (a + 1) n m))
 
-module _ (canvas : Canvas) (y : ℕ) where
+module _ (canvas : Canvas) (background : ℕ) (y : ℕ) where
   -- Those of row r, from column x on.
-  row_positions : (r x n : ℕ) → x + n ≤ 16 → map (run_at canvas y) (filter (begins_at canvas y) (range_with_len (r * 16 + x) n)) ≡ map (run_from canvas 16 (y + r)) (filter (begins_run canvas (canvas 0 0) (y + r)) (range_with_len x n))
+  row_positions : (r x n : ℕ) → x + n ≤ 16 → map (run_at canvas y) (filter (begins_at canvas background y) (range_with_len (r * 16 + x) n)) ≡ map (run_from canvas 16 (y + r)) (filter (begins_run canvas background (y + r)) (range_with_len x n))
   row_positions r x zero le = refl
   row_positions r x (suc n) le =
       let row : (r * 16 + x) / 16 ≡ r = div-mul-add r 16 x (omega (arith, le)) in
       let column : (r * 16 + x) % 16 ≡ x = mod-mul-add r 16 x (omega (arith, le)) in
       let next : r * 16 + x + 1 ≡ r * 16 + (x + 1) = omega arith in
-      let others : map (run_at canvas y) (filter (begins_at canvas y) (range_with_len (r * 16 + x + 1) n)) ≡ map (run_from canvas 16 (y + r)) (filter (begins_run canvas (canvas 0 0) (y + r)) (range_with_len (x + 1) n)) =
-      ap (λ i. map (run_at canvas y) (filter (begins_at canvas y) (range_with_len i n))) next ∙ row_positions r (x + 1) n (omega (arith, le)) in
-      by_head (begins_at canvas y (r * 16 + x)) (begins_run canvas (canvas 0 0) (y + r) x) (r * 16 + x) x (filter (begins_at canvas y) (range_with_len (r * 16 + x + 1) n)) (filter (begins_run canvas (canvas 0 0) (y + r)) (range_with_len (x + 1) n)) (rw (row, column) refl)
+      let others : map (run_at canvas y) (filter (begins_at canvas background y) (range_with_len (r * 16 + x + 1) n)) ≡ map (run_from canvas 16 (y + r)) (filter (begins_run canvas background (y + r)) (range_with_len (x + 1) n)) =
+      ap (λ i. map (run_at canvas y) (filter (begins_at canvas background y) (range_with_len i n))) next ∙ row_positions r (x + 1) n (omega (arith, le)) in
+      by_head (begins_at canvas background y (r * 16 + x)) (begins_run canvas background (y + r) x) (r * 16 + x) x (filter (begins_at canvas background y) (range_with_len (r * 16 + x + 1) n)) (filter (begins_run canvas background (y + r)) (range_with_len (x + 1) n)) (rw (row, column) refl)
       (rw (row, column) refl) others
     where
       by_head : (b c : Bool) (i j : ℕ) (is js : List ℕ) → b ≡ c → run_at canvas y i ≡ run_from canvas 16 (y + r) j → map (run_at canvas y) is ≡ map (run_from canvas 16 (y + r)) js
@@ -263,11 +263,11 @@ module _ (canvas : Canvas) (y : ℕ) where
       by_head true false i j is js e s o = absurd cc
       by_head false true i j is js e s o = absurd cc
 
-  rows_positions : (n r : ℕ) → map (run_at canvas y) (filter (begins_at canvas y) (range_with_len (r * 16) (n * 16))) ≡ runs_of_rows canvas 16 (y + r) n
+  rows_positions : (n r : ℕ) → map (run_at canvas y) (filter (begins_at canvas background y) (range_with_len (r * 16) (n * 16))) ≡ runs_of_rows canvas background 16 (y + r) n
   rows_positions zero r = refl
   rows_positions (suc n) r =
       let f : ℕ → Subrect = run_at canvas y in
-      let p : ℕ → Bool = begins_at canvas y in
+      let p : ℕ → Bool = begins_at canvas background y in
       let count : suc n * 16 ≡ 16 + n * 16 = omega arith in
       let start : r * 16 ≡ r * 16 + 0 = omega arith in
       let next : r * 16 + 16 ≡ (r + 1) * 16 = omega arith in
@@ -278,8 +278,8 @@ module _ (canvas : Canvas) (y : ℕ) where
       ∙ (map-append f (filter p (range_with_len (r * 16) 16)) (filter p (range_with_len (r * 16 + 16) (n * 16)))
       ∙ (ap (λ i. map f (filter p (range_with_len i 16)) ++ map f (filter p (range_with_len (r * 16 + 16) (n * 16)))) start
       ∙ (ap (λ l. l ++ map f (filter p (range_with_len (r * 16 + 16) (n * 16)))) (row_positions r 0 16 (omega arith))
-      ∙ (ap (λ i. runs_of_row canvas (canvas 0 0) 16 (y + r) ++ map f (filter p (range_with_len i (n * 16)))) next
-      ∙ (ap (λ l. runs_of_row canvas (canvas 0 0) 16 (y + r) ++ l) (rows_positions n (r + 1)) ∙ ap (λ i. runs_of_row canvas (canvas 0 0) 16 (y + r) ++ runs_of_rows canvas 16 i n) below)))))))
+      ∙ (ap (λ i. runs_of_row canvas background 16 (y + r) ++ map f (filter p (range_with_len i (n * 16)))) next
+      ∙ (ap (λ l. runs_of_row canvas background 16 (y + r) ++ l) (rows_positions n (r + 1)) ∙ ap (λ i. runs_of_row canvas background 16 (y + r) ++ runs_of_rows canvas background 16 i n) below)))))))
 
-  pub all_behind : runs_behind canvas y 0 ≡ runs_of_rows canvas 16 y 4
-  all_behind = let here : y + 0 ≡ y = omega arith in rows_positions 4 0 ∙ ap (λ i. runs_of_rows canvas 16 i 4) here
+  pub all_behind : runs_behind canvas background y 0 ≡ runs_of_rows canvas background 16 y 4
+  all_behind = let here : y + 0 ≡ y = omega arith in rows_positions 4 0 ∙ ap (λ i. runs_of_rows canvas background 16 i 4) here

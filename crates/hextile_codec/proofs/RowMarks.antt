@@ -16,11 +16,11 @@ by_four P a b c d (suc (suc (suc (suc r)))) lt = absurd (omega (arith, lt))
 abbrev pub Shows : List ℕ → Canvas → ℕ → Type 0
 Shows row canvas y = (x : ℕ) → x < 16 → get_or row x 0 ≡ canvas x y
 
-pub shown_begins : (row : List ℕ) (canvas : Canvas) (background y : ℕ) → Shows row canvas y → background ≡ canvas 0 0 → (x : ℕ) → x < 16 → begins_run (row_shows row) background 0 x ≡ begins_run canvas (canvas 0 0) y x
-shown_begins row canvas background y f bg x lt =
+pub shown_begins : (row : List ℕ) (canvas : Canvas) (background y : ℕ) → Shows row canvas y → (x : ℕ) → x < 16 → begins_run (row_shows row) background 0 x ≡ begins_run canvas background y x
+shown_begins row canvas background y f x lt =
     let a = f x lt in
     let b = f (x - 1) (omega (arith, lt)) in
-    rw (bg, a, b) refl
+    rw (a, b) refl
 
 pub shown_ends : (row : List ℕ) (canvas : Canvas) (y : ℕ) → Shows row canvas y → (x : ℕ) → x + 1 < 16 → (get_or row x 0 == get_or row (x + 1) 0) ≡ (canvas x y == canvas (x + 1) y)
 shown_ends row canvas y f x lt =

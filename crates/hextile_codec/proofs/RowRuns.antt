@@ -28,16 +28,16 @@ abbrev pub AreSoFar : List Run → List Run → List ℕ → ℕ → ℕ → ℕ
 AreSoFar before now row background y x =
     map subrect_of now ++ runs_behind (row_shows row) background (length row) y x ≡ map subrect_of before ++ runs_of_row (row_shows row) background (length row) y
 
-subrect_same : (canvas : Canvas) (w y x v len : ℕ) → v ≡ canvas x y → len ≡ (run_from canvas w y x).area.w → subrect_of (record { value = v; x = x; y = y; len = len }) ≡ run_from canvas w y x
+subrect_same : (canvas : Canvas) (w y x v len : ℕ) → v ≡ canvas x y → len ≡ (run_from canvas w y x).area.w → subrect_of (record { value = v; x = x; y = y; len = len; high = 1 }) ≡ run_from canvas w y x
 subrect_same canvas w y x v len a b = rw (a, b) refl
 
 pub run_added : (before now : List Run) (row : List ℕ) (background y x len : ℕ) → x < length row → IsFresh (row_shows row) y x → len ≡ (run_from (row_shows row) (length row) y x).area.w
     → (get_or row x 0 ≡ background → ⊥) → AreSoFar before now row background y x
-    → AreSoFar before (now ++ record { value = get_or row x 0; x = x; y = y; len = len } ∷ []) row background y (x + len)
+    → AreSoFar before (now ++ record { value = get_or row x 0; x = x; y = y; len = len; high = 1 } ∷ []) row background y (x + len)
 run_added before now row background y x len lx fresh long ne so =
     let c : Canvas = row_shows row in
     let w : ℕ = length row in
-    let run : Run = record { value = get_or row x 0; x = x; y = y; len = len } in
+    let run : Run = record { value = get_or row x 0; x = x; y = y; len = len; high = 1 } in
     let same : subrect_of run ≡ run_from c w y x = subrect_same c w y x (get_or row x 0) len refl long in
     let rest : runs_behind c background w y (x + len) ≡ runs_behind c background w y (x + (run_from c w y x).area.w) = ap (λ n. runs_behind c background w y (x + n)) long in
     ap (λ t. t ++ runs_behind c background w y (x + len)) (map-append subrect_of now (run ∷ []))

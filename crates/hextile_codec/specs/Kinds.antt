@@ -1,17 +1,19 @@
 -- What the reflector knows of a tile before it writes it.
-use Rattle.std.specs.Prelude.{◌≡◌, ℕ, ◌+◌, ◌*◌, ◌<◌, ◌≤◌, Bool, true, ◌==◌, if◌then◌else◌, List, [], ◌∷◌, length, Some, None}
+use Rattle.std.specs.Prelude.{◌≡◌, ℕ, ◌+◌, ◌*◌, ◌<◌, ◌≤◌, Bool, true, false, ◌==◌, if◌then◌else◌, List, [], ◌∷◌, length, Some, None}
 use Rattle.std.specs.List.{list_all}
 use Rattle.pixel_format.specs.PixelFormat.{PixelFormat, pixel_len}
 use Rattle.raster.specs.Screen.{Canvas, values_of}
-use Rattle.raster.specs.Encoding.{Subrect, Carried, nothing_carried, runs, raw_bytes, unless_said, drawn_bytes, tile_bytes}
+use Rattle.raster.specs.Encoding.{Subrect, Carried, nothing_carried, raw_bytes, unless_said, drawn_bytes}
+use Rattle.joined_runs.specs.declared.runs.Runs.{Runs}
+use Rattle.joined_runs.specs.Joined.{background_of, subrects_of, tile_bytes_as}
 use Rattle.hextile_codec.specs.declared.runs.Run.{Run}
 use Rattle.hextile_codec.specs.declared.kind.Kind.{Kind}
 use Rattle.hextile_codec.specs.declared.kind.Kind.TheVariants.{Raw, Plain, TwoColours, Coloured}
 use Rattle.hextile_codec.specs.declared.kind.TileChoice.{TileChoice}
 
--- A run is a subrectangle of one row.
+-- A run, as a subrectangle.
 abbrev pub subrect_of : Run → Subrect
-subrect_of run = record { value = run.value; area = record { x = run.x; y = run.y; w = run.len; h = 1 } }
+subrect_of run = record { value = run.value; area = record { x = run.x; y = run.y; w = run.len; h = run.high } }
 
 -- It lies in a tile.
 pub record IsSmall (run : Run) : Type 0 where
@@ -19,6 +21,7 @@ pub record IsSmall (run : Run) : Type 0 where
   pub y : run.y < 16
   pub some : 0 < run.len
   pub most : run.len ≤ 16
+  pub high : (0 < run.high) × (run.high ≤ 16)
 
 -- All runs have the value of the first.
 abbrev pub has_one_value : List Subrect → Bool
@@ -45,14 +48,30 @@ leaves_of Plain background = record { background = Some background; foreground =
 leaves_of (TwoColours foreground) background = record { background = Some background; foreground = Some foreground }
 leaves_of Coloured background = record { background = Some background; foreground = None }
 
--- The bytes of a tile are these, its pixels or the drawing of its runs.
-abbrev pub IsWrittenAs : PixelFormat → Carried → ℕ → ℕ → Canvas → List Subrect → ℕ → Kind → List ℕ → Type 0
-IsWrittenAs format before w h canvas found background Raw bytes = bytes ≡ 1 ∷ raw_bytes format (values_of w h canvas)
-IsWrittenAs format before w h canvas found background kind bytes =
-    (bytes ≡ drawn_bytes format before background found) × (kind ≡ kind_of found) × (found ≡ runs canvas w h)
+-- A run of a row of a tile of w by h.
+pub record IsRowRun (w h : ℕ) (run : Run) : Type 0 where
+  pub column : run.x < w
+  pub row : run.y < h
+  pub flat : run.high ≡ 1
 
--- A choice says how many bytes a tile has, what it leaves, and what they are.
-pub record IsChosen (format : PixelFormat) (before : Carried) (w h : ℕ) (canvas : Canvas) (found : List Subrect) (choice : TileChoice) : Type 0 where
-  pub len : choice.len ≡ length (tile_bytes format before w h canvas).0
-  pub leaves : leaves_of choice.kind choice.background ≡ (tile_bytes format before w h canvas).1
-  pub written : IsWrittenAs format before w h canvas found choice.background choice.kind (tile_bytes format before w h canvas).0
+-- The subrectangles of a tile in a form were found, and its background.
+pub record IsFoundAs (form : Runs) (w h : ℕ) (canvas : Canvas) (found : List Subrect) (shown : ℕ) : Type 0 where
+  pub background : shown ≡ background_of form w h canvas
+  pub all : found ≡ subrects_of form w h canvas
+
+-- There are this many of them at least, of more values than one.
+pub record HasMany (form : Runs) (w h : ℕ) (canvas : Canvas) (enough : ℕ) : Type 0 where
+  pub many : enough ≤ length (subrects_of form w h canvas)
+  pub mixed : has_one_value (subrects_of form w h canvas) ≡ false
+
+-- The bytes of a tile are these, its pixels or the drawing of its subrectangles.
+abbrev pub IsWrittenAs : Runs → PixelFormat → Carried → ℕ → ℕ → Canvas → List Subrect → ℕ → Kind → List ℕ → Type 0
+IsWrittenAs form format before w h canvas found background Raw bytes = bytes ≡ 1 ∷ raw_bytes format (values_of w h canvas)
+IsWrittenAs form format before w h canvas found background kind bytes =
+    (bytes ≡ drawn_bytes format before background found) × (kind ≡ kind_of found) × (found ≡ subrects_of form w h canvas)
+
+-- A choice says how many bytes a tile has in a form, what it leaves, and what they are.
+pub record IsChosen (form : Runs) (format : PixelFormat) (before : Carried) (w h : ℕ) (canvas : Canvas) (found : List Subrect) (choice : TileChoice) : Type 0 where
+  pub len : choice.len ≡ length (tile_bytes_as form format before w h canvas).0
+  pub leaves : leaves_of choice.kind choice.background ≡ (tile_bytes_as form format before w h canvas).1
+  pub written : IsWrittenAs form format before w h canvas found choice.background choice.kind (tile_bytes_as form format before w h canvas).0

@@ -15,14 +15,14 @@ pub record LiesAmong (values : List ℕ) (w : ℕ) (tile : Rect) : Type 0 where
   pub wide : w < 2 ^ 16
   pub high : tile.y + tile.h < 2 ^ 16
 
--- Marks of four rows of 16, from row y on. Position x of the row that is r further down has bit 16 * r + x.
-pub record AreMarks (canvas : Canvas) (y : ℕ) (marks : Marks) : Type 0 where
-  pub begins : (r x : ℕ) → r < 4 → x < 16 → bit_at marks.begins (16 * r + x) ≡ bit_of (begins_run canvas (canvas 0 0) (y + r) x)
+-- Marks of four rows of 16 over a background, from row y on. Position x of the row that is r further down has bit 16 * r + x.
+pub record AreMarks (canvas : Canvas) (background y : ℕ) (marks : Marks) : Type 0 where
+  pub begins : (r x : ℕ) → r < 4 → x < 16 → bit_at marks.begins (16 * r + x) ≡ bit_of (begins_run canvas background (y + r) x)
   pub ends : (r x : ℕ) → r < 4 → x + 1 < 16 → bit_at marks.ends (16 * r + x) ≡ bit_of (not (canvas x (y + r) == canvas (x + 1) (y + r)))
   pub last : (r : ℕ) → r < 4 → bit_at marks.ends (16 * r + 15) ≡ 1
   pub few : marks.begins < 2 ^ 64
   pub small : marks.ends < 2 ^ 64
 
--- The runs of n rows of a tile, from row y on.
-abbrev pub runs_of_rows : Canvas → ℕ → ℕ → ℕ → List Subrect
-runs_of_rows canvas w y n = flat_map (runs_of_row canvas (canvas 0 0) w) (range_with_len y n)
+-- The runs of n rows of a tile over a background, from row y on.
+abbrev pub runs_of_rows : Canvas → ℕ → ℕ → ℕ → ℕ → List Subrect
+runs_of_rows canvas background w y n = flat_map (runs_of_row canvas background w) (range_with_len y n)

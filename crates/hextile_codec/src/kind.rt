@@ -1,13 +1,16 @@
 //! The kinds of a tile as it is written, and which of them one has.
 
-ghost use Rattle.std.specs.Prelude.{◌≡◌, ◌+◌, ◌*◌, ◌<◌, ◌≤◌, ◌^◌, length, map};
+ghost use Rattle.std.specs.Prelude.{◌≡◌, ◌<◌, ◌≤◌, length, map};
 ghost use Rattle.raster.specs.Screen.{value_at, part_of};
-ghost use Rattle.raster.specs.Encoding.{runs, unless_said};
+ghost use Rattle.raster.specs.Encoding.{unless_said};
 ghost use Rattle.hextile_codec.specs.Carried.{carried_by};
 ghost use Rattle.hextile_codec.specs.Kinds.{subrect_of, kind_of, leaves_of, drawn_len, IsChosen};
+ghost use Rattle.hextile_codec.specs.Marks.{LiesAmong};
 
 use crate::colours::{Colours, is_said};
-use crate::runs::{Run, Runs, TILE_AREA, find_runs, has_one_value};
+use crate::joining::{Room, find_subrects};
+use crate::runs::{Run, TILE_AREA, has_one_value};
+use joined_runs::Runs;
 use pixel_format::Format;
 use raster::{Rect, TILE_SIDE};
 
@@ -69,40 +72,38 @@ fn drawn_len(format: &Format, said: &Colours, background: u32, kind: Kind, count
     }
 }
 
-/// Chooses what a tile is written as: Raw where that has no more bytes than its drawing. Its runs are then in `runs`,
-/// if it isn't Raw.
+/// Chooses what a tile is written as in a form: Raw where that has no more bytes than its drawing. Its subrectangles are
+/// then in `room`, if it isn't Raw.
 pub fn choose(
+    form: Runs,
     format: &Format,
     values: &[u32],
     w: usize,
     tile: &Rect,
     said: &Colours,
-    runs: &mut Runs,
+    room: &mut Room,
 ) -> TileChoice
+    requires lies { LiesAmong values.now w tile.now }
     requires w_some { 0 < tile.now.w }
     requires w_most { tile.now.w ≤ TILE_SIDE }
     requires h_some { 0 < tile.now.h }
     requires h_most { tile.now.h ≤ TILE_SIDE }
-    requires across { tile.now.x + tile.now.w ≤ w }
-    requires down { (tile.now.y + tile.now.h) * w ≤ length values.now }
-    requires wide { w < 2 ^ 16 }
-    requires high { tile.now.y + tile.now.h < 2 ^ 16 }
-    ensures { IsChosen format.now (carried_by said.now) tile.now.w tile.now.h (part_of tile.now (value_at w values.now)) (map subrect_of runs.new.items) result }
+    ensures { IsChosen form format.now (carried_by said.now) tile.now.w tile.now.h (part_of tile.now (value_at w values.now)) (map subrect_of room.new.subrects.items) result }
 {
     let pixel = format.bytes();
-    let background = values[tile.y as usize * w + tile.x as usize];
     let raw = TileChoice {
         kind: Kind::Raw,
-        background,
+        background: 0,
         len: 1 + pixel * (tile.w * tile.h) as usize,
     };
-    // This many coloured runs have more bytes than Raw.
+    // This many coloured subrectangles have more bytes than Raw.
     let enough = raw.len / (pixel + 2) + 1;
-    if !find_runs(values, w, tile, enough, runs) {
+    let Some(background) = find_subrects(form, values, w, tile, enough, room) else {
         return raw;
-    }
-    let kind = kind_of(runs.as_slice());
-    let len = drawn_len(format, said, background, kind, runs.len());
+    };
+    let subrects = room.subrects.as_slice();
+    let kind = kind_of(subrects);
+    let len = drawn_len(format, said, background, kind, subrects.len());
     if raw.len <= len {
         return raw;
     }

@@ -2,13 +2,16 @@
 //!
 //! A rectangle is cut into tiles of 16 by 16. Each has a mask that says what follows: its pixels as in Raw, or a
 //! background and subrectangles painted over it in order. A colour that a tile leaves unsaid is the last that the
-//! rectangle specified. What is written is one spelling of our own: the tile's first pixel as background, the runs of
-//! each row, and Raw where that has no more bytes. Nothing here takes memory or a handle.
+//! rectangle specified. What is written is one spelling of our own: the tile's first pixel as background and the runs of
+//! each row, or its most frequent value and these runs joined with those below them; and Raw where that has no more
+//! bytes. Nothing here takes memory or a handle.
 #![tactic(auto)]
 
 mod colours;
 mod drawing;
+mod frequent;
 mod head;
+mod joining;
 mod kind;
 mod marking;
 mod mask;
@@ -22,4 +25,4 @@ mod subrects;
 mod writing;
 
 pub use reading::Reader;
-pub use writing::encode;
+pub use writing::{encode, encode_as};

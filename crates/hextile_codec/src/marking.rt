@@ -35,10 +35,11 @@ fn turned(row: u32x16) -> u32x16
     row.rotate_elements_right::<1>()
 }
 
-/// Marks of rows of 16: a bit for each position at which a run begins, and one for each behind which there is another
-/// value in its row, or none.
+/// Marks of rows of 16: a bit for each position at which a run of another value than the background begins, and one for
+/// each behind which there is another value in its row, or none.
 #[derive(Clone, Copy)]
 pub struct Marks {
+    pub background: u32,
     pub begins: u64,
     pub ends: u64,
 }
@@ -65,6 +66,7 @@ fn mark_row(row: &[u32], background: u32) -> Marks
     let others = differences(row, u32x16::splat(background));
     let changes = differences(turned(row), row);
     Marks {
+        background,
         begins: others & (changes | 1),
         ends: (changes | 1 << 16) >> 1,
     }
@@ -87,14 +89,15 @@ pub fn mark_rows(values: &[u32], w: usize, tile: &Rect, y: usize, background: u3
     requires lies { LiesAmong values.now w tile.now }
     requires wide { tile.now.w ≡ 16 }
     requires rows { y + 4 ≤ tile.now.h }
-    requires background { background ≡ part_of tile.now (value_at w values.now) 0 0 }
-    ensures { AreMarks (part_of tile.now (value_at w values.now)) y result }
+    ensures marks { AreMarks (part_of tile.now (value_at w values.now)) background y result }
+    ensures background { result.background ≡ background }
 {
     let first = mark_row(row_of(values, w, tile, y), background);
     let second = mark_row(row_of(values, w, tile, y + 1), background);
     let third = mark_row(row_of(values, w, tile, y + 2), background);
     let fourth = mark_row(row_of(values, w, tile, y + 3), background);
     Marks {
+        background,
         begins: join_bits(first.begins, second.begins, third.begins, fourth.begins),
         ends: join_bits(first.ends, second.ends, third.ends, fourth.ends),
     }

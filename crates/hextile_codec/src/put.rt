@@ -39,12 +39,12 @@ fn put_colour(
     used + format.bytes()
 }
 
-/// The place of a run as it is written: its position, and its size.
+/// The place of a subrectangle as it is written: its position, and its size.
 fn place_of(run: &Run) -> [u8; PLACE_LEN]
     requires { IsSmall run.now }
     ensures { result ≡ place_bytes (subrect_of run.now) }
 {
-    [run.x * 16 + run.y, (run.len - 1) * 16]
+    [run.x * 16 + run.y, (run.len - 1) * 16 + (run.high - 1)]
 }
 
 /// Puts one byte at index `used` of `out`, and answers where it ends.

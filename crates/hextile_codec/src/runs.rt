@@ -4,7 +4,8 @@ ghost use Rattle.std.specs.Prelude.{◌≡◌, ◌+◌, ◌*◌, ◌<◌, ◌≤
 ghost use Rattle.std.specs.List.{list_all};
 ghost use Rattle.arrayvec.specs.ArrayVec.{array_vec_len};
 ghost use Rattle.raster.specs.Screen.{value_at, part_of};
-ghost use Rattle.raster.specs.Encoding.{runs, runs_of_row};
+ghost use Rattle.raster.specs.Encoding.{runs_of_row};
+ghost use Rattle.joined_runs.specs.Joined.{runs_over};
 ghost use Rattle.raster.specs.RowShown.{row_shows};
 ghost use Rattle.hextile_codec.specs.Kinds.{subrect_of, has_one_value};
 ghost use Rattle.hextile_codec.specs.Marks.{AreMarks, LiesAmong, runs_of_rows};
@@ -25,17 +26,19 @@ const CROWDED: usize = 8;
 /// With this many runs in its first four rows of 16 a tile is left to a search row by row, which counts first.
 const DENSE: usize = 48;
 
-/// A run: `len` pixels of one value, from column `x` of row `y` of its tile on.
+/// A run or subrectangle: `len` by `high` pixels of one value, from column `x` of row `y` of its tile on. A run is of one
+/// row.
 #[derive(Clone, Copy, Default)]
 pub struct Run {
     pub value: u32,
     pub x: u8,
     pub y: u8,
     pub len: u8,
+    pub high: u8,
 }
 
-/// The runs of one tile, from the left and from the top.
-pub type Runs = ArrayVec<Run, TILE_AREA>;
+/// The runs or subrectangles of one tile, from the left and from the top.
+pub type Found = ArrayVec<Run, TILE_AREA>;
 
 /// How many values at the front are this one.
 fn run_len(values: &[u32], value: u32) -> usize
@@ -66,9 +69,8 @@ fn is_all(row: &[u32], value: u32) -> bool
 
 /// Whether a tile shows its background alone. A whole row is compared at once, and nothing else is done.
 fn is_plain(values: &[u32], w: usize, tile: &Rect, background: u32) -> bool
-    requires lies { LiesAmong values.now w tile.now }
-    requires background { background ≡ part_of tile.now (value_at w values.now) 0 0 }
-    ensures { IsTrue result → runs (part_of tile.now (value_at w values.now)) tile.now.w tile.now.h ≡ [] }
+    requires { LiesAmong values.now w tile.now }
+    ensures { IsTrue result → runs_over (part_of tile.now (value_at w values.now)) background tile.now.w tile.now.h ≡ [] }
 {
     for y in 0..tile.h as usize {
         if !is_all(row_of(values, w, tile, y), background) {
@@ -79,14 +81,14 @@ fn is_plain(values: &[u32], w: usize, tile: &Rect, background: u32) -> bool
 }
 
 /// Adds the runs of four rows of 16, from row `y` on, found by their marks.
-fn add_marked(values: &[u32], w: usize, tile: &Rect, y: usize, marks: Marks, runs: &mut Runs)
+fn add_marked(values: &[u32], w: usize, tile: &Rect, y: usize, marks: Marks, runs: &mut Found)
     requires lies { LiesAmong values.now w tile.now }
     requires wide { tile.now.w ≡ 16 }
     requires rows { y + 4 ≤ tile.now.h }
     requires high { tile.now.h ≤ TILE_SIDE }
-    requires marks { AreMarks (part_of tile.now (value_at w values.now)) y marks }
+    requires marks { AreMarks (part_of tile.now (value_at w values.now)) marks.background y marks }
     requires room { array_vec_len runs.old + 64 ≤ TILE_AREA }
-    ensures added { map subrect_of runs.new.items ≡ map subrect_of runs.old.items ++ runs_of_rows (part_of tile.now (value_at w values.now)) 16 y 4 }
+    ensures added { map subrect_of runs.new.items ≡ map subrect_of runs.old.items ++ runs_of_rows (part_of tile.now (value_at w values.now)) marks.background 16 y 4 }
     ensures few { array_vec_len runs.new ≤ array_vec_len runs.old + 64 }
 {
     let mut begins = marks.begins;
@@ -99,6 +101,7 @@ fn add_marked(values: &[u32], w: usize, tile: &Rect, y: usize, marks: Marks, run
             x: x as u8,
             y: row as u8,
             len: len as u8,
+            high: 1,
         });
         begins &= begins - 1;
     }
@@ -112,13 +115,12 @@ fn find_marked(
     tile: &Rect,
     background: u32,
     enough: usize,
-    found: &mut Runs,
+    found: &mut Found,
 ) -> bool
     requires lies { LiesAmong values.now w tile.now }
     requires wide { tile.now.w ≡ 16 }
     requires high { tile.now.h ≡ 16 }
-    requires background { background ≡ part_of tile.now (value_at w values.now) 0 0 }
-    ensures { IsTrue result → map subrect_of found.new.items ≡ runs (part_of tile.now (value_at w values.now)) 16 16 }
+    ensures { IsTrue result → map subrect_of found.new.items ≡ runs_over (part_of tile.now (value_at w values.now)) background 16 16 }
 {
     let first = mark_rows(values, w, tile, 0, background);
     if first.count() >= DENSE {
@@ -140,7 +142,7 @@ fn find_marked(
 }
 
 /// Adds the runs of row `y` other than the background to those of the rows above.
-fn add_row(row: &[u32], y: usize, background: u32, runs: &mut Runs)
+fn add_row(row: &[u32], y: usize, background: u32, runs: &mut Found)
     requires some { 0 < length row.now }
     requires wide { length row.now ≤ TILE_SIDE }
     requires high { y < TILE_SIDE }
@@ -161,6 +163,7 @@ fn add_row(row: &[u32], y: usize, background: u32, runs: &mut Runs)
                 x: x as u8,
                 y: y as u8,
                 len: len as u8,
+                high: 1,
             });
         }
         x += len;
@@ -174,7 +177,7 @@ fn find_by_rows(
     tile: &Rect,
     background: u32,
     enough: usize,
-    found: &mut Runs,
+    found: &mut Found,
 ) -> bool
     requires lies { LiesAmong values.now w tile.now }
     requires w_some { 0 < tile.now.w }
@@ -182,9 +185,9 @@ fn find_by_rows(
     requires h_some { 0 < tile.now.h }
     requires h_most { tile.now.h ≤ TILE_SIDE }
     requires background { background ≡ part_of tile.now (value_at w values.now) 0 0 }
-    ensures all { let all = runs (part_of tile.now (value_at w values.now)) tile.now.w tile.now.h in IsTrue result → map subrect_of found.new.items ≡ all }
-    ensures many { let all = runs (part_of tile.now (value_at w values.now)) tile.now.w tile.now.h in result ≡ false → enough ≤ length all }
-    ensures mixed { let all = runs (part_of tile.now (value_at w values.now)) tile.now.w tile.now.h in result ≡ false → has_one_value all ≡ false }
+    ensures all { let all = runs_over (part_of tile.now (value_at w values.now)) background tile.now.w tile.now.h in IsTrue result → map subrect_of found.new.items ≡ all }
+    ensures many { let all = runs_over (part_of tile.now (value_at w values.now)) background tile.now.w tile.now.h in result ≡ false → enough ≤ length all }
+    ensures mixed { let all = runs_over (part_of tile.now (value_at w values.now)) background tile.now.w tile.now.h in result ≡ false → has_one_value all ≡ false }
 {
     found.clear();
     let mut judged = false;
@@ -204,20 +207,24 @@ fn find_by_rows(
 /// Finds the runs of a tile other than its background, the first pixel's value, and puts them into `found`.
 ///
 /// `false` only where there are `enough` of them, of more values than one; `found` then holds the first of them.
-pub fn find_runs(values: &[u32], w: usize, tile: &Rect, enough: usize, found: &mut Runs) -> bool
+pub fn find_runs(
+    values: &[u32],
+    w: usize,
+    tile: &Rect,
+    background: u32,
+    enough: usize,
+    found: &mut Found,
+) -> bool
+    requires lies { LiesAmong values.now w tile.now }
     requires w_some { 0 < tile.now.w }
     requires w_most { tile.now.w ≤ TILE_SIDE }
     requires h_some { 0 < tile.now.h }
     requires h_most { tile.now.h ≤ TILE_SIDE }
-    requires across { tile.now.x + tile.now.w ≤ w }
-    requires down { (tile.now.y + tile.now.h) * w ≤ length values.now }
-    requires wide { w < 2 ^ 16 }
-    requires high { tile.now.y + tile.now.h < 2 ^ 16 }
-    ensures all { let all = runs (part_of tile.now (value_at w values.now)) tile.now.w tile.now.h in IsTrue result → map subrect_of found.new.items ≡ all }
-    ensures many { let all = runs (part_of tile.now (value_at w values.now)) tile.now.w tile.now.h in result ≡ false → enough ≤ length all }
-    ensures mixed { let all = runs (part_of tile.now (value_at w values.now)) tile.now.w tile.now.h in result ≡ false → has_one_value all ≡ false }
+    requires background { background ≡ part_of tile.now (value_at w values.now) 0 0 }
+    ensures all { let all = runs_over (part_of tile.now (value_at w values.now)) background tile.now.w tile.now.h in IsTrue result → map subrect_of found.new.items ≡ all }
+    ensures many { let all = runs_over (part_of tile.now (value_at w values.now)) background tile.now.w tile.now.h in result ≡ false → enough ≤ length all }
+    ensures mixed { let all = runs_over (part_of tile.now (value_at w values.now)) background tile.now.w tile.now.h in result ≡ false → has_one_value all ≡ false }
 {
-    let background = row_of(values, w, tile, 0)[0];
     if is_plain(values, w, tile, background) {
         found.clear();
         return true;
@@ -229,4 +236,39 @@ pub fn find_runs(values: &[u32], w: usize, tile: &Rect, enough: usize, found: &m
         return true;
     }
     find_by_rows(values, w, tile, background, enough, found)
+}
+
+/// Finds all runs of a tile, row after row.
+fn find_each_row(values: &[u32], w: usize, tile: &Rect, background: u32, found: &mut Found)
+    requires lies { LiesAmong values.now w tile.now }
+    requires w_some { 0 < tile.now.w }
+    requires w_most { tile.now.w ≤ TILE_SIDE }
+    requires h_most { tile.now.h ≤ TILE_SIDE }
+    ensures { map subrect_of found.new.items ≡ runs_over (part_of tile.now (value_at w values.now)) background tile.now.w tile.now.h }
+{
+    found.clear();
+    for y in 0..tile.h as usize {
+        add_row(row_of(values, w, tile, y), y, background, found);
+    }
+}
+
+/// Finds all runs of a tile other than a background, and puts them into `found`.
+pub fn find_all(values: &[u32], w: usize, tile: &Rect, background: u32, found: &mut Found)
+    requires lies { LiesAmong values.now w tile.now }
+    requires w_some { 0 < tile.now.w }
+    requires w_most { tile.now.w ≤ TILE_SIDE }
+    requires h_most { tile.now.h ≤ TILE_SIDE }
+    ensures { map subrect_of found.new.items ≡ runs_over (part_of tile.now (value_at w values.now)) background tile.now.w tile.now.h }
+{
+    if is_plain(values, w, tile, background) {
+        found.clear();
+        return;
+    }
+    if tile.w == TILE_SIDE
+        && tile.h == TILE_SIDE
+        && find_marked(values, w, tile, background, TILE_AREA + 1, found)
+    {
+        return;
+    }
+    find_each_row(values, w, tile, background, found);
 }

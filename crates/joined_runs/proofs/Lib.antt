@@ -8,3 +8,4 @@ pub mod Spelled
 pub mod Shorter
 pub mod RowHas
 pub mod WrittenParts
+pub mod SameTiles

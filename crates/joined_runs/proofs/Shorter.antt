@@ -13,7 +13,7 @@ use Rattle.raster.specs.Screen.{Canvas, value_at}
 use Rattle.raster.specs.Encoding.{Subrect, runs, rre_subrect_bytes, form}
 use Rattle.joined_runs.specs.declared.runs.Runs.{Runs}
 use Rattle.joined_runs.specs.declared.runs.Runs.TheVariants.{Joined}
-use Rattle.joined_runs.specs.Joined.{joined_runs, joined_hextile_bytes, shorter, form_of}
+use Rattle.joined_runs.specs.Joined.{joined_runs, hextile_bytes_as, shorter, form_of}
 use Rattle.joined_runs.proofs.Counts.{joined_few}
 
 pub one_subrect_len : (format : PixelFormat) (s : Subrect) → length (rre_subrect_bytes format s) ≡ pixel_len format + 8
@@ -54,4 +54,4 @@ joined_shorter Rre format w h values =
     let few : length ss ≤ length rs = joined_few canvas (canvas 0 0) w h in
     let more : (pixel_len format + 8) * length ss ≤ (pixel_len format + 8) * length rs = mul-le-mul_left (pixel_len format + 8) few in
     omega (arith, more, rre_len format (canvas 0 0) ss, rre_len format (canvas 0 0) rs)
-joined_shorter Hextile format w h values = shorter_is (joined_hextile_bytes format w h (value_at w values)) (form Hextile format w h values)
+joined_shorter Hextile format w h values = shorter_is (hextile_bytes_as Joined format w h (value_at w values)) (form Hextile format w h values)

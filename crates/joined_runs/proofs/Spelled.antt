@@ -28,7 +28,7 @@ use Rattle.raster.proofs.HextileSpelled.{IsTile, tile_lies}
 use Rattle.raster.proofs.Forms as forms
 use Rattle.joined_runs.specs.declared.runs.Runs.{Runs}
 use Rattle.joined_runs.specs.declared.runs.Runs.TheVariants.{OfRows, Joined}
-use Rattle.joined_runs.specs.Joined.{most_frequent, with_below, joined_runs, joined_rre_bytes, joined_tile_bytes, joined_tiles_from, joined_hextile_bytes, shorter, form_of}
+use Rattle.joined_runs.specs.Joined.{most_frequent, with_below, joined_runs, joined_rre_bytes, tile_bytes_as, tiles_from_as, hextile_bytes_as, shorter, form_of}
 use Rattle.joined_runs.specs.Laws.{IsReadBack, FormDetermines}
 use Rattle.joined_runs.proofs.MostFrequent.{most_holds}
 use Rattle.joined_runs.proofs.DrawnSpelled.{DrawnRead, drawn_is_read, raw_tile}
@@ -107,7 +107,7 @@ drawn_one_tile format before carried w h background canvas ok lw lh is below kno
     }
 
 tile_is_read : (format : PixelFormat) (before carried : Carried) (w h : ℕ) (canvas : Canvas) → IsAccepted format → 0 < w → w ≤ 16 → 0 < h → h ≤ 16 → ((x y : ℕ) → x < w → y < h → canvas x y < 2 ^ format.bits_per_pixel) → Knows before carried
-    → TileRead format carried w h canvas (joined_tile_bytes format before w h canvas)
+    → TileRead format carried w h canvas (tile_bytes_as Joined format before w h canvas)
 tile_is_read format before carried w h canvas ok lw lw2 lh lh2 below knows =
     let values : List ℕ = values_of w h canvas in
     let some : 0 < length values = let area : 1 * 1 ≤ w * h = mul-le-mul {n₁ = 1} {m₁ = 1} {n₂ = w} {m₂ = h} lw lh in omega (arith, area, length-map-range_with_len (λ k. canvas (k % w) (k / w)) 0 (w * h)) in
@@ -127,22 +127,22 @@ record TilesRead (format : PixelFormat) (w h : ℕ) (canvas : Canvas) (carried :
   show : (i x y : ℕ) → i < n → x < (tile_rect w h (k + i)).w → y < (tile_rect w h (k + i)).h → tile_shows (tile_rect w h (k + i)).w (slice_get tiles i) x y ≡ part_of (tile_rect w h (k + i)) canvas x y
 
 tiles_are_read : (format : PixelFormat) (w h : ℕ) (canvas : Canvas) (before carried : Carried) (k n : ℕ) → IsAccepted format → 0 < w → ((x y : ℕ) → x < w → y < h → canvas x y < 2 ^ format.bits_per_pixel) → k + n ≤ tile_count w h → Knows before carried
-    → TilesRead format w h canvas carried k n (joined_tiles_from format w h canvas before k n)
+    → TilesRead format w h canvas carried k n (tiles_from_as Joined format w h canvas before k n)
 tiles_are_read format w h canvas before carried k zero ok lw below le knows =
     record { tiles = []; spelled = spells_done []; show = λ i x y lt lx ly. absurd (omega arith) }
 tiles_are_read format w h canvas before carried k (suc n) ok lw below le knows =
     let here : Rect = tile_rect w h k in
     let lies : IsTile w h here = tile_lies w h k lw (omega arith) in
-    let written = joined_tile_bytes format before here.w here.h (part_of here canvas) in
+    let written = tile_bytes_as Joined format before here.w here.h (part_of here canvas) in
     let first : TileRead format carried here.w here.h (part_of here canvas) written =
     tile_is_read format before carried here.w here.h (part_of here canvas) ok lies.w_some lies.w_most lies.h_some lies.h_most (λ x y lx ly. below (here.x + x) (here.y + y) (omega (arith, lies.across)) (omega (arith, lies.down))) knows in
-    let others : TilesRead format w h canvas first.next (k + 1) n (joined_tiles_from format w h canvas written.1 (k + 1) n) =
+    let others : TilesRead format w h canvas first.next (k + 1) n (tiles_from_as Joined format w h canvas written.1 (k + 1) n) =
     tiles_are_read format w h canvas written.1 first.next (k + 1) n ok lw below (omega arith) first.knows in
     record {
       tiles = first.what ∷ others.tiles;
       spelled =
-          spells_bind (tile format carried here.w here.h) (λ (t : Tile × Carried). tiles_from format w h t.1 (k + 1) n >>= λ ts. Done (t.0 ∷ ts)) written.0 (joined_tiles_from format w h canvas written.1 (k + 1) n) (first.what, first.next) (first.what ∷ others.tiles) first.spelled
-          (spells_then (tiles_from format w h first.next (k + 1) n) (λ ts. Done (first.what ∷ ts)) (joined_tiles_from format w h canvas written.1 (k + 1) n) others.tiles (first.what ∷ others.tiles) others.spelled refl);
+          spells_bind (tile format carried here.w here.h) (λ (t : Tile × Carried). tiles_from format w h t.1 (k + 1) n >>= λ ts. Done (t.0 ∷ ts)) written.0 (tiles_from_as Joined format w h canvas written.1 (k + 1) n) (first.what, first.next) (first.what ∷ others.tiles) first.spelled
+          (spells_then (tiles_from format w h first.next (k + 1) n) (λ ts. Done (first.what ∷ ts)) (tiles_from_as Joined format w h canvas written.1 (k + 1) n) others.tiles (first.what ∷ others.tiles) others.spelled refl);
       show = shown first.what others.tiles first.shows others.show;
     }
   where
@@ -171,14 +171,14 @@ tiles_show w h canvas tiles lw show x y lx ly =
     let to_y : (tile_rect w h t).y + y % 16 ≡ y = rw row (omega arith) in
     there ∙ (ap (λ i. canvas i ((tile_rect w h t).y + y % 16)) to_x ∙ ap (λ j. canvas x j) to_y)
 
-hextile_is_read : (format : PixelFormat) (w h : ℕ) (values : List ℕ) → IsAccepted format → ArePixels format values → 0 < w → length values ≡ w * h → Spells (pixels Hextile format w h) (joined_hextile_bytes format w h (value_at w values)) values
+hextile_is_read : (format : PixelFormat) (w h : ℕ) (values : List ℕ) → IsAccepted format → ArePixels format values → 0 < w → length values ≡ w * h → Spells (pixels Hextile format w h) (hextile_bytes_as Joined format w h (value_at w values)) values
 hextile_is_read format w h values ok each lw e =
     let canvas : Canvas = value_at w values in
-    let r : TilesRead format w h canvas nothing_carried 0 (tile_count w h) (joined_hextile_bytes format w h canvas) =
+    let r : TilesRead format w h canvas nothing_carried 0 (tile_count w h) (hextile_bytes_as Joined format w h canvas) =
     tiles_are_read format w h canvas nothing_carried nothing_carried 0 (tile_count w h) ok lw (λ x y lx ly. value_holds w h values (λ v. v < 2 ^ format.bits_per_pixel) x y e each lx ly) (omega arith) (nothing_known nothing_carried) in
     let shows : LooksLike w h (tiled w h r.tiles) canvas =
     tiles_show w h canvas r.tiles lw (λ i x y lt lx ly. let z : 0 + i ≡ i = omega arith in rw z at (r.show i x y lt (rw z lx) (rw z ly))) in
-    spells_then (hextile format w h) (λ tiles. Done (values_of w h (tiled w h tiles))) (joined_hextile_bytes format w h canvas) r.tiles values r.spelled (ap (λ (v : List ℕ). Done v) (values_back w h (tiled w h r.tiles) values lw e shows))
+    spells_then (hextile format w h) (λ tiles. Done (values_of w h (tiled w h tiles))) (hextile_bytes_as Joined format w h canvas) r.tiles values r.spelled (ap (λ (v : List ℕ). Done v) (values_back w h (tiled w h r.tiles) values lw e shows))
 
 -- ---- the laws
 
@@ -187,7 +187,7 @@ form_is_read OfRows encoding format w h values ok v = forms.form_is_read encodin
 form_is_read Joined Raw format w h values ok v = forms.form_is_read Raw format w h values ok v
 form_is_read Joined Rre format w h values ok v = rre_is_read format w h values ok (forms.are_pixels format w h values v) v.wide.0 v.wide.1 v.high.0 v.high.1 v.count
 form_is_read Joined Hextile format w h values ok v =
-    let bytes : List ℕ = joined_hextile_bytes format w h (value_at w values) in
+    let bytes : List ℕ = hextile_bytes_as Joined format w h (value_at w values) in
     let others : List ℕ = form Hextile format w h values in
     cond_both (nat_le (length bytes) (length others)) bytes others (λ field. Spells (pixels Hextile format w h) field values)
     (λ e. hextile_is_read format w h values ok (forms.are_pixels format w h values v) v.wide.0 v.count) (λ e. forms.form_is_read Hextile format w h values ok v)

@@ -67,26 +67,35 @@ joined_rre_bytes format w h canvas =
 
 -- ---- Hextile (RFC 6143, 7.7.4)
 
--- A tile: the joined runs over its most frequent value. Its mask, what is left off, and when it is Raw, are as ever.
-abbrev pub joined_tile_bytes : PixelFormat → Carried → ℕ → ℕ → Canvas → List ℕ × Carried
-joined_tile_bytes format before w h canvas =
-    let background = most_frequent (values_of w h canvas) in
-    let subrects = joined_runs canvas background w h in
+-- The background of a tile: the first pixel's value; or the most frequent one.
+abbrev pub background_of : Runs → ℕ → ℕ → Canvas → ℕ
+background_of OfRows w h canvas = canvas 0 0
+background_of Joined w h canvas = most_frequent (values_of w h canvas)
+
+-- The subrectangles of a tile.
+abbrev pub subrects_of : Runs → ℕ → ℕ → Canvas → List Subrect
+subrects_of runs w h canvas = written runs canvas w h (runs_over canvas (background_of runs w h canvas) w h)
+
+-- A tile. Its mask, what is left off, and when it is Raw, are the same in both forms.
+abbrev pub tile_bytes_as : Runs → PixelFormat → Carried → ℕ → ℕ → Canvas → List ℕ × Carried
+tile_bytes_as runs format before w h canvas =
+    let background = background_of runs w h canvas in
+    let subrects = subrects_of runs w h canvas in
     let drawn = drawn_bytes format before background subrects in
     let as_raw = 1 ∷ raw_bytes format (values_of w h canvas) in
     if nat_le (length as_raw) (length drawn) then (as_raw, nothing_carried) else (drawn, drawn_leaves background subrects)
 
 -- This many tiles of a rectangle, the first of them number k.
-abbrev pub joined_tiles_from : PixelFormat → ℕ → ℕ → Canvas → Carried → ℕ → ℕ → List ℕ
-joined_tiles_from format w h canvas before k zero = []
-joined_tiles_from format w h canvas before k (suc n) =
+abbrev pub tiles_from_as : Runs → PixelFormat → ℕ → ℕ → Canvas → Carried → ℕ → ℕ → List ℕ
+tiles_from_as runs format w h canvas before k zero = []
+tiles_from_as runs format w h canvas before k (suc n) =
     let here = tile_rect w h k in
-    let first = joined_tile_bytes format before here.w here.h (part_of here canvas) in
-    first.0 ++ joined_tiles_from format w h canvas first.1 (k + 1) n
+    let first = tile_bytes_as runs format before here.w here.h (part_of here canvas) in
+    first.0 ++ tiles_from_as runs format w h canvas first.1 (k + 1) n
 
--- The tiles of a rectangle, each of joined runs.
-abbrev pub joined_hextile_bytes : PixelFormat → ℕ → ℕ → Canvas → List ℕ
-joined_hextile_bytes format w h canvas = joined_tiles_from format w h canvas nothing_carried 0 (tile_count w h)
+-- The tiles of a rectangle.
+abbrev pub hextile_bytes_as : Runs → PixelFormat → ℕ → ℕ → Canvas → List ℕ
+hextile_bytes_as runs format w h canvas = tiles_from_as runs format w h canvas nothing_carried 0 (tile_count w h)
 
 -- ---- both forms
 
@@ -101,7 +110,7 @@ abbrev pub form_of : Runs → Encoding → PixelFormat → ℕ → ℕ → List 
 form_of OfRows encoding format w h values = form encoding format w h values
 form_of Joined Raw format w h values = raw_bytes format values
 form_of Joined Rre format w h values = joined_rre_bytes format w h (value_at w values)
-form_of Joined Hextile format w h values = shorter (joined_hextile_bytes format w h (value_at w values)) (form Hextile format w h values)
+form_of Joined Hextile format w h values = shorter (hextile_bytes_as Joined format w h (value_at w values)) (form Hextile format w h values)
 
 -- It is used only where it has fewer bytes than Raw.
 abbrev pub saves_bytes_as : Runs → Encoding → PixelFormat → ℕ → ℕ → List ℕ → Bool

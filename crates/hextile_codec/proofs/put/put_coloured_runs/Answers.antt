@@ -17,7 +17,7 @@ loop-run-preserved c =
     let at : ℕ = c.loop-run.at in
     let i : ℕ = c.loop-run.run-index in
     let runs : List Run = c.args.runs.now in
-    let none : Run = record { value = 0; x = 0; y = 0; len = 0 } in
+    let none : Run = record { value = 0; x = 0; y = 0; len = 0; high = 0 } in
     let s : Subrect = subrect_of (get_or runs i none) in
     let p : ℕ = pixel_len c.args.format.now in
     let pixel : List ℕ = pixel_bytes c.args.format.now s.value in

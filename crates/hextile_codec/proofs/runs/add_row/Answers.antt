@@ -21,7 +21,7 @@ loop-x-preserved c =
     let behind : x + len < length row → IsFresh (row_shows row) c.args.y (x + len) = λ lt. fresh_next row c.args.y x len c.loop-x-test.true long lt in
     elim c.if-value-background.branch [
       | then-value-background w ↦
-          let run : Run = record { value = get_or row x 0; x = x; y = c.args.y; len = len } in
+          let run : Run = record { value = get_or row x 0; x = x; y = c.args.y; len = len; high = 1 } in
           let now : c.if-value-background.runs.items ≡ c.loop-x.runs.items ++ run ∷ [] = rw w.runs-is w.push.ensures.items in
           let count : length c.if-value-background.runs.items ≡ length c.loop-x.runs.items + 1 = ap length now ∙ length-append c.loop-x.runs.items (run ∷ []) in
           record {

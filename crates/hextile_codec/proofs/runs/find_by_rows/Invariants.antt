@@ -7,5 +7,5 @@ abbrev pub invariant-loop-y : goal.invariant-loop-y
 invariant-loop-y l =
     record {
       few : length l.found.items ≤ l.y * l.tile.w;
-      above : AreAbove (part_of l.tile (value_at l.w l.values)) l.tile.w l.tile.h l.y l.found.items;
+      above : AreAbove (part_of l.tile (value_at l.w l.values)) l.background l.tile.w l.tile.h l.y l.found.items;
     }

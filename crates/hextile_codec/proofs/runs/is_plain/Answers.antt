@@ -10,9 +10,9 @@ loop-y-preserved c =
     let tile : Rect = c.args.tile.now in
     let canvas : Canvas = part_of tile (value_at c.args.w c.args.values.now) in
     let none = background_alone c.row_of.result.now c.args.background c.loop-y.y (sym c.is_all.ensures ∙ c.if-not-is_all.false) in
-    row_above canvas tile.w tile.h c.loop-y.y c.args.background c.row_of.result.now [] [] c.row_of.ensures.len c.row_of.ensures.values c.loop-y-test.true c.requires.background (sym none) c.loop-y.invariant
+    row_above canvas c.args.background tile.w tile.h c.loop-y.y c.row_of.result.now [] [] c.row_of.ensures.len c.row_of.ensures.values c.loop-y-test.true (sym none) c.loop-y.invariant
 
 pub returns : goal.returns
 returns c =
     let tile : Rect = c.args.tile.now in
-    λ _. sym (all_above (part_of tile (value_at c.args.w c.args.values.now)) tile.w tile.h c.loop-y.y [] c.loop-y-test.false c.loop-y.invariant)
+    λ _. sym (all_above (part_of tile (value_at c.args.w c.args.values.now)) c.args.background tile.w tile.h c.loop-y.y [] c.loop-y-test.false c.loop-y.invariant)

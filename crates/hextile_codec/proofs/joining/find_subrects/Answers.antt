@@ -1,0 +1,24 @@
+use Rattle.std.proofs.Common.{◌≡◌, ℕ, Bool, true, false, Option, Some, None, List, map, ap, sym, refl}
+use Rattle.std.specs.Prelude.{MatchOption}
+use Rattle.std.specs.Bool.{then_some}
+use Rattle.raster.specs.declared.rect.Rect.{Rect}
+use Rattle.raster.specs.Screen.{Canvas, value_at, part_of}
+use Rattle.raster.specs.Encoding.{Subrect}
+use Rattle.raster.proofs.AreaRows.{tile_first}
+use Rattle.hextile_codec.specs.Kinds.{HasMany, IsFoundAs, subrect_of}
+use Rattle.hextile_codec.proofs.joining.find_subrects.Goals as goal
+
+by_answer : (b : Bool) (v : ℕ) (N : Type 0) (S : ℕ → Type 0) → (b ≡ false → N) → (b ≡ true → S v) → MatchOption (then_some b v) N S
+by_answer true v N S f g = g refl
+by_answer false v N S f g = f refl
+
+pub returns-in-OfRows : goal.returns-in-OfRows
+returns-in-OfRows c =
+    let tile : Rect = c.args.tile.now in
+    let canvas : Canvas = part_of tile (value_at c.args.w c.args.values.now) in
+    let first = tile_first c.args.values.now c.args.w tile in
+    let found : List Subrect = map subrect_of c.find_runs.new.found.items in
+    rw (c.then_some.ensures, c.in-OfRows.is)
+    (by_answer c.find_runs.result _ (HasMany _ tile.w tile.h canvas c.args.enough) (IsFoundAs _ tile.w tile.h canvas found)
+    (λ e. record { many = rw first at (c.find_runs.ensures.many e); mixed = rw first at (c.find_runs.ensures.mixed e) })
+    (λ e. record { background = first; all = rw first at (c.find_runs.ensures.all e) }))
