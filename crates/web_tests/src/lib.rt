@@ -1,4 +1,5 @@
-//! Tests of `web_frames` and `web_link`, which stand in a crate of their own so that each of those is proved once.
+//! Tests of `web_frames`, `web_link` and `web_door`, which stand in a crate of their own so that each of those is proved
+//! once.
 //! Frames are spelled by hand after RFC 6455, sections 5.2 and 5.7.
 #![tactic(auto)]
 
@@ -10,5 +11,9 @@ mod gathering;
 mod giving;
 #[cfg(test)]
 mod reader;
+#[cfg(test)]
+mod site;
+#[cfg(test)]
+mod table;
 #[cfg(test)]
 mod taking;
