@@ -1,0 +1,3 @@
+pub mod Steps
+pub mod Sent
+pub mod Vectors
