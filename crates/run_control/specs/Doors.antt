@@ -1,0 +1,119 @@
+-- How the doors of a run stand, and what a request and who comes or leaves make of them.
+use Rattle.std.specs.Prelude.{ℕ, zero, suc, ◌&&◌, Bool, true, false, List, set, slice_get, count_by, Option, Some, None}
+use Rattle.run_control.specs.declared.doors.Place.{Place}
+use Rattle.run_control.specs.declared.doors.Place.TheVariants.{Free, Taken, Leaving}
+use Rattle.run_control.specs.declared.doors.Entry.{Entry}
+use Rattle.run_control.specs.declared.doors.Entry.TheVariants.{Open, Drained, Closed}
+use Rattle.run_control.specs.declared.doors.Outcome.{Outcome}
+use Rattle.run_control.specs.declared.doors.Outcome.TheVariants as outcome
+use Rattle.run_control.specs.declared.request.Request.{Request}
+use Rattle.run_control.specs.declared.request.Request.TheVariants.{State, Drain, Undrain, End, Stop}
+
+-- Whether viewers are let in, and how each place stands.
+pub record Standing : Type 0 where
+  pub entry : Entry
+  pub places : List Place
+
+-- Places are counted from 1.
+abbrev pub place_at : Standing → ℕ → Option Place
+place_at s zero = None
+place_at s (suc n) = slice_get s.places n
+
+-- The place of this number stands so, if there is one; all others as before.
+abbrev pub with_place : Standing → ℕ → Place → Standing
+with_place s zero place = s
+with_place s (suc n) place = record s { places = set s.places n place }
+
+abbrev pub is_free : Place → Bool
+is_free Free = true
+is_free Taken = false
+is_free Leaving = false
+
+abbrev pub free_places : Standing → ℕ
+free_places s = count_by is_free s.places
+
+-- Viewers are let in.
+abbrev pub is_open : Entry → Bool
+is_open Open = true
+is_open Drained = false
+is_open Closed = false
+
+-- The place has no viewer, and there is one.
+abbrev pub is_vacant : Option Place → Bool
+is_vacant (Some Free) = true
+is_vacant (Some Taken) = false
+is_vacant (Some Leaving) = false
+is_vacant None = false
+
+-- Where the run ends each viewer is asked to leave.
+abbrev pub asks : Entry → Option Place → Bool
+asks entry None = false
+asks entry (Some Free) = false
+asks Open (Some Taken) = false
+asks Drained (Some Taken) = false
+asks Closed (Some Taken) = true
+asks entry (Some Leaving) = true
+
+abbrev pub is_asked : Standing → ℕ → Bool
+is_asked s n = asks s.entry (place_at s n)
+
+-- ---- who comes and leaves
+
+-- One who comes to a place is let in if it's free and viewers are let in.
+abbrev pub is_let_in : Standing → ℕ → Bool
+is_let_in s n = is_open s.entry && is_vacant (place_at s n)
+
+abbrev pub takes_if : Bool → Standing → ℕ → Standing
+takes_if true s n = with_place s n Taken
+takes_if false s n = s
+
+abbrev pub after_coming : Standing → ℕ → Standing
+after_coming s n = takes_if (is_let_in s n) s n
+
+abbrev pub after_leaving : Standing → ℕ → Standing
+after_leaving s n = with_place s n Free
+
+-- ---- requests
+
+-- A run that ends goes on ending.
+abbrev pub drained : Entry → Entry
+drained Open = Drained
+drained Drained = Drained
+drained Closed = Closed
+
+abbrev pub undrained : Entry → Entry
+undrained Open = Open
+undrained Drained = Open
+undrained Closed = Closed
+
+abbrev pub ended : Option Place → Standing → ℕ → Standing
+ended (Some Taken) s n = with_place s n Leaving
+ended (Some Free) s n = s
+ended (Some Leaving) s n = s
+ended None s n = s
+
+abbrev pub after_request : Standing → Request → Standing
+after_request s (State form) = s
+after_request s Drain = record s { entry = drained s.entry }
+after_request s Undrain = record s { entry = undrained s.entry }
+after_request s (End n) = ended (place_at s n) s n
+after_request s Stop = record s { entry = Closed }
+
+-- What is answered.
+abbrev pub outcome_at : Option Place → Outcome
+outcome_at None = outcome.NoPlace
+outcome_at (Some Free) = outcome.Nobody
+outcome_at (Some Taken) = outcome.Done
+outcome_at (Some Leaving) = outcome.Done
+
+abbrev pub outcome_reopened : Entry → Outcome
+outcome_reopened Closed = outcome.Ending
+outcome_reopened Open = outcome.Done
+outcome_reopened Drained = outcome.Done
+
+abbrev pub outcome_of : Standing → Request → Outcome
+outcome_of s (State form) = outcome.Done
+outcome_of s Drain = outcome.Done
+outcome_of s Undrain = outcome_reopened s.entry
+outcome_of s (End n) = outcome_at (place_at s n)
+outcome_of s Stop = outcome.Done

@@ -1,0 +1,200 @@
+//! The doors of a run: who may come in, and which places are taken.
+
+use crate::request::Request;
+use std::alloc::{AllocError, Global};
+use std::marker::Model;
+
+/// How a place stands.
+#[derive(Clone, Copy, Debug, PartialEq, Eq)]
+pub enum Place {
+    /// It has no viewer.
+    Free,
+    /// It has one.
+    Taken,
+    /// It has one, of whom `end` has asked that he leaves.
+    Leaving,
+}
+
+/// Whether viewers are let in.
+#[derive(Clone, Copy, Debug, PartialEq, Eq)]
+pub enum Entry {
+    /// Wherever a place is free.
+    Open,
+    /// Nobody is, until viewers are let in again.
+    Drained,
+    /// Nobody is any more: the run ends, and whoever is there is asked to leave.
+    Closed,
+}
+
+/// What became of a request.
+#[derive(Clone, Copy, Debug, PartialEq, Eq)]
+pub enum Outcome {
+    /// What was asked for holds now.
+    Done,
+    /// There is no such place.
+    NoPlace,
+    /// The place has no viewer.
+    Nobody,
+    /// The run ends already: nobody is let in again.
+    Ending,
+}
+
+/// The doors of a run. Places are counted from 1.
+#[derive(Drop)]
+pub struct Doors {
+    entry: Entry,
+    places: Vec<Place>,
+}
+
+impl Model for Doors {
+    ghost use Rattle.run_control.specs.Doors.{Standing};
+
+    ghost Value = { Standing };
+
+    ghost view = { λ d. record { entry = d.entry; places = d.places.items } };
+}
+
+impl Doors {
+    ghost use Rattle.std.specs.Prelude.{◌≡◌, IfOk, length, replicate, count_by};
+    ghost use Rattle.run_control.specs.Doors.{after_coming, after_leaving, after_request, free_places, is_asked, is_let_in, outcome_of, place_at, with_place};
+
+    /// Doors at which viewers are let in, with so many places, all free. It fails where memory is refused for them.
+    pub fn new(alloc: Global, places: usize) -> Result<Doors, AllocError>
+        ensures { IfOk result (λ doors. doors ≡ record { entry = Entry.Open; places = replicate places Place.Free }) }
+    {
+        Ok(Doors {
+            entry: Entry::Open,
+            places: vec![in alloc; Place::Free; places]?,
+        })
+    }
+
+    /// Whether viewers are let in.
+    pub fn entry(&self) -> Entry
+        ensures { result ≡ self.now.entry }
+    {
+        self.entry
+    }
+
+    /// How many places there are.
+    pub fn places(&self) -> usize
+        ensures { result ≡ length self.now.places }
+    {
+        self.places.len()
+    }
+
+    /// How the place of this number stands, if there is one.
+    pub fn place(&self, number: u64) -> Option<Place>
+        ensures { result ≡ place_at self.now number }
+    {
+        if number == 0 {
+            return None;
+        }
+        self.places.get((number - 1) as usize).copied()
+    }
+
+    /// How many places have no viewer.
+    pub fn free(&self) -> usize
+        ensures { result ≡ free_places self.now }
+    {
+        self.places
+            .iter()
+            .filter(|place| matches!(place, Place::Free))
+            .count()
+    }
+
+    /// Whether a place has a viewer who is asked to leave: by `end`, or since the run ends.
+    pub fn is_asked(&self, number: u64) -> bool
+        ensures { result ≡ is_asked self.now number }
+    {
+        match self.place(number) {
+            Some(Place::Leaving) => true,
+            Some(Place::Taken) => matches!(self.entry, Entry::Closed),
+            Some(Place::Free) | None => false,
+        }
+    }
+
+    /// Has the place of this number stand so. Where there is none nothing changes.
+    fn set(&mut self, number: u64, place: Place)
+        ensures { self.new ≡ with_place self.old number place }
+    {
+        if number == 0 {
+            return;
+        }
+        let index = (number - 1) as usize;
+        if index < self.places.len() {
+            self.places[index] = place;
+        }
+    }
+
+    /// A viewer comes to this place. It takes the place if that is free and viewers are let in; whether it does is
+    /// answered.
+    pub fn enter(&mut self, number: u64) -> bool
+        ensures after { self.new ≡ after_coming self.old number }
+        ensures value { result ≡ is_let_in self.old number }
+    {
+        match (self.entry, self.place(number)) {
+            (Entry::Open, Some(Place::Free)) => {
+                self.set(number, Place::Taken);
+                true
+            }
+            _ => false,
+        }
+    }
+
+    /// The viewer of this place has left.
+    pub fn leave(&mut self, number: u64)
+        ensures { self.new ≡ after_leaving self.old number }
+    {
+        self.set(number, Place::Free);
+    }
+
+    /// Asks the viewer of this place to leave.
+    fn end(&mut self, number: u64) -> Outcome
+        ensures after { self.new ≡ after_request self.old (Request.End number) }
+        ensures outcome { result ≡ outcome_of self.old (Request.End number) }
+    {
+        match self.place(number) {
+            None => Outcome::NoPlace,
+            Some(Place::Free) => Outcome::Nobody,
+            Some(Place::Leaving) => Outcome::Done,
+            Some(Place::Taken) => {
+                self.set(number, Place::Leaving);
+                Outcome::Done
+            }
+        }
+    }
+
+    /// Lets viewers in again, if the run doesn't end.
+    fn reopen(&mut self) -> Outcome
+        ensures after { self.new ≡ after_request self.old Request.Undrain }
+        ensures outcome { result ≡ outcome_of self.old Request.Undrain }
+    {
+        if matches!(self.entry, Entry::Closed) {
+            return Outcome::Ending;
+        }
+        self.entry = Entry::Open;
+        Outcome::Done
+    }
+
+    /// Does what is asked, and answers what became of it. `State` changes nothing.
+    pub fn ask(&mut self, request: Request) -> Outcome
+        ensures after { self.new ≡ after_request self.old request }
+        ensures outcome { result ≡ outcome_of self.old request }
+    {
+        match request {
+            Request::State(_) => Outcome::Done,
+            Request::Drain => {
+                if matches!(self.entry, Entry::Open) {
+                    self.entry = Entry::Drained;
+                }
+                Outcome::Done
+            }
+            Request::Undrain => self.reopen(),
+            Request::End(number) => self.end(number),
+            Request::Stop => {
+                self.entry = Entry::Closed;
+                Outcome::Done
+            }
+        }
+    }
+}

@@ -1,0 +1,19 @@
+//! What an operator asks of a running reflector, and what a request does to its doors.
+//!
+//! A request is a line of text. What it does, and who may come in after it, is a function of values; who reads lines
+//! from where, and who waits at the doors, is the caller's. Memory: for the places, once, and for an answer's text.
+#![tactic(auto)]
+
+mod doors;
+mod law;
+mod request;
+
+pub use doors::{Doors, Entry, Outcome, Place};
+pub use law::{
+    drained_doors_let_nobody_in, end_asks_one_place, nobody_comes_in_after_a_stop,
+    whoever_is_there_stays,
+};
+pub use request::{Form, Request};
+
+#[cfg(test)]
+mod tests;

@@ -1,0 +1,76 @@
+//! The lines of requests.
+
+ghost use Rattle.std.specs.Prelude.{◌≡◌, ◌≢◌, ◌<◌, ◌^◌, ◌==◌, ◌&&◌, ◌||◌, ℕ, IfSome, IfNone, length, nat_lt, slice_index};
+ghost use Rattle.std.specs.Fmt.{decimal};
+ghost use Rattle.run_control.specs.Request.{IsInRange, Says};
+ghost use Rattle.run_control.specs.declared.request.Request as declared;
+ghost use Rattle.run_control.specs.declared.request.Request.TheVariants as request;
+
+/// In which form an answer is written.
+#[derive(Clone, Copy, Debug, PartialEq, Eq)]
+pub enum Form {
+    /// As lines that people read.
+    Text,
+    /// As one object of JSON.
+    Json,
+}
+
+/// What is asked of a running reflector.
+#[derive(Clone, Copy, Debug, PartialEq, Eq)]
+pub enum Request {
+    /// How it stands: `state`, or `state json`.
+    State(Form),
+    /// That nobody is let in any more: `drain`. Who is there stays.
+    Drain,
+    /// That viewers are let in again: `undrain`.
+    Undrain,
+    /// That the viewer of this place leaves: `end PLACE`. Places are counted from 1.
+    End(u64),
+    /// That all viewers leave, and the run ends: `stop`.
+    Stop,
+}
+
+impl Request {
+    /// Reads a line, without its line feed. `None` where it is no request.
+    pub fn read(line: &str) -> Option<Request>
+        ensures says { IfSome result (λ request. IsInRange request × Says request line.now) }
+        ensures none { IfNone result ((request : declared.Request) → IsInRange request → ¬ Says request line.now) }
+    {
+        match line {
+            "state" => Some(Request::State(Form::Text)),
+            "state json" => Some(Request::State(Form::Json)),
+            "drain" => Some(Request::Drain),
+            "undrain" => Some(Request::Undrain),
+            "stop" => Some(Request::Stop),
+            _ => end_request(line),
+        }
+    }
+}
+
+/// `end PLACE`
+fn end_request(line: &str) -> Option<Request>
+    ensures found { IfSome result (λ request. IsInRange request × Says request line.now) }
+    ensures none { IfNone result ((place : ℕ) → place < 2 ^ 64 → ¬ Says (request.End place) line.now) }
+{
+    let place = line.strip_prefix("end ")?;
+    let place = number(place)?;
+    Some(Request::End(place))
+}
+
+/// Whether a text has a plus or a leading zero, which `parse` would take.
+fn is_padded(text: &[u8]) -> bool
+    ensures { result ≡ ((slice_index text.now 0 == 43) || ((slice_index text.now 0 == 48) && nat_lt 1 (length text.now))) }
+{
+    !text.is_empty() && (text[0] == b'+' || (text[0] == b'0' && text.len() > 1))
+}
+
+/// A number in decimal digits, without a sign and without leading zeros.
+fn number(text: &str) -> Option<u64>
+    ensures found { IfSome result (λ found. (found < 2 ^ 64) × (text.now ≡ decimal found)) }
+    ensures none { IfNone result ((n : ℕ) → n < 2 ^ 64 → text.now ≢ decimal n) }
+{
+    if is_padded(text.as_bytes()) {
+        return None;
+    }
+    text.parse::<u64>().ok()
+}
