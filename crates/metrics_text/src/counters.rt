@@ -1,0 +1,51 @@
+//! What is counted.
+
+/// A number of each role.
+#[derive(Clone, Copy, Debug)]
+pub struct ByRole {
+    /// Of those with full control.
+    pub full: u64,
+    /// Of those that only look on.
+    pub view: u64,
+}
+
+/// By how many updates viewers are behind: what half of them, nine in ten and all of them don't exceed.
+#[derive(Clone, Copy, Debug)]
+pub struct Lag {
+    pub half: u64,
+    pub nine_tenths: u64,
+    pub all: u64,
+}
+
+/// What a reflector counts. Sums are of the whole run, and only grow.
+#[derive(Clone, Copy, Debug)]
+pub struct Counters {
+    /// Whether a host is joined.
+    pub is_joined: bool,
+    /// How many seconds ago the host's last byte came.
+    pub silent_seconds: u64,
+    /// How many hosts were joined.
+    pub joins: u64,
+    /// How many hosts were tried.
+    pub tries: u64,
+    /// How many places there are.
+    pub places: ByRole,
+    /// How many viewers have a place.
+    pub viewers: ByRole,
+    /// How many viewers came.
+    pub came: ByRole,
+    /// How many found no place.
+    pub refused: ByRole,
+    /// How many updates of hosts were put.
+    pub updates: u64,
+    /// How many updates were begun for viewers.
+    pub answers: u64,
+    /// How many bytes were sent to viewers.
+    pub bytes: u64,
+    /// By how many updates the viewers are behind now.
+    pub lag: Lag,
+    /// How many inputs wait for the host.
+    pub queued: u64,
+    /// How many inputs were dropped, since another viewer's stroke was under way.
+    pub dropped: u64,
+}

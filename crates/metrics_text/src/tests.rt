@@ -1,0 +1,85 @@
+//! A text, as it was written by hand after the rules of the format.
+
+use crate::counters::{ByRole, Counters, Lag};
+use crate::text::metrics_text;
+use std::test::Fail;
+
+const EXPECTED: &str = "# HELP reflectord_host_joined 1 while a host is joined.
+# TYPE reflectord_host_joined gauge
+reflectord_host_joined 1
+# HELP reflectord_host_silent_seconds Seconds since the last byte of the host.
+# TYPE reflectord_host_silent_seconds gauge
+reflectord_host_silent_seconds 2
+# HELP reflectord_host_joins_total Hosts that were joined.
+# TYPE reflectord_host_joins_total counter
+reflectord_host_joins_total 3
+# HELP reflectord_host_tries_total Hosts that were tried.
+# TYPE reflectord_host_tries_total counter
+reflectord_host_tries_total 40
+# HELP reflectord_places Places of a role.
+# TYPE reflectord_places gauge
+reflectord_places{role=\"full\"} 4
+reflectord_places{role=\"view\"} 32
+# HELP reflectord_viewers Viewers that have a place.
+# TYPE reflectord_viewers gauge
+reflectord_viewers{role=\"full\"} 1
+reflectord_viewers{role=\"view\"} 31
+# HELP reflectord_viewers_total Viewers that came.
+# TYPE reflectord_viewers_total counter
+reflectord_viewers_total{role=\"full\"} 5
+reflectord_viewers_total{role=\"view\"} 600
+# HELP reflectord_refused_total Viewers that found no place.
+# TYPE reflectord_refused_total counter
+reflectord_refused_total{role=\"full\"} 0
+reflectord_refused_total{role=\"view\"} 7
+# HELP reflectord_updates_total Updates of hosts that were put.
+# TYPE reflectord_updates_total counter
+reflectord_updates_total 18446744073709551615
+# HELP reflectord_answers_total Updates begun for viewers.
+# TYPE reflectord_answers_total counter
+reflectord_answers_total 8
+# HELP reflectord_sent_bytes_total Bytes sent to viewers.
+# TYPE reflectord_sent_bytes_total counter
+reflectord_sent_bytes_total 9
+# HELP reflectord_input_queued Inputs that wait for the host.
+# TYPE reflectord_input_queued gauge
+reflectord_input_queued 10
+# HELP reflectord_input_dropped_total Inputs dropped inside another viewer's stroke.
+# TYPE reflectord_input_dropped_total counter
+reflectord_input_dropped_total 11
+# HELP reflectord_viewer_lag_updates By how many updates this share of the viewers is behind at most.
+# TYPE reflectord_viewer_lag_updates gauge
+reflectord_viewer_lag_updates{share=\"0.5\"} 0
+reflectord_viewer_lag_updates{share=\"0.9\"} 1
+reflectord_viewer_lag_updates{share=\"1\"} 12
+";
+
+fn counters() -> Counters {
+    Counters {
+        is_joined: true,
+        silent_seconds: 2,
+        joins: 3,
+        tries: 40,
+        places: ByRole { full: 4, view: 32 },
+        viewers: ByRole { full: 1, view: 31 },
+        came: ByRole { full: 5, view: 600 },
+        refused: ByRole { full: 0, view: 7 },
+        updates: u64::MAX,
+        answers: 8,
+        bytes: 9,
+        lag: Lag {
+            half: 0,
+            nine_tenths: 1,
+            all: 12,
+        },
+        queued: 10,
+        dropped: 11,
+    }
+}
+
+#[test]
+fn each_number_has_its_line(rt: HostRuntime) -> Result<(), Fail> {
+    let text = metrics_text(rt.alloc(), &counters())?;
+    assert_eq!(rt; text.as_str(), EXPECTED);
+    Ok(())
+}
