@@ -1,5 +1,5 @@
 -- At which update each tile of a screen was last touched.
-use Rattle.std.specs.Prelude.{◌≡◌, ℕ, ◌<◌, Bool, true, nat_lt, if◌then◌else◌, List, slice_index, Option, Some, None}
+use Rattle.std.specs.Prelude.{◌≡◌, ℕ, ◌<◌, Bool, true, not, ◌&&◌, nat_lt, if◌then◌else◌, List, slice_index, Option, Some, None}
 use Rattle.raster.specs.Screen.{tile_count, tile_rect}
 use Rattle.raster.specs.Update.{Update}
 use Rattle.tiles.specs.Have.{SentTiles, sent_at}
@@ -33,3 +33,19 @@ is_due_at (Some n) stamp = nat_lt n stamp
 -- Tile t is due, by its stamp and what a viewer has of it.
 abbrev pub due_at : Stamps → SentTiles → ℕ → Bool
 due_at grid have t = is_due_at (sent_at have t) (stamp_at grid t)
+
+-- ---- a grid that is behind, and a newer one of the same screen
+
+-- Tile t was touched after update n, by its stamp.
+abbrev pub is_newer : Stamps → ℕ → ℕ → Bool
+is_newer grid n t = nat_lt n (stamp_at grid t)
+
+-- Tile t was touched after update n by the newer grid, and not by the one that is behind.
+abbrev pub is_lacked : Stamps → Stamps → ℕ → ℕ → Bool
+is_lacked grid newer n t = is_newer newer n t && not (is_newer grid n t)
+
+-- Each such tile has the newer grid's stamp, and each other tile the one that it had.
+pub record IsCaughtUp (newer : Stamps) (n : ℕ) (old new : Stamps) : Type 0 where
+  pub width : new.width ≡ old.width
+  pub height : new.height ≡ old.height
+  pub each : (t : ℕ) → t < tile_count old.width old.height → stamp_at new t ≡ (if is_lacked old newer n t then stamp_at newer t else stamp_at old t)

@@ -1,10 +1,10 @@
 //! At which update each tile was last touched.
 
-ghost use Rattle.std.specs.Prelude.{◌≡◌, ℕ, ◌+◌, ◌*◌, ◌<◌, ◌≤◌, [], length, max, slice_index, List, IfOk, IfErr};
+ghost use Rattle.std.specs.Prelude.{◌≡◌, ℕ, ◌+◌, ◌*◌, ◌<◌, ◌≤◌, [], length, max, nat_lt, not, ◌&&◌, if◌then◌else◌, slice_index, List, IfOk, IfErr};
 ghost use Rattle.raster.specs.Screen.{IsWithin, fill, meets, tile_count, tile_rect, tiles_across};
 ghost use Rattle.raster.specs.Size.{IsScreenSize};
 ghost use Rattle.raster.specs.Update.{Update};
-ghost use Rattle.tiles.specs.Grid.{GridStands, IsTouched, stamp_at};
+ghost use Rattle.tiles.specs.Grid.{GridStands, IsCaughtUp, IsTouched, stamp_at};
 ghost use Rattle.tiles.specs.Touched.{last_touch};
 ghost use Rattle.pixel_format.specs.declared.fault.Fault.TheVariants.{Memory};
 
@@ -76,6 +76,73 @@ fn raise_rows(greatest: &mut [u64], from: usize, to: usize, n: u64)
     }
 }
 
+/// The stamp of a tile that is caught up: a newer grid's, where that is above `number` and its own isn't.
+fn later(own: u64, newer: u64, number: u64) -> u64
+    ensures { result ≡ (if nat_lt number newer && not (nat_lt number own) then newer else own) }
+{
+    if number < newer && !(number < own) {
+        newer
+    } else {
+        own
+    }
+}
+
+/// Catches up some tiles that stand one after the other.
+fn take_part(stamps: &mut [u64], newer: &[u64], from: usize, to: usize, number: u64)
+    requires same { length newer.now ≡ length stamps.old }
+    requires there { to ≤ length stamps.old }
+    requires order { from ≤ to }
+    ensures inside { (k : ℕ) → from ≤ k → k < to → slice_index stamps.new k ≡ (if nat_lt number (slice_index newer.now k) && not (nat_lt number (slice_index stamps.old k)) then slice_index newer.now k else slice_index stamps.old k) }
+    ensures before { (k : ℕ) → k < from → slice_index stamps.new k ≡ slice_index stamps.old k }
+    ensures behind { (k : ℕ) → to ≤ k → slice_index stamps.new k ≡ slice_index stamps.old k }
+{
+    for t in from..to {
+        stamps[t] = later(stamps[t], newer[t], number);
+    }
+}
+
+/// Catches up the tiles of a row, and leaves a row out of which no tile is newer.
+fn take_row(stamps: &mut [u64], newer: &Grid, across: u64, row: u64, number: u64)
+    requires across { across ≡ tiles_across newer.now.width }
+    requires all { length stamps.old ≡ tile_count newer.now.width newer.now.height }
+    requires there { row < tiles_across newer.now.height }
+    ensures inside { (k : ℕ) → row * across ≤ k → k < row * across + across → slice_index stamps.new k ≡ (if nat_lt number (stamp_at newer.now k) && not (nat_lt number (slice_index stamps.old k)) then stamp_at newer.now k else slice_index stamps.old k) }
+    ensures before { (k : ℕ) → k < row * across → slice_index stamps.new k ≡ slice_index stamps.old k }
+    ensures behind { (k : ℕ) → row * across + across ≤ k → slice_index stamps.new k ≡ slice_index stamps.old k }
+{
+    if number < newer.greatest_of_row(row) {
+        let first = (row * across) as usize;
+        take_part(
+            stamps,
+            newer.stamps.as_slice(),
+            first,
+            first + across as usize,
+            number,
+        );
+    }
+}
+
+/// Catches up all tiles of a screen.
+fn take_rows(stamps: &mut [u64], newer: &Grid, number: u64)
+    requires { length stamps.old ≡ tile_count newer.now.width newer.now.height }
+    ensures { (t : ℕ) → t < tile_count newer.now.width newer.now.height → slice_index stamps.new t ≡ (if nat_lt number (stamp_at newer.now t) && not (nat_lt number (slice_index stamps.old t)) then stamp_at newer.now t else slice_index stamps.old t) }
+{
+    let across = tiles_along(newer.width);
+    for row in 0..tiles_along(newer.height) {
+        take_row(stamps, newer, across, row, number);
+    }
+}
+
+/// Each row of tiles has the greater of two numbers.
+fn raise_each(greatest: &mut [u64], newer: &[u64])
+    requires { length newer.now ≡ length greatest.old }
+    ensures { (k : ℕ) → k < length greatest.old → slice_index greatest.new k ≡ max (slice_index greatest.old k) (slice_index newer.now k) }
+{
+    for row in 0..greatest.len() {
+        greatest[row] = greatest[row].max(newer[row]);
+    }
+}
+
 impl Grid {
     /// No tile of a screen of `width` by `height` pixels was touched. It fails where memory is refused (`Memory`).
     pub fn new(alloc: Global, width: u64, height: u64) -> Result<Self, Fault>
@@ -130,6 +197,29 @@ impl Grid {
             (tiles.y + tiles.h) as usize,
             n,
         );
+    }
+
+    /// Each tile that a newer grid of its screen says was touched after update `number`, and this one doesn't, has the
+    /// newer's stamp from now on. It takes no memory, and looks at no row of tiles of which none is newer.
+    pub fn catch_up(&mut self, newer: &Grid, number: u64)
+        requires { (newer.now.width ≡ self.old.width) × (newer.now.height ≡ self.old.height) }
+        ensures { IsCaughtUp newer.now number self.old self.new }
+    {
+        take_rows(self.stamps.as_mut_slice(), newer, number);
+        raise_each(self.greatest.as_mut_slice(), newer.greatest.as_slice());
+    }
+
+    /// The same stamps as another grid of its screen. It takes no memory.
+    pub fn copy_from(&mut self, other: &Grid)
+        requires { (other.now.width ≡ self.old.width) × (other.now.height ≡ self.old.height) }
+        ensures { self.new ≡ other.now }
+    {
+        self.stamps
+            .as_mut_slice()
+            .copy_from_slice(other.stamps.as_slice());
+        self.greatest
+            .as_mut_slice()
+            .copy_from_slice(other.greatest.as_slice());
     }
 
     /// A number that is at least the stamp of each tile in a row of tiles.
