@@ -8,3 +8,5 @@ pub mod SameVectors
 pub mod TilePuts
 pub mod TileColours
 pub mod Switches
+pub mod NewerLaws
+pub mod CaughtUp

@@ -121,7 +121,7 @@ same_screen w h start before c ps passes alike looks same x y lx ly =
           keeps w h c before ts x y (sym (alike x y lx ly) ∙ (sym stays ∙ sym (looks x y lx ly)))
     ] ∙ looks x y lx ly)
 
-meets_common : (r s : Rect) → meets r s ≡ true → Has r (max r.x s.x) (max r.y s.y) × Has s (max r.x s.x) (max r.y s.y)
+pub meets_common : (r s : Rect) → meets r s ≡ true → Has r (max r.x s.x) (max r.y s.y) × Has s (max r.x s.x) (max r.y s.y)
 meets_common r s e =
     let across : max r.x s.x < min (r.x + r.w) (s.x + s.w) = grind (arith, nat_tests) in
     let down : max r.y s.y < min (r.y + r.h) (s.y + s.h) = grind (arith, nat_tests) in (
@@ -130,7 +130,7 @@ meets_common r s e =
     )
 
 -- A position lies in one tile alone.
-its_tile : (w h t x y : ℕ) → Has (tile_rect w h t) x y → t ≡ tile_of w x y
+pub its_tile : (w h t x y : ℕ) → Has (tile_rect w h t) x y → t ≡ tile_of w x y
 its_tile w h t x y has =
     let column : t % tiles_across w ≡ x / 16 = omega (arith, has.left, has.right) in
     let row : t / tiles_across w ≡ y / 16 = omega (arith, has.top, has.bottom) in

@@ -1,5 +1,5 @@
 -- The last text that is kept.
-use Rattle.std.specs.Prelude.{ℕ, List, [], Option, Some, None}
+use Rattle.std.specs.Prelude.{ℕ, Bool, false, nat_lt, List, [], Option, Some, None}
 use Rattle.raster.specs.Update.{NumberedText}
 
 -- These bytes with their update's number, where there is one.
@@ -21,3 +21,8 @@ bytes_of (Some last) = last.text
 abbrev pub newer : Option NumberedText → ℕ → Option (List ℕ) → Option NumberedText
 newer last number None = last
 newer last number (Some text) = Some (record { text = text; number = number })
+
+-- It was brought after the update of this number.
+abbrev pub is_later : Option NumberedText → ℕ → Bool
+is_later None number = false
+is_later (Some last) number = nat_lt number last.number

@@ -4,3 +4,5 @@ pub mod Painter
 pub mod Drawing
 pub mod Board
 pub mod Same
+pub mod Newer
+pub mod Shown

@@ -1,6 +1,6 @@
 //! A screen that is kept.
 
-ghost use Rattle.std.specs.Prelude.{◌≡◌, ℕ, ◌+◌, ◌*◌, ◌<◌, ◌≤◌, ◌^◌, List, [], ◌∷◌, ◌++◌, length, IfOk, IfErr};
+ghost use Rattle.std.specs.Prelude.{◌≡◌, ℕ, ◌+◌, ◌*◌, ◌<◌, ◌≤◌, ◌^◌, List, [], ◌∷◌, ◌++◌, length, take, IfOk, IfErr};
 ghost use Rattle.painter.specs.Board.{BoardStands, IsSameScreen};
 ghost use Rattle.painter.specs.Patch.{is_bell};
 ghost use Rattle.pixel_format.specs.declared.fault.Fault.TheVariants.{Memory};
@@ -8,6 +8,7 @@ ghost use Rattle.raster.specs.Size.{IsScreenSize};
 ghost use Rattle.raster.specs.Update.{Update};
 ghost use Rattle.std.specs.Int.{from_bool};
 
+use crate::copying::copy_lacked;
 use crate::patch::Patch;
 use crate::text::LastText;
 use pixel_format::Fault;
@@ -131,5 +132,49 @@ impl Board {
         self.text.follow(patch.text_bytes(), number);
         self.number = number;
         self.bells = bells;
+    }
+
+    /// Shows what a newer board of its screen does, of whose updates it stands at the first, and then one update more. It
+    /// copies the tiles that were touched since, but for those that the patch brings, always succeeds, and takes no
+    /// memory.
+    pub fn catch_up(&mut self, newer: &Board, patch: &Patch)
+        requires same { IsSameScreen self.old newer.now }
+        requires size { (patch.now.width ≡ self.old.width) × (patch.now.height ≡ self.old.height) }
+        requires number { newer.now.number < 2 ^ 62 }
+        ensures size { IsSameScreen self.old self.new }
+        ensures number { self.new.number ≡ newer.now.number + 1 }
+        ensures stands { (us : List Update) → BoardStands self.old (take self.old.number us) → BoardStands newer.now us → BoardStands self.new (us ++ patch.now.update ∷ []) }
+    {
+        let (number, bells) = counted(newer.number, newer.bells, patch);
+        // What a patch paints are whole tiles; so it hides what was there.
+        let _ = patch.tiles();
+        patch.touch(&mut self.grid, number);
+        copy_lacked(
+            newer.colours.as_slice(),
+            self.colours.as_mut_slice(),
+            &self.grid,
+            &newer.grid,
+            self.number,
+        );
+        patch.paint(self.colours.as_mut_slice());
+        self.grid.catch_up(&newer.grid, self.number);
+        self.text.catch_up(&newer.text, self.number);
+        self.text.follow(patch.text_bytes(), number);
+        self.number = number;
+        self.bells = bells;
+    }
+
+    /// Becomes what another board of its screen is. It always succeeds, and takes no memory.
+    pub fn copy_from(&mut self, other: &Board)
+        requires { IsSameScreen self.old other.now }
+        ensures { self.new ≡ other.now }
+    {
+        self.colours
+            .as_mut_slice()
+            .copy_from_slice(other.colours.as_slice());
+        self.grid.copy_from(&other.grid);
+        self.text.copy_from(&other.text);
+        self.number = other.number;
+        self.bells = other.bells;
     }
 }

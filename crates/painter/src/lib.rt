@@ -7,13 +7,17 @@
 
 mod board;
 mod canvas;
+mod copying;
 mod law;
 mod painter;
 mod patch;
+mod shown;
 mod text;
 
 pub use board::Board;
+pub use copying::copy_area;
 pub use law::{same_updates_are_put_together, same_updates_show_the_same};
 pub use painter::Painter;
 pub use patch::Patch;
+pub use shown::Shown;
 pub use text::LastText;

@@ -1,8 +1,8 @@
 //! The last text of the host's cut buffer.
 
-ghost use Rattle.std.specs.Prelude.{◌≡◌, ℕ, ◌≤◌, length, IfOk, IfErr, IfSome, Some, None};
+ghost use Rattle.std.specs.Prelude.{◌≡◌, ℕ, ◌≤◌, length, IfOk, IfErr, IfSome, Some, None, if◌then◌else◌};
 ghost use Rattle.pixel_format.specs.declared.fault.Fault.TheVariants.{Memory};
-ghost use Rattle.painter.specs.Kept.{number_of, bytes_of, newer};
+ghost use Rattle.painter.specs.Kept.{number_of, bytes_of, is_later, newer};
 ghost use Rattle.std.specs.Option.{option_copied};
 ghost use Rattle.pixel_format.specs.declared.limits.TheConstants.{LONGEST_TEXT};
 
@@ -86,6 +86,18 @@ impl LastText {
         match other.number {
             None => self.clear(),
             Some(number) => self.set(other.bytes(), number),
+        }
+    }
+
+    /// The same text as a newer one, where that was brought after the update of this number. Else it stays, and nothing is
+    /// copied.
+    pub(crate) fn catch_up(&mut self, newer: &LastText, number: u64)
+        ensures { self.new ≡ (if is_later newer.now number then newer.now else self.old) }
+    {
+        if let Some(brought) = newer.number {
+            if number < brought {
+                self.copy_from(newer);
+            }
         }
     }
 

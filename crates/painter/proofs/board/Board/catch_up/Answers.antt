@@ -1,0 +1,49 @@
+use Rattle.std.proofs.Common.{◌≡◌, ℕ, ◌+◌, ◌∷◌, [], ◌++◌, List, Option, take, ap, sym, subst, ◌∙◌, refl, arith}
+use Rattle.std.proofs.lemmas.List.{with_items_is}
+use Rattle.std.specs.Int.{from_bool}
+use Rattle.std.specs.Option.{option_copied}
+use Rattle.std.specs.Vec.{with_items}
+use Rattle.raster.specs.Screen.{tile_rect}
+use Rattle.raster.specs.Update.{NumberedText}
+use Rattle.tiles.specs.Grid.{IsTouched, is_lacked}
+use Rattle.tiles.specs.Touched.{touches}
+use Rattle.painter.specs.Board.{BoardStands, Posted}
+use Rattle.painter.specs.Kept.{newer}
+use Rattle.painter.specs.Newer.{TookTiles}
+use Rattle.painter.specs.Patch.{ShowsOver, is_bell}
+use Rattle.painter.proofs.CaughtUp.{board_caught_up}
+use Rattle.painter.proofs.board.Board.catch_up.Goals as goal
+
+pub returns-clause-stands : goal.returns-clause-stands
+returns-clause-stands c us stood stands =
+    let s = c.self.inside in
+    let n = c.newer.inside in
+    let patch = c.args.patch.now in
+    let behind : Posted = record { width = s.width; height = s.height; number = s.number; colours = s.colours.items; grid = s.grid; bells = s.bells; text = s.text } in
+    let ahead : Posted = record { width = n.width; height = n.height; number = n.number; colours = n.colours.items; grid = n.grid; bells = n.bells; text = n.text } in
+    let mid : List ℕ = c.copy_lacked.new.into in
+    let new : List ℕ = c.paint.new.colours in
+    let rung : ℕ = from_bool (is_bell patch.update) in
+    let wide : n.width ≡ s.width = ap (λ (b : Posted). b.width) c.newer.view_is ∙ (c.requires.same.width ∙ ap (λ (b : Posted). b.width) (sym c.self.view_is)) in
+    let high : n.height ≡ s.height = ap (λ (b : Posted). b.height) c.newer.view_is ∙ (c.requires.same.height ∙ ap (λ (b : Posted). b.height) (sym c.self.view_is)) in
+    let size : (patch.width ≡ s.width) × (patch.height ≡ s.height) = (c.requires.size.0 ∙ ap (λ (b : Posted). b.width) (sym c.self.view_is), c.requires.size.1 ∙ ap (λ (b : Posted). b.height) (sym c.self.view_is)) in
+    let counted : c.counted-number.result.0 ≡ n.number + 1 = c.counted-number.ensures.number in
+    let touched : IsTouched (λ t. touches (tile_rect s.grid.width s.grid.height t) patch.update) (n.number + 1) s.grid c.touch.new.grid =
+    subst (λ (k : ℕ). IsTouched (λ t. touches (tile_rect s.grid.width s.grid.height t) patch.update) k s.grid c.touch.new.grid) counted c.touch.ensures in
+    let took : TookTiles n.grid.width n.grid.height (is_lacked c.touch.new.grid n.grid s.number) n.colours.items s.colours.items mid =
+    subst (λ (l : List ℕ). TookTiles n.grid.width n.grid.height (is_lacked c.touch.new.grid n.grid s.number) n.colours.items l mid) c.as_mut_slice.ensures.value
+    (subst (λ (l : List ℕ). TookTiles n.grid.width n.grid.height (is_lacked c.touch.new.grid n.grid s.number) l c.as_mut_slice.result.now mid) c.as_slice.ensures.value c.copy_lacked.ensures) in
+    let half : (with_items s.colours mid).items ≡ mid = with_items_is s.colours mid (omega (arith, c.copy_lacked.auto.into, c.as_mut_slice.ensures.len)) in
+    let rows : (with_items (with_items s.colours mid) new).items ≡ new = with_items_is (with_items s.colours mid) new (omega (arith, c.paint.auto.colours, c.as_mut_slice-2.ensures.len)) in
+    let shows : ShowsOver patch mid new = subst (λ (l : List ℕ). ShowsOver patch l new) (c.as_mut_slice-2.ensures.value ∙ half) c.paint.ensures in
+    let all = board_caught_up behind ahead patch c.touch.new.grid c.catch_up.new.self c.tiles.result.0.now c.tiles.result.1.now mid new rung c.catch_up-2.new.self (option_copied c.text_bytes.result) us
+    wide high c.newer.invariant.tiles.0 c.newer.invariant.tiles.1 c.self.invariant.tiles.0 c.self.invariant.tiles.1 size touched took c.tiles.ensures.paints shows c.catch_up.ensures c.catch_up-2.ensures refl c.text_bytes.ensures.text
+    (subst (λ (b : Posted). BoardStands b (take b.number us)) (sym c.self.view_is) stood) (subst (λ (b : Posted). BoardStands b us) (sym c.newer.view_is) stands) in
+    let Stands : ℕ → List ℕ → ℕ → Option NumberedText → Type 0 =
+    λ k cs b t. BoardStands (record { width = s.width; height = s.height; number = k; colours = cs; grid = c.catch_up.new.self; bells = b; text = t }) (us ++ patch.update ∷ []) in
+    let told : c.follow.new.self ≡ newer c.catch_up-2.new.self (n.number + 1) (option_copied c.text_bytes.result) =
+    c.follow.ensures ∙ ap (λ (k : ℕ). newer c.catch_up-2.new.self k (option_copied c.text_bytes.result)) counted in
+    subst (λ (k : ℕ). Stands k (with_items (with_items s.colours mid) new).items c.counted-number.result.1 c.follow.new.self) (sym counted)
+    (subst (λ (b : ℕ). Stands (n.number + 1) (with_items (with_items s.colours mid) new).items b c.follow.new.self) (sym c.counted-number.ensures.bells)
+    (subst (λ (cs : List ℕ). Stands (n.number + 1) cs (n.bells + rung) c.follow.new.self) (sym rows)
+    (subst (λ (t : Option NumberedText). Stands (n.number + 1) new (n.bells + rung) t) (sym told) all)))
