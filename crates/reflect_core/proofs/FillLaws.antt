@@ -1,7 +1,7 @@
 -- How far a cut is filled from a board, run by run, and that it is a cut of the board's updates in the end. `Cut::fill`
--- copies the due tiles alone.
-use Rattle.std.proofs.Common.{◌≡◌, ℕ, suc, ◌+◌, ◌-◌, ◌*◌, ◌/◌, ◌%◌, ◌<◌, ◌≤◌, Bool, true, false, List, [], ◌∷◌, length, get_or, take, Option, Some, refl, ap, sym, ◌∙◌, subst, arith, inl, inr}
-use Rattle.std.specs.Prelude.{◌&&◌, ◌||◌, not, is_some, slice_get, unwrap_or, if◌then◌else◌}
+-- marks the due tiles, and shares the board's colours or copies theirs.
+use Rattle.std.proofs.Common.{◌≡◌, ℕ, suc, ◌+◌, ◌-◌, ◌*◌, ◌/◌, ◌%◌, ◌<◌, ◌≤◌, Bool, true, false, List, [], ◌∷◌, length, get_or, take, Some, refl, ap, sym, ◌∙◌, subst, arith, inl, inr}
+use Rattle.std.specs.Prelude.{◌&&◌, ◌||◌, not, is_some, slice_get, if◌then◌else◌}
 use Rattle.std.specs.List.{list_all, range_with_len}
 use Rattle.std.proofs.lemmas.Bool.{cases_Bool, cases_lt}
 use Rattle.std.proofs.lemmas.List.{take_all}
@@ -11,9 +11,9 @@ use Rattle.std.proofs.lemmas.List.FromFn.{length-range_with_len, get_or-range_wi
 use Rattle.std.proofs.lemmas.Nat.{div-add-mod'}
 use Rattle.painter.specs.Board.{BoardStands, Posted}
 use Rattle.raster.specs.declared.rect.Rect.{Rect}
-use Rattle.raster.specs.Screen.{IsWithin, LooksLike, common, holds, lay, meets, part_of, tile_count, tile_rect, tiles_across, value_at}
+use Rattle.raster.specs.Screen.{IsWithin, LooksLike, holds, lay, meets, part_of, tile_count, tile_rect, tiles_across, value_at}
 use Rattle.raster.specs.Update.{Update, screen, bells, last_text}
-use Rattle.raster.proofs.Places.{Has, common_has, has_common_left, has_holds, holds_has}
+use Rattle.raster.proofs.Places.{Has, common_has, has_holds, holds_has}
 use Rattle.tiles.specs.Grid.{GridStands, Stamps, due_at}
 use Rattle.tiles.specs.Have.{SentTiles, sent_at}
 use Rattle.tiles.specs.Touched.{is_due_since}
@@ -22,8 +22,8 @@ use Rattle.tiles.specs.declared.walk.Run.{Run}
 use Rattle.tiles.proofs.FoundRuns.{IsPlace, place_of}
 use Rattle.tiles.proofs.GridLaws.{due_stands}
 use Rattle.reflect_core.specs.declared.cut.Cut.{Cut}
-use Rattle.reflect_core.specs.Fill.{IsWhetherSent, RestStays, TookRun}
-use Rattle.reflect_core.specs.Source.{IsCutOf, due_in, marked, was_sent_if_due}
+use Rattle.reflect_core.specs.Fill.{IsWhetherSent, TookRun}
+use Rattle.reflect_core.specs.Source.{IsCutOf, due_in, was_sent_if_due}
 
 -- Tile t is due by its stamp, and meets the area.
 abbrev pub lacks : Stamps → SentTiles → Rect → ℕ → Bool
@@ -149,48 +149,6 @@ filled_more grid colours have area next run old new some on was is took =
       ]
     ]
 
--- ---- what is left out
-
--- What is due of no tile of the area has the colours that it had.
-abbrev pub IsLeft : Stamps → List ℕ → SentTiles → Rect → Cut → Type 0
-IsLeft grid first have area cut =
-    (t x y : ℕ) → t < tile_count have.width have.height → Has (tile_rect have.width have.height t) x y → (lacks grid have area t && holds area x y) ≡ false → value_at cut.width cut.colours.items x y ≡ value_at cut.width first x y
-
--- A tile of which a position lies in a run is one of the run's.
-run_has_tile : (w h first count t x y : ℕ) → Has (tile_rect w h t) x y → Has (tiles_rect w first count) x y → (first ≤ t) × (t < first + count)
-run_has_tile w h first count t x y tile run =
-    let across : ℕ = tiles_across w in
-    let place : first / across * across + first % across ≡ first = div-add-mod' first across in
-    let here : t / across * across + t % across ≡ t = div-add-mod' t across in
-    let row : t / across ≡ first / across = omega (arith, tile.top, tile.bottom, run.top, run.bottom) in
-    let rows : t / across * across ≡ first / across * across = ap (λ k. k * across) row in
-    let low : first % across ≤ t % across = omega (arith, tile.right, run.left) in
-    let high : t % across < first % across + count = omega (arith, tile.left, run.right) in
-    (omega (arith, place, here, rows, low), omega (arith, place, here, rows, high))
-
-common_right : (r s : Rect) (x y : ℕ) → Has (common r s) x y → Has s x y
-common_right r s x y p = record { left = omega (arith, p.left); right = omega (arith, p.left, p.right); top = omega (arith, p.top); bottom = omega (arith, p.top, p.bottom) }
-
-both_true : (a b : Bool) → a ≡ true → b ≡ true → (a && b) ≡ true
-both_true true true p q = refl
-both_true true false p q = absurd cc
-both_true false b p q = absurd cc
-
-pub left_still : (grid : Stamps) (colours first : List ℕ) (have : SentTiles) (area : Rect) (next : ℕ) (run : Run) (old new : Cut) → IsWithin area have.width have.height
-    → IsFilled grid colours have area next old → IsNextRun (at_tile have area next) (due_at grid have) run → TookRun colours have run old new → IsLeft grid first have area old → IsLeft grid first have area new
-left_still grid colours first have area next run old new on was is took left t x y there in_tile out =
-    let lx : x < old.width = omega (arith, was.width, in_tile.left, in_tile.right) in
-    let ly : y < old.height = omega (arith, was.height, in_tile.top, in_tile.bottom) in
-    took.shows x y lx ly ∙ (elim (cases_Bool (holds run.area x y)) [
-      | inl inside ↦
-          let in_run : Has (common area (tiles_rect have.width run.first run.count)) x y = subst (λ (r : Rect). Has r x y) is.area (has_holds run.area x y inside) in
-          let in_area : Has area x y = has_common_left area (tiles_rect have.width run.first run.count) x y in_run in
-          let near = run_has_tile have.width have.height run.first run.count t x y in_tile (common_right area (tiles_rect have.width run.first run.count) x y in_run) in
-          not_both (lacks grid have area t && holds area x y) (both_true (lacks grid have area t) (holds area x y) (is.taken t near.0 near.1) (holds_has area x y in_area)) out
-      | inr outside ↦
-          ap (λ b. if b then part_of run.area (value_at old.width colours) (x - run.area.x) (y - run.area.y) else value_at old.width old.colours.items x y) outside ∙ left t x y there in_tile out
-    ] ∙ ap (λ w. value_at w first x y) (sym took.width))
-
 -- ---- the end
 
 passes : (due sent : Bool) → (due ≡ true → sent ≡ true) → (not due || sent) ≡ true
@@ -279,21 +237,4 @@ cut_of_board board us area have next cut wide high grid_wide grid_high on number
           filled.shows t x y before due in_area in_tile ∙ (ap (λ w. value_at w board.colours x y) filled.width
           ∙ shown x y (omega (arith, in_area.right, on.across)) (omega (arith, in_area.bottom, on.down)))
       | inr from ↦ not_both (lacks board.grid have area t) due (done t from lt)
-    ]
-
--- Of what has taken all that is due of a board the rest is as it was.
-pub rest_stays : (grid : Stamps) (colours : List ℕ) (area : Rect) (have : SentTiles) (next : ℕ) (old new : Cut) → old.width ≡ have.width → old.height ≡ have.height → IsFilled grid colours have area next new
-    → IsDone (at_tile have area next) (due_at grid have) → IsLeft grid old.colours.items have area new → RestStays area old new
-rest_stays grid colours area have next old new wide high filled done left t x y lt in_tile out =
-    left t x y there (has_holds (tile_rect have.width have.height t) x y (subst (λ h. holds (tile_rect have.width h t) x y ≡ true) high (subst (λ w. holds (tile_rect w old.height t) x y ≡ true) wide in_tile)))
-    (ap (λ b. b && holds area x y) (sym marks) ∙ out)
-    ∙ ap (λ w. value_at w old.colours.items x y) (filled.width ∙ sym wide)
-  where
-    there : t < tile_count have.width have.height
-    there = rw (sym wide, sym high) lt
-
-    marks : marked new t ≡ lacks grid have area t
-    marks = elim (cases_lt t next) [
-      | inl before ↦ ap (λ (o : Option Bool). unwrap_or o false) (filled.done t before there)
-      | inr from ↦ ap (λ (o : Option Bool). unwrap_or o false) (filled.left t from there) ∙ sym (done t from there)
     ]

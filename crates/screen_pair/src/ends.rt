@@ -8,6 +8,7 @@ ghost use Rattle.raster.specs.Size.{IsScreenSize};
 use crate::eye::Eye;
 use crate::published::Published;
 use crate::publishing::opened;
+use crate::spares::Spares;
 use crate::stamped::Stamped;
 use crate::writer::PairWriter;
 use left_right::WriteHandle;
@@ -15,6 +16,9 @@ use pixel_format::Fault;
 use std::alloc::Global;
 use std::sync::Wait;
 use tally_word::{Front, Naming, Raiser};
+
+/// How many boards there may be beside one for each place: those of the two copies, and the one that is made.
+pub const BESIDE_PLACES: usize = 3;
 
 /// This many eyes of a pair, which know no update. It fails where memory is refused (`Memory`) or no place is left
 /// (`NoPlace`).
@@ -60,5 +64,6 @@ pub fn pair<J: Naming, R: Wait + Drop>(
     let front = raiser.front();
     let handle = opened(rt, alloc, &front, width, height, places)?;
     let eyes = eyes(alloc, &handle, &front, places)?;
-    Ok((PairWriter::new(handle, raiser), eyes))
+    let spares = Spares::new(alloc, width, height, &front, places + BESIDE_PLACES)?;
+    Ok((PairWriter::new(handle, raiser, spares), eyes))
 }

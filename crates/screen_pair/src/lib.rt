@@ -12,14 +12,16 @@ mod news;
 mod published;
 mod publishes;
 mod publishing;
+mod spares;
 mod stamped;
 mod writer;
 
-pub use ends::{eyes, pair};
+pub use ends::{BESIDE_PLACES, eyes, pair};
 pub use eye::Eye;
 pub use news::PairNews;
 pub use published::Published;
 pub use publishes::Publishes;
 pub use publishing::{opened, publish, tell};
+pub use spares::Spares;
 pub use stamped::Stamped;
 pub use writer::PairWriter;

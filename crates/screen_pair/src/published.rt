@@ -1,15 +1,16 @@
 //! A copy of the screen.
 
-ghost use Rattle.std.specs.Prelude.{◌≡◌, ◌+◌, ◌^◌, ◌≤◌, suc, [], length, IfOk, IfErr};
+ghost use Rattle.std.specs.Prelude.{◌≡◌, ◌+◌, ◌^◌, ◌≤◌, [], length, IfOk, IfErr};
 ghost use Rattle.pixel_format.specs.declared.fault.Fault.TheVariants.{Memory};
 ghost use Rattle.raster.specs.Screen.{IsWithin};
 ghost use Rattle.raster.specs.Size.{IsScreenSize};
 ghost use Rattle.reflect_core.specs.Source.{IsCutOf};
+ghost use Rattle.screen_pair.specs.Published.{IsPublished};
 ghost use Rattle.tally_word.specs.History.{puts_of};
 
 use crate::stamped::Stamped;
 use left_right::Absorb;
-use painter::Board;
+use painter::{Board, Shown};
 use pixel_format::Fault;
 use raster::Rect;
 use reflect_core::Cut;
@@ -22,7 +23,7 @@ use tiles::Have;
 /// updates is part of its type, so whoever may enter a copy knows it.
 #[derive(Drop)]
 pub struct Published<J: Naming> {
-    board: Board,
+    board: Shown,
     front: Front<J>,
 }
 
@@ -55,7 +56,7 @@ impl<J: Naming> Absorb<Stamped<J>> for Published<J> {
         operation: &Stamped<J>,
         _other: &Published<J>,
     ) -> Result<(), AllocError> {
-        if operation.number == self.board.number() + 1 {
+        if operation.number == self.board.board().number() + 1 {
             self.follow(operation);
         }
         Ok(())
@@ -76,7 +77,7 @@ impl<J: Naming> Published<J> {
         ensures err { IfErr result (λ fault. fault ≡ Memory) }
     {
         Ok(Published {
-            board: Board::new(alloc, width, height)?,
+            board: Shown::new(Board::new(alloc, width, height)?),
             front: front.again(),
         })
     }
@@ -86,7 +87,14 @@ impl<J: Naming> Published<J> {
         ensures number { result ≡ length (puts_of self.now) }
         ensures few { result ≤ 2 ^ 62 }
     {
-        self.board.number()
+        self.board.board().number()
+    }
+
+    /// The board that it shows.
+    pub(crate) fn board(&self) -> &Board
+        ensures { IsPublished J.width J.height result.now self.now }
+    {
+        self.board.board()
     }
 
     /// The history that it stands for.
@@ -107,15 +115,11 @@ impl<J: Naming> Published<J> {
         into.fill(&self.board, area, have);
     }
 
-    /// Applies the update that comes next.
+    /// Goes on to the board of a later history.
     fn follow(&mut self, next: &Stamped<J>)
-        requires { suc (length (puts_of self.old)) ≡ length (puts_of next.now.log) }
-        ensures { self.new ≡ next.now.log }
+        ensures { self.new ≡ next.now }
     {
-        // Both are beginnings of one history.
-        let mut both = self.front.again();
-        both.learn(&next.front);
-        self.board.apply(&next.patch);
+        self.board.show(&next.board);
         self.front = next.front.again();
     }
 }

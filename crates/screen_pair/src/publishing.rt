@@ -1,7 +1,7 @@
 //! How a publisher changes the copies. One that raises the tally too keeps the pair's handle itself, so these are
 //! functions of the handle.
 
-ghost use Rattle.std.specs.Prelude.{◌≡◌, ◌^◌, ◌<◌, ◌≤◌, ◌++◌, ◌∷◌, [], length, IfOk, IfErr, MatchResult};
+ghost use Rattle.std.specs.Prelude.{◌≡◌, ◌^◌, ◌<◌, ◌≤◌, [], length, suc, IfOk, IfErr, MatchResult};
 ghost use Rattle.left_right.specs.Handles.{published, pending};
 ghost use Rattle.pixel_format.specs.declared.fault.Fault.TheVariants.{Memory};
 ghost use Rattle.raster.specs.Size.{IsScreenSize};
@@ -12,7 +12,6 @@ use crate::published::Published;
 use crate::publishes::Publishes;
 use crate::stamped::Stamped;
 use left_right::WriteHandle;
-use painter::Patch;
 use pixel_format::Fault;
 use std::alloc::Global;
 use std::sync::Wait;
@@ -38,7 +37,7 @@ pub fn opened<J: Naming, R: Wait + Drop>(
     let second = Published::new(alloc, width, height, front)?;
     let mut handle = WriteHandle::new(alloc, rt, first, second, places)?;
     // An operation that no copy follows. Its room stays, so that none is refused after a change of the history.
-    let nothing = Stamped::new(Patch::bell(width, height), 0, front.again());
+    let nothing = Stamped::opening(alloc, width, height, front)?;
     let Ok(()) = handle.append(nothing) else {
         return Err(Fault::Memory);
     };
@@ -46,24 +45,20 @@ pub fn opened<J: Naming, R: Wait + Drop>(
     Ok(handle)
 }
 
-/// Publishes a patch, with whose update the history ends. It may wait for a reader that is still inside the copy from
-/// before the last call. Where memory is refused the patch comes back, and readers see what they saw.
+/// Publishes a board, whose history goes one update further. It may wait for a reader that is still inside the copy from
+/// before the last call. Where memory is refused (`Memory`) readers see what they saw.
 pub fn publish<J: Naming, R: Wait + Drop>(
     handle: &mut WriteHandle<Published<J>, Stamped<J>, R>,
-    patch: Patch,
-    number: u64,
-    front: Front<J>,
-) -> Result<(), Patch>
+    next: Stamped<J>,
+) -> Result<(), Fault>
     requires idle { pending handle.old ≡ [] }
-    requires size { (patch.width ≡ J.width) × (patch.height ≡ J.height) }
-    requires next { puts_of front ≡ puts_of (published handle.old) ++ patch.update ∷ [] }
-    requires number { (number ≡ length (puts_of front)) × (number ≤ 2 ^ 62) }
+    requires next { suc (length (puts_of (published handle.old))) ≡ length (puts_of next) }
     ensures idle { pending handle.new ≡ [] }
-    ensures published { MatchResult result (λ _. published handle.new ≡ front) (λ refused. (refused ≡ patch) × (published handle.new ≡ published handle.old)) }
+    ensures published { MatchResult result (λ _. published handle.new ≡ next) (λ fault. (fault ≡ Memory) × (published handle.new ≡ published handle.old)) }
 {
-    if let Err(refused) = handle.append(Stamped::new(patch, number, front)) {
-        return Err(refused.into_patch());
-    }
+    let Ok(()) = handle.append(next) else {
+        return Err(Fault::Memory);
+    };
     handle.publish().unwrap();
     Ok(())
 }

@@ -11,6 +11,7 @@ use crate::news::PairNews;
 use crate::published::Published;
 use crate::publishes::Publishes;
 use crate::publishing::{publish, tell};
+use crate::spares::Spares;
 use crate::stamped::Stamped;
 use left_right::{Absorb, WriteHandle};
 use painter::Patch;
@@ -28,6 +29,7 @@ where
 {
     handle: WriteHandle<Published<J>, Stamped<J>, R>,
     raiser: Raiser<J>,
+    spares: Spares<J>,
 }
 
 impl<J: Naming, R: Wait + Drop> Model for PairWriter<J, R>
@@ -70,11 +72,19 @@ fn catch_up<J: Naming>(raiser: &mut Raiser<J>, shown: &Front<J>, number: u64) ->
 
 impl<J: Naming, R: Wait + Drop> PairWriter<J, R> {
     /// The publisher of copies that are opening screens.
-    pub(crate) fn new(handle: WriteHandle<Published<J>, Stamped<J>, R>, raiser: Raiser<J>) -> Self
+    pub(crate) fn new(
+        handle: WriteHandle<Published<J>, Stamped<J>, R>,
+        raiser: Raiser<J>,
+        spares: Spares<J>,
+    ) -> Self
         requires { (published handle ≡ []) × (pending handle ≡ []) × (raiser ≡ []) }
         ensures { result ≡ [] }
     {
-        PairWriter { handle, raiser }
+        PairWriter {
+            handle,
+            raiser,
+            spares,
+        }
     }
 
     /// News of what is published.
@@ -116,9 +126,15 @@ impl<J: Naming + Publishes, R: Wait + Drop> Puts for PairWriter<J, R> {
         if !catch_up(&mut self.raiser, &front, number) {
             return Err((Fault::Memory, patch));
         }
+        // All that may be refused memory comes first, but for the entry of the operation, whose room is kept.
+        let Ok(board) = self.spares.next(self.handle.published(), &patch) else {
+            return Err((Fault::Memory, patch));
+        };
         self.raiser.is_legal();
         self.raiser.put(&patch);
-        if let Err(patch) = publish(&mut self.handle, patch, number + 1, self.raiser.front()) {
+        let next = Stamped::new(board, number + 1, self.raiser.front());
+        self.spares.keep(&next);
+        if let Err(_) = publish(&mut self.handle, next) {
             return Err((Fault::Memory, patch));
         }
         Ok(number + 1)

@@ -2,6 +2,7 @@
 
 ghost use Rattle.std.specs.Prelude.{◌+◌, ◌*◌, ◌≤◌, length};
 
+use crate::coloured::coloured;
 use crate::scenes::{SCENES, Scene};
 use pixel_format::{Fault, Format};
 use raster::Rect;
@@ -9,6 +10,7 @@ use reflect_core::Cut;
 use rfb_wire::write_update_head;
 use std::alloc::Global;
 use std::test::Fail;
+use tiles::Have;
 use update_encoder::Answer;
 
 /// 16 bits, most significant byte first, of 5, 6 and 5 bits.
@@ -16,9 +18,6 @@ const FIVE_SIX_FIVE: [u8; 16] = [16, 16, 1, 1, 0, 31, 0, 63, 0, 31, 11, 5, 0, 0,
 
 /// Gives the first pixel of a black screen, all between and the last their colours.
 fn paint(pixels: &mut [u32], colours: &[u32; 3]) {
-    if *colours == [0; 3] {
-        return;
-    }
     let last = pixels.len().saturating_sub(1);
     pixels.fill(colours[1]);
     if let Some(place) = pixels.get_mut(0) {
@@ -36,7 +35,18 @@ fn cut_of(alloc: Global, scene: &Scene) -> Result<Cut, Fault> {
         return Err(Fault::BadScreen);
     }
     let mut cut = Cut::new(alloc, width, height)?;
-    paint(cut.colours.as_mut_slice(), &scene.colours);
+    if scene.colours != [0; 3] {
+        let mut pixels = vec![in alloc; 0u32; (width * height) as usize]?;
+        paint(pixels.as_mut_slice(), &scene.colours);
+        let board = coloured(alloc, width, height, pixels.as_slice())?;
+        let all = Rect {
+            x: 0,
+            y: 0,
+            w: width,
+            h: height,
+        };
+        cut.fill_with_copy(&board, &all, &Have::new(alloc, width, height)?);
+    }
     for (t, due) in cut.due.as_mut_slice().iter_mut().enumerate() {
         *due = scene.due >> (t % 64) & 1 == 1;
     }

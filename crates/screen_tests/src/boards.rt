@@ -2,11 +2,13 @@
 
 ghost use Rattle.std.specs.Prelude.{◌≡◌};
 
-use painter::{Board, Painter, Patch};
+use crate::coloured::coloured;
+use painter::{Board, Painter, Patch, Shown};
 use pixel_format::Fault;
 use raster::Rect;
 use reflect_core::Cut;
 use std::alloc::Global;
+use std::sync::Arc;
 use std::test::Fail;
 use tiles::Have;
 
@@ -116,6 +118,14 @@ const TAKEN: [Taken; 2] = [
     },
 ];
 
+/// The colours of the corner's first row, of the edge, and of the last pixel.
+fn corner_and_edge(cut: &Cut) -> [u32; 4]
+    requires { (cut.now.width ≡ 33) × (cut.now.height ≡ 17) }
+{
+    let colours = cut.colours.as_slice();
+    [colours[510], colours[511], colours[32], colours[560]]
+}
+
 /// Whether a cut of the board takes this, three updates of which one is a Bell, and no text.
 fn is_taken(alloc: Global, board: &Board, taken: &Taken) -> Result<bool, Fault>
     requires { (board.now.width ≡ 33) × (board.now.height ≡ 17) }
@@ -126,10 +136,11 @@ fn is_taken(alloc: Global, board: &Board, taken: &Taken) -> Result<bool, Fault>
     let mut have = Have::new(alloc, 33, 17)?;
     have.keep(&taken.sent, taken.number);
     let mut cut = Cut::new(alloc, 33, 17)?;
-    cut.colours.as_mut_slice().fill(9);
-    cut.fill(board, &ALL, &have);
-    let colours = cut.colours.as_slice();
-    let shown = [colours[510], colours[511], colours[32], colours[560]];
+    let nines = vec![in alloc; 9u32; 561]?;
+    let before = coloured(alloc, 33, 17, nines.as_slice())?;
+    cut.fill_with_copy(&before, &ALL, &Have::new(alloc, 33, 17)?);
+    cut.fill_with_copy(board, &ALL, &have);
+    let shown = corner_and_edge(&cut);
     Ok(
         (cut.number == 3)
             & (cut.bells == 1)
@@ -149,5 +160,30 @@ fn board_is_cut(rt: HostRuntime) -> Result<(), Fail> {
     for taken in TAKEN.iter() {
         assert!(rt; is_taken(rt.alloc(), &board, taken)?, "{}", taken.name);
     }
+    Ok(())
+}
+
+/// A cut shows the colours of a board as one of its owners, and the same where no owner can be had: of a board that isn't
+/// shared, and of the copy that stands in for an owner.
+#[test]
+fn cut_needs_no_owner(rt: HostRuntime) -> Result<(), Fail> {
+    let mut board = Board::new(rt.alloc(), 33, 17)?;
+    paint(rt.alloc(), &mut board)?;
+    let have = Have::new(rt.alloc(), 33, 17)?;
+    let mut cut = Cut::new(rt.alloc(), 33, 17)?;
+    let mut shown = Shown::new(Board::new(rt.alloc(), 33, 17)?);
+    cut.fill(&shown, &ALL, &have);
+    assert!(rt; corner_and_edge(&cut) == [0, 0, 0, 0]);
+    shown.copy(&board);
+    cut.fill(&shown, &ALL, &have);
+    assert!(rt; shown.owner().is_none() && corner_and_edge(&cut) == [5, 6, 6, 0]);
+    let owner = Arc::new(rt.alloc(), board)?;
+    shown.show(&owner);
+    let mut other = Cut::new(rt.alloc(), 33, 17)?;
+    other.fill(&shown, &ALL, &have);
+    assert!(rt; Arc::strong_count(&owner) == 3 && corner_and_edge(&other) == [5, 6, 6, 0]);
+    shown.copy(&owner);
+    other.fill(&shown, &ALL, &have);
+    assert!(rt; Arc::strong_count(&owner) == 1 && corner_and_edge(&other) == [5, 6, 6, 0]);
     Ok(())
 }

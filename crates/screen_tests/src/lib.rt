@@ -7,6 +7,10 @@ mod answers;
 #[cfg(test)]
 mod boards;
 #[cfg(test)]
+mod caught_up;
+#[cfg(test)]
+mod coloured;
+#[cfg(test)]
 mod decoding;
 #[cfg(test)]
 mod formats;

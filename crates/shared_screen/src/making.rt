@@ -7,7 +7,7 @@ ghost use Rattle.raster.specs.Size.{IsScreenSize};
 use crate::publisher::Publisher;
 use crate::watcher::Watcher;
 use pixel_format::Fault;
-use screen_pair::{Eye, eyes, opened};
+use screen_pair::{BESIDE_PLACES, Eye, Spares, eyes, opened};
 use std::alloc::Global;
 use std::sync::{Arc, Wait};
 use tally_word::{Glance, Naming, Opened, tally};
@@ -58,5 +58,6 @@ pub fn shared<J: Naming, R: Wait + Drop + Copy>(
     let handle = opened(rt, alloc, &front, width, height, places)?;
     let eyes = eyes(alloc, &handle, &front, places)?;
     let watchers = watchers(alloc, width, height, eyes, &glance)?;
-    Ok((Publisher::new(handle, raiser), watchers))
+    let spares = Spares::new(alloc, width, height, &front, places + BESIDE_PLACES)?;
+    Ok((Publisher::new(handle, raiser, spares), watchers))
 }

@@ -10,7 +10,7 @@ use left_right::{Absorb, WriteHandle};
 use painter::Patch;
 use pixel_format::{Fault, LIMIT};
 use reflect_core::Puts;
-use screen_pair::{Published, Publishes, Stamped, publish, tell};
+use screen_pair::{Published, Publishes, Spares, Stamped, publish, tell};
 use std::marker::Model;
 use std::sync::Wait;
 use tally_word::{Change, Front, Naming, Raiser};
@@ -24,6 +24,7 @@ where
     handle: WriteHandle<Published<J>, Stamped<J>, R>,
     raiser: Raiser<J>,
     front: Front<J>,
+    spares: Spares<J>,
 }
 
 impl<J: Naming, R: Wait + Drop> Model for Publisher<J, R>
@@ -45,7 +46,11 @@ where
 
 impl<J: Naming, R: Wait + Drop> Publisher<J, R> {
     /// The publisher of copies that are opening screens.
-    pub(crate) fn new(handle: WriteHandle<Published<J>, Stamped<J>, R>, raiser: Raiser<J>) -> Self
+    pub(crate) fn new(
+        handle: WriteHandle<Published<J>, Stamped<J>, R>,
+        raiser: Raiser<J>,
+        spares: Spares<J>,
+    ) -> Self
         requires { (published handle ≡ []) × (pending handle ≡ []) × (raiser ≡ []) }
         ensures { result ≡ [] }
     {
@@ -54,6 +59,7 @@ impl<J: Naming, R: Wait + Drop> Publisher<J, R> {
             handle,
             raiser,
             front,
+            spares,
         }
     }
 
@@ -99,8 +105,14 @@ impl<J: Naming + Publishes, R: Wait + Drop> Puts for Publisher<J, R> {
         if self.raiser.changes() != 2 * number {
             return Err((Fault::Memory, patch));
         }
+        // All that may be refused memory comes first, but for the entry of the operation, whose room is kept.
+        let Ok(board) = self.spares.next(self.handle.published(), &patch) else {
+            return Err((Fault::Memory, patch));
+        };
         self.raiser.put(&patch);
-        if let Err(patch) = publish(&mut self.handle, patch, number + 1, self.raiser.front()) {
+        let next = Stamped::new(board, number + 1, self.raiser.front());
+        self.spares.keep(&next);
+        if let Err(_) = publish(&mut self.handle, next) {
             return Err((Fault::Memory, patch));
         }
         J::told_by(&self.handle);

@@ -3,11 +3,13 @@
 ghost use Rattle.std.specs.Prelude.{◌≡◌, ◌+◌, ◌*◌, ◌≤◌, length, IfOk};
 ghost use Rattle.raster.specs.Size.{IsScreenSize};
 
+use painter::{Board, Painter};
 use pixel_format::{Fault, Format};
 use raster::{Encoding, Rect};
 use reflect_core::Cut;
 use rfb_wire::Choice;
 use std::alloc::Global;
+use tiles::Have;
 use update_encoder::Answer;
 
 /// Room for one rectangle: its pixel values, and its bytes.
@@ -67,16 +69,53 @@ fn mark(due: &mut [bool], all: bool) {
     }
 }
 
-/// Copies colours into a cut, as its source does, where they are as many as the screen has.
-fn refresh(cut: &mut Cut, colours: &[u32])
-    ensures { (cut.new.width ≡ cut.old.width) × (cut.new.height ≡ cut.old.height) }
-{
-    if colours.len() == cut.colours.len() {
-        cut.colours.as_mut_slice().copy_from_slice(colours);
-    }
+/// A board of these colours, and what a viewer has to which nothing was sent.
+#[derive(Drop)]
+struct Source {
+    board: Board,
+    have: Have,
+    ghost same: { (have.width ≡ board.width) × (have.height ≡ board.height) },
 }
 
-/// A screen of these colours as a cut, and room for a rectangle.
+/// A source of these colours, row after row.
+fn source(alloc: Global, width: u64, height: u64, colours: &[u32]) -> Result<Source, Fault>
+    requires size { IsScreenSize width height }
+    requires count { length colours.now ≡ width * height }
+    ensures { IfOk result (λ source. (source.board.width ≡ width) × (source.board.height ≡ height)) }
+{
+    let mut painter = Painter::new(alloc, width, height)?;
+    let all = Rect {
+        x: 0,
+        y: 0,
+        w: width,
+        h: height,
+    };
+    painter.put(all, colours);
+    let patch = painter.patch()?;
+    let mut board = Board::new(alloc, width, height)?;
+    if board.number() == 0 {
+        board.apply(&patch);
+    }
+    let have = Have::new(alloc, width, height)?;
+    Ok(Source { board, have })
+}
+
+/// Copies the source's colours into a cut, and marks all tiles as due, or the middle one alone.
+fn refresh(cut: &mut Cut, source: &Source, all: bool)
+    requires { (source.now.board.width ≡ cut.old.width) × (source.now.board.height ≡ cut.old.height) }
+    ensures { (cut.new.width ≡ cut.old.width) × (cut.new.height ≡ cut.old.height) }
+{
+    let area = Rect {
+        x: 0,
+        y: 0,
+        w: cut.width,
+        h: cut.height,
+    };
+    cut.fill_with_copy(&source.board, &area, &source.have);
+    mark(cut.due.as_mut_slice(), all);
+}
+
+/// Room for a cut, and for a rectangle.
 fn prepare(alloc: Global, width: u64, height: u64) -> Result<(Cut, Room), Fault>
     requires { IsScreenSize width height }
     ensures { IfOk result (λ p. (p.0.width ≡ width) × (p.0.height ≡ height) × (length p.1.values.items ≡ 16 * width) × (length p.1.out.items ≡ 12 + 64 * width)) }
@@ -110,22 +149,25 @@ pub extern "C" fn bench_answers(
     let Ok(format) = Format::read(format) else {
         return 0;
     };
-    let Ok((mut cut, mut room)) = prepare(alloc, u64::from(width), u64::from(height)) else {
-        return 0;
-    };
-    if colours.len() != cut.colours.len() {
+    let (width, height) = (u64::from(width), u64::from(height));
+    if colours.len() as u64 != width * height {
         return 0;
     }
+    let Ok((mut cut, mut room)) = prepare(alloc, width, height) else {
+        return 0;
+    };
+    let Ok(source) = source(alloc, width, height, colours) else {
+        return 0;
+    };
     let choice = Choice {
         kind: Encoding::of_number(kind).unwrap_or(Encoding::Raw),
         copy: false,
     };
     let asked = Asked { format, choice };
-    mark(cut.due.as_mut_slice(), all);
-    refresh(&mut cut, colours);
+    refresh(&mut cut, &source, all);
     for _time in 0..times {
         if copies {
-            refresh(&mut cut, colours);
+            refresh(&mut cut, &source, all);
         }
         write_all(&cut, &asked, &mut room, &mut []);
     }

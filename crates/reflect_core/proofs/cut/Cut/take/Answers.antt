@@ -1,8 +1,7 @@
-use Rattle.std.proofs.Common.{◌≡◌, ℕ, List, Bool, ap, sym, ◌∙◌, refl, arith, subst}
+use Rattle.std.proofs.Common.{◌≡◌, ℕ, List, Bool, ap, sym, ◌∙◌, refl, arith}
 use Rattle.std.specs.Prelude.{◌&&◌, slice_get}
 use Rattle.std.proofs.lemmas.List.{with_items_is}
 use Rattle.std.specs.Vec.{with_items}
-use Rattle.raster.specs.Screen.{LooksLike, lay, part_of, value_at}
 use Rattle.reflect_core.proofs.cut.Cut.take.Goals as goal
 use Rattle.reflect_core.proofs.cut.Cut.take.Goals.{then-self, else-self}
 
@@ -11,7 +10,6 @@ returns c =
     let was = c.args.self.now in
     let run = c.args.run.now in
     let due : (with_items was.due c.mark_part.new.due).items ≡ c.mark_part.new.due = with_items_is was.due c.mark_part.new.due (omega (arith, c.mark_part.auto.due, c.as_mut_slice.ensures.len)) in
-    let colours : (with_items was.colours c.copy_area.new.into).items ≡ c.copy_area.new.into = with_items_is was.colours c.copy_area.new.into (omega (arith, c.copy_area.auto.into, c.as_mut_slice-2.ensures.len)) in
     let at : (t : ℕ) → slice_get (with_items was.due c.mark_part.new.due).items t ≡ slice_get c.mark_part.new.due t = λ t. ap (λ (l : List Bool). slice_get l t) due in
     let before : (t : ℕ) → slice_get c.as_mut_slice.result.now t ≡ slice_get was.due.items t = λ t. ap (λ (l : List Bool). slice_get l t) c.as_mut_slice.ensures.value in
     record {
@@ -31,5 +29,7 @@ returns c =
           | else-self w ↦ w.self-is ∙ (w.if-self.false ∙ ap (λ (b : Bool). b && c.were_sent-sent.result) (sym w.if-self.false))
         ],
       );
-      shows = λ x y lx ly. ap (λ (l : List ℕ). value_at was.width l x y) colours ∙ subst (λ (l : List ℕ). LooksLike was.width was.height (value_at was.width c.copy_area.new.into) (lay run.area (part_of run.area (value_at was.width c.args.colours.now)) (value_at was.width l))) c.as_mut_slice-2.ensures.value c.copy_area.ensures x y lx ly;
+      shows = c.lay.ensures.shows;
+      is_shared = c.lay.ensures.shared;
+      kept = c.lay.ensures.kept;
     }

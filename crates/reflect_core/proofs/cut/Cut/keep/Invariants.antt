@@ -1,7 +1,7 @@
-use Rattle.std.proofs.Common.{◌≡◌, ◌-◌}
+use Rattle.std.proofs.Common.{◌≡◌, ◌-◌, true}
 use Rattle.raster.specs.Screen.{tile_count}
-use Rattle.reflect_core.proofs.FillLaws.{IsFilled, IsLeft, at_tile}
-use Rattle.reflect_core.proofs.cut.Cut.fill.Given as goal
+use Rattle.reflect_core.proofs.FillLaws.{IsFilled, at_tile}
+use Rattle.reflect_core.proofs.cut.Cut.keep.Given as goal
 
 abbrev pub invariant-loop-run : goal.invariant-loop-run
 invariant-loop-run l =
@@ -11,7 +11,7 @@ invariant-loop-run l =
       bells : l.self.bells ≡ l.board.bells;
       text : l.self.text ≡ l.board.text;
       filled : IsFilled l.board.grid l.board.colours l.have l.area l.walk.next l.self;
-      left : IsLeft l.board.grid l.fn.self.colours.items l.have l.area l.self;
+      shown : l.self.colours.is_shared ≡ true → l.self.colours.items ≡ l.board.colours;
     }
 
 abbrev pub decreases-loop-run : goal.decreases-loop-run

@@ -2,9 +2,9 @@ use Rattle.std.proofs.Common.{◌≡◌, ℕ, ◌<◌, List, ap, sym, ◌∙◌,
 use Rattle.raster.specs.Screen.{IsWithin, tiles_across}
 use Rattle.tiles.specs.Grid.{Stamps, due_at}
 use Rattle.tiles.specs.Walk.{IsDone, IsNextRun}
-use Rattle.reflect_core.proofs.FillLaws.{IsFilled, at_tile, cut_of_board, done_of, filled_more, left_still, next_of, rest_stays, walk_goes_on}
+use Rattle.reflect_core.proofs.FillLaws.{IsFilled, at_tile, cut_of_board, done_of, filled_more, next_of, walk_goes_on}
 use Rattle.reflect_core.specs.Fill.{TookRun}
-use Rattle.reflect_core.proofs.cut.Cut.fill.Goals as goal
+use Rattle.reflect_core.proofs.cut.Cut.keep.Goals as goal
 
 pub loop-run-preserved : goal.loop-run-preserved
 loop-run-preserved c =
@@ -28,7 +28,7 @@ loop-run-preserved c =
       bells = c.take.ensures.bells ∙ c.loop-run.invariant.bells;
       text = c.take.ensures.text ∙ c.loop-run.invariant.text;
       filled = subst (λ (n : ℕ). IsFilled board.grid board.colours have area n c.take.new.self) (sym c.in-Some.ensures.run.1) (filled_more board.grid board.colours have area c.loop-run.walk.next run was c.take.new.self some on c.loop-run.invariant.filled is took);
-      left = left_still board.grid board.colours c.args.self.now.colours.items have area c.loop-run.walk.next run was c.take.new.self on c.loop-run.invariant.filled is took c.loop-run.invariant.left;
+      shown = λ shared. let before = sym c.take.ensures.is_shared ∙ shared in c.take.ensures.kept before ∙ c.loop-run.invariant.shown before;
     }
 
 pub returns-clause-cut : goal.returns-clause-cut
@@ -48,12 +48,3 @@ returns-clause-cut c us stands =
     cut_of_board board us area have c.loop-run.walk.next c.loop-run.self wide high
     (ap (λ (g : Stamps). g.width) (sym c.grid.ensures.value) ∙ (c.grid.ensures.size.0 ∙ wide)) (ap (λ (g : Stamps). g.height) (sym c.grid.ensures.value) ∙ (c.grid.ensures.size.1 ∙ high))
     on now.number now.bells now.text now.filled done stands
-
-pub returns-clause-rest : goal.returns-clause-rest
-returns-clause-rest c =
-    let board = c.args.board.now in
-    let have = c.args.have.now in
-    let area = c.args.area.now in
-    let done : IsDone (at_tile have area c.loop-run.walk.next) (due_at board.grid have) =
-    done_of c.loop-run.walk (at_tile have area c.loop-run.walk.next) _ board.grid _ have c.loop-run.invariant.walk (c.new-tiles.ensures.0 ∙ c.grid.ensures.value) c.new-tiles.ensures.1 c.in_default.ensures.done.0 in
-    rest_stays board.grid board.colours area have c.loop-run.walk.next c.args.self.now c.loop-run.self (sym c.requires.screen.0) (sym c.requires.screen.1) c.loop-run.invariant.filled done c.loop-run.invariant.left

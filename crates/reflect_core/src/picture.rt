@@ -1,0 +1,121 @@
+//! The colours that a cut shows.
+
+ghost use Rattle.std.specs.Prelude.{◌≡◌, ◌*◌, ◌<◌, ◌≤◌, ◌^◌, true, false, IfOk, IfErr, length, vec_capacity};
+ghost use Rattle.pixel_format.specs.declared.fault.Fault.TheVariants.{Memory};
+ghost use Rattle.raster.specs.Screen.{IsWithin, LooksLike, lay, part_of, value_at};
+ghost use Rattle.raster.specs.Size.{IsScreenSize};
+
+use painter::{Board, Shown, copy_area};
+use pixel_format::Fault;
+use raster::Rect;
+use std::alloc::Global;
+use std::marker::Model;
+use std::sync::Arc;
+
+/// The colours of a screen, row after row: those of a board that is shared with others, or a copy. Room for a copy is
+/// taken where it is made, and isn't touched before one is made.
+#[derive(Drop)]
+pub struct Picture {
+    shared: Option<Arc<Board, Global>>,
+    own: Vec<u32>,
+}
+
+impl Model for Picture {
+    ghost use Rattle.std.specs.Prelude.{is_some};
+    ghost use Rattle.reflect_core.specs.Picture.{Colours, IsPicture, colours_of};
+
+    ghost Value = { Colours };
+
+    ghost view = { λ p. record { items = colours_of p.shared p.own.items; is_shared = is_some p.shared } };
+
+    ghost invariant = { λ p. IsPicture p.shared p.own };
+}
+
+/// As many values as there are colours: where there are others, the colours.
+fn fill_up(own: &mut Vec<u32>, colours: &[u32])
+    requires { length colours.now ≤ vec_capacity own.old }
+    ensures len { length own.new.items ≡ length colours.now }
+    ensures room { length colours.now ≤ vec_capacity own.new }
+{
+    if own.len() != colours.len() {
+        own.clear();
+        // Not refused: there is room.
+        let _ = own.extend_from_slice(colours);
+    }
+}
+
+impl Picture {
+    /// A black screen of `width` by `height` pixels. It fails where memory is refused (`Memory`).
+    pub(crate) fn new(alloc: Global, width: u64, height: u64) -> Result<Self, Fault>
+        requires { IsScreenSize width height }
+        ensures ok { IfOk result (λ picture. length picture.items ≡ width * height) }
+        ensures err { IfErr result (λ fault. fault ≡ Memory) }
+    {
+        let own = Vec::with_capacity(alloc, (width * height) as usize)?;
+        let board = Board::new(alloc, width, height)?;
+        let Ok(board) = Arc::new(alloc, board) else {
+            return Err(Fault::Memory);
+        };
+        Ok(Picture {
+            shared: Some(board),
+            own,
+        })
+    }
+
+    /// Shows the colours of a board of its screen from now on, as one of its owners. Where the board isn't shared, or one
+    /// more owner is refused, it has colours of its own, of which nothing is said. It takes no memory.
+    pub(crate) fn show(&mut self, board: &Shown)
+        requires { length board.now.colours ≡ length self.old.items }
+        ensures len { length self.new.items ≡ length self.old.items }
+        ensures shown { self.new.is_shared ≡ true → self.new.items ≡ board.now.colours }
+    {
+        // What it had is given back first, so that it never has two boards.
+        self.shared = None;
+        let owner = match board.owner() {
+            Some(owner) => Arc::try_clone(owner).ok(),
+            None => None,
+        };
+        match owner {
+            Some(owner) => self.shared = Some(owner),
+            None => fill_up(&mut self.own, board.board().colours()),
+        }
+    }
+
+    /// Has colours of its own from now on, as many as these.
+    pub(crate) fn stand_alone(&mut self, colours: &[u32])
+        requires { length colours.now ≡ length self.old.items }
+        ensures len { length self.new.items ≡ length self.old.items }
+        ensures alone { self.new.is_shared ≡ false }
+    {
+        self.shared = None;
+        fill_up(&mut self.own, colours);
+    }
+
+    /// Lays the rectangle's part of other colours over its own. Where it shares these it shows them already.
+    pub(crate) fn lay(&mut self, colours: &[u32], width: usize, height: usize, area: &Rect)
+        requires colours { length colours.now ≡ width * height }
+        requires all { length self.old.items ≡ width * height }
+        requires small { width * height < 2 ^ 62 }
+        requires within { IsWithin area.now width height }
+        requires shown { self.old.is_shared ≡ true → self.old.items ≡ colours.now }
+        ensures shows { LooksLike width height (value_at width self.new.items) (lay area.now (part_of area.now (value_at width colours.now)) (value_at width self.old.items)) }
+        ensures len { length self.new.items ≡ length self.old.items }
+        ensures shared { self.new.is_shared ≡ self.old.is_shared }
+        ensures kept { self.old.is_shared ≡ true → self.new.items ≡ self.old.items }
+    {
+        if self.shared.is_none() {
+            copy_area(colours, self.own.as_mut_slice(), width, height, area);
+        }
+    }
+
+    /// The colours.
+    pub fn as_slice(&self) -> &[u32]
+        ensures value { result.now ≡ self.now.items }
+        ensures len { length result.now ≡ length self.now.items }
+    {
+        match &self.shared {
+            Some(board) => board.colours(),
+            None => self.own.as_slice(),
+        }
+    }
+}

@@ -1,0 +1,163 @@
+//! Boards of earlier updates, of which one that nobody reads any more becomes the next.
+
+ghost use Rattle.std.specs.Prelude.{◌≡◌, ◌<◌, ◌^◌, [], length, IfOk, IfErr, IfSome};
+ghost use Rattle.std.specs.Arc.{arc_value};
+ghost use Rattle.pixel_format.specs.declared.fault.Fault.TheVariants.{Memory};
+ghost use Rattle.raster.specs.Size.{IsScreenSize};
+ghost use Rattle.screen_pair.specs.Published.{IsNext};
+ghost use Rattle.tally_word.specs.History.{puts_of};
+
+use crate::published::Published;
+use crate::stamped::Stamped;
+use painter::{Board, Patch};
+use pixel_format::Fault;
+use std::alloc::Global;
+use std::marker::Model;
+use std::sync::Arc;
+use tally_word::{Front, Naming};
+
+/// How many boards that nobody else has are kept for later puts.
+const MOST_FREE: usize = 4;
+
+/// Boards that readers have, or had, and how many more may be made: contracts see how many there may be in all.
+#[derive(Drop)]
+pub struct Spares<J: Naming> {
+    boards: Vec<Stamped<J>>,
+    left: usize,
+    most: usize,
+    alloc: Global,
+    width: u64,
+    height: u64,
+    opening: Front<J>,
+}
+
+impl<J: Naming> Model for Spares<J> {
+    ghost use Rattle.std.specs.Prelude.{◌≡◌, ℕ, ◌+◌, ◌≤◌, [], vec_len};
+    ghost use Rattle.raster.specs.Size.{IsScreenSize};
+
+    ghost Value = { ℕ };
+
+    ghost view = { λ s. s.most };
+
+    ghost invariant = { λ s. (vec_len s.boards + s.left ≤ s.most) × IsScreenSize s.width s.height × (s.width ≡ J.width) × (s.height ≡ J.height) × (s.opening ≡ []) };
+}
+
+/// Where the newest of the boards stands that nobody else has: it lacks least of what is published.
+fn newest_free<J: Naming>(boards: &[Stamped<J>]) -> Option<usize>
+    ensures { IfSome result (λ at. at < length boards.now) }
+{
+    let mut found = None;
+    let mut number = 0;
+    for (at, board) in boards.iter().enumerate() {
+        if number <= board.number && board.is_free() {
+            found = Some(at);
+            number = board.number;
+        }
+    }
+    found
+}
+
+/// Where a board stands that nobody else has, if there are more of them than are kept.
+fn one_too_many<J: Naming>(boards: &[Stamped<J>]) -> Option<usize>
+    ensures { IfSome result (λ at. at < length boards.now) }
+{
+    let mut free = 0usize;
+    for (at, board) in boards.iter().enumerate() {
+        if board.is_free() {
+            if free == MOST_FREE {
+                return Some(at);
+            }
+            free = free.saturating_add(1);
+        }
+    }
+    None
+}
+
+impl<J: Naming> Spares<J> {
+    /// No boards, and at most so many later, of a screen of `width` by `height` pixels. It fails where memory is refused
+    /// (`Memory`).
+    pub fn new(
+        alloc: Global,
+        width: u64,
+        height: u64,
+        front: &Front<J>,
+        most: usize,
+    ) -> Result<Self, Fault>
+        requires size { IsScreenSize width height × (width ≡ J.width) × (height ≡ J.height) }
+        requires empty { front.now ≡ [] }
+        ensures ok { IfOk result (λ spares. spares ≡ most) }
+        ensures err { IfErr result (λ fault. fault ≡ Memory) }
+    {
+        Ok(Spares {
+            boards: Vec::with_capacity(alloc, most)?,
+            left: most,
+            most,
+            alloc,
+            width,
+            height,
+            opening: front.again(),
+        })
+    }
+
+    /// Lets go of a board that nobody else has, where there are more of them than are kept.
+    fn let_go(&mut self)
+        ensures { self.new ≡ self.old }
+    {
+        if let Some(at) = one_too_many(self.boards.as_slice()) {
+            let board = self.boards.swap_remove(at);
+            self.left += 1;
+            drop(board);
+        }
+    }
+
+    /// Keeps a board as one that may become free. Its room was taken where this was made; it is no loss where one more
+    /// owner is refused.
+    pub fn keep(&mut self, board: &Stamped<J>)
+        ensures { self.new ≡ self.old }
+    {
+        self.let_go();
+        if self.boards.len() + self.left == self.most {
+            return;
+        }
+        if let Some(board) = board.another() {
+            let _ = self.boards.push(board).is_ok();
+        }
+    }
+
+    /// A board that nobody else has: of those that are free the newest, or else an opening screen. It fails where there
+    /// are as many as there may be and none is free, or memory is refused (`Memory`).
+    fn taken(&mut self) -> Result<Stamped<J>, Fault>
+        ensures same { self.new ≡ self.old }
+        ensures err { IfErr result (λ fault. fault ≡ Memory) }
+    {
+        if let Some(at) = newest_free(self.boards.as_slice()) {
+            return Ok(self.boards.swap_remove(at));
+        }
+        if self.left == 0 {
+            return Err(Fault::Memory);
+        }
+        let opening = Stamped::opening(self.alloc, self.width, self.height, &self.opening)?;
+        self.left -= 1;
+        Ok(opening)
+    }
+
+    /// A board that nobody else has, of what the newest shows and one update more. It fails where memory is refused
+    /// (`Memory`), as it is where all boards that there may be are read.
+    pub fn next(
+        &mut self,
+        newest: &Published<J>,
+        patch: &Patch,
+    ) -> Result<Arc<Board, Global>, Fault>
+        requires size { (patch.now.width ≡ J.width) × (patch.now.height ≡ J.height) }
+        requires number { length (puts_of newest.now) < 2 ^ 62 }
+        ensures same { self.new ≡ self.old }
+        ensures ok { IfOk result (λ board. IsNext J.width J.height (arc_value board) newest.now patch.now.update) }
+        ensures err { IfErr result (λ fault. fault ≡ Memory) }
+    {
+        let spare = self.taken()?;
+        match spare.renewed(newest, patch) {
+            Some(board) => Ok(board),
+            None => Err(Fault::Memory),
+        }
+    }
+}
