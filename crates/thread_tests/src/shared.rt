@@ -3,3 +3,4 @@
 mod pair;
 mod puts;
 mod screen;
+mod stalled;
