@@ -10,7 +10,7 @@ use Rattle.web_frames.proofs.Reading.{after-append, data-append}
 use Rattle.web_link.specs.declared.saying.Saying.{Saying}
 use Rattle.web_link.specs.declared.saying.Saying.TheVariants.{Between, Inside, Closed}
 use Rattle.web_link.specs.Web.{Web, Says, Carries}
-use Rattle.web_link.proofs.Said.{says_head, says_payload, after_payload, says_pong, says_close}
+use Rattle.web_link.proofs.Said.{says_head, says_payload, after_payload, says_pong, says_ping, says_close}
 
 -- The link below neither took nor gave.
 pub carries_still : (w : Web) (wire : LinkState) → Carries w → wire.taken ≡ w.wire.taken → wire.given ≡ w.wire.given → Carries (record w { wire = wire })
@@ -66,6 +66,16 @@ carries_pong w unsent payload k none between le frame =
       taken = k.taken;
       says = subst (λ (x : List ℕ). Says (w.wire.given ++ x) w.carried.given w.saying) (sym frame)
           (subst (λ (s : Saying). Says (w.wire.given ++ encode_frame (control_header control.Pong) payload) w.carried.given s) (sym between) (says_pong w.wire.given w.carried.given payload (as_between w Between (all_sent w k none) between) le));
+    }
+
+pub carries_ping : (w : Web) (unsent : List ℕ) → Carries w → w.unsent ≡ [] → w.saying ≡ Between → unsent ≡ encode_frame (control_header control.Ping) []
+    → Carries (record w { unsent = unsent })
+carries_ping w unsent k none between frame =
+    record {
+      reads = k.reads;
+      taken = k.taken;
+      says = subst (λ (x : List ℕ). Says (w.wire.given ++ x) w.carried.given w.saying) (sym frame)
+          (subst (λ (s : Saying). Says (w.wire.given ++ encode_frame (control_header control.Ping) []) w.carried.given s) (sym between) (says_ping w.wire.given w.carried.given (as_between w Between (all_sent w k none) between)));
     }
 
 pub carries_close : (w : Web) (unsent payload : List ℕ) → Carries w → w.unsent ≡ [] → w.saying ≡ Between → length payload ≤ 125 → unsent ≡ encode_frame (control_header control.Close) payload

@@ -1,5 +1,5 @@
 -- What a client reads of the frames that a link says.
-use Rattle.std.proofs.Common.{◌≡◌, ℕ, zero, suc, ◌-◌, ◌<◌, ◌≤◌, Bool, true, false, List, [], ◌∷◌, ◌++◌, length, None, refl, sym, ap, subst, ◌∙◌, arith, inl, inr, append-nil}
+use Rattle.std.proofs.Common.{◌≡◌, ℕ, zero, suc, ◌-◌, ◌<◌, ◌≤◌, Bool, true, false, List, [], ◌∷◌, ◌++◌, length, None, refl, sym, ap, subst, ◌∙◌, arith, inl, inr, append-nil, append_assoc}
 use Rattle.std.specs.Prelude.{nat_lt, if◌then◌else◌}
 use Rattle.std.proofs.lemmas.Bool.Decides.{nat_tests, leb_tells}
 use Rattle.websocket.specs.declared.protocol.frame.coding.OpCode.{OpCode}
@@ -124,7 +124,7 @@ says_payload bytes given left x xs says fits =
     let read = reads_payload (after_bytes (fresh false) bytes) left x xs says.stands fits in
     says_more bytes given (x ∷ xs) (x ∷ xs) (after_payload left (length (x ∷ xs))) says.said read.0 read.1
 
--- ---- a pong and a close
+-- ---- a pong, a ping and a close
 
 says_nothing_more : (bytes given more : List ℕ) (saying : Saying) → Says bytes given Between
     → StandsAt saying (after_bytes (after_bytes (fresh false) bytes) more) → data_in (after_bytes (fresh false) bytes) more ≡ [] → Says (bytes ++ more) given saying
@@ -164,6 +164,19 @@ says_pong bytes given payload says le =
     let read = pong_whole (after_bytes (fresh false) bytes) payload says.stands le in
     says_nothing_more bytes given (encode_frame (control_header control.Pong) payload) Between says read.0 read.1
 
+ping_whole : (c : Standing) → StandsAt Between c
+    → StandsAt Between (after_bytes c (encode_frame (control_header control.Ping) [])) × (data_in c (encode_frame (control_header control.Ping) []) ≡ [])
+ping_whole c at =
+    let head = control_begins c control.Ping 0 at (omega arith) in
+    let masked : c.masked ≡ false = at.0 in
+    let bare : encode_frame (control_header control.Ping) [] ≡ encode_header (control_header control.Ping) 0 = append-nil (encode_header (control_header control.Ping) 0) in
+    (rw (bare, head.0, masked) (refl, refl, refl, at.3), rw bare head.1)
+
+pub says_ping : (bytes given : List ℕ) → Says bytes given Between → Says (bytes ++ encode_frame (control_header control.Ping) []) given Between
+says_ping bytes given says =
+    let read = ping_whole (after_bytes (fresh false) bytes) says.stands in
+    says_nothing_more bytes given (encode_frame (control_header control.Ping) []) Between says read.0 read.1
+
 close_whole : (c : Standing) (payload : List ℕ) → StandsAt Between c → length payload ≤ 125
     → StandsAt Closed (after_bytes c (encode_frame (control_header control.Close) payload)) × (data_in c (encode_frame (control_header control.Close) payload) ≡ [])
 close_whole c [] at le =
@@ -188,3 +201,25 @@ pub says_close : (bytes given payload : List ℕ) → Says bytes given Between �
 says_close bytes given payload says le =
     let read = close_whole (after_bytes (fresh false) bytes) payload says.stands le in
     says_nothing_more bytes given (encode_frame (control_header control.Close) payload) Closed says read.0 read.1
+
+-- ---- a whole message
+
+pub says_message : (bytes given payload : List ℕ) → Says bytes given Between → 1 ≤ length payload → length payload < 65536
+    → Says (bytes ++ encode_frame binary_header payload) (given ++ payload) Between
+says_message bytes given [] says some lt = absurd (omega arith)
+says_message bytes given (x ∷ xs) says some lt =
+    let n = length (x ∷ xs) in
+    let head = says_head bytes given n says some lt in
+    let all = says_payload (bytes ++ encode_header binary_header n) given n x xs head (omega arith) in
+    subst (λ (b : List ℕ). Says b (given ++ x ∷ xs) Between) (append_assoc bytes (encode_header binary_header n) (x ∷ xs))
+    (subst (λ (s : Saying). Says ((bytes ++ encode_header binary_header n) ++ x ∷ xs) (given ++ x ∷ xs) s) (after_all n n (omega arith)) all)
+
+pub says_first : Says [] [] Between
+says_first = record { said = refl; stands = (refl, refl, refl, refl) }
+
+-- Two messages and a close frame.
+pub says_refusal : (version reason code : List ℕ) → 1 ≤ length version → 1 ≤ length reason → length version < 65536 → length reason < 65536 → length code ≤ 125
+    → Says (encode_frame binary_header version ++ encode_frame binary_header reason ++ encode_frame (control_header control.Close) code) (version ++ reason) Closed
+says_refusal version reason code v r vl rl cl =
+    says_close (encode_frame binary_header version ++ encode_frame binary_header reason) (version ++ reason) code
+    (says_message (encode_frame binary_header version) version reason (says_message [] [] version says_first v vl) r rl) cl

@@ -1,7 +1,7 @@
 -- How a link of binary messages stands to the link below it, which carries their frames (RFC 6455, 5.2 to 5.6).
-use Rattle.std.specs.Prelude.{◌≡◌, ◌≤◌, ℕ, true, false, List, [], ◌∷◌, ◌++◌}
+use Rattle.std.specs.Prelude.{◌≡◌, ◌≢◌, ◌≤◌, ◌⊎◌, ℕ, true, false, List, [], ◌∷◌, ◌++◌}
 use Rattle.std.specs.Int.{w16, to_be_bytes}
-use Rattle.websocket.specs.declared.protocol.frame.coding.Control.TheVariants.{Close}
+use Rattle.websocket.specs.declared.protocol.frame.coding.Control.TheVariants.{Close, Ping}
 use Rattle.websocket.specs.Frame.{encode_frame}
 use Rattle.link.specs.Links.{LinkState}
 use Rattle.web_frames.specs.Frames.{Standing, fresh, after_bytes, data_in, control_header}
@@ -50,3 +50,11 @@ pub record Carries (w : Web) : Type 0 where
 -- Where nothing is unsent and no message is begun, a close frame with this code follows (5.5.1).
 abbrev pub SaysClose : ℕ → (old new : Web) → Type 0
 SaysClose code old new = old.saying ≡ Between → old.unsent ≡ [] → new.wire.given ++ new.unsent ≡ old.wire.given ++ encode_frame (control_header Close) (to_be_bytes w16 code)
+
+-- Where nothing is unsent and no message is begun, an empty ping follows (5.5.2).
+abbrev pub SaysPing : (old new : Web) → Type 0
+SaysPing old new = old.saying ≡ Between → old.unsent ≡ [] → new.wire.given ++ new.unsent ≡ old.wire.given ++ encode_frame (control_header Ping) []
+
+-- A ping that isn't said leaves what is said as it is.
+abbrev pub SaysNoMore : (old new : Web) → Type 0
+SaysNoMore old new = (old.saying ≢ Between) ⊎ (old.unsent ≢ []) → new.wire.given ++ new.unsent ≡ old.wire.given ++ old.unsent

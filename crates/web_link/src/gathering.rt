@@ -1,6 +1,7 @@
 //! A link that gives bytes on together.
 
 use crate::kept::Kept;
+use crate::web::WebLink;
 use link::{Gave, Link, Took};
 use pixel_format::LIMIT;
 use std::alloc::{AllocError, Global};
@@ -120,6 +121,18 @@ impl<L: Link> GatheringLink<L> {
                 }
             }
         }
+    }
+}
+
+impl<L: Link> GatheringLink<WebLink<L>> {
+    ghost use Rattle.std.specs.Prelude.{◌≡◌};
+
+    /// Says a ping by the link below, as `WebLink::ping` does. It takes, gives and keeps nothing; no clause says that the
+    /// ping goes out.
+    pub fn ping(&mut self)
+        ensures { self.new ≡ self.old }
+    {
+        self.link.ping();
     }
 }
 

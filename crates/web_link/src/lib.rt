@@ -6,10 +6,12 @@
 mod code;
 mod gathering;
 mod kept;
+mod refusal;
 mod saying;
 mod unsent;
 mod web;
 
 pub use gathering::GatheringLink;
+pub use refusal::{MOST_REFUSAL, refusal_frames};
 pub use saying::Saying;
 pub use web::WebLink;

@@ -64,7 +64,7 @@ impl<L: Link> Model for WebLink<L> {
 impl<L: Link> WebLink<L> {
     ghost use Rattle.std.specs.Prelude.{◌≡◌, ◌<◌, ◌≤◌, [], ◌++◌, length};
     ghost use Rattle.link.specs.Links.{TakesAs, GivesAs, with_end, with_failure};
-    ghost use Rattle.web_link.specs.Web.{Carries, SaysClose};
+    ghost use Rattle.web_link.specs.Web.{Carries, SaysClose, SaysPing, SaysNoMore};
 
     /// Over a link that has taken and given nothing yet.
     pub fn new(link: L) -> WebLink<L>
@@ -233,6 +233,23 @@ impl<L: Link> WebLink<L> {
                 Took::Failed
             }
         }
+    }
+
+    /// Says an empty ping, where it stands between two messages and nothing is unsent; else nothing is said. A proxy cuts
+    /// a connection that is silent for long, so whoever serves a silent screen calls this now and then.
+    pub fn ping(&mut self)
+        ensures same { self.new.carried ≡ self.old.carried }
+        ensures reader { self.new.reader ≡ self.old.reader }
+        ensures pings { SaysPing self.old self.new }
+        ensures silent { SaysNoMore self.old self.new }
+    {
+        if let Saying::Between = self.saying {
+            if self.unsent.is_empty() {
+                let frame = control_frame(Control::Ping, &[]);
+                self.unsent.set(frame.as_slice());
+            }
+        }
+        let _ = self.send_unsent();
     }
 
     /// Says that it closes, and why, where it stands between two messages.

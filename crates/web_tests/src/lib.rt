@@ -12,6 +12,8 @@ mod giving;
 #[cfg(test)]
 mod reader;
 #[cfg(test)]
+mod saying;
+#[cfg(test)]
 mod site;
 #[cfg(test)]
 mod table;
