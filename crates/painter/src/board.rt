@@ -1,6 +1,6 @@
 //! A screen that is kept.
 
-ghost use Rattle.std.specs.Prelude.{◌≡◌, ℕ, ◌+◌, ◌*◌, ◌<◌, ◌≤◌, ◌^◌, List, [], ◌∷◌, ◌++◌, length, take, IfOk, IfErr};
+ghost use Rattle.std.specs.Prelude.{◌≡◌, ℕ, ◌+◌, ◌*◌, ◌<◌, ◌≤◌, ◌^◌, List, [], ◌∷◌, ◌++◌, length, take, vec_capacity, IfOk, IfErr};
 ghost use Rattle.painter.specs.Board.{BoardStands, IsSameScreen};
 ghost use Rattle.painter.specs.Patch.{is_bell};
 ghost use Rattle.pixel_format.specs.declared.fault.Fault.TheVariants.{Memory};
@@ -176,5 +176,29 @@ impl Board {
         self.text.copy_from(&other.text);
         self.number = other.number;
         self.bells = other.bells;
+    }
+
+    /// An equal one, in room for it. It always succeeds, and takes no memory.
+    pub(crate) fn copy_to(&self, colours: Vec<u32>, grid: Grid, text: LastText) -> Board
+        requires colours { (colours.items ≡ []) × (self.now.width * self.now.height ≤ vec_capacity colours) }
+        requires grid { (grid.width ≡ self.now.width) × (grid.height ≡ self.now.height) }
+        ensures { result ≡ self.now }
+    {
+        let mut colours = colours;
+        let mut grid = grid;
+        let mut text = text;
+        // Not refused: there is room.
+        let _ = colours.extend_from_slice(self.colours.as_slice());
+        grid.copy_from(&self.grid);
+        text.copy_from(&self.text);
+        Board {
+            width: self.width,
+            height: self.height,
+            number: self.number,
+            colours,
+            grid,
+            bells: self.bells,
+            text,
+        }
     }
 }

@@ -11,6 +11,7 @@ mod copying;
 mod law;
 mod painter;
 mod patch;
+mod room;
 mod shown;
 mod text;
 

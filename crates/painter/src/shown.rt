@@ -1,20 +1,24 @@
 //! A board that others show too.
 
-ghost use Rattle.std.specs.Prelude.{◌≡◌, ◌*◌, IfSome, length};
+ghost use Rattle.std.specs.Prelude.{◌≡◌, IfOk, IfErr, IfSome};
 ghost use Rattle.std.specs.Arc.{arc_value};
 ghost use Rattle.painter.specs.Board.{IsSameScreen};
+ghost use Rattle.pixel_format.specs.declared.fault.Fault.TheVariants.{Memory};
 
 use crate::board::Board;
+use crate::room::Room;
+use pixel_format::Fault;
 use std::alloc::Global;
 use std::marker::Model;
 use std::sync::Arc;
 
 /// A board that is shared with others, or, where one more owner of it was refused, a copy of its own: contracts see the
-/// board that it shows. Room for the copy is taken where it is made.
+/// board that it shows. Room for the copy is taken where it is made, and isn't touched before there is one.
 #[derive(Drop)]
 pub struct Shown {
     shared: Option<Arc<Board, Global>>,
-    own: Board,
+    own: Option<Board>,
+    room: Option<Room>,
 }
 
 impl Model for Shown {
@@ -25,18 +29,25 @@ impl Model for Shown {
 
     ghost view = { λ s. board_of s.shared s.own };
 
-    ghost invariant = { λ s. IsShown s.shared s.own };
+    ghost invariant = { λ s. IsShown s.shared s.own s.room };
 }
 
 impl Shown {
-    /// A board by itself.
-    pub fn new(board: Board) -> Self
-        ensures { result ≡ board }
+    /// A shared board. It fails where memory is refused (`Memory`).
+    pub fn new(alloc: Global, board: Arc<Board, Global>) -> Result<Self, Fault>
+        ensures ok { IfOk result (λ shown. shown ≡ arc_value board) }
+        ensures err { IfErr result (λ fault. fault ≡ Memory) }
     {
-        Shown {
-            shared: None,
-            own: board,
-        }
+        let room = {
+            let own: &Board = &board;
+            let (width, height) = own.grid().size();
+            Room::new(alloc, width, height)?
+        };
+        Ok(Shown {
+            shared: Some(board),
+            own: None,
+            room: Some(room),
+        })
     }
 
     /// Shows another board of its screen from now on. It always succeeds, and takes no memory: where one more owner is
@@ -56,8 +67,15 @@ impl Shown {
         requires { IsSameScreen self.old board.now }
         ensures { self.new ≡ board.now }
     {
+        match self.own.as_mut() {
+            Some(own) => own.copy_from(board),
+            None => {
+                if let Some(room) = self.room.take() {
+                    self.own = Some(room.filled(board));
+                }
+            }
+        }
         self.shared = None;
-        self.own.copy_from(board);
     }
 
     /// The board that it shows.
@@ -66,7 +84,10 @@ impl Shown {
     {
         match &self.shared {
             Some(board) => board,
-            None => &self.own,
+            None => match &self.own {
+                Some(own) => own,
+                None => unreachable!(),
+            },
         }
     }
 
