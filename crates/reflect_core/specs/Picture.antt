@@ -15,6 +15,7 @@ abbrev pub colours_of : {A : Type 0} → Option (Arc Posted A) → List ℕ → 
 colours_of {A} (Some board) own = (arc_value board).colours
 colours_of {A} None own = own
 
--- There is room for a copy of them.
-abbrev pub IsPicture : {A B : Type 0} → Option (Arc Posted A) → Vec ℕ B → Type 0
-IsPicture {A} {B} shared own = length (colours_of shared own.items) ≤ vec_capacity own
+-- There is room for as many, where its own stand and where others are to.
+abbrev pub IsPicture : {A B : Type 0} → Option (Arc Posted A) → Vec ℕ B → Option (Vec ℕ B) → Type 0
+IsPicture {A} {B} shared own None = length (colours_of shared own.items) ≤ vec_capacity own
+IsPicture {A} {B} shared own (Some room) = (length (colours_of shared own.items) ≤ vec_capacity own) × (length (colours_of shared own.items) ≤ vec_capacity room)

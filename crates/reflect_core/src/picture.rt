@@ -12,12 +12,21 @@ use std::alloc::Global;
 use std::marker::Model;
 use std::sync::Arc;
 
-/// The colours of a screen, row after row: those of a board that is shared with others, or a copy. Room for a copy is
-/// taken where it is made, and isn't touched before one is made.
+/// From how many colours on a black screen is too large to be kept by the allocator once it was let go.
+const LARGE: usize = 500_000;
+
+/// For how many colours room is taken that is to go back to the system where it is let go: the C library's allocator
+/// maps blocks of more than 32 MiB by themselves.
+const GIVEN_BACK: usize = 8_400_000;
+
+/// The colours of a screen, row after row: those of a board that is shared with others, or its own. Room for these is
+/// taken where it is made. At first it is black; with the first board that it shares that black screen is given back, and
+/// room that isn't touched yet takes its place.
 #[derive(Drop)]
 pub struct Picture {
     shared: Option<Arc<Board, Global>>,
     own: Vec<u32>,
+    room: Option<Vec<u32>>,
 }
 
 impl Model for Picture {
@@ -28,7 +37,18 @@ impl Model for Picture {
 
     ghost view = { λ p. record { items = colours_of p.shared p.own.items; is_shared = is_some p.shared } };
 
-    ghost invariant = { λ p. IsPicture p.shared p.own };
+    ghost invariant = { λ p. IsPicture p.shared p.own p.room };
+}
+
+/// For how many colours room is taken for a black screen of so many.
+fn room_for_black(count: usize) -> usize
+    ensures { count ≤ result }
+{
+    if count < LARGE {
+        count
+    } else {
+        count.max(GIVEN_BACK)
+    }
 }
 
 /// As many values as there are colours: where there are others, the colours.
@@ -51,14 +71,14 @@ impl Picture {
         ensures ok { IfOk result (λ picture. length picture.items ≡ width * height) }
         ensures err { IfErr result (λ fault. fault ≡ Memory) }
     {
-        let own = Vec::with_capacity(alloc, (width * height) as usize)?;
-        let board = Board::new(alloc, width, height)?;
-        let Ok(board) = Arc::new(alloc, board) else {
-            return Err(Fault::Memory);
-        };
+        let count = (width * height) as usize;
+        let mut own = Vec::with_capacity(alloc, room_for_black(count))?;
+        own.resize(count, 0)?;
+        let room = Vec::with_capacity(alloc, count)?;
         Ok(Picture {
-            shared: Some(board),
+            shared: None,
             own,
+            room: Some(room),
         })
     }
 
@@ -76,7 +96,12 @@ impl Picture {
             None => None,
         };
         match owner {
-            Some(owner) => self.shared = Some(owner),
+            Some(owner) => {
+                self.shared = Some(owner);
+                if let Some(room) = self.room.take() {
+                    self.own = room;
+                }
+            }
             None => fill_up(&mut self.own, board.board().colours()),
         }
     }
