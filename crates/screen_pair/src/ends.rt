@@ -62,8 +62,9 @@ pub fn pair<J: Naming, R: Wait + Drop>(
     ensures err { IfErr result (λ fault. (fault ≡ Memory) ⊎ (fault ≡ NoPlace)) }
 {
     let front = raiser.front();
-    let handle = opened(rt, alloc, &front, width, height, places)?;
+    let opening = Stamped::opening(alloc, width, height, &front)?;
+    let handle = opened(rt, alloc, &opening, places)?;
     let eyes = eyes(alloc, &handle, &front, places)?;
-    let spares = Spares::new(alloc, width, height, &front, places + BESIDE_PLACES)?;
+    let spares = Spares::new(alloc, width, height, opening, places + BESIDE_PLACES)?;
     Ok((PairWriter::new(handle, raiser, spares), eyes))
 }

@@ -3,7 +3,6 @@
 ghost use Rattle.std.specs.Prelude.{◌≡◌, ◌+◌, ◌^◌, ◌≤◌, [], length, IfOk, IfErr};
 ghost use Rattle.pixel_format.specs.declared.fault.Fault.TheVariants.{Memory};
 ghost use Rattle.raster.specs.Screen.{IsWithin};
-ghost use Rattle.raster.specs.Size.{IsScreenSize};
 ghost use Rattle.reflect_core.specs.Source.{IsCutOf};
 ghost use Rattle.screen_pair.specs.Published.{IsPublished};
 ghost use Rattle.tally_word.specs.History.{puts_of};
@@ -16,6 +15,7 @@ use raster::Rect;
 use reflect_core::Cut;
 use std::alloc::{AllocError, Global};
 use std::marker::Model;
+use std::sync::Arc;
 use tally_word::{Change, Front, Naming};
 use tiles::Have;
 
@@ -65,20 +65,17 @@ impl<J: Naming> Absorb<Stamped<J>> for Published<J> {
 
 impl<J: Naming> Published<J> {
     /// The opening screen. It fails where memory is refused (`Memory`).
-    pub(crate) fn new(
-        alloc: Global,
-        width: u64,
-        height: u64,
-        front: &Front<J>,
-    ) -> Result<Self, Fault>
-        requires size { IsScreenSize width height × (width ≡ J.width) × (height ≡ J.height) }
-        requires empty { front.now ≡ [] }
+    pub(crate) fn new(alloc: Global, opening: &Stamped<J>) -> Result<Self, Fault>
+        requires { opening.now ≡ [] }
         ensures ok { IfOk result (λ p. p ≡ []) }
         ensures err { IfErr result (λ fault. fault ≡ Memory) }
     {
+        let Ok(owner) = Arc::try_clone(&opening.board) else {
+            return Err(Fault::Memory);
+        };
         Ok(Published {
-            board: Shown::new(Board::new(alloc, width, height)?),
-            front: front.again(),
+            board: Shown::new(alloc, owner)?,
+            front: opening.front.again(),
         })
     }
 

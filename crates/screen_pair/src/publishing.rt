@@ -4,7 +4,6 @@
 ghost use Rattle.std.specs.Prelude.{◌≡◌, ◌^◌, ◌<◌, ◌≤◌, [], length, suc, IfOk, IfErr, MatchResult};
 ghost use Rattle.left_right.specs.Handles.{published, pending};
 ghost use Rattle.pixel_format.specs.declared.fault.Fault.TheVariants.{Memory};
-ghost use Rattle.raster.specs.Size.{IsScreenSize};
 ghost use Rattle.tally_word.specs.History.{puts_of};
 
 use crate::news::PairNews;
@@ -22,22 +21,21 @@ use tally_word::{Front, Naming};
 pub fn opened<J: Naming, R: Wait + Drop>(
     rt: R,
     alloc: Global,
-    front: &Front<J>,
-    width: u64,
-    height: u64,
+    opening: &Stamped<J>,
     places: usize,
 ) -> Result<WriteHandle<Published<J>, Stamped<J>, R>, Fault>
-    requires size { IsScreenSize width height × (width ≡ J.width) × (height ≡ J.height) }
-    requires empty { front.now ≡ [] }
+    requires empty { opening.now ≡ [] }
     requires places { (0 < places) × (places < 2 ^ 32) }
     ensures ok { IfOk result (λ handle. (published handle ≡ []) × (pending handle ≡ [])) }
     ensures err { IfErr result (λ fault. fault ≡ Memory) }
 {
-    let first = Published::new(alloc, width, height, front)?;
-    let second = Published::new(alloc, width, height, front)?;
+    let first = Published::new(alloc, opening)?;
+    let second = Published::new(alloc, opening)?;
     let mut handle = WriteHandle::new(alloc, rt, first, second, places)?;
     // An operation that no copy follows. Its room stays, so that none is refused after a change of the history.
-    let nothing = Stamped::opening(alloc, width, height, front)?;
+    let Some(nothing) = opening.another() else {
+        return Err(Fault::Memory);
+    };
     let Ok(()) = handle.append(nothing) else {
         return Err(Fault::Memory);
     };

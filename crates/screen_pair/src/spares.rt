@@ -74,28 +74,32 @@ fn one_too_many<J: Naming>(boards: &[Stamped<J>]) -> Option<usize>
 }
 
 impl<J: Naming> Spares<J> {
-    /// No boards, and at most so many later, of a screen of `width` by `height` pixels. It fails where memory is refused
-    /// (`Memory`).
+    /// The board of an opening screen of `width` by `height` pixels, and at most so many in all. It fails where memory is
+    /// refused (`Memory`).
     pub fn new(
         alloc: Global,
         width: u64,
         height: u64,
-        front: &Front<J>,
+        opening: Stamped<J>,
         most: usize,
     ) -> Result<Self, Fault>
         requires size { IsScreenSize width height × (width ≡ J.width) × (height ≡ J.height) }
-        requires empty { front.now ≡ [] }
+        requires empty { opening ≡ [] }
+        requires some { 0 < most }
         ensures ok { IfOk result (λ spares. spares ≡ most) }
         ensures err { IfErr result (λ fault. fault ≡ Memory) }
     {
+        let front = opening.front.again();
+        let mut boards = Vec::with_capacity(alloc, most)?;
+        boards.push(opening)?;
         Ok(Spares {
-            boards: Vec::with_capacity(alloc, most)?,
-            left: most,
+            boards,
+            left: most - 1,
             most,
             alloc,
             width,
             height,
-            opening: front.again(),
+            opening: front,
         })
     }
 

@@ -171,7 +171,8 @@ fn cut_needs_no_owner(rt: HostRuntime) -> Result<(), Fail> {
     paint(rt.alloc(), &mut board)?;
     let have = Have::new(rt.alloc(), 33, 17)?;
     let mut cut = Cut::new(rt.alloc(), 33, 17)?;
-    let mut shown = Shown::new(Board::new(rt.alloc(), 33, 17)?);
+    let black = Arc::new(rt.alloc(), Board::new(rt.alloc(), 33, 17)?)?;
+    let mut shown = Shown::new(rt.alloc(), black)?;
     cut.fill(&shown, &ALL, &have);
     assert!(rt; corner_and_edge(&cut) == [0, 0, 0, 0]);
     shown.copy(&board);

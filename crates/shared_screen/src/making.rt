@@ -7,7 +7,7 @@ ghost use Rattle.raster.specs.Size.{IsScreenSize};
 use crate::publisher::Publisher;
 use crate::watcher::Watcher;
 use pixel_format::Fault;
-use screen_pair::{BESIDE_PLACES, Eye, Spares, eyes, opened};
+use screen_pair::{BESIDE_PLACES, Eye, Spares, Stamped, eyes, opened};
 use std::alloc::Global;
 use std::sync::{Arc, Wait};
 use tally_word::{Glance, Naming, Opened, tally};
@@ -55,9 +55,10 @@ pub fn shared<J: Naming, R: Wait + Drop + Copy>(
     let roll = Arc::new(alloc, roll)?;
     let (raiser, glance) = tally(&roll, author)?;
     let front = raiser.front();
-    let handle = opened(rt, alloc, &front, width, height, places)?;
+    let opening = Stamped::opening(alloc, width, height, &front)?;
+    let handle = opened(rt, alloc, &opening, places)?;
     let eyes = eyes(alloc, &handle, &front, places)?;
     let watchers = watchers(alloc, width, height, eyes, &glance)?;
-    let spares = Spares::new(alloc, width, height, &front, places + BESIDE_PLACES)?;
+    let spares = Spares::new(alloc, width, height, opening, places + BESIDE_PLACES)?;
     Ok((Publisher::new(handle, raiser, spares), watchers))
 }
