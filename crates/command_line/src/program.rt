@@ -9,7 +9,7 @@ ghost use Rattle.plan.specs.declared.plan.Plan.{Plan as Told};
 
 use crate::task::{Task, task_of};
 use plan::Plan;
-use serve::serve;
+use serve::{Ports, serve};
 use settings::{BadLine, Settings};
 use std::alloc::{AllocGlobal, Global};
 use std::env::Env;
@@ -101,7 +101,7 @@ where
         move |plan: Plan<'_>| -> u8
             requires { HasPlaces plan }
             ensures { IsStatus result }
-        { serve(rt, alloc, &plan) },
+        { serve(rt, alloc, &plan, &mut Ports::new(alloc)) },
         move || -> u8
             ensures { MayEndAScript result }
         { replay::replay(alloc, reader, writer) },

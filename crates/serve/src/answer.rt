@@ -1,10 +1,14 @@
 //! What `serve` says and answers.
 
-ghost use Rattle.std.specs.Prelude.{◌≡◌, Err, MatchResult, Result};
+ghost use Rattle.std.specs.Prelude.{◌≡◌, Err, IfOk, MatchResult, Result};
 ghost use Rattle.plan.specs.Statuses.{HasPlaces, IsStatus, status_for};
+ghost use Rattle.serve.specs.Doors.{AreBoth};
+ghost use Rattle.serve.specs.Ports.{AsksAsPlanned};
 ghost use Rattle.serve.specs.declared.trouble.Trouble.{Trouble as Failure};
 
 use crate::advice::Advice;
+use crate::bound::Ports;
+use crate::entries::open_both;
 use crate::journal::Journal;
 use crate::run::run;
 use crate::trouble::Trouble;
@@ -44,7 +48,10 @@ fn answer<R: Eprint, F: FnOnce() -> Result<(), Trouble>>(rt: &R, plan: &Plan<'_>
 /// Reflects a host until it ends, and answers the exit status: 0 where the host ended between two messages, 4 where
 /// memory was refused, and 3 for every other fault, also where a port can't be bound or the host can't be reached or
 /// joined. What was at fault is said on standard error: `fault N`, and a line of plain words.
-pub fn serve<R>(rt: R, alloc: Global, plan: &Plan<'_>) -> u8
+///
+/// The ports that it asks the system for are added to `ports`: that of viewers with full control, and then that of those
+/// who only look on.
+pub fn serve<R>(rt: R, alloc: Global, plan: &Plan<'_>, ports: &mut Ports) -> u8
 where
     R: Net<Stream = TcpStream, Listener = TcpListener>
         + Threads
@@ -56,14 +63,16 @@ where
         + Send
         + 'static,
     requires { HasPlaces plan.now }
-    ensures { IsStatus result }
+    ensures ports { AsksAsPlanned plan.now ports.old ports.new }
+    ensures status { IsStatus result }
 {
     let log = Journal::new(rt, alloc, plan.is_logged);
+    let opened = open_both(&rt, alloc, plan, ports, &log);
     answer(
         &rt,
         plan,
-        || -> Result<(), Trouble>
-            requires { HasPlaces plan.now }
-        { run(rt, alloc, plan, log) },
+        move || -> Result<(), Trouble>
+            requires { HasPlaces plan.now × IfOk opened (λ entries. AreBoth plan.now entries.0 entries.1) }
+        { run(rt, alloc, plan, opened?, log) },
     )
 }

@@ -1,9 +1,38 @@
-//! The one place where a port is bound. What the system does with an address no clause says.
+//! The ports of a run, and the one place where one is bound. What the system does with an address no clause says.
 
-ghost use Rattle.std.specs.Prelude.{◌≡◌, IfOk};
+ghost use Rattle.std.specs.Prelude.{◌≡◌, ◌++◌, ◌∷◌, [], IfOk, OnOk};
+ghost use Rattle.serve.specs.Ports.{IsAskedAtMost};
 
+use std::alloc::Global;
 use std::io;
+use std::marker::Model;
 use std::net::{Net, SocketAddr, TcpListener, TcpStream};
+
+/// The addresses at which the system was asked for a port, in order.
+#[derive(Drop)]
+pub struct Ports {
+    asked: Vec<SocketAddr>,
+}
+
+impl Model for Ports {
+    ghost use Rattle.std.specs.Prelude.{List};
+    ghost use Rattle.std.specs.declared.net.socket_addr.SocketAddr.{SocketAddr as Address};
+
+    ghost Value = { List Address };
+
+    ghost view = { λ ports. ports.asked.items };
+}
+
+impl Ports {
+    /// None yet.
+    pub fn new(alloc: Global) -> Ports
+        ensures { result ≡ [] }
+    {
+        Ports {
+            asked: Vec::new(alloc),
+        }
+    }
+}
 
 /// A listener, with the address at which the system was asked for it.
 #[derive(Drop)]
@@ -13,13 +42,17 @@ pub(crate) struct Bound {
 }
 
 impl Bound {
-    /// Listens at this address.
+    /// Listens at this address. It fails where the system refuses that, or memory for the list of what was asked.
     pub(crate) fn at<R: Net<Stream = TcpStream, Listener = TcpListener>>(
         rt: &R,
+        ports: &mut Ports,
         address: SocketAddr,
     ) -> io::Result<Bound>
-        ensures { IfOk result (λ bound. bound.address ≡ address) }
+        ensures address { IfOk result (λ bound. bound.address ≡ address) }
+        ensures ok { OnOk result (ports.new ≡ ports.old ++ address ∷ []) }
+        ensures asked { IsAskedAtMost address ports.old ports.new }
     {
+        ports.asked.push(address)?;
         let listener = TcpListener::bind(rt, address)?;
         Ok(Bound { listener, address })
     }

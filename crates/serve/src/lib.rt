@@ -9,6 +9,7 @@
 mod advice;
 mod answer;
 mod bound;
+mod entries;
 mod journal;
 mod meet;
 mod open;
@@ -19,3 +20,4 @@ mod trouble;
 mod welcome;
 
 pub use answer::serve;
+pub use bound::Ports;

@@ -1,12 +1,13 @@
 //! Listening for viewers.
 
-ghost use Rattle.std.specs.Prelude.{◌≡◌, IfOk};
+ghost use Rattle.std.specs.Prelude.{◌≡◌, ◌++◌, ◌∷◌, [], IfOk};
 ghost use Rattle.std.specs.Arc.{arc_value};
 ghost use Rattle.std.specs.Net.Socket.{socket_port};
 ghost use Rattle.plan.specs.Addresses.{IsAddressFor};
 ghost use Rattle.plan.specs.Statuses.{port_for};
+ghost use Rattle.serve.specs.Ports.{AsksFor};
 
-use crate::bound::Bound;
+use crate::bound::{Bound, Ports};
 use crate::trouble::{Stage, Trouble};
 use pixel_format::Fault;
 use plan::{Plan, address_of, places_of};
@@ -27,13 +28,16 @@ pub(crate) struct Entry<'a> {
 }
 
 /// Listens for the viewers of a role, where the plan says, and tells the log where.
+#[tactic(auto, using(crate::proofs::Asking::asks_for))]
 pub(crate) fn open<'a, R: Net<Stream = TcpStream, Listener = TcpListener>, G: Log>(
     rt: &R,
     alloc: Global,
     plan: &Plan<'a>,
+    ports: &mut Ports,
     role: Role,
     log: &G,
 ) -> Result<Entry<'a>, Trouble>
+    ensures asked { AsksFor role plan.now ports.old ports.new }
     ensures plan { IfOk result (λ entry. entry.plan ≡ plan.now) }
     ensures address { IfOk result (λ entry. IsAddressFor role plan.now entry.bound.address) }
     ensures role { IfOk result (λ entry. (arc_value entry.lobby).role ≡ role) }
@@ -42,7 +46,7 @@ pub(crate) fn open<'a, R: Net<Stream = TcpStream, Listener = TcpListener>, G: Lo
     let Ok(address) = address_of(plan, role) else {
         return Err(Trouble::new(Stage::ReadBind, Fault::LinkFailed));
     };
-    let bound = match Bound::at(rt, address) {
+    let bound = match Bound::at(rt, ports, address) {
         Ok(bound) => bound,
         Err(error) => return Err(Trouble::of(Stage::Listen(role), error)),
     };

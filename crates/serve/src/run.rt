@@ -3,10 +3,10 @@
 ghost use Rattle.std.specs.Prelude.{◌≡◌, ◌≤◌, All, length};
 ghost use Rattle.raster.specs.Size.{IsScreenSize};
 ghost use Rattle.plan.specs.Statuses.{HasPlaces};
-ghost use Rattle.serve.specs.Doors.{AreAsPlanned};
+ghost use Rattle.serve.specs.Doors.{AreAsPlanned, AreBoth};
 
 use crate::meet::{Met, meet};
-use crate::open::open;
+use crate::open::Entry;
 use crate::supply::Supply;
 use crate::trouble::{Stage, Trouble};
 use crate::welcome::{Rooms, bells, start_porter};
@@ -126,9 +126,15 @@ fn addresses(alloc: Global, plan: &Plan<'_>) -> Result<(SocketAddr, Vec<SocketAd
     Ok((first, further))
 }
 
-/// Listens, joins the first host, and reflects it and those that follow on it until the last ends. Then the places are
-/// waited for, though not for long.
-pub(crate) fn run<G, R>(rt: R, alloc: Global, plan: &Plan<'_>, log: G) -> Result<(), Trouble>
+/// Joins the first host, and reflects it and those that follow on it until the last ends, for viewers who come in by
+/// these entries, one for each role. Then the places are waited for, though not for long.
+pub(crate) fn run<G, R>(
+    rt: R,
+    alloc: Global,
+    plan: &Plan<'_>,
+    entries: (Entry<'_>, Entry<'_>),
+    log: G,
+) -> Result<(), Trouble>
 where
     G: Log + Drop + Copy + Send + 'static,
     R: Net<Stream = TcpStream, Listener = TcpListener>
@@ -139,11 +145,11 @@ where
         + Drop
         + Send
         + 'static,
-    requires { HasPlaces plan.now }
+    requires places { HasPlaces plan.now }
+    requires entries { AreBoth plan.now entries.0 entries.1 }
 {
     let hosts = addresses(alloc, plan)?;
-    let full = open(&rt, alloc, plan, Role::Full, &log)?;
-    let view = open(&rt, alloc, plan, Role::View, &log)?;
+    let (full, view) = entries;
     let met = meet(rt, hosts.0, &log)?;
     let mut rooms = Rooms::new(alloc);
     rooms.add_all(rt, alloc, &full, log)?;
