@@ -1,4 +1,5 @@
-//! Tests of `reflector` over links in memory: viewers that stall, a relay that is full, and places that are used again.
+//! Tests of `reflector` over links in memory: viewers that stall, a relay that is full, and places that are used again
+//! after each way of leaving.
 //! Update n paints colour n all over a screen of 2 by 1. A call that is held counts its turns, and fails at 1,000,000.
 
 mod board;
@@ -6,6 +7,7 @@ mod bytes;
 mod courses;
 mod dead_links;
 mod ends;
+mod leavings;
 mod peer;
 mod queue;
 mod wire;

@@ -5,7 +5,7 @@ ghost use Rattle.std.specs.Prelude.{◌≡◌, [], IfOk};
 use crate::connections::memory_socket::{MemorySocket, Turn};
 use crate::connections::sockets::make_seat;
 use link::{Gave, Link, Took};
-use serving::{Bell, HostLink, JoiningLink, TcpLink};
+use serving::{Bell, HostLink, JoiningLink, Parting, TcpLink};
 use std::alloc::Global;
 use std::io;
 use std::io::ErrorKind;
@@ -169,5 +169,34 @@ fn host_is_told_each_byte_until_it_is_closed(rt: HostRuntime) -> Result<(), Fail
     link.close();
     let is_closed = answers(&mut link, Took::Failed) && link.give(b"\x05") == Gave::Failed;
     assert!(rt; is_right && is_closed && link.failures() == 3);
+    Ok(())
+}
+
+/// What the system says of a connection that it gave up for want of confirmations, of one that its peer has closed, and
+/// of another error, and how the connection stands then.
+const PARTINGS: [(ErrorKind, Parting); 4] = [
+    (ErrorKind::TimedOut, Parting::Stalled),
+    (ErrorKind::ConnectionReset, Parting::Closed),
+    (ErrorKind::BrokenPipe, Parting::Closed),
+    (ErrorKind::HostUnreachable, Parting::Broken),
+];
+
+/// A link says how its connection stands, whether the system said so as it read or as it wrote.
+#[test]
+fn viewers_link_says_how_it_stands(rt: HostRuntime) -> Result<(), Fail> {
+    let alloc = rt.alloc();
+    let seat = make_seat(&rt)?;
+    for (kind, parting) in PARTINGS {
+        let turns = vec![in alloc; Turn::Fails(kind)]?;
+        let below = socket(alloc, HELLO, Vec::new(alloc), turns)?;
+        let mut read = TcpLink::over(&rt, alloc, below, &seat)?;
+        let is_told = answers(&mut read, Took::Failed) && read.parting() == parting;
+        let turns = vec![in alloc; Turn::Fails(kind)]?;
+        let below = socket(alloc, HELLO, turns, Vec::new(alloc))?;
+        let mut written = TcpLink::over(&rt, alloc, below, &seat)?;
+        let is_kept = written.give(VERSION) == Gave::Bytes(12);
+        written.flush();
+        assert!(rt; is_told && is_kept && written.parting() == parting);
+    }
     Ok(())
 }

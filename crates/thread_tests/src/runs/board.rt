@@ -13,6 +13,8 @@ const TURNS: u64 = 1_000_000;
 #[derive(Drop)]
 pub(crate) struct Board {
     shown: [AtomicU64; 4],
+    // How many viewers are at each place.
+    inside: [AtomicU64; 4],
     /// How many key events were handed out.
     pub(crate) handed: AtomicU64,
     /// Of how many the host was told.
@@ -48,8 +50,15 @@ impl Board {
             AtomicU64::new(0),
             AtomicU64::new(0),
         ];
+        let inside = [
+            AtomicU64::new(0),
+            AtomicU64::new(0),
+            AtomicU64::new(0),
+            AtomicU64::new(0),
+        ];
         let board = Board {
             shown,
+            inside,
             handed: AtomicU64::new(0),
             told: AtomicU64::new(0),
             black,
@@ -95,6 +104,29 @@ impl Board {
         if !is_right {
             self.flaws.store(1, Ordering::SeqCst);
         }
+    }
+
+    /// A viewer comes to this place, where nobody is to be.
+    pub(crate) fn enter(&self, place: usize) {
+        if let Some(inside) = self.inside.get(place) {
+            self.check(inside.fetch_add(1, Ordering::SeqCst) == 0);
+        }
+    }
+
+    /// The viewer at this place has left it.
+    pub(crate) fn leave(&self, place: usize) {
+        if let Some(inside) = self.inside.get(place) {
+            self.check(inside.fetch_sub(1, Ordering::SeqCst) == 1);
+        }
+    }
+
+    /// Whether nobody is at any place.
+    pub(crate) fn is_left(&self) -> bool {
+        let mut is_left = true;
+        for inside in &self.inside {
+            is_left = inside.load(Ordering::SeqCst) == 0 && is_left;
+        }
+        is_left
     }
 
     /// This place was shown this colour. What was shown never goes back to an update before.

@@ -190,5 +190,5 @@ where
 {
     let board = Board::new(alloc, course.black)?;
     let is_right = over::<Brand, R>(rt, alloc, Opened::new(), &board, course)?;
-    Ok(is_right && board.flaws.load(Ordering::SeqCst) == 0)
+    Ok(is_right && board.is_left() && board.flaws.load(Ordering::SeqCst) == 0)
 }

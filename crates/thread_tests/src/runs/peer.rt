@@ -23,12 +23,16 @@ pub(crate) enum Act {
     Types(u64),
     /// Ends.
     Ends,
+    /// Its link fails.
+    Fails,
 }
 
 /// How a peer takes what it is given. A viewer takes all of its greeting at once.
 pub(crate) enum Taking {
     /// A viewer: all of it at once.
     AtOnce,
+    /// A viewer: all of it at once. Its visit ends with a fault of this number, or with none, 0.
+    Leaves(u64),
     /// A viewer: nothing of it until the gate is open.
     Stalls(Gate),
     /// A viewer: each `give` is held until the gate is open.
@@ -94,6 +98,7 @@ impl Peer {
             }
             Some(Act::Types(_)) => Ok(true),
             Some(Act::Ends) => Err(Took::End),
+            Some(Act::Fails) => Err(Took::Failed),
             None => Ok(false),
         }
     }

@@ -58,16 +58,26 @@ impl Door for Queue {
     ghost sees_off = { λ _ _ _ _. ⊤ };
 
     fn next(&mut self) -> Option<Wire> {
-        self.wire()
+        let wire = self.wire()?;
+        self.board.enter(self.place);
+        Some(wire)
     }
 
     fn left(&mut self, viewer: Wire, _answers: u64, why: Result<(), Fault>) {
-        let is_right = match &viewer.peer.script.taking {
-            Taking::Breaks => matches!(why, Err(Fault::LinkFailed)),
-            _ => why.is_ok(),
-        };
-        let was_greeted = viewer.peer.heard.starts_with(GREETING);
-        self.board.check(is_right && was_greeted);
+        let heard = viewer.peer.heard.as_slice();
+        let was_greeted = heard.starts_with(GREETING);
+        self.board.check(match &viewer.peer.script.taking {
+            Taking::Breaks => was_greeted && matches!(why, Err(Fault::LinkFailed)),
+            Taking::Leaves(fault) => {
+                let number = match &why {
+                    Ok(()) => 0,
+                    Err(fault) => fault.number(),
+                };
+                number == *fault && (was_greeted || GREETING.starts_with(heard))
+            }
+            _ => was_greeted && why.is_ok(),
+        });
+        self.board.leave(self.place);
     }
 }
 

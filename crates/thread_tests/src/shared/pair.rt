@@ -103,13 +103,14 @@ fn a_thousand_puts_beside_four_eyes(rt: HostRuntime) -> Result<(), Fail> {
     Ok(())
 }
 
-/// All is right, at once or the next time: where memory is refused, or a place for want of it, nothing is amiss with
-/// the memory that is there then. `rt try --test --fail-alloc N` refuses the Nth allocation, and the gate none.
+/// All is right, at once or the next time: where memory is refused that is what is answered (`Memory`), and nothing is
+/// amiss with the memory that is there then. `rt try --test --fail-alloc N` refuses the Nth allocation, and the gate
+/// none.
 #[test]
 fn pair_without_memory(rt: HostRuntime) {
     let mut answer = Err(Fault::Memory);
     for _ in 0..2u64 {
-        if matches!(answer, Err(Fault::Memory | Fault::NoPlace)) {
+        if matches!(answer, Err(Fault::Memory)) {
             answer = plays::<Brand, _>(rt, rt.alloc(), Opened::new(), 2, true);
         }
     }
