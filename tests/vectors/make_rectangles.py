@@ -1,11 +1,11 @@
 #!/usr/bin/env python3
-"""Writes crates/codec_trial/data/rectangles: generated rectangles, spelled by rfb_codecs.py.
+"""Writes crates/codec_trial/data/rectangles, or joined: generated rectangles, spelled by rfb_codecs.py.
 
 Each record is, with numbers most significant byte first: the encoding (1 byte); the pixel format (16 bytes, RFC 6143,
 7.4); width and height (2 bytes each); what a writer has to answer (1 byte: 0 the rectangle is for reading alone, 1
 exactly this data, 2 nothing, since Raw is as short); the length of the data (4 bytes); the data; the pixels in Raw.
 
-usage: make_rectangles.py FILE"""
+usage: make_rectangles.py FILE [joined]: with that word all are to be written, of joined runs"""
 import random
 import struct
 import sys
@@ -113,8 +113,17 @@ def size(rng):
     return rng.choice([1, 2, 7, 15, 16, 17, 31, 32, 33, 40])
 
 
-def main():
-    rng = random.Random(6143)
+def written(encoding, form, w, h, grid, join):
+    """The record of a rectangle that is to be written."""
+    pixels = Pixels(form[0] // 8, form[2])
+    data = write(encoding, pixels, w, h, grid, join)
+    if data is None:
+        return record(encoding, form, w, h, NOTHING, b"", pixels, grid)
+    assert read(encoding, pixels, w, h, data) == (grid, len(data))
+    return record(encoding, form, w, h, THIS, data, pixels, grid)
+
+
+def of_rows(rng):
     records = []
     for turn in range(60):
         for encoding in (RRE, HEXTILE):
@@ -124,17 +133,30 @@ def main():
             top = 1 << min(form[0], 24)
             colours = [rng.randrange(top) for _ in range(rng.choice([2, 3, 5, 200]))]
             for kind in (KINDS[turn % 4], KINDS[(turn + 1) % 4]):
-                grid = kind(rng, w, h, colours)
-                data = write(encoding, pixels, w, h, grid)
-                if data is not None:
-                    assert read(encoding, pixels, w, h, data) == (grid, len(data))
-                    records.append(record(encoding, form, w, h, THIS, data, pixels, grid))
-                else:
-                    records.append(record(encoding, form, w, h, NOTHING, b"", pixels, grid))
+                records.append(written(encoding, form, w, h, kind(rng, w, h, colours), False))
             data = (any_rre if encoding == RRE else any_hextile)(rng, pixels, w, h, colours)
             grid, used = read(encoding, pixels, w, h, data)
             assert used == len(data)
             records.append(record(encoding, form, w, h, READ_ONLY, data, pixels, grid))
+    return records
+
+
+def of_joined_runs(rng):
+    records = []
+    for turn in range(180):
+        for encoding in (RRE, HEXTILE):
+            form = FORMATS[turn % len(FORMATS)]
+            w, h = size(rng), size(rng)
+            top = 1 << min(form[0], 24)
+            colours = [rng.randrange(top) for _ in range(rng.choice([2, 3, 5, 200]))]
+            kind = (boxes, lines_of_text, boxes, noise, gradient, boxes)[turn % 6]
+            records.append(written(encoding, form, w, h, kind(rng, w, h, colours), True))
+    return records
+
+
+def main():
+    rng = random.Random(6143)
+    records = of_joined_runs(rng) if sys.argv[2:] == ["joined"] else of_rows(rng)
     with open(sys.argv[1], "wb") as file:
         file.write(b"".join(records))
     print(f"{len(records)} rectangles")

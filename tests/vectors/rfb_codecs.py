@@ -1,7 +1,8 @@
 """RRE and Hextile of RFC 6143 (7.7.3, 7.7.4), read and written, from the text of the RFC alone.
 
 It shares no code with the crates. Grids are lists of pixel values, row after row. `read` takes any spelling; `write`
-gives the one spelling that docs/PROTOCOL.md ("Encodings") tells of the RFC's many, or None where Raw has no more bytes.
+gives the spellings that docs/PROTOCOL.md ("Encodings") tells of the RFC's many, one in each form, or None where Raw has
+no more bytes.
 """
 import struct
 
@@ -106,9 +107,8 @@ def read_hextile(source, w, h, grid):
                 fill(grid, w, left + x, top + y, sw, sh, value)
 
 
-def runs(grid, width, left, top, w, h):
-    """Rows from the top and in a row from the left: the runs of one value other than the first pixel's."""
-    background = grid[top * width + left]
+def runs(grid, width, left, top, w, h, background):
+    """Rows from the top and in a row from the left: the runs of one value other than the background."""
     found = []
     for y in range(h):
         row = grid[(top + y) * width + left:(top + y) * width + left + w]
@@ -118,40 +118,63 @@ def runs(grid, width, left, top, w, h):
             while end < w and row[end] == row[x]:
                 end += 1
             if row[x] != background:
-                found.append((row[x], x, y, end - x))
+                found.append((row[x], x, y, end - x, 1))
             x = end
-    return background, found
+    return found
 
 
-def write(encoding, pixels, w, h, grid):
+def joined(found):
+    """Each run that the row above doesn't have, too, as high as the rows directly below it have it."""
+    rows = {(value, x, y, count) for value, x, y, count, _ in found}
+    tops = [run for run in found if (run[0], run[1], run[2] - 1, run[3]) not in rows]
+    together = []
+    for value, x, y, count, _ in tops:
+        high = 1
+        while (value, x, y + high, count) in rows:
+            high += 1
+        together.append((value, x, y, count, high))
+    return together
+
+
+def write(encoding, pixels, w, h, grid, join=False):
+    """The rectangle's data, of the runs of rows or of joined runs, or None."""
     raw = pixels.all(grid)
-    data = write_rre(pixels, w, h, grid) if encoding == RRE else write_hextile(pixels, w, h, grid)
+    data = write_rre(pixels, w, h, grid, join) if encoding == RRE else write_hextile(pixels, w, h, grid, False)
+    if join and encoding == HEXTILE:
+        data = min(write_hextile(pixels, w, h, grid, True), data, key=len)
     return data if len(data) < len(raw) else None
 
 
-def write_rre(pixels, w, h, grid):
-    background, found = runs(grid, w, 0, 0, w, h)
-    data = struct.pack(">I", len(found)) + pixels.put(background)
-    return data + b"".join(pixels.put(value) + struct.pack(">4H", x, y, count, 1) for value, x, y, count in found)
+def write_rre(pixels, w, h, grid, join):
+    found = runs(grid, w, 0, 0, w, h, grid[0])
+    if join:
+        found = joined(found)
+    data = struct.pack(">I", len(found)) + pixels.put(grid[0])
+    return data + b"".join(pixels.put(value) + struct.pack(">4H", *place) for value, *place in found)
 
 
-def write_hextile(pixels, w, h, grid):
+def write_hextile(pixels, w, h, grid, join):
     data = b""
     before = (None, None)  # the background and foreground that the tile directly before leaves
     for top in range(0, h, TILE):
         for left in range(0, w, TILE):
             tw, th = min(TILE, w - left), min(TILE, h - top)
-            tile, before = write_tile(pixels, w, left, top, tw, th, grid, before)
+            tile, before = write_tile(pixels, w, left, top, tw, th, grid, before, join)
             data += tile
     return data
 
 
-def write_tile(pixels, width, left, top, w, h, grid, before):
-    background, found = runs(grid, width, left, top, w, h)
+def write_tile(pixels, width, left, top, w, h, grid, before, join):
+    rows = [grid[(top + y) * width + left:(top + y) * width + left + w] for y in range(h)]
+    shown = [value for row in rows for value in row]
+    background = max(shown, key=shown.count) if join else shown[0]  # max: of several the first
+    found = runs(grid, width, left, top, w, h, background)
+    if join:
+        found = joined(found)
     said_background, said_foreground = before
-    values = {value for value, _, _, _ in found}
+    values = {run[0] for run in found}
     mask, head = (0, b"") if said_background == background else (2, pixels.put(background))
-    places = [bytes([x * 16 + y, (count - 1) * 16]) for _, x, y, count in found]
+    places = [bytes([x * 16 + y, (count - 1) * 16 + high - 1]) for _, x, y, count, high in found]
     if not found:
         tile, after = bytes([mask]) + head, (background, None)
     elif len(values) == 1:
@@ -166,6 +189,5 @@ def write_tile(pixels, width, left, top, w, h, grid, before):
         coloured = [pixels.put(run[0]) + place for run, place in zip(found, places)]
         tile = bytes([mask | 24]) + head + bytes([len(found) & 255]) + b"".join(coloured)
         after = (background, None)
-    rows = [grid[(top + y) * width + left:(top + y) * width + left + w] for y in range(h)]
     raw = bytes([1]) + b"".join(pixels.all(row) for row in rows)
     return (raw, (None, None)) if len(raw) <= len(tile) else (tile, after)
