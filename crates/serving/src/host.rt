@@ -2,7 +2,7 @@
 
 use crate::account::Account;
 use crate::noted::Noted;
-use crate::options::outlast;
+use crate::options::outlast_host;
 use crate::socket::HostSocket;
 use link::{Gave, Link, Took};
 use std::io;
@@ -43,7 +43,7 @@ impl HostLink {
     pub fn pair(stream: TcpStream) -> io::Result<(HostLink, HostLink)>
         ensures { IfOk result (λ ends. (ends.0 ≡ fresh) × (ends.1 ≡ fresh)) }
     {
-        outlast(&stream)?;
+        outlast_host(&stream)?;
         stream.set_write_timeout(Some(Duration::from_secs(PATIENCE_SECONDS)))?;
         let other = stream.try_clone()?;
         let reader = HostLink::over(Noted::new(stream));

@@ -31,7 +31,7 @@ pub use host::HostLink;
 pub use joining::JoiningLink;
 pub use lobby::{Lobby, TcpDoor, keep_door};
 pub use noted::{Closing, Noted};
-pub use options::outlast;
+pub use options::{outlast, outlast_host};
 pub use refusal::refusal_bytes;
 pub use ringing::Ringing;
 pub use seat::Seat;
