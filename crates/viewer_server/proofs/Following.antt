@@ -1,5 +1,5 @@
 -- A viewer that is served, and one who follows its answers. The law `viewer_holds_each_answer` is made of it.
-use Rattle.std.proofs.Common.{◌≡◌, ℕ, ◌≤◌, Bool, true, false, List, [], ◌∷◌, ◌++◌, length, take, Option, Some, None, refl, sym, ap, subst, ◌∙◌, arith, append_assoc, append-nil}
+use Rattle.std.proofs.Common.{◌≡◌, ℕ, ◌≤◌, Bool, true, List, [], ◌∷◌, ◌++◌, length, take, Option, Some, None, refl, sym, ap, subst, ◌∙◌, arith, append_assoc, append-nil}
 use Rattle.std.specs.Prelude.{◌&&◌, is_some, is_none, nat_le, max}
 use Rattle.std.specs.Prelude.{drop}
 use Rattle.std.proofs.lemmas.List.{length-take, take-append-drop, take-take}
@@ -7,9 +7,9 @@ use Rattle.std.proofs.lemmas.Bool.{and_parts}
 use Rattle.byte_reading.specs.Reading.{Reading, Done, Faulty, Want, whole_of, wants_more}
 use Rattle.raster.specs.declared.rect.Rect.{Rect}
 use Rattle.raster.specs.Update.{Update}
-use Rattle.viewer_session.specs.Record.{Entry, Took, Saw, MadeCut, Began, NumbersUpTo}
+use Rattle.viewer_session.specs.Record.{Entry, Saw, MadeCut, Began, NumbersUpTo}
 use Rattle.viewer_session.specs.Viewer.{Setup, Viewer, new_viewer, out_bytes, may_look, after_bytes, after_cut, viewer_fault}
-use Rattle.viewer_session.specs.Session.{after_look, with_marks, without_input}
+use Rattle.viewer_session.specs.Session.{after_look, with_marks}
 use Rattle.viewer_session.proofs.Good.{IsGood, good_new, good_bytes, good_look, good_cut, good_put, answered_behind}
 use Rattle.viewer_session.proofs.Stands.{AllAnswered}
 use Rattle.viewer_server.specs.Serving.{EachAnswerHolds, CutsWell, MayBe, AllMayBe}

@@ -1,5 +1,6 @@
 -- A viewer leaves, input by input. `run_viewer` owes that its releases follow what passed.
-use Rattle.std.proofs.Common.{◌≡◌, Bool, true, false, List, [], ◌++◌, Option, None, Ok, Err, inl, inr, refl, sym, ap, ◌∙◌, append_assoc, append-nil}
+use Rattle.std.proofs.Common.{◌≡◌, Bool, true, false, List, [], ◌∷◌, ◌++◌, Option, None, Some, Ok, Err, inl, inr, refl, sym, ap, ◌∙◌, append_assoc, append-nil}
+use Rattle.std.specs.Prelude.{is_some}
 use Rattle.pixel_format.specs.declared.fault.Fault.{Fault}
 use Rattle.roles.specs.Allowed.{Input}
 use Rattle.viewer_server.specs.Steps.{Unpassed, Passes, Leaves}
@@ -41,8 +42,23 @@ leaves_done was_set may_refuse old now all held w k none e =
 pub leaves_stop : (was_set : Type 0) (may_refuse : Fault → Type 0) (old now all left : List Input) → IsLeaving old now all left → was_set → Leaves was_set may_refuse all old now (Ok tt)
 leaves_stop was_set may_refuse old now all left k set = record { sent = k.sent; took = k.took; begins = (left, k.split); why = inr set }
 
+-- What waits is one input.
+pub first_waits : (o : Option Input) → is_some o ≡ true → (input : Input) × (waiting_list o ≡ input ∷ [])
+first_waits None e = absurd cc
+first_waits (Some input) e = (input, refl)
+
+pub none_waits : (o : Option Input) → is_some o ≡ false → o ≡ None
+none_waits None e = refl
+none_waits (Some input) e = absurd cc
+
 -- The sink refused an input for good.
 pub leaves_refused : (was_set : Type 0) (may_refuse : Fault → Type 0) (fault : Fault) (old now new all held : List Input) (before after : Unpassed) → IsLeaving old now all (waiting_list before.waiting ++ held)
     → Passes may_refuse (Err fault) before after now new → Leaves was_set may_refuse all old new (Err fault)
 leaves_refused was_set may_refuse fault old now new all held before after k e =
-    record { sent = k.sent; took = e.2 ∙ k.took; begins = (waiting_list before.waiting ++ held, k.split); why = e.3 }
+    let first = first_waits before.waiting e.0 in
+    record {
+      sent = k.sent;
+      took = e.2 ∙ k.took;
+      begins = (waiting_list before.waiting ++ held, k.split);
+      why = record { refused = e.3; input = first.0; rest = held; left = k.split ∙ ap (λ t. k.sent ++ (t ++ held)) first.1 };
+    }

@@ -1,19 +1,14 @@
 -- Giving what waits, and taking what came. `run_viewer` is turns of both.
-use Rattle.std.proofs.Common.{◌≡◌, ℕ, zero, suc, ◌+◌, ◌<◌, ◌≤◌, ◌^◌, ◌⊎◌, Bool, false, Result, List, [], ◌∷◌, ◌++◌, length, take, drop, Err, inl, inr, refl, sym, ap, subst, ◌∙◌, arith, append_assoc, append-nil, length-drop, length-append}
+use Rattle.std.proofs.Common.{◌≡◌, ℕ, zero, suc, ◌+◌, ◌<◌, ◌≤◌, ◌^◌, ◌⊎◌, Bool, false, List, [], ◌∷◌, ◌++◌, length, take, drop, inl, inr, refl, sym, ap, subst, ◌∙◌, arith, append_assoc, append-nil, length-drop, length-append}
 use Rattle.std.specs.Prelude.{min, ◌==◌}
 use Rattle.std.proofs.Math.Seq.{take-add}
-use Rattle.std.proofs.lemmas.List.{drop-drop, take-append-le, length-take}
+use Rattle.std.proofs.lemmas.List.{drop-drop, take-append-le}
 use Rattle.reflect_core.specs.Sequential.{Begins}
-use Rattle.raster.specs.Update.{Update}
 use Rattle.std.proofs.lemmas.Bool.{cases_lt}
 use Rattle.link.specs.Links.{LinkState, HasRisen, with_end, with_failure}
-use Rattle.pixel_format.specs.declared.fault.Fault.TheVariants.{LinkEnded, LinkFailed}
-use Rattle.viewer_session.specs.Viewer.{Setup, Viewer, after_bytes}
-use Rattle.pixel_format.specs.declared.fault.Fault.{Fault}
-use Rattle.viewer_session.specs.Session.{State, Stands, HasCounted, IsSameSession, after_writing, without_look}
-use Rattle.reflect_core.specs.declared.cut.Cut.{Cut}
+use Rattle.viewer_session.specs.Viewer.{Setup, Viewer}
+use Rattle.viewer_session.specs.Session.{State, Stands, HasCounted, after_writing}
 use Rattle.viewer_session.specs.Viewer.{out_bytes}
-use Rattle.viewer_session.specs.Session.{IsBetween}
 use Rattle.viewer_session.proofs.SessionLaws.{unsent_left}
 use Rattle.viewer_server.specs.Steps.{Says}
 

@@ -13,19 +13,21 @@ use Rattle.raster.specs.Update.{Update, bells}
 use Rattle.rfb_wire.specs.Handshake.{said_to_viewer}
 use Rattle.rfb_wire.specs.Greeting.{Greeting}
 use Rattle.roles.specs.declared.role.Role.{Role}
-use Rattle.roles.specs.Allowed.{Input, allowed}
+use Rattle.roles.specs.Allowed.{Input}
 use Rattle.link.specs.Links.{LinkState, HasRisen}
 use Rattle.reflect_core.specs.Asked.{pending, last_cut}
 use Rattle.reflect_core.specs.Sequential.{Begins}
-use Rattle.viewer_session.specs.Record.{Entry, Saw, MadeCut, NumbersUpTo, events, messages_in}
+use Rattle.viewer_session.specs.Record.{Entry, Saw, MadeCut, NumbersUpTo, events}
 use Rattle.viewer_session.specs.Turn.{has_reason, began_at, update_at, sent_at}
 use Rattle.viewer_session.specs.Viewer as viewer
 use Rattle.viewer_session.specs.Viewer.{Setup, Viewer, new_viewer, out_bytes, may_look, viewer_fault, after_bytes, after_cut}
 use Rattle.viewer_session.specs.Session.{State, Stands, Turns, CutsAt, HasCounted, Greets, IsBetween, after_look, after_writing, with_marks, without_input, IsSameSession, fault_in, hello_of, is_greeted, is_ready, wants_cut}
 use Rattle.viewer_session.proofs.SessionLaws.{fault_stands, stands_saw, unsent_left}
 use Rattle.viewer_session.proofs.Stands.{numbers_more}
-use Rattle.viewer_server.specs.Serving.{EachAnswerHolds, CutsWell, MayBe, AllMayBe, IsShown, bytes_in, has_turned, HaltsBy, LinkHalts, EndsServing, IsRefused, Relays, Serves}
-use Rattle.viewer_server.specs.Steps.{Unpassed, all_passed, WaitsIfLeft, Passes, ReadsTo, Reads, ReadsIfAny, GoesOn, Says, Offers, HasHeard, HeardSo, Hears, HasServed, Leaves}
+use Rattle.viewer_server.specs.Serving.{EachAnswerHolds, CutsWell, MayBe, AllMayBe, IsShown, bytes_in, has_turned, HaltsBy, LinkHalts}
+use Rattle.viewer_server.specs.Steps.{Unpassed, all_passed, WaitsIfLeft, Passes, ReadsTo, Reads, ReadsIfAny, GoesOn, Says, Offers, HasHeard, HeardSo, Hears, EndsSo, HasServed}
+use Rattle.viewer_server.specs.declared.breaks.Break.{Break}
+use Rattle.viewer_server.specs.declared.breaks.Break.TheVariants.{At, Refused}
 use Rattle.viewer_server.proofs.Following.{holds_after_each_answer}
 use Rattle.reflect_core.specs.declared.cut.Cut.{Cut}
 use Rattle.viewer_session.specs.Acts.{Act, Bytes, Turn, Written, Passed, after_act, viewer_after, waiting_list, HasPassed}
@@ -493,8 +495,8 @@ held_by s us p acts st lw lh begun may stands =
     subst (λ (q : Viewer). EachAnswerHolds s us (viewer_after s us q acts)) (sym begun.2)
     (holds_after_each_answer s lw lh us begun.0 begun.1 acts (subst (λ (q : Viewer). AllMayBe s us q acts) begun.2 may))
 
-served_by : {S : Type 0} (looks cuts : S → ℕ → S → Type 0) (may_end was_set : Type 0) (may_refuse : Fault → Type 0) (a b c : S) (us : List Update) (most : ℕ) (s : Setup) (p : Viewer) (st : State) (box : Unpassed) (x y : List Input) (is_offered : Bool) (answer : Result (Unit {0}) Fault) (old new : LinkState)
-    → (k : IsServing looks cuts a b us most s p st box x y is_offered old new) → WaitsIfLeft box → EndsServing looks may_end was_set may_refuse b c s (viewer_after s us p k.acts) answer old new
+served_by : {S : Type 0} (looks cuts : S → ℕ → S → Type 0) (may_end was_set : Type 0) (may_refuse : Fault → Type 0) (a b c : S) (us : List Update) (most : ℕ) (s : Setup) (p : Viewer) (st : State) (box : Unpassed) (x y : List Input) (is_offered : Bool) (answer : Result (Unit {0}) Break) (old new : LinkState)
+    → (k : IsServing looks cuts a b us most s p st box x y is_offered old new) → WaitsIfLeft box → EndsSo looks may_end was_set may_refuse b c s (viewer_after s us p k.acts) box answer old new
     → HasServed looks cuts may_end was_set may_refuse a c us s p st box x y answer old new
 served_by looks cuts may_end was_set may_refuse a b c us most s p st box x y is_offered answer old new k unread ends =
     record {
@@ -522,10 +524,10 @@ served_stop looks cuts may_end was_set may_refuse a b us most s p st box x y is_
 -- The source has ended.
 pub served_gone : {S : Type 0} (looks cuts : S → ℕ → S → Type 0) (may_end was_set : Type 0) (may_refuse : Fault → Type 0) (a b c : S) (us known : List Update) (most least now_most : ℕ) (s : Setup) (p : Viewer) (st next : State) (box : Unpassed) (x y : List Input) (is_offered : Bool) (fault : Fault) (old new : LinkState)
     → IsServing looks cuts a b us most s p st box x y is_offered old new → WaitsIfLeft box → Begins us known → Offers looks cuts may_end b c st next known least now_most (Err fault)
-    → HasServed looks cuts may_end was_set may_refuse a c known s p next box x y (Err fault) old new
+    → HasServed looks cuts may_end was_set may_refuse a c known s p next box x y (Err (At fault)) old new
 served_gone looks cuts may_end was_set may_refuse a b c us known most least now_most s p st next box x y is_offered fault old new k unread begins o =
-    subst (λ t. HasServed looks cuts may_end was_set may_refuse a c known s p t box x y (Err fault) old new) (sym o.2)
-    (served_by looks cuts may_end was_set may_refuse a b c known most s p st box x y is_offered (Err fault) old new (serving_known looks cuts a b b us known most most s p st st box x y is_offered old new k begins refl refl refl) unread (inr (o.0, o.1, o.3)))
+    subst (λ t. HasServed looks cuts may_end was_set may_refuse a c known s p t box x y (Err (At fault)) old new) (sym o.2)
+    (served_by looks cuts may_end was_set may_refuse a b c known most s p st box x y is_offered (Err (At fault)) old new (serving_known looks cuts a b b us known most most s p st st box x y is_offered old new k begins refl refl refl) unread (inr (o.0, o.1, o.3)))
 
 bare_halts : (fault : Fault) (s : Setup) (p : Viewer) (old new : LinkState) → LinkHalts fault s (without_input p) old new → LinkHalts fault s p old new
 bare_halts LinkEnded s p old new (rose, inl unsent) = (rose, inl unsent)
@@ -539,33 +541,34 @@ halts_on fault s p old now new f e k = subst (λ n. HaltsBy fault s p old.failed
 -- The link halts.
 pub served_halt : {S : Type 0} (looks cuts : S → ℕ → S → Type 0) (may_end was_set : Type 0) (may_refuse : Fault → Type 0) (a b : S) (us : List Update) (most : ℕ) (s : Setup) (p : Viewer) (st : State) (box : Unpassed) (x y : List Input) (is_offered : Bool) (fault : Fault) (old now new : LinkState)
     → IsServing looks cuts a b us most s p st box x y is_offered old new → WaitsIfLeft box → now.failed ≡ old.failed → now.ended ≡ old.ended → ((t : Setup) (q : Viewer) → Stands t st q → LinkHalts fault t q now new)
-    → HasServed looks cuts may_end was_set may_refuse a b us s p st box x y (Err fault) old new
+    → HasServed looks cuts may_end was_set may_refuse a b us s p st box x y (Err (At fault)) old new
 served_halt looks cuts may_end was_set may_refuse a b us most s p st box x y is_offered fault old now new k unread f e halts =
     let q : Viewer = viewer_after s us p k.acts in
-    served_by looks cuts may_end was_set may_refuse a b b us most s p st box x y is_offered (Err fault) old new k unread (inl (refl, inr (inr (halts_on fault s q old now new f e (bare_halts fault s q now new (halts s (without_input q) k.stands))))))
+    served_by looks cuts may_end was_set may_refuse a b b us most s p st box x y is_offered (Err (At fault)) old new k unread (inl (refl, inr (inr (halts_on fault s q old now new f e (bare_halts fault s q now new (halts s (without_input q) k.stands))))))
 
 -- The viewer's bytes are at fault.
 pub served_fault : {S : Type 0} (looks cuts : S → ℕ → S → Type 0) (may_end was_set : Type 0) (may_refuse : Fault → Type 0) (a b : S) (us : List Update) (most : ℕ) (s : Setup) (p : Viewer) (st : State) (box : Unpassed) (x y : List Input) (is_offered : Bool) (fault : Fault) (old new : LinkState)
-    → IsServing looks cuts a b us most s p st box x y is_offered old new → WaitsIfLeft box → fault_in st ≡ Some fault → HasServed looks cuts may_end was_set may_refuse a b us s p st box x y (Err fault) old new
+    → IsServing looks cuts a b us most s p st box x y is_offered old new → WaitsIfLeft box → fault_in st ≡ Some fault → HasServed looks cuts may_end was_set may_refuse a b us s p st box x y (Err (At fault)) old new
 served_fault looks cuts may_end was_set may_refuse a b us most s p st box x y is_offered fault old new k unread at =
-    served_by looks cuts may_end was_set may_refuse a b b us most s p st box x y is_offered (Err fault) old new k unread (inl (refl, inl (sym (fault_stands s st (without_input (viewer_after s us p k.acts)) k.stands) ∙ at)))
+    served_by looks cuts may_end was_set may_refuse a b b us most s p st box x y is_offered (Err (At fault)) old new k unread (inl (refl, inl (sym (fault_stands s st (without_input (viewer_after s us p k.acts)) k.stands) ∙ at)))
 
 -- Input went on no further: the sink refused it for good, or the bytes after it are at fault.
-pub served_relay : {S : Type 0} (looks cuts : S → ℕ → S → Type 0) (may_end was_set : Type 0) (may_refuse : Fault → Type 0) (a b : S) (us : List Update) (most : ℕ) (s : Setup) (p : Viewer) (st next : State) (box after : Unpassed) (x y z : List Input) (fault : Fault) (old now : LinkState)
-    → IsServing looks cuts a b us most s p st box x y false old now → WaitsIfLeft after → IsSameSession st next → GoesOn may_refuse (Err fault) st next box after y z
-    → HasServed looks cuts may_end was_set may_refuse a b us s p next after x z (Err fault) old now
-served_relay looks cuts may_end was_set may_refuse a b us most s p st next box after x y z fault old now k unread same (inl g) =
-    let e = g.0 in
-    subst (λ t. HasServed looks cuts may_end was_set may_refuse a b us s p t after x z (Err fault) old now) (sym g.1)
-    (served_by looks cuts may_end was_set may_refuse a b b us most s p st after x z false (Err fault) old now (serving_still looks cuts a b us most s p st box after x y z false old now now k e.1 e.2 refl refl) unread (inl (refl, inr (inl e.3))))
-served_relay looks cuts may_end was_set may_refuse a b us most s p st next box after x y z fault old now k unread same (inr g) =
+pub served_relay : {S : Type 0} (looks cuts : S → ℕ → S → Type 0) (may_end was_set : Type 0) (may_refuse : Fault → Type 0) (a b : S) (us : List Update) (most : ℕ) (s : Setup) (p : Viewer) (st next : State) (box after : Unpassed) (x y z : List Input) (why : Break) (old now : LinkState)
+    → IsServing looks cuts a b us most s p st box x y false old now → WaitsIfLeft after → IsSameSession st next → GoesOn may_refuse (Err why) st next box after y z
+    → HasServed looks cuts may_end was_set may_refuse a b us s p next after x z (Err why) old now
+served_relay looks cuts may_end was_set may_refuse a b us most s p st next box after x y z (At fault) old now k unread same g =
     served_fault looks cuts may_end was_set may_refuse a b us most s p next after x z false fault old now
     (serving_read looks cuts a b us most s p st next g.0 after x z false old now (serving_passed looks cuts may_refuse a b us most s p st box g.0 false x y z old now k g.1) same g.2) unread g.3
+served_relay looks cuts may_end was_set may_refuse a b us most s p st next box after x y z (Refused fault) old now k unread same g =
+    let e = g.0 in
+    subst (λ t. HasServed looks cuts may_end was_set may_refuse a b us s p t after x z (Err (Refused fault)) old now) (sym g.1)
+    (served_by looks cuts may_end was_set may_refuse a b b us most s p st after x z false (Err (Refused fault)) old now (serving_still looks cuts a b us most s p st box after x y z false old now now k e.1 e.2 refl refl) unread
+    (refl, e.3, ap (λ (i : Unpassed). is_some i.waiting) e.1 ∙ e.0))
 
 -- No more is heard: the link halted, or the bytes are at fault.
 heard_no_more : {S : Type 0} (looks cuts : S → ℕ → S → Type 0) (may_end was_set : Type 0) (may_refuse : Fault → Type 0) (a b : S) (us : List Update) (most : ℕ) (s : Setup) (p : Viewer) (st : State) (box : Unpassed) (x y : List Input) (is_offered : Bool) (fault : Fault) (piece : List ℕ) (old now new : LinkState)
     → IsServing looks cuts a b us most s p st box x y is_offered old new → WaitsIfLeft box → now.failed ≡ old.failed → now.ended ≡ old.ended → HeardSo (Err fault) piece st now new
-    → HasServed looks cuts may_end was_set may_refuse a b us s p st box x y (Err fault) old new
+    → HasServed looks cuts may_end was_set may_refuse a b us s p st box x y (Err (At fault)) old new
 heard_no_more looks cuts may_end was_set may_refuse a b us most s p st box x y is_offered fault piece old now new k unread f e (inl at) = served_fault looks cuts may_end was_set may_refuse a b us most s p st box x y is_offered fault old new k unread at.0
 heard_no_more looks cuts may_end was_set may_refuse a b us most s p st box x y is_offered fault piece old now new k unread f e (inr halts) = served_halt looks cuts may_end was_set may_refuse a b us most s p st box x y is_offered fault old now new k unread f e halts.1
 
@@ -578,7 +581,7 @@ waits_after answer st next after now new h = waits_if_heard h.piece st next afte
 
 pub served_hear : {S : Type 0} (looks cuts : S → ℕ → S → Type 0) (may_end was_set : Type 0) (may_refuse : Fault → Type 0) (a b : S) (us : List Update) (most : ℕ) (s : Setup) (p : Viewer) (st next : State) (box after : Unpassed) (x y : List Input) (is_offered : Bool) (fault : Fault) (old now new : LinkState)
     → IsServing looks cuts a b us most s p st box x y is_offered old now → box ≡ all_passed → IsSameSession st next → now.failed ≡ old.failed → now.ended ≡ old.ended → Hears (Err fault) st next after now new
-    → HasServed looks cuts may_end was_set may_refuse a b us s p next after x y (Err fault) old new
+    → HasServed looks cuts may_end was_set may_refuse a b us s p next after x y (Err (At fault)) old new
 served_hear looks cuts may_end was_set may_refuse a b us most s p st next box after x y is_offered fault old now new k empty same f e h =
     heard_no_more looks cuts may_end was_set may_refuse a b us most s p next after x y false fault h.piece old now new (serving_heard looks cuts a b us most s p st next box after x y is_offered (Err fault) old now new k empty same h)
     (waits_after (Err fault) st next after now new h) f e h.so

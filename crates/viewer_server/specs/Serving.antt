@@ -1,20 +1,19 @@
 -- Serving one viewer: what is done for it, what it is given, and what of its input goes to the host (the steps are
 -- those of a schedule; own).
-use Rattle.std.specs.Prelude.{◌≡◌, ℕ, ◌+◌, ◌≤◌, ◌<◌, ◌⊎◌, Bool, true, false, is_some, List, [], ◌∷◌, ◌++◌, length, take, drop, Option, Some, None, Result, Ok, Err}
+use Rattle.std.specs.Prelude.{◌≡◌, ℕ, ◌+◌, ◌≤◌, ◌<◌, ◌⊎◌, Bool, true, false, is_some, List, [], ◌∷◌, ◌++◌, length, take, Option, Some, None, Result, Ok, Err}
 use Rattle.pixel_format.specs.declared.fault.Fault.{Fault}
 use Rattle.pixel_format.specs.declared.fault.Fault.TheVariants.{LinkEnded, LinkFailed, Gone, QueueFull}
 use Rattle.raster.specs.declared.rect.Rect.{Rect}
 use Rattle.raster.specs.Update.{Update}
 use Rattle.update_encoder.specs.Follower.{follower, HoldsArea}
 use Rattle.roles.specs.Allowed.{Input, allowed}
-use Rattle.roles.specs.Held.{Kept, HeldStands}
 use Rattle.link.specs.Links.{LinkState, HasRisen}
 use Rattle.reflect_core.specs.Sequential.{Begins}
 use Rattle.viewer_session.specs.Record.{Entry, Took, Saw, MadeCut, Began, NumbersUpTo, before_last, messages_in, received}
 use Rattle.viewer_session.specs.Turn.{has_reason}
 use Rattle.viewer_session.specs.Acts.{Act, Bytes, Turn, Written, Passed, viewer_after}
-use Rattle.viewer_session.specs.Viewer.{Setup, Viewer, out_bytes, may_look, viewer_fault, after_bytes, after_cut}
-use Rattle.viewer_session.specs.Session.{State, Stands, HasOnlyLooked, IsBetween, after_look, after_writing, with_marks, without_input}
+use Rattle.viewer_session.specs.Viewer.{Setup, Viewer, out_bytes, may_look, viewer_fault}
+use Rattle.viewer_session.specs.Session.{HasOnlyLooked, IsBetween}
 
 -- A list of acts has the latest first.
 
@@ -87,23 +86,38 @@ LinkHalts fault s p old new = HaltsBy fault s p old.failed new.failed old.ended 
 abbrev pub IsRefused : (may_refuse : Fault → Type 0) → Fault → Type 0
 IsRefused may_refuse fault = may_refuse fault × (fault ≡ QueueFull → ⊥)
 
--- The flag was set; the link said that it ended, and all was done; the viewer is at this fault; the source has ended,
--- which was looked at once more; the sink refused an input for good; or the link halted.
-abbrev pub EndsServing : {S : Type 0} → (looks : S → ℕ → S → Type 0) → (may_end was_set : Type 0) → (may_refuse : Fault → Type 0) → (behind new : S) → Setup → Viewer → Result (Unit {0}) Fault → (old new : LinkState) → Type 0
-EndsServing {S} looks may_end was_set may_refuse behind source s p (Ok done) old new =
-    (source ≡ behind) × (new.failed ≡ old.failed) × ((was_set × (new.ended ≡ old.ended)) ⊎ (HasRisen old.ended new.ended × IsDone s p))
-EndsServing {S} looks may_end was_set may_refuse behind source s p (Err fault) old new =
-    ((source ≡ behind) × ((viewer_fault p ≡ Some fault) ⊎ (IsRefused may_refuse fault ⊎ LinkHalts fault s p old new))) ⊎ ((fault ≡ Gone) × may_end × HasOnlyLooked looks behind source)
+-- Of all that was to go to the sink it took this much, and refused the next for good. That and the rest were given up.
+pub record GivesUp (may_refuse : Fault → Type 0) (fault : Fault) (sent all : List Input) : Type 0 where
+  pub refused : IsRefused may_refuse fault
+  pub input : Input
+  pub rest : List Input
+  pub left : all ≡ sent ++ input ∷ rest
 
--- The sink took a beginning of what is allowed of the viewer, which has left: first the input of its messages, in
--- order, then the releases; all that the messages before the last bring; and all of it, unless the flag was set or it
--- refused for good.
-pub record Relays (was_set : Type 0) (may_refuse : Fault → Type 0) (p : Viewer) (sent_old sent_new : List Input) : Type 0 where
+-- The flag was set; the link said that it ended, and all was done; the viewer is at this fault; the source has ended,
+-- which was looked at once more; all that is left of the input was given up at this fault; or the link halted.
+abbrev pub EndsServing : {S : Type 0} → (looks : S → ℕ → S → Type 0) → (may_end was_set : Type 0) → (is_given_up : Fault → Type 0) → (behind new : S) → Setup → Viewer → Result (Unit {0}) Fault → (old new : LinkState) → Type 0
+EndsServing {S} looks may_end was_set is_given_up behind source s p (Ok done) old new =
+    (source ≡ behind) × (new.failed ≡ old.failed) × ((was_set × (new.ended ≡ old.ended)) ⊎ (HasRisen old.ended new.ended × IsDone s p))
+EndsServing {S} looks may_end was_set is_given_up behind source s p (Err fault) old new =
+    ((source ≡ behind) × ((viewer_fault p ≡ Some fault) ⊎ (is_given_up fault ⊎ LinkHalts fault s p old new))) ⊎ ((fault ≡ Gone) × may_end × HasOnlyLooked looks behind source)
+
+-- All that is allowed of a viewer that has left: first the input of its messages, in order, then the releases.
+abbrev pub all_allowed : Viewer → List Input
+all_allowed p = allowed p.role (messages_in p.entries) true
+
+-- Why not all of it went to the sink: the flag was set, or the sink refused some for good, and then this isn't Ok.
+abbrev pub IsHeldBack : (was_set : Type 0) → (may_refuse : Fault → Type 0) → Result (Unit {0}) Fault → (sent all : List Input) → Type 0
+IsHeldBack was_set may_refuse (Ok done) sent all = was_set
+IsHeldBack was_set may_refuse (Err fault) sent all = was_set ⊎ ((refused : Fault) × GivesUp may_refuse refused sent all)
+
+-- The sink took a beginning of all that is allowed of the viewer, which has left; all that the messages before the last
+-- bring; and all of it, unless the flag was set or it refused for good.
+pub record Relays (was_set : Type 0) (may_refuse : Fault → Type 0) (p : Viewer) (answer : Result (Unit {0}) Fault) (sent_old sent_new : List Input) : Type 0 where
   pub sent : List Input
   pub took : sent_new ≡ sent_old ++ sent
-  pub begins : Begins sent (allowed p.role (messages_in p.entries) true)
+  pub begins : Begins sent (all_allowed p)
   pub all_but_last : Begins (allowed p.role (messages_in (before_last p.entries)) false) sent
-  pub whole : (sent ≡ allowed p.role (messages_in p.entries) true) ⊎ (was_set ⊎ ((fault : Fault) × IsRefused may_refuse fault))
+  pub whole : (sent ≡ all_allowed p) ⊎ IsHeldBack was_set may_refuse answer sent (all_allowed p)
 
 -- After an answer one who follows all answers holds the area asked for, of the screen after the first n of these
 -- updates, in the format last taken before the cut; and n is at least every number that was seen or cut at before.
@@ -114,7 +128,8 @@ EachAnswerHolds s us p =
 
 -- A viewer was served: the acts that were done for it are such as may be done; all bytes that were taken are read, but
 -- for those after a message whose input waits; what it was given is the beginning of its hello and answers that counts
--- as written; one who follows its answers holds what was asked for; and what the sink took is its input.
+-- as written; one who follows its answers holds what was asked for; and what the sink took is its input, up to the first
+-- that it refused for good, if it did.
 pub record Serves {S : Type 0} (looks cuts : S → ℕ → S → Type 0) (may_end was_set : Type 0) (may_refuse : Fault → Type 0) (source_old source_new : S) (us : List Update) (s : Setup) (p : Viewer)
     (sent_old sent_new : List Input) (answer : Result (Unit {0}) Fault) (old new : LinkState) : Type 0 where
   pub acts : List Act
@@ -126,5 +141,5 @@ pub record Serves {S : Type 0} (looks cuts : S → ℕ → S → Type 0) (may_en
   pub unread : (left ≡ []) ⊎ (is_some (viewer_after s us p acts).waiting ≡ true)
   pub given : new.given ≡ old.given ++ take (viewer_after s us p acts).written (out_bytes s (viewer_after s us p acts))
   pub holds : s.w ≤ 4096 → s.h ≤ 4096 → EachAnswerHolds s us (viewer_after s us p acts)
-  pub relays : Relays was_set may_refuse (viewer_after s us p acts) sent_old sent_new
-  pub ends : EndsServing looks may_end was_set may_refuse behind source_new s (viewer_after s us p acts) answer old new
+  pub relays : Relays was_set may_refuse (viewer_after s us p acts) answer sent_old sent_new
+  pub ends : EndsServing looks may_end was_set (λ fault. GivesUp may_refuse fault relays.sent (all_allowed (viewer_after s us p acts))) behind source_new s (viewer_after s us p acts) answer old new

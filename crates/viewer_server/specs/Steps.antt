@@ -3,17 +3,17 @@ use Rattle.std.specs.Prelude.{◌≡◌, ℕ, ◌≤◌, ◌<◌, ◌⊎◌, Boo
 use Rattle.pixel_format.specs.declared.fault.Fault.{Fault}
 use Rattle.pixel_format.specs.declared.fault.Fault.TheVariants.{Gone}
 use Rattle.raster.specs.Update.{Update}
-use Rattle.roles.specs.Allowed.{Input, allowed}
-use Rattle.roles.specs.Held.{Kept, HeldStands, left_in}
+use Rattle.roles.specs.Allowed.{Input}
 use Rattle.link.specs.declared.link.Took.{Took}
 use Rattle.link.specs.declared.link.Took.TheVariants as took
 use Rattle.link.specs.Links.{LinkState, HasRisen, with_end, with_failure}
 use Rattle.reflect_core.specs.Sequential.{Begins}
-use Rattle.viewer_session.specs.Record.{messages_in}
 use Rattle.viewer_session.specs.Viewer.{Setup, Viewer, out_bytes, after_bytes}
 use Rattle.viewer_session.specs.Session.{State, Stands, HasOnlyLooked, Turns, HasCounted, IsBetween, after_writing, fault_in, is_ready, with_marks, without_input}
 use Rattle.viewer_session.specs.Acts.{Act, HasPassed, viewer_after, waiting_list}
-use Rattle.viewer_server.specs.Serving.{AllMayBe, IsShown, bytes_in, EachAnswerHolds, EndsServing, IsRefused, LinkHalts}
+use Rattle.viewer_server.specs.Serving.{AllMayBe, IsShown, bytes_in, EachAnswerHolds, EndsServing, GivesUp, IsRefused, LinkHalts}
+use Rattle.viewer_server.specs.declared.breaks.Break.{Break}
+use Rattle.viewer_server.specs.declared.breaks.Break.TheVariants.{At, Refused}
 
 -- What has come of a viewer and isn't passed on yet: bytes that aren't read, and an input that isn't in the sink.
 pub record Unpassed : Type 0 where
@@ -52,11 +52,12 @@ pub record Reads (old new : State) (before after : Unpassed) : Type 0 where
 abbrev pub ReadsIfAny : (old new : State) → (before after : Unpassed) → Type 0
 ReadsIfAny old new before after = ((new ≡ old) × (after ≡ before)) ⊎ Reads old new before after
 
--- Input went on, and bytes were read after it; or the sink refused for good, or the session is at this fault.
-abbrev pub GoesOn : (may_refuse : Fault → Type 0) → Result Bool Fault → (old new : State) → (before after : Unpassed) → (sent_old sent_new : List Input) → Type 0
+-- Input went on, and bytes were read after it, perhaps up to a fault of the session; or the sink refused for good.
+abbrev pub GoesOn : (may_refuse : Fault → Type 0) → Result Bool Break → (old new : State) → (before after : Unpassed) → (sent_old sent_new : List Input) → Type 0
 GoesOn may_refuse (Ok is_full) old new before after sent_old sent_new = (mid : Unpassed) × Passes may_refuse (Ok is_full) before mid sent_old sent_new × ReadsIfAny old new mid after
-GoesOn may_refuse (Err fault) old new before after sent_old sent_new =
-    (Passes may_refuse (Err fault) before after sent_old sent_new × (new ≡ old)) ⊎ ((mid : Unpassed) × Passes may_refuse (Ok false) before mid sent_old sent_new × Reads old new mid after × (fault_in new ≡ Some fault))
+GoesOn may_refuse (Err (At fault)) old new before after sent_old sent_new =
+    (mid : Unpassed) × Passes may_refuse (Ok false) before mid sent_old sent_new × Reads old new mid after × (fault_in new ≡ Some fault)
+GoesOn may_refuse (Err (Refused fault)) old new before after sent_old sent_new = Passes may_refuse (Err fault) before after sent_old sent_new × (new ≡ old)
 
 -- What filling the inbox from the link came to.
 abbrev pub FillsAs : Took → (after : Unpassed) → (old new : LinkState) → Type 0
@@ -110,9 +111,15 @@ pub record Hears (answer : Result Bool Fault) (before after : State) (box : Unpa
 
 -- ---- all of them
 
+-- How serving ended. Where it broke off for the sink, that has refused the input that waits for good.
+abbrev pub EndsSo : {S : Type 0} → (looks : S → ℕ → S → Type 0) → (may_end was_set : Type 0) → (may_refuse : Fault → Type 0) → (behind new : S) → Setup → Viewer → Unpassed → Result (Unit {0}) Break → (old new : LinkState) → Type 0
+EndsSo {S} looks may_end was_set may_refuse behind source s p box (Ok done) old new = EndsServing looks may_end was_set (λ fault. ⊥) behind source s p (Ok done) old new
+EndsSo {S} looks may_end was_set may_refuse behind source s p box (Err (At fault)) old new = EndsServing looks may_end was_set (λ fault. ⊥) behind source s p (Err fault) old new
+EndsSo {S} looks may_end was_set may_refuse behind source s p box (Err (Refused fault)) old new = (source ≡ behind) × IsRefused may_refuse fault × (is_some box.waiting ≡ true)
+
 -- A viewer was served until it left.
 pub record HasServed {S : Type 0} (looks cuts : S → ℕ → S → Type 0) (may_end was_set : Type 0) (may_refuse : Fault → Type 0) (source_old source_new : S) (us : List Update) (s : Setup) (p : Viewer) (st : State)
-    (box : Unpassed) (sent_old sent_new : List Input) (answer : Result (Unit {0}) Fault) (old new : LinkState) : Type 0 where
+    (box : Unpassed) (sent_old sent_new : List Input) (answer : Result (Unit {0}) Break) (old new : LinkState) : Type 0 where
   pub acts : List Act
   pub behind : S
   pub sent : List Input
@@ -126,12 +133,12 @@ pub record HasServed {S : Type 0} (looks cuts : S → ℕ → S → Type 0) (may
   pub took : sent_new ≡ sent_old ++ sent
   pub passed : HasPassed (viewer_after s us p acts) sent
   pub holds : s.w ≤ 4096 → s.h ≤ 4096 → EachAnswerHolds s us (viewer_after s us p acts)
-  pub ends : EndsServing looks may_end was_set may_refuse behind source_new s (viewer_after s us p acts) answer old new
+  pub ends : EndsSo looks may_end was_set may_refuse behind source_new s (viewer_after s us p acts) box answer old new
 
 -- Why leaving ends before all is in: the flag was set, or the sink refused an input for good.
 abbrev pub LeavesBy : (was_set : Type 0) → (may_refuse : Fault → Type 0) → Result (Unit {0}) Fault → (sent all : List Input) → Type 0
 LeavesBy was_set may_refuse (Ok done) sent all = (sent ≡ all) ⊎ was_set
-LeavesBy was_set may_refuse (Err fault) sent all = IsRefused may_refuse fault
+LeavesBy was_set may_refuse (Err fault) sent all = GivesUp may_refuse fault sent all
 
 -- The sink took the first of these.
 pub record Leaves (was_set : Type 0) (may_refuse : Fault → Type 0) (all : List Input) (sent_old sent_new : List Input) (answer : Result (Unit {0}) Fault) : Type 0 where

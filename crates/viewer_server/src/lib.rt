@@ -5,6 +5,7 @@
 //! and its rest do, so it takes a handle that may wait.
 #![tactic(auto)]
 
+mod breaks;
 mod inbox;
 mod law;
 mod leave;

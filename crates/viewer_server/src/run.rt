@@ -7,6 +7,7 @@ ghost use Rattle.viewer_session.specs.Session.{Stands};
 ghost use Rattle.viewer_session.specs.Viewer.{Setup, new_viewer};
 ghost use Rattle.viewer_server.specs.Serving.{Serves};
 
+use crate::breaks::Break;
 use crate::inbox::Inbox;
 use crate::leave::leave;
 use crate::serve::serve;
@@ -25,7 +26,8 @@ use viewer_session::Session;
 ///
 /// It is `Ok` where the link ends between two messages with nothing unsent, or where the flag is set. Else it is the
 /// fault of the viewer's bytes, `LinkFailed`, `LinkEnded`, `Gone` where the source has ended, if it may end, or the
-/// fault with which the sink refuses an input for good, any but `QueueFull`.
+/// fault with which the sink refuses an input for good, any but `QueueFull`. Then that input and all after it are given
+/// up: the sink is offered nothing more.
 pub fn run_viewer<L: Link, S: ScreenSource, K: InputSink, F: StopFlag, Z: Rest, R: Wait>(
     rt: &R,
     link: &mut L,
@@ -44,7 +46,12 @@ pub fn run_viewer<L: Link, S: ScreenSource, K: InputSink, F: StopFlag, Z: Rest, 
     let mut inbox = Inbox::new();
     let served = serve(rt, link, source, sink, session, &mut inbox, stop, rest);
     link.flush();
-    let left = leave(rt, sink, session, &mut inbox, stop, rest);
-    served?;
-    left
+    match served {
+        Ok(()) => leave(rt, sink, session, &mut inbox, stop, rest),
+        Err(Break::At(fault)) => {
+            let _ = leave(rt, sink, session, &mut inbox, stop, rest);
+            Err(fault)
+        }
+        Err(Break::Refused(fault)) => Err(fault),
+    }
 }

@@ -7,6 +7,7 @@ ghost use Rattle.viewer_session.specs.Session.{IsSameSession, Stands};
 ghost use Rattle.viewer_session.specs.Viewer.{Setup, new_viewer};
 ghost use Rattle.viewer_server.specs.Steps.{GoesOn, HasServed, Hears, Offers, Says, SaysNoMore, WaitsIfLeft, all_passed};
 
+use crate::breaks::Break;
 use crate::inbox::Inbox;
 use link::{Gave, Link, Rest, StopFlag, Took};
 use pixel_format::Fault;
@@ -51,12 +52,15 @@ fn relay<K: InputSink>(
     sink: &mut K,
     session: &mut Session,
     inbox: &mut Inbox,
-) -> Result<bool, Fault>
+) -> Result<bool, Break>
     ensures same { IsSameSession session.old session.new }
     ensures goes_on { GoesOn K.may_refuse result session.old session.new inbox.old inbox.new (K.sent sink.old) (K.sent sink.new) }
     ensures left { WaitsIfLeft inbox.new }
 {
-    let is_full = inbox.pass(sink)?;
+    let is_full = match inbox.pass(sink) {
+        Ok(is_full) => is_full,
+        Err(fault) => return Err(Break::Refused(fault)),
+    };
     if !is_full && !inbox.unread().is_empty() {
         inbox.read(session)?;
     }
@@ -99,7 +103,7 @@ pub(crate) fn serve<L: Link, S: ScreenSource, K: InputSink, F: StopFlag, Z: Rest
     inbox: &mut Inbox,
     stop: &F,
     rest: &Z,
-) -> Result<(), Fault>
+) -> Result<(), Break>
     requires screen { (S.width source.old ≡ session.old.width) × (S.height source.old ≡ session.old.height) }
     requires uncut { session.old.asked.last ≡ None }
     requires empty { inbox.old ≡ all_passed }

@@ -1,15 +1,18 @@
-use Rattle.std.proofs.lemmas.Result.{err_from_is_err_and}
-use Rattle.viewer_server.proofs.Served.{serves_fault, serves_left}
+use Rattle.viewer_server.proofs.Served.{serves_fault, serves_left, serves_refused}
 use Rattle.viewer_server.proofs.run.run_viewer.Goals as goal
 
-pub returns-in_err-served-clause-serves : goal.returns-in_err-served-clause-serves
-returns-in_err-served-clause-serves g c = λ s role greet k.
-    let p = err_from_is_err_and c.from_residual.result c.from_residual.ensures.1 in
-    rw (p.1, p.2)
-    (serves_fault g.S.ScreenSource.looks g.S.ScreenSource.cuts g.S.ScreenSource.may_end _ g.K.InputSink.may_refuse _ _ _ s _ c.serve-served.new.session c.serve-served.new.inbox _ _ _ _ c.leave-left.result _ (g.L.Link.state c.serve-served.new.link) _
-    (c.in_err-served.ensures.serves s role greet k) c.flush.ensures c.leave-left.ensures)
+pub returns-in-Ok-clause-serves : goal.returns-in-Ok-clause-serves
+returns-in-Ok-clause-serves g c = λ s role greet k.
+    serves_left g.S.ScreenSource.looks g.S.ScreenSource.cuts g.S.ScreenSource.may_end _ g.K.InputSink.may_refuse _ _ _ s _ c.serve-served.new.session c.serve-served.new.inbox _ _ _ (g.L.Link.state c.serve-served.new.link) _ c.flush.ensures _ _
+    c.leave.ensures (c.in-Ok.ensures.serves s role greet k)
 
+pub returns-in-Err-At-clause-serves : goal.returns-in-Err-At-clause-serves
+returns-in-Err-At-clause-serves g c = λ s role greet k.
+    serves_fault g.S.ScreenSource.looks g.S.ScreenSource.cuts g.S.ScreenSource.may_end _ g.K.InputSink.may_refuse _ _ _ s _ c.serve-served.new.session c.serve-served.new.inbox _ _ _ (g.L.Link.state c.serve-served.new.link) _ c.flush.ensures _ _ _
+    c.leave-in-Err-At.ensures (rw c.in-Err-At.field-0-is at (c.in-Err-At.ensures.serves s role greet k))
+
+-- Nothing went to the sink after that.
 pub returns-clause-serves : goal.returns-clause-serves
 returns-clause-serves g c = λ s role greet k.
-    serves_left g.S.ScreenSource.looks g.S.ScreenSource.cuts g.S.ScreenSource.may_end _ g.K.InputSink.may_refuse _ _ _ s _ c.serve-served.new.session c.serve-served.new.inbox _ _ _ c.leave-left.result _ (g.L.Link.state c.serve-served.new.link) _
-    (c.in_ok-served.ensures.serves s role greet k) c.flush.ensures c.leave-left.ensures
+    serves_refused g.S.ScreenSource.looks g.S.ScreenSource.cuts g.S.ScreenSource.may_end _ g.K.InputSink.may_refuse _ _ _ s _ c.serve-served.new.session c.serve-served.new.inbox _ _ _ (g.L.Link.state c.serve-served.new.link) _ c.flush.ensures _
+    (rw c.in-Err-Refused.field-0-is at (c.in-Err-Refused.ensures.serves s role greet k))

@@ -1,4 +1,4 @@
-use Rattle.std.proofs.Common.{◌≡◌, ◌≤◌, ◌++◌, ℕ, List, length, take, ap, subst, ◌∙◌, arith}
+use Rattle.std.proofs.Common.{◌≡◌, ◌++◌, ℕ, List, take, ap, ◌∙◌}
 use Rattle.reflect_core.specs.Sequential.{Begins}
 use Rattle.link.specs.Links.{LinkState}
 use Rattle.viewer_server.proofs.Saying.{says_on, first_of_piece, piece_within}

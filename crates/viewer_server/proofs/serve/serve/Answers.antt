@@ -1,9 +1,8 @@
-use Rattle.std.proofs.Common.{◌≡◌, ◌<◌, ◌⊎◌, true, false, Option, None, Some, List, ℕ, [], length, inl, inr, refl, sym, ap, subst, ◌∙◌}
-use Rattle.std.specs.Prelude.{is_some}
+use Rattle.std.proofs.Common.{◌≡◌, ◌<◌, ◌⊎◌, true, false, length, inl, inr, refl, sym, ap, ◌∙◌}
 use Rattle.std.proofs.lemmas.Result.{err_from_is_err_and}
 use Rattle.link.specs.Links.{LinkState}
 use Rattle.viewer_session.proofs.Parts.{begins_same, begins_on}
-use Rattle.viewer_server.specs.Steps.{Unpassed, WaitsIfLeft, all_passed}
+use Rattle.viewer_server.specs.Steps.{Unpassed}
 use Rattle.viewer_server.proofs.Saying.{some_bytes}
 use Rattle.viewer_server.proofs.Servings.{serving_begins, serving_still, serving_relayed, serving_offered, serving_said, serving_anew, serving_heard, served_stop, served_relay, served_gone, served_halt, served_hear, served_end, was_offered, waits_after, box_clear, is_not}
 use Rattle.viewer_server.proofs.serve.serve.Goals as goal

@@ -1,4 +1,4 @@
-use Rattle.std.proofs.Common.{◌≡◌, refl, sym, ap, ◌∙◌, drop, take, List, ℕ}
+use Rattle.std.proofs.Common.{◌≡◌, sym, ap, ◌∙◌, drop, take, List, ℕ}
 use Rattle.viewer_server.specs.Steps.{Unpassed}
 use Rattle.viewer_server.proofs.Reading.{reads_up_to, reads_to_fault, read_on, all_dropped}
 use Rattle.viewer_server.proofs.inbox.Inbox.read.Goals as goal

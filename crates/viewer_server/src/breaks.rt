@@ -1,0 +1,23 @@
+//! Why serving breaks off.
+
+ghost use Rattle.std.specs.Prelude.{◌≡◌};
+ghost use Rattle.viewer_server.specs.declared.breaks.Break.TheVariants.{At};
+
+use pixel_format::Fault;
+
+/// Why serving breaks off, and what becomes of the viewer's input that isn't in the sink.
+#[derive(Drop)]
+pub(crate) enum Break {
+    /// The viewer's bytes, its link or the source are at fault. The input goes on.
+    At(Fault),
+    /// The sink has refused an input for good. The input is given up.
+    Refused(Fault),
+}
+
+impl From<Fault> for Break {
+    ghost from_gives = { λ fault why. why ≡ At fault };
+
+    fn from(fault: Fault) -> Break {
+        Break::At(fault)
+    }
+}
