@@ -1,4 +1,5 @@
 mod Growing
+mod InTurn
 mod OneHistory
 mod Places
 mod Promising

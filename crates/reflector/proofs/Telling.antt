@@ -1,53 +1,48 @@
 -- What the hosts were told, as far as it has come. `write` owes all of it.
-use Rattle.std.proofs.Common.{◌≡◌, ℕ, ◌<◌, List, [], ◌∷◌, Result, length, slice_index_or, refl, ap, subst, ◌∙◌}
+use Rattle.std.proofs.Common.{◌≡◌, ℕ, ◌<◌, List, [], ◌∷◌, ◌++◌, Result, Ok, Err, length, slice_index_or, inl, inr, refl, sym, ap, subst, ◌∙◌, append_assoc}
 use Rattle.std.specs.Prelude.{⊤}
 use Rattle.std.specs.List.{All}
 use Rattle.pixel_format.specs.declared.fault.Fault.{Fault}
+use Rattle.pixel_format.specs.declared.fault.Fault.TheVariants.{LinkEnded, LinkFailed}
 use Rattle.roles.specs.Strokes.{StrokesKept, StrokesStand}
 use Rattle.link.specs.Links.{LinkState}
-use Rattle.host_writer.specs.Writing.{Writes}
+use Rattle.host_writer.specs.Writing.{Writes, EndsWriting}
 use Rattle.input_relay.specs.declared.queue.Message.{Message}
 use Rattle.reflector.specs.Tellings.{Desk, desk, Telling, AreTellings, HasTold, TellsHosts}
 
-abbrev pub IsTelling : {E S : Type 0} → (hands_out takes_back : E → LinkState → E → Type 0) → (was_set : E → Type 0) → (looks : S → ℕ → S → Type 0) → (width height : S → ℕ) → Desk E S → Desk E S → Type 0
-IsTelling {E} {S} hands_out takes_back was_set looks width height old now = (befores : List (Desk E S)) × AreTellings hands_out takes_back was_set looks width height old befores now
+-- Whether the flag was set doesn't matter.
+ends_any : (was_set : Type 0) (answer : Result (Unit {0}) Fault) (old new : LinkState) (left last : List ℕ) → EndsWriting was_set answer old new left last → EndsWriting ⊤ answer old new left last
+ends_any was_set (Ok done) old new left last (inl k) = inl (tt, k.1, k.2, k.3)
+ends_any was_set (Ok done) old new left last (inr k) = inr k
+ends_any was_set (Err LinkEnded) old new left last k = k
+ends_any was_set (Err LinkFailed) old new left last k = k
+ends_any was_set (Err fault) old new left last k = k
 
-module _ {E S : Type 0} (hands_out takes_back : E → LinkState → E → Type 0) (was_set : E → Type 0) (looks : S → ℕ → S → Type 0) (width height : S → ℕ) where
-  pub telling_on : (old before : Desk E S) (errands met : E) (source : S) (taken : List Message) (strokes : StrokesKept) (came left : LinkState) (answer : Result (Unit {0}) Fault) → IsTelling hands_out takes_back was_set looks width height old before → hands_out before.errands came met
-      → Writes looks (was_set met) before.source source before.taken taken before.strokes strokes (width before.source) (height before.source) answer came left → takes_back met left errands → IsTelling hands_out takes_back was_set looks width height old (desk errands source taken strokes)
-  telling_on old before errands met source taken strokes came left answer k handed writes back = (before ∷ k.0, (k.1, record { met = met; came = came; left = left; answer = answer; handed = handed; writes = writes; back = back }))
+writes_any : {S : Type 0} (looks : S → ℕ → S → Type 0) (was_set : Type 0) (a b : S) (x y : List Message) (s t : StrokesKept) (w h : ℕ) (answer : Result (Unit {0}) Fault) (old new : LinkState) → Writes looks was_set a b x y s t w h answer old new → Writes looks ⊤ a b x y s t w h answer old new
+writes_any looks was_set a b x y s t w h answer old new k =
+    record { did = k.did; all = k.all; last = k.last; left = k.left; inputs = k.inputs; strokes = k.strokes; looked = k.looked; said = k.said; given = k.given; taken = k.taken; ends = ends_any was_set answer old new k.left k.last k.ends }
 
-  pub told_all : (old last : Desk E S) → IsTelling hands_out takes_back was_set looks width height old last → HasTold hands_out takes_back was_set looks width height old last.taken last.strokes
-  told_all old last k = record { befores = k.0; last = last; tellings = k.1; all = refl; held = refl }
+abbrev pub IsTelling : {S : Type 0} → (looks : S → ℕ → S → Type 0) → (width height : S → ℕ) → Desk S → Desk S → Type 0
+IsTelling {S} looks width height old now = (befores : List (Desk S)) × AreTellings looks width height old befores now
 
--- Where it doesn't matter where the hosts came from.
-abbrev of_any : {E S : Type 0} → Desk E S → Desk (Unit {0}) S
-of_any d = desk tt d.source d.taken d.strokes
+module _ {S : Type 0} (looks : S → ℕ → S → Type 0) (width height : S → ℕ) where
+  -- A link came and went.
+  pub telling_on : (was_set : Type 0) (old before : Desk S) (met links : List LinkState) (source : S) (taken : List Message) (strokes : StrokesKept) (came left : LinkState) (answer : Result (Unit {0}) Fault) → IsTelling looks width height old before → met ≡ before.links ++ came ∷ []
+      → Writes looks was_set before.source source before.taken taken before.strokes strokes (width before.source) (height before.source) answer came left → links ≡ met ++ left ∷ [] → IsTelling looks width height old (desk links source taken strokes)
+  telling_on was_set old before met links source taken strokes came left answer k handed writes back =
+      (before ∷ k.0, (k.1, record { came = came; left = left; answer = answer; links = back ∙ (ap (λ ls. ls ++ left ∷ []) handed ∙ append_assoc before.links (came ∷ []) (left ∷ [])); writes = writes_any looks was_set _ _ _ _ _ _ _ _ _ _ _ writes }))
 
-abbrev each_of_any : {E S : Type 0} → List (Desk E S) → List (Desk (Unit {0}) S)
-each_of_any [] = []
-each_of_any (d ∷ ds) = of_any d ∷ each_of_any ds
+  -- No other came.
+  pub told_all : (old : Desk S) (links : List LinkState) (source : S) (taken : List Message) (strokes : StrokesKept) (now : List LinkState) → IsTelling looks width height old (desk links source taken strokes) → now ≡ links → HasTold looks width height old now taken strokes
+  told_all old links source taken strokes now k same = record { befores = k.0; source = source; tellings = subst (λ (ls : List LinkState). AreTellings looks width height old k.0 (desk ls source taken strokes)) (sym same) k.1 }
 
-module _ {E S : Type 0} (hands_out takes_back : E → LinkState → E → Type 0) (looks : S → ℕ → S → Type 0) (width height : S → ℕ) where
-  any_telling : (old new : Desk E S) → Telling hands_out takes_back (λ e. ⊤) looks width height old new → Telling (λ (a : Unit {0}) link b. ⊤) (λ (a : Unit {0}) link b. ⊤) (λ (a : Unit {0}). ⊤) looks width height (of_any old) (of_any new)
-  any_telling old new k = record { met = tt; came = k.came; left = k.left; answer = k.answer; handed = tt; writes = k.writes; back = tt }
+  -- A run began with nothing taken.
+  pub tells_hosts : (source : S) (links : List LinkState) (began taken : List Message) (strokes left : StrokesKept) → began ≡ [] → StrokesStand strokes [] → HasTold looks width height (desk [] source began strokes) links taken left
+      → TellsHosts looks width height source links taken left
+  tells_hosts source links began taken strokes left none down k =
+      record { began = strokes; none_down = down; told = subst (λ (m : List Message). HasTold looks width height (desk [] source m strokes) links taken left) none k }
 
-  any_tellings : (old : Desk E S) (befores : List (Desk E S)) (new : Desk E S) → AreTellings hands_out takes_back (λ e. ⊤) looks width height old befores new
-      → AreTellings (λ (a : Unit {0}) link b. ⊤) (λ (a : Unit {0}) link b. ⊤) (λ (a : Unit {0}). ⊤) looks width height (of_any old) (each_of_any befores) (of_any new)
-  any_tellings old [] new k = ap of_any k
-  any_tellings old (before ∷ befores) new k = (any_tellings old befores before k.0, any_telling before new k.1)
-
-  pub told_any : (old : Desk E S) (taken : List Message) (strokes : StrokesKept) → HasTold hands_out takes_back (λ e. ⊤) looks width height old taken strokes
-      → HasTold (λ (a : Unit {0}) link b. ⊤) (λ (a : Unit {0}) link b. ⊤) (λ (a : Unit {0}). ⊤) looks width height (desk tt old.source old.taken old.strokes) taken strokes
-  told_any old taken strokes k = record { befores = each_of_any k.befores; last = of_any k.last; tellings = any_tellings old k.befores k.last k.tellings; all = k.all; held = k.held }
-
--- A run began with nothing taken.
-pub tells_hosts : {S : Type 0} (looks : S → ℕ → S → Type 0) (width height : S → ℕ) (source : S) (began taken : List Message) (strokes left : StrokesKept) → began ≡ [] → StrokesStand strokes []
-    → HasTold (λ (a : Unit {0}) link b. ⊤) (λ (a : Unit {0}) link b. ⊤) (λ (a : Unit {0}). ⊤) looks width height (desk tt source began strokes) taken left → TellsHosts looks width height source taken left
-tells_hosts looks width height source began taken strokes left none down k =
-    record { began = strokes; none_down = down; told = subst (λ (m : List Message). HasTold (λ (a : Unit {0}) link b. ⊤) (λ (a : Unit {0}) link b. ⊤) (λ (a : Unit {0}). ⊤) looks width height (desk tt source m strokes) taken left) none k }
-
--- All are so, and the first of them is the one.
-pub tells_from : {S : Type 0} (looks : S → ℕ → S → Type 0) (width height : S → ℕ) (sources : List S) (w source : S) (taken : List Message) (strokes : StrokesKept) → All (λ s. s ≡ w) sources → 0 < length sources → source ≡ slice_index_or sources 0 source → TellsHosts looks width height source taken strokes
-    → TellsHosts looks width height w taken strokes
-tells_from {S} looks width height sources w source taken strokes all some first k = subst (λ (s : S). TellsHosts looks width height s taken strokes) (first ∙ all 0 source some) k
+  -- All are so, and the first of them is the one.
+  pub tells_from : (sources : List S) (w source : S) (links : List LinkState) (taken : List Message) (strokes : StrokesKept) → All (λ s. s ≡ w) sources → 0 < length sources → source ≡ slice_index_or sources 0 source → TellsHosts looks width height source links taken strokes
+      → TellsHosts looks width height w links taken strokes
+  tells_from sources w source links taken strokes all some first k = subst (λ (s : S). TellsHosts looks width height s links taken strokes) (first ∙ all 0 source some) k

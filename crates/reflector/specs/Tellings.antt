@@ -1,48 +1,61 @@
 -- What the hosts were told, one after another (own).
-use Rattle.std.specs.Prelude.{◌≡◌, ℕ, List, [], ◌∷◌, Result, ⊤}
+use Rattle.std.specs.Prelude.{◌≡◌, ℕ, List, [], ◌∷◌, ◌++◌, Result, ⊤}
+use Rattle.reflect_core.specs.Sequential.{Begins}
 use Rattle.pixel_format.specs.declared.fault.Fault.{Fault}
-use Rattle.roles.specs.Strokes.{StrokesKept, StrokesStand}
+use Rattle.roles.specs.Strokes.{StrokesKept, StrokesStand, Taken}
 use Rattle.link.specs.Links.{LinkState}
-use Rattle.host_writer.specs.Writing.{Writes}
+use Rattle.host_writer.specs.Writing.{Did, Writes, all_taken, said, taken_in}
 use Rattle.input_relay.specs.declared.queue.Message.{Message}
 
--- Whoever tells the hosts, between two of them: where the hosts come from, the source that is looked at, the input that
--- was taken of the relay so far, and the strokes.
-pub record Desk (E S : Type 0) : Type 0 where
-  pub errands : E
+-- Whoever tells the hosts, between two of them: the links so far, each as it came and then as it was left; the source
+-- that is looked at; the input that was taken of the relay so far; and the strokes.
+pub record Desk (S : Type 0) : Type 0 where
+  pub links : List LinkState
   pub source : S
   pub taken : List Message
   pub strokes : StrokesKept
 
-abbrev pub desk : {E S : Type 0} → E → S → List Message → StrokesKept → Desk E S
-desk errands source taken strokes = record { errands = errands; source = source; taken = taken; strokes = strokes }
+abbrev pub desk : {S : Type 0} → List LinkState → S → List Message → StrokesKept → Desk S
+desk links source taken strokes = record { links = links; source = source; taken = taken; strokes = strokes }
 
--- One host was told: its link came, was written as the input goes on (Writes), and was put back as it was left then.
-pub record Telling {E S : Type 0} (hands_out takes_back : E → LinkState → E → Type 0) (was_set : E → Type 0) (looks : S → ℕ → S → Type 0) (width height : S → ℕ) (old new : Desk E S) : Type 0 where
-  pub met : E
+-- One host was told, over one link more, which was written as the input goes on (Writes).
+pub record Telling {S : Type 0} (looks : S → ℕ → S → Type 0) (width height : S → ℕ) (old new : Desk S) : Type 0 where
   pub came : LinkState
   pub left : LinkState
   pub answer : Result (Unit {0}) Fault
-  pub handed : hands_out old.errands came met
-  pub writes : Writes looks (was_set met) old.source new.source old.taken new.taken old.strokes new.strokes (width old.source) (height old.source) answer came left
-  pub back : takes_back met left new.errands
+  pub links : new.links ≡ old.links ++ came ∷ left ∷ []
+  pub writes : Writes looks ⊤ old.source new.source old.taken new.taken old.strokes new.strokes (width old.source) (height old.source) answer came left
 
 -- Hosts were told one after another. How it stood before each of them is listed, the latest first.
-abbrev pub AreTellings : {E S : Type 0} → (hands_out takes_back : E → LinkState → E → Type 0) → (was_set : E → Type 0) → (looks : S → ℕ → S → Type 0) → (width height : S → ℕ) → Desk E S → List (Desk E S) → Desk E S → Type 0
-AreTellings {E} {S} hands_out takes_back was_set looks width height old [] new = new ≡ old
-AreTellings {E} {S} hands_out takes_back was_set looks width height old (before ∷ befores) new = AreTellings hands_out takes_back was_set looks width height old befores before × Telling hands_out takes_back was_set looks width height before new
+abbrev pub AreTellings : {S : Type 0} → (looks : S → ℕ → S → Type 0) → (width height : S → ℕ) → Desk S → List (Desk S) → Desk S → Type 0
+AreTellings {S} looks width height old [] new = new ≡ old
+AreTellings {S} looks width height old (before ∷ befores) new = AreTellings looks width height old befores before × Telling looks width height before new
 
--- So they were told, from that state on, and then this input was taken, and the strokes stood so.
-pub record HasTold {E S : Type 0} (hands_out takes_back : E → LinkState → E → Type 0) (was_set : E → Type 0) (looks : S → ℕ → S → Type 0) (width height : S → ℕ) (old : Desk E S) (taken : List Message) (strokes : StrokesKept) : Type 0 where
-  pub befores : List (Desk E S)
-  pub last : Desk E S
-  pub tellings : AreTellings hands_out takes_back was_set looks width height old befores last
-  pub all : taken ≡ last.taken
-  pub held : strokes ≡ last.strokes
+-- So they were told, from that state on: over these links, and then this input was taken, and the strokes stood so.
+pub record HasTold {S : Type 0} (looks : S → ℕ → S → Type 0) (width height : S → ℕ) (old : Desk S) (links : List LinkState) (taken : List Message) (strokes : StrokesKept) : Type 0 where
+  pub befores : List (Desk S)
+  pub source : S
+  pub tellings : AreTellings looks width height old befores (desk links source taken strokes)
 
--- The same of a whole run, wherever its hosts came from: it began with nothing taken and with strokes that stand for
--- that, and it left these strokes.
-pub record TellsHosts {S : Type 0} (looks : S → ℕ → S → Type 0) (width height : S → ℕ) (source : S) (taken : List Message) (strokes : StrokesKept) : Type 0 where
+-- The same of a whole run: it began with no link, with nothing taken, and with strokes that stand for that.
+pub record TellsHosts {S : Type 0} (looks : S → ℕ → S → Type 0) (width height : S → ℕ) (source : S) (links : List LinkState) (taken : List Message) (strokes : StrokesKept) : Type 0 where
   pub began : StrokesKept
   pub none_down : StrokesStand began []
-  pub told : HasTold (λ (a : Unit {0}) link b. ⊤) (λ (a : Unit {0}) link b. ⊤) (λ (a : Unit {0}). ⊤) looks width height (desk tt source [] began) taken strokes
+  pub told : HasTold looks width height (desk [] source [] began) links taken strokes
+
+-- ---- in plain words
+
+-- Where this input was taken before, a host was told what is said of these acts, or a beginning of that: the inputs that
+-- pass, and the requests. Its link came and was left so.
+pub record IsToldOver (w h : ℕ) (before : List Taken) (did : List Did) (came left : LinkState) : Type 0 where
+  pub given : List ℕ
+  pub gave : left.given ≡ came.given ++ given
+  pub begins : Begins given (said before w h did)
+  pub heard : left.taken ≡ came.taken
+
+-- One host after another was told so, over these links, each as it came and then as it was left. The input taken is
+-- divided between them: no host is told of what was taken for another.
+abbrev pub AreToldInTurn : (w h : ℕ) → List Taken → List LinkState → List Message → Type 0
+AreToldInTurn w h before [] taken = taken ≡ []
+AreToldInTurn w h before (came ∷ []) taken = ⊥
+AreToldInTurn w h before (came ∷ left ∷ links) taken = (did : List Did) × (later : List Message) × (taken ≡ taken_in did ++ later) × IsToldOver w h before did came left × AreToldInTurn w h (all_taken before did) links later

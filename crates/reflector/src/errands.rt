@@ -1,8 +1,10 @@
 //! Which hosts are told.
 
-ghost use Rattle.std.specs.Prelude.{IfSome};
+ghost use Rattle.std.specs.Prelude.{◌≡◌, [], ◌∷◌, ◌++◌, IfSome, IsNone};
 ghost use Rattle.link.specs.Links.{LinkState};
+ghost use Rattle.reflector.specs.Written.{links_in};
 
+use crate::written::Written;
 use host_turns::{Errand, Handover};
 use link::{Link, StopFlag};
 use serving::Bell;
@@ -12,20 +14,19 @@ use std::sync::{Arc, Wait};
 /// Where the hosts come from that are told, one after another. It is the flag of the host that is told: it is set once
 /// that host is left.
 pub(crate) trait Errands<L: Link>: StopFlag + Drop {
-    /// What asking for the next host may make of the one is the other, where its link came so. What this means is up to
-    /// each.
-    ghost hands_out: { Self → LinkState → Self → Type 0 };
+    ghost use Rattle.std.specs.Prelude.{List};
 
-    /// What taking back its link, left so, may make of the one is the other. What this means is up to each.
-    ghost takes_back: { Self → LinkState → Self → Type 0 };
+    /// The links that it handed out and took back: each as it came, and then as it was left.
+    ghost links: { Self → List LinkState };
 
     /// The link of the next host that is told, or `None` where no more come. It may wait without an end.
     fn next<R: Wait>(&mut self, rt: &R) -> Option<L>
-        ensures { IfSome result (λ link. hands_out self.old (L.state link) self.new) };
+        ensures came { IfSome result (λ link. links self.new ≡ links self.old ++ L.state link ∷ []) }
+        ensures none { IsNone result → links self.new ≡ links self.old };
 
     /// Takes back the link of a host that was told until it was left.
     fn told(&mut self, link: L)
-        ensures { takes_back self.old (L.state link) self.new };
+        ensures { links self.new ≡ links self.old ++ L.state link ∷ [] };
 }
 
 /// The hosts of a handover, in turn.
@@ -33,14 +34,31 @@ pub(crate) trait Errands<L: Link>: StopFlag + Drop {
 pub(crate) struct Round<L: Link, W: Bell + Drop> {
     handover: Arc<Handover<L, W>, Global>,
     number: u64,
+    written: Written<L>,
 }
 
 impl<L: Link, W: Bell + Drop> Round<L, W> {
-    pub(crate) fn new(handover: Arc<Handover<L, W>, Global>) -> Round<L, W> {
+    /// No link has come.
+    pub(crate) fn new(handover: Arc<Handover<L, W>, Global>) -> Round<L, W>
+        ensures { links_in L.state result.written ≡ [] }
+    {
         Round {
             handover,
             number: 0,
+            written: Written::new(),
         }
+    }
+
+    /// The links of all that were told.
+    pub(crate) fn into_written(self) -> Written<L>
+        ensures { result ≡ self.written }
+    {
+        let Round {
+            handover: _,
+            number: _,
+            written,
+        } = self;
+        written
     }
 }
 
@@ -55,20 +73,18 @@ impl<L: Link, W: Bell + Drop> StopFlag for Round<L, W> {
 }
 
 impl<L: Link, W: Bell + Drop> Errands<L> for Round<L, W> {
-    ghost use Rattle.std.specs.Prelude.{⊤};
-
-    // No clause says which links come over a handover, or what becomes of them.
-    ghost hands_out = { λ _ _ _. ⊤ };
-
-    ghost takes_back = { λ _ _ _. ⊤ };
+    // No clause says which links come over a handover.
+    ghost links = { λ round. links_in L.state round.written };
 
     fn next<R: Wait>(&mut self, rt: &R) -> Option<L> {
         let Errand { link, number } = self.handover.take(rt)?;
         self.number = number;
+        self.written.note(&link);
         Some(link)
     }
 
     fn told(&mut self, link: L) {
+        self.written.note(&link);
         drop(link);
     }
 }

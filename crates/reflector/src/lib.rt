@@ -16,6 +16,7 @@ mod run;
 mod seated;
 mod welcome;
 mod writer;
+mod written;
 
 pub use join::join_place;
 pub use law::{
@@ -24,3 +25,4 @@ pub use law::{
 };
 pub use place::{OfPlace, Place, PlaceHandle};
 pub use run::{Running, run_all};
+pub use written::Written;

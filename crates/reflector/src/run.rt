@@ -1,6 +1,6 @@
 //! A run: one host after another, and their viewers' places.
 
-ghost use Rattle.std.specs.Prelude.{◌≡◌, ◌⊎◌, ◌+◌, ◌≤◌, ℕ, [], ◌∷◌, ⊤, All, drop, map, length, slice_index_or, vec_len, IfOk, IfErr};
+ghost use Rattle.std.specs.Prelude.{◌≡◌, ◌⊎◌, ◌+◌, ◌≤◌, ℕ, [], ◌∷◌, All, drop, map, length, slice_index_or, vec_len, IfOk, IfErr};
 ghost use Rattle.reflect_core.specs.Sequential.{nothing_put};
 ghost use Rattle.pixel_format.specs.declared.fault.Fault.TheVariants.{Memory, NoPlace};
 ghost use Rattle.raster.specs.Size.{IsScreenSize};
@@ -8,7 +8,9 @@ ghost use Rattle.input_relay.specs.Ends.{fresh, host_of, relay_of, strand_of, ta
 ghost use Rattle.roles.specs.Strokes.{StrokesStand};
 ghost use Rattle.reflect_core.specs.Sequential as step;
 ghost use Rattle.tally_word.specs.Reaches.{Reaches};
-ghost use Rattle.reflector.specs.Tellings.{HasTold, TellsHosts, desk};
+ghost use Rattle.host_writer.specs.Writing.{taken_from};
+ghost use Rattle.reflector.specs.Tellings.{AreToldInTurn, HasTold, TellsHosts, desk};
+ghost use Rattle.reflector.specs.Written.{links_in};
 ghost use Rattle.tally_word.specs.History.{puts_of};
 ghost use Rattle.host_turns.specs.Running.{HasRun, IsLinkOf, IsOver};
 ghost use Rattle.reflector.specs.Visits.{IsOfScreen};
@@ -18,6 +20,7 @@ use crate::place::{PlaceHandle, start_place};
 use crate::reader::{HostsRead, ReaderHandle, start_reader};
 use crate::welcome::Welcome;
 use crate::writer::{HostsTold, WriterHandle, start_writer};
+use crate::written::Written;
 use host_turns::{Ground, Handover, Hosts};
 use input_relay::{Sender, Taker, relay};
 use link::{Link, Rest};
@@ -44,6 +47,8 @@ pub struct Running<L, H, P, S: ScreenSource, D: Door, R: Wait + Drop> {
     pub hosts: H,
     /// The screen, with all that was put.
     pub publisher: P,
+    /// The links that the hosts were told over, in turn: each as it came, and then as it was left.
+    pub written: Written<L>,
     /// What took the viewers' input.
     pub taker: Taker<R>,
     /// Whose key or button is down, of what was taken, and how many inputs of each place weren't told.
@@ -53,17 +58,9 @@ pub struct Running<L, H, P, S: ScreenSource, D: Door, R: Wait + Drop> {
 }
 
 /// The threads of a run.
-struct Started<
-    L: Link,
-    H: Hosts<L>,
-    P: Puts + Drop,
-    S: ScreenSource,
-    D: Door,
-    W: Bell + Drop,
-    R: Wait + Drop,
-> {
+struct Started<L: Link, H: Hosts<L>, P: Puts + Drop, S: ScreenSource, D: Door, R: Wait + Drop> {
     places: Vec<PlaceHandle<S, D, R>>,
-    writer: WriterHandle<L, W, S, R>,
+    writer: WriterHandle<L, S, R>,
     reader: ReaderHandle<L, H, P>,
 }
 
@@ -113,7 +110,7 @@ fn start_all<L, H, P, S, D, B, W, R>(
     mut watchers: Vec<S>,
     senders: Vec<Sender<R>>,
     taker: Taker<R>,
-) -> Result<Started<L, H, P, S, D, W, R>, Fault>
+) -> Result<Started<L, H, P, S, D, R>, Fault>
 where
     L: Link + Send + 'static,
     H: Hosts<L> + Send + 'static,
@@ -157,7 +154,7 @@ where
 /// Waits until the hosts are read, tells all threads to end, and waits for the hosts' writer.
 fn end_all<L, H, P, S, D, B, W, R>(
     crew: &Crew<R, B, W>,
-    started: Started<L, H, P, S, D, W, R>,
+    started: Started<L, H, P, S, D, R>,
 ) -> Running<L, H, P, S, D, R>
 where
     L: Link,
@@ -171,7 +168,7 @@ where
     ensures run { HasRun started.reader.promise.width started.reader.promise.height (IsLinkOf L.state H.came) result.result (L.state started.reader.promise.link.value) (map L.state result.links.items) (P.updates started.reader.promise.publisher.value) (P.updates result.publisher) }
     ensures over { IsOver H.are_out result.hosts result.result }
     ensures taker { host_of result.taker ≡ host_of started.writer.promise.taker.value }
-    ensures told { HasTold (λ (a : Unit {0}) link b. ⊤) (λ (a : Unit {0}) link b. ⊤) (λ (a : Unit {0}). ⊤) S.looks S.width S.height (desk tt started.writer.promise.source.value (taken_of started.writer.promise.taker.value) started.writer.promise.strokes.value) (taken_of result.taker) result.strokes }
+    ensures told { HasTold S.looks S.width S.height (desk [] started.writer.promise.source.value (taken_of started.writer.promise.taker.value) started.writer.promise.strokes.value) (links_in L.state result.written) (taken_of result.taker) result.strokes }
     ensures places { result.places ≡ started.places }
 {
     let Started {
@@ -186,12 +183,17 @@ where
         publisher,
     } = reader.join(&crew.rt);
     crew.stop.set();
-    let HostsTold { taker, strokes } = writer.join(&crew.rt);
+    let HostsTold {
+        written,
+        taker,
+        strokes,
+    } = writer.join(&crew.rt);
     Running {
         result,
         links,
         hosts,
         publisher,
+        written,
         taker,
         strokes,
         places,
@@ -225,7 +227,7 @@ where
     ensures over { IfOk result (λ run. IsOver H.are_out run.hosts run.result) }
     ensures places { IfOk result (λ run. map (λ place. strand_of place.promise.sender.value) run.places.items ≡ fresh (vec_len doors)) }
     ensures relay { IfOk result (λ run. All (λ place. relay_of place.promise.sender.value ≡ host_of run.taker) run.places.items) }
-    ensures told { IfOk result (λ run. (source : S) × (source ≡ slice_index_or watchers.items 0 source) × TellsHosts S.looks S.width S.height source (taken_of run.taker) run.strokes) }
+    ensures told { IfOk result (λ run. (source : S) × (source ≡ slice_index_or watchers.items 0 source) × TellsHosts S.looks S.width S.height source (links_in L.state run.written) (taken_of run.taker) run.strokes) }
     ensures doors { IfOk result (λ run. map (λ place. (place.promise.role, place.promise.door.value)) run.places.items ≡ doors.items) }
     ensures watchers { IfOk result (λ run. map (λ place. place.promise.watcher.value) run.places.items ≡ drop 1 watchers.items) }
     ensures screen { IfOk result (λ run. All (λ place. IsOfScreen joined.now.w joined.now.h joined.now.name place.promise.width place.promise.height place.promise.name.value.items) run.places.items) }
@@ -297,7 +299,9 @@ where
     ensures over { IfOk result (λ run. IsOver H.are_out run.hosts run.result) }
     ensures places { IfOk result (λ run. map (λ place. strand_of place.promise.sender.value) run.places.items ≡ fresh (vec_len doors)) }
     ensures relay { IfOk result (λ run. All (λ place. relay_of place.promise.sender.value ≡ host_of run.taker) run.places.items) }
-    ensures told { IfOk result (λ run. TellsHosts (λ old reply new. Reaches old (step.Look reply ∷ []) new) (λ _. J.width) (λ _. J.height) nothing_put (taken_of run.taker) run.strokes) }
+    ensures told { IfOk result (λ run. TellsHosts (λ old reply new. Reaches old (step.Look reply ∷ []) new) (λ _. J.width) (λ _. J.height) nothing_put (links_in L.state run.written) (taken_of run.taker) run.strokes) }
+    ensures in_turn { IfOk result (λ run. AreToldInTurn J.width J.height [] (links_in L.state run.written) (taken_of run.taker)) }
+    ensures strokes { IfOk result (λ run. StrokesStand run.strokes (map taken_from (taken_of run.taker))) }
     ensures doors { IfOk result (λ run. map (λ place. (place.promise.role, place.promise.door.value)) run.places.items ≡ doors.items) }
     ensures watchers { IfOk result (λ run. All (λ place. place.promise.watcher.value ≡ nothing_put) run.places.items) }
     ensures screen { IfOk result (λ run. All (λ place. IsOfScreen joined.w joined.h joined.name place.promise.width place.promise.height place.promise.name.value.items) run.places.items) }

@@ -1,13 +1,15 @@
 //! The thread that tells the hosts.
 
-ghost use Rattle.std.specs.Prelude.{◌≡◌, ⊤, IfOk, IfErr};
+ghost use Rattle.std.specs.Prelude.{◌≡◌, [], IfOk, IfErr};
 ghost use Rattle.pixel_format.specs.declared.fault.Fault.TheVariants.{Memory};
 ghost use Rattle.raster.specs.Size.{IsScreenSize};
 ghost use Rattle.input_relay.specs.Ends.{host_of, taken_of};
 ghost use Rattle.reflector.specs.Tellings.{HasTold, desk};
+ghost use Rattle.reflector.specs.Written.{links_in};
 
 use crate::crew::Crew;
 use crate::errands::{Errands, Round};
+use crate::written::Written;
 use host_turns::Handover;
 use host_writer::run_writer;
 use input_relay::Taker;
@@ -23,68 +25,120 @@ use std::sync::{Arc, Wait};
 use std::thread;
 use std::thread::{Promise, PromisedHandle, Threads};
 
-/// What telling the hosts came to: what took the viewers' input, and whose key or button is down of what was taken.
+/// What telling the hosts came to: over which links, what took the viewers' input, and whose key or button is down of
+/// what was taken.
 #[derive(Drop)]
-pub(crate) struct HostsTold<R: Wait + Drop> {
+pub(crate) struct HostsTold<L, R: Wait + Drop> {
+    pub(crate) written: Written<L>,
     pub(crate) taker: Taker<R>,
     pub(crate) strokes: Strokes,
 }
 
 /// That the taker comes back that the thread began with, after hosts were told one after another what it took.
 #[derive(Drop)]
-pub(crate) struct OfTaker<L, E, S, R: Wait + Drop> {
-    pub(crate) errands: Snapshot<E>,
+pub(crate) struct OfTaker<L, S, R: Wait + Drop> {
     pub(crate) source: Snapshot<S>,
     pub(crate) taker: Snapshot<Taker<R>>,
     pub(crate) strokes: Snapshot<Strokes>,
     of: PhantomData<L>,
 }
 
-impl<L: Link, E: Errands<L>, S: ScreenSource, R: Wait + Drop> Promise<HostsTold<R>>
-    for OfTaker<L, E, S, R> {
-    ghost use Rattle.std.specs.Prelude.{◌≡◌, ⊤};
+impl<L: Link, S: ScreenSource, R: Wait + Drop> Promise<HostsTold<L, R>> for OfTaker<L, S, R> {
+    ghost use Rattle.std.specs.Prelude.{◌≡◌, []};
     ghost use Rattle.input_relay.specs.Ends.{host_of, taken_of};
     ghost use Rattle.reflector.specs.Tellings.{HasTold, desk};
+    ghost use Rattle.reflector.specs.Written.{links_in};
 
-    ghost kept_by = { λ promise told. (host_of told.taker ≡ host_of promise.taker.value) × HasTold E.hands_out E.takes_back (λ _. ⊤) S.looks S.width S.height (desk promise.errands.value promise.source.value (taken_of promise.taker.value) promise.strokes.value) (taken_of told.taker) told.strokes };
+    ghost kept_by = { λ promise told. (host_of told.taker ≡ host_of promise.taker.value) × HasTold S.looks S.width S.height (desk [] promise.source.value (taken_of promise.taker.value) promise.strokes.value) (links_in L.state told.written) (taken_of told.taker) told.strokes };
 }
 
 /// The thread that tells the hosts.
-pub(crate) type WriterHandle<L, W, S, R> = PromisedHandle<
-    HostsTold<R>,
-    OfTaker<L, Round<L, W>, S, R>,
->;
+pub(crate) type WriterHandle<L, S, R> = PromisedHandle<HostsTold<L, R>, OfTaker<L, S, R>>;
 
 /// Tells one host after another, each until it is left or its link ends, and the rest of the input goes on to the next.
 /// A fault of a link isn't told: the reader's tells it.
 fn write<L: Link, E: Errands<L>, S: ScreenSource + Drop, Z: Rest, R: Wait + Drop>(
     rt: &R,
-    mut errands: E,
+    errands: &mut E,
     mut source: S,
-    mut taker: Taker<R>,
-    mut strokes: Strokes,
+    taker: &mut Taker<R>,
+    strokes: &mut Strokes,
     rest: &Z,
-) -> HostsTold<R>
+)
     requires { (s : S) → IsScreenSize (S.width s) (S.height s) }
-    ensures relay { host_of result.taker ≡ host_of taker }
-    ensures told { HasTold E.hands_out E.takes_back E.was_set S.looks S.width S.height (desk errands source (taken_of taker) strokes) (taken_of result.taker) result.strokes }
+    ensures relay { host_of taker.new ≡ host_of taker.old }
+    ensures told { HasTold S.looks S.width S.height (desk (E.links errands.old) source (taken_of taker.old) strokes.old) (E.links errands.new) (taken_of taker.new) strokes.new }
 {
     for _ in rt.forever() {
         let Some(mut link) = errands.next(rt) else {
-            return HostsTold { taker, strokes };
+            return;
         };
-        let _ = run_writer(
-            rt,
-            &mut link,
-            &mut source,
-            &mut taker,
-            &mut strokes,
-            &errands,
-            rest,
-        );
+        let _ = run_writer(rt, &mut link, &mut source, taker, strokes, &*errands, rest);
         errands.told(link);
     }
     unreachable!()
+}
+
+/// The same of the hosts of a handover.
+fn tell<L: Link, W: Bell + Drop, S: ScreenSource + Drop, Z: Rest, R: Wait + Drop>(
+    rt: &R,
+    handover: Arc<Handover<L, W>, Global>,
+    source: S,
+    mut taker: Taker<R>,
+    mut strokes: Strokes,
+    rest: &Z,
+) -> HostsTold<L, R>
+    requires { (s : S) → IsScreenSize (S.width s) (S.height s) }
+    ensures relay { host_of result.taker ≡ host_of taker }
+    ensures told { HasTold S.looks S.width S.height (desk [] source (taken_of taker) strokes) (links_in L.state result.written) (taken_of result.taker) result.strokes }
+{
+    let mut errands = Round::new(handover);
+    write(rt, &mut errands, source, &mut taker, &mut strokes, rest);
+    HostsTold {
+        written: errands.into_written(),
+        taker,
+        strokes,
+    }
+}
+
+/// A thread that tells the hosts of a handover. It fails where no thread can be made (`Memory`).
+fn tell_beside<L, S, Z, W, R>(
+    rt: R,
+    rest: Arc<Z, Global>,
+    handover: Arc<Handover<L, W>, Global>,
+    source: S,
+    taker: Taker<R>,
+    strokes: Strokes,
+) -> Result<WriterHandle<L, S, R>, Fault>
+where
+    L: Link + Send + 'static,
+    S: ScreenSource + Drop + Send + 'static,
+    Z: Rest + Drop + Send + Sync + 'static,
+    W: Bell + Drop + Send + Sync + 'static,
+    R: Threads + Wait + Copy + Drop + Send + 'static,
+    requires { (s : S) → IsScreenSize (S.width s) (S.height s) }
+    ensures of { IfOk result (λ handle. (handle.promise.source.value ≡ source) × (handle.promise.taker.value ≡ taker) × (handle.promise.strokes.value ≡ strokes)) }
+    ensures err { IfErr result (λ fault. fault ≡ Memory) }
+{
+    let promise = OfTaker {
+        source: Snapshot::of(&source),
+        taker: Snapshot::of(&taker),
+        strokes: Snapshot::of(&strokes),
+        of: PhantomData,
+    };
+    let started = thread::spawn_with(
+        &rt,
+        promise,
+        move || -> HostsTold<L, R>
+            requires { (s : S) → IsScreenSize (S.width s) (S.height s) }
+            ensures relay { host_of result.taker ≡ host_of taker }
+            ensures told { HasTold S.looks S.width S.height (desk [] source (taken_of taker) strokes) (links_in L.state result.written) (taken_of result.taker) result.strokes }
+        { tell(&rt, handover, source, taker, strokes, &*rest) },
+    );
+    match started {
+        Ok(handle) => Ok(handle),
+        Err(_) => Err(Fault::Memory),
+    }
 }
 
 /// Starts the thread that tells the hosts. It fails where memory is refused, or no thread can be made (`Memory`).
@@ -94,7 +148,7 @@ pub(crate) fn start_writer<L, S, B, W, R>(
     source: S,
     taker: Taker<R>,
     strokes: Strokes,
-) -> Result<WriterHandle<L, W, S, R>, Fault>
+) -> Result<WriterHandle<L, S, R>, Fault>
 where
     L: Link + Send + 'static,
     S: ScreenSource + Drop + Send + 'static,
@@ -105,27 +159,6 @@ where
     ensures of { IfOk result (λ handle. (handle.promise.source.value ≡ source) × (handle.promise.taker.value ≡ taker) × (handle.promise.strokes.value ≡ strokes)) }
     ensures err { IfErr result (λ fault. fault ≡ Memory) }
 {
-    let rt = crew.rt;
     let rest = Arc::try_clone(&crew.writer)?;
-    let errands = Round::new(handover);
-    let promise = OfTaker {
-        errands: Snapshot::of(&errands),
-        source: Snapshot::of(&source),
-        taker: Snapshot::of(&taker),
-        strokes: Snapshot::of(&strokes),
-        of: PhantomData,
-    };
-    let started = thread::spawn_with(
-        &rt,
-        promise,
-        move || -> HostsTold<R>
-            requires { (s : S) → IsScreenSize (S.width s) (S.height s) }
-            ensures relay { host_of result.taker ≡ host_of taker }
-            ensures told { HasTold (λ _ _ _. ⊤) (λ _ _ _. ⊤) (λ _. ⊤) S.looks S.width S.height (desk errands source (taken_of taker) strokes) (taken_of result.taker) result.strokes }
-        { write(&rt, errands, source, taker, strokes, &*rest) },
-    );
-    match started {
-        Ok(handle) => Ok(handle),
-        Err(_) => Err(Fault::Memory),
-    }
+    tell_beside(crew.rt, rest, handover, source, taker, strokes)
 }

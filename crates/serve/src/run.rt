@@ -60,6 +60,7 @@ where
         publisher: _publisher,
         taker: _taker,
         strokes: _strokes,
+        written: _written,
         places: _places,
     } = run_all::<J, L, H, D, B, W, R>(
         rt, alloc, history, reader, writer_end, joined, hosts, doors, everyone, writer,

@@ -93,6 +93,7 @@ where
         taker,
         hosts: _hosts,
         strokes: _,
+        written: _,
         places,
     } = running;
     let fault = match &result {

@@ -6,7 +6,11 @@ use Rattle.reflect_core.specs.Sequential.{Shared, nothing_put}
 use Rattle.reflect_core.specs.Sequential as step
 use Rattle.tally_word.specs.Reaches.{Reaches}
 use Rattle.input_relay.specs.Ends.{taken_of}
-use Rattle.reflector.specs.Tellings.{TellsHosts}
+use Rattle.host_writer.specs.Writing.{taken_from}
+use Rattle.roles.specs.Strokes.{StrokesStand}
+use Rattle.reflector.specs.Tellings.{AreToldInTurn, TellsHosts}
+use Rattle.reflector.specs.Written.{links_in}
+use Rattle.reflector.proofs.InTurn.{in_turn}
 use Rattle.reflector.proofs.Telling.{tells_from}
 use Rattle.reflector.proofs.Places.{all_but_first, all_of_senders}
 use Rattle.reflector.proofs.run.run_all.Goals as goal
@@ -21,6 +25,21 @@ pub returns-clause-told : goal.returns-clause-told
 returns-clause-told g c =
     let some : 0 < length c.in_ok-publisher.watchers.items = omega (arith, c.in_ok-publisher.ensures.count, c.in_ok-publisher.watchers.ok.0) in
     IfOk-weaker c.run_over.result
-    (λ run. (source : Shared) × (source ≡ slice_index_or c.in_ok-publisher.watchers.items 0 source) × TellsHosts (λ old reply new. Reaches old (step.Look reply ∷ []) new) (λ w. g.J.Naming.width) (λ w. g.J.Naming.height) source (taken_of run.taker) run.strokes)
-    (λ run. TellsHosts (λ old reply new. Reaches old (step.Look reply ∷ []) new) (λ w. g.J.Naming.width) (λ w. g.J.Naming.height) nothing_put (taken_of run.taker) run.strokes)
-    (λ run k. tells_from _ _ _ _ nothing_put k.0 _ _ c.in_ok-publisher.ensures.watchers some k.1 k.2) c.run_over.ensures.told
+    (λ run. (source : Shared) × (source ≡ slice_index_or c.in_ok-publisher.watchers.items 0 source) × TellsHosts (λ old reply new. Reaches old (step.Look reply ∷ []) new) (λ w. g.J.Naming.width) (λ w. g.J.Naming.height) source (links_in g.L.Link.state run.written) (taken_of run.taker) run.strokes)
+    (λ run. TellsHosts (λ old reply new. Reaches old (step.Look reply ∷ []) new) (λ w. g.J.Naming.width) (λ w. g.J.Naming.height) nothing_put (links_in g.L.Link.state run.written) (taken_of run.taker) run.strokes)
+    (λ run k. tells_from _ _ _ _ nothing_put k.0 _ _ _ c.in_ok-publisher.ensures.watchers some k.1 k.2) c.run_over.ensures.told
+
+-- So each was told a beginning of what is said, and the strokes stand for all of it.
+pub returns-clause-in_turn : goal.returns-clause-in_turn
+returns-clause-in_turn g c =
+    IfOk-weaker c.run_over.result
+    (λ run. TellsHosts (λ old reply new. Reaches old (step.Look reply ∷ []) new) (λ w. g.J.Naming.width) (λ w. g.J.Naming.height) nothing_put (links_in g.L.Link.state run.written) (taken_of run.taker) run.strokes)
+    (λ run. AreToldInTurn g.J.Naming.width g.J.Naming.height [] (links_in g.L.Link.state run.written) (taken_of run.taker))
+    (λ run k. (in_turn _ _ _ _ _ _ _ k).0) (returns-clause-told g c)
+
+pub returns-clause-strokes : goal.returns-clause-strokes
+returns-clause-strokes g c =
+    IfOk-weaker c.run_over.result
+    (λ run. TellsHosts (λ old reply new. Reaches old (step.Look reply ∷ []) new) (λ w. g.J.Naming.width) (λ w. g.J.Naming.height) nothing_put (links_in g.L.Link.state run.written) (taken_of run.taker) run.strokes)
+    (λ run. StrokesStand run.strokes (map taken_from (taken_of run.taker)))
+    (λ run k. (in_turn _ _ _ _ _ _ _ k).1) (returns-clause-told g c)

@@ -20,4 +20,4 @@ returns-in-Ok-clause-screen g c = rw c.end_all.ensures.places c.in-Ok.ensures.sc
 pub returns-in-Ok-clause-told : goal.returns-in-Ok-clause-told
 returns-in-Ok-clause-told g c =
     let writer = c.in-Ok.ensures.writer in
-    (c.in-Ok.started.writer.promise.source.value, writer.1, tells_hosts _ _ _ _ _ _ _ _ (ap (λ t. taken_of t) writer.0 ∙ c.in_ok-senders.ensures.taken) writer.2 c.end_all.ensures.told)
+    (c.in-Ok.started.writer.promise.source.value, writer.1, tells_hosts _ _ _ _ _ _ _ _ _ (ap (λ t. taken_of t) writer.0 ∙ c.in_ok-senders.ensures.taken) writer.2 c.end_all.ensures.told)

@@ -1,11 +1,11 @@
 -- One host more, or the last.
-use Rattle.std.proofs.Common.{◌∙◌}
+use Rattle.std.proofs.Common.{refl, ◌∙◌}
 use Rattle.reflector.proofs.Telling.{telling_on, told_all}
 use Rattle.reflector.proofs.writer.write.Goals as goal
 
 pub returns-in_default-clause-told : goal.returns-in_default-clause-told
-returns-in_default-clause-told g c = told_all _ _ _ _ _ _ _ _ c.loop.invariant.3
+returns-in_default-clause-told g c = told_all _ _ _ _ _ _ _ _ _ c.loop.invariant.3 (c.in_default.ensures.none refl)
 
 pub loop-preserved : goal.loop-preserved
 loop-preserved g c =
-    (tt, tt, c.run_writer.ensures.relay ∙ c.loop.invariant.2, telling_on _ _ _ _ _ _ _ _ _ _ _ _ _ _ _ _ c.loop.invariant.3 c.in-Some-next.ensures c.run_writer.ensures.writes c.told.ensures)
+    (tt, tt, c.run_writer.ensures.relay ∙ c.loop.invariant.2, telling_on _ _ _ _ _ _ _ _ _ _ _ _ _ _ c.loop.invariant.3 c.in-Some-next.ensures.came c.run_writer.ensures.writes c.told.ensures)

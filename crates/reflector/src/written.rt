@@ -1,0 +1,43 @@
+//! What the hosts' links were given, for clauses.
+
+ghost use Rattle.std.specs.Prelude.{◌≡◌, [], ◌∷◌, ◌++◌};
+ghost use Rattle.reflector.specs.Written.{links_in};
+
+use link::Link;
+use std::mem;
+use std::snapshot::Snapshot;
+
+/// Links one after another, each as it was at one time. No link and no byte is kept.
+#[derive(Drop)]
+enum Trail<L> {
+    /// None.
+    Nothing,
+    /// These, and then this one.
+    Then(Snapshot<Trail<L>>, Snapshot<L>),
+}
+
+/// The links that hosts were told over, one after another: each as it came, and then as it was left. It has no bytes:
+/// only clauses read it (`links_in`).
+#[derive(Drop)]
+pub struct Written<L> {
+    trail: Snapshot<Trail<L>>,
+}
+
+impl<L: Link> Written<L> {
+    /// No link.
+    pub(crate) fn new() -> Written<L>
+        ensures { links_in L.state result ≡ [] }
+    {
+        Written {
+            trail: Snapshot::of(&Trail::Nothing),
+        }
+    }
+
+    /// And then this link, as it is now.
+    pub(crate) fn note(&mut self, link: &L)
+        ensures { links_in L.state self.new ≡ links_in L.state self.old ++ L.state link.now ∷ [] }
+    {
+        let before = mem::replace(&mut self.trail, Snapshot::of(&Trail::Nothing));
+        self.trail = Snapshot::of(&Trail::Then(before, Snapshot::of(link)));
+    }
+}
