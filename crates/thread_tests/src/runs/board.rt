@@ -1,5 +1,6 @@
 //! What the peers of a run know of one another.
 
+use crate::runs::sight::View;
 use pixel_format::Fault;
 use std::alloc::Global;
 use std::sync::Arc;
@@ -21,6 +22,8 @@ pub(crate) struct Board {
     pub(crate) told: AtomicU64,
     // The number of the update that turns the screen black.
     black: u64,
+    /// The screen.
+    pub(crate) view: &'static View,
     /// 1 where something went wrong.
     pub(crate) flaws: AtomicU64,
 }
@@ -41,9 +44,12 @@ pub(crate) enum Gate {
 }
 
 impl Board {
-    /// A board of a run in which update n paints colour n, but for one that turns the screen black, whose number this
-    /// is.
-    pub(crate) fn new(alloc: Global, black: u64) -> Result<Arc<Board, Global>, Fault> {
+    /// A board of a run over this screen, where the update of this number turns it black.
+    pub(crate) fn new(
+        alloc: Global,
+        view: &'static View,
+        black: u64,
+    ) -> Result<Arc<Board, Global>, Fault> {
         let shown = [
             AtomicU64::new(0),
             AtomicU64::new(0),
@@ -62,6 +68,7 @@ impl Board {
             handed: AtomicU64::new(0),
             told: AtomicU64::new(0),
             black,
+            view,
             flaws: AtomicU64::new(0),
         };
         Ok(Arc::new(alloc, board)?)
@@ -129,18 +136,17 @@ impl Board {
         is_left
     }
 
-    /// This place was shown this colour. What was shown never goes back to an update before.
+    /// This place was shown this colour, and so the update of its number.
     pub(crate) fn show(&self, place: usize, colour: u64) {
-        let Some(shown) = self.shown.get(place) else {
-            return;
-        };
-        let before = shown.load(Ordering::SeqCst);
-        let number = if colour == 0 && 0 < before {
-            self.black
-        } else {
-            colour
-        };
-        self.check(before <= number);
-        shown.store(number, Ordering::SeqCst);
+        let is_black = colour == 0 && self.is_open(&Gate::Shown(place, 1));
+        self.reach(place, if is_black { self.black } else { colour });
+    }
+
+    /// This place was shown this update. What was shown never goes back to an update before.
+    pub(crate) fn reach(&self, place: usize, number: u64) {
+        if let Some(shown) = self.shown.get(place) {
+            self.check(shown.load(Ordering::SeqCst) <= number);
+            shown.store(number, Ordering::SeqCst);
+        }
     }
 }

@@ -2,10 +2,13 @@
 
 use crate::runs::board::Gate;
 use crate::runs::bytes::{
-    ASK, HELLO, ONE, PRESS_97, PRESS_98, THREE, TWO, UNKNOWN, WELCOME, WIDER,
+    ASK, GREETING, HELLO, ONE, PRESS_97, PRESS_98, THREE, TWO, UNKNOWN, WELCOME, WIDER,
 };
 use crate::runs::ends::{Course, End, goes_right};
+use crate::runs::painted::PAINTED;
 use crate::runs::peer::{Act, Key, Script, Taking};
+use crate::runs::picture::Picture;
+use crate::runs::sight::View;
 use std::test::*;
 
 /// This many key events are more than there is room for.
@@ -22,6 +25,15 @@ const TWO_KEYS: [[Key; 2]; 2] = [
 
 /// The number of the update that turns the screen black, where another host comes.
 const BLACK: u64 = 2;
+
+/// The screen of 2 by 1.
+pub(crate) const SMALL: View = View {
+    w: 2,
+    h: 1,
+    greeting: GREETING,
+    picture: Picture::Plain,
+    updates: 3,
+};
 
 /// Asks until it was shown the third update.
 const TO_THREE: &[Act] = &[Act::Says(HELLO), Act::AsksFor(3)];
@@ -51,7 +63,7 @@ const WATCHES: Script = Script {
 };
 
 /// The end of a host that is told. It wants no key event.
-const IS_TOLD: Script = Script {
+pub(crate) const IS_TOLD: Script = Script {
     acts: &[Act::Ends],
     taking: Taking::Told(Gate::Open, &[]),
 };
@@ -104,6 +116,7 @@ const IS_OLD: Script = Script {
 /// A viewer whose `give` doesn't return until another was shown the third update holds neither that one nor the host.
 const HELD_VIEWER: Course = Course {
     name: "held_viewer_holds_nobody",
+    view: &SMALL,
     black: 0,
     places: &[&[AT_ONCE], &[HELD], &[AT_ONCE], &[AT_ONCE]],
     hosts: &[SENDS_THREE, IS_TOLD],
@@ -118,6 +131,7 @@ const HELD_VIEWER: Course = Course {
 /// Three viewers that take nothing until the first was shown the third update are shown it then.
 const STALLED_VIEWERS: Course = Course {
     name: "stalled_viewers_catch_up",
+    view: &SMALL,
     black: 0,
     places: &[&[AT_ONCE], &[STALLED], &[STALLED], &[STALLED]],
     hosts: &[SENDS_THREE, IS_TOLD],
@@ -134,6 +148,7 @@ const STALLED_VIEWERS: Course = Course {
 /// it sends once 257 were handed out.
 const FULL_RELAY: Course = Course {
     name: "full_relay_holds_no_update",
+    view: &SMALL,
     black: 0,
     places: &[&[Script {
         acts: &[
@@ -172,6 +187,7 @@ const FULL_RELAY: Course = Course {
 /// What the first held down is released, and the second begins anew.
 const PLACE_AGAIN: Course = Course {
     name: "place_is_used_again",
+    view: &SMALL,
     black: 0,
     places: &[&[
         Script {
@@ -206,6 +222,7 @@ const PLACE_AGAIN: Course = Course {
 /// nothing black. The viewer sees numbers that don't fall, none above 3.
 const WIDER_THIRD: Course = Course {
     name: "third_host_is_one_column_wider",
+    view: &SMALL,
     black: BLACK,
     places: &[&[WATCHES]],
     hosts: &[
@@ -250,6 +267,7 @@ const WIDER_THIRD: Course = Course {
 /// run. Another host would be there.
 const HOST_AT_FAULT: Course = Course {
     name: "fault_takes_no_next_host",
+    view: &SMALL,
     black: BLACK,
     places: &[&[WATCHES]],
     hosts: &[
@@ -281,6 +299,7 @@ const HOST_AT_FAULT: Course = Course {
 /// answer, and the screen stays as it was.
 const NO_HOST_LEFT: Course = Course {
     name: "last_answer_ends_the_run",
+    view: &SMALL,
     black: BLACK,
     places: &[&[WATCHES]],
     hosts: &[SENDS_ONE, IS_TOLD, ENDS, IS_TOLD],
@@ -293,7 +312,7 @@ const NO_HOST_LEFT: Course = Course {
 };
 
 /// Each of the runs.
-static COURSES: [Course; 7] = [
+static COURSES: [Course; 8] = [
     HELD_VIEWER,
     STALLED_VIEWERS,
     FULL_RELAY,
@@ -301,6 +320,7 @@ static COURSES: [Course; 7] = [
     WIDER_THIRD,
     HOST_AT_FAULT,
     NO_HOST_LEFT,
+    PAINTED,
 ];
 
 /// Each of the runs goes as it has to. The first that doesn't is named.

@@ -2,6 +2,7 @@
 
 use crate::runs::board::Gate;
 use crate::runs::bytes::{HELLO, ONE, PRESS_97, THREE, WELCOME};
+use crate::runs::courses::SMALL;
 use crate::runs::ends::{Course, End, goes_right};
 use crate::runs::peer::{Act, Key, Script, Taking};
 use std::test::*;
@@ -19,6 +20,7 @@ const OTHERS: &[u8] = b"\x04\0\0\0\0\0\0\x61\x04\x01\0\0\0\0\0\x62\x04\0\0\0\0\0
 /// after that, the next one is told the three others, and is asked for the screen.
 static GOES_ON: Course = Course {
     name: "input goes on to the next host",
+    view: &SMALL,
     black: 2,
     places: &[&[Script {
         acts: &[

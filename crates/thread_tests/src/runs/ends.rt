@@ -1,11 +1,13 @@
 //! A run, and what it leaves.
 
 ghost use Rattle.std.specs.Prelude.{◌≡◌, ◌≤◌, All, vec_len, IfOk};
+ghost use Rattle.raster.specs.Size.{IsScreenSize};
 ghost use Rattle.input_relay.specs.Ends.{host_of, relay_of};
 
 use crate::runs::board::Board;
 use crate::runs::peer::Script;
 use crate::runs::queue::Queue;
+use crate::runs::sight::View;
 use crate::runs::wire::Wire;
 use arrayvec::ArrayVec;
 use host_turns::Hosts;
@@ -30,13 +32,6 @@ use std::time::Clock;
 use tally_word::{Naming, Opened};
 use tiles::Have;
 
-const ALL: Rect = Rect {
-    x: 0,
-    y: 0,
-    w: 2,
-    h: 1,
-};
-
 /// How a run is to end: with a fault of this number, or with none, 0; with this many links handed back; and with this
 /// update, its last.
 pub(crate) struct End {
@@ -45,10 +40,11 @@ pub(crate) struct End {
     pub(crate) last: u64,
 }
 
-/// A run: which update turns the screen black, the viewers of each place, the two ends of each host, and how it is to
-/// end.
+/// A run: its screen, which update turns that black, the viewers of each place, the two ends of each host, and how it
+/// is to end.
 pub(crate) struct Course {
     pub(crate) name: &'static str,
+    pub(crate) view: &'static View,
     pub(crate) black: u64,
     pub(crate) places: &'static [&'static [Script]],
     pub(crate) hosts: &'static [Script],
@@ -57,17 +53,25 @@ pub(crate) struct Course {
     pub(crate) end: End,
 }
 
-/// Whether a watcher that met the publisher cuts the last update, colour n all over.
-fn shows<J: Naming>(alloc: Global, watcher: &mut Watcher<J>, last: u64) -> Result<bool, Fault>
-    requires { (2 ≡ J.width) × (1 ≡ J.height) }
+/// Whether a watcher that met the publisher cuts the last update.
+fn shows<J: Naming>(
+    alloc: Global,
+    watcher: &mut Watcher<J>,
+    view: &View,
+    last: u64,
+) -> Result<bool, Fault>
+    requires { IsScreenSize view.now.w view.now.h × (view.now.w ≡ J.width) × (view.now.h ≡ J.height) }
 {
-    let have = Have::new(alloc, 2, 1)?;
-    let mut cut = Cut::new(alloc, 2, 1)?;
-    let number = watcher.cut(&ALL, &have, &mut cut)?;
-    Ok(match cut.colours.as_slice() {
-        [one, two] => number == last && u64::from(*one) == last && u64::from(*two) == last,
-        _ => false,
-    })
+    let all = Rect {
+        x: 0,
+        y: 0,
+        w: view.w,
+        h: view.h,
+    };
+    let have = Have::new(alloc, view.w, view.h)?;
+    let mut cut = Cut::new(alloc, view.w, view.h)?;
+    let number = watcher.cut(&all, &have, &mut cut)?;
+    Ok(number == last && view.is_held(cut.colours.as_slice(), last))
 }
 
 /// Whether the run ended as it is to, each place shows the last update, and nothing is left of the input.
@@ -75,6 +79,7 @@ fn ends<J, L, H, D, R>(
     rt: R,
     alloc: Global,
     running: Running<L, H, Publisher<J, R>, Watcher<J>, D, R>,
+    view: &View,
     end: &End,
 ) -> Result<bool, Fail>
 where
@@ -83,7 +88,7 @@ where
     H: Drop,
     D: Door,
     R: Threads + Wait + Drop + Copy,
-    requires screen { (2 ≡ J.width) × (1 ≡ J.height) }
+    requires screen { IsScreenSize view.now.w view.now.h × (view.now.w ≡ J.width) × (view.now.h ≡ J.height) }
     requires relay { All (λ place. relay_of place.promise.sender.value ≡ host_of running.taker) running.places.items }
 {
     let Running {
@@ -108,7 +113,7 @@ where
             mut watcher,
             sender,
         } = join_place(&rt, place, &publisher);
-        let shown = shows(alloc, &mut watcher, end.last);
+        let shown = shows(alloc, &mut watcher, view, end.last);
         is_right = matches!(shown, Ok(true)) && is_right;
         senders.push(sender)?;
     }
@@ -152,7 +157,8 @@ fn over<J, R>(
 where
     J: Naming + Publishes + Send + Sync + 'static,
     R: Threads + Wait + Clock + Copy + Drop + Send + 'static,
-    requires { (history.seen.book ≡ J.book) × (2 ≡ J.width) × (1 ≡ J.height) }
+    requires history { history.seen.book ≡ J.book }
+    requires screen { IsScreenSize course.now.view.now.w course.now.view.now.h × (course.now.view.now.w ≡ J.width) × (course.now.view.now.h ≡ J.height) }
 {
     let mut name = ArrayVec::new();
     name.push(b'T');
@@ -175,13 +181,17 @@ where
         history,
         reader,
         writer,
-        Joined { w: 2, h: 1, name },
+        Joined {
+            w: course.view.w,
+            h: course.view.h,
+            name,
+        },
         hosts,
         doors,
         everyone,
         bell,
     )?;
-    ends(rt, alloc, running, &course.end)
+    ends(rt, alloc, running, course.view, &course.end)
 }
 
 /// Whether a run goes as it has to.
@@ -189,7 +199,10 @@ pub(crate) fn goes_right<R>(rt: R, alloc: Global, course: &Course) -> Result<boo
 where
     R: Threads + Wait + Clock + Copy + Drop + Send + 'static,
 {
-    let board = Board::new(alloc, course.black)?;
+    let (1..=4096, 1..=4096) = (course.view.w, course.view.h) else {
+        return Ok(false);
+    };
+    let board = Board::new(alloc, course.view, course.black)?;
     let is_right = over::<Brand, R>(rt, alloc, Opened::new(), &board, course)?;
     Ok(is_right && board.is_left() && board.flaws.load(Ordering::SeqCst) == 0)
 }

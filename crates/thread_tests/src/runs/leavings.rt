@@ -2,6 +2,7 @@
 
 use crate::runs::board::Gate;
 use crate::runs::bytes::{ASK, HELLO, ONE, PRESS_97, TWO};
+use crate::runs::courses::SMALL;
 use crate::runs::ends::{Course, End, goes_right};
 use crate::runs::peer::{Act, Key, Script, Taking};
 use std::test::*;
@@ -18,6 +19,7 @@ const KEYS: [[Key; 2]; 1] = [[[4, 1, 0, 0, 0, 0, 0, 97], [4, 0, 0, 0, 0, 0, 0, 9
 /// was seen off, once. The last one types, is shown the second update, and stays until the host has ended.
 static EACH_LEAVES: Course = Course {
     name: "a place is free once after each way of leaving",
+    view: &SMALL,
     black: 0,
     places: &[&[
         Script {

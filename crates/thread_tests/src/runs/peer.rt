@@ -2,6 +2,8 @@
 
 use crate::runs::board::{Board, Gate};
 use crate::runs::bytes::{ANSWER, ANSWER_LEN, ASK, GREETING, PRESS, RELEASE};
+use crate::runs::follower::Follower;
+use crate::runs::sight::Sight;
 use link::{Gave, Took};
 use std::alloc::Global;
 use std::sync::Arc;
@@ -17,8 +19,10 @@ pub(crate) enum Act {
     Says(&'static [u8]),
     /// Holds the call until the gate is open.
     Waits(Gate),
-    /// Asks, again after each answer, until it was shown this colour.
+    /// Asks, again after each answer, until it was shown this update.
     AsksFor(u64),
+    /// The same, by this request.
+    Requests(&'static [u8], u64),
     /// Hands out this many key events, one at a time: key 65 is pressed and released by turns.
     Types(u64),
     /// Ends.
@@ -37,6 +41,8 @@ pub(crate) enum Taking {
     Stalls(Gate),
     /// A viewer: each `give` is held until the gate is open.
     Held(Gate),
+    /// A viewer that follows its answers: all of it at once.
+    Follows(&'static Sight),
     /// A viewer: one byte at the first `give`. At the second one its link fails.
     Breaks,
     /// A host that hears a handshake out. It wants no key event.
@@ -69,9 +75,23 @@ pub(crate) struct Peer {
     pub(crate) typed: u64,
     pub(crate) answers: usize,
     pub(crate) heard: Vec<u8>,
+    /// One that follows its answers: what it holds, how many of the bytes it followed, and the update it was shown.
+    pub(crate) follower: Follower,
+    pub(crate) followed: usize,
+    pub(crate) number: u64,
 }
 
 impl Peer {
+    /// Asks, unless it did since the last answer, or was shown this update, which is answered.
+    fn ask(&mut self, request: &'static [u8], update: u64) -> bool {
+        let was_shown = self.board.is_open(&Gate::Shown(self.place, update));
+        if !was_shown && self.asked <= self.answers {
+            self.asked = self.asked.wrapping_add(1);
+            self.left = request;
+        }
+        was_shown
+    }
+
     /// Begins its next act, or goes on with it: what it sends of that, and whether the act is done. An act that is held
     /// too long fails, and after an end there is nothing more.
     fn act(&mut self) -> Result<bool, Took> {
@@ -82,14 +102,8 @@ impl Peer {
             }
             Some(Act::Waits(gate)) if self.board.hold(gate) => Ok(true),
             Some(Act::Waits(_)) => Err(Took::Failed),
-            Some(Act::AsksFor(colour)) => {
-                let was_shown = self.board.is_open(&Gate::Shown(self.place, *colour));
-                if !was_shown && self.asked <= self.answers {
-                    self.asked = self.asked.wrapping_add(1);
-                    self.left = ASK;
-                }
-                Ok(was_shown)
-            }
+            Some(Act::AsksFor(update)) => Ok(self.ask(ASK, *update)),
+            Some(Act::Requests(request, update)) => Ok(self.ask(request, *update)),
             Some(Act::Types(count)) if self.typed < *count => {
                 self.typed = self.typed.wrapping_add(1);
                 let _ = self.board.handed.fetch_add(1, Ordering::SeqCst);
@@ -134,9 +148,16 @@ impl Peer {
         Gave::Bytes(bytes.len())
     }
 
-    /// Looks at the next answer, if it is whole: both of its colours are the same. What is given comes only once the
-    /// link is taken from, or flushed.
+    /// Looks at the next answer, if it is whole. What is given comes only once the link is taken from, or flushed.
     pub(crate) fn look(&mut self) {
+        match &self.script.taking {
+            Taking::Follows(sight) => self.follow(sight),
+            _ => self.look_at_both(),
+        }
+    }
+
+    /// Looks at an answer of the screen of 2 by 1: both of its colours are the same.
+    fn look_at_both(&mut self) {
         let start = GREETING
             .len()
             .saturating_add(self.answers.saturating_mul(ANSWER_LEN));
@@ -148,6 +169,35 @@ impl Peer {
             self.board.check(head == ANSWER && colours[0] == colours[4]);
             self.board.show(self.place, u64::from(colours[0]));
         }
+    }
+
+    /// Follows an answer: the area that was asked for is shown as after an update, which is none before the last one.
+    fn follow(&mut self, sight: &Sight) {
+        let view = self.board.view;
+        if self.followed == 0 && view.greeting.len() <= self.heard.len() {
+            self.followed = view.greeting.len();
+            let is_begun = self.follower.begin(view.w, view.h).is_ok();
+            self.board.check(is_begun);
+        }
+        let answers = self.heard.get(self.followed..).unwrap_or(b"");
+        let Some(used) = self.follower.follow(answers, &sight.format) else {
+            return;
+        };
+        self.followed = self.followed.wrapping_add(used);
+        self.answers = self.answers.wrapping_add(1);
+        match sight.number(&self.follower, view, self.number) {
+            Some(number) => {
+                self.number = number;
+                self.board.reach(self.place, number);
+            }
+            None => self.board.check(false),
+        }
+    }
+
+    /// Whether it followed all that it was given, up to the last update, in each encoding that has to come.
+    pub(crate) fn has_followed(&self, sight: &Sight) -> bool {
+        let is_whole = self.followed == self.heard.len();
+        is_whole && self.number == self.board.view.updates && sight.has_come(&self.follower)
     }
 
     /// Hears a key event, as a host: the next of these.

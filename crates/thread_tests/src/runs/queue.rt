@@ -1,7 +1,7 @@
 //! Peers that come one after another: the viewers of a place, and the hosts.
 
 use crate::runs::board::Board;
-use crate::runs::bytes::GREETING;
+use crate::runs::follower::Follower;
 use crate::runs::peer::{Peer, Script, Taking};
 use crate::runs::wire::Wire;
 use host_turns::Hosts;
@@ -44,6 +44,9 @@ impl Queue {
             typed: 0,
             answers: 0,
             heard: Vec::new(self.alloc),
+            follower: Follower::new(self.alloc),
+            followed: 0,
+            number: 0,
         }))
     }
 }
@@ -65,7 +68,8 @@ impl Door for Queue {
 
     fn left(&mut self, viewer: Wire, _answers: u64, why: Result<(), Fault>) {
         let heard = viewer.peer.heard.as_slice();
-        let was_greeted = heard.starts_with(GREETING);
+        let greeting = self.board.view.greeting;
+        let was_greeted = heard.starts_with(greeting);
         self.board.check(match &viewer.peer.script.taking {
             Taking::Breaks => was_greeted && matches!(why, Err(Fault::LinkFailed)),
             Taking::Leaves(fault) => {
@@ -73,7 +77,10 @@ impl Door for Queue {
                     Ok(()) => 0,
                     Err(fault) => fault.number(),
                 };
-                number == *fault && (was_greeted || GREETING.starts_with(heard))
+                number == *fault && (was_greeted || greeting.starts_with(heard))
+            }
+            Taking::Follows(sight) => {
+                was_greeted && why.is_ok() && viewer.peer.has_followed(sight)
             }
             _ => was_greeted && why.is_ok(),
         });
