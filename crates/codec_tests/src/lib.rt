@@ -8,9 +8,13 @@ mod hextile_carried;
 #[cfg(test)]
 mod hextile_fed;
 #[cfg(test)]
+mod hextile_joined;
+#[cfg(test)]
 mod hextile_reading;
 #[cfg(test)]
 mod hextile_writing;
+#[cfg(test)]
+mod rre_joined;
 #[cfg(test)]
 mod rre_reading;
 #[cfg(test)]

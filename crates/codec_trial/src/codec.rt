@@ -3,6 +3,7 @@
 ghost use Rattle.std.specs.Prelude.{◌≡◌};
 
 use crate::record::{Answer, Record};
+use joined_runs::Runs;
 use pixel_format::{Fault, Format};
 use raster::Raster;
 use std::alloc::Global;
@@ -82,9 +83,9 @@ pub fn is_read(alloc: Global, record: &Record<'_>, values: &[u32]) -> Result<boo
     is_drawn(record, &mut raster, values)
 }
 
-/// What the writer answers for these values: how many bytes stand at the front of `out`, or nothing. Also nothing where
-/// the values, or the room for them, aren't as many as the rectangle has.
-pub fn write(record: &Record<'_>, values: &[u32], out: &mut [u8]) -> Option<usize> {
+/// What the writer answers for these values in a form: how many bytes stand at the front of `out`, or nothing. Also
+/// nothing where the values, or the room for them, aren't as many as the rectangle has.
+pub fn write(form: Runs, record: &Record<'_>, values: &[u32], out: &mut [u8]) -> Option<usize> {
     let (width, height) = (u64::from(record.width), u64::from(record.height));
     let format = &record.format;
     let count = (width * height) as usize;
@@ -92,24 +93,29 @@ pub fn write(record: &Record<'_>, values: &[u32], out: &mut [u8]) -> Option<usiz
         return None;
     }
     if record.encoding == HEXTILE {
-        hextile_codec::encode(values, width, height, format, out)
+        hextile_codec::encode_as(form, values, width, height, format, out)
     } else {
-        rre_codec::encode(values, width, height, format, out)
+        rre_codec::encode_as(form, values, width, height, format, out)
     }
 }
 
 /// Whether the writer answers for these values what it has to, with this room.
-fn is_answered(record: &Record<'_>, values: &[u32], out: &mut [u8]) -> bool {
-    match write(record, values, out) {
+fn is_answered(form: Runs, record: &Record<'_>, values: &[u32], out: &mut [u8]) -> bool {
+    match write(form, record, values, out) {
         Some(count) => record.answer == Answer::Data && out.get(..count) == Some(record.data),
         None => record.answer == Answer::Nothing,
     }
 }
 
-/// Whether the writer answers for these values what it has to.
-pub fn is_written(alloc: Global, record: &Record<'_>, values: &[u32]) -> Result<bool, Fault> {
+/// Whether the writer answers for these values in a form what it has to.
+pub fn is_written(
+    alloc: Global,
+    form: Runs,
+    record: &Record<'_>,
+    values: &[u32],
+) -> Result<bool, Fault> {
     let Ok(mut out) = vec![in alloc; 0u8; record.pixels.len()] else {
         return Err(Fault::Memory);
     };
-    Ok(is_answered(record, values, out.as_mut_slice()))
+    Ok(is_answered(form, record, values, out.as_mut_slice()))
 }

@@ -1,6 +1,6 @@
 //! Runs the codecs over rectangles that other programs spelled.
 //!
-//! Without words: over the files `rectangles` and `libvncserver`, how many there are, how many are read as the other
+//! Without words: over the files `rectangles`, `libvncserver` and `joined`, how many there are, how many are read as the other
 //! program told, and of how many the writer answers what it told. With the words `FILE ROUNDS`: how long each rectangle
 //! of a file takes.
 #![tactic(auto)]
@@ -10,6 +10,7 @@ mod record;
 mod timing;
 
 use codec::{is_read, is_written, values_of};
+use joined_runs::Runs;
 use pixel_format::Fault;
 use record::{Answer, Record, read_record};
 use std::alloc::Global;
@@ -27,8 +28,8 @@ struct Tally {
     written: u64,
 }
 
-/// Runs the codecs over one rectangle. There is no data to read where the writer has to answer nothing.
-fn count(alloc: Global, record: &Record<'_>, tally: &mut Tally) -> Result<(), Fault> {
+/// Runs the codecs over one rectangle, which is written in a form. There is no data to read where the writer has to answer nothing.
+fn count(alloc: Global, form: Runs, record: &Record<'_>, tally: &mut Tally) -> Result<(), Fault> {
     let values = values_of(alloc, &record.format, record.pixels)?;
     tally.rectangles = tally.rectangles.saturating_add(1);
     if record.answer == Answer::Nothing || is_read(alloc, record, values.as_slice())? {
@@ -36,7 +37,7 @@ fn count(alloc: Global, record: &Record<'_>, tally: &mut Tally) -> Result<(), Fa
     }
     if record.answer != Answer::Unasked {
         tally.asked = tally.asked.saturating_add(1);
-        if is_written(alloc, record, values.as_slice())? {
+        if is_written(alloc, form, record, values.as_slice())? {
             tally.written = tally.written.saturating_add(1);
         }
     }
@@ -44,7 +45,7 @@ fn count(alloc: Global, record: &Record<'_>, tally: &mut Tally) -> Result<(), Fa
 }
 
 /// Runs the codecs over all rectangles of a file.
-fn count_all(alloc: Global, bytes: &[u8]) -> Result<Tally, Fail> {
+fn count_all(alloc: Global, form: Runs, bytes: &[u8]) -> Result<Tally, Fail> {
     let mut tally = Tally {
         rectangles: 0,
         read: 0,
@@ -59,22 +60,26 @@ fn count_all(alloc: Global, bytes: &[u8]) -> Result<Tally, Fail> {
         let Some((record, behind)) = read_record(rest) else {
             return Err(Fail::new("no whole record"));
         };
-        count(alloc, &record, &mut tally)?;
+        count(alloc, form, &record, &mut tally)?;
         rest = behind;
     }
     Ok(tally)
 }
 
 /// Runs the codecs over all rectangles of the file of this name.
-fn count_file(rt: &HostRuntime, name: &str) -> Result<Tally, Fail> {
+fn count_file(rt: &HostRuntime, form: Runs, name: &str) -> Result<Tally, Fail> {
     let bytes = fs::read(rt, name)?;
-    count_all(rt.alloc(), bytes.as_slice())
+    count_all(rt.alloc(), form, bytes.as_slice())
 }
 
-/// Prints how many rectangles of the two files are read and written as told.
+/// Prints how many rectangles of the three files are read and written as told.
 fn check(rt: &HostRuntime) -> Result<(), Fail> {
-    for name in ["rectangles", "libvncserver"] {
-        let tally = count_file(rt, name)?;
+    for (name, form) in [
+        ("rectangles", Runs::OfRows),
+        ("libvncserver", Runs::OfRows),
+        ("joined", Runs::Joined),
+    ] {
+        let tally = count_file(rt, form, name)?;
         println!(rt;
             "{name}: {} rectangles, {} read as told; {} to write, {} written as told",
             tally.rectangles, tally.read, tally.asked, tally.written

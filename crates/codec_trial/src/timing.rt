@@ -2,6 +2,7 @@
 
 use crate::codec::{draw, values_of, write};
 use crate::record::Record;
+use joined_runs::Runs;
 use raster::Raster;
 use std::test::Fail;
 use std::time::Instant;
@@ -32,7 +33,7 @@ pub fn writing_micros(
     let mut count = 0;
     for _ in 0..rounds {
         let start = Instant::now(rt)?;
-        count = write(record, values.as_slice(), out.as_mut_slice()).unwrap_or(0);
+        count = write(Runs::OfRows, record, values.as_slice(), out.as_mut_slice()).unwrap_or(0);
         least = least.min(start.elapsed(rt)?.as_micros());
     }
     Ok((least, count))
