@@ -6,10 +6,10 @@ use std::sync::atomic::{AtomicU64, Ordering};
 use std::test::*;
 use std::time::{Clock, Duration};
 
-/// A clock that stands still, and counts for how many milliseconds it was to sleep, and how often.
+/// A clock that stands still, and counts for how many seconds it was to sleep, and how often.
 #[derive(Drop)]
 struct Stopped {
-    millis: AtomicU64,
+    seconds: AtomicU64,
     times: AtomicU64,
 }
 
@@ -23,8 +23,7 @@ impl Clock for Stopped {
     }
 
     fn sleep(&self, duration: Duration) {
-        let millis = duration.as_millis() as u64;
-        let _ = self.millis.fetch_add(millis, Ordering::SeqCst);
+        let _ = self.seconds.fetch_add(duration.as_secs(), Ordering::SeqCst);
         let _ = self.times.fetch_add(1, Ordering::SeqCst);
     }
 }
@@ -33,11 +32,11 @@ impl Clock for Stopped {
 #[test]
 fn pause_is_made_once(rt: HostRuntime) {
     let clock = Stopped {
-        millis: AtomicU64::new(0),
+        seconds: AtomicU64::new(0),
         times: AtomicU64::new(0),
     };
     drop(Rested::after(&clock, 5));
-    let millis = clock.millis.load(Ordering::SeqCst);
+    let seconds = clock.seconds.load(Ordering::SeqCst);
     let times = clock.times.load(Ordering::SeqCst);
-    assert!(rt; millis == 5_000 && times == 1);
+    assert!(rt; seconds == 5 && times == 1);
 }
