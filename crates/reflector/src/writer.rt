@@ -19,7 +19,6 @@ use reflect_core::ScreenSource;
 use roles::Strokes;
 use serving::Bell;
 use std::alloc::Global;
-use std::marker::PhantomData;
 use std::snapshot::Snapshot;
 use std::sync::{Arc, Wait};
 use std::thread;
@@ -36,14 +35,13 @@ pub(crate) struct HostsTold<L, R: Wait + Drop> {
 
 /// That the taker comes back that the thread began with, after hosts were told one after another what it took.
 #[derive(Drop)]
-pub(crate) struct OfTaker<L, S, R: Wait + Drop> {
+pub(crate) struct OfTaker<S, R: Wait + Drop> {
     pub(crate) source: Snapshot<S>,
     pub(crate) taker: Snapshot<Taker<R>>,
     pub(crate) strokes: Snapshot<Strokes>,
-    of: PhantomData<L>,
 }
 
-impl<L: Link, S: ScreenSource, R: Wait + Drop> Promise<HostsTold<L, R>> for OfTaker<L, S, R> {
+impl<L: Link, S: ScreenSource, R: Wait + Drop> Promise<HostsTold<L, R>> for OfTaker<S, R> {
     ghost use Rattle.std.specs.Prelude.{◌≡◌, []};
     ghost use Rattle.input_relay.specs.Ends.{host_of, taken_of};
     ghost use Rattle.reflector.specs.Tellings.{HasTold, desk};
@@ -53,7 +51,7 @@ impl<L: Link, S: ScreenSource, R: Wait + Drop> Promise<HostsTold<L, R>> for OfTa
 }
 
 /// The thread that tells the hosts.
-pub(crate) type WriterHandle<L, S, R> = PromisedHandle<HostsTold<L, R>, OfTaker<L, S, R>>;
+pub(crate) type WriterHandle<L, S, R> = PromisedHandle<HostsTold<L, R>, OfTaker<S, R>>;
 
 /// Tells one host after another, each until it is left or its link ends, and the rest of the input goes on to the next.
 /// A fault of a link isn't told: the reader's tells it.
@@ -124,7 +122,6 @@ where
         source: Snapshot::of(&source),
         taker: Snapshot::of(&taker),
         strokes: Snapshot::of(&strokes),
-        of: PhantomData,
     };
     let started = thread::spawn_with(
         &rt,
