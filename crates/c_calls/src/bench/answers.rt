@@ -78,7 +78,7 @@ struct Source {
 }
 
 /// A source of these colours, row after row.
-fn source(alloc: Global, width: u64, height: u64, colours: &[u32]) -> Result<Source, Fault>
+fn make_source(alloc: Global, width: u64, height: u64, colours: &[u32]) -> Result<Source, Fault>
     requires size { IsScreenSize width height }
     requires count { length colours.now ≡ width * height }
     ensures { IfOk result (λ source. (source.board.width ≡ width) × (source.board.height ≡ height)) }
@@ -156,7 +156,7 @@ pub extern "C" fn bench_answers(
     let Ok((mut cut, mut room)) = prepare(alloc, width, height) else {
         return 0;
     };
-    let Ok(source) = source(alloc, width, height, colours) else {
+    let Ok(source) = make_source(alloc, width, height, colours) else {
         return 0;
     };
     let choice = Choice {
