@@ -115,6 +115,16 @@ fn refresh(cut: &mut Cut, source: &Source, all: bool)
     mark(cut.due.as_mut_slice(), all);
 }
 
+/// The same, where the colours are copied anew.
+fn refresh_if(copies: bool, cut: &mut Cut, source: &Source, all: bool)
+    requires { (source.now.board.width ≡ cut.old.width) × (source.now.board.height ≡ cut.old.height) }
+    ensures { (cut.new.width ≡ cut.old.width) × (cut.new.height ≡ cut.old.height) }
+{
+    if copies {
+        refresh(cut, source, all);
+    }
+}
+
 /// Room for a cut, and for a rectangle.
 fn prepare(alloc: Global, width: u64, height: u64) -> Result<(Cut, Room), Fault>
     requires { IsScreenSize width height }
@@ -166,9 +176,7 @@ pub extern "C" fn bench_answers(
     let asked = Asked { format, choice };
     refresh(&mut cut, &source, all);
     for _time in 0..times {
-        if copies {
-            refresh(&mut cut, &source, all);
-        }
+        refresh_if(copies, &mut cut, &source, all);
         write_all(&cut, &asked, &mut room, &mut []);
     }
     write_all(&cut, &asked, &mut room, sent)
