@@ -51,6 +51,26 @@ impl Queue {
     }
 }
 
+/// Whether a viewer left as it is to: greeted, unless it leaves before, and for this reason.
+fn goes_right(peer: &Peer, greeting: &[u8], why: &Result<(), Fault>) -> bool {
+    let taking = &peer.script.taking;
+    let heard = peer.heard.as_slice();
+    let was_greeted = heard.starts_with(greeting);
+    let is_begun = greeting.starts_with(heard);
+    match taking {
+        Taking::Breaks => was_greeted && matches!(why, Err(Fault::LinkFailed)),
+        Taking::Leaves(fault) => {
+            let number = match why {
+                Ok(()) => 0,
+                Err(fault) => fault.number(),
+            };
+            number == *fault && (was_greeted || is_begun)
+        }
+        Taking::Follows(sight) => was_greeted && why.is_ok() && peer.has_followed(sight),
+        _ => was_greeted && why.is_ok(),
+    }
+}
+
 impl Door for Queue {
     ghost use Rattle.std.specs.Prelude.{⊤};
 
@@ -67,23 +87,9 @@ impl Door for Queue {
     }
 
     fn left(&mut self, viewer: Wire, _answers: u64, why: Result<(), Fault>) {
-        let heard = viewer.peer.heard.as_slice();
         let greeting = self.board.view.greeting;
-        let was_greeted = heard.starts_with(greeting);
-        self.board.check(match &viewer.peer.script.taking {
-            Taking::Breaks => was_greeted && matches!(why, Err(Fault::LinkFailed)),
-            Taking::Leaves(fault) => {
-                let number = match &why {
-                    Ok(()) => 0,
-                    Err(fault) => fault.number(),
-                };
-                number == *fault && (was_greeted || greeting.starts_with(heard))
-            }
-            Taking::Follows(sight) => {
-                was_greeted && why.is_ok() && viewer.peer.has_followed(sight)
-            }
-            _ => was_greeted && why.is_ok(),
-        });
+        let is_right = goes_right(&viewer.peer, greeting, &why);
+        self.board.check(is_right);
         self.board.leave(self.place);
     }
 }

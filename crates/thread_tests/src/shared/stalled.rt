@@ -73,7 +73,8 @@ fn stalls<J: Naming + Publishes, R: Wait + Drop>(
     let Some(watcher) = watchers.get_mut(0) else {
         return Ok(false);
     };
-    let cut = watcher.cut(&ALL, &second.have, &mut second.cut);
+    let room = &mut second;
+    let cut = watcher.cut(&ALL, &room.have, &mut room.cut);
     right = right && matches!(cut, Ok(number) if number == 102) && second.shows(102);
     right = puts_one(alloc, publisher, 103, false)? && right;
     Ok(right && show_their_own(rooms.as_slice()))
