@@ -9,7 +9,7 @@ use Rattle.raster.proofs.Spellings.{Each}
 use Rattle.joined_runs.specs.declared.runs.Runs.TheVariants.{Joined}
 use Rattle.joined_runs.specs.Joined.{runs_over, written}
 use Rattle.joined_runs.specs.Found as whole
-use Rattle.joined_runs.proofs.RunsOver.{each_run_over}
+use Rattle.raster.proofs.Runs.{each_run_over}
 use Rattle.joined_runs.proofs.WrittenParts.{written_append}
 use Rattle.hextile_codec.specs.declared.runs.Run.{Run}
 use Rattle.hextile_codec.specs.Kinds.{IsRowRun, subrect_of}

@@ -7,7 +7,7 @@ use Rattle.std.proofs.lemmas.List.{length-take, length-drop, get_or-take, get_or
 use Rattle.std.proofs.lemmas.List.Elements.{filter-append}
 use Rattle.std.proofs.lemmas.List.Folds.{list_all_at}
 use Rattle.joined_runs.specs.Joined.{count_of, is_most_frequent, most_frequent}
-use Rattle.joined_runs.proofs.Counts.{filter_few}
+use Rattle.raster.proofs.Runs.{filter_few}
 use Rattle.joined_runs.proofs.MostFrequent.{all_from}
 use Rattle.raster.proofs.Spellings.{Each}
 

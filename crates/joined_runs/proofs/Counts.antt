@@ -1,39 +1,20 @@
 -- How many joined runs there are: no more than runs of rows, and fewer than positions. Their number is said in a byte,
 -- or in four.
-use Rattle.std.proofs.Common.{◌≡◌, ℕ, zero, suc, Bool, true, false, cond, List, [], ◌∷◌, ◌++◌, length, map, refl, sym, ap, ◌∙◌, ◌+◌, ◌-◌, ◌*◌, ◌<◌, ◌≤◌, arith, inl, inr, length-append, not}
-use Rattle.std.specs.Prelude.{filter, ◌⊎◌, ◌==◌}
+use Rattle.std.proofs.Common.{◌≡◌, ℕ, zero, suc, Bool, true, false, cond, List, ◌∷◌, length, refl, sym, ap, ◌∙◌, ◌+◌, ◌*◌, ◌<◌, ◌≤◌, arith, inl, inr, length-append, not}
+use Rattle.std.specs.Prelude.{filter}
 use Rattle.std.specs.List.{flat_map, range_with_len}
 use Rattle.std.proofs.lemmas.Bool.{cases_eq, eq-eqb}
 use Rattle.std.proofs.lemmas.List.{length-map}
 use Rattle.std.proofs.lemmas.List.FromFn.{length-range_with_len}
 use Rattle.raster.specs.Screen.{Canvas}
-use Rattle.raster.specs.Encoding.{Subrect, begins_run, run_from, runs_of_row, runs}
+use Rattle.raster.specs.Encoding.{Subrect, begins_run, run_from, runs_of_row}
+use Rattle.raster.proofs.Runs.{filter_few, row_count, rows_count}
 use Rattle.joined_runs.specs.Joined.{runs_over, is_below, with_below, joined_runs}
-
-cond_more : {A : Type 0} (b : Bool) (x : A) (xs : List A) (n : ℕ) → length xs ≤ n → length (cond b (x ∷ xs) xs) ≤ suc n
-cond_more true x xs n h = omega arith
-cond_more false x xs n h = omega arith
-
-pub filter_few : {A : Type 0} (test : A → Bool) (xs : List A) → length (filter test xs) ≤ length xs
-filter_few test [] = omega arith
-filter_few test (x ∷ xs) = cond_more (test x) x (filter test xs) (length xs) (filter_few test xs)
 
 pub joined_few : (canvas : Canvas) (background w h : ℕ) → length (joined_runs canvas background w h) ≤ length (runs_over canvas background w h)
 joined_few canvas background w h =
     let all : List Subrect = runs_over canvas background w h in
     omega (arith, length-map (filter (λ run. not (is_below canvas w run)) all) (with_below canvas w h), filter_few (λ run. not (is_below canvas w run)) all)
-
-row_count : (canvas : Canvas) (background w y : ℕ) → length (runs_of_row canvas background w y) ≤ w
-row_count canvas background w y =
-    let begin : List ℕ = filter (begins_run canvas background y) (range_with_len 0 w) in
-    omega (arith, length-map begin (run_from canvas w y), filter_few (begins_run canvas background y) (range_with_len 0 w), length-range_with_len 0 w)
-
-rows_count : (canvas : Canvas) (background w a n : ℕ) → length (flat_map (runs_of_row canvas background w) (range_with_len a n)) ≤ n * w
-rows_count canvas background w a zero = omega arith
-rows_count canvas background w a (suc n) =
-    let t = rows_count canvas background w (a + 1) n in
-    let l = length-append (runs_of_row canvas background w a) (flat_map (runs_of_row canvas background w) (range_with_len (a + 1) n)) in
-    omega (arith, t, l, row_count canvas background w a)
 
 pub few_joined : (canvas : Canvas) (background w h : ℕ) → length (joined_runs canvas background w h) ≤ h * w
 few_joined canvas background w h = omega (arith, joined_few canvas background w h, rows_count canvas background w 0 h)

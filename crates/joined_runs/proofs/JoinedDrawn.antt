@@ -1,16 +1,15 @@
 -- The joined runs, drawn over their background, give the canvas back. So they may be written in place of the runs of
 -- rows, and nothing that reads them has to know.
-use Rattle.std.proofs.Common.{◌≡◌, ℕ, zero, suc, Bool, true, false, ◌||◌, ◌&&◌, not, List, length, refl, sym, ap, ◌∙◌, ◌+◌, ◌-◌, ◌*◌, ◌<◌, ◌≤◌, arith, inl, inr}
-use Rattle.std.specs.Prelude.{filter, ◌⊎◌, ◌==◌, take_while}
-use Rattle.std.specs.List.{flat_map, range_with_len}
-use Rattle.std.proofs.lemmas.Bool.{cases_lt, cases_eq, eq-eqb, ne_eqb, eqb-true, and_parts, and_from, cases_Bool}
-use Rattle.raster.specs.Screen.{Canvas, LooksLike, holds}
-use Rattle.raster.specs.Encoding.{Subrect, drawn, begins_run, run_from, runs_of_row}
-use Rattle.raster.proofs.Spellings.{Each, each_map, each_filter, each_weaker}
-use Rattle.raster.proofs.Runs.{SomeOf, Agrees, HoldsHere, drawn_agrees, front_passes, front_within, front_reaches, run_agrees, run_within, run_some}
+use Rattle.std.proofs.Common.{◌≡◌, ℕ, zero, suc, Bool, true, false, ◌||◌, ◌&&◌, not, List, length, refl, sym, ap, ◌∙◌, ◌+◌, ◌-◌, ◌<◌, ◌≤◌, arith, inl, inr}
+use Rattle.std.specs.Prelude.{filter, ◌==◌, take_while}
+use Rattle.std.specs.List.{range_with_len}
+use Rattle.std.proofs.lemmas.Bool.{cases_lt, cases_eq, eq-eqb, eqb-true, and_parts, and_from, cases_Bool}
+use Rattle.raster.specs.Screen.{Canvas, LooksLike}
+use Rattle.raster.specs.Encoding.{Subrect, drawn, begins_run, run_from}
+use Rattle.raster.proofs.Spellings.{Each, each_map, each_filter}
+use Rattle.raster.proofs.Places.{Has, has_holds, holds_has}
+use Rattle.raster.proofs.Runs.{SomeOf, some_map, some_filter, some_weaker, Agrees, HoldsHere, drawn_agrees, front_passes, front_within, front_reaches, run_agrees, started, run_reaches, each_run_over, some_run_over}
 use Rattle.joined_runs.specs.Joined.{runs_over, stands_in, is_below, with_below, joined_runs}
-use Rattle.joined_runs.proofs.SomeOf.{some_map, some_filter, some_weaker}
-use Rattle.joined_runs.proofs.RunsOver.{each_run_over, some_run_over, Starts, started, run_reaches, holds_in, IsHeld, held_in}
 
 -- What a row has where a run stands in it too.
 pub record StandsIn (canvas : Canvas) (w : ℕ) (run : Subrect) (y : ℕ) : Type 0 where
@@ -38,12 +37,12 @@ module _ (canvas : Canvas) (background w h : ℕ) where
 
   one_row : (x0 y0 x y : ℕ) → x0 ≤ x → x < x0 + (run_from canvas w y0 x0).area.w → y ≡ y0 → canvas x0 y0 ≡ canvas x y
   one_row x0 y0 x y lo hi e =
-      run_agrees canvas w y0 x0 x y (holds_in x0 y0 (run_from canvas w y0 x0).area.w 1 x y lo hi (omega (arith, e)) (omega (arith, e)))
+      run_agrees canvas w y0 x0 x y (holds_has (run_from canvas w y0 x0).area x y (record { left = lo; right = hi; top = omega (arith, e); bottom = omega (arith, e) }))
 
   pub joined_agrees : (x0 y0 x y : ℕ) → Agrees canvas x y (with_below canvas w h (run_from canvas w y0 x0))
   joined_agrees x0 y0 x y e =
       let run : Subrect = run_from canvas w y0 x0 in
-      let in_it : IsHeld x0 y0 run.area.w (1 + below run) x y = held_in x0 y0 run.area.w (1 + below run) x y e in
+      let in_it : Has (with_below canvas w h run).area x y = has_holds (with_below canvas w h run).area x y e in
       elim (cases_eq y y0) [
         | inl first ↦ one_row x0 y0 x y in_it.left in_it.right first
         | inr lower ↦
@@ -133,7 +132,7 @@ module _ (canvas : Canvas) (background w h : ℕ) where
       let right : x < t.0 + other.area.w = run_reaches canvas w y x t.0 background lx t.1 in
       some_map (HoldsHere x y) (with_below canvas w h) tops
       (some_weaker (Reaches other y) (λ run. HoldsHere x y (with_below canvas w h run)) tops (λ run r.
-      holds_in run.area.x run.area.y run.area.w (1 + below run) x y (omega (arith, r.x, t.1.before)) (omega (arith, r.x, r.width, right)) r.above (reaches_down other run y ly r))
+      holds_has (with_below canvas w h run).area x y (record { left = omega (arith, r.x, t.1.before); right = omega (arith, r.x, r.width, right); top = r.above; bottom = reaches_down other run y ly r }))
       (reached t.0 y (omega (arith, t.1.before)) ly t.1.begins))
 
   -- ---- all of them

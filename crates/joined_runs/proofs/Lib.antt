@@ -1,8 +1,5 @@
-pub mod SomeOf
-pub mod RunsOver
 pub mod JoinedDrawn
 pub mod MostFrequent
-pub mod DrawnSpelled
 pub mod Counts
 pub mod Spelled
 pub mod Shorter

@@ -1,13 +1,12 @@
 -- The most frequent value stands in the list, unless that is empty, and none stands there more often. So a tile's
 -- background is one of its pixels.
-use Rattle.std.proofs.Common.{◌≡◌, ℕ, zero, suc, Bool, true, false, cond, List, [], ◌∷◌, length, get_or, refl, sym, ap, ◌∙◌, ◌+◌, ◌<◌, ◌≤◌, arith, inl, inr}
-use Rattle.std.specs.Prelude.{filter, ◌⊎◌, ◌==◌, nat_le}
+use Rattle.std.proofs.Common.{◌≡◌, ℕ, Bool, true, false, cond, List, [], ◌∷◌, length, get_or, refl, sym, ◌∙◌, ◌<◌, ◌≤◌, arith, inl, inr}
+use Rattle.std.specs.Prelude.{filter, ◌⊎◌, nat_le}
 use Rattle.std.specs.List.{list_all}
 use Rattle.std.proofs.lemmas.Bool.{cases_lt, and_from, and_parts, le-leb}
 use Rattle.raster.proofs.Spellings.{Each, each_weaker}
-use Rattle.raster.proofs.Runs.{SomeOf}
+use Rattle.raster.proofs.Runs.{SomeOf, some_weaker}
 use Rattle.joined_runs.specs.Joined.{count_of, is_most_frequent, most_frequent}
-use Rattle.joined_runs.proofs.SomeOf.{some_weaker}
 
 -- ---- the first that passes a test
 

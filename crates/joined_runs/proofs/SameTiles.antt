@@ -1,15 +1,14 @@
 -- Tile by tile the form of the runs of rows is that of `raster`. `encode_as` writes it so.
-use Rattle.std.proofs.Common.{◌≡◌, ℕ, zero, suc, List, [], ◌++◌, length, refl, ap, ◌+◌, ◌*◌, ◌/◌, ◌%◌, ◌<◌, ◌≤◌, arith}
+use Rattle.std.proofs.Common.{◌≡◌, ℕ, zero, suc, List, ◌++◌, length, refl, ap, ◌+◌, ◌*◌, ◌/◌, ◌%◌, ◌<◌, ◌≤◌, arith}
 use Rattle.std.proofs.Math.Nat.{mul-le-mul}
 use Rattle.std.proofs.lemmas.List.FromFn.{length-map-range_with_len}
 use Rattle.pixel_format.specs.PixelFormat.{PixelFormat}
 use Rattle.raster.specs.Screen.{Canvas, part_of, tile_rect, values_of}
-use Rattle.raster.specs.Encoding.{Subrect, Carried, tile_bytes, tile_bytes_from}
-use Rattle.raster.proofs.Spellings.{Each}
+use Rattle.raster.specs.Encoding.{Carried, tile_bytes, tile_bytes_from}
 use Rattle.raster.proofs.Values.{each_value}
 use Rattle.joined_runs.specs.declared.runs.Runs.{Runs}
 use Rattle.joined_runs.specs.declared.runs.Runs.TheVariants.{OfRows, Joined}
-use Rattle.joined_runs.specs.Joined.{background_of, subrects_of, runs_over, joined_runs, tiles_from_as}
+use Rattle.joined_runs.specs.Joined.{background_of, subrects_of, joined_runs, tiles_from_as}
 use Rattle.raster.proofs.TileSpelled.{few_runs}
 use Rattle.joined_runs.proofs.MostFrequent.{most_holds}
 use Rattle.joined_runs.proofs.Counts.{fewer_joined}

@@ -1,6 +1,6 @@
 -- The joined form has at most the bytes of the runs of rows. The law `joined_is_shorter` says so.
-use Rattle.std.proofs.Common.{◌≡◌, ℕ, Bool, true, false, cond, List, [], ◌∷◌, ◌++◌, length, refl, sym, ap, ◌∙◌, ◌+◌, ◌*◌, ◌<◌, ◌≤◌, arith, inl, inr, length-append}
-use Rattle.std.specs.Prelude.{◌⊎◌, nat_le}
+use Rattle.std.proofs.Common.{◌≡◌, ℕ, Bool, true, false, cond, List, [], ◌∷◌, ◌++◌, length, refl, sym, ◌∙◌, ◌+◌, ◌*◌, ◌≤◌, arith, inl, inr, length-append}
+use Rattle.std.specs.Prelude.{nat_le}
 use Rattle.std.specs.List.{flat_map}
 use Rattle.std.specs.Int.{w16, w32, to_be_bytes}
 use Rattle.std.proofs.lemmas.Bool.{cases_lt, lt-leb}
@@ -11,7 +11,6 @@ use Rattle.raster.specs.declared.encoding.Encoding.{Encoding}
 use Rattle.raster.specs.declared.encoding.Encoding.TheVariants.{Raw, Rre, Hextile}
 use Rattle.raster.specs.Screen.{Canvas, value_at}
 use Rattle.raster.specs.Encoding.{Subrect, runs, rre_subrect_bytes, form}
-use Rattle.joined_runs.specs.declared.runs.Runs.{Runs}
 use Rattle.joined_runs.specs.declared.runs.Runs.TheVariants.{Joined}
 use Rattle.joined_runs.specs.Joined.{joined_runs, hextile_bytes_as, shorter, form_of}
 use Rattle.joined_runs.proofs.Counts.{joined_few}
