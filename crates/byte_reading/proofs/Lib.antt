@@ -1,3 +1,4 @@
 pub mod InOrder
 pub mod ReadingLaws
+pub mod Heads
 mod Vectors

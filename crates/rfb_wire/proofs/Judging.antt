@@ -9,7 +9,7 @@ use Rattle.rfb_wire.specs.Joining.{said, IsJudged}
 use Rattle.rfb_wire.specs.declared.host_talk.Stage.{Stage}
 use Rattle.rfb_wire.specs.declared.host_talk.Stage.TheVariants as at
 use Rattle.rfb_wire.specs.declared.host_talk.HostTalk.{HostTalk}
-use Rattle.rfb_wire.proofs.Heads.{head_full}
+use Rattle.byte_reading.proofs.Heads.{head_full}
 use Rattle.rfb_wire.proofs.Joinings.{version_judged, types_judged, reason_judged, size_judged, name_judged, wide, high}
 
 -- It is enough to say it at the stage that it is.

@@ -2,7 +2,7 @@
 use Rattle.std.proofs.Common.{◌≡◌, ℕ, ◌<◌, true, List, length, None, refl}
 use Rattle.byte_reading.specs.Reading.{Reading, Done, Faulty, Want, ◌>>=◌, step, after, bytes, whole_of, fault_of, wants_more}
 use Rattle.byte_reading.proofs.ReadingLaws.{none_whole, wants_no_fault}
-use Rattle.rfb_wire.proofs.Heads.{head_wants}
+use Rattle.byte_reading.proofs.Heads.{head_wants}
 
 -- Another byte is wanted, and nothing is whole or at fault.
 pub record IsOpen {A : Type 0} (r : Reading A) : Type 0 where

@@ -9,7 +9,7 @@ use Rattle.std.proofs.lemmas.List.{take_all, length-drop, length-take}
 use Rattle.pixel_format.specs.declared.fault.Fault.TheVariants.{BadFormat}
 use Rattle.byte_reading.specs.Reading.{Reading, Done, Faulty, ◌>>=◌, after, taken, bytes, padding, times, u32, wants_more, unless}
 use Rattle.byte_reading.proofs.ReadingLaws.{bind_assoc, after-append}
-use Rattle.rfb_wire.proofs.Heads.{head_wants, head_full, head_takes}
+use Rattle.byte_reading.proofs.Heads.{head_wants, head_full, head_takes}
 use Rattle.rfb_wire.specs.declared.client_reader.found.Found.{Found}
 use Rattle.rfb_wire.specs.declared.client_reader.part.Part.{Part}
 use Rattle.rfb_wire.specs.declared.client_reader.part.Part.TheVariants as part

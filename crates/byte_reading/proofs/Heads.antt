@@ -1,5 +1,5 @@
--- Forms that begin with this many bytes, all of which are judged at the last. Readers wait for them, and judge them
--- together.
+-- Forms that begin with a given number of bytes, which are judged together once all of them have come: the head of a
+-- message, a block of addresses. Readers wait for them.
 use Rattle.std.proofs.Common.{◌≡◌, ℕ, zero, suc, ◌+◌, ◌<◌, ◌≤◌, true, List, [], ◌∷◌, length, refl, ap, ◌∙◌, arith}
 use Rattle.byte_reading.specs.Reading.{Reading, Done, ◌>>=◌, step, after, taken, bytes, wants_more}
 use Rattle.byte_reading.proofs.ReadingLaws.{bind_assoc, taken-nil}
