@@ -12,10 +12,10 @@ use Rattle.raster.specs.Update.{NumberedText, Paint, Put, Update, Paints, Bell, 
 use Rattle.raster.proofs.Places.{Has, common_has, has_holds, holds_has, meets_at, tile_of, tile_of_has, tile_of_there}
 use Rattle.tiles.specs.Grid.{IsCaughtUp, IsTouched, Stamps, is_lacked, is_newer, stamp_at}
 use Rattle.tiles.specs.Touched.{last_touch, last_touch_from, touches}
-use Rattle.tiles.specs.Walk.{IsDone, IsNextRun, IsSameWalk, Walking, tiles_rect}
+use Rattle.tiles.specs.Walk.{IsDone, IsNextRun, Walking, tiles_rect}
 use Rattle.tiles.specs.declared.walk.Run.{Run}
-use Rattle.tiles.proofs.FoundRuns.{IsPlace, place_of}
 use Rattle.tiles.proofs.Ranges.{same_test}
+use Rattle.tiles.proofs.RunTiles.{lay_in, tile_in_run, walk_at}
 use Rattle.tiles.proofs.Touching.{or_left, or_right}
 use Rattle.tiles.proofs.Untouched.{due_where_touched, untouched_stays}
 use Rattle.painter.specs.Kept.{is_later}
@@ -26,7 +26,7 @@ use Rattle.painter.proofs.TilePuts.{its_tile, meets_common}
 
 -- A walk over the whole screen of a grid, at this tile.
 abbrev pub on_screen : Stamps → ℕ → Walking
-on_screen grid next = record { width = grid.width; height = grid.height; area = whole_screen grid.width grid.height; next = next }
+on_screen grid next = walk_at grid.width grid.height (whole_screen grid.width grid.height) next
 
 -- Of the tiles before next those that are due were taken.
 abbrev pub HasTaken : Stamps → (ℕ → Bool) → List ℕ → List ℕ → ℕ → List ℕ → Type 0
@@ -34,32 +34,7 @@ HasTaken grid due newer old next new =
     (t x y : ℕ) → t < tile_count grid.width grid.height → Has (tile_rect grid.width grid.height t) x y
     → value_at grid.width new x y ≡ (if nat_lt t next && due t then value_at grid.width newer x y else value_at grid.width old x y)
 
--- ---- the walk
-
-pub goes_on : (grid : Stamps) (old new : Walking) → old ≡ on_screen grid old.next → IsSameWalk old new → new ≡ on_screen grid new.next
-goes_on grid old new is same =
-    let wide : new.width ≡ grid.width = same.width ∙ ap (λ (w : Walking). w.width) is in
-    let high : new.height ≡ grid.height = same.height ∙ ap (λ (w : Walking). w.height) is in
-    let on : new.area ≡ whole_screen grid.width grid.height = same.area ∙ ap (λ (w : Walking). w.area) is in
-    (λ i. record { width = wide i; height = high i; area = on i; next = new.next })
-
 -- ---- a run more
-
--- A position of one of a run's tiles lies in the run.
-tile_in_run : (w h first count t x y : ℕ) → first % tiles_across w + count ≤ tiles_across w → first ≤ t → t < first + count → Has (tile_rect w h t) x y → Has (tiles_rect w first count) x y
-tile_in_run w h first count t x y in_row lo hi has =
-    let across : ℕ = tiles_across w in
-    let row : ℕ = first / across in
-    let place : row * across + first % across ≡ first = div-add-mod' first across in
-    let is : IsPlace row (t - row * across) across t = place_of row across t (omega (arith, place)) (omega (arith, place, in_row)) in
-    let column : t % across ≡ t - row * across = is.column_is in
-    let line : t / across ≡ row = is.row_is in
-    record {
-      left = (let e = has.left in omega (arith, e, column, place));
-      right = (let e = has.right in omega (arith, e, column, place));
-      top = (let e = has.top in omega (arith, e, line));
-      bottom = (let e = has.bottom in omega (arith, e, line));
-    }
 
 -- A tile of which a position lies in a run is one of the run's.
 run_has_tile : (w h first count t x y : ℕ) → Has (tile_rect w h t) x y → Has (tiles_rect w first count) x y → (first ≤ t) × (t < first + count)
@@ -75,12 +50,6 @@ run_has_tile w h first count t x y tile run =
 
 common_right : (r s : Rect) (x y : ℕ) → Has (common r s) x y → Has s x y
 common_right r s x y p = record { left = omega (arith, p.left); right = omega (arith, p.left, p.right); top = omega (arith, p.top); bottom = omega (arith, p.top, p.bottom) }
-
-lay_in : (r : Rect) (w : ℕ) (over under : List ℕ) (x y : ℕ) → Has r x y → lay r (part_of r (value_at w over)) (value_at w under) x y ≡ value_at w over x y
-lay_in r w over under x y has =
-    let across : r.x + (x - r.x) ≡ x = omega (arith, has.left) in
-    let down : r.y + (y - r.y) ≡ y = omega (arith, has.top) in
-    ap (λ b. if b then value_at w over (r.x + (x - r.x)) (r.y + (y - r.y)) else value_at w under x y) (holds_has r x y has) ∙ (λ i. value_at w over (across i) (down i))
 
 lay_out : (r : Rect) (w : ℕ) (over under : List ℕ) (x y : ℕ) → holds r x y ≡ false → lay r (part_of r (value_at w over)) (value_at w under) x y ≡ value_at w under x y
 lay_out r w over under x y out = ap (λ b. if b then value_at w over (r.x + (x - r.x)) (r.y + (y - r.y)) else value_at w under x y) out

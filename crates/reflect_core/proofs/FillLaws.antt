@@ -1,6 +1,6 @@
 -- How far a cut is filled from a board, run by run, and that it is a cut of the board's updates in the end. `Cut::fill`
 -- marks the due tiles, and shares the board's colours or copies theirs.
-use Rattle.std.proofs.Common.{◌≡◌, ℕ, suc, ◌+◌, ◌-◌, ◌*◌, ◌/◌, ◌%◌, ◌<◌, ◌≤◌, Bool, true, false, List, [], ◌∷◌, length, get_or, take, Some, refl, ap, sym, ◌∙◌, subst, arith, inl, inr}
+use Rattle.std.proofs.Common.{◌≡◌, ℕ, suc, ◌+◌, ◌-◌, ◌<◌, ◌≤◌, Bool, true, false, List, [], ◌∷◌, length, get_or, take, Some, refl, ap, sym, ◌∙◌, subst, arith, inl, inr}
 use Rattle.std.specs.Prelude.{◌&&◌, ◌||◌, not, is_some, slice_get, if◌then◌else◌}
 use Rattle.std.specs.List.{list_all, range_with_len}
 use Rattle.std.proofs.lemmas.Bool.{cases_Bool, cases_lt}
@@ -8,19 +8,18 @@ use Rattle.std.proofs.lemmas.List.{take_all}
 use Rattle.std.proofs.lemmas.List.Folds.{list_all_at}
 use Rattle.std.proofs.lemmas.List.Sums.{list_all-from_AllPass}
 use Rattle.std.proofs.lemmas.List.FromFn.{length-range_with_len, get_or-range_with_len}
-use Rattle.std.proofs.lemmas.Nat.{div-add-mod'}
 use Rattle.painter.specs.Board.{BoardStands, Posted}
 use Rattle.raster.specs.declared.rect.Rect.{Rect}
-use Rattle.raster.specs.Screen.{IsWithin, LooksLike, holds, lay, meets, part_of, tile_count, tile_rect, tiles_across, value_at}
+use Rattle.raster.specs.Screen.{IsWithin, LooksLike, holds, lay, meets, part_of, tile_count, tile_rect, value_at}
 use Rattle.raster.specs.Update.{Update, screen, bells, last_text}
-use Rattle.raster.proofs.Places.{Has, common_has, has_holds, holds_has}
+use Rattle.raster.proofs.Places.{Has, common_has, has_holds}
 use Rattle.tiles.specs.Grid.{GridStands, Stamps, due_at}
 use Rattle.tiles.specs.Have.{SentTiles, sent_at}
 use Rattle.tiles.specs.Touched.{is_due_since}
-use Rattle.tiles.specs.Walk.{IsDone, IsNextRun, IsSameWalk, Walking, tiles_rect}
+use Rattle.tiles.specs.Walk.{IsDone, IsNextRun, Walking, tiles_rect}
 use Rattle.tiles.specs.declared.walk.Run.{Run}
-use Rattle.tiles.proofs.FoundRuns.{IsPlace, place_of}
 use Rattle.tiles.proofs.GridLaws.{due_stands}
+use Rattle.tiles.proofs.RunTiles.{lay_in, tile_in_run, walk_at}
 use Rattle.reflect_core.specs.declared.cut.Cut.{Cut}
 use Rattle.reflect_core.specs.Fill.{IsWhetherSent, TookRun}
 use Rattle.reflect_core.specs.Source.{IsCutOf, due_in, was_sent_if_due}
@@ -31,7 +30,7 @@ lacks grid have area t = due_at grid have t && meets area (tile_rect have.width 
 
 -- A walk over the runs of the area, at this tile.
 abbrev pub at_tile : SentTiles → Rect → ℕ → Walking
-at_tile have area next = record { width = have.width; height = have.height; area = area; next = next }
+at_tile have area next = walk_at have.width have.height area next
 
 -- Each of the tiles before next that a test lets through was sent, or one of all wasn't.
 abbrev pub AllSent : (ℕ → Bool) → SentTiles → ℕ → Bool → Type 0
@@ -49,14 +48,7 @@ pub record IsFilled (grid : Stamps) (colours : List ℕ) (have : SentTiles) (are
 
 -- ---- the walk
 
-pub walk_goes_on : (have : SentTiles) (area : Rect) (old new : Walking) → old ≡ at_tile have area old.next → IsSameWalk old new → new ≡ at_tile have area new.next
-walk_goes_on have area old new is same =
-    let wide : new.width ≡ have.width = same.width ∙ ap (λ (w : Walking). w.width) is in
-    let high : new.height ≡ have.height = same.height ∙ ap (λ (w : Walking). w.height) is in
-    let on : new.area ≡ area = same.area ∙ ap (λ (w : Walking). w.area) is in
-    (λ i. record { width = wide i; height = high i; area = on i; next = new.next })
-
--- The same of what they are.
+-- A run is the next one, or none is left, of the same walk, by the same stamps and the same tiles.
 pub next_of : (walk walk' : Walking) (grid grid' : Stamps) (have have' : SentTiles) (run : Run) → walk ≡ walk' → grid ≡ grid' → have ≡ have' → IsNextRun walk (due_at grid have) run → IsNextRun walk' (due_at grid' have') run
 next_of walk walk' grid grid' have have' run p q r is =
     subst (λ v. IsNextRun walk' (due_at grid' v) run) r (subst (λ g. IsNextRun walk' (due_at g have) run) q (subst (λ w. IsNextRun w (due_at grid have) run) p is))
@@ -71,22 +63,6 @@ not_both false e f = absurd cc
 
 -- ---- a run more
 
--- A position of one of a run's tiles lies in the run.
-tile_in_run : (w h first count t x y : ℕ) → 0 < tiles_across w → first % tiles_across w + count ≤ tiles_across w → first ≤ t → t < first + count → Has (tile_rect w h t) x y → Has (tiles_rect w first count) x y
-tile_in_run w h first count t x y some in_row lo hi has =
-    let across : ℕ = tiles_across w in
-    let row : ℕ = first / across in
-    let place : row * across + first % across ≡ first = div-add-mod' first across in
-    let is : IsPlace row (t - row * across) across t = place_of row across t (omega (arith, place)) (omega (arith, place, in_row)) in
-    let column : t % across ≡ t - row * across = is.column_is in
-    let line : t / across ≡ row = is.row_is in
-    record {
-      left = (let e = has.left in omega (arith, e, column, place));
-      right = (let e = has.right in omega (arith, e, column, place));
-      top = (let e = has.top in omega (arith, e, line));
-      bottom = (let e = has.bottom in omega (arith, e, line));
-    }
-
 all_sent_more : (grid : Stamps) (have : SentTiles) (area : Rect) (next : ℕ) (run : Run) (all sent : Bool) → IsNextRun (at_tile have area next) (due_at grid have) run
     → IsWhetherSent have run.first (run.first + run.count) sent → AllSent (lacks grid have area) have next all → AllSent (lacks grid have area) have (run.first + run.count) (all && sent)
 all_sent_more grid have area next run true true is whether before = λ t lt due.
@@ -100,12 +76,6 @@ all_sent_more grid have area next run true true is whether before = λ t lt due.
 all_sent_more grid have area next run true false is whether before = (whether.0, omega (arith, whether.2, is.there), is.taken whether.0 whether.1 whether.2, whether.3)
 all_sent_more grid have area next run false sent is whether before = before
 
-lay_in : (r : Rect) (w : ℕ) (over under : List ℕ) (x y : ℕ) → Has r x y → lay r (part_of r (value_at w over)) (value_at w under) x y ≡ value_at w over x y
-lay_in r w over under x y has =
-    let across : r.x + (x - r.x) ≡ x = omega (arith, has.left) in
-    let down : r.y + (y - r.y) ≡ y = omega (arith, has.top) in
-    ap (λ b. if b then value_at w over (r.x + (x - r.x)) (r.y + (y - r.y)) else value_at w under x y) (holds_has r x y has) ∙ (λ i. value_at w over (across i) (down i))
-
 lay_kept : (r : Rect) (w : ℕ) (over under : List ℕ) (x y : ℕ) → value_at w under x y ≡ value_at w over x y → lay r (part_of r (value_at w over)) (value_at w under) x y ≡ value_at w over x y
 lay_kept r w over under x y same = elim (cases_Bool (holds r x y)) [
   | inl inside ↦ lay_in r w over under x y (has_holds r x y inside)
@@ -113,9 +83,9 @@ lay_kept r w over under x y same = elim (cases_Bool (holds r x y)) [
 ]
 
 -- What was filled before the tile next, and then took the run that is next, is filled before the tile after that.
-pub filled_more : (grid : Stamps) (colours : List ℕ) (have : SentTiles) (area : Rect) (next : ℕ) (run : Run) (old new : Cut) → 0 < tiles_across have.width → IsWithin area have.width have.height
+pub filled_more : (grid : Stamps) (colours : List ℕ) (have : SentTiles) (area : Rect) (next : ℕ) (run : Run) (old new : Cut) → IsWithin area have.width have.height
     → IsFilled grid colours have area next old → IsNextRun (at_tile have area next) (due_at grid have) run → TookRun colours have run old new → IsFilled grid colours have area (run.first + run.count) new
-filled_more grid colours have area next run old new some on was is took =
+filled_more grid colours have area next run old new on was is took =
     record {
       width = took.width ∙ was.width;
       height = took.height ∙ was.height;
@@ -145,7 +115,7 @@ filled_more grid colours have area next run old new some on was is took =
         | inl before ↦ not_both (lacks grid have area t) due (is.skipped t from before)
         | inr inside ↦
             lay_in run.area old.width colours old.colours.items x y
-            (subst (λ (r : Rect). Has r x y) (sym is.area) (common_has area (tiles_rect have.width run.first run.count) x y in_area (tile_in_run have.width have.height run.first run.count t x y some is.row inside lt in_tile)))
+            (subst (λ (r : Rect). Has r x y) (sym is.area) (common_has area (tiles_rect have.width run.first run.count) x y in_area (tile_in_run have.width have.height run.first run.count t x y is.row inside lt in_tile)))
       ]
     ]
 

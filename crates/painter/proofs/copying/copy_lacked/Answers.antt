@@ -1,8 +1,9 @@
 use Rattle.std.proofs.Common.{◌≡◌, ℕ, ◌<◌, Bool, List, sym, subst, arith}
-use Rattle.raster.specs.Screen.{LooksLike, lay, part_of, value_at}
+use Rattle.raster.specs.Screen.{LooksLike, lay, part_of, value_at, whole_screen}
 use Rattle.tiles.specs.Grid.{is_lacked}
 use Rattle.tiles.specs.Walk.{IsDone, IsNextRun, Walking}
-use Rattle.painter.proofs.NewerLaws.{HasTaken, all_taken, goes_on, on_screen, taken_more}
+use Rattle.tiles.proofs.RunTiles.{walk_goes_on}
+use Rattle.painter.proofs.NewerLaws.{HasTaken, all_taken, on_screen, taken_more}
 use Rattle.painter.proofs.copying.copy_lacked.Goals as goal
 
 pub loop-run-preserved : goal.loop-run-preserved
@@ -21,7 +22,7 @@ loop-run-preserved c =
     subst (λ h. LooksLike grid.width h (value_at grid.width new) (lay run.area (part_of run.area (value_at grid.width from)) (value_at grid.width mid))) c.size-width.ensures.value.1
     (subst (λ w. LooksLike w c.size-width.result.1 (value_at w new) (lay run.area (part_of run.area (value_at w from)) (value_at w mid))) c.size-width.ensures.value.0 c.copy_area.ensures) in
     record {
-      walk = goes_on grid c.loop-run.walk c.next.new.self c.loop-run.invariant.walk c.in-Some.ensures.same;
+      walk = walk_goes_on grid.width grid.height (whole_screen grid.width grid.height) c.loop-run.walk c.next.new.self c.loop-run.invariant.walk c.in-Some.ensures.same;
       count = omega (arith, c.copy_area.auto.into, c.loop-run.invariant.count);
       taken = subst (λ k. HasTaken grid n from c.args.into.now k new) (sym c.in-Some.ensures.run.1)
           (taken_more grid n from c.args.into.now mid new c.loop-run.walk.next run some is shows c.loop-run.invariant.taken);

@@ -1,8 +1,9 @@
-use Rattle.std.proofs.Common.{◌≡◌, ℕ, ◌<◌, List, ap, sym, ◌∙◌, subst, arith}
-use Rattle.raster.specs.Screen.{IsWithin, tiles_across}
+use Rattle.std.proofs.Common.{◌≡◌, ℕ, List, ap, sym, ◌∙◌, subst, arith}
+use Rattle.raster.specs.Screen.{IsWithin}
 use Rattle.tiles.specs.Grid.{Stamps, due_at}
 use Rattle.tiles.specs.Walk.{IsDone, IsNextRun}
-use Rattle.reflect_core.proofs.FillLaws.{IsFilled, at_tile, cut_of_board, done_of, filled_more, next_of, walk_goes_on}
+use Rattle.tiles.proofs.RunTiles.{walk_goes_on}
+use Rattle.reflect_core.proofs.FillLaws.{IsFilled, at_tile, cut_of_board, done_of, filled_more, next_of}
 use Rattle.reflect_core.specs.Fill.{TookRun}
 use Rattle.reflect_core.proofs.cut.Cut.keep.Goals as goal
 
@@ -13,8 +14,6 @@ loop-run-preserved c =
     let area = c.args.area.now in
     let run = c.in-Some.run' in
     let was = c.loop-run.self in
-    let wide : was.width ≡ have.width = c.loop-run.invariant.filled.width in
-    let some : 0 < tiles_across have.width = omega (arith, wide, was.size.wide.0) in
     let on : IsWithin area have.width have.height = record {
       across = omega (arith, c.requires.within.across, c.requires.screen.0);
       down = omega (arith, c.requires.within.down, c.requires.screen.1);
@@ -23,11 +22,11 @@ loop-run-preserved c =
     next_of c.loop-run.walk (at_tile have area c.loop-run.walk.next) _ board.grid _ have run c.loop-run.invariant.walk (c.new-tiles.ensures.0 ∙ c.grid.ensures.value) c.new-tiles.ensures.1 c.in-Some.ensures.run.0 in
     let took : TookRun board.colours have run was c.take.new.self = subst (λ (l : List ℕ). TookRun l have run was c.take.new.self) c.colours.ensures.value c.take.ensures in
     record {
-      walk = walk_goes_on have area c.loop-run.walk c.next.new.self c.loop-run.invariant.walk c.in-Some.ensures.same;
+      walk = walk_goes_on have.width have.height area c.loop-run.walk c.next.new.self c.loop-run.invariant.walk c.in-Some.ensures.same;
       number = c.take.ensures.number ∙ c.loop-run.invariant.number;
       bells = c.take.ensures.bells ∙ c.loop-run.invariant.bells;
       text = c.take.ensures.text ∙ c.loop-run.invariant.text;
-      filled = subst (λ (n : ℕ). IsFilled board.grid board.colours have area n c.take.new.self) (sym c.in-Some.ensures.run.1) (filled_more board.grid board.colours have area c.loop-run.walk.next run was c.take.new.self some on c.loop-run.invariant.filled is took);
+      filled = subst (λ (n : ℕ). IsFilled board.grid board.colours have area n c.take.new.self) (sym c.in-Some.ensures.run.1) (filled_more board.grid board.colours have area c.loop-run.walk.next run was c.take.new.self on c.loop-run.invariant.filled is took);
       shown = λ shared. let before = sym c.take.ensures.is_shared ∙ shared in c.take.ensures.kept before ∙ c.loop-run.invariant.shown before;
     }
 
