@@ -1,5 +1,5 @@
 -- Where the link ends or fails no byte came, and it is the link that halts.
-use Rattle.std.proofs.Common.{◌≡◌, ◌≤◌, ◌<◌, ◌+◌, ◌⊎◌, ◌^◌, ℕ, min, ◌==◌, Bool, true, false, refl, sym, ◌∙◌, ap, subst, inl, inr, List, [], length, drop, arith, append-nil, true≢false}
+use Rattle.std.proofs.Common.{◌≡◌, ◌≤◌, ◌<◌, ◌+◌, ◌⊎◌, ◌^◌, ℕ, min, ◌==◌, false, refl, sym, ◌∙◌, ap, inl, inr, List, [], length, drop, arith, append-nil, true≢false}
 use Rattle.std.proofs.lemmas.Bool.{cases_lt}
 use Rattle.std.proofs.lemmas.List.{drop_all}
 use Rattle.link.specs.Links.{LinkState, HasRisen}
