@@ -14,6 +14,7 @@ use Rattle.tiles.specs.Grid.{IsCaughtUp, IsTouched, Stamps, is_lacked, is_newer,
 use Rattle.tiles.specs.Touched.{last_touch, last_touch_from, touches}
 use Rattle.tiles.specs.Walk.{IsDone, IsNextRun, Walking, tiles_rect}
 use Rattle.tiles.specs.declared.walk.Run.{Run}
+use Rattle.tiles.proofs.Brought.{has_common_right}
 use Rattle.tiles.proofs.Ranges.{same_test}
 use Rattle.tiles.proofs.RunTiles.{lay_in, tile_in_run, walk_at}
 use Rattle.tiles.proofs.Touching.{or_left, or_right}
@@ -47,9 +48,6 @@ run_has_tile w h first count t x y tile run =
     let low : first % across ≤ t % across = omega (arith, tile.right, run.left) in
     let high : t % across < first % across + count = omega (arith, tile.left, run.right) in
     (omega (arith, place, here, rows, low), omega (arith, place, here, rows, high))
-
-common_right : (r s : Rect) (x y : ℕ) → Has (common r s) x y → Has s x y
-common_right r s x y p = record { left = omega (arith, p.left); right = omega (arith, p.left, p.right); top = omega (arith, p.top); bottom = omega (arith, p.top, p.bottom) }
 
 lay_out : (r : Rect) (w : ℕ) (over under : List ℕ) (x y : ℕ) → holds r x y ≡ false → lay r (part_of r (value_at w over)) (value_at w under) x y ≡ value_at w under x y
 lay_out r w over under x y out = ap (λ b. if b then value_at w over (r.x + (x - r.x)) (r.y + (y - r.y)) else value_at w under x y) out
@@ -131,7 +129,7 @@ newer_inside : (grid : Stamps) (due : ℕ → Bool) (next : ℕ) (run : Run) (t 
     → (nat_lt t (run.first + run.count) && due t) ≡ true
 newer_inside grid due next run t x y is has inside =
     let in_run : Has (common (whole_screen grid.width grid.height) (tiles_rect grid.width run.first run.count)) x y = subst (λ (r : Rect). Has r x y) is.area (has_holds run.area x y inside) in
-    let near = run_has_tile grid.width grid.height run.first run.count t x y has (common_right (whole_screen grid.width grid.height) (tiles_rect grid.width run.first run.count) x y in_run) in
+    let near = run_has_tile grid.width grid.height run.first run.count t x y has (has_common_right (whole_screen grid.width grid.height) (tiles_rect grid.width run.first run.count) x y in_run) in
     both (nat_lt t (run.first + run.count)) (due t) (lt-ltb t (run.first + run.count) near.1)
     (left_of (due t) (meets (whole_screen grid.width grid.height) (tile_rect grid.width grid.height t)) (is.taken t near.0 near.1))
 

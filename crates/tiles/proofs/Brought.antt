@@ -57,7 +57,7 @@ some_due w h area due [] k t x y i p = absurd i
 some_due w h area due (r ∷ rs) k t x y (inl q) p = k.0 t x y q p
 some_due w h area due (r ∷ rs) k t x y (inr i) p = some_due w h area due rs k.1 t x y i p
 
-has_common_right : (r s : Rect) (x y : ℕ) → Has (common r s) x y → Has s x y
+pub has_common_right : (r s : Rect) (x y : ℕ) → Has (common r s) x y → Has s x y
 has_common_right r s x y p =
     record { left = omega (arith, p.left); right = omega (arith, p.left, p.right); top = omega (arith, p.top); bottom = omega (arith, p.top, p.bottom) }
 
