@@ -3,7 +3,7 @@
 use Rattle.std.proofs.Common.{◌≡◌, ℕ, zero, suc, ◌+◌, ◌-◌, ◌*◌, ◌/◌, ◌%◌, ◌<◌, ◌≤◌, ◌⊎◌, Bool, true, false, List, [], ◌∷◌, take, drop, Option, Some, None, refl, ap, sym, ◌∙◌, subst, arith, inl, inr}
 use Rattle.std.specs.Prelude.{◌&&◌, ◌||◌, not, nat_lt, if◌then◌else◌}
 use Rattle.std.specs.List.{list_any}
-use Rattle.std.proofs.lemmas.Bool.{cases_Bool, cases_lt, lt-ltb, le-ltb}
+use Rattle.std.proofs.lemmas.Bool.{and_left, and_parts, and_right, both_ways, cases_Bool, cases_lt, lt-ltb, le-ltb}
 use Rattle.std.proofs.lemmas.List.{drop_all, length-take}
 use Rattle.std.proofs.lemmas.Nat.{div-add-mod'}
 use Rattle.raster.specs.declared.rect.Rect.{Rect}
@@ -52,32 +52,16 @@ run_has_tile w h first count t x y tile run =
 lay_out : (r : Rect) (w : ℕ) (over under : List ℕ) (x y : ℕ) → holds r x y ≡ false → lay r (part_of r (value_at w over)) (value_at w under) x y ≡ value_at w under x y
 lay_out r w over under x y out = ap (λ b. if b then value_at w over (r.x + (x - r.x)) (r.y + (y - r.y)) else value_at w under x y) out
 
-not_both : {A : Type 0} (b : Bool) → b ≡ true → b ≡ false → A
-not_both true e f = absurd cc
-not_both false e f = absurd cc
-
 and_left_true : (a b : Bool) → a ≡ true → b ≡ (a && b)
 and_left_true true b e = refl
 and_left_true false b e = absurd cc
-
-and_left_false : (a b : Bool) → a ≡ false → (a && b) ≡ false
-and_left_false true b e = absurd cc
-and_left_false false b e = refl
-
-and_right_false : (a b : Bool) → b ≡ false → (a && b) ≡ false
-and_right_false true b e = e
-and_right_false false b e = refl
 
 both : (a b : Bool) → a ≡ true → b ≡ true → (a && b) ≡ true
 both true b e f = f
 both false b e f = absurd cc
 
-left_of : (a b : Bool) → (a && b) ≡ true → a ≡ true
-left_of true b e = refl
-left_of false b e = absurd cc
-
 first_of : (a b : Bool) → (a && b) ≡ false → b ≡ true → a ≡ false
-first_of true b e f = not_both b f e
+first_of true b e f = absurd (both_ways b e f)
 first_of false b e f = refl
 
 chosen : {A : Type 0} (b : Bool) (p q : A) → b ≡ true → (if b then p else q) ≡ p
@@ -96,7 +80,7 @@ same_as_before grid due next run t x y some is lt has outside =
       | inl before ↦
           sym (and_left_true (nat_lt t next) (due t) (lt-ltb t next before))
           ∙ and_left_true (nat_lt t (run.first + run.count)) (due t) (lt-ltb t (run.first + run.count) (omega (arith, before, is.from, is.some)))
-      | inr from ↦ and_left_false (nat_lt t next) (due t) (le-ltb t next from) ∙ sym (later from)
+      | inr from ↦ and_left (nat_lt t next) (due t) (le-ltb t next from) ∙ sym (later from)
     ]
   where
     lx : x < grid.width
@@ -116,11 +100,11 @@ same_as_before grid due next run t x y some is lt has outside =
     later : next ≤ t → (nat_lt t (run.first + run.count) && due t) ≡ false
     later from = elim (cases_lt t run.first) [
       | inl skipped ↦
-          and_right_false (nat_lt t (run.first + run.count)) (due t)
+          and_right (nat_lt t (run.first + run.count)) (due t)
           (first_of (due t) (meets (whole_screen grid.width grid.height) (tile_rect grid.width grid.height t)) (is.skipped t from skipped) (whole_meets grid.width grid.height t some lt))
       | inr begun ↦ elim (cases_lt t (run.first + run.count)) [
-        | inl inside ↦ not_both (holds run.area x y) (holds_has run.area x y (in_area begun inside)) outside
-        | inr behind ↦ and_left_false (nat_lt t (run.first + run.count)) (due t) (le-ltb t (run.first + run.count) behind)
+        | inl inside ↦ absurd (both_ways (holds run.area x y) outside (holds_has run.area x y (in_area begun inside)))
+        | inr behind ↦ and_left (nat_lt t (run.first + run.count)) (due t) (le-ltb t (run.first + run.count) behind)
       ]
     ]
 
@@ -131,7 +115,7 @@ newer_inside grid due next run t x y is has inside =
     let in_run : Has (common (whole_screen grid.width grid.height) (tiles_rect grid.width run.first run.count)) x y = subst (λ (r : Rect). Has r x y) is.area (has_holds run.area x y inside) in
     let near = run_has_tile grid.width grid.height run.first run.count t x y has (has_common_right (whole_screen grid.width grid.height) (tiles_rect grid.width run.first run.count) x y in_run) in
     both (nat_lt t (run.first + run.count)) (due t) (lt-ltb t (run.first + run.count) near.1)
-    (left_of (due t) (meets (whole_screen grid.width grid.height) (tile_rect grid.width grid.height t)) (is.taken t near.0 near.1))
+    (and_parts (due t) (meets (whole_screen grid.width grid.height) (tile_rect grid.width grid.height t)) (is.taken t near.0 near.1)).0
 
 -- What was taken before the tile next, and then the run that is next, is all before the tile after that.
 pub taken_more : (grid : Stamps) (due : ℕ → Bool) (newer old mid new : List ℕ) (next : ℕ) (run : Run) → 0 < grid.width → IsNextRun (on_screen grid next) due run
@@ -162,7 +146,7 @@ all_taken grid due newer old new next some done was t x y lt in_tile =
       | inl before ↦ sym (and_left_true (nat_lt t next) (due t) (lt-ltb t next before))
       | inr from ↦
           let none : due t ≡ false = first_of (due t) (meets (whole_screen grid.width grid.height) (tile_rect grid.width grid.height t)) (done t from lt) (whole_meets grid.width grid.height t some lt) in
-          and_right_false (nat_lt t next) (due t) none ∙ sym none
+          and_right (nat_lt t next) (due t) none ∙ sym none
     ]
 
 -- ---- what a board that is behind lacks
@@ -210,7 +194,7 @@ last_stays r us n e = stays_from r 0 1 n us (due_where_touched r us n ∙ e)
 
 stamp_if : (touched newer lacked : Bool) (m new was : ℕ) → lacked ≡ (newer && not touched) → (newer ≡ false → new ≡ was)
     → (if lacked then new else (if touched then m else was)) ≡ (if touched then m else new)
-stamp_if true newer lacked m new was e f = ap (λ b. if b then new else m) (e ∙ and_right_false newer false refl)
+stamp_if true newer lacked m new was e f = ap (λ b. if b then new else m) (e ∙ and_right newer false refl)
 stamp_if false true lacked m new was e f = ap (λ b. if b then new else was) e
 stamp_if false false lacked m new was e f = ap (λ b. if b then new else was) e ∙ sym (f refl)
 
@@ -259,7 +243,7 @@ text_caught_up us n newer was is old = elim (cases_Bool (is_later newer n)) [
       ap (λ (b : Bool). if b then newer else was) stays
       ∙ (old ∙ (elim (text_behind None 1 n n us (omega arith)) [
         | inl same ↦ sym same
-        | inr later ↦ not_both (is_later newer n) (ap (λ (o : Option NumberedText). is_later o n) is ∙ later) stays
+        | inr later ↦ absurd (both_ways (is_later newer n) stays (ap (λ (o : Option NumberedText). is_later o n) is ∙ later))
       ] ∙ sym is))
 ]
 
@@ -279,7 +263,7 @@ caught_at w h n t grid newer old new us x y stamp in_tile shows showed took =
   where
     no_later : is_newer grid n t ≡ false → last_touch (tile_rect w h t) us ≤ n
     no_later e = elim (cases_lt n (stamp_at grid t)) [
-      | inl less ↦ not_both (nat_lt n (stamp_at grid t)) (lt-ltb n (stamp_at grid t) less) e
+      | inl less ↦ absurd (both_ways (nat_lt n (stamp_at grid t)) e (lt-ltb n (stamp_at grid t) less))
       | inr more ↦ omega (arith, more, stamp)
     ]
 

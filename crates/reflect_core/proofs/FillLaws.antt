@@ -3,7 +3,7 @@
 use Rattle.std.proofs.Common.{◌≡◌, ℕ, suc, ◌+◌, ◌-◌, ◌<◌, ◌≤◌, Bool, true, false, List, [], ◌∷◌, length, get_or, take, Some, refl, ap, sym, ◌∙◌, subst, arith, inl, inr}
 use Rattle.std.specs.Prelude.{◌&&◌, ◌||◌, not, is_some, slice_get, if◌then◌else◌}
 use Rattle.std.specs.List.{list_all, range_with_len}
-use Rattle.std.proofs.lemmas.Bool.{cases_Bool, cases_lt}
+use Rattle.std.proofs.lemmas.Bool.{both_ways, cases_Bool, cases_lt}
 use Rattle.std.proofs.lemmas.List.{take_all}
 use Rattle.std.proofs.lemmas.List.Folds.{list_all_at}
 use Rattle.std.proofs.lemmas.List.Sums.{list_all-from_AllPass}
@@ -57,10 +57,6 @@ pub done_of : (walk walk' : Walking) (grid grid' : Stamps) (have have' : SentTil
 done_of walk walk' grid grid' have have' p q r is =
     subst (λ v. IsDone walk' (due_at grid' v)) r (subst (λ g. IsDone walk' (due_at g have)) q (subst (λ w. IsDone w (due_at grid have)) p is))
 
-not_both : {A : Type 0} (b : Bool) → b ≡ true → b ≡ false → A
-not_both true e f = absurd cc
-not_both false e f = absurd cc
-
 -- ---- a run more
 
 all_sent_more : (grid : Stamps) (have : SentTiles) (area : Rect) (next : ℕ) (run : Run) (all sent : Bool) → IsNextRun (at_tile have area next) (due_at grid have) run
@@ -69,7 +65,7 @@ all_sent_more grid have area next run true true is whether before = λ t lt due.
     elim (cases_lt t next) [
       | inl old ↦ before t old due
       | inr from ↦ elim (cases_lt t run.first) [
-        | inl skipped ↦ not_both (lacks grid have area t) due (is.skipped t from skipped)
+        | inl skipped ↦ absurd (both_ways (lacks grid have area t) (is.skipped t from skipped) due)
         | inr inside ↦ whether t inside lt
       ]
     ]
@@ -112,7 +108,7 @@ filled_more grid colours have area next run old new on was is took =
     laid t x y lt due in_area in_tile = elim (cases_lt t next) [
       | inl done ↦ lay_kept run.area old.width colours old.colours.items x y (was.shows t x y done due in_area in_tile)
       | inr from ↦ elim (cases_lt t run.first) [
-        | inl before ↦ not_both (lacks grid have area t) due (is.skipped t from before)
+        | inl before ↦ absurd (both_ways (lacks grid have area t) (is.skipped t from before) due)
         | inr inside ↦
             lay_in run.area old.width colours old.colours.items x y
             (subst (λ (r : Rect). Has r x y) (sym is.area) (common_has area (tiles_rect have.width run.first run.count) x y in_area (tile_in_run have.width have.height run.first run.count t x y is.row inside lt in_tile)))
@@ -141,7 +137,7 @@ all_is test have next true done sent =
     ap (λ t. not (test t) || is_some (sent_at have t)) (number_in_range n k d lt)
     ∙ passes (test k) (is_some (sent_at have k)) (λ due. elim (cases_lt k next) [
       | inl before ↦ sent k before due
-      | inr from ↦ not_both (test k) due (done k from lt')
+      | inr from ↦ absurd (both_ways (test k) (done k from lt') due)
     ])))
 all_is test have next false done sent =
     let n : ℕ = tile_count have.width have.height in
@@ -206,5 +202,5 @@ cut_of_board board us area have next cut wide high grid_wide grid_high on number
       | inl before ↦
           filled.shows t x y before due in_area in_tile ∙ (ap (λ w. value_at w board.colours x y) filled.width
           ∙ shown x y (omega (arith, in_area.right, on.across)) (omega (arith, in_area.bottom, on.down)))
-      | inr from ↦ not_both (lacks board.grid have area t) due (done t from lt)
+      | inr from ↦ absurd (both_ways (lacks board.grid have area t) (done t from lt) due)
     ]

@@ -1,7 +1,7 @@
 -- Where the tiles of a row lie that a walk looks for. `Walk::next` finds a run by it.
-use Rattle.std.proofs.Common.{◌≡◌, ℕ, ◌+◌, ◌-◌, ◌*◌, ◌/◌, ◌%◌, ◌<◌, ◌≤◌, Bool, true, false, refl, ap, sym, ◌∙◌, arith, inl, inr, ◌⊎◌}
+use Rattle.std.proofs.Common.{◌≡◌, ℕ, ◌+◌, ◌-◌, ◌*◌, ◌/◌, ◌%◌, ◌<◌, ◌≤◌, Bool, true, false, ap, sym, ◌∙◌, arith, inl, inr, ◌⊎◌}
 use Rattle.std.specs.Prelude.{◌&&◌}
-use Rattle.std.proofs.lemmas.Bool.{cases_lt}
+use Rattle.std.proofs.lemmas.Bool.{and_right, cases_lt}
 use Rattle.std.proofs.lemmas.Bool.Decides.{nat_tests}
 use Rattle.std.proofs.lemmas.Nat.{div-mul-add, mod-mul-add, div-add-mod'}
 use Rattle.std.proofs.Math.Nat.{mul-le-mul_right, mod-lt}
@@ -43,10 +43,6 @@ row_at_least t row across some le =
 
 -- ---- the test
 
-and_no : (a b : Bool) → b ≡ false → (a && b) ≡ false
-and_no true b e = e
-and_no false b e = refl
-
 and_yes : (a b : Bool) → a ≡ true → b ≡ true → (a && b) ≡ true
 and_yes true b e f = f
 and_yes false b e f = absurd cc
@@ -66,14 +62,14 @@ not_due due met across t e = ap (λ b. b && holds met (t % across) (t / across))
 pub not_in_row : (due : ℕ → Bool) (met : Rect) (across row t : ℕ) → row * across ≤ t → t < row * across + across → (t < row * across + met.x) ⊎ (row * across + met.x + met.w ≤ t) → is_in due met across t ≡ false
 not_in_row due met across row t from to out =
     let p = place_of row across t from to in
-    and_no (due t) (holds met (t % across) (t / across)) (ap (λ k. holds met k (t / across)) p.column_is ∙ beside met (t - row * across) (t / across) (side out))
+    and_right (due t) (holds met (t % across) (t / across)) (ap (λ k. holds met k (t / across)) p.column_is ∙ beside met (t - row * across) (t / across) (side out))
   where
     side : (t < row * across + met.x) ⊎ (row * across + met.x + met.w ≤ t) → (t - row * across < met.x) ⊎ (met.x + met.w ≤ t - row * across)
     side (inl l) = inl (omega arith)
     side (inr r) = inr (omega arith)
 
 pub not_its_row : (due : ℕ → Bool) (met : Rect) (across t : ℕ) → (t / across < met.y) ⊎ (met.y + met.h ≤ t / across) → is_in due met across t ≡ false
-not_its_row due met across t out = and_no (due t) (holds met (t % across) (t / across)) (above_or_below met (t % across) (t / across) out)
+not_its_row due met across t out = and_right (due t) (holds met (t % across) (t / across)) (above_or_below met (t % across) (t / across) out)
 
 pub due_in_row : (due : ℕ → Bool) (met : Rect) (across row t : ℕ) → row * across + met.x ≤ t → t < row * across + met.x + met.w → met.x + met.w ≤ across → met.y ≤ row → row < met.y + met.h → due t ≡ true
     → is_in due met across t ≡ true
