@@ -6,3 +6,4 @@ pub mod Tables
 pub mod Landings
 pub mod Policies
 pub mod Sites
+pub mod Guests

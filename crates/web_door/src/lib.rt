@@ -6,6 +6,7 @@
 
 mod admission;
 mod fields;
+mod guest;
 mod kind;
 mod landing;
 mod objection;
@@ -16,6 +17,7 @@ mod table;
 mod walk;
 
 pub use admission::Admission;
+pub use guest::{Guest, MOST_HEAD};
 pub use kind::Kind;
 pub use landing::{Landing, start_for};
 pub use objection::Objection;
