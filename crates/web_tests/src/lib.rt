@@ -1,5 +1,5 @@
-//! Tests of `web_frames`, `web_link` and `web_door`, which stand in a crate of their own so that each of those is proved
-//! once.
+//! Tests of `web_frames`, `web_link`, `web_door` and `web_root`, which stand in a crate of their own so that each of
+//! those is proved once.
 //! Frames are spelled by hand after RFC 6455, sections 5.2 and 5.7.
 #![tactic(auto)]
 
@@ -11,6 +11,8 @@ mod gathering;
 mod giving;
 #[cfg(test)]
 mod reader;
+#[cfg(test)]
+mod root;
 #[cfg(test)]
 mod saying;
 #[cfg(test)]
