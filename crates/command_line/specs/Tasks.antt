@@ -1,5 +1,5 @@
 -- What a line asks for. Its words are those after the program's name.
-use Rattle.std.specs.Prelude.{◌≡◌, ◌≢◌, ◌≤◌, ◌⊎◌, ◌∷◌, List, [], codes, ℕ}
+use Rattle.std.specs.Prelude.{◌≡◌, ◌≢◌, ◌≤◌, ◌⊎◌, ◌∷◌, List, [], codes, option_map, ℕ}
 use Rattle.std.specs.String.{string_bytes}
 use Rattle.clap.specs.Words.{Text, fault_of}
 use Rattle.plan.specs.declared.plan.Plan.{Plan}
@@ -16,6 +16,7 @@ pub record IsPlanOf (s : Settings) (plan : Plan) : Type 0 where
   pub next : plan.next.now ≡ s.next.items
   pub again : plan.again ≡ s.again
   pub bind : plan.bind.now ≡ string_bytes s.bind
+  pub full_bind : option_map (λ text. text.now) plan.full_bind ≡ option_map string_bytes s.full_bind
   pub full : plan.full ≡ s.full
   pub view : plan.view ≡ s.view
   pub full_places : plan.full_places ≡ s.full_places

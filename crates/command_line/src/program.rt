@@ -1,6 +1,6 @@
 //! Doing what the words ask for.
 
-ghost use Rattle.std.specs.Prelude.{map};
+ghost use Rattle.std.specs.Prelude.{◌≡◌, map, option_map};
 ghost use Rattle.std.specs.String.{string_bytes};
 ghost use Rattle.command_line.specs.Tasks.{IsAnswered, IsAsked, IsDone, IsPlanOf, MayEndAScript};
 ghost use Rattle.command_line.specs.declared.task.Task.{Task as Asked};
@@ -36,6 +36,16 @@ fn words<R: Env + AllocGlobal>(rt: &R, alloc: Global) -> io::Result<Vec<String>>
     Ok(words)
 }
 
+/// The text of an option that may have none.
+fn shown(text: &Option<String>) -> Option<&str>
+    ensures { option_map (λ t. t.now) result ≡ option_map string_bytes text.now }
+{
+    match text {
+        Some(text) => Some(text.as_str()),
+        None => None,
+    }
+}
+
 /// What `serve` is told.
 fn plan_of(settings: &Settings) -> Plan<'_>
     ensures { IsPlanOf settings.now result }
@@ -45,6 +55,7 @@ fn plan_of(settings: &Settings) -> Plan<'_>
         next: settings.next.as_slice(),
         again: settings.again,
         bind: settings.bind.as_str(),
+        full_bind: shown(&settings.full_bind),
         full: settings.full,
         view: settings.view,
         full_places: settings.full_places,

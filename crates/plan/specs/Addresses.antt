@@ -5,10 +5,10 @@ use Rattle.std.specs.Net.Socket.{IsPlainSocket, socket_ip}
 use Rattle.std.specs.declared.net.socket_addr.SocketAddr.{SocketAddr}
 use Rattle.roles.specs.declared.role.Role.{Role}
 use Rattle.plan.specs.declared.plan.Plan.{Plan}
-use Rattle.plan.specs.Statuses.{port_for}
+use Rattle.plan.specs.Statuses.{bind_for, port_for}
 
--- The address at which the viewers of a role come in: the IP address that the plan's text to bind writes, at the port of
--- the role, without a flow label or a scope.
+-- The address at which the viewers of a role come in: the IP address that the plan's text to bind writes for them, at
+-- the port of the role, without a flow label or a scope.
 pub record IsAddressFor (role : Role) (plan : Plan) (address : SocketAddr) : Type 0 where
-  pub ip : IsIpText plan.bind.now (socket_ip address)
+  pub ip : IsIpText (bind_for role plan) (socket_ip address)
   pub port : IsPlainSocket address (port_for role plan)

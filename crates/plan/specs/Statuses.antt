@@ -1,5 +1,6 @@
 -- How the program ends, and how many viewers it may be told to serve.
-use Rattle.std.specs.Prelude.{ℕ, ◌≡◌, ◌≤◌, ◌⊎◌, Result, Ok, Err}
+use Rattle.std.specs.Prelude.{ℕ, ◌≡◌, ◌≤◌, ◌⊎◌, List, Result, Ok, Err}
+use Rattle.std.specs.Option.{option_map_or}
 use Rattle.pixel_format.specs.declared.fault.Fault.{Fault}
 use Rattle.pixel_format.specs.declared.fault.Fault.TheVariants.{Memory}
 use Rattle.roles.specs.declared.role.Role.{Role}
@@ -21,6 +22,11 @@ places_for View plan = plan.view_places
 abbrev pub port_for : Role → Plan → ℕ
 port_for Full plan = plan.full
 port_for View plan = plan.view
+
+-- The text to bind for the viewers of a role: those with full control may have one of their own.
+abbrev pub bind_for : Role → Plan → List ℕ
+bind_for Full plan = option_map_or (λ text. text.now) plan.full_bind plan.bind.now
+bind_for View plan = plan.bind.now
 
 -- From 1 to 32 places for each role.
 abbrev pub HasPlaces : Plan → Type 0

@@ -1,7 +1,7 @@
 //! What is to be served, and where.
 
 ghost use Rattle.std.specs.Prelude.{◌≡◌};
-ghost use Rattle.plan.specs.Statuses.{places_for, port_for};
+ghost use Rattle.plan.specs.Statuses.{bind_for, places_for, port_for};
 
 use roles::Role;
 
@@ -14,8 +14,10 @@ pub struct Plan<'a> {
     pub next: &'a [String],
     /// How many seconds after the last host has ended the first is tried again, or `None` where it isn't.
     pub again: Option<u64>,
-    /// The address that both ports listen on.
+    /// The address that both ports listen on, or only the one of those that look on.
     pub bind: &'a str,
+    /// The address that the port of viewers with full control listens on, or `None` where it is `bind`.
+    pub full_bind: Option<&'a str>,
     /// The port of viewers with full control.
     pub full: u16,
     /// The port of viewers that only look.
@@ -35,6 +37,19 @@ pub fn port_of(plan: &Plan<'_>, role: Role) -> u16
     match role {
         Role::Full => plan.full,
         Role::View => plan.view,
+    }
+}
+
+/// The text of the address to listen on for the viewers of a role.
+pub fn bind_of<'a>(plan: &Plan<'a>, role: Role) -> &'a str
+    ensures { result.now ≡ bind_for role plan.now }
+{
+    match role {
+        Role::Full => match plan.full_bind {
+            Some(text) => text,
+            None => plan.bind,
+        },
+        Role::View => plan.bind,
     }
 }
 

@@ -3,10 +3,11 @@
 use crate::quoted::Quoted;
 use crate::trouble::{Stage, Trouble};
 use pixel_format::Fault;
-use plan::{Plan, port_of};
+use plan::{Plan, bind_of, port_of};
 use roles::Role;
 use std::fmt;
 use std::fmt::{Display, Formatter};
+use std::io::ErrorKind;
 
 /// A trouble in plain words, with the address and the option that it is about.
 #[derive(Drop)]
@@ -54,6 +55,53 @@ fn options_of(role: Role) -> (&'static str, &'static str) {
     match role {
         Role::Full => ("--full", "viewers with full control"),
         Role::View => ("--view", "viewers that only look on"),
+    }
+}
+
+/// The option that has the address to listen on for the viewers of a role.
+fn bind_option(plan: &Plan<'_>, role: Role) -> &'static str {
+    match (role, plan.full_bind) {
+        (Role::Full, Some(_)) => "--full-bind",
+        _ => "--bind",
+    }
+}
+
+/// What to try where a port can't be listened on.
+#[derive(Drop)]
+struct Way<'a> {
+    plan: Plan<'a>,
+    role: Role,
+    option: &'static str,
+    trouble: &'a Trouble,
+}
+
+impl Way<'_> {
+    /// What kind of refusal it was, if the system said.
+    fn kind(&self) -> Option<ErrorKind> {
+        self.trouble.error.as_ref().map(|error| error.kind())
+    }
+}
+
+impl Display for Way<'_> {
+    fn fmt<W: fmt::Write>(&self, f: &mut Formatter<W>) -> fmt::Result {
+        let option = self.option;
+        match self.kind() {
+            Some(ErrorKind::PermissionDenied) => {
+                write!(f, "ports below 1024 are for root; choose another by {option}")
+            }
+            Some(ErrorKind::AddrNotAvailable) => write!(
+                f,
+                "no such address is this machine's; choose another by {}",
+                bind_option(&self.plan, self.role)
+            ),
+            Some(ErrorKind::AddrInUse) if self.plan.full == self.plan.view => {
+                f.write_str("--full and --view are the same port; choose another for one of them")
+            }
+            _ => write!(
+                f,
+                "end the program that has the port, or choose another by {option}"
+            ),
+        }
     }
 }
 
@@ -111,10 +159,11 @@ impl Display for Advice<'_> {
             );
         }
         match self.trouble.stage {
-            Stage::ReadBind => write!(
+            Stage::ReadBind(role) => write!(
                 f,
-                "--bind {} is no IP address of this machine, such as 127.0.0.1",
-                plan.bind
+                "{} {} is no IP address of this machine, such as 127.0.0.1",
+                bind_option(&plan, role),
+                bind_of(&plan, role)
             ),
             Stage::ReadHost => write!(
                 f,
@@ -128,10 +177,16 @@ impl Display for Advice<'_> {
             Stage::Listen(role) => {
                 let (option, viewers) = options_of(role);
                 let port = port_of(&plan, role);
+                let bind = bind_of(&plan, role);
+                let way = Way {
+                    plan,
+                    role,
+                    option,
+                    trouble: self.trouble,
+                };
                 write!(
                     f,
-                    "can't listen on {} port {port} for {viewers}{said}; end the program that has the port, or choose another by {option}",
-                    plan.bind
+                    "can't listen on {bind} port {port} for {viewers}{said}; {way}"
                 )
             }
             Stage::Connect => write!(

@@ -44,7 +44,7 @@ pub(crate) fn open<'a, R: Net<Stream = TcpStream, Listener = TcpListener>, G: Lo
 {
     let places = places_of(plan, role);
     let Ok(address) = address_of(plan, role) else {
-        return Err(Trouble::new(Stage::ReadBind, Fault::LinkFailed));
+        return Err(Trouble::new(Stage::ReadBind(role), Fault::LinkFailed));
     };
     let bound = match Bound::at(rt, ports, address) {
         Ok(bound) => bound,

@@ -8,8 +8,8 @@ use std::io::ErrorKind;
 /// What was being done.
 #[derive(Clone, Copy, Debug, PartialEq, Eq)]
 pub(crate) enum Stage {
-    /// Reading the address to listen on.
-    ReadBind,
+    /// Reading the address to listen on for viewers of a role.
+    ReadBind(Role),
     /// Listening for viewers of a role.
     Listen(Role),
     /// Reading the first host's address.

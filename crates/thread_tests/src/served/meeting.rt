@@ -59,6 +59,20 @@ const SCENES: &[Scene] = &[
             Line::Is("reflectord: can't listen on 127.0.0.1 port "),
         ],
     },
+    Scene {
+        name: "an address that is another machine's",
+        told: Told::First,
+        options: "--full-bind 192.0.2.1",
+        is_taken: false,
+        hosts: &[],
+        full: Viewer::Nobody,
+        view: Viewer::Nobody,
+        status: FAULT,
+        lines: &[
+            Line::Is("fault 21"),
+            Line::Is("reflectord: can't listen on 192.0.2.1 port "),
+        ],
+    },
     // Its reason is told, and forges no line.
     Scene {
         name: "a host that refuses the connection",
