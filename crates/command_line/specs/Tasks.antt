@@ -19,6 +19,7 @@ pub record IsPlanOf (s : Settings) (plan : Plan) : Type 0 where
   pub full_bind : option_map (λ text. text.now) plan.full_bind ≡ option_map string_bytes s.full_bind
   pub full : plan.full ≡ s.full
   pub view : plan.view ≡ s.view
+  pub view_only : plan.is_view_only ≡ s.view_only
   pub full_places : plan.full_places ≡ s.full_places
   pub view_places : plan.view_places ≡ s.view_places
   pub log : plan.is_logged ≡ s.log

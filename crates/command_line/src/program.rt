@@ -58,6 +58,7 @@ fn plan_of(settings: &Settings) -> Plan<'_>
         full_bind: shown(&settings.full_bind),
         full: settings.full,
         view: settings.view,
+        is_view_only: settings.view_only,
         full_places: settings.full_places,
         view_places: settings.view_places,
         is_logged: settings.log,

@@ -1,5 +1,5 @@
 -- How the program ends, and how many viewers it may be told to serve.
-use Rattle.std.specs.Prelude.{ℕ, ◌≡◌, ◌≤◌, ◌⊎◌, List, Result, Ok, Err}
+use Rattle.std.specs.Prelude.{ℕ, ◌≡◌, ◌≤◌, ◌⊎◌, List, Result, Ok, Err, if◌then◌else◌}
 use Rattle.std.specs.Option.{option_map_or}
 use Rattle.pixel_format.specs.declared.fault.Fault.{Fault}
 use Rattle.pixel_format.specs.declared.fault.Fault.TheVariants.{Memory}
@@ -13,9 +13,9 @@ status_for (Ok _) = 0
 status_for (Err Memory) = 4
 status_for (Err _) = 3
 
--- How many viewers of a role are told to be served.
+-- How many viewers of a role are told to be served: none with full control where there are only those who look on.
 abbrev pub places_for : Role → Plan → ℕ
-places_for Full plan = plan.full_places
+places_for Full plan = if plan.is_view_only then 0 else plan.full_places
 places_for View plan = plan.view_places
 
 -- The port of the viewers of a role.

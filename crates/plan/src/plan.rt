@@ -22,6 +22,8 @@ pub struct Plan<'a> {
     pub full: u16,
     /// The port of viewers that only look.
     pub view: u16,
+    /// Whether there are only viewers that look on, and neither a port nor places of full control.
+    pub is_view_only: bool,
     /// How many viewers with full control there may be at once.
     pub full_places: u64,
     /// How many viewers that only look there may be at once.
@@ -58,6 +60,7 @@ pub fn places_of(plan: &Plan<'_>, role: Role) -> u64
     ensures { result ≡ places_for role plan.now }
 {
     match role {
+        Role::Full if plan.is_view_only => 0,
         Role::Full => plan.full_places,
         Role::View => plan.view_places,
     }

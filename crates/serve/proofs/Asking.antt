@@ -1,5 +1,5 @@
 -- At which addresses the system was asked for a port.
-use Rattle.std.proofs.Common.{◌≡◌, ◌⊎◌, ◌++◌, ◌∷◌, inl, inr, List, [], refl}
+use Rattle.std.proofs.Common.{◌≡◌, ◌⊎◌, ◌++◌, ◌∷◌, inl, inr, List, [], refl, true}
 use Rattle.std.specs.declared.net.socket_addr.SocketAddr.{SocketAddr}
 use Rattle.roles.specs.declared.role.Role.{Role}
 use Rattle.roles.specs.declared.role.Role.TheVariants.{Full, View}
@@ -13,8 +13,9 @@ asks_for role plan address old new is (inl same) = inl same
 asks_for role plan address old new is (inr asked) = inr (address, is, asked)
 
 -- Only the first port was asked for, or both.
-pub first_alone : (plan : Plan) (old new : List SocketAddr) → AsksFor Full plan old new → AsksAsPlanned plan old new
-first_alone plan old new first = (new, first, inl refl)
+pub first_alone : (plan : Plan) (old new : List SocketAddr) → AsksFor Full plan old new → (plan.is_view_only ≡ true → new ≡ old) → AsksAsPlanned plan old new
+first_alone plan old new first closed = (new, first, closed, inl refl)
 
-pub both : (plan : Plan) (old between new : List SocketAddr) → AsksFor Full plan old between → AsksFor View plan between new → AsksAsPlanned plan old new
-both plan old between new first second = (between, first, second)
+pub both : (plan : Plan) (old between new : List SocketAddr) → AsksFor Full plan old between → (plan.is_view_only ≡ true → between ≡ old)
+    → AsksFor View plan between new → AsksAsPlanned plan old new
+both plan old between new first closed second = (between, first, closed, second)

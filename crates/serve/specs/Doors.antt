@@ -1,19 +1,27 @@
 -- The entries and the doors of a run (own).
-use Rattle.std.specs.Prelude.{◌≡◌, ◌++◌, List, map, replicate}
+use Rattle.std.specs.Prelude.{◌≡◌, ◌++◌, List, MatchOption, Option, false, map, replicate, true}
 use Rattle.std.specs.List.{All}
 use Rattle.std.specs.Arc.{arc_value}
 use Rattle.roles.specs.declared.role.Role.{Role}
 use Rattle.roles.specs.declared.role.Role.TheVariants.{Full, View}
+use Rattle.plan.specs.Statuses.{places_for}
 use Rattle.plan.specs.declared.plan.Plan.{Plan}
 use Rattle.serving.specs.Doors.{role_behind}
 use Rattle.serving.specs.declared.lobby.TcpDoor.{TcpDoor}
 use Rattle.serve.specs.declared.open.Entry.{Entry}
 
--- One entry is for viewers with full control, and the other for those who only look on, both of this plan.
-pub record AreBoth (plan : Plan) (full view : Entry) : Type 0 where
-  pub plans : (full.plan ≡ plan) × (view.plan ≡ plan)
-  pub lets_type : (arc_value full.lobby).role ≡ Full
-  pub lets_look : (arc_value view.lobby).role ≡ View
+-- The entry is of this plan, and for viewers of this role.
+abbrev pub IsEntryFor : Role → Plan → Entry → Type 0
+IsEntryFor role plan entry = (entry.plan ≡ plan) × ((arc_value entry.lobby).role ≡ role)
+
+-- There is an entry for viewers with full control, unless the plan has only those who look on.
+abbrev pub IsFullEntry : Plan → Option Entry → Type 0
+IsFullEntry plan full = MatchOption full (plan.is_view_only ≡ true) (λ entry. (plan.is_view_only ≡ false) × IsEntryFor Full plan entry)
+
+-- One entry, if there is one, is for viewers with full control, and the other for those who only look on.
+pub record AreBoth (plan : Plan) (full : Option Entry) (view : Entry) : Type 0 where
+  pub lets_type : IsFullEntry plan full
+  pub lets_look : IsEntryFor View plan view
 
 module _ {R G : Type 0} where
   -- Beside each door stands the role of the lobby that its viewers come from.
@@ -26,4 +34,4 @@ module _ {R G : Type 0} where
 
   -- There are as many of each role as the plan says, those with full control first.
   abbrev pub AreAsPlanned : Plan → List (Role × TcpDoor R G) → Type 0
-  AreAsPlanned plan doors = roles_in doors ≡ replicate plan.full_places Full ++ replicate plan.view_places View
+  AreAsPlanned plan doors = roles_in doors ≡ replicate (places_for Full plan) Full ++ replicate plan.view_places View

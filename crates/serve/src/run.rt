@@ -9,7 +9,7 @@ use crate::meet::{Met, meet};
 use crate::open::Entry;
 use crate::supply::Supply;
 use crate::trouble::{Stage, Trouble};
-use crate::welcome::{Rooms, bells, start_porter};
+use crate::welcome::{Rooms, bells, rooms_of, start_full_porter, start_porter};
 use host_turns::Hosts;
 use link::{Link, Rest};
 use pixel_format::Fault;
@@ -128,12 +128,12 @@ fn addresses(alloc: Global, plan: &Plan<'_>) -> Result<(SocketAddr, Vec<SocketAd
 }
 
 /// Joins the first host, and reflects it and those that follow on it until the last ends, for viewers who come in by
-/// these entries, one for each role. Then the places are waited for, though not for long.
+/// these entries, one for each role that is served. Then the places are waited for, though not for long.
 pub(crate) fn run<G, R>(
     rt: R,
     alloc: Global,
     plan: &Plan<'_>,
-    entries: (Entry<'_>, Entry<'_>),
+    entries: (Option<Entry<'_>>, Entry<'_>),
     log: G,
 ) -> Result<(), Trouble>
 where
@@ -152,13 +152,13 @@ where
     let hosts = addresses(alloc, plan)?;
     let (full, view) = entries;
     let met = meet(rt, hosts.0, &log)?;
-    let mut rooms = Rooms::new(alloc);
-    rooms.add_all(rt, alloc, &full, log)?;
-    rooms.add_all(rt, alloc, &view, log)?;
-    let full = start_porter(rt, alloc, full, log)?;
+    let rooms = rooms_of(rt, alloc, plan, &full, &view, log)?;
+    let full = start_full_porter(rt, alloc, full, log)?;
     let view = start_porter(rt, alloc, view, log)?;
     let why = reflect(rt, alloc, plan, hosts, met, rooms, log);
-    full.close(&rt);
+    if let Some(full) = full {
+        full.close(&rt);
+    }
     view.close(&rt);
     match why {
         Ok(()) => Ok(()),

@@ -1,14 +1,15 @@
 //! Places for viewers, and who lets them in.
 
-ghost use Rattle.std.specs.Prelude.{◌≡◌, ◌+◌, ◌++◌, ◌<◌, ◌∷◌, [], length, replicate, OnOk};
+ghost use Rattle.std.specs.Prelude.{◌≡◌, ◌+◌, ◌++◌, ◌<◌, ◌∷◌, [], length, replicate, IfOk, OnOk};
 ghost use Rattle.std.specs.Arc.{arc_value};
-ghost use Rattle.plan.specs.Statuses.{places_for};
-ghost use Rattle.serve.specs.Doors.{HaveTheirRoles, roles_in};
+ghost use Rattle.plan.specs.Statuses.{HasPlaces, places_for};
+ghost use Rattle.roles.specs.declared.role.Role.TheVariants.{Full};
+ghost use Rattle.serve.specs.Doors.{AreAsPlanned, AreBoth, HaveTheirRoles, IsFullEntry, roles_in};
 
 use crate::open::Entry;
 use crate::trouble::{Stage, Trouble};
 use pixel_format::Fault;
-use plan::places_of;
+use plan::{Plan, places_of};
 use roles::Role;
 use serving::{Everyone, Lobby, Log, Seat, TcpDoor, WriterSeat, keep_door};
 use std::alloc::Global;
@@ -69,6 +70,29 @@ impl<R: Wait + Clock + Drop + Copy + Net, G: Log + Drop + Copy> Rooms<R, G> {
         Ok(())
     }
 
+    /// The places of viewers with full control, if the plan has some. They are the first.
+    #[tactic(auto, using(crate::proofs::Counts::entry_places))]
+    fn add_full(
+        &mut self,
+        rt: R,
+        alloc: Global,
+        plan: &Plan<'_>,
+        full: &Option<Entry<'_>>,
+        log: G,
+    ) -> Result<(), Trouble>
+        requires none { self.old.doors.items ≡ [] }
+        requires entry { IsFullEntry plan.now full.now }
+        requires places { HasPlaces plan.now }
+        ensures count { OnOk result (length self.new.doors.items ≡ places_for Full plan.now) }
+        ensures roles { OnOk result (roles_in self.new.doors.items ≡ replicate (places_for Full plan.now) Full) }
+    {
+        let _plan = plan;
+        match full {
+            Some(entry) => self.add_all(rt, alloc, entry, log),
+            None => Ok(()),
+        }
+    }
+
     /// The places of one role more, as many as the entry's plan says.
     pub(crate) fn add_all(
         &mut self,
@@ -95,6 +119,26 @@ impl<R: Wait + Clock + Drop + Copy + Net, G: Log + Drop + Copy> Rooms<R, G> {
     }
 }
 
+/// The places of a plan whose viewers come in by these entries.
+#[tactic(auto, using(crate::proofs::Counts::full_most, crate::proofs::Counts::entry_places))]
+pub(crate) fn rooms_of<R: Wait + Clock + Drop + Copy + Net, G: Log + Drop + Copy>(
+    rt: R,
+    alloc: Global,
+    plan: &Plan<'_>,
+    full: &Option<Entry<'_>>,
+    view: &Entry<'_>,
+    log: G,
+) -> Result<Rooms<R, G>, Trouble>
+    requires entries { AreBoth plan.now full.now view.now }
+    requires places { HasPlaces plan.now }
+    ensures { IfOk result (λ rooms. AreAsPlanned plan.now rooms.doors.items) }
+{
+    let mut rooms = Rooms::new(alloc);
+    rooms.add_full(rt, alloc, plan, full, log)?;
+    rooms.add_all(rt, alloc, view, log)?;
+    Ok(rooms)
+}
+
 /// Where the host's writer rests, and who is woken by news: it and all these seats.
 pub(crate) fn bells(
     alloc: Global,
@@ -113,6 +157,23 @@ pub(crate) fn bells(
 pub(crate) struct Hall {
     lobby: Arc<Lobby, Global>,
     address: io::Result<SocketAddr>,
+}
+
+/// Starts the thread that lets the viewers with full control in, if there are to be some.
+pub(crate) fn start_full_porter<R, G>(
+    rt: R,
+    alloc: Global,
+    full: Option<Entry<'_>>,
+    log: G,
+) -> Result<Option<Hall>, Trouble>
+where
+    R: Threads + Wait + Clock + Copy + Drop + Send + 'static,
+    G: Log + Drop + Send + 'static,
+{
+    match full {
+        Some(entry) => Ok(Some(start_porter(rt, alloc, entry, log)?)),
+        None => Ok(None),
+    }
 }
 
 /// Starts the thread that lets the viewers of a role in.

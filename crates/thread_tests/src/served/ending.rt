@@ -5,23 +5,44 @@ use crate::served::scene::{Scene, Told, play_all};
 use crate::served::viewer::Viewer;
 use std::test::*;
 
-const SCENES: &[Scene] = &[Scene {
-    name: "the end of a host lets both viewers go",
-    told: Told::First,
-    options: "",
-    is_taken: false,
-    hosts: &[Host {
-        at: 0,
-        from: 1,
-        to: 0,
-        is_told: false,
-        ending: Ending::ClosesInLull(2),
-    }],
-    full: Viewer::IsLetGo,
-    view: Viewer::IsLetGo,
-    status: 0,
-    lines: &[],
-}];
+const SCENES: &[Scene] = &[
+    Scene {
+        name: "the end of a host lets both viewers go",
+        told: Told::First,
+        options: "",
+        is_taken: false,
+        hosts: &[Host {
+            at: 0,
+            from: 1,
+            to: 0,
+            is_told: false,
+            ending: Ending::ClosesInLull(2),
+        }],
+        full: Viewer::IsLetGo,
+        view: Viewer::IsLetGo,
+        status: 0,
+        lines: &[],
+    },
+    // Nobody asks for the port of full control, which another program has, nor for its address, which is another
+    // machine's.
+    Scene {
+        name: "the end of a host lets the one go that looks on where there is no other",
+        told: Told::First,
+        options: "--view-only --full-bind 192.0.2.1",
+        is_taken: true,
+        hosts: &[Host {
+            at: 0,
+            from: 1,
+            to: 0,
+            is_told: false,
+            ending: Ending::ClosesInLull(1),
+        }],
+        full: Viewer::Nobody,
+        view: Viewer::IsLetGo,
+        status: 0,
+        lines: &[],
+    },
+];
 
 /// The end of a host ends the wait of each place, so that its viewer is let go, and that of the writer, for which
 /// `serve` waits.
