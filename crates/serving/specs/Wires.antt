@@ -1,5 +1,5 @@
 -- How a link stands to the socket below it.
-use Rattle.std.specs.Prelude.{◌≡◌, ℕ, Bool, true, false, List, [], ◌++◌, take, Result, Ok, Err}
+use Rattle.std.specs.Prelude.{◌≡◌, ℕ, Bool, true, false, ◌-◌, List, [], ◌++◌, take, Result, Ok, Err}
 use Rattle.std.specs.declared.io.Error.{Error}
 use Rattle.link.specs.Links.{LinkState}
 use Rattle.serving.specs.Answers.{unused}
@@ -8,6 +8,11 @@ use Rattle.serving.specs.Answers.{unused}
 abbrev pub moved : Result ℕ Error → List ℕ → List ℕ
 moved (Ok count) bytes = take count bytes
 moved (Err error) bytes = []
+
+-- The bytes of a slice that a send has moved which was answered so, where so many others stood before it.
+abbrev pub moved_behind : (before : ℕ) → Result ℕ Error → List ℕ → List ℕ
+moved_behind before (Ok count) bytes = take (count - before) bytes
+moved_behind before (Err error) bytes = []
 
 -- What contracts see of a link over a socket: the link, what the socket has sent and received, what the link keeps to
 -- be sent next, and whether it wasn't closed.

@@ -65,11 +65,11 @@ impl Model for Account {
 }
 
 impl Account {
-    ghost use Rattle.std.specs.Prelude.{◌≡◌, ◌++◌};
+    ghost use Rattle.std.specs.Prelude.{◌≡◌, ◌+◌, ◌≤◌, ◌++◌, length, IfOk};
     ghost use Rattle.std.specs.Io.{ReadsAtMost, WritesAtMost};
     ghost use Rattle.link.specs.Links.{TakesAs, GivesAs, with_end, with_failure};
     ghost use Rattle.serving.specs.Answers.{unused, took_for, gave_for};
-    ghost use Rattle.serving.specs.Wires.{moved};
+    ghost use Rattle.serving.specs.Wires.{moved, moved_behind};
 
     /// Of a link that has done nothing.
     pub(crate) fn new() -> Account
@@ -137,6 +137,33 @@ impl Account {
             Gave::Failed => self.fail(),
         }
         gave
+    }
+
+    /// What the link gave by a send of these bytes, behind so many that were kept, which was answered so: nothing where no
+    /// more went out than was kept.
+    pub(crate) fn give_behind(
+        &mut self,
+        kept: usize,
+        answer: &io::Result<usize>,
+        bytes: &[u8],
+    ) -> Gave
+        requires { IfOk answer.now (λ count. count ≤ kept + length bytes.now) }
+        ensures state { GivesAs result self.old self.new bytes.now }
+        ensures given { self.new.given ≡ self.old.given ++ moved_behind kept answer.now bytes.now }
+        ensures taken { self.new.taken ≡ self.old.taken }
+    {
+        match gave_of(answer) {
+            Gave::Bytes(count) if kept < count => {
+                let (written, _) = bytes.split_at(count - kept);
+                self.note_given(written);
+                Gave::Bytes(count - kept)
+            }
+            Gave::Bytes(_) | Gave::Nothing => Gave::Nothing,
+            Gave::End | Gave::Failed => {
+                self.fail();
+                Gave::Failed
+            }
+        }
     }
 
     /// It was given these bytes.

@@ -28,9 +28,9 @@ impl Model for Kept {
 }
 
 impl Kept {
-    ghost use Rattle.std.specs.Prelude.{◌≡◌, ◌-◌, ◌≤◌, ◌++◌, ◌↔◌, if◌then◌else◌, [], IsTrue, nat_eq, length, take, drop, min, IfOk, OnErr};
+    ghost use Rattle.std.specs.Prelude.{◌≡◌, ◌+◌, ◌-◌, ◌≤◌, ◌++◌, ◌↔◌, if◌then◌else◌, [], IsTrue, nat_eq, length, take, drop, min, IfOk, OnErr};
     ghost use Rattle.serving.specs.Keeping.{most_kept};
-    ghost use Rattle.serving.specs.Wires.{moved};
+    ghost use Rattle.serving.specs.Wires.{moved, moved_behind};
 
     /// No byte, and room for `MOST_KEPT`, which is taken here. It fails where that memory is refused.
     pub(crate) fn new(alloc: Global) -> Result<Kept, AllocError>
@@ -45,6 +45,13 @@ impl Kept {
         ensures { IsTrue result ↔ (length self.now.bytes ≡ 0) }
     {
         self.gone >= self.bytes.len()
+    }
+
+    /// How many bytes are kept.
+    pub(crate) fn len(&self) -> usize
+        ensures { result ≡ length self.now.bytes }
+    {
+        self.bytes.len() - self.gone
     }
 
     /// Whether there is no room for another byte.
@@ -92,6 +99,20 @@ impl Kept {
     {
         let count = socket.send(&self.bytes[self.gone..])?;
         self.pass(count);
+        Ok(count)
+    }
+
+    /// Sends once of what is kept and then of these bytes, in order, and answers how many of both went out. Those that
+    /// were kept aren't from then on; where the socket fails nothing has changed.
+    pub(crate) fn send_with<S: Socket>(&mut self, socket: &mut S, bytes: &[u8]) -> io::Result<usize>
+        ensures ok { IfOk result (λ count. (count ≤ length self.old.bytes + length bytes.now) × (self.new.bytes ≡ drop count self.old.bytes)) }
+        ensures err { OnErr result (self.new ≡ self.old) }
+        ensures all { S.sent socket.new ++ self.new.bytes ≡ S.sent socket.old ++ self.old.bytes ++ moved_behind (length self.old.bytes) result bytes.now }
+        ensures sent { S.sent socket.new ≡ S.sent socket.old ++ moved result (self.old.bytes ++ bytes.now) }
+        ensures received { S.received socket.new ≡ S.received socket.old }
+    {
+        let count = socket.send_both(&self.bytes[self.gone..], bytes)?;
+        self.pass(count.min(self.len()));
         Ok(count)
     }
 }

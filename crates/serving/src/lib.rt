@@ -30,7 +30,7 @@ pub use event::{Doorplate, Event, Log, NoLog, Parting, Visit};
 pub use host::HostLink;
 pub use joining::JoiningLink;
 pub use lobby::{Lobby, TcpDoor, keep_door};
-pub use noted::{Closing, Noted};
+pub use noted::{Closing, Gathering, Noted};
 pub use options::{outlast, outlast_host};
 pub use refusal::refusal_bytes;
 pub use ringing::Ringing;

@@ -21,6 +21,13 @@ pub trait Socket: Drop {
         ensures sent { sent self.new ≡ sent self.old ++ moved result bytes.now }
         ensures received { received self.new ≡ received self.old };
 
+    /// Sends the first of the bytes of both slices at once, those of `first` before those of `second`, and answers how
+    /// many they are.
+    fn send_both(&mut self, first: &[u8], second: &[u8]) -> io::Result<usize>
+        ensures bound { WritesAtMost result (first.now ++ second.now) }
+        ensures sent { sent self.new ≡ sent self.old ++ moved result (first.now ++ second.now) }
+        ensures received { received self.new ≡ received self.old };
+
     /// Receives bytes into the front of the slice, and answers how many they are.
     fn receive(&mut self, into: &mut [u8]) -> io::Result<usize>
         ensures bound { ReadsAtMost result into.new }

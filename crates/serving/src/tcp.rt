@@ -19,7 +19,7 @@ use std::marker::Model;
 use std::sync::{Arc, Wait};
 use std::time::{Clock, Duration, Instant};
 
-/// From this many bytes on a slice is written at once where nothing is kept, and not kept where it finds no room.
+/// From this many bytes on a slice is written at once, behind what is kept, and not kept where it finds no room.
 const LARGE: usize = 16_384;
 
 /// How a connection stands after the system answered so.
@@ -39,8 +39,9 @@ fn parting_after(before: Parting, answer: &io::Result<usize>) -> Parting {
 /// go out.
 ///
 /// `give` keeps small slices, and `take` writes what is kept before it waits, so an answer of many rectangles is one
-/// call of the system. A large slice is written from where it lies; where it finds no room it stays with the caller,
-/// uncopied. While bytes can't go out, rings are left unanswered, so a viewer that takes nothing costs nothing.
+/// call of the system. A large slice is written from where it lies, in one call with what is kept; where it finds no
+/// room it stays with the caller, uncopied. While bytes can't go out, rings are left unanswered, so a viewer that takes
+/// nothing costs nothing.
 ///
 /// It is proved over every socket; a viewer's is a stream over TCP.
 #[derive(Drop)]
@@ -53,7 +54,7 @@ pub struct TcpLink<R: Wait + Clock + Drop, S: Socket = Noted<TcpStream>> {
     is_full: bool,
     // The system had no room for the last write, and no wait has ended since.
     is_blocked: bool,
-    // Kept bytes were lost: a write of them failed.
+    // A write failed: kept bytes may be lost.
     is_broken: bool,
     opened: Instant,
     // This many bytes of the hello are missing.
@@ -209,35 +210,28 @@ impl<R: Wait + Clock + Drop, S: Socket> TcpLink<R, S> {
         }
     }
 
-    /// Writes a large slice at once, where nothing is kept.
+    /// Writes a large slice at once, behind what is kept.
     fn write_large(&mut self, bytes: &[u8]) -> Gave
         ensures { GivesAs result self.old.own self.new.own bytes.now }
     {
-        if bytes.len() < LARGE || !self.kept.is_empty() {
-            return Gave::Nothing;
-        }
-        let answer = self.socket.send(bytes);
-        let gave = self.account.give(&answer, bytes);
+        let kept = self.kept.len();
+        let answer = self.kept.send_with(&mut self.socket, bytes);
         self.parting = parting_after(self.parting, &answer);
-        self.is_blocked = gave == Gave::Nothing;
-        if let Gave::Bytes(count) = gave {
-            self.sent = self.sent.saturating_add(count as u64);
+        match gave_of(&answer) {
+            Gave::Bytes(count) => self.sent = self.sent.saturating_add(count as u64),
+            Gave::Nothing => self.is_blocked = true,
+            _ => self.is_broken = true,
         }
-        gave
+        self.account.give_behind(kept, &answer, bytes)
     }
 
-    /// Keeps as many of the bytes as there is room for, and none where the system had no room.
+    /// Keeps as many of the bytes as there is room for.
     fn keep(&mut self, bytes: &[u8]) -> Gave
         requires { 0 < length bytes.now }
         ensures { GivesAs result self.old.own self.new.own bytes.now }
     {
-        if self.is_blocked {
-            self.is_full = true;
-            return Gave::Nothing;
-        }
         let count = self.kept.keep(bytes);
         if count == 0 {
-            self.is_full = true;
             return Gave::Nothing;
         }
         let (kept, _) = bytes.split_at(count);
@@ -326,10 +320,15 @@ impl<R: Wait + Clock + Drop, S: Socket> Link for TcpLink<R, S> {
             self.account.fail();
             return Gave::Failed;
         }
-        match self.write_large(bytes) {
-            Gave::Nothing => self.keep(bytes),
-            gave => gave,
-        }
+        let gave = if self.is_blocked {
+            Gave::Nothing
+        } else if bytes.len() < LARGE {
+            self.keep(bytes)
+        } else {
+            self.write_large(bytes)
+        };
+        self.is_full = self.is_full || gave == Gave::Nothing;
+        gave
     }
 
     /// Whoever calls this doesn't wait: what found no room before may find it now.

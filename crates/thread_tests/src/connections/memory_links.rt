@@ -105,6 +105,38 @@ fn viewer_is_given_each_byte_in_order_once(rt: HostRuntime) -> Result<(), Fail> 
     Ok(())
 }
 
+/// Whether a large slice that is given goes out behind what is kept, in turns: some of what is kept, the rest of it, and
+/// ten bytes of the slice.
+fn sends_behind<R: Wait + Clock + Drop>(
+    link: &mut TcpLink<R, MemorySocket>,
+    bytes: &[u8; LARGE],
+) -> bool {
+    let is_kept = link.give(VERSION) == Gave::Bytes(12);
+    let waits = [link.give(bytes), link.give(bytes)] == [Gave::Nothing; 2];
+    is_kept && waits && link.socket().sent.as_slice() == VERSION && link.give(bytes) == Gave::Bytes(10)
+}
+
+/// What is kept and a large slice go out in one send, in order and once.
+#[test]
+fn large_slice_goes_out_with_what_is_kept(rt: HostRuntime) -> Result<(), Fail> {
+    let alloc = rt.alloc();
+    let sends = vec![in alloc; Turn::AtMost(5), Turn::AtMost(7), Turn::AtMost(10)]?;
+    let seat = make_seat(&rt)?;
+    let below = socket(alloc, b"", sends, Vec::new(alloc))?;
+    let mut link = TcpLink::over(&rt, alloc, below, &seat)?;
+    let bytes = large();
+    let is_sent = sends_behind(&mut link, &bytes);
+    let (first, rest) = bytes.split_at(10);
+    let is_kept = link.give(VERSION) == Gave::Bytes(12);
+    let is_given = link.give(rest) == Gave::Bytes(LARGE - 10);
+    assert!(rt; is_sent && is_kept && is_given);
+    let sent = link.socket().sent.as_slice();
+    let is_in_order = sent.get(..22) == Some([VERSION, first].concat(alloc)?.as_slice())
+        && sent.get(22..34) == Some(VERSION);
+    assert!(rt; is_in_order && sent.get(34..) == Some(rest));
+    Ok(())
+}
+
 /// Whether the next take brings just these bytes.
 fn brings<L: Link>(link: &mut L, bytes: &[u8]) -> bool {
     let mut into = [0u8; 64];

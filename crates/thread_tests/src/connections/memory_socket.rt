@@ -97,6 +97,18 @@ impl Socket for MemorySocket {
         Ok(count)
     }
 
+    fn send_both(&mut self, first: &[u8], second: &[u8]) -> io::Result<usize> {
+        self.check()?;
+        let most = self.sends.next()?;
+        let (of_first, _) = first.split_at(most.min(first.len()));
+        let left = most - of_first.len();
+        let (of_second, _) = second.split_at(left.min(second.len()));
+        self.sent.reserve(of_first.len() + of_second.len())?;
+        self.sent.extend_from_slice(of_first)?;
+        self.sent.extend_from_slice(of_second)?;
+        Ok(of_first.len() + of_second.len())
+    }
+
     fn receive(&mut self, into: &mut [u8]) -> io::Result<usize> {
         self.check()?;
         let most = self.receives.next()?.min(into.len());
