@@ -1,4 +1,4 @@
-/* load [-s] [-c] PORT WIDTH HEIGHT MODE SECONDS ENCODING SEED
+/* load [-s] [-c] [-o] PORT WIDTH HEIGHT MODE SECONDS ENCODING SEED
  *
  * A VNC host at 127.0.0.1:PORT and viewers of what reflects it, in one process with one clock. MODE:
  *   small     64 by 64 pixels of noise at 16 places, 30 to 50 ms apart
@@ -13,7 +13,8 @@
  * Prints LISTEN; reads lines "PORT COUNT GROUP" (so many viewers there, whose times are printed by group) until "GO";
  * prints BEGIN and how many viewers have a picture, and END, around the measured time; waits for a line; prints a line
  * of JSON, whose times are the median, 95 of 100 and the longest, in milliseconds.
- * -s: halfway one viewer stops reading. -c: at the end the host rests, and pictures are compared.
+ * -s: halfway one viewer stops reading. -c: at the end the host rests, and pictures are compared. -o: all viewers paint
+ * on one screen, so that many large ones fit into memory.
  * The script begins when every viewer has its first picture. It ends by itself 90 seconds after SECONDS at the latest.
  */
 #include "load.h"
@@ -35,7 +36,7 @@ volatile uint32_t last_update;
 volatile int measuring, stopping, begun, painting = 1;
 
 static struct viewer viewers[MOST_VIEWERS];
-static int viewer_count, group_count, with_stall, with_comparison;
+static int viewer_count, group_count, with_stall, with_comparison, on_one;
 static double seconds;
 
 /* What was counted in the measured time. */
@@ -74,7 +75,7 @@ static void add_viewer(int port, int group, int encoding)
     viewer->port = port;
     viewer->group = group;
     viewer->encoding = encoding;
-    viewer->screen = calloc((size_t)script.width * script.height, 4);
+    viewer->screen = on_one && viewer != viewers ? viewers[0].screen : calloc((size_t)script.width * script.height, 4);
     viewer->input = malloc(INPUT_BYTES);
     viewer->times_room = 1 << 20;
     viewer->times = malloc(viewer->times_room * sizeof(float));
@@ -218,6 +219,7 @@ int main(int count, char **words)
     for (; count > 1 && words[1][0] == '-'; count--, words++) {
         with_stall |= words[1][1] == 's';
         with_comparison |= words[1][1] == 'c';
+        on_one |= words[1][1] == 'o';
     }
     if (count != 8) return 2;
     prctl(PR_SET_PDEATHSIG, SIGKILL);
