@@ -1,0 +1,55 @@
+//! Parts of lines.
+
+ghost use Rattle.std.specs.Prelude.{◌≡◌, ◌++◌, OnOk};
+ghost use Rattle.std.specs.String.{string_bytes};
+ghost use Rattle.std.specs.Fmt.{decimal};
+ghost use Rattle.run_state.specs.State.{entry_word, role_word, yes_word};
+
+use itoa::Buffer;
+use roles::Role;
+use run_control::Entry;
+use std::alloc::AllocError;
+
+/// `open`, `drained` or `closed`.
+pub(crate) fn entry_word(entry: Entry) -> &'static str
+    ensures { result.now ≡ entry_word entry }
+{
+    match entry {
+        Entry::Open => "open",
+        Entry::Drained => "drained",
+        Entry::Closed => "closed",
+    }
+}
+
+/// `full` or `view`.
+pub(crate) fn role_word(role: Role) -> &'static str
+    ensures { result.now ≡ role_word role }
+{
+    match role {
+        Role::Full => "full",
+        Role::View => "view",
+    }
+}
+
+/// `yes` or `no`.
+pub(crate) fn yes_word(is: bool) -> &'static str
+    ensures { result.now ≡ yes_word is }
+{
+    if is { "yes" } else { "no" }
+}
+
+/// Puts a word behind what goes before it.
+pub(crate) fn put_word(text: &mut String, before: &str, word: &str) -> Result<(), AllocError>
+    ensures { OnOk result (string_bytes text.new ≡ string_bytes text.old ++ before.now ++ word.now) }
+{
+    text.push_str(before)?;
+    text.push_str(word)
+}
+
+/// Puts a number behind what goes before it.
+pub(crate) fn put_number(text: &mut String, before: &str, number: u64) -> Result<(), AllocError>
+    ensures { OnOk result (string_bytes text.new ≡ string_bytes text.old ++ before.now ++ decimal number) }
+{
+    text.push_str(before)?;
+    text.push_str(Buffer::new().format(number))
+}

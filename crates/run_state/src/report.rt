@@ -1,0 +1,59 @@
+//! What is told.
+
+use roles::Role;
+use run_control::Entry;
+
+/// A host that is joined.
+#[derive(Clone, Copy, Debug)]
+pub struct HostReport<'a> {
+    /// Its address, as text.
+    pub address: &'a str,
+    /// Its name, of which what isn't printable is escaped, and quotation marks are.
+    pub name: &'a str,
+    /// The width of its screen in pixels.
+    pub width: u64,
+    /// The height.
+    pub height: u64,
+    /// For how many seconds it has been joined.
+    pub seconds: u64,
+    /// How many seconds ago its last byte came.
+    pub silent: u64,
+    /// How many updates it has sent.
+    pub updates: u64,
+}
+
+/// A viewer that has a place.
+#[derive(Clone, Copy, Debug)]
+pub struct ViewerReport<'a> {
+    /// The number of the place, counted from 1.
+    pub place: u64,
+    /// What the viewer may do.
+    pub role: Role,
+    /// Its address, as text.
+    pub address: &'a str,
+    /// For how many seconds it has been there.
+    pub seconds: u64,
+    /// How many updates were begun for it.
+    pub updates: u64,
+    /// How many bytes it was sent.
+    pub bytes: u64,
+    /// By how many updates it is behind.
+    pub behind: u64,
+    /// Whether it was asked to leave.
+    pub is_asked: bool,
+}
+
+/// How a run stands.
+#[derive(Clone, Copy, Debug)]
+pub struct Report<'a> {
+    /// Whether viewers are let in.
+    pub entry: Entry,
+    /// The host, if one is joined.
+    pub host: Option<HostReport<'a>>,
+    /// How many places there are for viewers with full control.
+    pub full_places: u64,
+    /// How many for viewers that only look on.
+    pub view_places: u64,
+    /// Who has a place, in the order of the places.
+    pub viewers: &'a [ViewerReport<'a>],
+}

@@ -1,0 +1,129 @@
+//! How a run stands, as it was written by hand.
+
+use crate::json::state_json;
+use crate::report::{HostReport, Report, ViewerReport};
+use crate::text::state_text;
+use roles::Role;
+use run_control::Entry;
+use serde_json::Value;
+use std::test::Fail;
+
+const EXPECTED: &str = "entry drained
+places role=full places=4
+places role=view places=32
+host address=127.0.0.1:5907 width=1280 height=800 seconds=3600 silent=2 updates=77 name=\"desk of \\\"x\\\"\"
+viewer place=1 role=full address=192.0.2.9:50000 seconds=12 updates=34 bytes=5678 behind=0 asked=no
+viewer place=7 role=view address=- seconds=0 updates=0 bytes=0 behind=77 asked=yes
+";
+
+const VIEWERS: [ViewerReport<'static>; 2] = [
+    ViewerReport {
+        place: 1,
+        role: Role::Full,
+        address: "192.0.2.9:50000",
+        seconds: 12,
+        updates: 34,
+        bytes: 5678,
+        behind: 0,
+        is_asked: false,
+    },
+    ViewerReport {
+        place: 7,
+        role: Role::View,
+        address: "-",
+        seconds: 0,
+        updates: 0,
+        bytes: 0,
+        behind: 77,
+        is_asked: true,
+    },
+];
+
+fn report<'a>(viewers: &'a [ViewerReport<'a>]) -> Report<'a> {
+    Report {
+        entry: Entry::Drained,
+        host: Some(HostReport {
+            address: "127.0.0.1:5907",
+            name: "desk of \\\"x\\\"",
+            width: 1280,
+            height: 800,
+            seconds: 3600,
+            silent: 2,
+            updates: 77,
+        }),
+        full_places: 4,
+        view_places: 32,
+        viewers,
+    }
+}
+
+#[test]
+fn each_viewer_has_its_line(rt: HostRuntime) -> Result<(), Fail> {
+    let text = state_text(rt.alloc(), &report(&VIEWERS))?;
+    assert_eq!(rt; text.as_str(), EXPECTED);
+    let mut empty = report(&[]);
+    empty.host = None;
+    empty.entry = Entry::Open;
+    let text = state_text(rt.alloc(), &empty)?;
+    assert_eq!(rt;
+        text.as_str(),
+        "entry open\nplaces role=full places=4\nplaces role=view places=32\nhost none\n"
+    );
+    Ok(())
+}
+
+#[test]
+fn the_same_stands_in_json(rt: HostRuntime) -> Result<(), Fail> {
+    let text = state_json(rt.alloc(), &report(&VIEWERS))?;
+    let value = Value::from_str(rt.alloc(), text.as_str())?;
+    for (path, number) in [
+        ("/full_places", 4),
+        ("/view_places", 32),
+        ("/host/width", 1280),
+        ("/host/height", 800),
+        ("/host/seconds", 3600),
+        ("/host/silent", 2),
+        ("/host/updates", 77),
+        ("/viewers/0/place", 1),
+        ("/viewers/0/seconds", 12),
+        ("/viewers/0/updates", 34),
+        ("/viewers/0/bytes", 5678),
+        ("/viewers/1/place", 7),
+        ("/viewers/1/behind", 77),
+    ] {
+        assert_eq!(rt;
+            value.pointer(path).and_then(Value::as_u64),
+            Some(number),
+            "{path}"
+        );
+    }
+    for (path, word) in [
+        ("/entry", "drained"),
+        ("/host/address", "127.0.0.1:5907"),
+        ("/host/name", "desk of \\\"x\\\""),
+        ("/viewers/0/role", "full"),
+        ("/viewers/0/address", "192.0.2.9:50000"),
+        ("/viewers/1/role", "view"),
+    ] {
+        assert_eq!(rt;
+            value.pointer(path).and_then(Value::as_str),
+            Some(word),
+            "{path}"
+        );
+    }
+    assert_eq!(rt;
+        value.pointer("/viewers/0/asked").and_then(Value::as_bool),
+        Some(false)
+    );
+    assert_eq!(rt;
+        value.pointer("/viewers/1/asked").and_then(Value::as_bool),
+        Some(true)
+    );
+    let mut empty = report(&[]);
+    empty.host = None;
+    let text = state_json(rt.alloc(), &empty)?;
+    let value = Value::from_str(rt.alloc(), text.as_str())?;
+    assert!(rt; value.pointer("/host").is_some_and(Value::is_null));
+    assert!(rt; value.pointer("/viewers/0").is_none());
+    Ok(())
+}
