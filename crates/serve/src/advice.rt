@@ -87,7 +87,10 @@ impl Display for Way<'_> {
         let option = self.option;
         match self.kind() {
             Some(ErrorKind::PermissionDenied) => {
-                write!(f, "ports below 1024 are for root; choose another by {option}")
+                write!(
+                    f,
+                    "ports below 1024 are for root; choose another by {option}"
+                )
             }
             Some(ErrorKind::AddrNotAvailable) => write!(
                 f,

@@ -43,7 +43,7 @@ placed P id (r ∷ rules) d some all = go (bytes_eq r.id id) refl some all (plac
     go : (b : Bool) → bytes_eq r.id id ≡ b → 0 < length (cond b (r ∷ named id rules) (named id rules))
         → AllByRecursion P (cond b (r ∷ named id rules) (named id rules))
         → (0 < length (named id rules) → AllByRecursion P (named id rules)
-            → (k : ℕ) × (k < length rules) × ((slice_index_or rules k d).id ≡ id) × P (slice_index_or rules k d))
+        → (k : ℕ) × (k < length rules) × ((slice_index_or rules k d).id ≡ id) × P (slice_index_or rules k d))
         → (k : ℕ) × (k < length (r ∷ rules)) × ((slice_index_or (r ∷ rules) k d).id ≡ id) × P (slice_index_or (r ∷ rules) k d)
     go true is some all rest = (zero, omega arith, (bytes_eq-Decides r.id id).0 is, all.0)
     go false is some all rest = let p = rest some all in (suc p.0, omega arith, p.2, p.3)

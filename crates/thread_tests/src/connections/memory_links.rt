@@ -113,7 +113,10 @@ fn sends_behind<R: Wait + Clock + Drop>(
 ) -> bool {
     let is_kept = link.give(VERSION) == Gave::Bytes(12);
     let waits = [link.give(bytes), link.give(bytes)] == [Gave::Nothing; 2];
-    is_kept && waits && link.socket().sent.as_slice() == VERSION && link.give(bytes) == Gave::Bytes(10)
+    is_kept
+        && waits
+        && link.socket().sent.as_slice() == VERSION
+        && link.give(bytes) == Gave::Bytes(10)
 }
 
 /// What is kept and a large slice go out in one send, in order and once.
