@@ -44,6 +44,7 @@ impl Turns {
 /// A socket whose peer sends these bytes and takes any. What was sent and received are lists in memory.
 #[derive(Drop)]
 pub(crate) struct MemorySocket {
+    alloc: Global,
     comes: Vec<u8>,
     came: usize,
     sends: Turns,
@@ -66,6 +67,7 @@ impl MemorySocket {
         ensures received { result.received.items ≡ [] }
     {
         MemorySocket {
+            alloc,
             comes,
             came: 0,
             sends: Turns::new(sends),
@@ -98,15 +100,10 @@ impl Socket for MemorySocket {
     }
 
     fn send_both(&mut self, first: &[u8], second: &[u8]) -> io::Result<usize> {
-        self.check()?;
-        let most = self.sends.next()?;
-        let (of_first, _) = first.split_at(most.min(first.len()));
-        let left = most - of_first.len();
-        let (of_second, _) = second.split_at(left.min(second.len()));
-        self.sent.reserve(of_first.len() + of_second.len())?;
-        self.sent.extend_from_slice(of_first)?;
-        self.sent.extend_from_slice(of_second)?;
-        Ok(of_first.len() + of_second.len())
+        let mut both = Vec::new(self.alloc);
+        both.extend_from_slice(first)?;
+        both.extend_from_slice(second)?;
+        self.send(both.as_slice())
     }
 
     fn receive(&mut self, into: &mut [u8]) -> io::Result<usize> {
