@@ -3,3 +3,4 @@ pub mod Lengths
 pub mod Steps
 pub mod Going
 pub mod LedOn
+mod Front

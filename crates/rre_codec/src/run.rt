@@ -1,6 +1,6 @@
 //! Runs of one value in a row.
 
-ghost use Rattle.std.specs.Prelude.{◌≡◌, ◌+◌, ◌<◌, ◌≤◌, ◌^◌, ◌++◌, ◌==◌, length, take, take_while};
+ghost use Rattle.std.specs.Prelude.{◌≡◌, ℕ, ◌+◌, ◌<◌, ◌≤◌, ◌^◌, ◌++◌, ◌==◌, true, false, length, slice_index, take, take_while};
 ghost use Rattle.pixel_format.specs.PixelFormat.{pixel_len};
 ghost use Rattle.raster.specs.Encoding.{rre_subrect_bytes};
 ghost use Rattle.joined_runs.specs.Found.{subrect_as_high};
@@ -8,15 +8,51 @@ ghost use Rattle.joined_runs.specs.Found.{subrect_as_high};
 use joined_runs::RowRun;
 use pixel_format::Format;
 use raster::{RECT_LEN, Rect};
+use std::simd::cmp::SimdPartialEq;
+use std::simd::u32x16;
 
 /// How many bytes the number of subrectangles has.
 pub const COUNT_LEN: usize = 4;
+
+/// This many values are compared at once.
+const LANES: usize = 16;
+
+/// How many of the next sixteen values are this one, before another comes.
+fn same_from(values: &[u32], from: usize, value: u32) -> usize
+    requires { from + LANES ≤ length values.now }
+    ensures few { result ≤ LANES }
+    ensures same { (k : ℕ) → from ≤ k → k < from + result → slice_index values.now k == value ≡ true }
+    ensures stops { result < LANES → slice_index values.now (from + result) == value ≡ false }
+{
+    let next = u32x16::from_slice(&values[from..]);
+    let others = next.simd_ne(u32x16::splat(value)).to_bitmask();
+    if others == 0 {
+        LANES
+    } else {
+        others.trailing_zeros() as usize
+    }
+}
+
+/// How many values at the front are this one, looked at one by one.
+fn run_len_by_one(values: &[u32], value: u32) -> usize
+    ensures { result ≡ length (take_while (λ v. v == value) values.now) }
+{
+    values.iter().take_while(|v| **v == value).count()
+}
 
 /// How many values at the front are this one.
 pub fn run_len(values: &[u32], value: u32) -> usize
     ensures { result ≡ length (take_while (λ v. v == value) values.now) }
 {
-    values.iter().take_while(|v| **v == value).count()
+    let mut len = 0;
+    while len + LANES <= values.len() {
+        let same = same_from(values, len, value);
+        len += same;
+        if same < LANES {
+            return len;
+        }
+    }
+    len + run_len_by_one(&values[len..], value)
 }
 
 /// Writes a run as a subrectangle that is `high` pixels high, from index `used` of `out` on: its pixel, and then its
