@@ -239,6 +239,38 @@ fn colours_left_off(rt: HostRuntime) {
     assert!(rt; is_joined_as(&values, 1, 34, &Format::HOST, &wanted));
 }
 
+/// A tile of 256 values is Raw, and one of a single value below it is its background alone.
+#[test]
+fn a_crowded_tile(rt: HostRuntime) {
+    let mut values = [RED; 272];
+    let mut wanted = [0u8; 1030];
+    wanted[0] = 1;
+    for k in 0..256 {
+        values[k] = k as u32;
+        wanted[1 + 4 * k] = k as u8;
+    }
+    wanted[1025..].copy_from_slice(&[2, 0, 0, 0xFF, 0]);
+    assert!(rt; is_joined_as(&values, 16, 17, &Format::HOST, &wanted));
+}
+
+/// Sixteen columns of a value each: no row begins a run below the first, so 15 subrectangles stand over the first value.
+#[test]
+fn columns(rt: HostRuntime) {
+    let mut values = [0; 256];
+    for k in 0..256 {
+        values[k] = (k % 16) as u32;
+    }
+    let mut wanted = [0u8; 96];
+    wanted[0] = 0x1A;
+    wanted[5] = 15;
+    for k in 1..16 {
+        wanted[6 * k] = k as u8;
+        wanted[6 * k + 4] = 16 * k as u8;
+        wanted[6 * k + 5] = 0x0F;
+    }
+    assert!(rt; is_joined_as(&values, 16, 16, &Format::HOST, &wanted));
+}
+
 /// In eight bits: two columns of three, as one subrectangle.
 #[test]
 fn narrow_pixels(rt: HostRuntime) -> Result<(), Fail> {

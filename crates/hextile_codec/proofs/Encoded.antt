@@ -1,8 +1,8 @@
 -- What is answered of a rectangle, from what its tiles come to. Both forms are answered so.
-use Rattle.std.proofs.Common.{◌≡◌, ◌*◌, ◌<◌, ◌≤◌, ◌∙◌, ◌++◌, Bool, true, false, cond, ℕ, List, Option, Some, None, length, take, drop, sym, ap, arith}
+use Rattle.std.proofs.Common.{◌≡◌, ◌*◌, ◌<◌, ◌≤◌, ◌∙◌, ◌++◌, Bool, true, false, cond, ℕ, List, Option, Some, None, length, take, ap, arith}
 use Rattle.std.specs.Prelude.{MatchOption, nat_le, unwrap_or}
 use Rattle.std.proofs.lemmas.Bool.{lt-ltb, le-ltb, le-leb, lt-leb}
-use Rattle.std.proofs.lemmas.List.{length-take, take-append-le}
+use Rattle.std.proofs.lemmas.List.{take-append-le}
 use Rattle.pixel_format.specs.PixelFormat.{PixelFormat, pixel_len}
 use Rattle.raster.specs.declared.encoding.Encoding.TheVariants.{Hextile}
 use Rattle.raster.specs.Screen.{value_at, tile_count}

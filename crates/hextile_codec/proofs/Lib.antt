@@ -25,3 +25,6 @@ pub mod MostFound
 pub mod TilePixels
 pub mod JoinedFound
 pub mod Encoded
+pub mod Tallies
+pub mod Crowds
+pub mod PlainTile

@@ -35,7 +35,7 @@ zip_bit row other x size same lt =
 pub no_more : (a b : ℕ) → b ≡ 0 → max a b ≡ a
 no_more a b e = omega (arith, e)
 
-both_bits : (a b : Bool) → min (bit_of a) (bit_of b) ≡ bit_of (a && b)
+pub both_bits : (a b : Bool) → min (bit_of a) (bit_of b) ≡ bit_of (a && b)
 both_bits true true = refl
 both_bits true false = refl
 both_bits false true = refl

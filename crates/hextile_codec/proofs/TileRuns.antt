@@ -59,7 +59,7 @@ rows_above canvas background y found now le added a =
 
 -- ---- some of them are too many
 
-mixed_front : (ss ts : List Subrect) → has_one_value ss ≡ false → has_one_value (ss ++ ts) ≡ false
+pub mixed_front : (ss ts : List Subrect) → has_one_value ss ≡ false → has_one_value (ss ++ ts) ≡ false
 mixed_front [] ts e = absurd cc
 mixed_front (s ∷ ss) ts e = list_all-append (λ t. t.value == s.value) ss ts ∙ ap (λ b. b && list_all (λ t. t.value == s.value) ts) e
 

@@ -3,3 +3,4 @@ pub mod Carried
 pub mod Kinds
 pub mod Bits
 pub mod Marks
+pub mod Crowded

@@ -8,8 +8,9 @@ ghost use Rattle.joined_runs.specs.Joined.{background_of, subrects_of, written};
 ghost use Rattle.hextile_codec.specs.Kinds.{HasMany, IsRowRun, IsFoundAs, subrect_of};
 ghost use Rattle.hextile_codec.specs.Marks.{LiesAmong};
 
+use crate::crowded::is_crowded;
 use crate::frequent::{Pixels, most_frequent, take_pixels};
-use crate::runs::{Found, Run, find_all, find_runs};
+use crate::runs::{Found, Run, find_all, find_runs, is_plain};
 use joined_runs::{RowRun, Runs, height};
 use raster::{Rect, TILE_SIDE};
 
@@ -58,7 +59,7 @@ fn join(values: &[u32], w: usize, tile: &Rect, runs: &[Run], joined: &mut Found)
 }
 
 /// Finds the joined runs of a tile over its most frequent value, and answers that.
-fn find_joined(values: &[u32], w: usize, tile: &Rect, room: &mut Room) -> u32
+fn search_joined(values: &[u32], w: usize, tile: &Rect, room: &mut Room) -> u32
     requires lies { LiesAmong values.now w tile.now }
     requires w_some { 0 < tile.now.w }
     requires w_most { tile.now.w ≤ TILE_SIDE }
@@ -71,6 +72,28 @@ fn find_joined(values: &[u32], w: usize, tile: &Rect, room: &mut Room) -> u32
     find_all(values, w, tile, background, &mut room.runs);
     join(values, w, tile, room.runs.as_slice(), &mut room.subrects);
     background
+}
+
+/// The same, where a tile of one value is answered at once, and one that will be Raw is left as soon as that shows;
+/// `None` as `find_subrects` answers it.
+fn find_joined(values: &[u32], w: usize, tile: &Rect, enough: usize, room: &mut Room) -> Option<u32>
+    requires lies { LiesAmong values.now w tile.now }
+    requires w_some { 0 < tile.now.w }
+    requires w_most { tile.now.w ≤ TILE_SIDE }
+    requires h_some { 0 < tile.now.h }
+    requires h_most { tile.now.h ≤ TILE_SIDE }
+    requires some { 0 < enough }
+    ensures { let canvas = part_of tile.now (value_at w values.now) in MatchOption result (HasMany Joined tile.now.w tile.now.h canvas enough) (IsFoundAs Joined tile.now.w tile.now.h canvas (map subrect_of room.new.subrects.items)) }
+{
+    let first = values[tile.y as usize * w + tile.x as usize];
+    if is_plain(values, w, tile, first) {
+        room.subrects.clear();
+        return Some(first);
+    }
+    if tile.w == TILE_SIDE && tile.h == TILE_SIDE && is_crowded(values, w, tile, enough) {
+        return None;
+    }
+    Some(search_joined(values, w, tile, room))
 }
 
 /// Finds the subrectangles of a tile in a form, and answers its background.
@@ -89,6 +112,7 @@ pub fn find_subrects(
     requires w_most { tile.now.w ≤ TILE_SIDE }
     requires h_some { 0 < tile.now.h }
     requires h_most { tile.now.h ≤ TILE_SIDE }
+    requires some { 0 < enough }
     ensures { let canvas = part_of tile.now (value_at w values.now) in MatchOption result (HasMany form tile.now.w tile.now.h canvas enough) (IsFoundAs form tile.now.w tile.now.h canvas (map subrect_of room.new.subrects.items)) }
 {
     match form {
@@ -97,6 +121,6 @@ pub fn find_subrects(
             let found = &mut room.subrects;
             find_runs(values, w, tile, background, enough, found).then_some(background)
         }
-        Runs::Joined => Some(find_joined(values, w, tile, room)),
+        Runs::Joined => find_joined(values, w, tile, enough, room),
     }
 }

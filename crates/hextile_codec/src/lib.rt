@@ -8,6 +8,7 @@
 #![tactic(auto)]
 
 mod colours;
+mod crowded;
 mod drawing;
 mod frequent;
 mod head;

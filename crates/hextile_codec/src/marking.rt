@@ -17,7 +17,7 @@ use std::simd::u32x16;
 const ROW: u64 = 1 << 16;
 
 /// A bit for each position at which two rows of 16 differ.
-fn differences(row: u32x16, other: u32x16) -> u64
+pub fn differences(row: u32x16, other: u32x16) -> u64
     requires row { length row ≡ 16 }
     requires other { length other ≡ 16 }
     ensures bits { (x : ℕ) → x < 16 → bit_at result x ≡ bit_of (not (slice_index row x == slice_index other x)) }
@@ -27,7 +27,7 @@ fn differences(row: u32x16, other: u32x16) -> u64
 }
 
 /// A row of 16 with each value one further to the right, and the last in front.
-fn turned(row: u32x16) -> u32x16
+pub fn turned(row: u32x16) -> u32x16
     requires { length row ≡ 16 }
     ensures count { length result ≡ 16 }
     ensures values { (x : ℕ) → 0 < x → x < 16 → slice_index result x ≡ slice_index row (x - 1) }

@@ -68,7 +68,7 @@ fn is_all(row: &[u32], value: u32) -> bool
 }
 
 /// Whether a tile shows its background alone. A whole row is compared at once, and nothing else is done.
-fn is_plain(values: &[u32], w: usize, tile: &Rect, background: u32) -> bool
+pub fn is_plain(values: &[u32], w: usize, tile: &Rect, background: u32) -> bool
     requires { LiesAmong values.now w tile.now }
     ensures { IsTrue result → runs_over (part_of tile.now (value_at w values.now)) background tile.now.w tile.now.h ≡ [] }
 {
@@ -260,10 +260,6 @@ pub fn find_all(values: &[u32], w: usize, tile: &Rect, background: u32, found: &
     requires h_most { tile.now.h ≤ TILE_SIDE }
     ensures { map subrect_of found.new.items ≡ runs_over (part_of tile.now (value_at w values.now)) background tile.now.w tile.now.h }
 {
-    if is_plain(values, w, tile, background) {
-        found.clear();
-        return;
-    }
     if tile.w == TILE_SIDE
         && tile.h == TILE_SIDE
         && find_marked(values, w, tile, background, TILE_AREA + 1, found)

@@ -1,8 +1,8 @@
-use Rattle.std.proofs.Common.{◌≡◌, ◌<◌, ◌≤◌, ◌+◌, ◌-◌, ◌∙◌, ℕ, List, length, take, drop, get_or, sym, ap, arith, inl, inr}
+use Rattle.std.proofs.Common.{◌≡◌, ◌<◌, ◌-◌, ◌∙◌, ℕ, List, length, take, drop, get_or, ap, arith, inl, inr}
 use Rattle.std.proofs.lemmas.List.{take_all, length-drop}
 use Rattle.std.proofs.lemmas.Bool.{cases_lt}
 use Rattle.joined_runs.specs.Joined.{count_of}
-use Rattle.hextile_codec.proofs.MostFound.{count_few, one_is_best, best_again, same_again, better, not_better, none_left, half, best_is}
+use Rattle.hextile_codec.proofs.MostFound.{count_few, best_again, same_again, better, not_better, none_left, half, best_is}
 use Rattle.hextile_codec.proofs.frequent.most_frequent.Goals as goal
 use Rattle.hextile_codec.proofs.frequent.most_frequent.Goals.{then-value-best+then-value-values+then-count-most, then-value-best+then-value-values+else-count-most, else-value-best, else-value-best-via-then-value-best+else-value-values, else-value-best-via-else-value-best}
 

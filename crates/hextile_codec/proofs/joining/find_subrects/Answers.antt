@@ -1,4 +1,4 @@
-use Rattle.std.proofs.Common.{◌≡◌, ℕ, Bool, true, false, Option, Some, None, List, map, ap, sym, refl}
+use Rattle.std.proofs.Common.{◌≡◌, ℕ, Bool, true, false, List, map, refl}
 use Rattle.std.specs.Prelude.{MatchOption}
 use Rattle.std.specs.Bool.{then_some}
 use Rattle.raster.specs.declared.rect.Rect.{Rect}

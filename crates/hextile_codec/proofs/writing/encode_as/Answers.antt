@@ -1,8 +1,8 @@
-use Rattle.std.proofs.Common.{◌≡◌, ◌*◌, ◌≤◌, ◌∙◌, ℕ, List, length, take, drop, ap, sym, arith, refl}
+use Rattle.std.proofs.Common.{◌≡◌, ◌*◌, ℕ, List, length, take, drop, ap, arith}
 use Rattle.std.proofs.lemmas.List.{length-take}
 use Rattle.pixel_format.specs.PixelFormat.{pixel_len}
 use Rattle.joined_runs.specs.declared.runs.Runs.TheVariants.{OfRows, Joined}
-use Rattle.hextile_codec.proofs.Encoded.{AreAnswered, encoded, rows_form, joined_form}
+use Rattle.hextile_codec.proofs.Encoded.{encoded, rows_form, joined_form}
 use Rattle.hextile_codec.proofs.writing.encode_as.Goals as goal
 
 pub returns-in-OfRows : goal.returns-in-OfRows
