@@ -14,7 +14,8 @@
  * prints BEGIN and how many viewers have a picture, and END, around the measured time; waits for a line; prints a line
  * of JSON, whose times are the median, 95 of 100 and the longest, in milliseconds.
  * -s: halfway one viewer stops reading. -c: at the end the host rests, and pictures are compared. -o: all viewers paint
- * on one screen, so that many large ones fit into memory.
+ * on one screen, so that many large ones fit into memory, and each comes once the one before has a picture, or half a
+ * second after it.
  * The script begins when every viewer has its first picture. It ends by itself 90 seconds after SECONDS at the latest.
  */
 #include "load.h"
@@ -88,7 +89,10 @@ static void add_groups(int encoding)
     int port, count, group;
     while (fgets(line, sizeof line, stdin) && sscanf(line, "%d %d %d", &port, &count, &group) == 3) {
         if (group < 0 || group >= MOST_GROUPS || viewer_count + count > MOST_VIEWERS) exit(2);
-        while (count--) add_viewer(port, group, encoding);
+        while (count--) {
+            add_viewer(port, group, encoding);
+            for (double end = now() + 0.5; on_one && now() < end && !viewers[viewer_count - 1].ready;) nap(0.01);
+        }
         if (group >= group_count) group_count = group + 1;
     }
 }
