@@ -137,6 +137,7 @@ fn doors_of(
             place,
             scripts,
             may_end: true,
+            hoard: None,
         };
         doors.push((Role::Full, queue))?;
     }
@@ -170,6 +171,7 @@ where
         place: 0,
         scripts: course.hosts,
         may_end: course.may_end,
+        hoard: None,
     };
     let doors = doors_of(alloc, board, course)?;
     let Some((reader, writer)) = Hosts::next(&mut hosts) else {
