@@ -68,6 +68,7 @@ pub(crate) fn stay<L: Link, H: Hosts<L>, P: Puts, W: Bell + Drop, R: Wait>(
     requires pair { IsFor screen.decoder screen.painter }
     requires publisher { (P.width publisher.old ≡ ground.now.width) × (P.height publisher.old ≡ ground.now.height) }
     ensures publisher { (P.width publisher.new ≡ P.width publisher.old) × (P.height publisher.new ≡ P.height publisher.old) }
+    ensures again { H.again hosts.new ≡ H.again hosts.old }
     ensures read { (left : LinkState) × (map L.state links.new.items ≡ map L.state links.old.items ++ left ∷ []) × IsRead ground.now.width ground.now.height result (L.state link) left (P.updates publisher.old) (P.updates publisher.new) }
 {
     let answer = read(rt, ground.alloc, &mut link, screen, publisher);
@@ -131,6 +132,7 @@ fn meet<L: Link, H: Hosts<L>, P: Puts, R: Wait>(
 ) -> Result<HostScreen, Fault>
     requires { (P.width publisher.old ≡ ground.now.width) × (P.height publisher.old ≡ ground.now.height) }
     ensures publisher { (P.width publisher.new ≡ P.width publisher.old) × (P.height publisher.new ≡ P.height publisher.old) }
+    ensures again { H.again hosts.new ≡ H.again hosts.old }
     ensures links { links.new.items ≡ links.old.items }
     ensures room { OnOk result (vec_len links.new < vec_capacity links.new) }
     ensures size { IfOk result (λ screen. (screen.decoder.width ≡ ground.now.width) × (screen.decoder.height ≡ ground.now.height)) }
@@ -162,6 +164,7 @@ pub(crate) fn take_turn<L: Link, H: Hosts<L>, P: Puts, W: Bell + Drop, R: Wait>(
     requires came { H.came ends.0 }
     requires publisher { (P.width publisher.old ≡ ground.now.width) × (P.height publisher.old ≡ ground.now.height) }
     ensures publisher { (P.width publisher.new ≡ P.width publisher.old) × (P.height publisher.new ≡ P.height publisher.old) }
+    ensures again { H.again hosts.new ≡ H.again hosts.old }
     ensures turn { HasTurn ground.now.width ground.now.height (IsLinkOf L.state H.came) result (map L.state links.old.items) (map L.state links.new.items) (P.updates publisher.old) (P.updates publisher.new) }
 {
     let (mut reader, writer) = ends;

@@ -1,6 +1,6 @@
 //! One host after another.
 
-ghost use Rattle.std.specs.Prelude.{◌≡◌, ◌<◌, List, [], map, vec_capacity};
+ghost use Rattle.std.specs.Prelude.{◌≡◌, ◌<◌, true, None, List, [], map, vec_capacity};
 ghost use Rattle.raster.specs.Screen.{opening};
 ghost use Rattle.raster.specs.Update.{Update};
 ghost use Rattle.host_decoder.specs.Decoder.{Decodes, IsFor, host_message};
@@ -49,6 +49,7 @@ fn read_others<L: Link, H: Hosts<L>, P: Puts, W: Bell + Drop, R: Wait>(
     ensures run { (link : LinkState) (old : List Update) → HasRun ground.now.width ground.now.height (IsLinkOf L.state H.came) answer link (map L.state links.old.items) old (P.updates publisher.old)
         → HasRun ground.now.width ground.now.height (IsLinkOf L.state H.came) result link (map L.state links.new.items) old (P.updates publisher.new) }
     ensures over { IsOver H.are_out hosts.new result }
+    ensures never { goes_on result ≡ true → H.again hosts.old ≡ None }
 {
     let mut last = answer;
     for _ in rt.forever() {
@@ -65,6 +66,8 @@ fn read_others<L: Link, H: Hosts<L>, P: Puts, W: Bell + Drop, R: Wait>(
 
 /// Reads the first host and then the others, in turn, and adds the links of those that were read. Each is handed over to
 /// whoever tells it while it is read.
+///
+/// Where the first has its turn again it ends only with an answer after which no host is taken.
 ///
 /// It answers as the last of them did: with the fault of reading it or of joining it, `BadScreen` where its screen has
 /// another size, `Memory` where memory is refused for what it wants, and `NumbersOut` where its switch has no number.
@@ -85,6 +88,7 @@ pub fn read_all<L: Link, H: Hosts<L>, P: Puts, W: Bell + Drop, R: Wait>(
     requires publisher { (P.width publisher.old ≡ ground.now.width) × (P.height publisher.old ≡ ground.now.height) }
     ensures run { HasRun ground.now.width ground.now.height (IsLinkOf L.state H.came) result (L.state first) (map L.state links.new.items) (P.updates publisher.old) (P.updates publisher.new) }
     ensures over { IsOver H.are_out hosts.new result }
+    ensures never { goes_on result ≡ true → H.again hosts.old ≡ None }
 {
     let answer = stay(rt, ground, first, screen, hosts, links, publisher, handover);
     let last = read_others(rt, ground, answer, hosts, links, publisher, handover);

@@ -1,6 +1,6 @@
 //! Where further hosts come from.
 
-ghost use Rattle.std.specs.Prelude.{◌≡◌, IfSome, IsNone};
+ghost use Rattle.std.specs.Prelude.{◌≡◌, None, IfSome, IsNone};
 
 use link::Link;
 use pixel_format::Fault;
@@ -8,6 +8,8 @@ use rfb_wire::Joined;
 
 /// Where the hosts come from that follow on one that has ended. It is asked in the thread that reads the hosts.
 pub trait Hosts<L: Link>: Drop {
+    ghost use Rattle.std.specs.Prelude.{ℕ, Option};
+
     /// That this is the end to be read of a host's connection, just as it came, which only `next` says. What this means
     /// is up to each supply.
     ghost came: { L → Type 0 };
@@ -15,20 +17,28 @@ pub trait Hosts<L: Link>: Drop {
     /// That no host is left, which only `next` says. What this means is up to each supply.
     ghost are_out: { Self → Type 0 };
 
+    /// How many seconds after the last host the first has its turn again, or `None` where it hasn't. No call changes
+    /// it, and where the first has its turn again there is always a next host.
+    ghost again: { Self → Option ℕ };
+
     /// The connection to the next host, the end to be read and the end to be written, or `None` where no host is left.
     /// It may wait without an end. The host is joined over the first of them, so a limit of time for the handshake is
     /// up to that link.
     fn next(&mut self) -> Option<(L, L)>
         ensures came { IfSome result (λ ends. came ends.0) }
-        ensures out { IsNone result → are_out self.new };
+        ensures out { IsNone result → are_out self.new }
+        ensures never { IsNone result → again self.old ≡ None }
+        ensures again { again self.new ≡ again self.old };
 
     /// A host was joined at the screen's size. It is read from now on, so a limit of time may be lifted.
     fn joined(&mut self, reader: &mut L, host: &Joined)
-        ensures { L.state reader.new ≡ L.state reader.old };
+        ensures link { L.state reader.new ≡ L.state reader.old }
+        ensures again { again self.new ≡ again self.old };
 
     /// A host was read, the first one too, and ended so, or it wasn't joined, or its screen has another size.
     fn left(&mut self, reader: &mut L, why: Result<(), Fault>)
-        ensures { L.state reader.new ≡ L.state reader.old };
+        ensures link { L.state reader.new ≡ L.state reader.old }
+        ensures again { again self.new ≡ again self.old };
 }
 
 /// No further hosts: a run ends with its first one.
@@ -36,11 +46,13 @@ pub trait Hosts<L: Link>: Drop {
 pub struct NoHosts;
 
 impl<L: Link> Hosts<L> for NoHosts {
-    ghost use Rattle.std.specs.Prelude.{⊤};
+    ghost use Rattle.std.specs.Prelude.{⊤, None};
 
     ghost came = { λ _. ⊤ };
 
     ghost are_out = { λ _. ⊤ };
+
+    ghost again = { λ _. None };
 
     fn next(&mut self) -> Option<(L, L)> {
         None

@@ -1,10 +1,10 @@
 //! The thread that reads the hosts.
 
-ghost use Rattle.std.specs.Prelude.{◌≡◌, ◌<◌, [], map, vec_capacity, IfOk, IfErr};
+ghost use Rattle.std.specs.Prelude.{◌≡◌, ◌<◌, true, None, [], map, vec_capacity, IfOk, IfErr};
 ghost use Rattle.pixel_format.specs.declared.fault.Fault.TheVariants.{Memory};
 ghost use Rattle.raster.specs.Screen.{opening};
 ghost use Rattle.host_decoder.specs.Decoder.{Decodes, IsFor, host_message};
-ghost use Rattle.host_turns.specs.Running.{HasRun, IsLinkOf, IsOver};
+ghost use Rattle.host_turns.specs.Running.{HasRun, IsLinkOf, IsOver, goes_on};
 
 use host_decoder::HostScreen;
 use host_turns::{Ground, Handover, Hosts, read_all};
@@ -13,7 +13,6 @@ use pixel_format::Fault;
 use reflect_core::Puts;
 use serving::{Bell, Ringing};
 use std::alloc::Global;
-use std::marker::PhantomData;
 use std::snapshot::Snapshot;
 use std::sync::{Arc, Wait};
 use std::thread;
@@ -29,21 +28,22 @@ pub(crate) struct HostsRead<L: Link, H: Hosts<L>, P: Drop> {
 }
 
 /// That this link was read to its end, and then those of further hosts in turn, and what they brought was put to this
-/// publisher.
+/// publisher. Where the first host of the supply has its turn again it ended only with an answer after which no host is
+/// taken.
 #[derive(Drop)]
 pub(crate) struct OfHosts<L: Link, H: Hosts<L>, P: Puts> {
     pub(crate) width: u64,
     pub(crate) height: u64,
     pub(crate) link: Snapshot<L>,
     pub(crate) publisher: Snapshot<P>,
-    pub(crate) hosts: PhantomData<H>,
+    pub(crate) hosts: Snapshot<H>,
 }
 
 impl<L: Link, H: Hosts<L>, P: Puts + Drop> Promise<HostsRead<L, H, P>> for OfHosts<L, H, P> {
-    ghost use Rattle.std.specs.Prelude.{map};
-    ghost use Rattle.host_turns.specs.Running.{HasRun, IsLinkOf, IsOver};
+    ghost use Rattle.std.specs.Prelude.{◌≡◌, true, None, map};
+    ghost use Rattle.host_turns.specs.Running.{HasRun, IsLinkOf, IsOver, goes_on};
 
-    ghost kept_by = { λ promise read. HasRun promise.width promise.height (IsLinkOf L.state H.came) read.result (L.state promise.link.value) (map L.state read.links.items) (P.updates promise.publisher.value) (P.updates read.publisher) × IsOver H.are_out read.hosts read.result };
+    ghost kept_by = { λ promise read. HasRun promise.width promise.height (IsLinkOf L.state H.came) read.result (L.state promise.link.value) (map L.state read.links.items) (P.updates promise.publisher.value) (P.updates read.publisher) × IsOver H.are_out read.hosts read.result × (goes_on read.result ≡ true → H.again promise.hosts.value ≡ None) };
 }
 
 /// The thread that reads the hosts.
@@ -74,6 +74,7 @@ fn read<L: Link, H: Hosts<L>, P: Puts + Drop, B: Bell + Drop, W: Bell + Drop, R:
     requires publisher { (P.width publisher ≡ begun.ground.width) × (P.height publisher ≡ begun.ground.height) }
     ensures run { HasRun begun.ground.width begun.ground.height (IsLinkOf L.state H.came) result.result (L.state begun.link) (map L.state result.links.items) (P.updates publisher) (P.updates result.publisher) }
     ensures over { IsOver H.are_out result.hosts result.result }
+    ensures never { goes_on result.result ≡ true → H.again hosts ≡ None }
 {
     let Begun {
         ground,
@@ -122,7 +123,7 @@ where
     W: Bell + Drop + Send + Sync + 'static,
     R: Threads + Wait + Copy + Drop + Send + 'static,
     requires { (P.width publisher ≡ ground.width) × (P.height publisher ≡ ground.height) }
-    ensures of { IfOk result (λ handle. (handle.promise.width ≡ ground.width) × (handle.promise.height ≡ ground.height) × (handle.promise.link.value ≡ link) × (handle.promise.publisher.value ≡ publisher)) }
+    ensures of { IfOk result (λ handle. (handle.promise.width ≡ ground.width) × (handle.promise.height ≡ ground.height) × (handle.promise.link.value ≡ link) × (handle.promise.publisher.value ≡ publisher) × (handle.promise.hosts.value ≡ hosts)) }
     ensures err { IfErr result (λ fault. fault ≡ Memory) }
 {
     let promise = OfHosts {
@@ -130,7 +131,7 @@ where
         height: ground.height,
         link: Snapshot::of(&link),
         publisher: Snapshot::of(&publisher),
-        hosts: PhantomData,
+        hosts: Snapshot::of(&hosts),
     };
     let begun = Begun {
         ground,

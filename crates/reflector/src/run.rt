@@ -1,6 +1,6 @@
 //! A run: one host after another, and their viewers' places.
 
-ghost use Rattle.std.specs.Prelude.{◌≡◌, ◌⊎◌, ◌+◌, ◌≤◌, ℕ, [], ◌∷◌, All, drop, map, length, slice_index_or, vec_len, IfOk, IfErr};
+ghost use Rattle.std.specs.Prelude.{◌≡◌, ◌⊎◌, ◌+◌, ◌≤◌, ℕ, true, None, [], ◌∷◌, All, drop, map, length, slice_index_or, vec_len, IfOk, IfErr};
 ghost use Rattle.reflect_core.specs.Sequential.{nothing_put};
 ghost use Rattle.pixel_format.specs.declared.fault.Fault.TheVariants.{Memory, NoPlace};
 ghost use Rattle.raster.specs.Size.{IsScreenSize};
@@ -12,7 +12,7 @@ ghost use Rattle.host_writer.specs.Writing.{taken_from};
 ghost use Rattle.reflector.specs.Tellings.{AreToldInTurn, HasTold, TellsHosts, desk};
 ghost use Rattle.reflector.specs.Written.{links_in};
 ghost use Rattle.tally_word.specs.History.{puts_of};
-ghost use Rattle.host_turns.specs.Running.{HasRun, IsLinkOf, IsOver};
+ghost use Rattle.host_turns.specs.Running.{HasRun, IsLinkOf, IsOver, goes_on};
 ghost use Rattle.reflector.specs.Visits.{IsOfScreen};
 
 use crate::crew::Crew;
@@ -129,7 +129,7 @@ where
     ensures watchers { IfOk result (λ started. map (λ place. place.promise.watcher.value) started.places.items ≡ drop 1 watchers.items) }
     ensures screen { IfOk result (λ started. All (λ place. IsOfScreen joined.now.w joined.now.h joined.now.name place.promise.width place.promise.height place.promise.name.value.items) started.places.items) }
     ensures writer { IfOk result (λ started. (started.writer.promise.taker.value ≡ taker) × (started.writer.promise.source.value ≡ slice_index_or watchers.items 0 started.writer.promise.source.value) × StrokesStand started.writer.promise.strokes.value []) }
-    ensures reader { IfOk result (λ started. (started.reader.promise.width ≡ joined.now.w) × (started.reader.promise.height ≡ joined.now.h) × (started.reader.promise.link.value ≡ first) × (started.reader.promise.publisher.value ≡ publisher)) }
+    ensures reader { IfOk result (λ started. (started.reader.promise.width ≡ joined.now.w) × (started.reader.promise.height ≡ joined.now.h) × (started.reader.promise.link.value ≡ first) × (started.reader.promise.publisher.value ≡ publisher) × (started.reader.promise.hosts.value ≡ hosts)) }
     ensures err { IfErr result (λ fault. fault ≡ Memory) }
 {
     let watcher = watchers.remove(0);
@@ -167,6 +167,7 @@ where
     R: Threads + Wait + Drop,
     ensures run { HasRun started.reader.promise.width started.reader.promise.height (IsLinkOf L.state H.came) result.result (L.state started.reader.promise.link.value) (map L.state result.links.items) (P.updates started.reader.promise.publisher.value) (P.updates result.publisher) }
     ensures over { IsOver H.are_out result.hosts result.result }
+    ensures never { goes_on result.result ≡ true → H.again started.reader.promise.hosts.value ≡ None }
     ensures taker { host_of result.taker ≡ host_of started.writer.promise.taker.value }
     ensures told { HasTold S.looks S.width S.height (desk [] started.writer.promise.source.value (taken_of started.writer.promise.taker.value) started.writer.promise.strokes.value) (links_in L.state result.written) (taken_of result.taker) result.strokes }
     ensures places { result.places ≡ started.places }
@@ -225,6 +226,7 @@ where
     requires doors { (1 ≤ vec_len doors) × (vec_len doors ≤ 64) × (vec_len watchers ≡ vec_len doors + 1) }
     ensures run { IfOk result (λ run. HasRun joined.now.w joined.now.h (IsLinkOf L.state H.came) run.result (L.state links.0) (map L.state run.links.items) (P.updates publisher) (P.updates run.publisher)) }
     ensures over { IfOk result (λ run. IsOver H.are_out run.hosts run.result) }
+    ensures never { IfOk result (λ run. goes_on run.result ≡ true → H.again hosts ≡ None) }
     ensures places { IfOk result (λ run. map (λ place. strand_of place.promise.sender.value) run.places.items ≡ fresh (vec_len doors)) }
     ensures relay { IfOk result (λ run. All (λ place. relay_of place.promise.sender.value ≡ host_of run.taker) run.places.items) }
     ensures told { IfOk result (λ run. (source : S) × (source ≡ slice_index_or watchers.items 0 source) × TellsHosts S.looks S.width S.height source (links_in L.state run.written) (taken_of run.taker) run.strokes) }
@@ -260,7 +262,8 @@ where
 /// joined over the end that is read. If that has the screen's size the screen turns black, and the host is read as the
 /// first was. If it doesn't the run ends with `BadScreen`. A host that can't be joined is passed over where it has
 /// another version, refuses, offers no type None, ended the handshake as failed, or its link failed or ended. Every
-/// other fault ends the run, and so does the last of the supply, with the last answer.
+/// other fault ends the run, and so does the last of the supply, with the last answer. There is no last one where the
+/// first has its turn again.
 ///
 /// Each door is for the role that stands beside it, in which its place serves its viewers.
 ///
@@ -297,6 +300,7 @@ where
     requires roles { All (λ door. D.is_for door.1 door.0) doors.items }
     ensures run { IfOk result (λ run. HasRun J.width J.height (IsLinkOf L.state H.came) run.result (L.state reader) (map L.state run.links.items) [] (puts_of run.publisher)) }
     ensures over { IfOk result (λ run. IsOver H.are_out run.hosts run.result) }
+    ensures never { IfOk result (λ run. goes_on run.result ≡ true → H.again hosts ≡ None) }
     ensures places { IfOk result (λ run. map (λ place. strand_of place.promise.sender.value) run.places.items ≡ fresh (vec_len doors)) }
     ensures relay { IfOk result (λ run. All (λ place. relay_of place.promise.sender.value ≡ host_of run.taker) run.places.items) }
     ensures told { IfOk result (λ run. TellsHosts (λ old reply new. Reaches old (step.Look reply ∷ []) new) (λ _. J.width) (λ _. J.height) nothing_put (links_in L.state run.written) (taken_of run.taker) run.strokes) }

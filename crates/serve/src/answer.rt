@@ -1,6 +1,6 @@
 //! What `serve` says and answers.
 
-ghost use Rattle.std.specs.Prelude.{◌≡◌, Err, IfOk, MatchResult, Result};
+ghost use Rattle.std.specs.Prelude.{◌≡◌, Err, None, IfOk, MatchResult, OnOk, Result};
 ghost use Rattle.plan.specs.Statuses.{HasPlaces, IsStatus, status_for};
 ghost use Rattle.serve.specs.Doors.{AreBoth};
 ghost use Rattle.serve.specs.Ports.{AsksAsPlanned};
@@ -47,7 +47,8 @@ fn answer<R: Eprint, F: FnOnce() -> Result<(), Trouble>>(rt: &R, plan: &Plan<'_>
 
 /// Reflects a host until it ends, and answers the exit status: 0 where the host ended between two messages, 4 where
 /// memory was refused, and 3 for every other fault, also where a port can't be bound or the host can't be reached or
-/// joined. What was at fault is said on standard error: `fault N`, and a line of plain words.
+/// joined. What was at fault is said on standard error: `fault N`, and a line of plain words. Where the first host is
+/// to be tried again (`again`), it is never 0.
 ///
 /// The ports that it asks the system for are added to `ports`: that of viewers with full control, and then that of those
 /// who only look on.
@@ -65,6 +66,7 @@ where
     requires { HasPlaces plan.now }
     ensures ports { AsksAsPlanned plan.now ports.old ports.new }
     ensures status { IsStatus result }
+    ensures ended { result ≡ 0 → plan.now.again ≡ None }
 {
     let log = Journal::new(rt, alloc, plan.is_logged);
     let opened = open_both(&rt, alloc, plan, ports, &log);
@@ -73,6 +75,7 @@ where
         plan,
         move || -> Result<(), Trouble>
             requires { HasPlaces plan.now × IfOk opened (λ entries. AreBoth plan.now entries.0 entries.1) }
+            ensures { OnOk result (plan.entry.now.again ≡ None) }
         { run(rt, alloc, plan, opened?, log) },
     )
 }

@@ -1,7 +1,8 @@
 //! A run, from its first port to its end.
 
-ghost use Rattle.std.specs.Prelude.{◌≡◌, ◌≤◌, All, length};
+ghost use Rattle.std.specs.Prelude.{◌≡◌, ◌≤◌, true, None, All, OnOk, length};
 ghost use Rattle.raster.specs.Size.{IsScreenSize};
+ghost use Rattle.host_turns.specs.Running.{goes_on};
 ghost use Rattle.plan.specs.Statuses.{HasPlaces};
 ghost use Rattle.serve.specs.Doors.{AreAsPlanned, AreBoth};
 
@@ -51,6 +52,7 @@ where
     requires size { IsScreenSize joined.w joined.h × (joined.w ≡ J.width) × (joined.h ≡ J.height) }
     requires doors { (1 ≤ length doors.items) × (length doors.items ≤ 64) }
     requires roles { All (λ door. D.is_for door.1 door.0) doors.items }
+    ensures { goes_on result ≡ true → H.again hosts ≡ None }
 {
     let (reader, writer_end) = ends;
     let Running {
@@ -69,7 +71,7 @@ where
 }
 
 /// Starts all threads, with the places that the plan says, and waits until the last host has ended. It answers what
-/// reading or joining that was answered.
+/// reading or joining that was answered. Where the first host is to be tried again, no end of a host is the last.
 fn reflect<G, R>(
     rt: R,
     alloc: Global,
@@ -92,6 +94,7 @@ where
     requires size { IsScreenSize met.joined.w met.joined.h }
     requires places { HasPlaces plan.now }
     requires doors { AreAsPlanned plan.now rooms.doors.items }
+    ensures { goes_on result ≡ true → plan.now.again ≡ None }
 {
     let (first, further) = hosts;
     let supply = Supply::new(rt, log, first, further, plan.again);
@@ -148,6 +151,7 @@ where
         + 'static,
     requires places { HasPlaces plan.now }
     requires entries { AreBoth plan.now entries.0 entries.1 }
+    ensures { OnOk result (plan.now.again ≡ None) }
 {
     let hosts = addresses(alloc, plan)?;
     let (full, view) = entries;

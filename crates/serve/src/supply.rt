@@ -73,6 +73,8 @@ impl<
 
     ghost are_out = { λ supply. (supply.turns.again ≡ None) × (length supply.turns.further.items ≤ supply.turns.done) };
 
+    ghost again = { λ supply. supply.turns.again };
+
     fn next(&mut self) -> Option<(JoiningLink<R>, JoiningLink<R>)> {
         let rt = self.rt;
         for _ in rt.forever() {

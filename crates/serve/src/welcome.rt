@@ -1,7 +1,8 @@
 //! Places for viewers, and who lets them in.
 
-ghost use Rattle.std.specs.Prelude.{◌≡◌, ◌+◌, ◌++◌, ◌<◌, ◌∷◌, [], length, replicate, IfOk, OnOk};
+ghost use Rattle.std.specs.Prelude.{◌≡◌, ◌+◌, ◌++◌, ◌<◌, ◌∷◌, [], length, replicate, IfErr, IfOk, OnOk};
 ghost use Rattle.std.specs.Arc.{arc_value};
+ghost use Rattle.pixel_format.specs.declared.fault.Fault.TheVariants.{Memory};
 ghost use Rattle.plan.specs.Statuses.{HasPlaces, places_for};
 ghost use Rattle.roles.specs.declared.role.Role.TheVariants.{Full};
 ghost use Rattle.serve.specs.Doors.{AreAsPlanned, AreBoth, HaveTheirRoles, IsFullEntry, roles_in};
@@ -143,7 +144,9 @@ pub(crate) fn rooms_of<R: Wait + Clock + Drop + Copy + Net, G: Log + Drop + Copy
 pub(crate) fn bells(
     alloc: Global,
     seats: Vec<Arc<Seat, Global>>,
-) -> Result<(Arc<WriterSeat, Global>, Arc<Everyone, Global>), Fault> {
+) -> Result<(Arc<WriterSeat, Global>, Arc<Everyone, Global>), Fault>
+    ensures err { IfErr result (λ fault. fault ≡ Memory) }
+{
     let writer = Arc::new(alloc, WriterSeat::new())?;
     let everyone = Everyone {
         writer: Arc::try_clone(&writer)?,

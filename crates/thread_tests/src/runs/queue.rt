@@ -103,13 +103,15 @@ impl Door for Queue {
 }
 
 impl Hosts<Wire> for Queue {
-    ghost use Rattle.std.specs.Prelude.{◌≡◌, ⊤};
+    ghost use Rattle.std.specs.Prelude.{◌≡◌, ⊤, None};
     ghost use Rattle.serving.specs.Answers.{unused};
 
     // It has done nothing.
     ghost came = { λ wire. wire ≡ unused };
 
     ghost are_out = { λ _. ⊤ };
+
+    ghost again = { λ _. None };
 
     fn next(&mut self) -> Option<(Wire, Wire)> {
         match (self.wire(), self.wire()) {
