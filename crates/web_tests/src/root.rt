@@ -101,27 +101,16 @@ fn a_file_that_does_not_fit_is_a_fault(rt: HostRuntime) -> Result<(), Fail> {
         return Err(Fail::from("it was read"));
     };
     assert_eq!(rt; fault, RootFault::Table(TableFault::TooManyBytes));
-    // It was small when it was looked at.
-    let body = vec![in rt.alloc(); b'a'; 16_777_217]?;
-    let things: [(&str, Found, &[u8]); 1] = [("/a.js", Found::File(1), body.as_slice())];
-    let Err(fault) = read_all(rt.alloc(), &Shelf { things: &things }) else {
-        return Err(Fail::from("it was read"));
-    };
-    assert_eq!(rt; fault, RootFault::Table(TableFault::TooManyBytes));
     Ok(())
 }
 
 #[test]
 fn a_folder_that_holds_itself_is_a_fault(rt: HostRuntime) -> Result<(), Fail> {
     let things: [(&str, Found, &[u8]); 1] = [("/a.js", Found::Folder, b"")];
-    let mut endless = Endless { folders: &things };
-    let Err(fault) = read_all(rt.alloc(), &endless) else {
+    let Err(fault) = read_all(rt.alloc(), &Endless { folders: &things }) else {
         return Err(Fail::from("it was read"));
     };
     assert_eq!(rt; fault, RootFault::TooManyFolders);
-    endless.folders = &[];
-    let table = read_all(rt.alloc(), &endless).map_err(told)?;
-    assert!(rt; table.files().is_empty());
     Ok(())
 }
 
