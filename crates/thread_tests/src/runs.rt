@@ -9,7 +9,6 @@ mod courses;
 mod dead_links;
 mod ends;
 mod follower;
-mod hoard;
 mod leavings;
 mod painted;
 mod peer;

@@ -137,7 +137,6 @@ fn doors_of(
             place,
             scripts,
             may_end: true,
-            hoard: None,
         };
         doors.push((Role::Full, queue))?;
     }
@@ -171,7 +170,6 @@ where
         place: 0,
         scripts: course.hosts,
         may_end: course.may_end,
-        hoard: None,
     };
     let doors = doors_of(alloc, board, course)?;
     let Some((reader, writer)) = Hosts::next(&mut hosts) else {

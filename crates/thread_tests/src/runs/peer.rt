@@ -27,8 +27,6 @@ pub(crate) enum Act {
     Types(u64),
     /// Ends.
     Ends,
-    /// Ends once the gate is open. No call is held until then.
-    EndsAt(Gate),
     /// Its link fails.
     Fails,
 }
@@ -39,8 +37,6 @@ pub(crate) enum Taking {
     AtOnce,
     /// A viewer: all of it at once. Its visit ends with a fault of this number, or with none, 0.
     Leaves(u64),
-    /// A viewer for whom there is no memory. It is let go before it is given a byte.
-    FindsNoMemory,
     /// A viewer: nothing of it until the gate is open.
     Stalls(Gate),
     /// A viewer: each `give` is held until the gate is open.
@@ -116,8 +112,6 @@ impl Peer {
             }
             Some(Act::Types(_)) => Ok(true),
             Some(Act::Ends) => Err(Took::End),
-            Some(Act::EndsAt(gate)) if self.board.is_open(gate) => Err(Took::End),
-            Some(Act::EndsAt(_)) => Ok(false),
             Some(Act::Fails) => Err(Took::Failed),
             None => Ok(false),
         }

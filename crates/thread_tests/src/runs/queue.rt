@@ -2,7 +2,6 @@
 
 use crate::runs::board::Board;
 use crate::runs::follower::Follower;
-use crate::runs::hoard::Hoard;
 use crate::runs::peer::{Peer, Script, Taking};
 use crate::runs::wire::Wire;
 use host_turns::Hosts;
@@ -22,8 +21,6 @@ pub(crate) struct Queue {
     pub(crate) scripts: &'static [Script],
     /// Whether another host may be asked for where none is left.
     pub(crate) may_end: bool,
-    /// The memory that is kept from a viewer who is to find none.
-    pub(crate) hoard: Option<Hoard>,
 }
 
 impl Queue {
@@ -54,7 +51,7 @@ impl Queue {
     }
 }
 
-/// Whether a viewer left as it is to: greeted, unless it leaves before or finds no memory, and for this reason.
+/// Whether a viewer left as it is to: greeted, unless it leaves before, and for this reason.
 fn goes_right(peer: &Peer, greeting: &[u8], why: &Result<(), Fault>) -> bool {
     let taking = &peer.script.taking;
     let heard = peer.heard.as_slice();
@@ -69,7 +66,6 @@ fn goes_right(peer: &Peer, greeting: &[u8], why: &Result<(), Fault>) -> bool {
             };
             number == *fault && (was_greeted || is_begun)
         }
-        Taking::FindsNoMemory => heard.is_empty() && matches!(why, Err(Fault::Memory)),
         Taking::Follows(sight) => was_greeted && why.is_ok() && peer.has_followed(sight),
         _ => was_greeted && why.is_ok(),
     }
@@ -87,14 +83,10 @@ impl Door for Queue {
     fn next(&mut self) -> Option<Wire> {
         let wire = self.wire()?;
         self.board.enter(self.place);
-        if let Taking::FindsNoMemory = &wire.peer.script.taking {
-            self.hoard = Hoard::new(self.alloc).ok();
-        }
         Some(wire)
     }
 
     fn left(&mut self, viewer: Wire, _answers: u64, why: Result<(), Fault>) {
-        self.hoard = None;
         let greeting = self.board.view.greeting;
         let is_right = goes_right(&viewer.peer, greeting, &why);
         self.board.check(is_right);
