@@ -22,6 +22,7 @@ pub record IsPlanOf (s : Settings) (plan : Plan) : Type 0 where
   pub view_only : plan.is_view_only ≡ s.view_only
   pub full_places : plan.full_places ≡ s.full_places
   pub view_places : plan.view_places ≡ s.view_places
+  pub stalled : plan.stalled ≡ s.stalled
   pub log : plan.is_logged ≡ s.log
 
 -- The line of `replay`, which has no further words.

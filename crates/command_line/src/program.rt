@@ -61,6 +61,7 @@ fn plan_of(settings: &Settings) -> Plan<'_>
         is_view_only: settings.view_only,
         full_places: settings.full_places,
         view_places: settings.view_places,
+        stalled: settings.stalled,
         is_logged: settings.log,
     }
 }

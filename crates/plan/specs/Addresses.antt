@@ -1,14 +1,23 @@
 -- Where viewers are waited for, and where the hosts are.
-use Rattle.std.specs.Prelude.{◌≡◌, ℕ, List}
+use Rattle.std.specs.Prelude.{◌≡◌, ◌++◌, ◌⊎◌, codes, ℕ, List}
 use Rattle.std.specs.Net.Grammar.{IsIpText}
+use Rattle.std.specs.declared.net.ip_addr.IpAddr.{IpAddr}
 use Rattle.std.specs.Net.Socket.{IsPlainSocket, socket_ip}
 use Rattle.std.specs.declared.net.socket_addr.SocketAddr.{SocketAddr}
 use Rattle.roles.specs.declared.role.Role.{Role}
 use Rattle.plan.specs.declared.plan.Plan.{Plan}
 use Rattle.plan.specs.Statuses.{bind_for, port_for}
 
+-- The text is this one in square brackets, in which an IPv6 address stands before a port (RFC 3986, section 3.2.2).
+abbrev pub IsBracketed : List ℕ → List ℕ → Type 0
+IsBracketed text inner = text ≡ codes "[" ++ (inner ++ codes "]")
+
+-- The text to bind writes this address, perhaps in brackets.
+abbrev pub IsBindText : List ℕ → IpAddr → Type 0
+IsBindText text ip = IsIpText text ip ⊎ ((inner : List ℕ) × IsBracketed text inner × IsIpText inner ip)
+
 -- The address at which the viewers of a role come in: the IP address that the plan's text to bind writes for them, at
 -- the port of the role, without a flow label or a scope.
 pub record IsAddressFor (role : Role) (plan : Plan) (address : SocketAddr) : Type 0 where
-  pub ip : IsIpText (bind_for role plan) (socket_ip address)
+  pub ip : IsBindText (bind_for role plan) (socket_ip address)
   pub port : IsPlainSocket address (port_for role plan)

@@ -1,13 +1,15 @@
--- Whose turn it is of several hosts.
-use Rattle.std.specs.Prelude.{Option, Some, None, option_map, slice_get}
-use Rattle.std.specs.declared.net.socket_addr.SocketAddr.{SocketAddr}
+-- Whose turn it is of several hosts, by their numbers: 0 is the first, and those that follow on it have the next ones.
+use Rattle.std.specs.Prelude.{Option, Some, None, ℕ, ◌+◌, if◌then◌else◌, nat_lt, option_map}
 use Rattle.plan.specs.declared.turns.Turns.{Turns}
 
--- The next of the hosts that follow on the first, and after all of them the first again, if there is a pause after which
--- it has its turn.
-abbrev pub turn_of : Turns → Option SocketAddr
-turn_of turns = next_or (slice_get turns.further.items turns.done)
+-- The next of the hosts that follow on the first, if there is one that had no turn.
+abbrev pub following : Turns → Option ℕ
+following turns = if nat_lt turns.done turns.further then Some (turns.done + 1) else None
+
+-- After all of them the first has its turn again, if there is a pause after which it has.
+abbrev pub turn_of : Turns → Option ℕ
+turn_of turns = next_or (following turns)
   where
-    next_or : Option SocketAddr → Option SocketAddr
-    next_or (Some address) = Some address
-    next_or None = option_map (λ _. turns.first) turns.again
+    next_or : Option ℕ → Option ℕ
+    next_or (Some number) = Some number
+    next_or None = option_map (λ _. 0) turns.again

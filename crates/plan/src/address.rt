@@ -1,20 +1,45 @@
 //! Where viewers come in.
 
-ghost use Rattle.std.specs.Prelude.{IfOk, IfErr};
-ghost use Rattle.std.specs.Net.Grammar.{IsIpText};
+ghost use Rattle.std.specs.Prelude.{ℕ, List, IfOk, IfErr, MatchOption};
 ghost use Rattle.std.specs.declared.net.ip_addr.IpAddr.{IpAddr as Ip};
-ghost use Rattle.plan.specs.Addresses.{IsAddressFor};
+ghost use Rattle.plan.specs.Addresses.{IsAddressFor, IsBindText, IsBracketed};
 ghost use Rattle.plan.specs.Statuses.{bind_for};
 
 use crate::plan::{Plan, bind_of, port_of};
 use roles::Role;
 use std::net::{AddrParseError, IpAddr, SocketAddr};
 
+/// The text in square brackets, if it is in some.
+#[tactic(auto, using(crate::proofs::Enclosed::bracketed, crate::proofs::Enclosed::no_front, crate::proofs::Enclosed::no_end))]
+fn in_brackets(text: &str) -> Option<&str>
+    ensures { MatchOption result ((inner : List ℕ) → ¬ (IsBracketed text.now inner)) (λ inner. IsBracketed text.now inner.now) }
+{
+    text.strip_prefix("[")?.strip_suffix("]")
+}
+
+/// The IP address that a text to bind writes.
+#[tactic(auto, using(crate::proofs::Enclosed::is_no_bind_text, crate::proofs::Enclosed::is_neither))]
+fn ip_of(text: &str) -> Result<IpAddr, AddrParseError>
+    ensures ok { IfOk result (λ ip. IsBindText text.now ip) }
+    ensures err { IfErr result (λ _. (ip : Ip) → ¬ (IsBindText text.now ip)) }
+{
+    match text.parse::<IpAddr>() {
+        Ok(ip) => Ok(ip),
+        Err(error) => match in_brackets(text) {
+            Some(inner) => inner.parse::<IpAddr>(),
+            None => Err(error),
+        },
+    }
+}
+
 /// The address at which the viewers of a role come in. It fails where the text to bind is no IP address.
 pub fn address_of(plan: &Plan<'_>, role: Role) -> Result<SocketAddr, AddrParseError>
     ensures ok { IfOk result (λ address. IsAddressFor role plan.now address) }
-    ensures err { IfErr result (λ _. (ip : Ip) → ¬ (IsIpText (bind_for role plan.now) ip)) }
+    ensures err { IfErr result (λ _. (ip : Ip) → ¬ (IsBindText (bind_for role plan.now) ip)) }
 {
-    let ip = bind_of(plan, role).parse::<IpAddr>()?;
-    Ok(SocketAddr::new(ip, port_of(plan, role)))
+    let bind = bind_of(plan, role);
+    match ip_of(bind) {
+        Ok(ip) => Ok(SocketAddr::new(ip, port_of(plan, role))),
+        Err(error) => Err(error),
+    }
 }

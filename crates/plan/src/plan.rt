@@ -8,9 +8,9 @@ use roles::Role;
 /// What `serve` is told.
 #[derive(Clone, Copy, Debug)]
 pub struct Plan<'a> {
-    /// The first VNC host, `IP:PORT`.
+    /// The first VNC host, `IP:PORT` or `NAME:PORT`.
     pub host: &'a str,
-    /// The hosts that follow on it, `IP:PORT` each, in their order.
+    /// The hosts that follow on it, in their order.
     pub next: &'a [String],
     /// How many seconds after the last host has ended the first is tried again, or `None` where it isn't.
     pub again: Option<u64>,
@@ -28,6 +28,8 @@ pub struct Plan<'a> {
     pub full_places: u64,
     /// How many viewers that only look there may be at once.
     pub view_places: u64,
+    /// How many seconds a viewer may take nothing of what it is sent.
+    pub stalled: u64,
     /// Whether a log is kept on standard error.
     pub is_logged: bool,
 }

@@ -1,30 +1,31 @@
 //! Whose turn it is.
 
-ghost use Rattle.std.specs.Prelude.{◌≡◌, ◌+◌, ◌≤◌, IsNone, Some, is_some, length, slice_get, if◌then◌else◌};
+ghost use Rattle.std.specs.Prelude.{◌≡◌, ◌+◌, ◌≤◌, IsNone, Some, is_some, if◌then◌else◌};
+ghost use Rattle.plan.specs.Turns.{following};
 
 use crate::rested::Rested;
-use std::net::SocketAddr;
 
-/// The hosts in their order: the first, and those that follow on it, of which some had their turn since.
+/// The hosts in their order, by number: 0 is the first, and those that follow on it have the next ones, of which some had
+/// their turn since the first had.
 #[derive(Drop)]
 pub struct Turns {
-    first: SocketAddr,
-    further: Vec<SocketAddr>,
+    /// How many follow on the first.
+    further: usize,
     /// How many seconds after the last host the first has its turn again, or `None` where it hasn't.
     again: Option<u64>,
+    /// How many of those that follow had their turn.
     done: usize,
 }
 
 impl Turns {
-    /// The first host has its turn, and none of the others had one. It has its turn again so many seconds after all the
-    /// others had theirs, if at all.
-    pub fn new(first: SocketAddr, further: Vec<SocketAddr>, again: Option<u64>) -> Turns
-        ensures hosts { (result.first ≡ first) × (result.further ≡ further) }
+    /// The first host has its turn, and none of those that follow on it had one. It has its turn again so many seconds
+    /// after all the others had theirs, if at all.
+    pub fn new(further: usize, again: Option<u64>) -> Turns
+        ensures further { result.further ≡ further }
         ensures again { result.again ≡ again }
         ensures none_done { result.done ≡ 0 }
     {
         Turns {
-            first,
             further,
             again,
             done: 0,
@@ -32,16 +33,18 @@ impl Turns {
     }
 
     /// The next of those that follow on the first, or `None` where each had its turn.
-    pub fn next(&mut self) -> Option<SocketAddr>
-        ensures value { result ≡ slice_get self.old.further.items self.old.done }
-        ensures hosts { (self.new.first ≡ self.old.first) × (self.new.further ≡ self.old.further) }
+    pub fn next(&mut self) -> Option<usize>
+        ensures value { result ≡ following self.old }
+        ensures further { self.new.further ≡ self.old.further }
         ensures again { self.new.again ≡ self.old.again }
         ensures done { self.new.done ≡ (if is_some result then self.old.done + 1 else self.old.done) }
-        ensures all_done { IsNone result → (length self.new.further.items ≤ self.new.done) }
+        ensures all_done { IsNone result → (self.new.further ≤ self.new.done) }
     {
-        let address = *self.further.get(self.done)?;
-        self.done += 1;
-        Some(address)
+        if self.done < self.further {
+            self.done += 1;
+            return Some(self.done);
+        }
+        None
     }
 
     /// How many seconds after the last host the first has its turn again, or `None` where it hasn't.
@@ -52,14 +55,14 @@ impl Turns {
     }
 
     /// The first host, which has its turn again after its pause, and only then: the others have theirs again.
-    pub fn begin_anew(&mut self, _rested: Rested) -> SocketAddr
+    pub fn begin_anew(&mut self, _rested: Rested) -> usize
         requires rested { self.old.again ≡ Some _rested.seconds }
-        ensures value { result ≡ self.old.first }
-        ensures hosts { (self.new.first ≡ self.old.first) × (self.new.further ≡ self.old.further) }
+        ensures value { result ≡ 0 }
+        ensures further { self.new.further ≡ self.old.further }
         ensures again { self.new.again ≡ self.old.again }
         ensures none_done { self.new.done ≡ 0 }
     {
         self.done = 0;
-        self.first
+        0
     }
 }

@@ -108,6 +108,17 @@ impl Display for Way<'_> {
     }
 }
 
+/// The text that says where the host of this number is.
+fn text_of<'a>(plan: &Plan<'a>, number: usize) -> &'a str {
+    match number.checked_sub(1) {
+        None => plan.host,
+        Some(place) => match plan.next.get(place) {
+            Some(text) => text.as_str(),
+            None => "",
+        },
+    }
+}
+
 /// What a fault of the handshake with a host means.
 fn join_advice(fault: &Fault) -> &'static str {
     match fault {
@@ -170,11 +181,14 @@ impl Display for Advice<'_> {
             ),
             Stage::ReadHost => write!(
                 f,
-                "--host {} is no IP:PORT, such as 192.0.2.7:5900",
+                "--host {} is no IP:PORT and no NAME:PORT, such as 192.0.2.7:5900 or localhost:5907",
                 plan.host
             ),
             Stage::ReadNext(number) => match plan.next.get(number) {
-                Some(host) => write!(f, "{host} is no IP:PORT, such as 192.0.2.7:5900"),
+                Some(host) => write!(
+                    f,
+                    "{host} is no IP:PORT and no NAME:PORT, such as 192.0.2.7:5900 or localhost:5907"
+                ),
                 None => Ok(()),
             },
             Stage::Listen(role) => {
@@ -192,15 +206,20 @@ impl Display for Advice<'_> {
                     "can't listen on {bind} port {port} for {viewers}{said}; {way}"
                 )
             }
+            Stage::LookUp => write!(
+                f,
+                "there is no address for the host {}{said}; is its name right?",
+                plan.host
+            ),
             Stage::Connect => write!(
                 f,
                 "can't connect to the host {}{said}; is a VNC server running there, at that port?",
                 plan.host
             ),
-            Stage::Join => write!(
+            Stage::Join(number) => write!(
                 f,
                 "the host {}: {fault}: {}{given}",
-                plan.host,
+                text_of(&plan, number),
                 join_advice(fault)
             ),
             Stage::Start => write!(

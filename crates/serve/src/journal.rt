@@ -8,6 +8,7 @@ use serving::{Doorplate, Event, Log, Parting, Visit};
 use std::alloc::Global;
 use std::fmt;
 use std::fmt::{Display, Formatter};
+use std::io::ErrorKind;
 use std::net::SocketAddr;
 use std::time::Clock;
 
@@ -119,6 +120,24 @@ fn viewer_out<W: fmt::Write>(
     )
 }
 
+/// Where the system has no address for a host's name, its text stands in the place of one.
+fn host_tried<W: fmt::Write>(
+    f: &mut Formatter<W>,
+    host: &str,
+    address: Option<SocketAddr>,
+    refused: Option<ErrorKind>,
+) -> fmt::Result {
+    match address {
+        Some(address) => write!(f, "host-tried address={address} why=\"")?,
+        None => write!(f, "host-tried address={host} why=\"")?,
+    }
+    match (refused, address) {
+        (None, _) => f.write_str("connected\""),
+        (Some(kind), Some(_)) => write!(f, "{kind}\""),
+        (Some(_), None) => f.write_str("no address\""),
+    }
+}
+
 impl Display for Line<'_> {
     fn fmt<W: fmt::Write>(&self, f: &mut Formatter<W>) -> fmt::Result {
         match self.event {
@@ -131,13 +150,11 @@ impl Display for Line<'_> {
                 "listening role={} address={address} places={places}",
                 Name { role: *role }
             ),
-            Event::HostTried { address, refused } => {
-                write!(f, "host-tried address={address} why=\"")?;
-                match refused {
-                    Some(kind) => write!(f, "{kind}\""),
-                    None => f.write_str("connected\""),
-                }
-            }
+            Event::HostTried {
+                host,
+                address,
+                refused,
+            } => host_tried(f, host, *address, *refused),
             Event::HostJoined {
                 address,
                 name,
@@ -145,7 +162,8 @@ impl Display for Line<'_> {
                 height,
             } => write!(
                 f,
-                "host-joined address={address} width={width} height={height} name=\"{}\"",
+                "host-joined address={} width={width} height={height} name=\"{}\"",
+                Place { address: *address },
                 Quoted { bytes: name }
             ),
             Event::ViewerIn { plate, address } => write!(
@@ -166,12 +184,19 @@ impl Display for Line<'_> {
                 Name { role: *role },
                 Place { address: *address }
             ),
+            Event::NoHost { role, address } => write!(
+                f,
+                "no-host role={} address={}",
+                Name { role: *role },
+                Place { address: *address }
+            ),
             Event::HostOut { address, why } => {
                 let why = Why {
                     why: *why,
                     parting: Parting::Closed,
                 };
-                write!(f, "host-out address={address} why=\"{why}\"")
+                let place = Place { address: *address };
+                write!(f, "host-out address={place} why=\"{why}\"")
             }
         }
     }

@@ -10,12 +10,15 @@ mod advice;
 mod answer;
 mod bound;
 mod entries;
+mod halls;
+mod host_text;
 mod journal;
 mod meet;
 mod open;
 mod quoted;
 mod run;
 mod supply;
+mod telling;
 mod trouble;
 mod welcome;
 

@@ -6,14 +6,18 @@ ghost use Rattle.raster.specs.Size.{IsScreenSize};
 use crate::trouble::{Stage, Trouble};
 use link::join_host;
 use rfb_wire::Joined;
-use serving::{Event, HostLink, JoiningLink, Log};
+use serving::{HostLink, JoiningLink};
 use std::io;
-use std::net::{Net, SocketAddr, TcpStream};
+use std::io::ErrorKind;
+use std::net::{Net, SocketAddr, TcpStream, ToSocketAddrs};
 use std::sync::Wait;
 use std::time::{Clock, Duration};
 
 /// The seconds that a connection to a host may take.
 const CONNECT_SECONDS: u64 = 5;
+
+/// The most addresses of a host's name that are tried, one after the other.
+const MOST_ADDRESSES: usize = 4;
 
 /// A host that was joined: the ends of its connection, one to be read and one to be written.
 #[derive(Drop)]
@@ -35,50 +39,89 @@ fn connect<R: Net<Stream = TcpStream> + Clock + Copy + Drop>(
     Ok((reader, JoiningLink::without_limit(rt, writer)))
 }
 
-/// Tries to connect to a host, and tells the log how the try ended.
-pub(crate) fn reach<R, G>(
-    rt: R,
-    address: SocketAddr,
-    log: &G,
-) -> io::Result<(JoiningLink<R>, JoiningLink<R>)>
-where
-    R: Net<Stream = TcpStream> + Clock + Copy + Drop,
-    G: Log,
-{
-    let tried = connect(rt, &address);
-    let refused = match &tried {
-        Ok(_) => None,
-        Err(error) => Some(error.kind()),
-    };
-    log.tell(&Event::HostTried { address, refused });
-    tried
+/// A host that was connected to, at this address.
+#[derive(Drop)]
+pub(crate) struct Reached<R: Clock + Drop> {
+    pub(crate) address: SocketAddr,
+    pub(crate) reader: JoiningLink<R>,
+    pub(crate) writer: JoiningLink<R>,
 }
 
-/// Connects to the first host and joins it, and tells the log.
+/// One that wasn't: the last address that was tried, or none where the system had none for its name, and what it said.
+#[derive(Drop)]
+pub(crate) struct Missed {
+    pub(crate) address: Option<SocketAddr>,
+    pub(crate) error: io::Error,
+}
+
+impl Missed {
+    /// What went wrong.
+    pub(crate) fn trouble(self) -> Trouble {
+        let stage = match self.address {
+            Some(_) => Stage::Connect,
+            None => Stage::LookUp,
+        };
+        Trouble::of(stage, self.error)
+    }
+}
+
+/// Connects to a host at one of the addresses that its text has now, in the system's order.
+pub(crate) fn connect_by_text<R: Net<Stream = TcpStream> + Clock + Copy + Drop>(
+    rt: R,
+    host: &str,
+) -> Result<Reached<R>, Missed> {
+    let addresses = match host.to_socket_addrs(&rt) {
+        Ok(addresses) => addresses,
+        Err(error) => {
+            return Err(Missed {
+                address: None,
+                error,
+            });
+        }
+    };
+    let mut missed = Missed {
+        address: None,
+        error: io::Error::from(ErrorKind::NotFound),
+    };
+    for address in addresses.take(MOST_ADDRESSES) {
+        match connect(rt, &address) {
+            Ok((reader, writer)) => {
+                return Ok(Reached {
+                    address,
+                    reader,
+                    writer,
+                });
+            }
+            Err(error) => {
+                missed = Missed {
+                    address: Some(address),
+                    error,
+                };
+            }
+        }
+    }
+    Err(missed)
+}
+
+/// Joins the host of this number, which was reached.
 #[tactic(auto, using(crate::proofs::Sizes::is_screen))]
-pub(crate) fn meet<R, G>(rt: R, address: SocketAddr, log: &G) -> Result<Met<R>, Trouble>
+pub(crate) fn join<R>(rt: &R, number: usize, reached: Reached<R>) -> Result<Met<R>, Trouble>
 where
     R: Net<Stream = TcpStream> + Wait + Clock + Copy + Drop,
-    G: Log,
     ensures { IfOk result (λ met. IsScreenSize met.joined.w met.joined.h) }
 {
-    let (mut reader, writer) = match reach(rt, address, log) {
-        Ok(ends) => ends,
-        Err(error) => return Err(Trouble::of(Stage::Connect, error)),
-    };
-    let joined = match join_host(&rt, &mut reader) {
+    let Reached {
+        address: _,
+        mut reader,
+        writer,
+    } = reached;
+    let joined = match join_host(rt, &mut reader) {
         Ok(joined) => joined,
-        Err(fault) => return Err(Trouble::new(Stage::Join, fault)),
+        Err(fault) => return Err(Trouble::new(Stage::Join(number), fault)),
     };
     if let Err(error) = reader.lift() {
         return Err(Trouble::of(Stage::Connect, error));
     }
-    log.tell(&Event::HostJoined {
-        address,
-        name: joined.name.as_slice(),
-        width: joined.w,
-        height: joined.h,
-    });
     Ok(Met {
         reader,
         writer,

@@ -41,6 +41,7 @@ pub(crate) fn open<'a, R: Net<Stream = TcpStream, Listener = TcpListener>, G: Lo
     ensures plan { IfOk result (λ entry. entry.plan ≡ plan.now) }
     ensures address { IfOk result (λ entry. IsAddressFor role plan.now entry.bound.address) }
     ensures role { IfOk result (λ entry. (arc_value entry.lobby).role ≡ role) }
+    ensures stalled { IfOk result (λ entry. (arc_value entry.lobby).stalled ≡ plan.now.stalled) }
 {
     let places = places_of(plan, role);
     let Ok(address) = address_of(plan, role) else {
@@ -50,7 +51,7 @@ pub(crate) fn open<'a, R: Net<Stream = TcpStream, Listener = TcpListener>, G: Lo
         Ok(bound) => bound,
         Err(error) => return Err(Trouble::of(Stage::Listen(role), error)),
     };
-    let Ok(lobby) = Lobby::new(alloc, role, places) else {
+    let Ok(lobby) = Lobby::new(alloc, role, places, plan.stalled) else {
         return Err(Trouble::new(Stage::Start, Fault::Memory));
     };
     let Ok(lobby) = Arc::new(alloc, lobby) else {

@@ -6,11 +6,13 @@ ghost use Rattle.host_turns.specs.Running.{goes_on};
 ghost use Rattle.plan.specs.Statuses.{HasPlaces};
 ghost use Rattle.serve.specs.Doors.{AreAsPlanned, AreBoth};
 
-use crate::meet::{Met, meet};
+use crate::halls::welcome;
+use crate::host_text::texts_of;
+use crate::meet::Met;
 use crate::open::Entry;
 use crate::supply::Supply;
 use crate::trouble::{Stage, Trouble};
-use crate::welcome::{Rooms, bells, rooms_of, start_full_porter, start_porter};
+use crate::welcome::{Rooms, bells, rooms_of};
 use host_turns::Hosts;
 use link::{Link, Rest};
 use pixel_format::Fault;
@@ -22,7 +24,7 @@ use screen_pair::Publishes;
 use serving::{Bell, Door, Log};
 use std::alloc::Global;
 use std::marker::Brand;
-use std::net::{Net, SocketAddr, TcpListener, TcpStream};
+use std::net::{Net, TcpListener, TcpStream};
 use std::sync::{Arc, Wait};
 use std::thread::Threads;
 use std::time::Clock;
@@ -76,10 +78,9 @@ fn reflect<G, R>(
     rt: R,
     alloc: Global,
     plan: &Plan<'_>,
-    hosts: (SocketAddr, Vec<SocketAddr>),
+    supply: Supply<R, G>,
     met: Met<R>,
     rooms: Rooms<R, G>,
-    log: G,
 ) -> Result<(), Fault>
 where
     G: Log + Drop + Send + 'static,
@@ -94,10 +95,10 @@ where
     requires size { IsScreenSize met.joined.w met.joined.h }
     requires places { HasPlaces plan.now }
     requires doors { AreAsPlanned plan.now rooms.doors.items }
+    requires again { supply.turns.again ≡ plan.now.again }
     ensures { goes_on result ≡ true → plan.now.again ≡ None }
 {
-    let (first, further) = hosts;
-    let supply = Supply::new(rt, log, first, further, plan.again);
+    let _plan = plan;
     let Rooms { doors, seats } = rooms;
     let (writer, everyone) = bells(alloc, seats)?;
     over::<Brand, _, _, _, _, _, _>(
@@ -111,23 +112,6 @@ where
         everyone,
         writer,
     )
-}
-
-/// The address of the first host, and those of the others in their order.
-fn addresses(alloc: Global, plan: &Plan<'_>) -> Result<(SocketAddr, Vec<SocketAddr>), Trouble> {
-    let Ok(first) = plan.host.parse::<SocketAddr>() else {
-        return Err(Trouble::new(Stage::ReadHost, Fault::LinkFailed));
-    };
-    let mut further = Vec::new(alloc);
-    for (number, host) in plan.next.iter().enumerate() {
-        let Ok(address) = host.as_str().parse::<SocketAddr>() else {
-            return Err(Trouble::new(Stage::ReadNext(number), Fault::LinkFailed));
-        };
-        if further.push(address).is_err() {
-            return Err(Trouble::new(Stage::Start, Fault::Memory));
-        }
-    }
-    Ok((first, further))
 }
 
 /// Joins the first host, and reflects it and those that follow on it until the last ends, for viewers who come in by
@@ -153,17 +137,13 @@ where
     requires entries { AreBoth plan.now entries.0 entries.1 }
     ensures { OnOk result (plan.now.again ≡ None) }
 {
-    let hosts = addresses(alloc, plan)?;
+    let hosts = texts_of(alloc, plan)?;
     let (full, view) = entries;
-    let met = meet(rt, hosts.0, &log)?;
     let rooms = rooms_of(rt, alloc, plan, &full, &view, log)?;
-    let full = start_full_porter(rt, alloc, full, log)?;
-    let view = start_porter(rt, alloc, view, log)?;
-    let why = reflect(rt, alloc, plan, hosts, met, rooms, log);
-    if let Some(full) = full {
-        full.close(&rt);
-    }
-    view.close(&rt);
+    let mut supply = Supply::new(rt, log, hosts, plan.again);
+    let (met, halls) = welcome(rt, alloc, &mut supply, (full, view), log)?;
+    let why = reflect(rt, alloc, plan, supply, met, rooms);
+    halls.close(&rt);
     match why {
         Ok(()) => Ok(()),
         Err(fault) => Err(Trouble::new(Stage::Run, fault)),

@@ -1,9 +1,11 @@
 //! The hosts that follow on one that has ended.
 
-ghost use Rattle.std.specs.Prelude.{◌≡◌, ◌≤◌, ⊤, IsNone, None, length};
+ghost use Rattle.std.specs.Prelude.{◌≡◌, ◌-◌, ◌≤◌, ⊤, IfOk, IsNone, None, is_some, length};
 ghost use Rattle.plan.specs.Turns.{turn_of};
 
-use crate::meet::reach;
+use crate::meet::{Met, Missed, Reached, connect_by_text, join};
+use crate::telling::Telling;
+use crate::trouble::Trouble;
 use host_turns::Hosts;
 use pixel_format::Fault;
 use plan::{Rested, Turns};
@@ -13,7 +15,8 @@ use std::net::{Net, SocketAddr, TcpListener, TcpStream};
 use std::sync::Wait;
 use std::time::Clock;
 
-/// The hosts over TCP, in their order. One that can't be reached is passed over, and the log is told of each try.
+/// The hosts over TCP, in their order. One that can't be reached is passed over. The log is told of the tries of a round
+/// as `Telling` says.
 #[derive(Drop)]
 pub(crate) struct Supply<
     R: Net<Stream = TcpStream, Listener = TcpListener> + Wait + Clock + Copy + Drop,
@@ -21,46 +24,157 @@ pub(crate) struct Supply<
 > {
     rt: R,
     log: G,
+    /// The texts that say where the hosts are, by their numbers.
+    texts: Vec<String>,
     turns: Turns,
-    /// The host whose turn it is.
-    present: SocketAddr,
+    telling: Telling,
+    /// Where the host whose turn it is was reached, if it was.
+    present: Option<SocketAddr>,
+    /// Whether that host was joined.
+    is_joined: bool,
 }
 
 impl<
     R: Net<Stream = TcpStream, Listener = TcpListener> + Wait + Clock + Copy + Drop,
     G: Log + Drop,
 > Supply<R, G> {
-    /// The first host has its turn. It has its turn again so many seconds after all the others had theirs, if at all.
-    pub(crate) fn new(
-        rt: R,
-        log: G,
-        first: SocketAddr,
-        further: Vec<SocketAddr>,
-        again: Option<u64>,
-    ) -> Supply<R, G>
-        ensures hosts { (result.turns.first ≡ first) × (result.turns.further ≡ further) × (result.turns.done ≡ 0) }
+    ghost use Rattle.raster.specs.Size.{IsScreenSize};
+
+    /// The first of these hosts has its turn. It has its turn again so many seconds after all the others had theirs, if
+    /// at all.
+    pub(crate) fn new(rt: R, log: G, texts: Vec<String>, again: Option<u64>) -> Supply<R, G>
+        ensures texts { result.texts ≡ texts }
+        ensures hosts { (result.turns.further ≡ length texts.items - 1) × (result.turns.done ≡ 0) }
         ensures again { result.turns.again ≡ again }
     {
+        let further = texts.len().saturating_sub(1);
         Supply {
             rt,
             log,
-            turns: Turns::new(first, further, again),
-            present: first,
+            texts,
+            turns: Turns::new(further, again),
+            telling: Telling::new(),
+            present: None,
+            is_joined: false,
         }
     }
 
-    /// Whose turn it is next: that of the first host after its pause. It is nobody's where each host had one, and the
-    /// first is to have no other.
-    fn turn(&mut self) -> Option<SocketAddr>
-        ensures value { result ≡ turn_of self.old.turns }
-        ensures again { self.new.turns.again ≡ self.old.turns.again }
-        ensures out { IsNone result → (self.new.turns.again ≡ None) × (length self.new.turns.further.items ≤ self.new.turns.done) }
+    /// Whether hosts are tried until one is met.
+    pub(crate) fn tries_again(&self) -> bool
+        ensures { result ≡ is_some self.now.turns.again }
     {
-        if let Some(address) = self.turns.next() {
-            return Some(address);
+        self.turns.again().is_some()
+    }
+
+    /// Meets the first host, which is joined then. Where it is to be tried again, hosts have their turns until one is met,
+    /// so that only want of memory and a screen that can't be shown are errors.
+    pub(crate) fn first(&mut self) -> Result<Met<R>, Trouble>
+        ensures size { IfOk result (λ met. IsScreenSize met.joined.w met.joined.h) }
+        ensures again { self.new.turns.again ≡ self.old.turns.again }
+    {
+        let rt = self.rt;
+        let mut number = 0;
+        for _ in rt.forever() {
+            let trouble = match self.meet(number) {
+                Ok(met) => return Ok(met),
+                Err(trouble) => trouble,
+            };
+            if self.turns.again().is_none() || trouble.is_final() {
+                return Err(trouble);
+            }
+            number = match self.turn() {
+                Some(number) => number,
+                None => return Err(trouble),
+            };
+        }
+        unreachable!()
+    }
+
+    /// Meets the host of this number.
+    fn meet(&mut self, number: usize) -> Result<Met<R>, Trouble>
+        ensures size { IfOk result (λ met. IsScreenSize met.joined.w met.joined.h) }
+        ensures again { self.new.turns.again ≡ self.old.turns.again }
+    {
+        let reached = match self.reach(number) {
+            Ok(reached) => reached,
+            Err(missed) => return Err(missed.trouble()),
+        };
+        match join(&self.rt, number, reached) {
+            Ok(mut met) => {
+                self.joined(&mut met.reader, &met.joined);
+                Ok(met)
+            }
+            Err(trouble) => {
+                self.tell_out(Err(trouble.fault));
+                Err(trouble)
+            }
+        }
+    }
+
+    /// Tries to connect to the host of this number, whose turn it is, and tells the log how the try ended.
+    fn reach(&mut self, number: usize) -> Result<Reached<R>, Missed>
+        ensures turns { self.new.turns ≡ self.old.turns }
+        ensures texts { self.new.texts ≡ self.old.texts }
+    {
+        let host = match self.texts.get(number) {
+            Some(text) => text.as_str(),
+            None => "",
+        };
+        self.is_joined = false;
+        let tried = connect_by_text(self.rt, host);
+        let refused = match &tried {
+            Ok(reached) => {
+                self.present = Some(reached.address);
+                None
+            }
+            Err(missed) => {
+                self.present = missed.address;
+                Some(missed.error.kind())
+            }
+        };
+        if self.telling.is_told() {
+            self.log.tell(&Event::HostTried {
+                host,
+                address: self.present,
+                refused,
+            });
+        }
+        if tried.is_err() {
+            self.telling.fail(&self.rt);
+        }
+        tried
+    }
+
+    /// Tells the log why a host was left, unless it is one that wasn't joined in a round that isn't told.
+    fn tell_out(&mut self, why: Result<(), Fault>)
+        ensures turns { self.new.turns ≡ self.old.turns }
+        ensures texts { self.new.texts ≡ self.old.texts }
+    {
+        if !self.is_joined {
+            self.telling.fail(&self.rt);
+        }
+        if self.is_joined || self.telling.is_told() {
+            self.log.tell(&Event::HostOut {
+                address: self.present,
+                why,
+            });
+        }
+    }
+
+    /// Whose turn it is next, by its number: that of the first host after its pause. It is nobody's where each host had
+    /// one, and the first is to have no other.
+    fn turn(&mut self) -> Option<usize>
+        ensures value { result ≡ turn_of self.old.turns }
+        ensures texts { self.new.texts ≡ self.old.texts }
+        ensures again { self.new.turns.again ≡ self.old.turns.again }
+        ensures out { IsNone result → (self.new.turns.again ≡ None) × (self.new.turns.further ≤ self.new.turns.done) }
+    {
+        if let Some(number) = self.turns.next() {
+            return Some(number);
         }
         let seconds = self.turns.again()?;
         let rested = Rested::after(&self.rt, seconds);
+        self.telling.begin(&self.rt);
         Some(self.turns.begin_anew(rested))
     }
 }
@@ -71,16 +185,16 @@ impl<
 > Hosts<JoiningLink<R>> for Supply<R, G> {
     ghost came = { λ _. ⊤ };
 
-    ghost are_out = { λ supply. (supply.turns.again ≡ None) × (length supply.turns.further.items ≤ supply.turns.done) };
+    ghost are_out = { λ supply. (supply.turns.again ≡ None) × (supply.turns.further ≤ supply.turns.done) };
 
     ghost again = { λ supply. supply.turns.again };
 
     fn next(&mut self) -> Option<(JoiningLink<R>, JoiningLink<R>)> {
         let rt = self.rt;
         for _ in rt.forever() {
-            self.present = self.turn()?;
-            if let Ok(ends) = reach(rt, self.present, &self.log) {
-                return Some(ends);
+            let number = self.turn()?;
+            if let Ok(reached) = self.reach(number) {
+                return Some((reached.reader, reached.writer));
             }
         }
         unreachable!()
@@ -89,6 +203,8 @@ impl<
     fn joined(&mut self, reader: &mut JoiningLink<R>, host: &Joined) {
         // Where the system keeps the limit the link fails in time, and the next host has its turn.
         let _ = reader.lift();
+        self.is_joined = true;
+        self.telling = Telling::new();
         self.log.tell(&Event::HostJoined {
             address: self.present,
             name: host.name.as_slice(),
@@ -99,9 +215,6 @@ impl<
 
     fn left(&mut self, reader: &mut JoiningLink<R>, why: Result<(), Fault>) {
         reader.close();
-        self.log.tell(&Event::HostOut {
-            address: self.present,
-            why,
-        });
+        self.tell_out(why);
     }
 }

@@ -16,10 +16,12 @@ pub(crate) enum Stage {
     ReadHost,
     /// Reading the address of this one of the further hosts.
     ReadNext(usize),
+    /// Asking the system for the addresses of the host's name.
+    LookUp,
     /// Connecting to the host.
     Connect,
-    /// The handshake with the host.
-    Join,
+    /// The handshake with the host of this number, 0 for the first.
+    Join(usize),
     /// Starting the threads.
     Start,
     /// Reflecting.
@@ -46,6 +48,11 @@ impl Trouble {
             stage,
             error: None,
         }
+    }
+
+    /// Whether no host has its turn after it: memory was refused, or a host's screen can't be shown.
+    pub(crate) fn is_final(&self) -> bool {
+        matches!(self.fault, Fault::Memory | Fault::BadScreen)
     }
 
     /// What the system refused: memory, or a connection.

@@ -162,23 +162,6 @@ pub(crate) struct Hall {
     address: io::Result<SocketAddr>,
 }
 
-/// Starts the thread that lets the viewers with full control in, if there are to be some.
-pub(crate) fn start_full_porter<R, G>(
-    rt: R,
-    alloc: Global,
-    full: Option<Entry<'_>>,
-    log: G,
-) -> Result<Option<Hall>, Trouble>
-where
-    R: Threads + Wait + Clock + Copy + Drop + Send + 'static,
-    G: Log + Drop + Send + 'static,
-{
-    match full {
-        Some(entry) => Ok(Some(start_porter(rt, alloc, entry, log)?)),
-        None => Ok(None),
-    }
-}
-
 /// Starts the thread that lets the viewers of a role in.
 pub(crate) fn start_porter<R, G>(
     rt: R,
@@ -210,6 +193,11 @@ where
 }
 
 impl Hall {
+    /// Viewers are let in from now on.
+    pub(crate) fn open<R: Wait>(&self, rt: &R) {
+        self.lobby.hold(rt, false);
+    }
+
     /// No more viewers come, and those that are there are waited for, though not for long. Whoever keeps the door is
     /// knocked at, so that he sees it.
     pub(crate) fn close<R: Net + Wait + Clock>(&self, rt: &R) {

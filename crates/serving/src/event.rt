@@ -26,7 +26,7 @@ pub enum Parting {
     Closed,
     /// The handshake took longer than it may.
     Late,
-    /// The system gave it up: for a minute the viewer took no bytes, or wasn't there.
+    /// The system gave it up: for as long as it may the viewer took no bytes, or wasn't there.
     Stalled,
     /// The system reported another error.
     Broken,
@@ -56,14 +56,16 @@ pub enum Event<'a> {
         address: SocketAddr,
         places: u64,
     },
-    /// A further host was to be connected to, which the system did or, with this error, did not.
+    /// A host was to be connected to, which the system did or, with this error, did not. The address is missing where
+    /// the system had none for the name in the host's text.
     HostTried {
-        address: SocketAddr,
+        host: &'a str,
+        address: Option<SocketAddr>,
         refused: Option<ErrorKind>,
     },
     /// The host's handshake is done.
     HostJoined {
-        address: SocketAddr,
+        address: Option<SocketAddr>,
         name: &'a [u8],
         width: u64,
         height: u64,
@@ -84,9 +86,14 @@ pub enum Event<'a> {
         role: Role,
         address: Option<SocketAddr>,
     },
+    /// One was refused, since there is no host yet.
+    NoHost {
+        role: Role,
+        address: Option<SocketAddr>,
+    },
     /// The host has ended, or is at fault, or wasn't joined.
     HostOut {
-        address: SocketAddr,
+        address: Option<SocketAddr>,
         why: Result<(), Fault>,
     },
 }

@@ -32,7 +32,7 @@ pub use joining::JoiningLink;
 pub use lobby::{Lobby, TcpDoor, keep_door};
 pub use noted::{Closing, Gathering, Noted};
 pub use options::{outlast, outlast_host};
-pub use refusal::refusal_bytes;
+pub use refusal::{no_host_bytes, refusal_bytes};
 pub use ringing::Ringing;
 pub use seat::Seat;
 pub use socket::{HostSocket, Socket};

@@ -5,7 +5,7 @@ ghost use Rattle.serving.specs.Doors.{role_behind};
 
 use crate::door::Door;
 use crate::event::{Doorplate, Event, Log, Visit};
-use crate::refusal::refusal_bytes;
+use crate::refusal::{no_host_bytes, refusal_bytes};
 use crate::seat::Seat;
 use crate::tcp::TcpLink;
 use pixel_format::Fault;
@@ -32,6 +32,8 @@ struct Waiting {
     free: u64,
     // How many places there are.
     places: u64,
+    // Nobody is let in yet, since there is no host.
+    is_held: bool,
     is_closed: bool,
 }
 
@@ -40,6 +42,7 @@ struct Waiting {
 enum Entrance {
     Placed,
     Full(TcpStream),
+    Early(TcpStream),
     Closed,
 }
 
@@ -47,23 +50,27 @@ enum Entrance {
 #[derive(Drop)]
 pub struct Lobby {
     role: Role,
+    // For how many seconds one of its viewers may take nothing.
+    stalled: u64,
     waiting: Mutex<Waiting>,
     came: Condvar,
     freed: Condvar,
 }
 
 impl Lobby {
-    /// A lobby for the viewers of a role, whose places are all free. It fails where memory is refused for the streams on
-    /// their way.
-    pub fn new(alloc: Global, role: Role, places: u64) -> Result<Lobby, AllocError>
-        ensures { IfOk result (λ lobby. lobby.role ≡ role) }
+    /// A lobby for the viewers of a role, whose places are all free, and who may take nothing for so many seconds. It
+    /// fails where memory is refused for the streams on their way.
+    pub fn new(alloc: Global, role: Role, places: u64, stalled: u64) -> Result<Lobby, AllocError>
+        ensures { IfOk result (λ lobby. (lobby.role ≡ role) × (lobby.stalled ≡ stalled)) }
     {
         Ok(Lobby {
             role,
+            stalled,
             waiting: Mutex::new(Waiting {
                 streams: Vec::with_capacity(alloc, places as usize)?,
                 free: places,
                 places,
+                is_held: false,
                 is_closed: false,
             }),
             came: Condvar::new(),
@@ -76,6 +83,11 @@ impl Lobby {
         ensures { result ≡ self.now.role }
     {
         self.role
+    }
+
+    /// From now on each viewer that comes is told that there is no host yet, or no longer is.
+    pub fn hold<R: Wait>(&self, rt: &R, is_held: bool) {
+        self.waiting.lock(rt).is_held = is_held;
     }
 
     /// No more viewers come: each door that waits here, or will, has no next one. Those on their way to a place are let
@@ -109,11 +121,14 @@ impl Lobby {
         let (mut guard, _) = self
             .freed
             .wait_timeout_while(rt, guard, patience, |waiting| {
-                waiting.free == 0 && !waiting.is_closed
+                waiting.free == 0 && !waiting.is_closed && !waiting.is_held
             });
         let waiting = &mut *guard;
         if waiting.is_closed {
             return Entrance::Closed;
+        }
+        if waiting.is_held {
+            return Entrance::Early(stream);
         }
         if waiting.free == 0 {
             return Entrance::Full(stream);
@@ -226,7 +241,8 @@ impl<R: Wait + Clock + Drop + Copy + Send, G: Log + Drop + Send> Door for TcpDoo
             let stream = self.lobby.leave(&self.rt)?;
             self.has_served = true;
             self.address = stream.peer_addr().ok();
-            if let Ok(link) = TcpLink::new(self.rt, self.alloc, stream, &self.seat) {
+            let stalled = self.lobby.stalled;
+            if let Ok(link) = TcpLink::new(self.rt, self.alloc, stream, &self.seat, stalled) {
                 self.log.tell(&Event::ViewerIn {
                     plate,
                     address: self.address,
@@ -295,6 +311,14 @@ pub fn keep_door<R: Wait + Clock, G: Log>(rt: &R, listener: &TcpListener, lobby:
                 // A peer that is gone already needs no reason.
                 let _ = (&refused).write(&refusal_bytes());
                 log.tell(&Event::NoPlace {
+                    role: lobby.role(),
+                    address: refused.peer_addr().ok(),
+                });
+                last = Some(refused);
+            }
+            Entrance::Early(refused) => {
+                let _ = (&refused).write(&no_host_bytes());
+                log.tell(&Event::NoHost {
                     role: lobby.role(),
                     address: refused.peer_addr().ok(),
                 });

@@ -1,4 +1,4 @@
-//! What is said to a viewer for whom there is no place.
+//! What is said to a viewer that isn't let in.
 
 ghost use Rattle.std.specs.Prelude.{◌≡◌, codes};
 ghost use Rattle.byte_reading.specs.Reading.{Faulty, after};
@@ -11,4 +11,11 @@ pub fn refusal_bytes() -> [u8; 37]
     ensures { after host_hello result ≡ Faulty (HostRefused (codes "all places are taken")) }
 {
     *b"RFB 003.008\n\0\0\0\0\x14all places are taken"
+}
+
+/// The same to one who comes before there is a host.
+pub fn no_host_bytes() -> [u8; 28]
+    ensures { after host_hello result ≡ Faulty (HostRefused (codes "no host yet")) }
+{
+    *b"RFB 003.008\n\0\0\0\0\x0Bno host yet"
 }

@@ -82,17 +82,18 @@ impl<R: Wait + Clock + Drop> TcpLink<R> {
     ghost use Rattle.std.specs.Prelude.{◌≡◌, IfOk};
     ghost use Rattle.serving.specs.Wires.{fresh};
 
-    /// A link that has taken and given nothing. It fails where memory is refused, or an option or the clock by the
-    /// system.
+    /// A link that has taken and given nothing, to a viewer that may take nothing for so many seconds. It fails where
+    /// memory is refused, or an option or the clock by the system.
     pub fn new(
         rt: R,
         alloc: Global,
         stream: std::net::TcpStream,
         seat: &Arc<Seat, Global>,
+        stalled: u64,
     ) -> io::Result<TcpLink<R>>
         ensures { IfOk result (λ link. link ≡ fresh) }
     {
-        outlast(&stream)?;
+        outlast(&stream, stalled)?;
         stream.set_nonblocking(true)?;
         let mut stream = TcpStream::from_std(stream);
         seat.hear(&rt, &mut stream)?;

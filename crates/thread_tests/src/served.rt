@@ -1,6 +1,7 @@
 //! Tests of `serve` over loopback alone, a host and a viewer in threads, and `serve` between them, in which each wait
 //! ends; and of the lines that `settings` and `command_line` read.
 
+mod early;
 mod ending;
 mod host;
 mod input;
@@ -8,6 +9,7 @@ mod journal;
 mod lines;
 mod loopback;
 mod meeting;
+mod names;
 mod options;
 mod room;
 mod scene;

@@ -111,7 +111,7 @@ fn opens<R: Threads + Wait + Clock + Copy + Drop + Send + Sync>(
     let listener = listen(net)?;
     listener.set_nonblocking(true)?;
     let seat = make_seat(net)?;
-    let lobby = Arc::new(net.alloc(), Lobby::new(net.alloc(), Role::Full, 1)?)?;
+    let lobby = Arc::new(net.alloc(), Lobby::new(net.alloc(), Role::Full, 1, 60)?)?;
     let shared = Arc::try_clone(&lobby)?;
     let mut door = TcpDoor::new(rt, net.alloc(), shared, seat, 1, NoLog);
     Ok(serves(&rt, net, &listener, &lobby, &mut door))

@@ -81,7 +81,7 @@ fn is_right<R: Threads + Wait + Clock + Copy + Drop + Send + Sync>(
 ) -> io::Result<bool> {
     let seat = make_seat(net)?;
     let (far, near) = pair(net)?;
-    let mut link = TcpLink::new(rt, net.alloc(), near, &seat)?;
+    let mut link = TcpLink::new(rt, net.alloc(), near, &seat, 60)?;
     plays(&rt, net.alloc(), trial, &seat, &mut link, far)
 }
 

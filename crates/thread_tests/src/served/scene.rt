@@ -51,6 +51,10 @@ pub(crate) enum Told {
     Nobody,
     /// At the first listener, where nobody listens, at the second and at the third listener.
     EachInTurn,
+    /// At the first listener's port of this name.
+    Named(&'static str),
+    /// By these words.
+    As(&'static str),
 }
 
 /// A line of standard error.
@@ -59,6 +63,8 @@ pub(crate) enum Line {
     Is(&'static str),
     /// It has the address of a port of loopback in its middle.
     Of(&'static str, usize, &'static str),
+    /// It has the number of a port there.
+    At(&'static str, usize, &'static str),
 }
 
 /// The numbers of ports: of the listeners of three hosts, of nobody, and those at which `serve` listens for viewers of
@@ -105,11 +111,18 @@ impl Stage {
             Told::EachInTurn => format!(in alloc;
                 "127.0.0.1:{first} 127.0.0.1:{nobody} 127.0.0.1:{second} 127.0.0.1:{third}"
             )?,
+            Told::Named(name) => format!(in alloc; "{name}:{first}")?,
+            Told::As(words) => String::from_str(alloc, words)?,
         };
         let options = scene.options;
         format!(in alloc;
             "serve --full {full} --view {view} --full-places 1 --view-places 1 {options} --host {hosts}"
         )
+    }
+
+    /// The port of this number.
+    fn port(&self, number: usize) -> u16 {
+        self.ports.get(number).copied().unwrap_or(0)
     }
 
     /// Notes the lines of a scene that are to stand on standard error.
@@ -118,8 +131,12 @@ impl Stage {
             let line = match line {
                 Line::Is(text) => String::from_str(ear.alloc, text)?,
                 Line::Of(before, number, after) => {
-                    let port = self.ports.get(*number).copied().unwrap_or(0);
+                    let port = self.port(*number);
                     format!(in ear.alloc; "{before}127.0.0.1:{port}{after}")?
+                }
+                Line::At(before, number, after) => {
+                    let port = self.port(*number);
+                    format!(in ear.alloc; "{before}{port}{after}")?
                 }
             };
             ear.want(line)?;

@@ -1,5 +1,6 @@
 //! A viewer of a screen of 2 by 1.
 
+use crate::served::early::is_early_one_right;
 use crate::served::host::INIT;
 use crate::served::input::{types, types_in_vain};
 use crate::served::loopback::{RED_AND_BLUE, connect, is_closed_beside, update};
@@ -19,6 +20,13 @@ pub(crate) const HELLO: &[u8] = b"RFB 003.008\n\x01\x01";
 /// The server's side up to its screen: the version, one type of security, and that it went well (RFC 6143, 7.1.1 to
 /// 7.1.3).
 const GREETING: &[u8] = b"RFB 003.008\n\x01\x01\0\0\0\0";
+
+/// What one is told who comes before there is a host: version 3.8, no type of security, and the reason with its length
+/// (RFC 6143, 7.1.1 and 7.1.2).
+pub(crate) const NO_HOST: &[u8] = b"RFB 003.008\n\0\0\0\0\x0Bno host yet";
+
+/// So many viewers at most come before the doors are seen to be open.
+pub(crate) const TRIES: u64 = 10_000;
 
 /// Asks for the whole screen, or for what is new of it (RFC 6143, 7.5.3).
 pub(crate) const ASK: &[u8] = b"\x03\0\0\0\0\0\0\x02\0\x01";
@@ -50,6 +58,8 @@ pub(crate) enum Viewer {
     IsLetGo,
     /// Viewers come one after another and leave so. While one is there another finds no place.
     Visits(&'static [Leaving]),
+    /// Comes before there is a host, and is told so; once there is one it comes again, and leaves.
+    ComesEarly,
 }
 
 /// Whether a viewer at the port of this role is greeted as it has to be, and then given what it has to be. It tells the
@@ -66,25 +76,57 @@ where
     match viewer {
         Viewer::Nobody => Ok(true),
         Viewer::Visits(leavings) => are_visits_right(ear, role, port, leavings),
-        _ => {
-            let mut stream = connect(ear, port)?;
-            let is_greeted = is_greeted(&mut stream, INIT)? && is_closed_beside(ear, port);
-            Ok(is_greeted && is_served(ear, &mut stream, viewer)?)
-        }
+        Viewer::ComesEarly => is_early_one_right(ear, port),
+        _ => match comes_in(ear, port)? {
+            Some(mut stream) => {
+                let is_greeted = is_screen(&mut stream, INIT)? && is_closed_beside(ear, port);
+                Ok(is_greeted && is_served(ear, &mut stream, viewer)?)
+            }
+            None => Ok(false),
+        },
     }
 }
 
-/// Whether a viewer with this connection is greeted, with this screen at the end.
-pub(crate) fn is_greeted(stream: &mut TcpStream, init: &[u8]) -> io::Result<bool> {
+/// A viewer that is greeted up to its screen. One that is told that there is no host yet comes again.
+fn comes_in<R>(ear: &Ear<R>, port: u16) -> io::Result<Option<TcpStream>>
+where
+    R: Net<Stream = TcpStream, Listener = TcpListener> + Wait + Clock + Drop,
+{
+    for _ in 0..TRIES {
+        let mut stream = connect(ear, port)?;
+        let greeting = greeting(&mut stream)?;
+        if greeting.as_slice() == GREETING {
+            return Ok(Some(stream));
+        }
+        if !NO_HOST.starts_with(&greeting) {
+            return Ok(None);
+        }
+    }
+    Ok(None)
+}
+
+/// What a viewer is told up to its screen.
+fn greeting(stream: &mut TcpStream) -> io::Result<[u8; 18]> {
     let mut greeting = [0u8; 18];
+    stream.write_all(HELLO)?;
+    stream.read_exact(&mut greeting)?;
+    Ok(greeting)
+}
+
+/// Whether this screen comes next.
+fn is_screen(stream: &mut TcpStream, init: &[u8]) -> io::Result<bool> {
     let mut screen = [0u8; 64];
     let Some(screen) = screen.get_mut(..init.len()) else {
         return Ok(false);
     };
-    stream.write_all(HELLO)?;
-    stream.read_exact(&mut greeting)?;
     stream.read_exact(screen)?;
-    Ok(greeting.as_slice() == GREETING && &*screen == init)
+    Ok(&*screen == init)
+}
+
+/// Whether a viewer with this connection is greeted, with this screen at the end.
+pub(crate) fn is_greeted(stream: &mut TcpStream, init: &[u8]) -> io::Result<bool> {
+    let greeting = greeting(stream)?;
+    Ok(greeting.as_slice() == GREETING && is_screen(stream, init)?)
 }
 
 /// Whether a viewer that was greeted is given what it has to be.
@@ -94,7 +136,7 @@ fn is_served<R: Wait + Clock + Drop>(
     viewer: &Viewer,
 ) -> io::Result<bool> {
     match viewer {
-        Viewer::Nobody | Viewer::Visits(_) => Ok(true),
+        Viewer::Nobody | Viewer::Visits(_) | Viewer::ComesEarly => Ok(true),
         Viewer::AsksForAll => is_shown_all(ear, stream),
         Viewer::IsLetGo => is_let_go(ear, stream),
         Viewer::Follows(last)

@@ -7,4 +7,4 @@ pub over-requires-clause-doors : goal.over-requires-clause-doors
 over-requires-clause-doors g c κs _ = counted (λ door. door.0) c.args.rooms.doors.items c.args.plan.now c.requires.doors c.requires.places
 
 pub returns : goal.returns
-returns g c ends = sym c.new-supply.ensures.again ∙ c.over.ensures ends
+returns g c ends = sym c.requires.again ∙ c.over.ensures ends

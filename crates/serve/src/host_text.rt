@@ -1,0 +1,64 @@
+//! The texts that say where hosts are.
+
+ghost use Rattle.std.specs.Prelude.{◌≡◌, ◌∷◌, IfOk, map};
+ghost use Rattle.std.specs.String.{string_bytes};
+
+use crate::trouble::{Stage, Trouble};
+use pixel_format::Fault;
+use plan::Plan;
+use std::alloc::{AllocError, Global};
+use std::net::SocketAddr;
+
+/// The most letters that a name of the domain name system has (RFC 1035, section 2.3.4).
+const LONGEST_NAME: usize = 253;
+
+/// Whether a text may be a machine's name, which the system is asked for: letters, digits, dots, hyphens and
+/// underscores. A log's line may have such a text without marks round it.
+fn may_be_a_name(text: &str) -> bool {
+    !text.is_empty() && text.len() <= LONGEST_NAME && text.bytes().all(is_of_a_name)
+}
+
+fn is_of_a_name(byte: u8) -> bool {
+    byte.is_ascii_alphanumeric() || matches!(byte, b'.' | b'-' | b'_')
+}
+
+/// Whether a text says where a host is: an address with a port, as `192.0.2.7:5900` and `[::1]:5900`, or a name with one.
+fn says_where(text: &str) -> bool {
+    if text.parse::<SocketAddr>().is_ok() {
+        return true;
+    }
+    match text.rsplit_once(':') {
+        Some((name, port)) => may_be_a_name(name) && port.parse::<u16>().is_ok(),
+        None => false,
+    }
+}
+
+/// The texts of a plan's hosts, by their numbers: the first, and those that follow on it. It fails where one of them
+/// doesn't say where a host is.
+pub(crate) fn texts_of(alloc: Global, plan: &Plan<'_>) -> Result<Vec<String>, Trouble>
+    ensures { IfOk result (λ texts. map string_bytes texts.items ≡ plan.now.host.now ∷ map string_bytes plan.now.next.now) }
+{
+    if !says_where(plan.host) {
+        return Err(Trouble::new(Stage::ReadHost, Fault::LinkFailed));
+    }
+    for (number, host) in plan.next.iter().enumerate() {
+        if !says_where(host.as_str()) {
+            return Err(Trouble::new(Stage::ReadNext(number), Fault::LinkFailed));
+        }
+    }
+    match copied(alloc, plan) {
+        Ok(texts) => Ok(texts),
+        Err(_) => Err(Trouble::new(Stage::Start, Fault::Memory)),
+    }
+}
+
+fn copied(alloc: Global, plan: &Plan<'_>) -> Result<Vec<String>, AllocError>
+    ensures { IfOk result (λ texts. map string_bytes texts.items ≡ plan.now.host.now ∷ map string_bytes plan.now.next.now) }
+{
+    let mut texts = Vec::new(alloc);
+    texts.push(String::from_str(alloc, plan.host)?)?;
+    for host in plan.next {
+        texts.push(String::from_str(alloc, host.as_str())?)?;
+    }
+    Ok(texts)
+}
