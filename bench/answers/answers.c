@@ -13,8 +13,8 @@
 #include <time.h>
 
 /* The proved encoder, of out/libc_calls.a. A slice is a pointer and a length. */
-uint64_t bench_answers(const uint8_t *format, uint32_t kind, uint32_t width, uint32_t height, const uint32_t *colours, size_t count,
-                       bool all, bool copies, uint32_t times, uint8_t *sent, size_t room);
+uint64_t bench_answers(const uint8_t *format, uint32_t kind, bool joined, uint32_t width, uint32_t height, const uint32_t *colours,
+                       size_t count, bool all, bool copies, uint32_t times, uint8_t *sent, size_t room);
 
 enum { W = 1920, H = 1080, COUNT = W * H, RAW = 0, HEXTILE = 5, TIMES = 8 };
 
@@ -209,7 +209,7 @@ typedef struct {
 
 static double call(int f, int kind, bool all, bool copies, int times) {
     double start = now();
-    bench_answers(FORMATS[f].bytes, kind, W, H, screen, COUNT, all, copies, times, ours, 0);
+    bench_answers(FORMATS[f].bytes, kind, false, W, H, screen, COUNT, all, copies, times, ours, 0);
     return now() - start;
 }
 
@@ -232,7 +232,7 @@ static bool measure(int picture, int f, int kind, int rounds) {
     int size = FORMATS[f].size;
     draw(picture);
     size_t len = plain(size, kind, true, theirs);
-    size_t found = bench_answers(FORMATS[f].bytes, kind, W, H, screen, COUNT, true, true, 0, ours, sizeof ours);
+    size_t found = bench_answers(FORMATS[f].bytes, kind, false, W, H, screen, COUNT, true, true, 0, ours, sizeof ours);
     if (found != len || memcmp(ours, theirs, len)) {
         printf("%s, %s: other bytes, %zu and in C %zu\n", PICTURES[picture], FORMATS[f].name, found, len);
         return false;

@@ -3,13 +3,14 @@
 ghost use Rattle.std.specs.Prelude.{◌≡◌, ◌+◌, ◌*◌, length, IfOk};
 
 use crate::scene::{ALL, Room, TILE, cut, painted};
+use joined_runs::Runs;
 use pixel_format::{Fault, Format};
 use raster::Encoding;
 use reflect_core::{Cut, Puts, ScreenSource};
 use rfb_wire::Choice;
 use std::alloc::Global;
 use std::time::{Clock, Instant};
-use update_encoder::Answer;
+use update_encoder::{Answer, Style};
 
 pub const NAMES: [&str; 2] = ["answer-tile", "put-cut-answer-tile"];
 
@@ -36,11 +37,15 @@ impl Piece {
     fn write(&mut self, cut: &Cut) -> usize
         requires { (cut.now.width ≡ 1920) × (cut.now.height ≡ 1080) }
     {
-        let choice = Choice {
-            kind: Encoding::Raw,
-            copy: false,
+        let style = Style {
+            runs: Runs::OfRows,
+            format: Format::HOST,
+            choice: Choice {
+                kind: Encoding::Raw,
+                copy: false,
+            },
         };
-        let mut answer = Answer::start(cut, &ALL, Format::HOST, choice);
+        let mut answer = Answer::start(cut, &ALL, style);
         let mut total: usize = 0;
         for _turn in 0..answer.count() {
             let next = answer.next(cut, self.values.as_mut_slice(), self.out.as_mut_slice());

@@ -12,6 +12,7 @@ mod ends;
 use ends::{NoInput, NoRest, NoStop};
 use host_decoder::HostDecoder;
 use host_reader::run_host;
+use joined_runs::Runs;
 use link::{Gave, MemoryLink, Took};
 use painter::Painter;
 use pixel_format::Fault;
@@ -91,7 +92,7 @@ fn serve_viewer<R: Wait>(
     let takes = vec![in alloc; Took::Bytes(VIEWER.len()), Took::End]?;
     let gives = Vec::from_elem(alloc, Gave::Bytes(ROOM), PIECES)?;
     let mut link = MemoryLink::new(alloc, sends, takes, gives)?;
-    let mut session = Session::ready(alloc, WIDTH, HEIGHT, Role::View)?;
+    let mut session = Session::ready(alloc, WIDTH, HEIGHT, Role::View, Runs::Joined)?;
     let ended = run_viewer(
         rt,
         &mut link,

@@ -18,31 +18,31 @@ use Rattle.reflect_world.proofs.Holds.{in_every_schedule}
 use Rattle.reflect_world.proofs.Reaching.{play-more, shows_reached}
 use Rattle.reflect_world.proofs.Told.{told_in_every_schedule}
 
-kept_more : (k : Kept) (old new : Standing) (e : Step) → IsKept k old → k.is_refused ≡ false → JoinsUnder k.name e old new → IsKept (with_steps k (e ∷ [])) new
+kept_more : (k : Kept) (old new : Standing) (e : Step) → IsKept k old → k.is_refused ≡ false → JoinsUnder k.name k.runs e old new → IsKept (with_steps k (e ∷ [])) new
 kept_more k old new e kept fine takes =
     let now : Reached (setup_of k) new (world_of (with_steps k (e ∷ []))) =
-    subst (λ w. Reached (setup_of k) new w) (sym (play-more (setup_of k) k.steps e)) (takes (setup_of k) (world_of k) refl (kept.reached fine)) in
+    subst (λ w. Reached (setup_of k) new w) (sym (play-more (setup_of k) k.steps e)) (takes (setup_of k) (world_of k) refl refl (kept.reached fine)) in
     record { named = kept.named; shows = shows_reached (setup_of k) new (world_of (with_steps k (e ∷ []))) now; reached = λ no. now }
 
 -- An entry was pushed, and its step was taken.
 pub kept_pushed : (k : Kept) (entries more : List Entry) (entry : Entry) (old new : Standing) → IsKept (record k { steps = map entry_of entries }) old → k.is_refused ≡ false → more ≡ entries ++ entry ∷ []
-    → JoinsUnder k.name (entry_of entry) old new → IsKept (record k { steps = map entry_of more }) new
+    → JoinsUnder k.name k.runs (entry_of entry) old new → IsKept (record k { steps = map entry_of more }) new
 kept_pushed k entries more entry old new kept fine pushed takes =
     let steps : map entry_of more ≡ map entry_of entries ++ entry_of entry ∷ [] = ap (map entry_of) pushed ∙ map-append entry_of entries (entry ∷ []) in
     subst (λ (es : List Step). IsKept (record k { steps = es }) new) (sym steps) (kept_more (record k { steps = map entry_of entries }) old new (entry_of entry) kept fine takes)
 
 -- The same of a viewer that joins, which it may do though memory was refused.
-kept_joined_by : (k : Kept) (old new : Standing) (e : Step) → IsKept k old → JoinsUnder k.name e old new → ShowsUnder k.name e old new → IsKept (with_steps k (e ∷ [])) new
+kept_joined_by : (k : Kept) (old new : Standing) (e : Step) → IsKept k old → JoinsUnder k.name k.runs e old new → ShowsUnder k.name k.runs e old new → IsKept (with_steps k (e ∷ [])) new
 kept_joined_by k old new e kept takes shows =
     let more = sym (play-more (setup_of k) k.steps e) in
     record {
       named = kept.named;
-      shows = subst (λ w. Shows (setup_of k) new w) more (shows (setup_of k) (world_of k) refl kept.shows);
-      reached = λ fine. subst (λ w. Reached (setup_of k) new w) more (takes (setup_of k) (world_of k) refl (kept.reached fine));
+      shows = subst (λ w. Shows (setup_of k) new w) more (shows (setup_of k) (world_of k) refl refl kept.shows);
+      reached = λ fine. subst (λ w. Reached (setup_of k) new w) more (takes (setup_of k) (world_of k) refl refl (kept.reached fine));
     }
 
 pub kept_joined : (k : Kept) (entries more : List Entry) (entry : Entry) (old new : Standing) → IsKept (record k { steps = map entry_of entries }) old → more ≡ entries ++ entry ∷ []
-    → JoinsUnder k.name (entry_of entry) old new → ShowsUnder k.name (entry_of entry) old new → IsKept (record k { steps = map entry_of more }) new
+    → JoinsUnder k.name k.runs (entry_of entry) old new → ShowsUnder k.name k.runs (entry_of entry) old new → IsKept (record k { steps = map entry_of more }) new
 kept_joined k entries more entry old new kept pushed takes shows =
     let steps : map entry_of more ≡ map entry_of entries ++ entry_of entry ∷ [] = ap (map entry_of) pushed ∙ map-append entry_of entries (entry ∷ []) in
     subst (λ (es : List Step). IsKept (record k { steps = es }) new) (sym steps) (kept_joined_by (record k { steps = map entry_of entries }) old new (entry_of entry) kept takes shows)

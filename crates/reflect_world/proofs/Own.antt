@@ -11,6 +11,7 @@ use Rattle.std.proofs.lemmas.List.Elements.{filter_map-append}
 use Rattle.byte_reading.specs.Reading.{Reading, Done, Faulty, Want, step, wants_more}
 use Rattle.raster.specs.declared.rect.Rect.{Rect}
 use Rattle.raster.specs.Update.{Update, view}
+use Rattle.joined_runs.specs.declared.runs.Runs.{Runs}
 use Rattle.rfb_wire.specs.ClientMessage.{ClientMessage, client_message}
 use Rattle.roles.specs.Allowed.{Input, passes}
 use Rattle.reflect_core.specs.Sequential as history
@@ -55,8 +56,8 @@ own_began : (us : List Update) (mine : List history.Step) (n : ℕ) (o : Option 
 own_began us mine n None es le k = k
 own_began us mine n (Some found) es le k = record { numbers = (le, k.numbers); same = k.same }
 
-own_cut : (w h : ℕ) (us : List Update) (mine : List history.Step) (es : List Entry) → HasOwn us mine es → HasOwn us (mine ++ history.Cut (view us) ∷ []) (record_after_cut w h es us)
-own_cut w h us mine es k = own_began us (mine ++ history.Cut (view us) ∷ []) (length us) (update_at w h es us) (MadeCut (length us) ∷ es) (omega arith) (own_made_cut us mine es k)
+own_cut : (form : Runs) (w h : ℕ) (us : List Update) (mine : List history.Step) (es : List Entry) → HasOwn us mine es → HasOwn us (mine ++ history.Cut (view us) ∷ []) (record_after_cut form w h es us)
+own_cut form w h us mine es k = own_began us (mine ++ history.Cut (view us) ∷ []) (length us) (update_at form w h es us) (MadeCut (length us) ∷ es) (omega arith) (own_made_cut us mine es k)
 
 -- What was cut stays so when an update is put.
 replied_more : (us : List Update) (u : Update) (es : List Entry) → NumbersUpTo (length us) es → filter_map (replied_in (us ++ u ∷ [])) es ≡ filter_map (replied_in us) es
@@ -200,7 +201,7 @@ own_cut_at : (s : Setup) (w : World) (v : ℕ) (p : Viewer) (o : Option ℕ) →
 own_cut_at s w v p None h k = own_set w v (Some p) h k
 own_cut_at s w v p (Some looked) h k =
     own_if (has_reason s.w s.h p.entries looked) _ _
-    (own_takes w v (history.Cut (view w.shared.updates)) (after_cut s w.shared.updates p) h (own_cut s.w s.h w.shared.updates (own_steps w v) p.entries k)) (own_set w v _ h k)
+    (own_takes w v (history.Cut (view w.shared.updates)) (after_cut s w.shared.updates p) h (own_cut s.runs s.w s.h w.shared.updates (own_steps w v) p.entries k)) (own_set w v _ h k)
 
 own_send : (s : Setup) (w : World) (v : ℕ) (p : Viewer) (o : Option Input) → IsOwn w → HasOwn w.shared.updates (own_steps w v) p.entries → IsOwn (send_waiting s w v p o)
 own_send s w v p None h k = own_set w v _ h k

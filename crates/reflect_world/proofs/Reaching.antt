@@ -7,6 +7,7 @@ use Rattle.pixel_format.specs.declared.fault.Fault.{Fault}
 use Rattle.byte_reading.specs.Reading.{Reading, fault_of, rest}
 use Rattle.raster.specs.Screen.{opening}
 use Rattle.raster.specs.Update.{Update, view}
+use Rattle.joined_runs.specs.declared.runs.Runs.{Runs}
 use Rattle.rfb_wire.specs.ServerMessage.{ServerMessage}
 use Rattle.roles.specs.Allowed.{Input}
 use Rattle.roles.specs.declared.role.Role.{Role}
@@ -354,12 +355,12 @@ held_is new looked written unread =
     let with_unread : List ℕ → Held = λ b. record { session = new.session; looked = None; written = []; unread = b } in
     ap with_looked looked ∙ (ap with_written written ∙ ap with_unread unread)
 
-pub joined_reaches : (standing : Standing) (v : ℕ) (name : List ℕ) (role : Role) (greet : Bool) (new : Held) → v < 65 → new.looked ≡ None → new.written ≡ [] → new.unread ≡ [] → new.session.asked.last ≡ None
-    → ((s : Setup) → s.w ≡ standing.screen.width → s.h ≡ standing.screen.height → s.name ≡ name → Stands s new.session (new_viewer role greet))
-    → JoinsUnder name (Join v role greet) standing (with_place standing v new)
-joined_reaches standing v name role greet new within looked written unread uncut stands s w named r =
+pub joined_reaches : (standing : Standing) (v : ℕ) (name : List ℕ) (runs : Runs) (role : Role) (greet : Bool) (new : Held) → v < 65 → new.looked ≡ None → new.written ≡ [] → new.unread ≡ [] → new.session.asked.last ≡ None
+    → ((s : Setup) → s.w ≡ standing.screen.width → s.h ≡ standing.screen.height → s.name ≡ name → s.runs ≡ runs → Stands s new.session (new_viewer role greet))
+    → JoinsUnder name runs (Join v role greet) standing (with_place standing v new)
+joined_reaches standing v name runs role greet new within looked written unread uncut stands s w named formed r =
     subst (λ h. Reached s (with_place standing v h) (happens s w (Join v role greet))) (sym (held_is new looked written unread))
-    (reached_join s standing w v role greet new.session r within (stands s (sym r.width) (sym r.height) named) uncut)
+    (reached_join s standing w v role greet new.session r within (stands s (sym r.width) (sym r.height) named formed) uncut)
 
 -- What a cut asks for.
 pub ready_there : (s : Setup) (standing : Standing) (w : World) (v : ℕ) (found : Option Held) (place : Held) → Reached s standing w → v < 65 → found ≡ slice_index_or standing.places v found → found ≡ Some place
@@ -517,11 +518,11 @@ broken_off standing v found place new within at e broken s w r =
     }
 
 -- A viewer joins, also where memory was refused before.
-pub joined_shows : (standing : Standing) (v : ℕ) (name : List ℕ) (role : Role) (greet : Bool) (new : Held) → v < 65 → new.written ≡ []
-    → ((s : Setup) → s.w ≡ standing.screen.width → s.h ≡ standing.screen.height → s.name ≡ name → Stands s new.session (new_viewer role greet))
-    → ShowsUnder name (Join v role greet) standing (with_place standing v new)
-joined_shows standing v name role greet new within written stands s w named shown =
-    let stood : Stands s new.session (new_viewer role greet) = stands s (sym shown.width) (sym shown.height) named in
+pub joined_shows : (standing : Standing) (v : ℕ) (name : List ℕ) (runs : Runs) (role : Role) (greet : Bool) (new : Held) → v < 65 → new.written ≡ []
+    → ((s : Setup) → s.w ≡ standing.screen.width → s.h ≡ standing.screen.height → s.name ≡ name → s.runs ≡ runs → Stands s new.session (new_viewer role greet))
+    → ShowsUnder name runs (Join v role greet) standing (with_place standing v new)
+joined_shows standing v name runs role greet new within written stands s w named formed shown =
+    let stood : Stands s new.session (new_viewer role greet) = stands s (sym shown.width) (sym shown.height) named formed in
     record {
       size = shown.size;
       width = shown.width;

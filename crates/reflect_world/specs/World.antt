@@ -5,6 +5,7 @@ use Rattle.pixel_format.specs.declared.fault.Fault.TheVariants.{Memory, NumbersO
 use Rattle.raster.specs.Screen.{opening}
 use Rattle.raster.specs.Size.{IsScreenSize}
 use Rattle.raster.specs.Update.{Update}
+use Rattle.joined_runs.specs.declared.runs.Runs.{Runs}
 use Rattle.painter.specs.Same.{AreSameFrom}
 use Rattle.reflect_core.specs.Plain.{Plain}
 use Rattle.roles.specs.Allowed.{Input}
@@ -66,19 +67,20 @@ entry_of (kept.Played step lost) = step_with step lost.items
 
 -- ---- what contracts see of a world
 
--- The size and the name of its screen, the room for inputs, its schedule, and whether a step was refused for want of
--- memory.
+-- The size and the name of its screen, the room for inputs, the form in which its viewers are answered, its schedule, and
+-- whether a step was refused for want of memory.
 pub record Kept : Type 0 where
   pub width : ℕ
   pub height : ℕ
   pub name : List ℕ
   pub room : ℕ
+  pub runs : Runs
   pub steps : List Step
   pub is_refused : Bool
 
--- The setup of the definitions: its screen and its room.
+-- The setup of the definitions: its screen, its room and its form.
 abbrev pub setup_of : Kept → Setup
-setup_of k = record { w = k.width; h = k.height; name = k.name; room = k.room }
+setup_of k = record { w = k.width; h = k.height; name = k.name; room = k.room; runs = k.runs }
 
 -- The world that its schedule gives.
 abbrev pub world_of : Kept → World
@@ -257,9 +259,9 @@ has_waiting (Some p) = is_some p.waiting
 abbrev pub TakesStep : Step → Standing → Standing → Type 0
 TakesStep e old new = (s : Setup) (w : World) → Reached s old w → Reached s new (happens s w e)
 
--- The same, over a screen of this name.
-abbrev pub JoinsUnder : List ℕ → Step → Standing → Standing → Type 0
-JoinsUnder name e old new = (s : Setup) (w : World) → s.name ≡ name → Reached s old w → Reached s new (happens s w e)
+-- The same, over a screen of this name, whose viewers are answered in this form.
+abbrev pub JoinsUnder : List ℕ → Runs → Step → Standing → Standing → Type 0
+JoinsUnder name runs e old new = (s : Setup) (w : World) → s.name ≡ name → s.runs ≡ runs → Reached s old w → Reached s new (happens s w e)
 
 -- What stood for a world stands for it still.
 abbrev pub StaysFor : Standing → Standing → Type 0
@@ -273,11 +275,12 @@ StaysSeen old new = (s : Setup) (w : World) → Reached s old w → Shows s new 
 abbrev pub Leaves : Standing → Standing → Fault → Type 0
 Leaves old new fault = StaysSeen old new × (fault ≡ NumbersOut → StaysFor old new)
 
--- What was seen of a world is seen of what happens to it by a step, over a screen of this name.
-abbrev pub ShowsUnder : List ℕ → Step → Standing → Standing → Type 0
-ShowsUnder name e old new = (s : Setup) (w : World) → s.name ≡ name → Shows s old w → Shows s new (happens s w e)
+-- What was seen of a world is seen of what happens to it by a step, over a screen of this name, whose viewers are
+-- answered in this form.
+abbrev pub ShowsUnder : List ℕ → Runs → Step → Standing → Standing → Type 0
+ShowsUnder name runs e old new = (s : Setup) (w : World) → s.name ≡ name → s.runs ≡ runs → Shows s old w → Shows s new (happens s w e)
 
--- The same, whatever its name.
+-- The same, whatever its name and the form.
 abbrev pub ShowsStep : Step → Standing → Standing → Type 0
 ShowsStep e old new = (s : Setup) (w : World) → Shows s old w → Shows s new (happens s w e)
 

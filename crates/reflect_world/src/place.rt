@@ -9,6 +9,7 @@ ghost use Rattle.viewer_session.specs.Viewer.{Setup, new_viewer};
 ghost use Rattle.reflect_world.specs.World.{GoesOn, HasLooked, HasSent, IsBrokenOff, IsFed, IsWritten, ReadsMore, WritesSome, left_by};
 
 use crate::unread::Unread;
+use joined_runs::Runs;
 use pixel_format::Fault;
 use reflect_core::PlainScreen;
 use roles::{Input, Role};
@@ -35,27 +36,28 @@ impl Model for Place {
 }
 
 impl Place {
-    /// A viewer that has sent nothing, of a screen with a name of 1 to 255 bytes. It begins with its hello where
-    /// `greet` says so. It fails where memory is refused (`Memory`).
+    /// A viewer that has sent nothing, of a screen with a name of 1 to 255 bytes, and is answered in this form. It
+    /// begins with its hello where `greet` says so. It fails where memory is refused (`Memory`).
     pub fn new(
         alloc: Global,
         width: u64,
         height: u64,
         name: &[u8],
         role: Role,
+        runs: Runs,
         greet: bool,
     ) -> Result<Self, Fault>
         requires size { IsScreenSize width height }
         requires name { (1 ≤ length name.now) × (length name.now ≤ 255) }
         ensures fresh { IfOk result (λ place. (place.looked ≡ None) × (place.written ≡ []) × (place.unread ≡ [])) }
         ensures uncut { IfOk result (λ place. place.session.asked.last ≡ None) }
-        ensures stands { IfOk result (λ place. (s : Setup) → s.w ≡ width → s.h ≡ height → s.name ≡ name.now → Stands s place.session (new_viewer role greet)) }
+        ensures stands { IfOk result (λ place. (s : Setup) → s.w ≡ width → s.h ≡ height → s.name ≡ name.now → s.runs ≡ runs → Stands s place.session (new_viewer role greet)) }
         ensures err { IfErr result (λ fault. fault ≡ Memory) }
     {
         let session = if greet {
-            Session::open(alloc, width, height, name, role)?
+            Session::open(alloc, width, height, name, role, runs)?
         } else {
-            Session::ready(alloc, width, height, role)?
+            Session::ready(alloc, width, height, role, runs)?
         };
         Ok(Place {
             session,

@@ -15,6 +15,7 @@ use crate::host::Host;
 use crate::place::Place;
 use crate::relay::Relay;
 use crate::step::Step;
+use joined_runs::Runs;
 use painter::Patch;
 use pixel_format::Fault;
 use reflect_core::{PlainScreen, Puts, ScreenSource};
@@ -91,18 +92,25 @@ impl Scene {
         }
     }
 
-    /// A viewer begins anew, of a screen with a name of 1 to 255 bytes. Where memory is refused (`Memory`) nothing has
-    /// changed.
-    pub fn join(&mut self, viewer: u64, role: Role, name: &[u8], greet: bool) -> Result<(), Fault>
+    /// A viewer begins anew, of a screen with a name of 1 to 255 bytes, and is answered in this form. Where memory is
+    /// refused (`Memory`) nothing has changed.
+    pub fn join(
+        &mut self,
+        viewer: u64,
+        role: Role,
+        name: &[u8],
+        runs: Runs,
+        greet: bool,
+    ) -> Result<(), Fault>
         requires there { viewer < 65 }
         requires name { (1 ≤ length name.now) × (length name.now ≤ 255) }
         requires seen { IsSeen self.old }
-        ensures ok { OnOk result (JoinsUnder name.now (Join viewer role greet) self.old self.new) }
-        ensures shows { OnOk result (ShowsUnder name.now (Join viewer role greet) self.old self.new) }
+        ensures ok { OnOk result (JoinsUnder name.now runs (Join viewer role greet) self.old self.new) }
+        ensures shows { OnOk result (ShowsUnder name.now runs (Join viewer role greet) self.old self.new) }
         ensures err { IfErr result (λ fault. (fault ≡ Memory) × (self.new ≡ self.old)) }
     {
         let (width, height) = self.screen.size();
-        let place = Place::new(self.alloc, width, height, name, role, greet)?;
+        let place = Place::new(self.alloc, width, height, name, role, runs, greet)?;
         self.places[viewer as usize] = Some(place);
         Ok(())
     }

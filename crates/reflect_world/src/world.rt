@@ -10,6 +10,7 @@ ghost use Rattle.reflect_world.specs.World.{HasPlayed, HasStopped, IsFaithful, S
 
 use crate::scene::Scene;
 use crate::step::{Entry, Step};
+use joined_runs::Runs;
 use pixel_format::Fault;
 use roles::Role;
 use std::alloc::Global;
@@ -23,6 +24,7 @@ pub struct World {
     height: u64,
     name: Vec<u8>,
     room: u64,
+    runs: Runs,
     schedule: Vec<Entry>,
     is_refused: bool,
     scene: Scene,
@@ -39,6 +41,7 @@ impl Model for World {
       height = w.height;
       name = w.name.items;
       room = w.room;
+      runs = w.runs;
       steps = map entry_of w.schedule.items;
       is_refused = w.is_refused;
     } };
@@ -48,6 +51,7 @@ impl Model for World {
       height = w.height;
       name = w.name.items;
       room = w.room;
+      runs = w.runs;
       steps = map entry_of w.schedule.items;
       is_refused = w.is_refused;
     }) w.scene };
@@ -55,18 +59,20 @@ impl Model for World {
 
 impl World {
     /// A world of a black screen of `width` by `height` pixels, with a name of 1 to 255 bytes and room for this many
-    /// inputs on their way to the host. It fails where memory is refused (`Memory`).
+    /// inputs on their way to the host, whose viewers are answered in one of the two forms (`joined_runs`). It fails
+    /// where memory is refused (`Memory`).
     pub fn new(
         alloc: Global,
         width: u64,
         height: u64,
         name: &[u8],
         room: u64,
+        runs: Runs,
     ) -> Result<World, Fault>
         requires size { IsScreenSize width height }
         requires name { (1 ≤ length name.now) × (length name.now ≤ 255) }
         requires room { room ≤ 2 ^ 62 }
-        ensures ok { IfOk result (λ world. world ≡ record { width = width; height = height; name = name.now; room = room; steps = []; is_refused = false }) }
+        ensures ok { IfOk result (λ world. world ≡ record { width = width; height = height; name = name.now; room = room; runs = runs; steps = []; is_refused = false }) }
         ensures err { IfErr result (λ fault. fault ≡ Memory) }
     {
         let Ok(name) = Vec::from_slice(alloc, name) else {
@@ -78,6 +84,7 @@ impl World {
             height,
             name,
             room,
+            runs,
             schedule: Vec::new(alloc),
             is_refused: false,
             scene: Scene::new(alloc, width, height, room)?,
@@ -94,7 +101,10 @@ impl World {
         let Ok(()) = self.schedule.push(Entry::Joined(viewer, role, greet)) else {
             return Err(Fault::Memory);
         };
-        match self.scene.join(viewer, role, self.name.as_slice(), greet) {
+        match self
+            .scene
+            .join(viewer, role, self.name.as_slice(), self.runs, greet)
+        {
             Ok(()) => Ok(()),
             Err(fault) => {
                 // The entry that was just pushed, and is known.

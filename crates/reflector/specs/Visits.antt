@@ -4,6 +4,7 @@ use Rattle.std.specs.Prelude.{◌≡◌, ◌⊎◌, ℕ, Bool, true, false, List
 use Rattle.pixel_format.specs.declared.fault.Fault.{Fault}
 use Rattle.pixel_format.specs.declared.fault.Fault.TheVariants.{Memory}
 use Rattle.raster.specs.Update.{Update}
+use Rattle.joined_runs.specs.declared.runs.Runs.{Runs}
 use Rattle.roles.specs.Allowed.{Input}
 use Rattle.roles.specs.declared.role.Role.{Role}
 use Rattle.link.specs.Links.{LinkState}
@@ -26,13 +27,14 @@ abbrev pub name_of : List ℕ → List ℕ
 name_of [] = 114 ∷ 101 ∷ 102 ∷ 108 ∷ 101 ∷ 99 ∷ 116 ∷ 111 ∷ 114 ∷ 100 ∷ []
 name_of (b ∷ bs) = b ∷ bs
 
--- A screen of this size and name.
-abbrev pub setup_of : ℕ → ℕ → List ℕ → Setup
-setup_of w h name = record { w = w; h = h; name = name; room = 0 }
+-- A screen of this size and name, whose viewers are answered in this form.
+abbrev pub setup_of : ℕ → ℕ → List ℕ → Runs → Setup
+setup_of w h name form = record { w = w; h = h; name = name; room = 0; runs = form }
 
--- That they are the size and the name of the screen of a host that was joined.
-abbrev pub IsOfScreen : (w h : ℕ) → (name : List ℕ) → (width height : ℕ) → (told : List ℕ) → Type 0
-IsOfScreen w h name width height told = (width ≡ w) × (height ≡ h) × (told ≡ name_of name)
+-- That they are the size and the name of the screen of a host that was joined, and the form in which all viewers of a
+-- run are answered.
+abbrev pub IsOfScreen : (w h : ℕ) → (name : List ℕ) → (form : Runs) → (width height : ℕ) → (told : List ℕ) → (answered : Runs) → Type 0
+IsOfScreen w h name form width height told answered = (width ≡ w) × (height ≡ h) × (told ≡ name_of name) × (answered ≡ form)
 
 -- ---- one visit
 

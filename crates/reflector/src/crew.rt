@@ -1,14 +1,16 @@
 //! What the threads of a run share.
 
+use joined_runs::Runs;
 use serving::{Bell, Stop};
 use std::alloc::Global;
 use std::sync::{Arc, Wait};
 
-/// The handle of each thread, the bells, and the flag that ends them all.
+/// The handle of each thread, the form in which all viewers are answered, the bells, and the flag that ends all threads.
 #[derive(Drop)]
 pub(crate) struct Crew<R: Wait + Drop, B: Bell + Drop, W: Bell + Drop> {
     pub(crate) rt: R,
     pub(crate) alloc: Global,
+    pub(crate) runs: Runs,
     /// Rung after each put, and roused by the flag: all that wait.
     pub(crate) everyone: Arc<B, Global>,
     /// Rung after each input that was sent: the host's writer.

@@ -35,7 +35,7 @@ where
     ensures sender { IsSameSender handle.promise.sender.value result.sender }
     ensures view { handle.promise.role ≡ View → inputs_of result.sender ≡ inputs_of handle.promise.sender.value }
     ensures list { Begins (puts_of publisher.now) result.watcher.updates }
-    ensures promise { (last : Shared) × Begins last.updates result.watcher.updates × ((result.watcher.updates ≡ last.updates) ⊎ (result.watcher.updates ≡ puts_of publisher.now)) × HasVisits D.lets_in D.sees_off (λ source_old source_new sent_old sent_new why left. IsServedWhole result.watcher.updates (setup_of handle.promise.width handle.promise.height handle.promise.name.value.items) handle.promise.role sent_old sent_new left) (at handle.promise.door.value handle.promise.watcher.value (inputs_of handle.promise.sender.value)) (at result.door last (inputs_of result.sender)) }
+    ensures promise { (last : Shared) × Begins last.updates result.watcher.updates × ((result.watcher.updates ≡ last.updates) ⊎ (result.watcher.updates ≡ puts_of publisher.now)) × HasVisits D.lets_in D.sees_off (λ source_old source_new sent_old sent_new why left. IsServedWhole result.watcher.updates (setup_of handle.promise.width handle.promise.height handle.promise.name.value.items handle.promise.runs) handle.promise.role sent_old sent_new left) (at handle.promise.door.value handle.promise.watcher.value (inputs_of handle.promise.sender.value)) (at result.door last (inputs_of result.sender)) }
 {
     let Place {
         door,

@@ -12,6 +12,7 @@ use crate::crew::Crew;
 use crate::seated::{Seat, Seated};
 use crate::welcome::Welcome;
 use input_relay::Sender;
+use joined_runs::Runs;
 use link::{Link, Rest, StopFlag};
 use pixel_format::Fault;
 use reflect_core::ScreenSource;
@@ -44,15 +45,16 @@ pub struct Place<S, D, R: Wait + Drop> {
 }
 
 /// That a place gives back the door, the watcher and the sender that it began with, after its visits: each viewer that
-/// the door let in, in turn, was served in this role, over a screen of this size and name (`IsReceived`). So it keeps
-/// the promise of the program: all of them were shown whole screens of one list, and no more went on of their input
-/// than the role allows (`KeepsPromise`).
+/// the door let in, in turn, was served in this role and form, over a screen of this size and name (`IsReceived`). So it
+/// keeps the promise of the program: all of them were shown whole screens of one list, and no more went on of their
+/// input than the role allows (`KeepsPromise`).
 #[derive(Drop)]
 pub struct OfPlace<S, D, R: Wait + Drop> {
     pub role: Role,
     pub width: u64,
     pub height: u64,
     pub name: Snapshot<Vec<u8>>,
+    pub runs: Runs,
     pub door: Snapshot<D>,
     pub watcher: Snapshot<S>,
     pub sender: Snapshot<Sender<R>>,
@@ -66,7 +68,7 @@ impl<S: ScreenSource, D: Door, R: Wait + Drop> Promise<Place<S, D, R>> for OfPla
     ghost use Rattle.reflector.specs.Promise.{KeepsPromise};
     ghost use Rattle.reflector.specs.Visits.{HasVisits, IsReceived, at, setup_of};
 
-    ghost kept_by = { λ promise place. IsSameSender promise.sender.value place.sender × HasVisits D.lets_in D.sees_off (λ source_old source_new sent_old sent_new why left. IsReceived S.looks S.cuts S.may_end ⊤ (λ fault. (fault ≡ QueueFull) ⊎ (fault ≡ NumbersOut)) S.known (setup_of promise.width promise.height promise.name.value.items) promise.role source_old source_new sent_old sent_new why left) (at promise.door.value promise.watcher.value (inputs_of promise.sender.value)) (at place.door place.watcher (inputs_of place.sender)) × KeepsPromise D.lets_in D.sees_off S.known (setup_of promise.width promise.height promise.name.value.items) promise.role (at promise.door.value promise.watcher.value (inputs_of promise.sender.value)) (at place.door place.watcher (inputs_of place.sender)) };
+    ghost kept_by = { λ promise place. IsSameSender promise.sender.value place.sender × HasVisits D.lets_in D.sees_off (λ source_old source_new sent_old sent_new why left. IsReceived S.looks S.cuts S.may_end ⊤ (λ fault. (fault ≡ QueueFull) ⊎ (fault ≡ NumbersOut)) S.known (setup_of promise.width promise.height promise.name.value.items promise.runs) promise.role source_old source_new sent_old sent_new why left) (at promise.door.value promise.watcher.value (inputs_of promise.sender.value)) (at place.door place.watcher (inputs_of place.sender)) × KeepsPromise D.lets_in D.sees_off S.known (setup_of promise.width promise.height promise.name.value.items promise.runs) promise.role (at promise.door.value promise.watcher.value (inputs_of promise.sender.value)) (at place.door place.watcher (inputs_of place.sender)) };
 }
 
 /// The thread of a place.
@@ -97,7 +99,7 @@ fn receive<L: Link, S: ScreenSource, K: InputSink, F: StopFlag, Z: Rest, R: Wait
 ) -> (u64, Result<(), Fault>)
     requires screen { (s : S) → (S.width s ≡ welcome.now.width) × (S.height s ≡ welcome.now.height) }
     requires fresh { L.state link.old ≡ unused }
-    ensures { IsReceived S.looks S.cuts S.may_end (F.was_set stop.now) K.may_refuse S.known (setup_of welcome.now.width welcome.now.height welcome.now.name.items) welcome.now.role source.old source.new (K.sent sink.old) (K.sent sink.new) result.1 (L.state link.new) }
+    ensures { IsReceived S.looks S.cuts S.may_end (F.was_set stop.now) K.may_refuse S.known (setup_of welcome.now.width welcome.now.height welcome.now.name.items welcome.now.runs) welcome.now.role source.old source.new (K.sent sink.old) (K.sent sink.new) result.1 (L.state link.new) }
 {
     match welcome.open() {
         Ok(mut session) => {
@@ -119,7 +121,7 @@ fn serve_viewers<S: ScreenSource, K: InputSink, D: Door, F: StopFlag, Z: Rest, R
     rest: &Z,
 )
     requires { (s : S) → (S.width s ≡ welcome.now.width) × (S.height s ≡ welcome.now.height) }
-    ensures { HasVisits D.lets_in D.sees_off (λ source_old source_new sent_old sent_new why left. IsReceived S.looks S.cuts S.may_end (F.was_set stop.now) K.may_refuse S.known (setup_of welcome.now.width welcome.now.height welcome.now.name.items) welcome.now.role source_old source_new sent_old sent_new why left) (at door.old source.old (K.sent sink.old)) (at door.new source.new (K.sent sink.new)) }
+    ensures { HasVisits D.lets_in D.sees_off (λ source_old source_new sent_old sent_new why left. IsReceived S.looks S.cuts S.may_end (F.was_set stop.now) K.may_refuse S.known (setup_of welcome.now.width welcome.now.height welcome.now.name.items welcome.now.runs) welcome.now.role source_old source_new sent_old sent_new why left) (at door.old source.old (K.sent sink.old)) (at door.new source.new (K.sent sink.new)) }
 {
     for _ in rt.forever() {
         if stop.is_set() {
@@ -156,7 +158,7 @@ fn serve_from<
     requires screen { (s : S) → (S.width s ≡ welcome.now.width) × (S.height s ≡ welcome.now.height) }
     requires named { (relay_of sender ≡ T.relay) × (place_of sender ≡ T.place) }
     ensures named { (relay_of result ≡ T.relay) × (place_of result ≡ T.place) }
-    ensures visits { HasVisits D.lets_in D.sees_off (λ source_old source_new sent_old sent_new why left. IsReceived S.looks S.cuts S.may_end (F.was_set stop.now) (λ fault. (fault ≡ QueueFull) ⊎ (fault ≡ NumbersOut)) S.known (setup_of welcome.now.width welcome.now.height welcome.now.name.items) welcome.now.role source_old source_new sent_old sent_new why left) (at door.old source.old (inputs_of sender)) (at door.new source.new (inputs_of result)) }
+    ensures visits { HasVisits D.lets_in D.sees_off (λ source_old source_new sent_old sent_new why left. IsReceived S.looks S.cuts S.may_end (F.was_set stop.now) (λ fault. (fault ≡ QueueFull) ⊎ (fault ≡ NumbersOut)) S.known (setup_of welcome.now.width welcome.now.height welcome.now.name.items welcome.now.runs) welcome.now.role source_old source_new sent_old sent_new why left) (at door.old source.old (inputs_of sender)) (at door.new source.new (inputs_of result)) }
 {
     let inner: Seated<T, R> = Seated::new(sender);
     let mut sink = Ringing { inner, bell };
@@ -177,8 +179,8 @@ fn keep<S: ScreenSource, D: Door, W: Bell + Drop, F: StopFlag, R: Wait + Clock +
 ) -> Place<S, D, R>
     requires { (s : S) → (S.width s ≡ welcome.width) × (S.height s ≡ welcome.height) }
     ensures sender { IsSameSender sender result.sender }
-    ensures visits { HasVisits D.lets_in D.sees_off (λ source_old source_new sent_old sent_new why left. IsReceived S.looks S.cuts S.may_end (F.was_set stop.now) (λ fault. (fault ≡ QueueFull) ⊎ (fault ≡ NumbersOut)) S.known (setup_of welcome.width welcome.height welcome.name.items) welcome.role source_old source_new sent_old sent_new why left) (at door watcher (inputs_of sender)) (at result.door result.watcher (inputs_of result.sender)) }
-    ensures promise { KeepsPromise D.lets_in D.sees_off S.known (setup_of welcome.width welcome.height welcome.name.items) welcome.role (at door watcher (inputs_of sender)) (at result.door result.watcher (inputs_of result.sender)) }
+    ensures visits { HasVisits D.lets_in D.sees_off (λ source_old source_new sent_old sent_new why left. IsReceived S.looks S.cuts S.may_end (F.was_set stop.now) (λ fault. (fault ≡ QueueFull) ⊎ (fault ≡ NumbersOut)) S.known (setup_of welcome.width welcome.height welcome.name.items welcome.runs) welcome.role source_old source_new sent_old sent_new why left) (at door watcher (inputs_of sender)) (at result.door result.watcher (inputs_of result.sender)) }
+    ensures promise { KeepsPromise D.lets_in D.sees_off S.known (setup_of welcome.width welcome.height welcome.name.items welcome.runs) welcome.role (at door watcher (inputs_of sender)) (at result.door result.watcher (inputs_of result.sender)) }
 {
     let rest = Nap { clock: rt };
     let sender = serve_from::<Brand, S, D, W, F, Nap<R>, R>(
@@ -213,7 +215,7 @@ where
     W: Bell + Drop + Send + Sync + 'static,
     R: Threads + Wait + Clock + Copy + Drop + Send + 'static,
     requires { (s : S) → (S.width s ≡ welcome.width) × (S.height s ≡ welcome.height) }
-    ensures welcome { IfOk result (λ handle. (handle.promise.role ≡ welcome.role) × (handle.promise.width ≡ welcome.width) × (handle.promise.height ≡ welcome.height) × (handle.promise.name.value.items ≡ welcome.name.items)) }
+    ensures welcome { IfOk result (λ handle. (handle.promise.role ≡ welcome.role) × (handle.promise.width ≡ welcome.width) × (handle.promise.height ≡ welcome.height) × (handle.promise.name.value.items ≡ welcome.name.items) × (handle.promise.runs ≡ welcome.runs)) }
     ensures ends { IfOk result (λ handle. (handle.promise.door.value ≡ door) × (handle.promise.watcher.value ≡ watcher) × (handle.promise.sender.value ≡ sender)) }
     ensures err { IfErr result (λ fault. fault ≡ Memory) }
 {
@@ -225,6 +227,7 @@ where
         width: welcome.width,
         height: welcome.height,
         name: Snapshot::of(&welcome.name),
+        runs: welcome.runs,
         door: Snapshot::of(&door),
         watcher: Snapshot::of(&watcher),
         sender: Snapshot::of(&sender),
@@ -235,8 +238,8 @@ where
         move || -> Place<S, D, R>
             requires { (s : S) → (S.width s ≡ welcome.width) × (S.height s ≡ welcome.height) }
             ensures sender { IsSameSender sender result.sender }
-            ensures visits { HasVisits D.lets_in D.sees_off (λ source_old source_new sent_old sent_new why left. IsReceived S.looks S.cuts S.may_end ⊤ (λ fault. (fault ≡ QueueFull) ⊎ (fault ≡ NumbersOut)) S.known (setup_of welcome.width welcome.height welcome.name.items) welcome.role source_old source_new sent_old sent_new why left) (at door watcher (inputs_of sender)) (at result.door result.watcher (inputs_of result.sender)) }
-            ensures promise { KeepsPromise D.lets_in D.sees_off S.known (setup_of welcome.width welcome.height welcome.name.items) welcome.role (at door watcher (inputs_of sender)) (at result.door result.watcher (inputs_of result.sender)) }
+            ensures visits { HasVisits D.lets_in D.sees_off (λ source_old source_new sent_old sent_new why left. IsReceived S.looks S.cuts S.may_end ⊤ (λ fault. (fault ≡ QueueFull) ⊎ (fault ≡ NumbersOut)) S.known (setup_of welcome.width welcome.height welcome.name.items welcome.runs) welcome.role source_old source_new sent_old sent_new why left) (at door watcher (inputs_of sender)) (at result.door result.watcher (inputs_of result.sender)) }
+            ensures promise { KeepsPromise D.lets_in D.sees_off S.known (setup_of welcome.width welcome.height welcome.name.items welcome.runs) welcome.role (at door watcher (inputs_of sender)) (at result.door result.watcher (inputs_of result.sender)) }
         { keep(rt, welcome, door, watcher, sender, bell, &*stop) },
     );
     match started {

@@ -23,6 +23,7 @@ use crate::writer::{HostsTold, WriterHandle, start_writer};
 use crate::written::Written;
 use host_turns::{Ground, Handover, Hosts};
 use input_relay::{Sender, Taker, relay};
+use joined_runs::Runs;
 use link::{Link, Rest};
 use pixel_format::Fault;
 use reflect_core::{Puts, ScreenSource};
@@ -84,14 +85,15 @@ where
     ensures of { IfOk result (λ places. map (λ place. place.promise.sender.value) places.items ≡ senders.items) }
     ensures doors { IfOk result (λ places. map (λ place. (place.promise.role, place.promise.door.value)) places.items ≡ doors.items) }
     ensures watchers { IfOk result (λ places. map (λ place. place.promise.watcher.value) places.items ≡ watchers.items) }
-    ensures screen { IfOk result (λ places. All (λ place. IsOfScreen joined.now.w joined.now.h joined.now.name place.promise.width place.promise.height place.promise.name.value.items) places.items) }
+    ensures screen { IfOk result (λ places. All (λ place. IsOfScreen joined.now.w joined.now.h joined.now.name crew.now.runs place.promise.width place.promise.height place.promise.name.value.items place.promise.runs) places.items) }
     ensures err { IfErr result (λ fault. fault ≡ Memory) }
 {
     let mut places = Vec::new(crew.alloc);
     for sender in senders {
         let (role, door) = doors.remove(0);
         let watcher = watchers.remove(0);
-        let welcome = Welcome::new(crew.alloc, joined.w, joined.h, joined.name.as_slice(), role)?;
+        let name = joined.name.as_slice();
+        let welcome = Welcome::new(crew.alloc, joined.w, joined.h, name, role, crew.runs)?;
         let place = start_place(crew, welcome, door, watcher, sender)?;
         places.push(place)?;
     }
@@ -127,7 +129,7 @@ where
     ensures places { IfOk result (λ started. map (λ place. place.promise.sender.value) started.places.items ≡ senders.items) }
     ensures doors { IfOk result (λ started. map (λ place. (place.promise.role, place.promise.door.value)) started.places.items ≡ doors.items) }
     ensures watchers { IfOk result (λ started. map (λ place. place.promise.watcher.value) started.places.items ≡ drop 1 watchers.items) }
-    ensures screen { IfOk result (λ started. All (λ place. IsOfScreen joined.now.w joined.now.h joined.now.name place.promise.width place.promise.height place.promise.name.value.items) started.places.items) }
+    ensures screen { IfOk result (λ started. All (λ place. IsOfScreen joined.now.w joined.now.h joined.now.name crew.now.runs place.promise.width place.promise.height place.promise.name.value.items place.promise.runs) started.places.items) }
     ensures writer { IfOk result (λ started. (started.writer.promise.taker.value ≡ taker) × (started.writer.promise.source.value ≡ slice_index_or watchers.items 0 started.writer.promise.source.value) × StrokesStand started.writer.promise.strokes.value []) }
     ensures reader { IfOk result (λ started. (started.reader.promise.width ≡ joined.now.w) × (started.reader.promise.height ≡ joined.now.h) × (started.reader.promise.link.value ≡ first) × (started.reader.promise.publisher.value ≡ publisher) × (started.reader.promise.hosts.value ≡ hosts)) }
     ensures err { IfErr result (λ fault. fault ≡ Memory) }
@@ -232,7 +234,7 @@ where
     ensures told { IfOk result (λ run. (source : S) × (source ≡ slice_index_or watchers.items 0 source) × TellsHosts S.looks S.width S.height source (links_in L.state run.written) (taken_of run.taker) run.strokes) }
     ensures doors { IfOk result (λ run. map (λ place. (place.promise.role, place.promise.door.value)) run.places.items ≡ doors.items) }
     ensures watchers { IfOk result (λ run. map (λ place. place.promise.watcher.value) run.places.items ≡ drop 1 watchers.items) }
-    ensures screen { IfOk result (λ run. All (λ place. IsOfScreen joined.now.w joined.now.h joined.now.name place.promise.width place.promise.height place.promise.name.value.items) run.places.items) }
+    ensures screen { IfOk result (λ run. All (λ place. IsOfScreen joined.now.w joined.now.h joined.now.name crew.now.runs place.promise.width place.promise.height place.promise.name.value.items place.promise.runs) run.places.items) }
     ensures err { IfErr result (λ fault. fault ≡ Memory) }
 {
     let (read, written) = links;
@@ -265,7 +267,8 @@ where
 /// other fault ends the run, and so does the last of the supply, with the last answer. There is no last one where the
 /// first has its turn again.
 ///
-/// Each door is for the role that stands beside it, in which its place serves its viewers.
+/// Each door is for the role that stands beside it, in which its place serves its viewers. All of them are answered in
+/// one of the two forms (`joined_runs`).
 ///
 /// `everyone` is rung after each put: whoever waits for news, the hosts' writer too. `writer_bell` is rung after each
 /// input. The hosts' writer goes on with each host that is read; what was cut short at the end of one isn't written
@@ -283,6 +286,7 @@ pub fn run_all<J, L, H, D, B, W, R>(
     joined: Joined,
     hosts: H,
     doors: Vec<(Role, D)>,
+    runs: Runs,
     everyone: Arc<B, Global>,
     writer_bell: Arc<W, Global>,
 ) -> Result<Running<L, H, Publisher<J, R>, Watcher<J>, D, R>, Fault>
@@ -308,13 +312,14 @@ where
     ensures strokes { IfOk result (λ run. StrokesStand run.strokes (map taken_from (taken_of run.taker))) }
     ensures doors { IfOk result (λ run. map (λ place. (place.promise.role, place.promise.door.value)) run.places.items ≡ doors.items) }
     ensures watchers { IfOk result (λ run. All (λ place. place.promise.watcher.value ≡ nothing_put) run.places.items) }
-    ensures screen { IfOk result (λ run. All (λ place. IsOfScreen joined.w joined.h joined.name place.promise.width place.promise.height place.promise.name.value.items) run.places.items) }
+    ensures screen { IfOk result (λ run. All (λ place. IsOfScreen joined.w joined.h joined.name runs place.promise.width place.promise.height place.promise.name.value.items place.promise.runs) run.places.items) }
     ensures err { IfErr result (λ fault. (fault ≡ Memory) ⊎ (fault ≡ NoPlace)) }
 {
     let stop = Arc::new(alloc, Stop::new(Arc::try_clone(&everyone)?))?;
     let crew = Crew {
         rt,
         alloc,
+        runs,
         everyone,
         writer: writer_bell,
         stop,

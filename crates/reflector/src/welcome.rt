@@ -7,6 +7,7 @@ ghost use Rattle.viewer_session.specs.Session.{Stands};
 ghost use Rattle.viewer_session.specs.Viewer.{Setup, new_viewer};
 ghost use Rattle.reflector.specs.Visits.{name_of};
 
+use joined_runs::Runs;
 use pixel_format::Fault;
 use roles::Role;
 use std::alloc::Global;
@@ -15,7 +16,8 @@ use viewer_session::Session;
 /// The name of a screen whose host has none. A viewer is told at least one byte.
 const NO_NAME: &[u8] = b"reflectord";
 
-/// The size and the name of the screen that the viewers of a place are shown, and their role.
+/// The size and the name of the screen that the viewers of a place are shown, their role, and the form in which they are
+/// answered.
 #[derive(Drop)]
 pub(crate) struct Welcome {
     alloc: Global,
@@ -23,6 +25,7 @@ pub(crate) struct Welcome {
     pub(crate) height: u64,
     pub(crate) name: Vec<u8>,
     pub(crate) role: Role,
+    pub(crate) runs: Runs,
     pub(crate) ghost size: { IsScreenSize width height },
     pub(crate) ghost named: { (1 ≤ length name.items) × (length name.items ≤ 255) },
 }
@@ -35,11 +38,13 @@ impl Welcome {
         height: u64,
         name: &[u8],
         role: Role,
+        runs: Runs,
     ) -> Result<Welcome, Fault>
         requires size { IsScreenSize width height }
         requires name { length name.now ≤ 255 }
         ensures size { IfOk result (λ welcome. (welcome.width ≡ width) × (welcome.height ≡ height)) }
         ensures named { IfOk result (λ welcome. (welcome.role ≡ role) × (welcome.name.items ≡ name_of name.now)) }
+        ensures formed { IfOk result (λ welcome. welcome.runs ≡ runs) }
         ensures err { IfErr result (λ fault. fault ≡ Memory) }
     {
         let name = if name.is_empty() { NO_NAME } else { name };
@@ -50,6 +55,7 @@ impl Welcome {
             height,
             name,
             role,
+            runs,
         })
     }
 
@@ -57,7 +63,7 @@ impl Welcome {
     pub(crate) fn open(&self) -> Result<Session, Fault>
         ensures size { IfOk result (λ session. (session.width ≡ self.now.width) × (session.height ≡ self.now.height)) }
         ensures uncut { IfOk result (λ session. session.asked.last ≡ None) }
-        ensures stands { IfOk result (λ session. (s : Setup) → s.w ≡ self.now.width → s.h ≡ self.now.height → s.name ≡ self.now.name.items → Stands s session (new_viewer self.now.role true)) }
+        ensures stands { IfOk result (λ session. (s : Setup) → s.w ≡ self.now.width → s.h ≡ self.now.height → s.name ≡ self.now.name.items → s.runs ≡ self.now.runs → Stands s session (new_viewer self.now.role true)) }
         ensures err { IfErr result (λ fault. fault ≡ Memory) }
     {
         Session::open(
@@ -66,6 +72,7 @@ impl Welcome {
             self.height,
             self.name.as_slice(),
             self.role,
+            self.runs,
         )
     }
 }

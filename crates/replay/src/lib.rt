@@ -9,6 +9,7 @@ ghost use Rattle.raster.specs.Size.{IsScreenSize};
 
 mod reads;
 
+use joined_runs::Runs;
 use pixel_format::Fault;
 use reads::FewReads;
 use reflect_world::{Step, World, play};
@@ -111,7 +112,7 @@ fn print_bad_line<W: Write>(alloc: Global, output: &mut W, number: u64) -> Resul
     print(output, format!(in alloc; "line {number}\n")?)
 }
 
-/// Plays it, and answers whether the host's bytes were at fault.
+/// Plays it, its viewers answered in the canonical spelling, and answers whether the host's bytes were at fault.
 fn play_script<B: BufRead, W: Write>(
     alloc: Global,
     input: &mut B,
@@ -122,7 +123,7 @@ fn play_script<B: BufRead, W: Write>(
         return Ok(false);
     }
     let (width, height, name) = screen_line(alloc, line.as_slice())?;
-    let mut world = World::new(alloc, width, height, name.as_bytes(), ROOM)?;
+    let mut world = World::new(alloc, width, height, name.as_bytes(), ROOM, Runs::OfRows)?;
     play_lines(alloc, &mut world, input, output)
 }
 

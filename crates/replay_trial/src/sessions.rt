@@ -4,6 +4,7 @@ ghost use Rattle.std.specs.Prelude.{◌≡◌};
 ghost use Rattle.raster.specs.Size.{IsScreenSize};
 
 use crate::act::Act;
+use joined_runs::Runs;
 use painter::Painter;
 use raster::Rect;
 use reflect_core::{PlainScreen, Puts, ScreenSource};
@@ -23,9 +24,9 @@ pub fn play_session<'a>(
     requires { IsScreenSize width height }
 {
     let opened = if greets {
-        Session::open(alloc, width, height, b"T", Role::Full)
+        Session::open(alloc, width, height, b"T", Role::Full, Runs::OfRows)
     } else {
-        Session::ready(alloc, width, height, Role::Full)
+        Session::ready(alloc, width, height, Role::Full, Runs::OfRows)
     };
     let Ok(mut session) = opened else {
         return Some("no session");

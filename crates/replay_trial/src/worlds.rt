@@ -4,6 +4,7 @@ ghost use Rattle.raster.specs.Size.{IsScreenSize};
 
 use crate::act::Act;
 use crate::updates::{push_rows, push_tiles};
+use joined_runs::Runs;
 use reflect_world::{Step, World, play};
 use roles::Role;
 use std::alloc::Global;
@@ -29,7 +30,7 @@ pub fn play_world<'a>(
 ) -> Option<&'a str>
     requires { IsScreenSize width height }
 {
-    let Ok(mut world) = World::new(alloc, width, height, b"T", 8) else {
+    let Ok(mut world) = World::new(alloc, width, height, b"T", 8, Runs::OfRows) else {
         return Some("no world");
     };
     let mut trial = Trial {

@@ -3,7 +3,7 @@
 ghost use Rattle.std.specs.Prelude.{◌+◌, ◌*◌, ◌≤◌, length};
 
 use crate::coloured::coloured;
-use crate::scenes::{SCENES, Scene};
+use crate::scenes::{JOINED, SCENES, Scene};
 use pixel_format::{Fault, Format};
 use raster::Rect;
 use reflect_core::Cut;
@@ -11,7 +11,7 @@ use rfb_wire::write_update_head;
 use std::alloc::Global;
 use std::test::Fail;
 use tiles::Have;
-use update_encoder::Answer;
+use update_encoder::{Answer, Style};
 
 /// 16 bits, most significant byte first, of 5, 6 and 5 bits.
 const FIVE_SIX_FIVE: [u8; 16] = [16, 16, 1, 1, 0, 31, 0, 63, 0, 31, 11, 5, 0, 0, 0, 0];
@@ -89,7 +89,12 @@ fn is_told(cut: &Cut, scene: &Scene, values: &mut [u32], out: &mut [u8]) -> Resu
     if !area.within(cut.width, cut.height) {
         return Err(Fault::RectOutside);
     }
-    let mut answer = Answer::start(cut, &area, format, scene.choice);
+    let style = Style {
+        runs: scene.runs,
+        format,
+        choice: scene.choice,
+    };
+    let mut answer = Answer::start(cut, &area, style);
     let mut head = [0; 4];
     write_update_head(answer.count() as u16, &mut head);
     let mut left = Left {
@@ -118,6 +123,14 @@ fn is_answered(alloc: Global, scene: &Scene) -> Result<bool, Fault> {
 #[test]
 fn scenes_are_answered(rt: HostRuntime) -> Result<(), Fail> {
     for scene in SCENES.iter() {
+        assert!(rt; is_answered(rt.alloc(), scene)?, "{}", scene.name);
+    }
+    Ok(())
+}
+
+#[test]
+fn joined_scenes_are_answered(rt: HostRuntime) -> Result<(), Fail> {
+    for scene in JOINED.iter() {
         assert!(rt; is_answered(rt.alloc(), scene)?, "{}", scene.name);
     }
     Ok(())

@@ -1,6 +1,7 @@
 //! Screens, what is asked of each, and the bytes of the answer, typed by hand: in each encoding and where none of them
-//! saves bytes, where a rectangle is a CopyRect of the one before, and with the most rectangles.
+//! saves bytes, where a rectangle is a CopyRect of the one before, with the most rectangles, and with joined runs.
 
+use joined_runs::Runs;
 use raster::{Encoding, Rect};
 use rfb_wire::Choice;
 
@@ -53,6 +54,7 @@ pub(crate) struct Scene {
     pub(crate) part: Option<Rect>,
     /// Whether pixels have 16 bits, most significant byte first, of 5, 6 and 5 bits. Else they are the host's.
     pub(crate) has_16_bits: bool,
+    pub(crate) runs: Runs,
     pub(crate) choice: Choice,
     /// The answer's first bytes.
     pub(crate) bytes: &'static [u8],
@@ -70,6 +72,7 @@ const RED_ROWS: Scene = Scene {
     were_sent: true,
     part: None,
     has_16_bits: false,
+    runs: Runs::OfRows,
     choice: RRE_OR_COPY,
     bytes: &[
         0, 0, 0, 2, 0, 0, 0, 0, 0, 16, 0, 16, 0, 0, 0, 2, 0, 0, 0, 0, 0, 0, 0xFF, 0, 0, 0, 0, 16,
@@ -283,6 +286,71 @@ pub(crate) const SCENES: [Scene; 19] = [
         choice: RAW,
         bytes: &[0, 0, 0x80, 0],
         more: 33_947_648,
+        ..RED_ROWS
+    },
+];
+
+/// One red pixel, and then three rows of blue, the first of them short.
+const RED_THEN_BLUE: Scene = Scene {
+    name: "joined runs in RRE",
+    width: 8,
+    height: 3,
+    colours: [RED, BLUE, BLUE],
+    runs: Runs::Joined,
+    choice: RRE,
+    // Over red, a run of 7 and one of 8 that is two rows high.
+    bytes: &[
+        0, 0, 0, 1, 0, 0, 0, 0, 0, 8, 0, 3, 0, 0, 0, 2, 0, 0, 0, 2, 0, 0, 0xFF, 0, 0xFF, 0, 0, 0,
+        0, 1, 0, 0, 0, 7, 0, 1, 0xFF, 0, 0, 0, 0, 0, 0, 1, 0, 8, 0, 2,
+    ],
+    ..RED_ROWS
+};
+
+pub(crate) const JOINED: [Scene; 6] = [
+    RED_THEN_BLUE,
+    // Over blue, which most pixels have, the red one.
+    Scene {
+        name: "joined runs in Hextile",
+        choice: HEXTILE,
+        bytes: &[
+            0, 0, 0, 1, 0, 0, 0, 0, 0, 8, 0, 3, 0, 0, 0, 5, 0x0E, 0xFF, 0, 0, 0, 0, 0, 0xFF, 0, 1,
+            0, 0,
+        ],
+        ..RED_THEN_BLUE
+    },
+    // 001F and F800.
+    Scene {
+        name: "joined runs in Hextile in 16 bits",
+        has_16_bits: true,
+        choice: HEXTILE,
+        bytes: &[
+            0, 0, 0, 1, 0, 0, 0, 0, 0, 8, 0, 3, 0, 0, 0, 5, 0x0E, 0, 0x1F, 0xF8, 0, 1, 0, 0,
+        ],
+        ..RED_THEN_BLUE
+    },
+    // Seven red and one blue.
+    Scene {
+        name: "a last pixel of another colour",
+        width: 8,
+        height: 1,
+        colours: [RED, RED, BLUE],
+        choice: HEXTILE,
+        bytes: &[
+            0, 0, 0, 1, 0, 0, 0, 0, 0, 8, 0, 1, 0, 0, 0, 5, 0x0E, 0, 0, 0xFF, 0, 0xFF, 0, 0, 0, 1,
+            0x70, 0,
+        ],
+        ..RED_THEN_BLUE
+    },
+    Scene {
+        name: "three pixels, of which Raw is shorter than joined runs",
+        width: 3,
+        height: 1,
+        bytes: THREE_IN_RAW,
+        ..RED_THEN_BLUE
+    },
+    Scene {
+        name: "the row below, which goes before joined runs",
+        runs: Runs::Joined,
         ..RED_ROWS
     },
 ];

@@ -14,6 +14,7 @@ use crate::supply::Supply;
 use crate::trouble::{Stage, Trouble};
 use crate::welcome::{Rooms, bells, rooms_of};
 use host_turns::Hosts;
+use joined_runs::Runs;
 use link::{Link, Rest};
 use pixel_format::Fault;
 use plan::Plan;
@@ -39,6 +40,7 @@ fn over<J, L, H, D, B, W, R>(
     joined: Joined,
     hosts: H,
     doors: Vec<(Role, D)>,
+    runs: Runs,
     everyone: Arc<B, Global>,
     writer: Arc<W, Global>,
 ) -> Result<(), Fault>
@@ -67,13 +69,14 @@ where
         written: _written,
         places: _places,
     } = run_all::<J, L, H, D, B, W, R>(
-        rt, alloc, history, reader, writer_end, joined, hosts, doors, everyone, writer,
+        rt, alloc, history, reader, writer_end, joined, hosts, doors, runs, everyone, writer,
     )?;
     result
 }
 
 /// Starts all threads, with the places that the plan says, and waits until the last host has ended. It answers what
-/// reading or joining that was answered. Where the first host is to be tried again, no end of a host is the last.
+/// reading or joining that was answered. Viewers are answered in joined runs, which have fewer bytes. Where the first
+/// host is to be tried again, no end of a host is the last.
 fn reflect<G, R>(
     rt: R,
     alloc: Global,
@@ -109,6 +112,7 @@ where
         met.joined,
         supply,
         doors,
+        Runs::Joined,
         everyone,
         writer,
     )

@@ -12,18 +12,24 @@ use Rattle.pixel_format.proofs.Tints.{tint_below}
 use Rattle.raster.specs.declared.rect.Rect.{Rect}
 use Rattle.raster.specs.declared.encoding.Encoding.{Encoding}
 use Rattle.raster.specs.Screen.{Map, Canvas, holds, value_at, part_of}
-use Rattle.raster.specs.Encoding.{form, saves_bytes, encoding_number}
+use Rattle.raster.specs.Encoding.{form, encoding_number}
+use Rattle.joined_runs.specs.declared.runs.Runs.{Runs}
+use Rattle.joined_runs.specs.declared.runs.Runs.TheVariants.{OfRows}
+use Rattle.joined_runs.specs.Joined.{form_of, saves_bytes_as}
+use Rattle.joined_runs.proofs.Spelled.{form_is_read}
 use Rattle.raster.specs.Written.{AreValues}
 use Rattle.raster.specs.Update.{Paint, Put, Copy}
-use Rattle.rfb_wire.specs.ClientMessage.{Choice}
 use Rattle.rfb_wire.specs.ServerMessage.{ServerMessage, FramebufferUpdate, rectangle, server_message}
 use Rattle.update_encoder.specs.Follower.{after_rectangle, after_rectangles, only_message}
 use Rattle.update_encoder.specs.Answer.{pixels_in, colours_in, same_numbers, repeats, repeats_one, copy_source, all_spelled, answer_bytes}
 use Rattle.raster.proofs.Places.{Has, has_holds, holds_has, values_at, tinted_at, length_values}
 use Rattle.raster.proofs.Spellings.{Each}
 use Rattle.rfb_wire.specs.Written.{AreRead}
-use Rattle.rfb_wire.proofs.Updates.{rectangle_is_read, copy_is_read, update_is_read}
+use Rattle.rfb_wire.proofs.Updates.{copy_is_read, update_is_read}
+use Rattle.update_encoder.proofs.Rectangles.{spelled_is_read}
 use Rattle.tiles.specs.Brings.{IsPart}
+use Rattle.update_encoder.specs.Style.{Style}
+use Rattle.update_encoder.proofs.Counts.{count_spelled}
 use Rattle.tiles.proofs.RunLaws.{InSome}
 
 -- The paint that a rectangle of an answer is read as.
@@ -196,40 +202,46 @@ pixels_are_values format canvas r w h ok lw lh part =
       each = λ k lt. tinted_small format (colours_in canvas r) k ok;
     }
 
-put_is_read : (encoding : Encoding) (format : PixelFormat) (canvas : Canvas) (r : Rect) (w h : ℕ) → IsAccepted format → w ≤ 4096 → h ≤ 4096 → IsPart w h r
-    → Spells (rectangle format w h) (rectangle_bytes r (encoding_number encoding) (form encoding format r.w r.h (pixels_in format canvas r))) (Put r (pixels_in format canvas r))
-put_is_read encoding format canvas r w h ok lw lh part =
-    rectangle_is_read encoding format w h r (pixels_in format canvas r) ok (omega arith) (omega arith) part.inside (pixels_are_values format canvas r w h ok lw lh part)
+put_is_read : (runs : Runs) (encoding : Encoding) (format : PixelFormat) (canvas : Canvas) (r : Rect) (w h : ℕ) → IsAccepted format → w ≤ 4096 → h ≤ 4096 → IsPart w h r
+    → Spells (rectangle format w h) (rectangle_bytes r (encoding_number encoding) (form_of runs encoding format r.w r.h (pixels_in format canvas r))) (Put r (pixels_in format canvas r))
+put_is_read runs encoding format canvas r w h ok lw lh part =
+    let values : List ℕ = pixels_in format canvas r in
+    spelled_is_read encoding format w h r (form_of runs encoding format r.w r.h values) values (omega arith) (omega arith) part.inside (form_is_read runs encoding format r.w r.h values ok (pixels_are_values format canvas r w h ok lw lh part))
 
 repeat_is_read : (format : PixelFormat) (canvas : Canvas) (above r : Rect) (w h : ℕ) → w ≤ 4096 → h ≤ 4096 → IsPart w h above → IsPart w h r → Repeats canvas above r
     → Spells (rectangle format w h) (rectangle_bytes r 1 (copy_source (Some above))) (Copy r above.x above.y)
 repeat_is_read format canvas above r w h lw lh there part e =
     copy_is_read format w h r above.x above.y (omega arith) (omega arith) part.inside (record { across = omega (arith, there.inside.across, e.w); down = omega (arith, there.inside.down, e.h) })
 
-chosen_is_read : (encoding : Encoding) (saves : Bool) (format : PixelFormat) (canvas : Canvas) (r : Rect) (w h : ℕ) → IsAccepted format → w ≤ 4096 → h ≤ 4096 → IsPart w h r
-    → Spells (rectangle format w h) (cond saves (rectangle_bytes r (encoding_number encoding) (form encoding format r.w r.h (pixels_in format canvas r))) (rectangle_bytes r 0 (form Raw format r.w r.h (pixels_in format canvas r)))) (Put r (pixels_in format canvas r))
-chosen_is_read encoding true format canvas r w h ok lw lh part = put_is_read encoding format canvas r w h ok lw lh part
-chosen_is_read encoding false format canvas r w h ok lw lh part = put_is_read Raw format canvas r w h ok lw lh part
+chosen_is_read : (runs : Runs) (encoding : Encoding) (saves : Bool) (format : PixelFormat) (canvas : Canvas) (r : Rect) (w h : ℕ) → IsAccepted format → w ≤ 4096 → h ≤ 4096 → IsPart w h r
+    → Spells (rectangle format w h) (cond saves (rectangle_bytes r (encoding_number encoding) (form_of runs encoding format r.w r.h (pixels_in format canvas r))) (rectangle_bytes r 0 (form Raw format r.w r.h (pixels_in format canvas r)))) (Put r (pixels_in format canvas r))
+chosen_is_read runs encoding true format canvas r w h ok lw lh part = put_is_read runs encoding format canvas r w h ok lw lh part
+chosen_is_read runs encoding false format canvas r w h ok lw lh part = put_is_read OfRows Raw format canvas r w h ok lw lh part
 
-read_if : (format : PixelFormat) (choice : Choice) (canvas : Canvas) (copy : Bool) (before : Option Rect) (r : Rect) (w h : ℕ) → IsAccepted format → w ≤ 4096 → h ≤ 4096 → IsPartIf w h before → IsPart w h r
-    → (b : Bool) → (copy && repeats_one canvas before r) ≡ b
-    → Spells (rectangle format w h) (cond b (rectangle_bytes r 1 (copy_source before)) (cond (saves_bytes choice.kind format r.w r.h (pixels_in format canvas r)) (rectangle_bytes r (encoding_number choice.kind) (form choice.kind format r.w r.h (pixels_in format canvas r))) (rectangle_bytes r 0 (form Raw format r.w r.h (pixels_in format canvas r))))) (cond b (copied before r) (Put r (pixels_in format canvas r)))
-read_if format choice canvas copy before r w h ok lw lh k part false e = chosen_is_read choice.kind (saves_bytes choice.kind format r.w r.h (pixels_in format canvas r)) format canvas r w h ok lw lh part
-read_if format choice canvas copy None r w h ok lw lh k part true e = absurd (let wrong : false ≡ true = and_right copy false e in cc)
-read_if format choice canvas copy (Some above) r w h ok lw lh k part true e = repeat_is_read format canvas above r w h lw lh k part (repeats_is canvas above r (and_right copy (repeats canvas above r) e))
+module _ (style : Style) (canvas : Canvas) where
+  abbrev format : PixelFormat
+  format = style.format
 
--- Each rectangle of an answer is read as what it brings.
-spelled_are_read : (format : PixelFormat) (choice : Choice) (canvas : Canvas) (copy : Bool) (before : Option Rect) (rs : List Rect) (w h : ℕ) → IsAccepted format → w ≤ 4096 → h ≤ 4096 → IsPartIf w h before → Each (IsPart w h) rs
-    → AreRead format w h (all_spelled format choice canvas copy before rs) (all_brought format canvas copy before rs)
-spelled_are_read format choice canvas copy before [] w h ok lw lh k parts = tt
-spelled_are_read format choice canvas copy before (r ∷ rs) w h ok lw lh k parts = (
-  read_if format choice canvas copy before r w h ok lw lh k parts.0 (copy && repeats_one canvas before r) refl,
-  spelled_are_read format choice canvas copy (Some r) rs w h ok lw lh parts.0 parts.1,
-)
+  abbrev kind : Encoding
+  kind = style.choice.kind
 
-length_spelled : (format : PixelFormat) (choice : Choice) (canvas : Canvas) (copy : Bool) (before : Option Rect) (rs : List Rect) → length (all_spelled format choice canvas copy before rs) ≡ length rs
-length_spelled format choice canvas copy before [] = refl
-length_spelled format choice canvas copy before (r ∷ rs) = ap suc (length_spelled format choice canvas copy (Some r) rs)
+  abbrev saves : Rect → Bool
+  saves r = saves_bytes_as style.runs kind format r.w r.h (pixels_in format canvas r)
+
+  read_if : (copy : Bool) (before : Option Rect) (r : Rect) (w h : ℕ) → IsAccepted format → w ≤ 4096 → h ≤ 4096 → IsPartIf w h before → IsPart w h r → (b : Bool) → (copy && repeats_one canvas before r) ≡ b
+      → Spells (rectangle format w h) (cond b (rectangle_bytes r 1 (copy_source before)) (cond (saves r) (rectangle_bytes r (encoding_number kind) (form_of style.runs kind format r.w r.h (pixels_in format canvas r))) (rectangle_bytes r 0 (form Raw format r.w r.h (pixels_in format canvas r))))) (cond b (copied before r) (Put r (pixels_in format canvas r)))
+  read_if copy before r w h ok lw lh k part false e = chosen_is_read style.runs kind (saves r) format canvas r w h ok lw lh part
+  read_if copy None r w h ok lw lh k part true e = absurd (let wrong : false ≡ true = and_right copy false e in cc)
+  read_if copy (Some above) r w h ok lw lh k part true e = repeat_is_read format canvas above r w h lw lh k part (repeats_is canvas above r (and_right copy (repeats canvas above r) e))
+
+  -- Each rectangle of an answer is read as what it brings.
+  spelled_are_read : (copy : Bool) (before : Option Rect) (rs : List Rect) (w h : ℕ) → IsAccepted format → w ≤ 4096 → h ≤ 4096 → IsPartIf w h before → Each (IsPart w h) rs
+      → AreRead format w h (all_spelled style canvas copy before rs) (all_brought format canvas copy before rs)
+  spelled_are_read copy before [] w h ok lw lh k parts = tt
+  spelled_are_read copy before (r ∷ rs) w h ok lw lh k parts = (
+    read_if copy before r w h ok lw lh k parts.0 (copy && repeats_one canvas before r) refl,
+    spelled_are_read copy (Some r) rs w h ok lw lh parts.0 parts.1,
+  )
 
 -- What spells a message is exactly one.
 pub spells_only : (format : PixelFormat) (w h : ℕ) (bytes : List ℕ) (m : ServerMessage) → Spells (server_message format w h) bytes m → only_message format w h bytes ≡ Some m
@@ -237,10 +249,10 @@ spells_only format w h bytes m k =
     chosen (taken (server_message format w h) bytes == length bytes) (whole_of (after (server_message format w h) bytes)) None (eq-eqb _ _ k.whole) ∙ ap whole_of k.says
 
 -- An answer is exactly one FramebufferUpdate of these rectangles.
-pub answer_is_read : (format : PixelFormat) (choice : Choice) (canvas : Canvas) (sent : Bool) (rs : List Rect) (w h : ℕ) → IsAccepted format → w ≤ 4096 → h ≤ 4096 → Each (IsPart w h) rs → length rs < 2 ^ 16
-    → Spells (server_message format w h) (answer_bytes format choice canvas sent rs) (FramebufferUpdate (all_brought format canvas (choice.copy && sent) None rs))
-answer_is_read format choice canvas sent rs w h ok lw lh parts few =
-    let copy : Bool = choice.copy && sent in
-    update_is_read format w h (all_spelled format choice canvas copy None rs) (all_brought format canvas copy None rs)
-    (omega (arith, few, length_spelled format choice canvas copy None rs))
-    (spelled_are_read format choice canvas copy None rs w h ok lw lh tt parts)
+pub answer_is_read : (style : Style) (canvas : Canvas) (sent : Bool) (rs : List Rect) (w h : ℕ) → IsAccepted style.format → w ≤ 4096 → h ≤ 4096 → Each (IsPart w h) rs → length rs < 2 ^ 16
+    → Spells (server_message style.format w h) (answer_bytes style canvas sent rs) (FramebufferUpdate (all_brought style.format canvas (style.choice.copy && sent) None rs))
+answer_is_read style canvas sent rs w h ok lw lh parts few =
+    let copy : Bool = style.choice.copy && sent in
+    update_is_read style.format w h (all_spelled style canvas copy None rs) (all_brought style.format canvas copy None rs)
+    (omega (arith, few, count_spelled style canvas copy None rs))
+    (spelled_are_read style canvas copy None rs w h ok lw lh tt parts)

@@ -5,16 +5,15 @@ use Rattle.std.specs.List.{flat_map}
 use Rattle.std.proofs.Math.Path.{fun_ext}
 use Rattle.std.proofs.Math.Nat.{mul-le-mul_right, mul_comm}
 use Rattle.std.proofs.lemmas.Bool.{le-leb}
-use Rattle.pixel_format.specs.PixelFormat.{PixelFormat}
 use Rattle.raster.specs.declared.rect.Rect.{Rect}
 use Rattle.raster.specs.Screen.{Canvas, IsWithin}
 use Rattle.raster.specs.Size.{IsScreenSize}
-use Rattle.rfb_wire.specs.ClientMessage.{Choice}
 use Rattle.rfb_wire.specs.Writing.{update_head_bytes, update_bytes}
 use Rattle.tiles.specs.Touched.{runs}
 use Rattle.tiles.specs.Walk.{Walking, runs_left}
 use Rattle.tiles.proofs.Brought.{runs_bring_the_due}
 use Rattle.update_encoder.specs.Answer.{all_spelled, spelled}
+use Rattle.update_encoder.specs.Style.{Style}
 
 abbrev pub at_start : ℕ → ℕ → Rect → Walking
 at_start w h area = record { width = w; height = h; area = area; next = 0 }
@@ -27,27 +26,27 @@ all_left w h area due = ap (λ (p : ℕ → Bool). runs w h area p) (fun_ext (λ
 pub few_left : (w h : ℕ) (area : Rect) (due : ℕ → Bool) → IsScreenSize w h → IsWithin area w h → length (runs_left (at_start w h area) due) < 2 ^ 16
 few_left w h area due size on = subst (λ (rs : List Rect). length rs < 2 ^ 16) (sym (all_left w h area due)) (runs_bring_the_due w h area due size.wide.1 size.high.1 on).few
 
-pub count_spelled : (format : PixelFormat) (choice : Choice) (screen : Canvas) (may_copy : Bool) (before : Option Rect) (rs : List Rect)
-    → length (all_spelled format choice screen may_copy before rs) ≡ length rs
-count_spelled format choice screen may_copy before [] = refl
-count_spelled format choice screen may_copy before (r ∷ rs) = ap (λ n. suc n) (count_spelled format choice screen may_copy (Some r) rs)
+pub count_spelled : (style : Style) (screen : Canvas) (may_copy : Bool) (before : Option Rect) (rs : List Rect)
+    → length (all_spelled style screen may_copy before rs) ≡ length rs
+count_spelled style screen may_copy before [] = refl
+count_spelled style screen may_copy before (r ∷ rs) = ap (λ n. suc n) (count_spelled style screen may_copy (Some r) rs)
 
-abbrev pub bytes_of : PixelFormat → Choice → Canvas → Bool → Option Rect → List Rect → List ℕ
-bytes_of format choice screen may_copy before rs = flat_map (λ r. r) (all_spelled format choice screen may_copy before rs)
+abbrev pub bytes_of : Style → Canvas → Bool → Option Rect → List Rect → List ℕ
+bytes_of style screen may_copy before rs = flat_map (λ r. r) (all_spelled style screen may_copy before rs)
 
 -- A head with their number, and all of them, are the update.
-pub is_update : (format : PixelFormat) (choice : Choice) (screen : Canvas) (may_copy : Bool) (count : ℕ) (some rs : List Rect) → some ≡ rs → count ≡ length some
-    → update_head_bytes count ++ bytes_of format choice screen may_copy None some ≡ update_bytes (all_spelled format choice screen may_copy None rs)
-is_update format choice screen may_copy count some rs same counted =
-    ap (λ n. update_head_bytes n ++ bytes_of format choice screen may_copy None some) (counted ∙ sym (count_spelled format choice screen may_copy None some))
-    ∙ ap (λ (l : List Rect). update_bytes (all_spelled format choice screen may_copy None l)) same
+pub is_update : (style : Style) (screen : Canvas) (may_copy : Bool) (count : ℕ) (some rs : List Rect) → some ≡ rs → count ≡ length some
+    → update_head_bytes count ++ bytes_of style screen may_copy None some ≡ update_bytes (all_spelled style screen may_copy None rs)
+is_update style screen may_copy count some rs same counted =
+    ap (λ n. update_head_bytes n ++ bytes_of style screen may_copy None some) (counted ∙ sym (count_spelled style screen may_copy None some))
+    ∙ ap (λ (l : List Rect). update_bytes (all_spelled style screen may_copy None l)) same
 
 -- The first of the rectangles that are left, and the others.
-pub first_then : (format : PixelFormat) (choice : Choice) (screen : Canvas) (may_copy : Bool) (before : Option Rect) (some rs : List Rect) (r : Rect) (bytes : List ℕ) → some ≡ r ∷ rs
-    → bytes ≡ spelled format choice screen may_copy before r
-    → bytes_of format choice screen may_copy before some ≡ bytes ++ bytes_of format choice screen may_copy (Some r) rs
-first_then format choice screen may_copy before some rs r bytes same is =
-    ap (λ (l : List Rect). bytes_of format choice screen may_copy before l) same ∙ ap (λ t. t ++ bytes_of format choice screen may_copy (Some r) rs) (sym is)
+pub first_then : (style : Style) (screen : Canvas) (may_copy : Bool) (before : Option Rect) (some rs : List Rect) (r : Rect) (bytes : List ℕ) → some ≡ r ∷ rs
+    → bytes ≡ spelled style screen may_copy before r
+    → bytes_of style screen may_copy before some ≡ bytes ++ bytes_of style screen may_copy (Some r) rs
+first_then style screen may_copy before some rs r bytes same is =
+    ap (λ (l : List Rect). bytes_of style screen may_copy before l) same ∙ ap (λ t. t ++ bytes_of style screen may_copy (Some r) rs) (sym is)
 
 -- A run is at most as wide as the screen and 16 high.
 pub small_run : (w h width : ℕ) → w ≤ width → h ≤ 16 → w * h ≤ 16 * width

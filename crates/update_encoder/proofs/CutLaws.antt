@@ -5,10 +5,10 @@ use Rattle.std.specs.Prelude.{min, max, map, nat_lt, ◌&&◌, ◌||◌, ◌==�
 use Rattle.std.specs.List.{flat_map, range_with_len}
 use Rattle.std.proofs.Math.Path.{fun_ext}
 use Rattle.std.proofs.lemmas.Bool.{and_parts, cases_lt, ltb-true}
-use Rattle.pixel_format.specs.PixelFormat.{PixelFormat, tint}
+use Rattle.pixel_format.specs.PixelFormat.{tint}
 use Rattle.raster.specs.declared.encoding.Encoding.TheVariants.{Raw}
 use Rattle.raster.specs.declared.rect.Rect.{Rect}
-use Rattle.raster.specs.Encoding.{encoding_number, form, saves_bytes}
+use Rattle.raster.specs.Encoding.{encoding_number, form}
 use Rattle.raster.specs.Screen.{Canvas, IsWithin, common, holds, meets, part_of, tile_count, tile_rect, tiles_across}
 use Rattle.raster.specs.Size.{IsScreenSize}
 use Rattle.raster.specs.Update.{Update, screen}
@@ -17,7 +17,7 @@ use Rattle.raster.proofs.Spellings.{Each}
 use Rattle.raster.proofs.Values.{column_in, row_in}
 use Rattle.reflect_core.specs.declared.cut.Cut.{Cut}
 use Rattle.reflect_core.specs.Source.{IsCutOf, due_in, marked}
-use Rattle.rfb_wire.specs.ClientMessage.{Choice}
+use Rattle.joined_runs.specs.Joined.{form_of, saves_bytes_as}
 use Rattle.rfb_wire.specs.Writing.{rectangle_bytes, update_bytes}
 use Rattle.tiles.specs.Brings.{IsPart, some_holds}
 use Rattle.tiles.specs.Have.{SentTiles}
@@ -27,6 +27,7 @@ use Rattle.tiles.proofs.FoundRuns.{row_of_tile, row_under}
 use Rattle.tiles.proofs.RunLaws.{runs_within}
 use Rattle.update_encoder.specs.Answer.{all_spelled, answer_bytes, colours_in, copy_source, repeats_one, same_numbers, spelled}
 use Rattle.update_encoder.specs.Coming.{shown}
+use Rattle.update_encoder.specs.Style.{Style}
 use Rattle.update_encoder.specs.Written.{CutIsAnswered, is_due_of}
 use Rattle.update_encoder.proofs.PixelRows.{map_same}
 use Rattle.raster.specs.declared.tile.TheConstants.{TILE_SIDE}
@@ -60,24 +61,25 @@ repeats_same a b (Some above) r s e =
     let with_same : Bool → Bool = λ c. (above.x == r.x) && ((above.w == r.w) && ((above.h == r.h) && ((above.y + above.h == r.y) && c))) in
     ap (λ xs. with_same (same_numbers xs (colours_in a r))) s ∙ ap (λ xs. with_same (same_numbers (colours_in b above) xs)) e
 
-abbrev spelled_by : PixelFormat → Choice → Bool → Option Rect → Rect → Bool → List ℕ → List ℕ
-spelled_by format choice may_copy before r does_repeat colours =
-    let values = map (tint format) colours in
+abbrev spelled_by : Style → Bool → Option Rect → Rect → Bool → List ℕ → List ℕ
+spelled_by style may_copy before r does_repeat colours =
+    let kind = style.choice.kind in
+    let values = map (tint style.format) colours in
     cond (may_copy && does_repeat) (rectangle_bytes r 1 (copy_source before))
-    (cond (saves_bytes choice.kind format r.w r.h values) (rectangle_bytes r (encoding_number choice.kind) (form choice.kind format r.w r.h values)) (rectangle_bytes r 0 (form Raw format r.w r.h values)))
+    (cond (saves_bytes_as style.runs kind style.format r.w r.h values) (rectangle_bytes r (encoding_number kind) (form_of style.runs kind style.format r.w r.h values)) (rectangle_bytes r 0 (form Raw style.format r.w r.h values)))
 
-spelled_same : (format : PixelFormat) (choice : Choice) (a b : Canvas) (may_copy : Bool) (before : Option Rect) (r : Rect) → SameInOne a b before → SameIn a b r
-    → spelled format choice a may_copy before r ≡ spelled format choice b may_copy before r
-spelled_same format choice a b may_copy before r s e =
-    ap (λ c. spelled_by format choice may_copy before r c (colours_in a r)) (repeats_same a b before r s e)
-    ∙ ap (λ cs. spelled_by format choice may_copy before r (repeats_one b before r) cs) e
+spelled_same : (style : Style) (a b : Canvas) (may_copy : Bool) (before : Option Rect) (r : Rect) → SameInOne a b before → SameIn a b r
+    → spelled style a may_copy before r ≡ spelled style b may_copy before r
+spelled_same style a b may_copy before r s e =
+    ap (λ c. spelled_by style may_copy before r c (colours_in a r)) (repeats_same a b before r s e)
+    ∙ ap (λ cs. spelled_by style may_copy before r (repeats_one b before r) cs) e
 
-pub all_same : (format : PixelFormat) (choice : Choice) (a b : Canvas) (may_copy : Bool) (before : Option Rect) (rs : List Rect) → SameInOne a b before → Each (SameIn a b) rs
-    → all_spelled format choice a may_copy before rs ≡ all_spelled format choice b may_copy before rs
-all_same format choice a b may_copy before [] s each = refl
-all_same format choice a b may_copy before (r ∷ rs) s each =
-    ap (λ t. t ∷ all_spelled format choice a may_copy (Some r) rs) (spelled_same format choice a b may_copy before r s each.0)
-    ∙ ap (λ ts. spelled format choice b may_copy before r ∷ ts) (all_same format choice a b may_copy (Some r) rs each.0 each.1)
+pub all_same : (style : Style) (a b : Canvas) (may_copy : Bool) (before : Option Rect) (rs : List Rect) → SameInOne a b before → Each (SameIn a b) rs
+    → all_spelled style a may_copy before rs ≡ all_spelled style b may_copy before rs
+all_same style a b may_copy before [] s each = refl
+all_same style a b may_copy before (r ∷ rs) s each =
+    ap (λ t. t ∷ all_spelled style a may_copy (Some r) rs) (spelled_same style a b may_copy before r s each.0)
+    ∙ ap (λ ts. spelled style b may_copy before r ∷ ts) (all_same style a b may_copy (Some r) rs each.0 each.1)
 
 -- ---- the runs of a cut
 
@@ -167,12 +169,12 @@ module _ (us : List Update) (n : ℕ) (area : Rect) (have : SentTiles) (cut : Cu
       let both = and_parts (holds area x y) (marked cut t) (sym ((runs_bring_the_due w h area (marked cut) size.wide.1 size.high.1 on).exactly t x y there tile) ∙ e) in
       is.colours t x y (omega (arith, count_is, there)) (sym (marked_is t there) ∙ both.1) both.0 (ap (λ (r : Rect). holds r x y) (rect_is t) ∙ tile)
 
-  pub answered : (format : PixelFormat) (choice : Choice) (sent : Bool) → IsWithin area w h
-      → answer_bytes format choice (shown cut) sent (runs w h area (marked cut)) ≡ answer_bytes format choice (screen seen) sent (runs w h area (is_due_of have seen))
-  answered format choice sent on =
-      ap update_bytes (all_same format choice (shown cut) (screen seen) (choice.copy && sent) None (runs w h area (marked cut)) tt
+  pub answered : (style : Style) (sent : Bool) → IsWithin area w h
+      → answer_bytes style (shown cut) sent (runs w h area (marked cut)) ≡ answer_bytes style (screen seen) sent (runs w h area (is_due_of have seen))
+  answered style sent on =
+      ap update_bytes (all_same style (shown cut) (screen seen) (style.choice.copy && sent) None (runs w h area (marked cut)) tt
       (each_same (shown cut) (screen seen) w h (runs w h area (marked cut)) (runs_within w h area (marked cut) on) (shows_same on)))
-      ∙ ap (λ (rs : List Rect). answer_bytes format choice (screen seen) sent rs) runs_same
+      ∙ ap (λ (rs : List Rect). answer_bytes style (screen seen) sent rs) runs_same
 
 pub cut_is_answered : CutIsAnswered
-cut_is_answered us n area have cut format choice sent is wide high size on = answered us n area have cut is wide high size format choice sent on
+cut_is_answered us n area have cut style sent is wide high size on = answered us n area have cut is wide high size style sent on

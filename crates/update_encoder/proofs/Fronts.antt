@@ -1,20 +1,14 @@
 -- What is at the front of a piece: a header of 12 bytes, and data after it. A rectangle is written so.
-use Rattle.std.proofs.Common.{◌≡◌, ℕ, ◌+◌, ◌*◌, ◌≤◌, Bool, true, false, cond, List, [], ◌++◌, length, take, drop, Option, sym, ap, ◌∙◌, arith, length-append}
-use Rattle.std.specs.Prelude.{◌&&◌, ◌==◌, nat_lt, map}
-use Rattle.std.proofs.lemmas.Bool.Decides.{nat_tests}
+use Rattle.std.proofs.Common.{◌≡◌, ℕ, ◌+◌, ◌*◌, ◌≤◌, Bool, true, false, cond, List, [], ◌++◌, length, take, drop, sym, ap, ◌∙◌, arith, length-append}
+use Rattle.std.specs.Prelude.{◌==◌, map}
 use Rattle.std.proofs.lemmas.List.{append-nil, drop_all, length-take}
 use Rattle.std.proofs.lemmas.List.Folds.{flat_map-map}
 use Rattle.std.proofs.Math.Nat.{mul-le-mul_right}
 use Rattle.std.proofs.Math.Seq.{take-append-add}
 use Rattle.std.specs.Int.{byte_len, w8, w16, w32}
 use Rattle.pixel_format.specs.PixelFormat.{PixelFormat, pixel_bytes, pixel_len, row_bytes, tint}
-use Rattle.raster.specs.declared.encoding.Encoding.TheVariants.{Raw}
-use Rattle.raster.specs.declared.rect.Rect.{Rect}
-use Rattle.raster.specs.Encoding.{encoding_number, form, raw_bytes, saves_bytes}
-use Rattle.raster.specs.Screen.{Canvas}
-use Rattle.rfb_wire.specs.ClientMessage.{Choice}
-use Rattle.rfb_wire.specs.Writing.{Writes, rectangle_bytes}
-use Rattle.update_encoder.specs.Answer.{copy_source, pixels_in, repeats_one, spelled}
+use Rattle.raster.specs.Encoding.{raw_bytes}
+use Rattle.rfb_wire.specs.Writing.{Writes}
 use Rattle.update_encoder.specs.Written.{IsFront}
 
 -- What fills a part of its length is all of that part.
@@ -48,37 +42,6 @@ pixel_few format = few (format.bits_per_pixel == 8) (format.bits_per_pixel == 16
 
 pub pixels_few : (format : PixelFormat) (n : ℕ) → pixel_len format * n ≤ 4 * n
 pixels_few format n = mul-le-mul_right n (pixel_few format)
-
-not_below : (n : ℕ) → nat_lt n n ≡ false
-not_below n = grind (arith, nat_tests)
-
--- Raw doesn't save bytes.
-pub raw_saves_none : (format : PixelFormat) (w h : ℕ) (values : List ℕ) → saves_bytes Raw format w h values ≡ false
-raw_saves_none format w h values = not_below (length (raw_bytes format values))
-
--- ---- which of the forms it is
-
-module _ (format : PixelFormat) (choice : Choice) (screen : Canvas) (may_copy : Bool) (before : Option Rect) (r : Rect) where
-  abbrev values : List ℕ
-  values = pixels_in format screen r
-
-  abbrev by_tests : Bool → Bool → List ℕ
-  by_tests copies saves =
-      cond copies (rectangle_bytes r 1 (copy_source before)) (cond saves (rectangle_bytes r (encoding_number choice.kind) (form choice.kind format r.w r.h values)) (rectangle_bytes r 0 (form Raw format r.w r.h values)))
-
-  pub as_copy : (may_copy && repeats_one screen before r) ≡ true → rectangle_bytes r 1 (copy_source before) ≡ spelled format choice screen may_copy before r
-  as_copy e = sym (ap (λ b. by_tests b (saves_bytes choice.kind format r.w r.h values)) e)
-
-  pub as_saved : (may_copy && repeats_one screen before r) ≡ false → saves_bytes choice.kind format r.w r.h values ≡ true
-      → rectangle_bytes r (encoding_number choice.kind) (form choice.kind format r.w r.h values) ≡ spelled format choice screen may_copy before r
-  as_saved e f = sym (ap (λ b. by_tests b (saves_bytes choice.kind format r.w r.h values)) e ∙ ap (λ b. by_tests false b) f)
-
-  pub as_raw : (may_copy && repeats_one screen before r) ≡ false → saves_bytes choice.kind format r.w r.h values ≡ false
-      → rectangle_bytes r 0 (form Raw format r.w r.h values) ≡ spelled format choice screen may_copy before r
-  as_raw e f = sym (ap (λ b. by_tests b (saves_bytes choice.kind format r.w r.h values)) e ∙ ap (λ b. by_tests false b) f)
-
-pub front_is : (bytes others now : List ℕ) (n : ℕ) → bytes ≡ others → IsFront bytes now n → IsFront others now n
-front_is bytes others now n e k = record { count = k.count ∙ ap length e; front = k.front ∙ e }
 
 -- What is taken of a list isn't more than it has.
 pub within_front : (bytes now : List ℕ) (n : ℕ) → n ≡ length bytes → take n now ≡ bytes → n ≤ length now

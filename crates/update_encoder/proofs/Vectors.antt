@@ -9,7 +9,9 @@ use Rattle.raster.specs.declared.encoding.Encoding.TheVariants.{Raw, Rre, Hextil
 use Rattle.raster.specs.Screen.{Canvas}
 use Rattle.raster.specs.Update.{Paints, Put, Update}
 use Rattle.rfb_wire.specs.ClientMessage.{Choice}
+use Rattle.joined_runs.specs.declared.runs.Runs.TheVariants.{OfRows, Joined}
 use Rattle.update_encoder.specs.Answer.{answer_bytes}
+use Rattle.update_encoder.specs.Style.{Style}
 use Rattle.update_encoder.specs.Follower.{Received, Format, Answer, HoldsArea, follower, only_message}
 
 abbrev rect : ℕ → ℕ → ℕ → ℕ → Rect
@@ -17,6 +19,13 @@ rect x y w h = record { x = x; y = y; w = w; h = h }
 
 abbrev with_copies : Choice
 with_copies = record { kind = Raw; copy = true }
+
+-- A style with the runs of rows, and one with joined runs.
+abbrev of_rows : PixelFormat → Choice → Style
+of_rows format choice = record { runs = OfRows; format = format; choice = choice }
+
+abbrev of_joined : PixelFormat → Choice → Style
+of_joined format choice = record { runs = Joined; format = format; choice = choice }
 
 -- 8 bits a pixel, red lowest, then green and blue.
 abbrev bgr233 : PixelFormat
@@ -40,24 +49,24 @@ abbrev copy_head : ℕ → List ℕ
 copy_head y = 0 ∷ 0 ∷ 0 ∷ y ∷ 0 ∷ 1 ∷ 0 ∷ 1 ∷ 0 ∷ 0 ∷ 0 ∷ 1 ∷ []
 
 -- A rectangle directly below one that shows the same is a CopyRect of it, and the next one of that.
-pub copies_from_above : answer_bytes bgr233 with_copies red true (rect 0 0 1 1 ∷ rect 0 1 1 1 ∷ rect 0 2 1 1 ∷ [])
+pub copies_from_above : answer_bytes (of_rows bgr233 with_copies) red true (rect 0 0 1 1 ∷ rect 0 1 1 1 ∷ rect 0 2 1 1 ∷ [])
     ≡ (0 ∷ 0 ∷ 0 ∷ 3 ∷ []) ++ raw_head 0 ++ (7 ∷ []) ++ copy_head 1 ++ (0 ∷ 0 ∷ 0 ∷ 0 ∷ []) ++ copy_head 2 ++ 0 ∷ 0 ∷ 0 ∷ 1 ∷ []
 copies_from_above = refl
 
 -- It isn't where a row lies between them.
-pub no_copy_over_a_gap : answer_bytes bgr233 with_copies red true (rect 0 0 1 1 ∷ rect 0 2 1 1 ∷ []) ≡ (0 ∷ 0 ∷ 0 ∷ 2 ∷ []) ++ raw_head 0 ++ (7 ∷ []) ++ raw_head 2 ++ 7 ∷ []
+pub no_copy_over_a_gap : answer_bytes (of_rows bgr233 with_copies) red true (rect 0 0 1 1 ∷ rect 0 2 1 1 ∷ []) ≡ (0 ∷ 0 ∷ 0 ∷ 2 ∷ []) ++ raw_head 0 ++ (7 ∷ []) ++ raw_head 2 ++ 7 ∷ []
 no_copy_over_a_gap = refl
 
 -- Nor where a tile of the answer was never sent, nor where the viewer doesn't take it.
-pub no_copy_of_new_tiles : answer_bytes bgr233 with_copies red false (rect 0 0 1 1 ∷ rect 0 1 1 1 ∷ []) ≡ (0 ∷ 0 ∷ 0 ∷ 2 ∷ []) ++ raw_head 0 ++ (7 ∷ []) ++ raw_head 1 ++ 7 ∷ []
+pub no_copy_of_new_tiles : answer_bytes (of_rows bgr233 with_copies) red false (rect 0 0 1 1 ∷ rect 0 1 1 1 ∷ []) ≡ (0 ∷ 0 ∷ 0 ∷ 2 ∷ []) ++ raw_head 0 ++ (7 ∷ []) ++ raw_head 1 ++ 7 ∷ []
 no_copy_of_new_tiles = refl
 
-pub no_copy_unasked : answer_bytes bgr233 (record { kind = Raw; copy = false }) red true (rect 0 0 1 1 ∷ rect 0 1 1 1 ∷ [])
+pub no_copy_unasked : answer_bytes (of_rows bgr233 (record { kind = Raw; copy = false })) red true (rect 0 0 1 1 ∷ rect 0 1 1 1 ∷ [])
     ≡ (0 ∷ 0 ∷ 0 ∷ 2 ∷ []) ++ raw_head 0 ++ (7 ∷ []) ++ raw_head 1 ++ 7 ∷ []
 no_copy_unasked = refl
 
 -- A copy wants equal colours: here two have the same pixel value and aren't equal.
-pub no_copy_by_pixels : answer_bytes bgr233 with_copies (λ x y. if y == 0 then 0xFF0000 else 0xFE0000) true (rect 0 0 1 1 ∷ rect 0 1 1 1 ∷ [])
+pub no_copy_by_pixels : answer_bytes (of_rows bgr233 with_copies) (λ x y. if y == 0 then 0xFF0000 else 0xFE0000) true (rect 0 0 1 1 ∷ rect 0 1 1 1 ∷ [])
     ≡ (0 ∷ 0 ∷ 0 ∷ 2 ∷ []) ++ raw_head 0 ++ (7 ∷ []) ++ raw_head 1 ++ 7 ∷ []
 no_copy_by_pixels = refl
 
@@ -90,20 +99,27 @@ one_rectangle w h encoding data_bytes = 0 ∷ 0 ∷ 0 ∷ 1 ∷ 0 ∷ 0 ∷ 0 �
 abbrev red_then_blue : Canvas
 red_then_blue x y = if x == 0 then 0xFF0000 else 0x0000FF
 
-pub in_rre : answer_bytes host_format (chosen Rre) red_then_blue false (rect 0 0 8 1 ∷ []) ≡ one_rectangle 8 1 2 ((0 ∷ 0 ∷ 0 ∷ 1 ∷ []) ++ red_pixel ++ blue_pixel ++ 0 ∷ 1 ∷ 0 ∷ 0 ∷ 0 ∷ 7 ∷ 0 ∷ 1 ∷ [])
+pub in_rre : answer_bytes (of_rows host_format (chosen Rre)) red_then_blue false (rect 0 0 8 1 ∷ []) ≡ one_rectangle 8 1 2 ((0 ∷ 0 ∷ 0 ∷ 1 ∷ []) ++ red_pixel ++ blue_pixel ++ 0 ∷ 1 ∷ 0 ∷ 0 ∷ 0 ∷ 7 ∷ 0 ∷ 1 ∷ [])
 in_rre = refl
 
-pub in_hextile : answer_bytes host_format (chosen Hextile) red_then_blue false (rect 0 0 8 1 ∷ []) ≡ one_rectangle 8 1 5 ((0x0E ∷ []) ++ red_pixel ++ blue_pixel ++ 1 ∷ 0x10 ∷ 0x60 ∷ [])
+pub in_hextile : answer_bytes (of_rows host_format (chosen Hextile)) red_then_blue false (rect 0 0 8 1 ∷ []) ≡ one_rectangle 8 1 5 ((0x0E ∷ []) ++ red_pixel ++ blue_pixel ++ 1 ∷ 0x10 ∷ 0x60 ∷ [])
 in_hextile = refl
 
-pub two_hextile_tiles : answer_bytes host_format (chosen Hextile) red false (rect 0 0 17 1 ∷ []) ≡ one_rectangle 17 1 5 ((2 ∷ []) ++ red_pixel ++ 0 ∷ [])
+-- With joined runs, over two rows: in RRE one run of blue that is two rows high, over red; in Hextile one of red over blue.
+pub in_joined_rre : answer_bytes (of_joined host_format (chosen Rre)) red_then_blue false (rect 0 0 8 2 ∷ []) ≡ one_rectangle 8 2 2 ((0 ∷ 0 ∷ 0 ∷ 1 ∷ []) ++ red_pixel ++ blue_pixel ++ 0 ∷ 1 ∷ 0 ∷ 0 ∷ 0 ∷ 7 ∷ 0 ∷ 2 ∷ [])
+in_joined_rre = refl
+
+pub in_joined_hextile : answer_bytes (of_joined host_format (chosen Hextile)) red_then_blue false (rect 0 0 8 2 ∷ []) ≡ one_rectangle 8 2 5 ((0x0E ∷ []) ++ blue_pixel ++ red_pixel ++ 1 ∷ 0x00 ∷ 0x01 ∷ [])
+in_joined_hextile = refl
+
+pub two_hextile_tiles : answer_bytes (of_rows host_format (chosen Hextile)) red false (rect 0 0 17 1 ∷ []) ≡ one_rectangle 17 1 5 ((2 ∷ []) ++ red_pixel ++ 0 ∷ [])
 two_hextile_tiles = refl
 
 -- Where it has no fewer bytes the rectangle is Raw: 20 in RRE against 12, and 5 in Hextile against 4.
-pub rre_would_be_longer : answer_bytes host_format (chosen Rre) red_then_blue false (rect 0 0 3 1 ∷ []) ≡ one_rectangle 3 1 0 (red_pixel ++ blue_pixel ++ blue_pixel)
+pub rre_would_be_longer : answer_bytes (of_rows host_format (chosen Rre)) red_then_blue false (rect 0 0 3 1 ∷ []) ≡ one_rectangle 3 1 0 (red_pixel ++ blue_pixel ++ blue_pixel)
 rre_would_be_longer = refl
 
-pub hextile_would_be_longer : answer_bytes host_format (chosen Hextile) red false (rect 0 0 1 1 ∷ []) ≡ one_rectangle 1 1 0 red_pixel
+pub hextile_would_be_longer : answer_bytes (of_rows host_format (chosen Hextile)) red false (rect 0 0 1 1 ∷ []) ≡ one_rectangle 1 1 0 red_pixel
 hextile_would_be_longer = refl
 
 -- Each run by itself: on black, blue at the columns 0 and 32, the first run in RRE and the second Raw.
@@ -115,11 +131,11 @@ rre_and_raw =
     (0 ∷ 0 ∷ 0 ∷ 2 ∷ []) ++ (0 ∷ 0 ∷ 0 ∷ 0 ∷ 0 ∷ 16 ∷ 0 ∷ 1 ∷ 0 ∷ 0 ∷ 0 ∷ 2 ∷ []) ++ (0 ∷ 0 ∷ 0 ∷ 1 ∷ []) ++ blue_pixel ++ black_pixel ++ (0 ∷ 1 ∷ 0 ∷ 0 ∷ 0 ∷ 15 ∷ 0 ∷ 1 ∷ [])
     ++ (0 ∷ 32 ∷ 0 ∷ 0 ∷ 0 ∷ 1 ∷ 0 ∷ 1 ∷ 0 ∷ 0 ∷ 0 ∷ 0 ∷ []) ++ blue_pixel
 
-pub each_run_by_itself : answer_bytes host_format (chosen Rre) two_blues true (rect 0 0 16 1 ∷ rect 32 0 1 1 ∷ []) ≡ rre_and_raw
+pub each_run_by_itself : answer_bytes (of_rows host_format (chosen Rre)) two_blues true (rect 0 0 16 1 ∷ rect 32 0 1 1 ∷ []) ≡ rre_and_raw
 each_run_by_itself = refl
 
 -- Two rows of tiles of a screen of 17 by 17.
-pub two_rows_of_tiles : answer_bytes host_format (chosen Rre) (λ x y. 0) false (rect 0 0 17 16 ∷ rect 0 16 17 1 ∷ [])
+pub two_rows_of_tiles : answer_bytes (of_rows host_format (chosen Rre)) (λ x y. 0) false (rect 0 0 17 16 ∷ rect 0 16 17 1 ∷ [])
     ≡ (0 ∷ 0 ∷ 0 ∷ 2 ∷ []) ++ (0 ∷ 0 ∷ 0 ∷ 0 ∷ 0 ∷ 17 ∷ 0 ∷ 16 ∷ 0 ∷ 0 ∷ 0 ∷ 2 ∷ 0 ∷ 0 ∷ 0 ∷ 0 ∷ []) ++ black_pixel
     ++ (0 ∷ 0 ∷ 0 ∷ 16 ∷ 0 ∷ 17 ∷ 0 ∷ 1 ∷ 0 ∷ 0 ∷ 0 ∷ 2 ∷ 0 ∷ 0 ∷ 0 ∷ 0 ∷ []) ++ black_pixel
 two_rows_of_tiles = refl
@@ -130,7 +146,7 @@ copied_below =
     (0 ∷ 0 ∷ 0 ∷ 2 ∷ []) ++ (0 ∷ 0 ∷ 0 ∷ 0 ∷ 0 ∷ 16 ∷ 0 ∷ 16 ∷ 0 ∷ 0 ∷ 0 ∷ 2 ∷ 0 ∷ 0 ∷ 0 ∷ 0 ∷ []) ++ red_pixel
     ++ 0 ∷ 0 ∷ 0 ∷ 16 ∷ 0 ∷ 16 ∷ 0 ∷ 16 ∷ 0 ∷ 0 ∷ 0 ∷ 1 ∷ 0 ∷ 0 ∷ 0 ∷ 0 ∷ []
 
-pub copied_before_rre : answer_bytes host_format (record { kind = Rre; copy = true }) red true (rect 0 0 16 16 ∷ rect 0 16 16 16 ∷ []) ≡ copied_below
+pub copied_before_rre : answer_bytes (of_rows host_format (record { kind = Rre; copy = true })) red true (rect 0 0 16 16 ∷ rect 0 16 16 16 ∷ []) ≡ copied_below
 copied_before_rre = refl
 
 -- ---- what a follower holds

@@ -1,21 +1,19 @@
 -- An answer that is written one rectangle at a time.
 use Rattle.std.specs.Prelude.{◌≡◌, ℕ, Bool, List, ◌∷◌, ◌++◌, Option}
 use Rattle.std.specs.List.{flat_map}
-use Rattle.pixel_format.specs.PixelFormat.{PixelFormat}
 use Rattle.raster.specs.declared.rect.Rect.{Rect}
 use Rattle.raster.specs.Screen.{Canvas, value_at}
-use Rattle.rfb_wire.specs.ClientMessage.{Choice}
 use Rattle.tiles.specs.Walk.{Walking, runs_left}
 use Rattle.reflect_core.specs.declared.cut.Cut.{Cut}
 use Rattle.reflect_core.specs.Source.{marked}
 use Rattle.update_encoder.specs.Answer.{spelled, all_spelled}
+use Rattle.update_encoder.specs.Style.{Style}
 
--- What is kept of an answer: where the walk over its runs stands, its format and choice, whether it may use CopyRect,
--- the rectangle that it wrote last, and how many rectangles it has in all (own).
+-- What is kept of an answer: where the walk over its runs stands, its style, whether it may use CopyRect, the rectangle
+-- that it wrote last, and how many rectangles it has in all (own).
 pub record Answering : Type 0 where
   pub walk : Walking
-  pub format : PixelFormat
-  pub choice : Choice
+  pub style : Style
   pub may_copy : Bool
   pub before : Option Rect
   pub count : ℕ
@@ -35,19 +33,18 @@ left answer cut = runs_left answer.walk (marked cut)
 
 -- Their bytes (RFC 6143, 7.6.1).
 abbrev pub coming : Answering → Cut → List ℕ
-coming answer cut = flat_map (λ r. r) (all_spelled answer.format answer.choice (shown cut) answer.may_copy answer.before (left answer cut))
+coming answer cut = flat_map (λ r. r) (all_spelled answer.style (shown cut) answer.may_copy answer.before (left answer cut))
 
 -- Of the rectangles that weren't written the first was written, as these bytes (own).
 pub record WroteNext (before now : Answering) (cut : Cut) (bytes : List ℕ) : Type 0 where
   pub rectangle : Rect
   pub is_first : left before cut ≡ rectangle ∷ left now cut
-  pub bytes_are : bytes ≡ spelled before.format before.choice (shown cut) before.may_copy before.before rectangle
+  pub bytes_are : bytes ≡ spelled before.style (shown cut) before.may_copy before.before rectangle
   pub others : coming before cut ≡ bytes ++ coming now cut
 
 -- Both are one answer, which has come to one rectangle or another (own).
 pub record IsSameAnswer (before now : Answering) : Type 0 where
   pub area : now.walk.area ≡ before.walk.area
-  pub format : now.format ≡ before.format
-  pub choice : now.choice ≡ before.choice
+  pub style : now.style ≡ before.style
   pub may_copy : now.may_copy ≡ before.may_copy
   pub count : now.count ≡ before.count

@@ -3,11 +3,12 @@ use Rattle.std.specs.Prelude.{◌≡◌, ℕ, Bool, true, false, List, length, t
 use Rattle.pixel_format.specs.PixelFormat.{PixelFormat}
 use Rattle.raster.specs.declared.rect.Rect.{Rect}
 use Rattle.raster.specs.declared.encoding.Encoding.{Encoding}
-use Rattle.raster.specs.Encoding.{encoding_number, form, saves_bytes}
+use Rattle.raster.specs.Encoding.{encoding_number}
 use Rattle.raster.specs.Screen.{IsWithin, tile_rect}
 use Rattle.raster.specs.Update.{Update, screen}
 use Rattle.raster.specs.Size.{IsScreenSize}
-use Rattle.rfb_wire.specs.ClientMessage.{Choice}
+use Rattle.joined_runs.specs.declared.runs.Runs.{Runs}
+use Rattle.joined_runs.specs.Joined.{form_of, saves_bytes_as}
 use Rattle.rfb_wire.specs.Writing.{rectangle_bytes}
 use Rattle.tiles.specs.Have.{SentTiles, sent_at}
 use Rattle.tiles.specs.Touched.{is_due_since, runs}
@@ -15,6 +16,7 @@ use Rattle.reflect_core.specs.declared.cut.Cut.{Cut}
 use Rattle.reflect_core.specs.Source.{IsCutOf, marked}
 use Rattle.update_encoder.specs.Answer.{answer_bytes}
 use Rattle.update_encoder.specs.Coming.{shown}
+use Rattle.update_encoder.specs.Style.{Style}
 
 -- These bytes stand at the front, and this is how many they are.
 pub record IsFront (bytes now : List ℕ) (n : ℕ) : Type 0 where
@@ -23,10 +25,10 @@ pub record IsFront (bytes now : List ℕ) (n : ℕ) : Type 0 where
 
 -- A rectangle in an encoding stands at the front, and this is how many bytes it has; or the encoding doesn't save
 -- bytes.
-abbrev pub IsSaved : Encoding → PixelFormat → Rect → List ℕ → List ℕ → Option ℕ → Type 0
-IsSaved kind format r values now (Some n) =
-    (saves_bytes kind format r.w r.h values ≡ true) × IsFront (rectangle_bytes r (encoding_number kind) (form kind format r.w r.h values)) now n
-IsSaved kind format r values now None = saves_bytes kind format r.w r.h values ≡ false
+abbrev pub IsSaved : Runs → Encoding → PixelFormat → Rect → List ℕ → List ℕ → Option ℕ → Type 0
+IsSaved runs kind format r values now (Some n) =
+    (saves_bytes_as runs kind format r.w r.h values ≡ true) × IsFront (rectangle_bytes r (encoding_number kind) (form_of runs kind format r.w r.h values)) now n
+IsSaved runs kind format r values now None = saves_bytes_as runs kind format r.w r.h values ≡ false
 
 -- Tile t was touched since it was sent, or never sent.
 abbrev pub is_due_of : SentTiles → List Update → ℕ → Bool
@@ -36,7 +38,7 @@ is_due_of have us t = is_due_since (tile_rect have.width have.height t) (sent_at
 -- were due there.
 abbrev pub CutIsAnswered : Type 0
 CutIsAnswered =
-    (us : List Update) (n : ℕ) (area : Rect) (have : SentTiles) (cut : Cut) (format : PixelFormat) (choice : Choice) (sent : Bool)
+    (us : List Update) (n : ℕ) (area : Rect) (have : SentTiles) (cut : Cut) (style : Style) (sent : Bool)
     → IsCutOf us n area have cut → have.width ≡ cut.width → have.height ≡ cut.height → IsScreenSize cut.width cut.height → IsWithin area cut.width cut.height
-    → answer_bytes format choice (shown cut) sent (runs cut.width cut.height area (marked cut))
-    ≡ answer_bytes format choice (screen (take n us)) sent (runs cut.width cut.height area (is_due_of have (take n us)))
+    → answer_bytes style (shown cut) sent (runs cut.width cut.height area (marked cut))
+    ≡ answer_bytes style (screen (take n us)) sent (runs cut.width cut.height area (is_due_of have (take n us)))

@@ -4,18 +4,17 @@ ghost use Rattle.std.specs.Prelude.{◌≡◌, ◌+◌, ◌*◌, ◌<◌, ◌≤
 ghost use Rattle.raster.specs.Screen.{IsWithin};
 ghost use Rattle.raster.specs.declared.tile.TheConstants.{TILE_SIDE};
 ghost use Rattle.reflect_core.specs.Source.{marked};
-ghost use Rattle.rfb_wire.specs.Message.{choice_in};
 ghost use Rattle.rfb_wire.specs.Writing.{update_head_bytes};
 ghost use Rattle.tiles.specs.Touched.{runs};
 ghost use Rattle.tiles.specs.Walk.{runs_left};
 ghost use Rattle.update_encoder.specs.Answer.{answer_bytes};
 ghost use Rattle.update_encoder.specs.Coming.{AnswerStands, IsSameAnswer, WroteNext, coming, shown};
+ghost use Rattle.update_encoder.specs.Style.{style_in};
 
-use crate::rectangle::Style;
-use pixel_format::Format;
+use crate::rectangle::write;
+use crate::style::Style;
 use raster::Rect;
 use reflect_core::Cut;
-use rfb_wire::Choice;
 use std::marker::Model;
 use tiles::Walk;
 
@@ -25,6 +24,8 @@ use tiles::Walk;
 pub struct Answer {
     walk: Walk,
     style: Style,
+    /// Whether CopyRect may be used.
+    may_copy: bool,
     /// The rectangle written last.
     before: Option<Rect>,
     /// How many rectangles there are in all.
@@ -34,16 +35,15 @@ pub struct Answer {
 impl Model for Answer {
     ghost use Rattle.std.specs.Prelude.{◌<◌, ◌^◌};
     ghost use Rattle.reflect_core.specs.Asked.{LiesOn};
-    ghost use Rattle.rfb_wire.specs.Message.{choice_in};
     ghost use Rattle.update_encoder.specs.Coming.{Answering};
+    ghost use Rattle.update_encoder.specs.Style.{style_in};
 
     ghost Value = { Answering };
 
     ghost view = { λ a. record {
       walk = a.walk;
-      format = a.style.format;
-      choice = choice_in a.style.choice;
-      may_copy = a.style.may_copy;
+      style = style_in a.style;
+      may_copy = a.may_copy;
       before = a.before;
       count = a.count;
     } };
@@ -65,21 +65,17 @@ fn count_runs(cut: &Cut, mut walk: Walk) -> u64
 }
 
 impl Answer {
-    /// An answer of what a cut shows in the due tiles of an area, in a pixel format and as a viewer chose (RFC 6143,
-    /// 7.5.1 and 7.5.2), none of whose rectangles is written yet. CopyRect is used where the viewer takes it and was
-    /// sent each of the tiles before.
-    pub fn start(cut: &Cut, area: &Rect, format: Format, choice: Choice) -> Self
+    /// An answer of what a cut shows in the due tiles of an area, in a style, none of whose rectangles is written yet.
+    /// CopyRect is used where the viewer takes it and was sent each of the tiles before.
+    pub fn start(cut: &Cut, area: &Rect, style: Style) -> Self
         requires { IsWithin area.now cut.now.width cut.now.height }
         ensures stands { AnswerStands result cut.now }
-        ensures bytes { update_head_bytes result.count ++ coming result cut.now ≡ answer_bytes format (choice_in choice) (shown cut.now) cut.now.all_were_sent (runs cut.now.width cut.now.height area.now (marked cut.now)) }
+        ensures bytes { update_head_bytes result.count ++ coming result cut.now ≡ answer_bytes (style_in style) (shown cut.now) cut.now.all_were_sent (runs cut.now.width cut.now.height area.now (marked cut.now)) }
     {
         Answer {
             walk: Walk::new(area, cut.width, cut.height),
-            style: Style {
-                format,
-                choice,
-                may_copy: choice.copy && cut.all_were_sent,
-            },
+            style,
+            may_copy: style.choice.copy && cut.all_were_sent,
             before: None,
             count: count_runs(cut, Walk::new(area, cut.width, cut.height)),
         }
@@ -107,6 +103,14 @@ impl Answer {
         let run = self.walk.next(cut)?;
         let before = self.before;
         self.before = Some(run.area);
-        Some(self.style.write(cut, before, &run.area, values, out))
+        Some(write(
+            &self.style,
+            cut,
+            self.may_copy,
+            before,
+            &run.area,
+            values,
+            out,
+        ))
     }
 }

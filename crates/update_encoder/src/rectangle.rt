@@ -3,34 +3,27 @@
 ghost use Rattle.std.specs.Prelude.{◌≡◌, ◌+◌, ◌*◌, ◌<◌, ◌≤◌, ◌^◌, ◌&&◌, true, false, length, IfSome, IfNone, Some};
 ghost use Rattle.pixel_format.specs.PixelFormat.{pixel_len};
 ghost use Rattle.raster.specs.declared.encoding.Encoding.TheVariants.{Raw};
-ghost use Rattle.raster.specs.Encoded.{IsEncoded};
 ghost use Rattle.raster.specs.Encoding.{form};
 ghost use Rattle.raster.specs.Screen.{IsWithin};
+ghost use Rattle.joined_runs.specs.Joined.{IsEncodedAs};
 ghost use Rattle.reflect_core.specs.Asked.{LiesOn};
-ghost use Rattle.rfb_wire.specs.Message.{choice_in};
 ghost use Rattle.rfb_wire.specs.Writing.{rectangle_bytes};
 ghost use Rattle.update_encoder.specs.Answer.{copy_source, pixels_in, repeats_one, spelled};
 ghost use Rattle.update_encoder.specs.Coming.{shown};
+ghost use Rattle.update_encoder.specs.Style.{style_in};
 ghost use Rattle.update_encoder.specs.Written.{IsFront, IsSaved};
 
 use crate::copied::repeats;
 use crate::rows::{tint_rows, write_rows};
+use crate::style::Style;
+use joined_runs::Runs;
 use pixel_format::Format;
 use raster::{COPY_RECT, Encoding, Rect};
 use reflect_core::Cut;
-use rfb_wire::{Choice, write_rectangle_head};
+use rfb_wire::write_rectangle_head;
 
 /// How many bytes the header of a rectangle has.
 const HEAD: usize = 12;
-
-/// How an answer writes its rectangles.
-#[derive(Clone, Copy)]
-pub(crate) struct Style {
-    pub(crate) format: Format,
-    pub(crate) choice: Choice,
-    /// Whether CopyRect may be used.
-    pub(crate) may_copy: bool,
-}
 
 /// Writes a CopyRect: a header, and the source's top left (RFC 6143, 7.7.2).
 fn write_copy(area: &Rect, above: &Rect, out: &mut [u8]) -> usize
@@ -49,8 +42,9 @@ fn write_copy(area: &Rect, above: &Rect, out: &mut [u8]) -> usize
     HEAD + 4
 }
 
-/// Writes pixel values in an encoding, where that has fewer bytes than Raw.
+/// Writes pixel values in an encoding and a form, where that has fewer bytes than Raw.
 fn encode(
+    runs: Runs,
     kind: Encoding,
     values: &[u32],
     area: &Rect,
@@ -61,41 +55,48 @@ fn encode(
     requires high { area.now.h < 2 ^ 16 }
     requires count { length values.now ≡ area.now.w * area.now.h }
     requires room { length values.now * pixel_len format.now ≤ length out.old }
-    ensures { IsEncoded kind format.now area.now.w area.now.h values.now out.new result }
+    ensures { IsEncodedAs runs kind format.now area.now.w area.now.h values.now out.new result }
 {
     match kind {
         Encoding::Raw => None,
-        Encoding::Rre => rre_codec::encode(values, area.w, area.h, format, out),
-        Encoding::Hextile => hextile_codec::encode(values, area.w, area.h, format, out),
+        Encoding::Rre => rre_codec::encode_as(runs, values, area.w, area.h, format, out),
+        Encoding::Hextile => hextile_codec::encode_as(runs, values, area.w, area.h, format, out),
     }
 }
 
-/// Writes a rectangle in RRE or Hextile, where that has fewer bytes than Raw (RFC 6143, 7.7.3 and 7.7.4). `values` is
-/// room for its pixel values.
+/// Writes a rectangle in the encoding and form of a style, where that has fewer bytes than Raw (RFC 6143, 7.7.3 and
+/// 7.7.4). `values` is room for its pixel values.
 fn write_encoded(
+    style: &Style,
     cut: &Cut,
     area: &Rect,
-    format: &Format,
-    kind: Encoding,
     values: &mut [u32],
     out: &mut [u8],
 ) -> Option<usize>
     requires within { IsWithin area.now cut.now.width cut.now.height }
     requires values { area.now.w * area.now.h ≤ length values.old }
     requires room { 12 + 4 * (area.now.w * area.now.h) ≤ length out.old }
-    ensures written { IsSaved kind format.now area.now (pixels_in format.now (shown cut.now) area.now) out.new result }
+    ensures written { IsSaved style.now.runs style.now.choice.kind style.now.format area.now (pixels_in style.now.format (shown cut.now) area.now) out.new result }
     ensures room { IfSome result (λ n. n ≤ 12 + 4 * (area.now.w * area.now.h)) }
 {
+    let kind = style.choice.kind;
     if kind == Encoding::Raw {
         return None;
     }
     let (width, height) = (cut.width as usize, cut.height as usize);
     let count = (area.w * area.h) as usize;
     let (pixels, _) = values.split_at_mut(count);
-    tint_rows(cut.colours.as_slice(), width, height, area, format, pixels);
+    tint_rows(
+        cut.colours.as_slice(),
+        width,
+        height,
+        area,
+        &style.format,
+        pixels,
+    );
     let (head, rest) = out.split_at_mut(HEAD);
     let (data, _) = rest.split_at_mut(4 * count);
-    let len = encode(kind, pixels, area, format, data)?;
+    let len = encode(style.runs, kind, pixels, area, &style.format, data)?;
     write_rectangle_head(area, kind.number(), head);
     Some(HEAD + len)
 }
@@ -116,54 +117,53 @@ fn write_raw(cut: &Cut, area: &Rect, format: &Format, out: &mut [u8]) -> usize
     HEAD + len
 }
 
-impl Style {
-    /// Writes a CopyRect of the rectangle before, where it may be and there is one which the area repeats.
-    fn write_repeated(
-        &self,
-        cut: &Cut,
-        before: Option<Rect>,
-        area: &Rect,
-        out: &mut [u8],
-    ) -> Option<usize>
-        requires before { LiesOn cut.now.width cut.now.height before }
-        requires within { IsWithin area.now cut.now.width cut.now.height }
-        requires room { 16 ≤ length out.old }
-        ensures some { IfSome result (λ n. (n ≡ 16) × ((self.now.may_copy && repeats_one (shown cut.now) before area.now) ≡ true) × IsFront (rectangle_bytes area.now 1 (copy_source before)) out.new n) }
-        ensures none { IfNone result ((self.now.may_copy && repeats_one (shown cut.now) before area.now) ≡ false) }
-    {
-        let above = before?;
-        let (width, height) = (cut.width as usize, cut.height as usize);
-        if !self.may_copy || !repeats(cut.colours.as_slice(), width, height, &above, area) {
-            return None;
-        }
-        Some(write_copy(area, &above, out))
+/// Writes a CopyRect of the rectangle before, where it may be and there is one which the area repeats.
+fn write_repeated(
+    cut: &Cut,
+    may_copy: bool,
+    before: Option<Rect>,
+    area: &Rect,
+    out: &mut [u8],
+) -> Option<usize>
+    requires before { LiesOn cut.now.width cut.now.height before }
+    requires within { IsWithin area.now cut.now.width cut.now.height }
+    requires room { 16 ≤ length out.old }
+    ensures some { IfSome result (λ n. (n ≡ 16) × ((may_copy && repeats_one (shown cut.now) before area.now) ≡ true) × IsFront (rectangle_bytes area.now 1 (copy_source before)) out.new n) }
+    ensures none { IfNone result ((may_copy && repeats_one (shown cut.now) before area.now) ≡ false) }
+{
+    let above = before?;
+    let (width, height) = (cut.width as usize, cut.height as usize);
+    if !may_copy || !repeats(cut.colours.as_slice(), width, height, &above, area) {
+        return None;
     }
+    Some(write_copy(area, &above, out))
+}
 
-    /// Writes a rectangle of an answer, of which the one before is given, and answers how many bytes it has: a CopyRect
-    /// of the one before where it may be and repeats it, else in the chosen encoding where that saves bytes, else Raw.
-    pub(crate) fn write(
-        &self,
-        cut: &Cut,
-        before: Option<Rect>,
-        area: &Rect,
-        values: &mut [u32],
-        out: &mut [u8],
-    ) -> usize
-        requires before { LiesOn cut.now.width cut.now.height before }
-        requires within { IsWithin area.now cut.now.width cut.now.height }
-        requires some { 1 ≤ area.now.w * area.now.h }
-        requires values { area.now.w * area.now.h ≤ length values.old }
-        requires room { 12 + 4 * (area.now.w * area.now.h) ≤ length out.old }
-        ensures written { IsFront (spelled self.now.format (choice_in self.now.choice) (shown cut.now) self.now.may_copy before area.now) out.new result }
-        ensures some { 12 ≤ result }
-        ensures room { result ≤ 12 + 4 * (area.now.w * area.now.h) }
-    {
-        if let Some(len) = self.write_repeated(cut, before, area, out) {
-            return len;
-        }
-        match write_encoded(cut, area, &self.format, self.choice.kind, values, out) {
-            Some(len) => len,
-            None => write_raw(cut, area, &self.format, out),
-        }
+/// Writes a rectangle of an answer, of which the one before is given, and answers how many bytes it has: a CopyRect of
+/// the one before where it may be and repeats it, else in the chosen encoding where that saves bytes, else Raw.
+pub(crate) fn write(
+    style: &Style,
+    cut: &Cut,
+    may_copy: bool,
+    before: Option<Rect>,
+    area: &Rect,
+    values: &mut [u32],
+    out: &mut [u8],
+) -> usize
+    requires before { LiesOn cut.now.width cut.now.height before }
+    requires within { IsWithin area.now cut.now.width cut.now.height }
+    requires some { 1 ≤ area.now.w * area.now.h }
+    requires values { area.now.w * area.now.h ≤ length values.old }
+    requires room { 12 + 4 * (area.now.w * area.now.h) ≤ length out.old }
+    ensures written { IsFront (spelled (style_in style.now) (shown cut.now) may_copy before area.now) out.new result }
+    ensures some { 12 ≤ result }
+    ensures room { result ≤ 12 + 4 * (area.now.w * area.now.h) }
+{
+    if let Some(len) = write_repeated(cut, may_copy, before, area, out) {
+        return len;
+    }
+    match write_encoded(style, cut, area, values, out) {
+        Some(len) => len,
+        None => write_raw(cut, area, &style.format, out),
     }
 }

@@ -82,7 +82,7 @@ follows_cut s us p looked n lw lh greeted le up k =
     record {
       n = n;
       known = le;
-      least = λ m after. let bound = began_least m (length first) (update_at s.w s.h (Saw looked ∷ p.entries) first) (Saw looked ∷ p.entries) after in omega (arith, bound, count);
+      least = λ m after. let bound = began_least m (length first) (update_at s.runs s.w s.h (Saw looked ∷ p.entries) first) (Saw looked ∷ p.entries) after in omega (arith, bound, count);
       good = good_cut s first (after_look looked p) lw lh before;
       early = λ wants. absurd (done_wants p.hello greeted wants);
     }

@@ -82,6 +82,7 @@ read_on s now mid q r both e reads w short =
       serves = record {
         width = k.width;
         height = k.height;
+        runs = k.runs;
         role = k.role;
         rests = ap (λ (p : Viewer). with_reading p r) k.rests;
         greets = k.greets;

@@ -114,7 +114,7 @@ passed_turn : (s : Setup) (us : List Update) (p : Viewer) (looked : ℕ) (cut : 
 passed_turn s us p looked None sent k = passed_as p _ sent k refl refl refl refl refl
 passed_turn s us p looked (Some n) sent k =
     let first : List Update = take n us in
-    let o : Option (Rect × List ℕ) = update_at s.w s.h (Saw looked ∷ p.entries) first in
+    let o : Option (Rect × List ℕ) = update_at s.runs s.w s.h (Saw looked ∷ p.entries) first in
     passed_as p _ sent k refl refl refl (began_messages (length first) o (Saw looked ∷ p.entries)) (began_last (length first) o (Saw looked ∷ p.entries))
 
 pub passed_all : (s : Setup) (us : List Update) (p : Viewer) (acts : List Act) → HasPassed p [] → HasPassed (viewer_after s us p acts) (handed_out s us p acts)

@@ -20,6 +20,7 @@ serves_held s st p held waiting k =
     record {
       width = k.width;
       height = k.height;
+      runs = k.runs;
       role = k.role;
       rests = k.rests;
       greets = k.greets;
@@ -36,6 +37,7 @@ serves_input s st p keys waiting k =
     record {
       width = k.width;
       height = k.height;
+      runs = k.runs;
       role = k.role;
       rests = ap (λ (q : Viewer). record q { keys = keys; waiting = waiting }) k.rests;
       greets = k.greets;

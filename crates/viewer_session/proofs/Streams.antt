@@ -8,6 +8,7 @@ use Rattle.raster.specs.declared.rect.Rect.{Rect}
 use Rattle.raster.specs.Update.{Paint, Update, Paints, Cut, bells, last_text, last_text_from, NumberedText}
 use Rattle.raster.specs.Update as update
 use Rattle.raster.proofs.Spellings.{Each}
+use Rattle.joined_runs.specs.declared.runs.Runs.{Runs}
 use Rattle.rfb_wire.specs.ClientMessage.{ClientMessage, SetPixelFormat, SetEncodings, Ask, Key, Pointer, CutText, LostText, longest_text}
 use Rattle.rfb_wire.specs.ServerMessage as server
 use Rattle.rfb_wire.specs.ServerMessage.{ServerMessage, FramebufferUpdate, Bell, ServerCutText, server_message}
@@ -186,5 +187,5 @@ stream_began w h us es (Some found) =
     ∙ (ap (λ t. t ++ found.1) (stream_cut w h us es) ∙ append_assoc (stream_of (heard w h us es)) (news_at us (news_since w h es)) found.1)
 
 -- A cut sends what its record comes to.
-pub stream_after_cut : (w h : ℕ) (us : List Update) (es : List Entry) → stream_of (heard w h us (record_after_cut w h es us)) ≡ stream_of (heard w h us es) ++ sent_at w h es us
-stream_after_cut w h us es = stream_began w h us es (update_at w h es us)
+pub stream_after_cut : (form : Runs) (w h : ℕ) (us : List Update) (es : List Entry) → stream_of (heard w h us (record_after_cut form w h es us)) ≡ stream_of (heard w h us es) ++ sent_at form w h es us
+stream_after_cut form w h us es = stream_began w h us es (update_at form w h es us)

@@ -8,14 +8,12 @@ use Rattle.std.proofs.lemmas.Bool.{eqb-true}
 use Rattle.std.proofs.lemmas.Nat.{from_be_bytes-to_be_bytes_2}
 use Rattle.std.proofs.lemmas.List.{length-take, length-drop, take-take, take_all}
 use Rattle.std.proofs.Math.Seq.{drop-append_seam}
-use Rattle.pixel_format.specs.PixelFormat.{PixelFormat}
 use Rattle.byte_reading.specs.Reading.{Reading, whole_of}
 use Rattle.raster.specs.declared.rect.Rect.{Rect}
-use Rattle.raster.specs.Screen.{Canvas, IsWithin, meets, tile_rect, tile_count}
+use Rattle.raster.specs.Screen.{IsWithin, meets, tile_rect, tile_count}
 use Rattle.raster.specs.Size.{IsScreenSize}
 use Rattle.raster.specs.Update.{Update, Paints, Cut, screen, bells, last_text, NumberedText}
 use Rattle.raster.specs.Update as update
-use Rattle.rfb_wire.specs.ClientMessage.{Choice}
 use Rattle.rfb_wire.specs.Greeting.{Greeting, ahead}
 use Rattle.rfb_wire.specs.Handshake.{said_to_viewer}
 use Rattle.rfb_wire.specs.Writing.{bell_bytes, update_head_bytes}
@@ -28,6 +26,9 @@ use Rattle.reflect_core.specs.Asked.{Wanted, AskedStands, last_cut}
 use Rattle.reflect_core.specs.Source.{IsCutOf, marked, was_sent_if_due}
 use Rattle.reflect_core.proofs.CutLaws.{marks_due}
 use Rattle.update_encoder.specs.Answer.{all_spelled, answer_bytes}
+use Rattle.update_encoder.specs.Style.{Style}
+use Rattle.update_encoder.proofs.Counts.{count_spelled}
+use Rattle.joined_runs.specs.declared.runs.Runs.{Runs}
 use Rattle.update_encoder.specs.Coming.{shown}
 use Rattle.update_encoder.specs.Written.{is_due_of}
 use Rattle.update_encoder.proofs.CutLaws.{cut_is_answered}
@@ -35,18 +36,14 @@ use Rattle.viewer_session.specs.Found.{answered_at, has_newer, is_newer, rings, 
 use Rattle.viewer_session.specs.Outgoing.{Sending, text_message}
 use Rattle.roles.specs.Held.{HeldStands}
 use Rattle.viewer_session.specs.Record.{Entry, MadeCut, events, format_of, choice_of, messages_in}
-use Rattle.viewer_session.specs.Turn.{due_tile, due_tile_in, was_sent, all_were_sent, update_for, update_at, update_part, bell_at, newer_text, text_at, began_at, record_after_cut}
+use Rattle.viewer_session.specs.Turn.{due_tile, due_tile_in, was_sent, all_were_sent, update_for, update_at, update_part, bell_at, newer_text, text_at, began_at, record_after_cut, style_of}
 use Rattle.viewer_session.specs.Turn as turn
 use Rattle.viewer_session.specs.Viewer.{Setup, Viewer, out_bytes, after_cut}
-use Rattle.viewer_session.specs.Session.{State, Serves, Relays, Stands, Greets, Keeps, CutsAt, HasCounted, IsGreeting, at_rest, hello_of, is_greeted, is_ready, fault_in}
+use Rattle.viewer_session.specs.Session.{State, Serves, Relays, Stands, Greets, Keeps, CutsAt, HasCounted, IsGreeting, at_rest, hello_of, is_greeted, is_ready, fault_in, style_now}
 use Rattle.viewer_session.proofs.HelloLaws.{not_yet}
 use Rattle.viewer_session.proofs.SameRuns.{runs_same, all_same, any_same, no_run, not_zero}
 
 -- ---- how many rectangles an answer has
-
-length_spelled : (format : PixelFormat) (choice : Choice) (canvas : Canvas) (may_copy : Bool) (before : Option Rect) (rs : List Rect) → length (all_spelled format choice canvas may_copy before rs) ≡ length rs
-length_spelled format choice canvas may_copy before [] = refl
-length_spelled format choice canvas may_copy before (r ∷ rs) = ap suc (length_spelled format choice canvas may_copy (Some r) rs)
 
 same_count : (a b : ℕ) (xs ys : List ℕ) → a < 2 ^ 16 → b < 2 ^ 16 → update_head_bytes a ++ xs ≡ update_head_bytes b ++ ys → a ≡ b
 same_count a b xs ys la lb e = sym (from_be_bytes-to_be_bytes_2 a la) ∙ (ap (λ t. from_be_bytes w16 (take 2 (drop 2 t))) e ∙ from_be_bytes-to_be_bytes_2 b lb)
@@ -54,44 +51,44 @@ same_count a b xs ys la lb e = sym (from_be_bytes-to_be_bytes_2 a la) ∙ (ap (�
 abbrev found_in : cutting.Cut → Rect → List Rect
 found_in cut area = runs cut.width cut.height area (marked cut)
 
-count_is : (format : PixelFormat) (choice : Choice) (cut : cutting.Cut) (area : Rect) (count : ℕ) (rest : List ℕ) → count < 2 ^ 16 → IsScreenSize cut.width cut.height
-    → update_head_bytes count ++ rest ≡ answer_bytes format choice (shown cut) cut.all_were_sent (found_in cut area) → count ≡ length (found_in cut area)
-count_is format choice cut area count rest few size e =
-    let spelled : List (List ℕ) = all_spelled format choice (shown cut) (choice.copy && cut.all_were_sent) None (found_in cut area) in
-    let long : length spelled ≡ length (found_in cut area) = length_spelled format choice (shown cut) (choice.copy && cut.all_were_sent) None (found_in cut area) in
+count_is : (style : Style) (cut : cutting.Cut) (area : Rect) (count : ℕ) (rest : List ℕ) → count < 2 ^ 16 → IsScreenSize cut.width cut.height
+    → update_head_bytes count ++ rest ≡ answer_bytes style (shown cut) cut.all_were_sent (found_in cut area) → count ≡ length (found_in cut area)
+count_is style cut area count rest few size e =
+    let spelled : List (List ℕ) = all_spelled style (shown cut) (style.choice.copy && cut.all_were_sent) None (found_in cut area) in
+    let long : length spelled ≡ length (found_in cut area) = count_spelled style (shown cut) (style.choice.copy && cut.all_were_sent) None (found_in cut area) in
     let less : length (found_in cut area) < 2 ^ 16 = runs_few cut.width cut.height area (marked cut) size.wide.1 size.high.1 in
     same_count count (length spelled) rest (flat_map (λ r. r) spelled) few (omega (arith, long, less)) e ∙ long
 
 -- It has none: there is no update.
-pub found_none : (format : PixelFormat) (choice : Choice) (cut : cutting.Cut) (area : Rect) (count : ℕ) (rest : List ℕ) → count < 2 ^ 16 → IsScreenSize cut.width cut.height
-    → update_head_bytes count ++ rest ≡ answer_bytes format choice (shown cut) cut.all_were_sent (found_in cut area) → count ≡ 0 → update_of format choice cut area ≡ None
-found_none format choice cut area count rest few size e none =
-    let bytes : List ℕ = answer_bytes format choice (shown cut) cut.all_were_sent (found_in cut area) in
-    ap (λ n. if n == 0 then None else Some (area, bytes)) (sym (count_is format choice cut area count rest few size e) ∙ none)
+pub found_none : (style : Style) (cut : cutting.Cut) (area : Rect) (count : ℕ) (rest : List ℕ) → count < 2 ^ 16 → IsScreenSize cut.width cut.height
+    → update_head_bytes count ++ rest ≡ answer_bytes style (shown cut) cut.all_were_sent (found_in cut area) → count ≡ 0 → update_of style cut area ≡ None
+found_none style cut area count rest few size e none =
+    let bytes : List ℕ = answer_bytes style (shown cut) cut.all_were_sent (found_in cut area) in
+    ap (λ n. if n == 0 then None else Some (area, bytes)) (sym (count_is style cut area count rest few size e) ∙ none)
 
 -- It has some: they are the update.
-pub found_some : (format : PixelFormat) (choice : Choice) (cut : cutting.Cut) (area : Rect) (count : ℕ) (rest : List ℕ) → count < 2 ^ 16 → IsScreenSize cut.width cut.height
-    → update_head_bytes count ++ rest ≡ answer_bytes format choice (shown cut) cut.all_were_sent (found_in cut area) → (count ≡ 0 → ⊥) → update_of format choice cut area ≡ Some (area, update_head_bytes count ++ rest)
-found_some format choice cut area count rest few size e some =
-    let bytes : List ℕ = answer_bytes format choice (shown cut) cut.all_were_sent (found_in cut area) in
-    let is : count ≡ length (found_in cut area) = count_is format choice cut area count rest few size e in
+pub found_some : (style : Style) (cut : cutting.Cut) (area : Rect) (count : ℕ) (rest : List ℕ) → count < 2 ^ 16 → IsScreenSize cut.width cut.height
+    → update_head_bytes count ++ rest ≡ answer_bytes style (shown cut) cut.all_were_sent (found_in cut area) → (count ≡ 0 → ⊥) → update_of style cut area ≡ Some (area, update_head_bytes count ++ rest)
+found_some style cut area count rest few size e some =
+    let bytes : List ℕ = answer_bytes style (shown cut) cut.all_were_sent (found_in cut area) in
+    let is : count ≡ length (found_in cut area) = count_is style cut area count rest few size e in
     ap (λ b. if b then None else Some (area, bytes)) (not_zero (length (found_in cut area)) (λ z. some (is ∙ z))) ∙ ap (λ (bs : List ℕ). Some (area, bs)) (sym e)
 
 -- The same of what the code has at hand.
 pub none_at : (st now : State) (o : Option Rect) (area : Rect) (seen : cutting.Cut) (count : ℕ) (rest : List ℕ) → st ≡ now → o ≡ Some area → seen ≡ st.cut → count < 2 ^ 16 → IsScreenSize seen.width seen.height
-    → update_head_bytes count ++ rest ≡ answer_bytes st.format st.choice (shown seen) seen.all_were_sent (found_in seen area) → count ≡ 0 → update_in now.format now.choice now.cut o ≡ None
+    → update_head_bytes count ++ rest ≡ answer_bytes (style_now st) (shown seen) seen.all_were_sent (found_in seen area) → count ≡ 0 → update_in (style_now now) now.cut o ≡ None
 none_at st now o area seen count rest same is there few size e none =
-    sym (ap (λ (t : State). update_in t.format t.choice t.cut o) same)
-    ∙ (ap (update_in st.format st.choice st.cut) is
-    ∙ (ap (λ (cut : cutting.Cut). update_of st.format st.choice cut area) (sym there) ∙ found_none st.format st.choice seen area count rest few size e none))
+    sym (ap (λ (t : State). update_in (style_now t) t.cut o) same)
+    ∙ (ap (update_in (style_now st) st.cut) is
+    ∙ (ap (λ (cut : cutting.Cut). update_of (style_now st) cut area) (sym there) ∙ found_none (style_now st) seen area count rest few size e none))
 
 pub some_at : (st now : State) (o : Option Rect) (area : Rect) (seen : cutting.Cut) (count : ℕ) (rest : List ℕ) → st ≡ now → o ≡ Some area → seen ≡ st.cut → count < 2 ^ 16 → IsScreenSize seen.width seen.height
-    → update_head_bytes count ++ rest ≡ answer_bytes st.format st.choice (shown seen) seen.all_were_sent (found_in seen area) → (count ≡ 0 → ⊥)
-    → update_in now.format now.choice now.cut o ≡ Some (area, update_head_bytes count ++ rest)
+    → update_head_bytes count ++ rest ≡ answer_bytes (style_now st) (shown seen) seen.all_were_sent (found_in seen area) → (count ≡ 0 → ⊥)
+    → update_in (style_now now) now.cut o ≡ Some (area, update_head_bytes count ++ rest)
 some_at st now o area seen count rest same is there few size e some =
-    sym (ap (λ (t : State). update_in t.format t.choice t.cut o) same)
-    ∙ (ap (update_in st.format st.choice st.cut) is
-    ∙ (ap (λ (cut : cutting.Cut). update_of st.format st.choice cut area) (sym there) ∙ found_some st.format st.choice seen area count rest few size e some))
+    sym (ap (λ (t : State). update_in (style_now t) t.cut o) same)
+    ∙ (ap (update_in (style_now st) st.cut) is
+    ∙ (ap (λ (cut : cutting.Cut). update_of (style_now st) cut area) (sym there) ∙ found_some (style_now st) seen area count rest few size e some))
 
 -- ---- the update at a cut is the one of the definitions
 
@@ -106,11 +103,11 @@ if_not b false x y e f = ap (λ t. if t then None else Some x) e
 on_screen : (area : Rect) (w h v u : ℕ) → w ≡ v → h ≡ u → IsWithin area v u → IsWithin area w h
 on_screen area w h v u ew eh on = record { across = omega (arith, on.across, ew); down = omega (arith, on.down, eh) }
 
-update_same : (known : List Update) (n : ℕ) (area : Rect) (have : SentTiles) (cut : cutting.Cut) (entries : List Entry) (format : PixelFormat) (choice : Choice)
+update_same : (form : Runs) (known : List Update) (n : ℕ) (area : Rect) (have : SentTiles) (cut : cutting.Cut) (entries : List Entry) (style : Style)
     → IsCutOf known n area have cut → have.width ≡ cut.width → have.height ≡ cut.height → IsScreenSize cut.width cut.height → IsWithin area cut.width cut.height
-    → HaveStands have (events have.width have.height entries) → format ≡ format_of entries → choice ≡ choice_of entries
-    → update_of format choice cut area ≡ update_for have.width have.height entries (take n known) (Some area)
-update_same known n area have cut entries format choice is ew eh size on stood ef ec =
+    → HaveStands have (events have.width have.height entries) → style ≡ style_of form entries
+    → update_of style cut area ≡ update_for form have.width have.height entries (take n known) (Some area)
+update_same form known n area have cut entries style is ew eh size on stood same =
     let w : ℕ = have.width in
     let h : ℕ = have.height in
     let us : List Update = take n known in
@@ -125,12 +122,11 @@ update_same known n area have cut entries format choice is ew eh size on stood e
     is.all_were_sent
     ∙ all_same (was_sent_if_due have area us) (λ t. not (due_here t) || was_sent w h entries t) (tile_count w h) 0
     (λ t lo hi. ap (λ o. not (meets area (tile_rect w h t) && is_due_since (tile_rect w h t) o us) || is_some o) (sent_at_stands have (events w h entries) t stood (omega (arith, hi)))) in
-    let bytes : answer_bytes format choice (shown cut) cut.all_were_sent (found_in cut area) ≡ answer_bytes (format_of entries) (choice_of entries) (screen us) all (runs w h area due) =
-    cut_is_answered known n area have cut format choice cut.all_were_sent is ew eh size on
-    ∙ (ap (answer_bytes format choice (screen us) cut.all_were_sent) runs_are
-    ∙ (ap (λ b. answer_bytes format choice (screen us) b (runs w h area due)) all_is
-    ∙ (ap (λ (f : PixelFormat). answer_bytes f choice (screen us) all (runs w h area due)) ef
-    ∙ ap (λ (c : Choice). answer_bytes (format_of entries) c (screen us) all (runs w h area due)) ec))) in
+    let bytes : answer_bytes style (shown cut) cut.all_were_sent (found_in cut area) ≡ answer_bytes (style_of form entries) (screen us) all (runs w h area due) =
+    cut_is_answered known n area have cut style cut.all_were_sent is ew eh size on
+    ∙ (ap (answer_bytes style (screen us) cut.all_were_sent) runs_are
+    ∙ (ap (λ b. answer_bytes style (screen us) b (runs w h area due)) all_is
+    ∙ ap (λ (t : Style). answer_bytes t (screen us) all (runs w h area due)) same)) in
     let found_are : found_in cut area ≡ runs w h area (marked cut) = ap (λ k. runs k cut.height area (marked cut)) (sym ew) ∙ ap (λ k. runs w k area (marked cut)) (sym eh) in
     let test : (length (found_in cut area) == 0) ≡ not (list_any due_here (range_with_len 0 (tile_count w h))) =
     ap (λ rs. length rs == 0) found_are
@@ -138,17 +134,17 @@ update_same known n area have cut entries format choice is ew eh size on stood e
     ∙ ap not
     (any_same (λ t. meets area (tile_rect w h t) && marked cut t) due_here (tile_count w h) 0
     (λ t lo hi. ap (λ b. meets area (tile_rect w h t) && b) (marks t (omega (arith, hi))) ∙ twice (meets area (tile_rect w h t)) (due t)))) in
-    if_not (length (found_in cut area) == 0) (list_any due_here (range_with_len 0 (tile_count w h))) (area, answer_bytes format choice (shown cut) cut.all_were_sent (found_in cut area))
-    (area, answer_bytes (format_of entries) (choice_of entries) (screen us) all (runs w h area due)) test (ap (λ (bs : List ℕ). (area, bs)) bytes)
+    if_not (length (found_in cut area) == 0) (list_any due_here (range_with_len 0 (tile_count w h))) (area, answer_bytes style (shown cut) cut.all_were_sent (found_in cut area))
+    (area, answer_bytes (style_of form entries) (screen us) all (runs w h area due)) test (ap (λ (bs : List ℕ). (area, bs)) bytes)
 
 -- The same over a screen of w by h.
-update_on : (w h : ℕ) (known : List Update) (n : ℕ) (area : Rect) (have : SentTiles) (cut : cutting.Cut) (entries : List Entry) (format : PixelFormat) (choice : Choice)
+update_on : (form : Runs) (w h : ℕ) (known : List Update) (n : ℕ) (area : Rect) (have : SentTiles) (cut : cutting.Cut) (entries : List Entry) (style : Style)
     → have.width ≡ w → have.height ≡ h → IsCutOf known n area have cut → have.width ≡ cut.width → have.height ≡ cut.height → IsScreenSize cut.width cut.height → IsWithin area cut.width cut.height
-    → HaveStands have (events w h entries) → format ≡ format_of entries → choice ≡ choice_of entries
-    → update_of format choice cut area ≡ update_for w h entries (take n known) (Some area)
-update_on w h known n area have cut entries format choice v u is ew eh size on stood ef ec =
-    let Same : ℕ → ℕ → Type 0 = λ x y. HaveStands have (events x y entries) → update_of format choice cut area ≡ update_for x y entries (take n known) (Some area) in
-    let here : Same have.width have.height = λ k. update_same known n area have cut entries format choice is ew eh size on k ef ec in
+    → HaveStands have (events w h entries) → style ≡ style_of form entries
+    → update_of style cut area ≡ update_for form w h entries (take n known) (Some area)
+update_on form w h known n area have cut entries style v u is ew eh size on stood same =
+    let Same : ℕ → ℕ → Type 0 = λ x y. HaveStands have (events x y entries) → update_of style cut area ≡ update_for form x y entries (take n known) (Some area) in
+    let here : Same have.width have.height = λ k. update_same form known n area have cut entries style is ew eh size on k same in
     subst (λ y. Same w y) u (subst (λ x. Same x have.height) v here) stood
 
 -- What is known of a state and a cut that was made for it.
@@ -161,19 +157,22 @@ pub record IsCutFor (st : State) (cut : cutting.Cut) (nowhere : Rect) (known : L
   pub size : IsScreenSize cut.width cut.height
   pub within : IsWithin (unwrap_or st.asked.area nowhere) cut.width cut.height
 
+same_style : (st : State) (form : Runs) (entries : List Entry) → st.runs ≡ form → st.format ≡ format_of entries → st.choice ≡ choice_of entries → style_now st ≡ style_of form entries
+same_style st form entries e f g = λ i. record { runs = e i; format = f i; choice = g i }
+
 update_by : (s : Setup) (st : State) (p : Viewer) (cut : cutting.Cut) (known : List Update) (n : ℕ) (nowhere : Rect) (area : Option Rect) → Serves s st p
     → IsCutOf known n (unwrap_or area nowhere) st.have cut → st.width ≡ cut.width → st.height ≡ cut.height → st.have.width ≡ st.width → st.have.height ≡ st.height → IsScreenSize cut.width cut.height
-    → IsWithin (unwrap_or area nowhere) cut.width cut.height → update_in st.format st.choice cut area ≡ update_for s.w s.h p.entries (take n known) area
+    → IsWithin (unwrap_or area nowhere) cut.width cut.height → update_in (style_now st) cut area ≡ update_for s.runs s.w s.h p.entries (take n known) area
 update_by s st p cut known n nowhere None k is ew eh hw hh size on = refl
 update_by s st p cut known n nowhere (Some area) k is ew eh hw hh size on =
-    update_on s.w s.h known n area st.have cut p.entries st.format st.choice (hw ∙ k.width) (hh ∙ k.height) is (hw ∙ ew) (hh ∙ eh) size on k.keeps.have k.keeps.format k.keeps.choice
+    update_on s.runs s.w s.h known n area st.have cut p.entries (style_now st) (hw ∙ k.width) (hh ∙ k.height) is (hw ∙ ew) (hh ∙ eh) size on k.keeps.have (same_style st s.runs p.entries k.runs k.keeps.format k.keeps.choice)
 
 -- The update that a session finds in a cut is the one of the definitions.
 pub update_is : (s : Setup) (st : State) (p : Viewer) (cut : cutting.Cut) (known : List Update) (n : ℕ) (nowhere : Rect) → Serves s st p → IsCutFor st cut nowhere known n
-    → update_in st.format st.choice cut st.asked.area ≡ update_at s.w s.h p.entries (take n known)
+    → update_in (style_now st) cut st.asked.area ≡ update_at s.runs s.w s.h p.entries (take n known)
 update_is s st p cut known n nowhere k c =
     update_by s st p cut known n nowhere st.asked.area k c.is c.width c.height c.have_width c.have_height c.size c.within
-    ∙ ap (update_for s.w s.h p.entries (take n known)) k.keeps.asked.area
+    ∙ ap (update_for s.runs s.w s.h p.entries (take n known)) k.keeps.asked.area
 
 -- ---- news
 
@@ -277,16 +276,17 @@ greeting_done (Some g) out now done k =
     record { short = k.short; said = λ wants. absurd (let open_ : is_some (whole_of (ahead g)) ≡ false = not_yet (ahead g) wants in cc) }
 
 serves_cut : (s : Setup) (st : State) (p : Viewer) (us : List Update) (wanted : Wanted) (have : SentTiles) (cut : cutting.Cut) (piece bytes : List ℕ) → Serves s st p → is_ready st ≡ true
-    → turn.sent_at s.w s.h p.entries us ≡ bytes → Keeps s.w s.h (record st { asked = wanted; have = have; cut = cut; piece = piece; unsent = bytes }) (record_after_cut s.w s.h p.entries us)
+    → turn.sent_at s.runs s.w s.h p.entries us ≡ bytes → Keeps s.w s.h (record st { asked = wanted; have = have; cut = cut; piece = piece; unsent = bytes }) (record_after_cut s.runs s.w s.h p.entries us)
     → Serves s (record st { asked = wanted; have = have; cut = cut; piece = piece; unsent = bytes }) (after_cut s us p)
 serves_cut s st p us wanted have cut piece bytes k ready e keeps =
     let none : length st.unsent ≡ 0 = sent_all st ready in
-    let sent : List ℕ = turn.sent_at s.w s.h p.entries us in
+    let sent : List ℕ = turn.sent_at s.runs s.w s.h p.entries us in
     let over : length (drop p.written (out_bytes s p)) ≡ 0 = ap length (sym k.unsent) ∙ none in
     let out : out_bytes s (after_cut s us p) ≡ out_bytes s p ++ sent = sym (append_assoc (hello_bytes s p) p.said_after sent) in
     record {
       width = k.width;
       height = k.height;
+      runs = k.runs;
       role = k.role;
       rests = rests_cut s us p k.rests;
       greets = greets_cut s st.greeting p.greet p.hello p.said p.said_after (p.said_after ++ sent) (greeted_ready st ready) k.greets;
@@ -309,7 +309,7 @@ relays_cut s st p us wanted have cut piece bytes k =
     record {
       waiting = k.waiting;
       keys = k.keys;
-      held = subst (λ ms. HeldStands st.role st.held ms) (sym (messages_began (length us) (update_at s.w s.h p.entries us) p.entries)) k.held;
+      held = subst (λ ms. HeldStands st.role st.held ms) (sym (messages_began (length us) (update_at s.runs s.w s.h p.entries us) p.entries)) k.held;
     }
 
 -- ---- the record after it
@@ -349,18 +349,18 @@ last_is : (n number : ℕ) (o : Option ℕ) → o ≡ Some n → o ≡ Some numb
 last_is n number o e f = cc
 
 tells : (s : Setup) (es : List Entry) (us : List Update)
-    → turn.sent_at s.w s.h es us
-    ≡ bell_at us (last_cut (events s.w s.h es)) ++ (text_at us (last_cut (events s.w s.h es)) ++ update_part (update_at s.w s.h es us))
+    → turn.sent_at s.runs s.w s.h es us
+    ≡ bell_at us (last_cut (events s.w s.h es)) ++ (text_at us (last_cut (events s.w s.h es)) ++ update_part (update_at s.runs s.w s.h es us))
 tells s es us =
-    append_assoc (bell_at us (last_cut (events s.w s.h es))) (text_at us (last_cut (events s.w s.h es))) (update_part (update_at s.w s.h es us))
+    append_assoc (bell_at us (last_cut (events s.w s.h es))) (text_at us (last_cut (events s.w s.h es))) (update_part (update_at s.runs s.w s.h es us))
 
 -- A cut, and what of it begins to be sent.
 pub turned : {S : Type 0} (cuts : S → ℕ → S → Type 0) (before after : S) (st now : State) (known : List Update) (least most n : ℕ) (cut : cutting.Cut) (nowhere : Rect) (wanted : Wanted) (have : SentTiles) (bell text : Bool) (update piece bytes : List ℕ)
     → cuts before n after → st ≡ now → is_ready now ≡ true → IsCutFor st cut nowhere known n → (least ≤ n) × (n ≤ most)
-    → bell ≡ rings st.asked.last st.cut.bells cut.bells → text ≡ has_newer st.asked.last cut.text → update ≡ update_part (update_in st.format st.choice cut st.asked.area)
+    → bell ≡ rings st.asked.last st.cut.bells cut.bells → text ≡ has_newer st.asked.last cut.text → update ≡ update_part (update_in (style_now st) cut st.asked.area)
     → wanted.last ≡ Some n
-    → ((es : List Event) → AskedStands st.asked es → AskedStands wanted (answered_at n (update_in st.format st.choice cut st.asked.area) (WasCut n ∷ es)))
-    → ((es : List Event) → HaveStands st.have es → HaveStands have (answered_at n (update_in st.format st.choice cut st.asked.area) es))
+    → ((es : List Event) → AskedStands st.asked es → AskedStands wanted (answered_at n (update_in (style_now st) cut st.asked.area) (WasCut n ∷ es)))
+    → ((es : List Event) → HaveStands st.have es → HaveStands have (answered_at n (update_in (style_now st) cut st.asked.area) es))
     → bytes ≡ (if bell then bell_bytes else []) ++ ((if text then text_message cut.text else []) ++ update)
     → CutsAt cuts before after now (record st { asked = wanted; have = have; cut = cut; piece = piece; unsent = bytes }) known least most
 turned cuts before after st now known least most n cut nowhere wanted have bell text update piece bytes was same ready c fresh rung newer found last asked has e =
@@ -377,21 +377,21 @@ turned cuts before after st now known least most n cut nowhere wanted have bell 
           let k : Serves s st p = both.serves in
           let known_bells : HasCounted st known = subst (λ (t : State). HasCounted t known) (sym same) counted in
           let count : length us ≡ n = count_taken n known c.is.known in
-          let update_there : update_in st.format st.choice cut st.asked.area ≡ update_at s.w s.h p.entries us = update_is s st p cut known n nowhere k c in
+          let update_there : update_in (style_now st) cut st.asked.area ≡ update_at s.runs s.w s.h p.entries us = update_is s st p cut known n nowhere k c in
           let last_there : st.asked.last ≡ last_cut (events s.w s.h p.entries) = k.keeps.asked.last in
           let bells_there : (if bell then bell_bytes else []) ≡ bell_at us (last_cut (events s.w s.h p.entries)) =
           ap (λ b. if b then bell_bytes else []) rung ∙ (bell_is st.asked.last st.cut.bells cut.bells known n c.is.bells known_bells ∙ ap (bell_at us) last_there) in
           let text_there : (if text then text_message cut.text else []) ≡ text_at us (last_cut (events s.w s.h p.entries)) =
           ap (λ b. if b then text_message cut.text else []) newer ∙ (text_is st.asked.last cut.text us c.is.text ∙ ap (text_at us) last_there) in
-          let bytes_there : bytes ≡ turn.sent_at s.w s.h p.entries us =
+          let bytes_there : bytes ≡ turn.sent_at s.runs s.w s.h p.entries us =
           e
           ∙ (ap (λ t. t ++ ((if text then text_message cut.text else []) ++ update)) bells_there
           ∙ (ap (λ t. bell_at us (last_cut (events s.w s.h p.entries)) ++ (t ++ update)) text_there
           ∙ (ap (λ t. bell_at us (last_cut (events s.w s.h p.entries)) ++ (text_at us (last_cut (events s.w s.h p.entries)) ++ t)) (found ∙ ap update_part update_there) ∙ sym (tells s p.entries us)))) in
-          let kept : Keeps s.w s.h (record st { asked = wanted; have = have; cut = cut; piece = piece; unsent = bytes }) (began_at n (update_in st.format st.choice cut st.asked.area) (MadeCut n ∷ p.entries)) =
-          keeps_cut s.w s.h n st p.entries (update_in st.format st.choice cut st.asked.area) wanted have cut piece bytes k.keeps asked has in
-          let record_is : began_at n (update_in st.format st.choice cut st.asked.area) (MadeCut n ∷ p.entries) ≡ record_after_cut s.w s.h p.entries us =
-          ap (λ u. began_at n u (MadeCut n ∷ p.entries)) update_there ∙ ap (λ m. began_at m (update_at s.w s.h p.entries us) (MadeCut m ∷ p.entries)) (sym count) in
+          let kept : Keeps s.w s.h (record st { asked = wanted; have = have; cut = cut; piece = piece; unsent = bytes }) (began_at n (update_in (style_now st) cut st.asked.area) (MadeCut n ∷ p.entries)) =
+          keeps_cut s.w s.h n st p.entries (update_in (style_now st) cut st.asked.area) wanted have cut piece bytes k.keeps asked has in
+          let record_is : began_at n (update_in (style_now st) cut st.asked.area) (MadeCut n ∷ p.entries) ≡ record_after_cut s.runs s.w s.h p.entries us =
+          ap (λ u. began_at n u (MadeCut n ∷ p.entries)) update_there ∙ ap (λ m. began_at m (update_at s.runs s.w s.h p.entries us) (MadeCut m ∷ p.entries)) (sym count) in
           record {
             serves = serves_cut s st p us wanted have cut piece bytes k (ap is_ready same ∙ ready) (sym bytes_there) (subst (λ (l : List Entry). Keeps s.w s.h (record st { asked = wanted; have = have; cut = cut; piece = piece; unsent = bytes }) l) record_is kept);
             relays = relays_cut s st p us wanted have cut piece bytes both.relays;

@@ -7,6 +7,7 @@ use Rattle.raster.specs.declared.rect.Rect.{Rect}
 use Rattle.raster.specs.declared.encoding.Encoding.TheVariants.{Raw, Rre, Hextile}
 use Rattle.raster.specs.Update.{Update, Paints, Put}
 use Rattle.raster.specs.Update as update
+use Rattle.joined_runs.specs.declared.runs.Runs.TheVariants.{OfRows, Joined}
 use Rattle.rfb_wire.specs.ClientMessage.{SetPixelFormat, SetEncodings, Ask, Key}
 use Rattle.rfb_wire.specs.ServerMessage.{FramebufferUpdate, ServerCutText}
 use Rattle.rfb_wire.specs.ServerMessage as server
@@ -106,26 +107,38 @@ both_rows =
 abbrev after_corner : List Entry
 after_corner = asks true 17 17 ∷ Began (rect 0 0 8 8) 0 corner ∷ MadeCut 0 ∷ Saw 0 ∷ asks false 8 8 ∷ rre ∷ []
 
-pub corner_is_sent : update_at 17 17 (Saw 0 ∷ asks false 8 8 ∷ rre ∷ []) [] ≡ Some (rect 0 0 8 8, corner)
+pub corner_is_sent : update_at OfRows 17 17 (Saw 0 ∷ asks false 8 8 ∷ rre ∷ []) [] ≡ Some (rect 0 0 8 8, corner)
 corner_is_sent = refl
 
-pub then_all_is_sent : update_at 17 17 after_corner [] ≡ Some (rect 0 0 17 17, both_rows)
+pub then_all_is_sent : update_at OfRows 17 17 after_corner [] ≡ Some (rect 0 0 17 17, both_rows)
 then_all_is_sent = refl
 
-pub then_nothing : update_at 17 17 (asks true 17 17 ∷ Began (rect 0 0 17 17) 0 both_rows ∷ MadeCut 0 ∷ after_corner) [] ≡ None
+pub then_nothing : update_at OfRows 17 17 (asks true 17 17 ∷ Began (rect 0 0 17 17) 0 both_rows ∷ MadeCut 0 ∷ after_corner) [] ≡ None
 then_nothing = refl
 
 -- On 33 by 1 an update touches the first tile and the last: two runs, the first in RRE, the second Raw.
 abbrev two_blues : Update
 two_blues = Paints (Put (rect 0 0 1 1) (0x0000FF ∷ []) ∷ Put (rect 32 0 1 1) (0x0000FF ∷ []) ∷ [])
 
-pub two_runs_are_sent : update_at 33 1 (asks true 33 1 ∷ Began (rect 0 0 33 1) 0 [] ∷ MadeCut 0 ∷ asks false 33 1 ∷ rre ∷ []) (two_blues ∷ [])
+pub two_runs_are_sent : update_at OfRows 33 1 (asks true 33 1 ∷ Began (rect 0 0 33 1) 0 [] ∷ MadeCut 0 ∷ asks false 33 1 ∷ rre ∷ []) (two_blues ∷ [])
     ≡ Some (
       rect 0 0 33 1,
       (0 ∷ 0 ∷ 0 ∷ 2 ∷ []) ++ (0 ∷ 0 ∷ 0 ∷ 0 ∷ 0 ∷ 16 ∷ 0 ∷ 1 ∷ 0 ∷ 0 ∷ 0 ∷ 2 ∷ 0 ∷ 0 ∷ 0 ∷ 1 ∷ 255 ∷ 0 ∷ 0 ∷ 0 ∷ [])
           ++ (0 ∷ 0 ∷ 0 ∷ 0 ∷ 0 ∷ 1 ∷ 0 ∷ 0 ∷ 0 ∷ 15 ∷ 0 ∷ 1 ∷ []) ++ 0 ∷ 32 ∷ 0 ∷ 0 ∷ 0 ∷ 1 ∷ 0 ∷ 1 ∷ 0 ∷ 0 ∷ 0 ∷ 0 ∷ 255 ∷ 0 ∷ 0 ∷ 0 ∷ [],
     )
 two_runs_are_sent = refl
+
+-- On 8 by 2 with joined runs: the first column is blue, and the black runs to its right are one subrectangle.
+abbrev blue_column : Update
+blue_column = Paints (Put (rect 0 0 1 2) (0x0000FF ∷ 0x0000FF ∷ []) ∷ [])
+
+pub joined_runs_are_sent : update_at Joined 8 2 (asks false 8 2 ∷ rre ∷ []) (blue_column ∷ [])
+    ≡ Some (
+      rect 0 0 8 2,
+      (0 ∷ 0 ∷ 0 ∷ 1 ∷ []) ++ (0 ∷ 0 ∷ 0 ∷ 0 ∷ 0 ∷ 8 ∷ 0 ∷ 2 ∷ 0 ∷ 0 ∷ 0 ∷ 2 ∷ []) ++ (0 ∷ 0 ∷ 0 ∷ 1 ∷ 255 ∷ 0 ∷ 0 ∷ 0 ∷ [])
+          ++ 0 ∷ 0 ∷ 0 ∷ 0 ∷ 0 ∷ 1 ∷ 0 ∷ 0 ∷ 0 ∷ 7 ∷ 0 ∷ 2 ∷ [],
+    )
+joined_runs_are_sent = refl
 
 -- Whether each due tile was sent before, which a CopyRect asks: not at first, nor where one was sent in part.
 pub none_was_sent : all_were_sent 16 32 (asks false 16 32 ∷ []) [] (rect 0 0 16 32) ≡ false
@@ -153,30 +166,30 @@ four = update.Bell ∷ update.Cut (0x48 ∷ 0x69 ∷ []) ∷ update.Bell ∷ red
 
 -- The first cut sends neither Bell nor text; a later one sends one Bell, then the text, then the update; where they
 -- aren't newer, the update alone.
-pub first_cut : sent_at 2 1 (asks false 2 1 ∷ []) four ≡ red_blue_bytes
+pub first_cut : sent_at OfRows 2 1 (asks false 2 1 ∷ []) four ≡ red_blue_bytes
 first_cut = refl
 
-pub later_cut : sent_at 2 1 (asks true 2 1 ∷ MadeCut 0 ∷ []) four ≡ (2 ∷ []) ++ hi ++ red_blue_bytes
+pub later_cut : sent_at OfRows 2 1 (asks true 2 1 ∷ MadeCut 0 ∷ []) four ≡ (2 ∷ []) ++ hi ++ red_blue_bytes
 later_cut = refl
 
-pub text_was_told : sent_at 2 1 (asks true 2 1 ∷ MadeCut 2 ∷ []) four ≡ (2 ∷ []) ++ red_blue_bytes
+pub text_was_told : sent_at OfRows 2 1 (asks true 2 1 ∷ MadeCut 2 ∷ []) four ≡ (2 ∷ []) ++ red_blue_bytes
 text_was_told = refl
 
-pub all_was_told : sent_at 2 1 (asks true 2 1 ∷ MadeCut 3 ∷ []) four ≡ red_blue_bytes
+pub all_was_told : sent_at OfRows 2 1 (asks true 2 1 ∷ MadeCut 3 ∷ []) four ≡ red_blue_bytes
 all_was_told = refl
 
 -- They need no area.
-pub news_alone : sent_at 2 1 (MadeCut 1 ∷ []) four ≡ (2 ∷ []) ++ hi
+pub news_alone : sent_at OfRows 2 1 (MadeCut 1 ∷ []) four ≡ (2 ∷ []) ++ hi
 news_alone = refl
 
 -- What is written down of it: the cut, and an answer where there is one.
 abbrev answered : List Entry
 answered = Began (rect 0 0 2 1) 4 red_blue_bytes ∷ MadeCut 4 ∷ asks true 2 1 ∷ MadeCut 0 ∷ Took (Key true 0x61) ∷ []
 
-pub answer_is_recorded : record_after_cut 2 1 (asks true 2 1 ∷ MadeCut 0 ∷ Took (Key true 0x61) ∷ []) four ≡ answered
+pub answer_is_recorded : record_after_cut OfRows 2 1 (asks true 2 1 ∷ MadeCut 0 ∷ Took (Key true 0x61) ∷ []) four ≡ answered
 answer_is_recorded = refl
 
-pub cut_is_recorded : record_after_cut 2 1 (MadeCut 1 ∷ []) four ≡ MadeCut 4 ∷ MadeCut 1 ∷ []
+pub cut_is_recorded : record_after_cut OfRows 2 1 (MadeCut 1 ∷ []) four ≡ MadeCut 4 ∷ MadeCut 1 ∷ []
 cut_is_recorded = refl
 
 pub messages_in_order : messages_in answered ≡ Key true 0x61 ∷ Ask true (rect 0 0 2 1) ∷ []

@@ -4,6 +4,7 @@ use Rattle.pixel_format.specs.declared.fault.Fault.{Fault}
 use Rattle.pixel_format.specs.PixelFormat.{PixelFormat}
 use Rattle.byte_reading.specs.Reading.{Reading, Done, whole_of, fault_of, wants_more, Gives, GivesWhole}
 use Rattle.raster.specs.Size.{IsScreenSize}
+use Rattle.joined_runs.specs.declared.runs.Runs.{Runs}
 use Rattle.raster.specs.Update.{Update, bells}
 use Rattle.rfb_wire.specs.declared.client_reader.ClientReader.{ClientReader}
 use Rattle.rfb_wire.specs.ClientReader.{ahead}
@@ -18,17 +19,20 @@ use Rattle.roles.specs.declared.role.Role.{Role}
 use Rattle.tiles.specs.Have.{SentTiles, HaveStands}
 use Rattle.reflect_core.specs.Asked.{Wanted, AskedStands}
 use Rattle.reflect_core.specs.declared.cut.Cut.{Cut}
+use Rattle.update_encoder.specs.Style.{Style}
 use Rattle.viewer_session.specs.Outgoing.{Sending}
 use Rattle.viewer_session.specs.Record.{Entry, Took, Saw, events, format_of, choice_of, messages_in}
 use Rattle.viewer_session.specs.Viewer as viewer
 use Rattle.viewer_session.specs.Viewer.{Setup, Viewer, out_bytes, new_viewer, with_input, after_bytes, after_cut}
 
--- The size of the screen, the viewer's role, its hello where it has one, what has come of its next message, the pixel
--- format and the choice of encodings that hold, what it has asked for, what it has of each tile, the last cut, the
--- piece that is sent next, and all bytes for it that aren't sent yet; what it holds down, and its input that waits.
+-- The size of the screen, the form in which the viewer is answered, its role, its hello where it has one, what has come
+-- of its next message, the pixel format and the choice of encodings that hold, what it has asked for, what it has of
+-- each tile, the last cut, the piece that is sent next, and all bytes for it that aren't sent yet; what it holds down,
+-- and its input that waits.
 pub record State : Type 0 where
   pub width : ℕ
   pub height : ℕ
+  pub runs : Runs
   pub role : Role
   pub greeting : Option Greeting
   pub reader : ClientReader
@@ -90,6 +94,10 @@ is_greeted st = is_some (whole_of (hello_of st.greeting))
 abbrev pub is_ready : State → Bool
 is_ready st = (length st.unsent == 0) && (is_greeted st && is_none (fault_in st))
 
+-- How its next answer is written.
+abbrev pub style_now : State → Style
+style_now st = record { runs = st.runs; format = st.format; choice = st.choice }
+
 -- A viewer of which no byte is unread.
 abbrev pub at_rest : Viewer → Viewer
 at_rest p = record p { unread = []; lost = [] }
@@ -127,6 +135,7 @@ HasKeptShort message = Unit {0}
 pub record Serves (s : Setup) (st : State) (p : Viewer) : Type 0 where
   pub width : st.width ≡ s.w
   pub height : st.height ≡ s.h
+  pub runs : st.runs ≡ s.runs
   pub role : p.role ≡ st.role
   pub rests : p ≡ at_rest p
   pub greets : Greets s st.greeting p.greet p.hello p.said p.said_after

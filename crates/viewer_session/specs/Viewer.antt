@@ -3,6 +3,7 @@ use Rattle.std.specs.Prelude.{ℕ, ◌+◌, Bool, ◌&&◌, nat_le, if◌then◌
 use Rattle.pixel_format.specs.declared.fault.Fault.{Fault}
 use Rattle.byte_reading.specs.Reading.{Reading, Done, Faulty, Want, step, fault_of, whole_of, wants_more}
 use Rattle.raster.specs.Update.{Update}
+use Rattle.joined_runs.specs.declared.runs.Runs.{Runs}
 use Rattle.rfb_wire.specs.ClientMessage.{ClientMessage, CutText, client_message, without_text}
 use Rattle.rfb_wire.specs.Handshake.{viewer_hello, said_to_viewer}
 use Rattle.roles.specs.declared.role.Role.{Role}
@@ -11,12 +12,14 @@ use Rattle.roles.specs.Held.{input_for}
 use Rattle.viewer_session.specs.Record.{Entry, Took}
 use Rattle.viewer_session.specs.Turn.{sent_at, record_after_cut}
 
--- A screen of w by h named so, with room for this many inputs in the queue to the host.
+-- A screen of w by h named so, with room for this many inputs in the queue to the host, whose viewers are answered in
+-- one of the two forms.
 pub record Setup : Type 0 where
   pub w : ℕ
   pub h : ℕ
   pub name : List ℕ
   pub room : ℕ
+  pub runs : Runs
 
 -- One viewer, from its join on.
 pub record Viewer : Type 0 where
@@ -117,4 +120,4 @@ may_look s p = nat_le (length (out_bytes s p)) p.written && (is_greeted p && is_
 -- What a cut of these updates makes of a viewer: more to be sent, and more in its record.
 abbrev pub after_cut : Setup → List Update → Viewer → Viewer
 after_cut s us p =
-    record p { looked = None; said_after = p.said_after ++ sent_at s.w s.h p.entries us; entries = record_after_cut s.w s.h p.entries us }
+    record p { looked = None; said_after = p.said_after ++ sent_at s.runs s.w s.h p.entries us; entries = record_after_cut s.runs s.w s.h p.entries us }

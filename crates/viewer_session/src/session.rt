@@ -16,6 +16,7 @@ mod reading;
 mod turning;
 
 use crate::outgoing::Outgoing;
+use joined_runs::Runs;
 use pixel_format::{Fault, Format};
 use raster::Encoding;
 pub use reading::Fed;
@@ -38,6 +39,7 @@ use tiles::Have;
 pub struct Session {
     width: u64,
     height: u64,
+    runs: Runs,
     role: Role,
     hello: Option<ViewerHello>,
     reader: ClientReader,
@@ -63,6 +65,7 @@ impl Model for Session {
     ghost view = { λ s. record {
       width = s.width;
       height = s.height;
+      runs = s.runs;
       role = s.role;
       greeting = s.hello;
       reader = s.reader;
@@ -82,32 +85,40 @@ impl Model for Session {
 
 impl Session {
     /// A session of a viewer that begins with its hello, over a screen of `w` by `h` pixels with a name of 1 to 255
-    /// bytes. All the room that it needs is taken here. It fails where memory is refused (`Memory`).
-    pub fn open(alloc: Global, w: u64, h: u64, name: &[u8], role: Role) -> Result<Self, Fault>
+    /// bytes, and that is answered in one of the two forms (`joined_runs`). All the room that it needs is taken here. It
+    /// fails where memory is refused (`Memory`).
+    pub fn open(
+        alloc: Global,
+        w: u64,
+        h: u64,
+        name: &[u8],
+        role: Role,
+        runs: Runs,
+    ) -> Result<Self, Fault>
         requires size { IsScreenSize w h }
         requires name { (1 ≤ length name.now) × (length name.now ≤ 255) }
         ensures size { IfOk result (λ session. (session.width ≡ w) × (session.height ≡ h)) }
         ensures uncut { IfOk result (λ session. session.asked.last ≡ None) }
-        ensures stands { IfOk result (λ session. (s : Setup) → s.w ≡ w → s.h ≡ h → s.name ≡ name.now → Stands s session (new_viewer role true)) }
+        ensures stands { IfOk result (λ session. (s : Setup) → s.w ≡ w → s.h ≡ h → s.name ≡ name.now → s.runs ≡ runs → Stands s session (new_viewer role true)) }
         ensures err { IfErr result (λ fault. fault ≡ Memory) }
     {
         let mut out = Outgoing::new(alloc, w, h)?;
         let mut hello = ViewerHello::new(w, h, name);
         say(&mut hello, &mut out);
-        Session::begun(alloc, w, h, role, Some(hello), out)
+        Session::begun(alloc, w, h, role, runs, Some(hello), out)
     }
 
-    /// A session of a viewer whose handshake is done, over a screen of `w` by `h` pixels. All the room that it needs is
-    /// taken here. It fails where memory is refused (`Memory`).
-    pub fn ready(alloc: Global, w: u64, h: u64, role: Role) -> Result<Self, Fault>
+    /// A session of a viewer whose handshake is done, over a screen of `w` by `h` pixels, which is answered in one of the
+    /// two forms. All the room that it needs is taken here. It fails where memory is refused (`Memory`).
+    pub fn ready(alloc: Global, w: u64, h: u64, role: Role, runs: Runs) -> Result<Self, Fault>
         requires { IsScreenSize w h }
         ensures size { IfOk result (λ session. (session.width ≡ w) × (session.height ≡ h)) }
         ensures uncut { IfOk result (λ session. session.asked.last ≡ None) }
-        ensures stands { IfOk result (λ session. (s : Setup) → s.w ≡ w → s.h ≡ h → Stands s session (new_viewer role false)) }
+        ensures stands { IfOk result (λ session. (s : Setup) → s.w ≡ w → s.h ≡ h → s.runs ≡ runs → Stands s session (new_viewer role false)) }
         ensures err { IfErr result (λ fault. fault ≡ Memory) }
     {
         let out = Outgoing::new(alloc, w, h)?;
-        Session::begun(alloc, w, h, role, None, out)
+        Session::begun(alloc, w, h, role, runs, None, out)
     }
 
     /// A session of which so much of the hello was said.
@@ -116,6 +127,7 @@ impl Session {
         w: u64,
         h: u64,
         role: Role,
+        runs: Runs,
         hello: Option<ViewerHello>,
         out: Outgoing,
     ) -> Result<Self, Fault>
@@ -124,13 +136,14 @@ impl Session {
         requires greets { IsGreeting hello out }
         ensures size { IfOk result (λ session. (session.width ≡ w) × (session.height ≡ h)) }
         ensures uncut { IfOk result (λ session. session.asked.last ≡ None) }
-        ensures stands { IfOk result (λ session. (s : Setup) (greet : Bool) → s.w ≡ w → s.h ≡ h → IsBegun s role greet hello out → Stands s session (new_viewer role greet)) }
+        ensures stands { IfOk result (λ session. (s : Setup) (greet : Bool) → s.w ≡ w → s.h ≡ h → s.runs ≡ runs → IsBegun s role greet hello out → Stands s session (new_viewer role greet)) }
         ensures err { IfErr result (λ fault. fault ≡ Memory) }
     {
         let have = Have::new(alloc, w, h)?;
         Ok(Session {
             width: w,
             height: h,
+            runs,
             role,
             hello,
             reader: ClientReader::new(alloc),

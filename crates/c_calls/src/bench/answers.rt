@@ -3,6 +3,7 @@
 ghost use Rattle.std.specs.Prelude.{◌≡◌, ◌+◌, ◌*◌, ◌≤◌, length, IfOk};
 ghost use Rattle.raster.specs.Size.{IsScreenSize};
 
+use joined_runs::Runs;
 use painter::{Board, Painter};
 use pixel_format::{Fault, Format};
 use raster::{Encoding, Rect};
@@ -10,20 +11,13 @@ use reflect_core::Cut;
 use rfb_wire::Choice;
 use std::alloc::Global;
 use tiles::Have;
-use update_encoder::Answer;
+use update_encoder::{Answer, Style};
 
 /// Room for one rectangle: its pixel values, and its bytes.
 #[derive(Drop)]
 struct Room {
     values: Vec<u32>,
     out: Vec<u8>,
-}
-
-/// How an answer is asked for.
-#[derive(Clone, Copy)]
-struct Asked {
-    format: Format,
-    choice: Choice,
 }
 
 /// Copies as many bytes as have room.
@@ -34,7 +28,7 @@ fn keep(bytes: &[u8], sent: &mut [u8]) {
 
 /// Writes all rectangles of an answer of the whole screen, each over the one before, and copies them one after the
 /// other as far as there is room. Answers how many bytes they are.
-fn write_all(cut: &Cut, asked: &Asked, room: &mut Room, sent: &mut [u8]) -> u64
+fn write_all(cut: &Cut, style: Style, room: &mut Room, sent: &mut [u8]) -> u64
     requires values { 16 * cut.now.width ≤ length room.old.values.items }
     requires out { 12 + 64 * cut.now.width ≤ length room.old.out.items }
     ensures values { length room.new.values.items ≡ length room.old.values.items }
@@ -46,7 +40,7 @@ fn write_all(cut: &Cut, asked: &Asked, room: &mut Room, sent: &mut [u8]) -> u64
         w: cut.width,
         h: cut.height,
     };
-    let mut answer = Answer::start(cut, &area, asked.format, asked.choice);
+    let mut answer = Answer::start(cut, &area, style);
     let mut total: usize = 0;
     for _turn in 0..answer.count() {
         let next = answer.next(cut, room.values.as_mut_slice(), room.out.as_mut_slice());
@@ -137,14 +131,15 @@ fn prepare(alloc: Global, width: u64, height: u64) -> Result<(Cut, Room), Fault>
 }
 
 /// Copies colours into a cut, and writes an answer of the whole screen from it, this many times, and once more into
-/// `sent`; `kind`: the number of its encoding, and any other is Raw; `all`: of all tiles, else of one; `copies`: the
-/// colours are copied anew each time. Answers how many bytes an answer has after its header, and 0 where there is no
+/// `sent`; `kind`: the number of its encoding, and any other is Raw; `joined`: with joined runs, else with those of the
+/// rows; `all`: of all tiles, else of one; `copies`: the colours are copied anew each time. Answers how many bytes an answer has after its header, and 0 where there is no
 /// memory, no such screen or format, or colours of another size.
 #[unsafe(no_mangle)]
 pub extern "C" fn bench_answers(
     alloc: Global,
     format: &[u8; 16],
     kind: u32,
+    joined: bool,
     width: u32,
     height: u32,
     colours: &[u32],
@@ -169,15 +164,18 @@ pub extern "C" fn bench_answers(
     let Ok(source) = make_source(alloc, width, height, colours) else {
         return 0;
     };
-    let choice = Choice {
-        kind: Encoding::of_number(kind).unwrap_or(Encoding::Raw),
-        copy: false,
+    let style = Style {
+        runs: if joined { Runs::Joined } else { Runs::OfRows },
+        format,
+        choice: Choice {
+            kind: Encoding::of_number(kind).unwrap_or(Encoding::Raw),
+            copy: false,
+        },
     };
-    let asked = Asked { format, choice };
     refresh(&mut cut, &source, all);
     for _time in 0..times {
         refresh_if(copies, &mut cut, &source, all);
-        write_all(&cut, &asked, &mut room, &mut []);
+        write_all(&cut, style, &mut room, &mut []);
     }
-    write_all(&cut, &asked, &mut room, sent)
+    write_all(&cut, style, &mut room, sent)
 }

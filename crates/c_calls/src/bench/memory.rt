@@ -2,6 +2,7 @@
 
 ghost use Rattle.std.specs.Prelude.{◌≡◌, ◌≤◌, true};
 
+use joined_runs::Runs;
 use pixel_format::Fault;
 use reflect_core::PlainScreen;
 use roles::Role;
@@ -44,7 +45,8 @@ fn serve(
     requires wide { (1 ≤ width) × (width ≤ 4096) }
     requires high { (1 ≤ height) × (height ≤ 4096) }
 {
-    let mut session = Session::ready(alloc, u64::from(width), u64::from(height), Role::Full)?;
+    let (wide, high) = (u64::from(width), u64::from(height));
+    let mut session = Session::ready(alloc, wide, high, Role::Full, Runs::Joined)?;
     session.feed(&messages(encoding, width, height))?;
     session.turn(screen)?;
     Ok(take_all(&mut session))

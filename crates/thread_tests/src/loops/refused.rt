@@ -6,6 +6,7 @@ ghost use Rattle.input_relay.specs.Ends.{inputs_of};
 
 use crate::loops::watch::{ALWAYS, link_of, make_watch, red_and_blue};
 use input_relay::{Sender, relay};
+use joined_runs::Runs;
 use link::Took;
 use pixel_format::Fault;
 use roles::{Input, InputSink, Role};
@@ -53,7 +54,7 @@ fn nothing_is_offered_after_a_refusal(rt: HostRuntime) -> Result<(), Fail> {
     let sender = senders.pop().ok_or(Fault::Gone)?;
     let mut sink = RefusesTheSecond { sender, offers: 0 };
     let mut screen = red_and_blue(alloc)?;
-    let mut session = Session::ready(alloc, 2, 1, Role::Full)?;
+    let mut session = Session::ready(alloc, 2, 1, Role::Full, Runs::OfRows)?;
     let watch = make_watch(ALWAYS);
     let answer = run_viewer(
         &rt,

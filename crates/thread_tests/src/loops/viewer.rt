@@ -6,6 +6,7 @@ ghost use Rattle.input_relay.specs.Ends.{inputs_of};
 
 use crate::loops::watch::{ALWAYS, link_of, make_watch, number, red_and_blue};
 use input_relay::{Sender, Taker, relay};
+use joined_runs::Runs;
 use link::{Gave, MemoryLink, Took};
 use pixel_format::Fault;
 use roles::{Input, InputSink, Role};
@@ -66,7 +67,7 @@ fn serves<R: Wait + Drop>(
     sink: &mut FullFor<R>,
 ) -> Result<bool, Fault> {
     let mut screen = red_and_blue(alloc)?;
-    let mut session = Session::ready(alloc, 2, 1, case.role)?;
+    let mut session = Session::ready(alloc, 2, 1, case.role, Runs::OfRows)?;
     let watch = make_watch(case.stop);
     let answer = run_viewer(rt, link, &mut screen, sink, &mut session, &watch, &watch);
     let rests = watch.rests.load(Ordering::SeqCst);

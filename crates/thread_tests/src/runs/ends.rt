@@ -12,6 +12,7 @@ use crate::runs::wire::Wire;
 use arrayvec::ArrayVec;
 use host_turns::Hosts;
 use input_relay::settle;
+use joined_runs::Runs;
 use link::Link;
 use pixel_format::Fault;
 use raster::Rect;
@@ -188,6 +189,7 @@ where
         },
         hosts,
         doors,
+        Runs::Joined,
         everyone,
         bell,
     )?;

@@ -9,14 +9,14 @@ ghost use Rattle.tiles.specs.Touched.{Event, WasCut};
 ghost use Rattle.update_encoder.specs.Coming.{AnswerStands};
 ghost use Rattle.viewer_session.specs.Found.{answered_at, has_newer, rings, update_in};
 ghost use Rattle.viewer_session.specs.Outgoing.{answer_coming};
-ghost use Rattle.viewer_session.specs.Session.{HasOnlyLooked, IsSameViewer, is_ready, wants_cut, CutsAt, Turns};
+ghost use Rattle.viewer_session.specs.Session.{HasOnlyLooked, IsSameViewer, is_ready, wants_cut, style_now, CutsAt, Turns};
 ghost use Rattle.viewer_session.specs.Turn.{update_part};
 
 use super::Session;
 use pixel_format::Fault;
 use raster::Rect;
 use reflect_core::{Cut, ScreenSource};
-use update_encoder::Answer;
+use update_encoder::{Answer, Style};
 
 /// A rectangle with no position.
 const NOWHERE: Rect = Rect {
@@ -51,12 +51,17 @@ impl Session {
         ensures others { self.new ≡ record self.old { asked = self.new.asked; have = self.new.have } }
         ensures last { self.new.asked.last ≡ self.old.asked.last }
         ensures stands { IfSome result (λ answer. AnswerStands answer self.old.cut) }
-        ensures bytes { answer_coming true result self.old.cut ≡ update_part (update_in self.old.format self.old.choice self.old.cut area) }
-        ensures asked { (es : List Event) → AskedStands self.old.asked es → AskedStands self.new.asked (answered_at number (update_in self.old.format self.old.choice self.old.cut area) es) }
-        ensures have { (es : List Event) → HaveStands self.old.have es → HaveStands self.new.have (answered_at number (update_in self.old.format self.old.choice self.old.cut area) es) }
+        ensures bytes { answer_coming true result self.old.cut ≡ update_part (update_in (style_now self.old) self.old.cut area) }
+        ensures asked { (es : List Event) → AskedStands self.old.asked es → AskedStands self.new.asked (answered_at number (update_in (style_now self.old) self.old.cut area) es) }
+        ensures have { (es : List Event) → HaveStands self.old.have es → HaveStands self.new.have (answered_at number (update_in (style_now self.old) self.old.cut area) es) }
     {
         let area = area?;
-        let answer = Answer::start(self.out.cut(), &area, self.format, self.choice);
+        let style = Style {
+            runs: self.runs,
+            format: self.format,
+            choice: self.choice,
+        };
+        let answer = Answer::start(self.out.cut(), &area, style);
         if answer.count() == 0 {
             return None;
         }

@@ -1,8 +1,9 @@
 use Rattle.std.proofs.Common.{◌≡◌, ℕ, ◌++◌, List, take, Some, refl, ap, ◌∙◌, subst}
 use Rattle.std.proofs.lemmas.List.{take-append-le}
-use Rattle.raster.specs.Encoded.{IsEncoded}
-use Rattle.raster.specs.Encoding.{encoding_number, form}
+use Rattle.raster.specs.Encoding.{encoding_number}
 use Rattle.raster.specs.Screen.{value_at}
+use Rattle.joined_runs.specs.declared.runs.Runs.{Runs}
+use Rattle.joined_runs.specs.Joined.{IsEncodedAs, form_of}
 use Rattle.rfb_wire.specs.Writing.{rectangle_head_bytes}
 use Rattle.update_encoder.specs.Answer.{pixels_in}
 use Rattle.update_encoder.specs.Coming.{shown}
@@ -13,16 +14,17 @@ pub returns-clause-written : goal.returns-clause-written
 returns-clause-written c =
     let area = c.args.area.now in
     let cut = c.args.cut.now in
-    let format = c.args.format.now in
-    let kind = c.args.kind in
+    let runs : Runs = c.args.style.now.runs in
+    let format = c.args.style.now.format in
+    let kind = c.args.style.now.choice.kind in
     let len : ℕ = c.in_ok-len.len in
     let pixels : List ℕ = pixels_in format (shown cut) area in
     let tinted : c.tint_rows.new.values ≡ pixels = c.tint_rows.ensures ∙ ap (λ (l : List ℕ). pixels_in format (value_at cut.width l) area) c.as_slice.ensures.value in
-    let encoded : IsEncoded kind format area.w area.h pixels c.encode.new.out (Some len) = subst (λ vs. IsEncoded kind format area.w area.h vs c.encode.new.out (Some len)) tinted c.in_ok-len.ensures in
+    let encoded : IsEncodedAs runs kind format area.w area.h pixels c.encode.new.out (Some len) = subst (λ vs. IsEncodedAs runs kind format area.w area.h vs c.encode.new.out (Some len)) tinted c.in_ok-len.ensures in
     let behind : List ℕ = c.split_at_mut-data.result.1.now in
-    let form_is : take len (c.encode.new.out ++ behind) ≡ form kind format area.w area.h pixels = take-append-le len c.encode.new.out behind (within_front (form kind format area.w area.h pixels) c.encode.new.out len encoded.1 encoded.2) ∙ encoded.2 in (
+    let form_is : take len (c.encode.new.out ++ behind) ≡ form_of runs kind format area.w area.h pixels = take-append-le len c.encode.new.out behind (within_front (form_of runs kind format area.w area.h pixels) c.encode.new.out len encoded.1 encoded.2) ∙ encoded.2 in (
       encoded.0,
-      head_then (rectangle_head_bytes area (encoding_number kind)) (form kind format area.w area.h pixels) c.write_rectangle_head.new.out (c.encode.new.out ++ behind) _ len
+      head_then (rectangle_head_bytes area (encoding_number kind)) (form_of runs kind format area.w area.h pixels) c.write_rectangle_head.new.out (c.encode.new.out ++ behind) _ len
           (written_whole (rectangle_head_bytes area c.number.result) c.split_at_mut-head.result.0.now c.write_rectangle_head.new.out _ c.write_rectangle_head.ensures c.split_at_mut-head.ensures.front_len ∙ ap (λ n. rectangle_head_bytes area n) c.number.ensures)
           refl encoded.1 form_is refl,
     )

@@ -10,13 +10,13 @@ use Rattle.reflect_world.proofs.world.World.step.Goals.{in-Memory, in_default-ma
 pub invariant_of-self-in-Ok-take : goal.invariant_of-self-in-Ok-take
 invariant_of-self-in-Ok-take c =
     let entry : Entry = Played c.in-Ok.copy c.take.new.lost in
-    kept_pushed (record { width = c.self.inside.width; height = c.self.inside.height; name = c.self.inside.name.items; room = c.self.inside.room; steps = []; is_refused = c.self.inside.is_refused }) c.self.inside.schedule.items c.push.new.self.items entry c.self.inside.scene c.take.new.self c.self.invariant (ap (λ (k : Kept). k.is_refused) c.self.view_is ∙ c.requires)
+    kept_pushed (record { width = c.self.inside.width; height = c.self.inside.height; name = c.self.inside.name.items; room = c.self.inside.room; runs = c.self.inside.runs; steps = []; is_refused = c.self.inside.is_refused }) c.self.inside.schedule.items c.push.new.self.items entry c.self.inside.scene c.take.new.self c.self.invariant (ap (λ (k : Kept). k.is_refused) c.self.view_is ∙ c.requires)
     (c.in-Ok-push.ensures.items ∙ ap (λ es. es ++ entry ∷ []) c.reserve.ensures.items)
-    (λ s w named. subst (λ (e : Step). TakesStep e c.self.inside.scene c.take.new.self) (sym (c.in-Ok.ensures.marked c.take.new.lost.items)) c.in-Ok-take.ensures.ok s w)
+    (λ s w named formed. subst (λ (e : Step). TakesStep e c.self.inside.scene c.take.new.self) (sym (c.in-Ok.ensures.marked c.take.new.lost.items)) c.in-Ok-take.ensures.ok s w)
 
 pub invariant_of-self-after-matches : goal.invariant_of-self-after-matches
 invariant_of-self-after-matches c =
-    kept_stays (record { width = c.self.inside.width; height = c.self.inside.height; name = c.self.inside.name.items; room = c.self.inside.room; steps = []; is_refused = c.self.inside.is_refused }) c.self.inside.schedule.items c.reserve.new.self.items c.match-matches.self c.in-Err.fault c.self.inside.scene c.take.new.self c.self.invariant (ap (λ (k : Kept). k.is_refused) c.self.view_is ∙ c.requires) c.reserve.ensures.items c.in-Err.ensures.err.1
+    kept_stays (record { width = c.self.inside.width; height = c.self.inside.height; name = c.self.inside.name.items; room = c.self.inside.room; runs = c.self.inside.runs; steps = []; is_refused = c.self.inside.is_refused }) c.self.inside.schedule.items c.reserve.new.self.items c.match-matches.self c.in-Err.fault c.self.inside.scene c.take.new.self c.self.invariant (ap (λ (k : Kept). k.is_refused) c.self.view_is ∙ c.requires) c.reserve.ensures.items c.in-Err.ensures.err.1
     (λ no.
     elim c.match-matches.branch [
       | in-Memory w ↦ absurd (true≢false (sym w.self-is ∙ no))
@@ -25,7 +25,7 @@ invariant_of-self-after-matches c =
 
 pub invariant_of-self-after-matches-2 : goal.invariant_of-self-after-matches-2
 invariant_of-self-after-matches-2 c =
-    kept_stays (record { width = c.self.inside.width; height = c.self.inside.height; name = c.self.inside.name.items; room = c.self.inside.room; steps = []; is_refused = c.self.inside.is_refused }) c.self.inside.schedule.items c.reserve.new.self.items c.match-matches.self c.in-Err.fault c.self.inside.scene c.take.new.self c.self.invariant (ap (λ (k : Kept). k.is_refused) c.self.view_is ∙ c.requires) c.reserve.ensures.items c.in-Err.ensures.err.1
+    kept_stays (record { width = c.self.inside.width; height = c.self.inside.height; name = c.self.inside.name.items; room = c.self.inside.room; runs = c.self.inside.runs; steps = []; is_refused = c.self.inside.is_refused }) c.self.inside.schedule.items c.reserve.new.self.items c.match-matches.self c.in-Err.fault c.self.inside.scene c.take.new.self c.self.invariant (ap (λ (k : Kept). k.is_refused) c.self.view_is ∙ c.requires) c.reserve.ensures.items c.in-Err.ensures.err.1
     (λ no.
     elim c.match-matches.branch [
       | in-Memory w ↦ absurd (true≢false (sym w.self-is ∙ no))
@@ -34,7 +34,7 @@ invariant_of-self-after-matches-2 c =
 
 pub invariant_of-self-after-matches-3 : goal.invariant_of-self-after-matches-3
 invariant_of-self-after-matches-3 c =
-    kept_stays (record { width = c.self.inside.width; height = c.self.inside.height; name = c.self.inside.name.items; room = c.self.inside.room; steps = []; is_refused = c.self.inside.is_refused }) c.self.inside.schedule.items c.reserve.new.self.items c.match-matches.self c.in-Err.fault c.self.inside.scene c.take.new.self c.self.invariant (ap (λ (k : Kept). k.is_refused) c.self.view_is ∙ c.requires) c.reserve.ensures.items c.in-Err.ensures.err.1
+    kept_stays (record { width = c.self.inside.width; height = c.self.inside.height; name = c.self.inside.name.items; room = c.self.inside.room; runs = c.self.inside.runs; steps = []; is_refused = c.self.inside.is_refused }) c.self.inside.schedule.items c.reserve.new.self.items c.match-matches.self c.in-Err.fault c.self.inside.scene c.take.new.self c.self.invariant (ap (λ (k : Kept). k.is_refused) c.self.view_is ∙ c.requires) c.reserve.ensures.items c.in-Err.ensures.err.1
     (λ no.
     elim c.match-matches.branch [
       | in-Memory w ↦ absurd (true≢false (sym w.self-is ∙ no))
@@ -48,6 +48,6 @@ returns-in-Ok-push-clause-ok c =
     let steps = steps_pushed c.self.inside.schedule.items c.push.new.self.items entry (c.in-Ok-push.ensures.items ∙ ap (λ es. es ++ entry ∷ []) c.reserve.ensures.items) in (
       e,
       unmarked_with c.in-Ok.copy c.take.new.lost.items ∙ c.in-Ok.ensures.same,
-      ap (λ (es : List Step). record { width = c.self.inside.width; height = c.self.inside.height; name = c.self.inside.name.items; room = c.self.inside.room; steps = es; is_refused = c.self.inside.is_refused }) steps
+      ap (λ (es : List Step). record { width = c.self.inside.width; height = c.self.inside.height; name = c.self.inside.name.items; room = c.self.inside.room; runs = c.self.inside.runs; steps = es; is_refused = c.self.inside.is_refused }) steps
           ∙ ap (λ (k : Kept). with_steps k (e ∷ [])) c.self.view_is,
     )

@@ -3,12 +3,12 @@ use Rattle.std.specs.Prelude.{IfNone}
 use Rattle.raster.specs.declared.rect.Rect.{Rect}
 use Rattle.reflect_core.specs.declared.cut.Cut.{Cut}
 use Rattle.reflect_core.specs.Source.{marked}
-use Rattle.rfb_wire.specs.Message.{choice_in}
 use Rattle.tiles.specs.declared.walk.Run.{Run}
 use Rattle.tiles.specs.Walk.{IsNextRun, Walking, runs_left, tiles_rect}
 use Rattle.raster.specs.Screen.{common}
 use Rattle.tiles.proofs.WalkLaws.{left_none}
 use Rattle.update_encoder.specs.Coming.{AnswerStands, Answering, WroteNext, coming, shown}
+use Rattle.update_encoder.specs.Style.{style_in}
 use Rattle.update_encoder.proofs.Counts.{bytes_of, first_then, small_run}
 use Rattle.update_encoder.proofs.answer.Answer.next.Goals as goal
 
@@ -16,10 +16,10 @@ pub returns-in_err-run-clause-none : goal.returns-in_err-run-clause-none
 returns-in_err-run-clause-none c =
     let inside = c.self.inside in
     let cut : Cut = c.args.cut.now in
-    let bytes : List Rect → List ℕ = λ rs. bytes_of inside.style.format (choice_in inside.style.choice) (shown cut) inside.style.may_copy inside.before rs in
+    let bytes : List Rect → List ℕ = λ rs. bytes_of (style_in inside.style) (shown cut) inside.may_copy inside.before rs in
     let before : coming c.args.self.now cut ≡ [] = subst (λ (a : Answering). coming a cut ≡ []) c.self.view_is (ap bytes c.in_err-run.ensures.left) in
     let none : runs_left c.next.new.self (marked cut) ≡ [] = left_none c.next.new.self (marked cut) c.in_err-run.ensures.done.1 in
-    let now : Answering = record { walk = c.next.new.self; format = inside.style.format; choice = choice_in inside.style.choice; may_copy = inside.style.may_copy; before = inside.before; count = inside.count } in
+    let now : Answering = record { walk = c.next.new.self; style = style_in inside.style; may_copy = inside.may_copy; before = inside.before; count = inside.count } in
     subst (λ (o : Option ℕ). IfNone o ((coming c.args.self.now cut ≡ []) × (coming now cut ≡ []))) (sym c.from_residual.ensures) (before, ap bytes none)
 
 -- A run is 16 rows at most.
@@ -47,7 +47,7 @@ returns-clause-some c =
     let cut : Cut = c.args.cut.now in
     let run : Run = c.in_ok-run.run' in
     let stands : AnswerStands _ cut = subst (λ (a : Answering). AnswerStands a cut) (sym c.self.view_is) c.requires.stands in
-    let now : Answering = record { walk = c.next.new.self; format = inside.style.format; choice = choice_in inside.style.choice; may_copy = inside.style.may_copy; before = Some run.area; count = inside.count } in
+    let now : Answering = record { walk = c.next.new.self; style = style_in inside.style; may_copy = inside.may_copy; before = Some run.area; count = inside.count } in
     let small = fits inside.walk (marked cut) run cut.width c.in_ok-run.ensures.run.0 stands.width in (
       omega (arith, c.write.ensures.some),
       omega (arith, c.write.ensures.room, small),
@@ -56,6 +56,6 @@ returns-clause-some c =
             rectangle = run.area;
             is_first = c.in_ok-run.ensures.left;
             bytes_are = c.write.ensures.written.front;
-            others = first_then inside.style.format (choice_in inside.style.choice) (shown cut) inside.style.may_copy inside.before (runs_left inside.walk (marked cut)) (runs_left c.next.new.self (marked cut)) run.area (take c.write.result c.write.new.out) c.in_ok-run.ensures.left c.write.ensures.written.front;
+            others = first_then (style_in inside.style) (shown cut) inside.may_copy inside.before (runs_left inside.walk (marked cut)) (runs_left c.next.new.self (marked cut)) run.area (take c.write.result c.write.new.out) c.in_ok-run.ensures.left c.write.ensures.written.front;
           }),
     )

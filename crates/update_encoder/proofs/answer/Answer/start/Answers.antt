@@ -2,15 +2,15 @@ use Rattle.std.proofs.Common.{◌≡◌, ℕ, ◌<◌, ◌^◌, ◌++◌, Bool, 
 use Rattle.std.specs.Prelude.{◌&&◌}
 use Rattle.raster.specs.declared.rect.Rect.{Rect}
 use Rattle.reflect_core.specs.Source.{marked}
-use Rattle.rfb_wire.specs.Message.{choice_in}
 use Rattle.rfb_wire.specs.Writing.{update_head_bytes, update_bytes}
 use Rattle.tiles.specs.Touched.{runs}
 use Rattle.tiles.specs.Walk.{Walking, runs_left}
 use Rattle.update_encoder.specs.Answer.{all_spelled}
 use Rattle.update_encoder.specs.Coming.{shown}
+use Rattle.update_encoder.specs.Style.{style_in}
 use Rattle.update_encoder.proofs.Counts.{all_left, bytes_of, few_left, is_update}
 use Rattle.update_encoder.proofs.answer.Answer.start.Goals as goal
-use Rattle.update_encoder.proofs.answer.Answer.start.Goals.{then-choice, else-choice}
+use Rattle.update_encoder.proofs.answer.Answer.start.Goals.{then-style, else-style}
 
 pub count_runs-requires-clause-few : goal.count_runs-requires-clause-few
 count_runs-requires-clause-few c =
@@ -30,11 +30,11 @@ returns-clause-bytes c =
     let rs : List Rect = runs cut.width cut.height c.args.area.now due in
     let same : runs_left c.new.result due ≡ rs = ap (λ (k : Walking). runs_left k due) c.new.ensures ∙ all_left cut.width cut.height c.args.area.now due in
     let counted : c.count_runs.result ≡ length (runs_left c.new.result due) = c.count_runs.ensures ∙ ap (λ (k : Walking). length (runs_left k due)) (c.new-2.ensures ∙ sym c.new.ensures) in
-    let may : c.if-choice.result ≡ (c.args.choice.copy && cut.all_were_sent) =
-    elim c.if-choice.branch [
-      | then-choice w ↦ w.result-is ∙ ap (λ b. b && cut.all_were_sent) (sym w.if-choice.true)
-      | else-choice w ↦ w.result-is ∙ (w.if-choice.false ∙ ap (λ b. b && cut.all_were_sent) (sym w.if-choice.false))
+    let may : c.if-style.result ≡ (c.args.style.choice.copy && cut.all_were_sent) =
+    elim c.if-style.branch [
+      | then-style w ↦ w.result-is ∙ ap (λ b. b && cut.all_were_sent) (sym w.if-style.true)
+      | else-style w ↦ w.result-is ∙ (w.if-style.false ∙ ap (λ b. b && cut.all_were_sent) (sym w.if-style.false))
     ] in
-    subst (λ b. update_head_bytes c.count_runs.result ++ bytes_of c.args.format (choice_in c.args.choice) (shown cut) b None (runs_left c.new.result due)
-    ≡ update_bytes (all_spelled c.args.format (choice_in c.args.choice) (shown cut) (c.args.choice.copy && cut.all_were_sent) None rs)) (sym may)
-    (is_update c.args.format (choice_in c.args.choice) (shown cut) (c.args.choice.copy && cut.all_were_sent) c.count_runs.result (runs_left c.new.result due) rs same counted)
+    subst (λ b. update_head_bytes c.count_runs.result ++ bytes_of (style_in c.args.style) (shown cut) b None (runs_left c.new.result due)
+    ≡ update_bytes (all_spelled (style_in c.args.style) (shown cut) (c.args.style.choice.copy && cut.all_were_sent) None rs)) (sym may)
+    (is_update (style_in c.args.style) (shown cut) (c.args.style.choice.copy && cut.all_were_sent) c.count_runs.result (runs_left c.new.result due) rs same counted)

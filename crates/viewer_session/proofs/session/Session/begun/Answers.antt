@@ -5,11 +5,12 @@ use Rattle.viewer_session.proofs.Relaying.{nothing_held}
 use Rattle.viewer_session.proofs.session.Session.begun.Goals as goal
 
 pub returns-clause-stands : goal.returns-clause-stands
-returns-clause-stands c = λ s greet ew eh b.
+returns-clause-stands c = λ s greet ew eh en b.
     record {
       serves = record {
         width = sym ew;
         height = sym eh;
+        runs = sym en;
         role = refl;
         rests = refl;
         greets = b.greets;

@@ -10,7 +10,7 @@ use Rattle.reflect_core.specs.Source.{IsCutOf}
 use Rattle.reflect_core.specs.declared.cut.Cut.{Cut}
 use Rattle.viewer_session.specs.Found.{answered_at, has_newer, rings, update_in}
 use Rattle.viewer_session.specs.Outgoing.{answer_coming, text_message}
-use Rattle.viewer_session.specs.Session.{State, CutsAt, is_greeted, hello_of}
+use Rattle.viewer_session.specs.Session.{State, CutsAt, is_greeted, hello_of, style_now}
 use Rattle.viewer_session.specs.Turn.{update_part}
 use Rattle.viewer_session.specs.contracts.session.Session.{the_view}
 use Rattle.viewer_session.proofs.Parts.{cut_within}
@@ -66,7 +66,7 @@ returns-clause-cuts g c = λ reason.
     ∙ (ap (λ (t : Cut). rings st.asked.last t.bells c.cut-2.result.now.bells) c.cut.ensures ∙ ap (λ (t : Cut). rings st.asked.last st.cut.bells t.bells) c.cut-2.ensures)) in
     let newer : text ≡ has_newer st.asked.last cut.text =
     c.news_of-news.ensures.text ∙ (ap (λ o. has_newer o c.cut-2.result.now.text) c.last_cut-last.ensures ∙ ap (λ (t : Cut). has_newer st.asked.last t.text) c.cut-2.ensures) in
-    let part : answer_coming true found cut ≡ update_part (update_in st.format st.choice cut st.asked.area) = c.answer-answer.ensures.bytes ∙ ap (λ o. update_part (update_in st.format st.choice cut o)) area_is in
+    let part : answer_coming true found cut ≡ update_part (update_in (style_now st) cut st.asked.area) = c.answer-answer.ensures.bytes ∙ ap (λ o. update_part (update_in (style_now st) cut o)) area_is in
     let cut_for : IsCutFor st cut nowhere known n =
     record {
       is = subst (λ (r : Rect). IsCutOf known n r st.have cut) (c.unwrap_or.ensures ∙ ap (λ (o : Option Rect). unwrap_or o nowhere) area_is) ok.0;
@@ -82,6 +82,6 @@ returns-clause-cuts g c = λ reason.
     (subst (λ (t : Cut). CutsAt g.S.ScreenSource.cuts c.args.source.now c.take.new.source now (record st { asked = answer.asked; have = answer.have; cut = t; piece = piece; unsent = bytes }) known least most) (sym begun)
     (turned g.S.ScreenSource.cuts c.args.source.now c.take.new.source st now known least most n cut nowhere answer.asked answer.have bell text (answer_coming true found cut) piece bytes
     c.in_ok-number.ensures.cuts c.self.view_is c.requires.ready cut_for (ok.1, ok.2) rung newer part (c.answer-answer.ensures.last ∙ c.was_cut.ensures.last)
-    (λ es a. subst (λ (o : Option Rect). AskedStands answer.asked (answered_at n (update_in st.format st.choice cut o) (WasCut n ∷ es))) area_is (c.answer-answer.ensures.asked (WasCut n ∷ es) (c.was_cut.ensures.stands es a)))
-    (λ es h. subst (λ (o : Option Rect). HaveStands answer.have (answered_at n (update_in st.format st.choice cut o) es)) area_is (c.answer-answer.ensures.have es h))
+    (λ es a. subst (λ (o : Option Rect). AskedStands answer.asked (answered_at n (update_in (style_now st) cut o) (WasCut n ∷ es))) area_is (c.answer-answer.ensures.asked (WasCut n ∷ es) (c.was_cut.ensures.stands es a)))
+    (λ es h. subst (λ (o : Option Rect). HaveStands answer.have (answered_at n (update_in (style_now st) cut o) es)) area_is (c.answer-answer.ensures.have es h))
     bytes_are))
