@@ -23,6 +23,7 @@ pub record IsPlanOf (s : Settings) (plan : Plan) : Type 0 where
   pub full_places : plan.full_places ≡ s.full_places
   pub view_places : plan.view_places ≡ s.view_places
   pub stalled : plan.stalled ≡ s.stalled
+  pub plain_runs : plan.has_plain_runs ≡ s.plain_runs
   pub log : plan.is_logged ≡ s.log
 
 -- The line of `replay`, which has no further words.

@@ -62,6 +62,7 @@ fn plan_of(settings: &Settings) -> Plan<'_>
         full_places: settings.full_places,
         view_places: settings.view_places,
         stalled: settings.stalled,
+        has_plain_runs: settings.plain_runs,
         is_logged: settings.log,
     }
 }

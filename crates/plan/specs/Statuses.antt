@@ -3,6 +3,8 @@ use Rattle.std.specs.Prelude.{ℕ, ◌≡◌, ◌≤◌, ◌⊎◌, List, Result
 use Rattle.std.specs.Option.{option_map_or}
 use Rattle.pixel_format.specs.declared.fault.Fault.{Fault}
 use Rattle.pixel_format.specs.declared.fault.Fault.TheVariants.{Memory}
+use Rattle.joined_runs.specs.declared.runs.Runs.{Runs}
+use Rattle.joined_runs.specs.declared.runs.Runs.TheVariants.{OfRows, Joined}
 use Rattle.roles.specs.declared.role.Role.{Role}
 use Rattle.roles.specs.declared.role.Role.TheVariants.{Full, View}
 use Rattle.plan.specs.declared.plan.Plan.{Plan}
@@ -27,6 +29,10 @@ port_for View plan = plan.view
 abbrev pub bind_for : Role → Plan → List ℕ
 bind_for Full plan = option_map_or (λ text. text.now) plan.full_bind plan.bind.now
 bind_for View plan = plan.bind.now
+
+-- The form in which viewers are answered: joined runs, unless the plain ones are told.
+abbrev pub runs_for : Plan → Runs
+runs_for plan = if plan.has_plain_runs then OfRows else Joined
 
 -- From 1 to 32 places for each role.
 abbrev pub HasPlaces : Plan → Type 0

@@ -9,7 +9,7 @@ mod status;
 mod turns;
 
 pub use address::address_of;
-pub use plan::{Plan, bind_of, places_of, port_of};
+pub use plan::{Plan, bind_of, places_of, port_of, runs_of};
 pub use rested::Rested;
 pub use status::status_of;
 pub use turns::Turns;

@@ -1,8 +1,9 @@
 //! What is to be served, and where.
 
 ghost use Rattle.std.specs.Prelude.{◌≡◌};
-ghost use Rattle.plan.specs.Statuses.{bind_for, places_for, port_for};
+ghost use Rattle.plan.specs.Statuses.{bind_for, places_for, port_for, runs_for};
 
+use joined_runs::Runs;
 use roles::Role;
 
 /// What `serve` is told.
@@ -30,6 +31,8 @@ pub struct Plan<'a> {
     pub view_places: u64,
     /// How many seconds a viewer may take nothing of what it is sent.
     pub stalled: u64,
+    /// Whether viewers are answered in the runs of rows, and not in joined runs.
+    pub has_plain_runs: bool,
     /// Whether a log is kept on standard error.
     pub is_logged: bool,
 }
@@ -65,5 +68,16 @@ pub fn places_of(plan: &Plan<'_>, role: Role) -> u64
         Role::Full if plan.is_view_only => 0,
         Role::Full => plan.full_places,
         Role::View => plan.view_places,
+    }
+}
+
+/// The form in which all viewers are answered, in RRE and in Hextile.
+pub fn runs_of(plan: &Plan<'_>) -> Runs
+    ensures { result ≡ runs_for plan.now }
+{
+    if plan.has_plain_runs {
+        Runs::OfRows
+    } else {
+        Runs::Joined
     }
 }

@@ -17,7 +17,7 @@ use host_turns::Hosts;
 use joined_runs::Runs;
 use link::{Link, Rest};
 use pixel_format::Fault;
-use plan::Plan;
+use plan::{Plan, runs_of};
 use reflector::{Running, run_all};
 use rfb_wire::Joined;
 use roles::Role;
@@ -75,8 +75,7 @@ where
 }
 
 /// Starts all threads, with the places that the plan says, and waits until the last host has ended. It answers what
-/// reading or joining that was answered. Viewers are answered in joined runs, which have fewer bytes. Where the first
-/// host is to be tried again, no end of a host is the last.
+/// reading or joining that was answered. Where the first host is to be tried again, no end of a host is the last.
 fn reflect<G, R>(
     rt: R,
     alloc: Global,
@@ -101,7 +100,6 @@ where
     requires again { supply.turns.again ≡ plan.now.again }
     ensures { goes_on result ≡ true → plan.now.again ≡ None }
 {
-    let _plan = plan;
     let Rooms { doors, seats } = rooms;
     let (writer, everyone) = bells(alloc, seats)?;
     over::<Brand, _, _, _, _, _, _>(
@@ -112,7 +110,7 @@ where
         met.joined,
         supply,
         doors,
-        Runs::Joined,
+        runs_of(plan),
         everyone,
         writer,
     )

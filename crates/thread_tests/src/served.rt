@@ -3,6 +3,7 @@
 
 mod early;
 mod ending;
+mod forms;
 mod host;
 mod input;
 mod journal;
