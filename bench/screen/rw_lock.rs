@@ -44,6 +44,7 @@ fn put(board: &RwLock<Board>, whole: bool, colour: u32) -> u128 {
             board.stamps[row * TILES + patch.x / 16..row * TILES + (patch.x + patch.w).div_ceil(16)].fill(number);
         }
     }
+    drop(patch);
     start.elapsed().as_nanos()
 }
 

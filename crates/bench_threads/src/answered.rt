@@ -2,7 +2,7 @@
 
 ghost use Rattle.std.specs.Prelude.{◌≡◌, ◌+◌, ◌*◌, length, IfOk};
 
-use crate::scene::{ALL, Room, TILE, cut, painted};
+use crate::scene::{ALL, Brush, Room, TILE, cut};
 use joined_runs::Runs;
 use pixel_format::{Fault, Format};
 use raster::Encoding;
@@ -58,7 +58,7 @@ impl Piece {
 /// The time of the answer, and that of a put of one tile, its cut and its answer together, if each was had.
 fn once<P: Puts, S: ScreenSource, R: Clock>(
     rt: &R,
-    alloc: Global,
+    brush: &mut Brush,
     puts: &mut P,
     source: &mut S,
     room: &mut Room,
@@ -69,7 +69,7 @@ fn once<P: Puts, S: ScreenSource, R: Clock>(
     ensures puts { (P.width puts.new ≡ 1920) × (P.height puts.new ≡ 1080) }
     ensures source { (S.width source.new ≡ 1920) × (S.height source.new ≡ 1080) }
 {
-    let patch = painted(alloc, TILE, 7).ok()?;
+    let patch = brush.painted(TILE, 7).ok()?;
     let start = Instant::now(rt).ok()?;
     let put = puts.put(patch).is_ok();
     let cut = source.cut(&ALL, &room.have, &mut room.cut).is_ok();
@@ -100,11 +100,12 @@ pub fn best<P: Puts, S: ScreenSource, R: Clock>(
     let source = sources.first_mut()?;
     let mut room = Room::new(alloc).ok()?;
     let mut piece = Piece::new(alloc).ok()?;
+    let mut brush = Brush::new(alloc).ok()?;
     cut(rt, source, &mut room)?;
     room.keep_all();
     let (mut answer, mut all) = (u128::MAX, u128::MAX);
     for _ in 0..rounds {
-        let times = once(rt, alloc, puts, source, &mut room, &mut piece)?;
+        let times = once(rt, &mut brush, puts, source, &mut room, &mut piece)?;
         answer = answer.min(times.0);
         all = all.min(times.1);
     }

@@ -3,7 +3,7 @@
 ghost use Rattle.std.specs.Prelude.{◌≡◌};
 
 use crate::calls::look_often;
-use crate::scene::{Room, TILE, cut, put};
+use crate::scene::{Brush, Room, TILE, cut, put};
 use reflect_core::{Puts, ScreenSource};
 use std::alloc::Global;
 use std::thread::{Threads, for_each_mut, join, sleep};
@@ -57,11 +57,12 @@ fn put_often<P: Puts, R: Clock>(
 ) -> Option<(u128, u128)>
     requires { (P.width puts.old ≡ 1920) × (P.height puts.old ≡ 1080) }
 {
+    let mut brush = Brush::new(alloc).ok()?;
     let (mut sum, mut longest) = (0u128, 0u128);
     for _ in 0..count {
         // So that the reader is inside a copy again.
         sleep(rt, Duration::from_millis(1));
-        let time = put(rt, alloc, puts, TILE, 9)?;
+        let time = put(rt, &mut brush, puts, TILE, 9)?;
         sum = sum.saturating_add(time);
         longest = longest.max(time);
     }

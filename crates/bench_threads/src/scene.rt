@@ -25,21 +25,38 @@ pub const TILE: Rect = Rect {
     h: 16,
 };
 
-/// One colour on a rectangle.
-pub fn painted(alloc: Global, area: Rect, colour: u32) -> Result<Patch, Fault>
-    requires { IsWithin area 1920 1080 }
-    ensures { IfOk result (λ patch. (patch.width ≡ 1920) × (patch.height ≡ 1080)) }
-{
-    let mut painter = Painter::new(alloc, 1920, 1080)?;
-    let colours = vec![in alloc; colour; (area.w * area.h) as usize]?;
-    painter.put(area, colours.as_slice());
-    painter.patch()
+/// A screen that patches are painted on, as a host's reader has one, and room for the colours of one.
+#[derive(Drop)]
+pub struct Brush {
+    painter: Painter,
+    colours: Vec<u32>,
+    pub ghost painter_is: { (painter.width ≡ 1920) × (painter.height ≡ 1080) },
 }
 
-/// The time in nanoseconds of one put of this colour on a rectangle, if it was taken. The patch was made before.
+impl Brush {
+    pub fn new(alloc: Global) -> Result<Brush, Fault> {
+        let painter = Painter::new(alloc, 1920, 1080)?;
+        let colours = Vec::with_capacity(alloc, 1920 * 1080)?;
+        Ok(Brush { painter, colours })
+    }
+
+    /// One colour on a rectangle.
+    pub fn painted(&mut self, area: Rect, colour: u32) -> Result<Patch, Fault>
+        requires { IsWithin area 1920 1080 }
+        ensures { IfOk result (λ patch. (patch.width ≡ 1920) × (patch.height ≡ 1080)) }
+    {
+        self.colours.clear();
+        self.colours.resize((area.w * area.h) as usize, colour)?;
+        self.painter.put(area, self.colours.as_slice());
+        self.painter.patch()
+    }
+}
+
+/// The time in nanoseconds of one put of this colour on a rectangle, if it was taken. The patch was made before, and its
+/// room is given back within.
 pub fn put<P: Puts, R: Clock>(
     rt: &R,
-    alloc: Global,
+    brush: &mut Brush,
     puts: &mut P,
     area: Rect,
     colour: u32,
@@ -48,7 +65,7 @@ pub fn put<P: Puts, R: Clock>(
     requires screen { (P.width puts.old ≡ 1920) × (P.height puts.old ≡ 1080) }
     ensures { (P.width puts.new ≡ 1920) × (P.height puts.new ≡ 1080) }
 {
-    let patch = painted(alloc, area, colour).ok()?;
+    let patch = brush.painted(area, colour).ok()?;
     let start = Instant::now(rt).ok()?;
     let put = puts.put(patch);
     let time = start.elapsed(rt).ok()?.as_nanos();

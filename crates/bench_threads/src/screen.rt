@@ -22,7 +22,7 @@ fn run<J: Naming + Publishes + Send + Sync, R: Threads + Wait + Clock + Sync + S
     opened: Opened<J>,
     rounds: u64,
     looks: u64,
-) -> Result<([u128; 8], [u128; 2], [u128; 5]), Fail>
+) -> Result<([u128; 9], [u128; 2], [u128; 5]), Fail>
     requires { (opened.seen.book ≡ J.book) × (1920 ≡ J.width) × (1080 ≡ J.height) }
 {
     let (mut publisher, mut watchers) = shared::<J, R>(rt, alloc, opened, 1920, 1080, PLACES)?;
