@@ -22,6 +22,10 @@ pub record IsPlanOf (s : Settings) (plan : Plan) : Type 0 where
   pub view_only : plan.is_view_only ≡ s.view_only
   pub full_places : plan.full_places ≡ s.full_places
   pub view_places : plan.view_places ≡ s.view_places
+  pub web_full : plan.web.full ≡ s.web_full
+  pub web_view : plan.web.view ≡ s.web_view
+  pub web_root : option_map (λ text. text.now) plan.web.root ≡ option_map string_bytes s.web_root
+  pub web_origins : plan.web.origins.now ≡ s.web_origins.items
   pub stalled : plan.stalled ≡ s.stalled
   pub plain_runs : plan.has_plain_runs ≡ s.plain_runs
   pub log : plan.is_logged ≡ s.log
@@ -43,8 +47,8 @@ IsAsked words Replay = words ≡ replay_line
 IsAsked words (Serve settings) = (rest : List Text) × (words ≡ codes "serve" ∷ rest) × AreSetBy rest settings
 IsAsked words (Explain bad) = IsNoTask words bad.status
 
--- What was done: a script was played, or a plan was served that says what the line sets, and ended with this status; what
--- can't be done has its own.
+-- What was done: a script was played, or a plan was served that says what the line sets, and ended with this status;
+-- what can't be done has its own.
 abbrev pub IsDone : (serves : Plan → ℕ → Type 0) → (plays : ℕ → Type 0) → Task → ℕ → Type 0
 IsDone serves plays Replay status = plays status
 IsDone serves plays (Serve settings) status = (plan : Plan) × IsPlanOf settings plan × serves plan status

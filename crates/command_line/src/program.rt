@@ -8,7 +8,7 @@ ghost use Rattle.plan.specs.Statuses.{HasPlaces, IsStatus};
 ghost use Rattle.plan.specs.declared.plan.Plan.{Plan as Told};
 
 use crate::task::{Task, task_of};
-use plan::Plan;
+use plan::{Plan, WebPlan};
 use serve::{Ports, serve};
 use settings::{BadLine, Settings};
 use std::alloc::{AllocGlobal, Global};
@@ -16,6 +16,8 @@ use std::env::Env;
 use std::io::{ErrorKind, Read, Write};
 use std::net::{Net, TcpListener, TcpStream};
 use std::process::ExitCode;
+use std::random::RandomSource;
+use std::rt::Files;
 use std::sync::Wait;
 use std::thread::Threads;
 use std::time::Clock;
@@ -63,13 +65,19 @@ fn plan_of(settings: &Settings) -> Plan<'_>
         view_places: settings.view_places,
         stalled: settings.stalled,
         has_plain_runs: settings.plain_runs,
+        web: WebPlan {
+            full: settings.web_full,
+            view: settings.web_view,
+            root: shown(&settings.web_root),
+            origins: settings.web_origins.as_slice(),
+        },
         is_logged: settings.log,
     }
 }
 
 /// Has done what these words say, which are those after the program's name, and answers the exit status: of `replay`
-/// that of playing a script, of `serve` that of serving a plan, which says of the hosts, the address, the ports, the places
-/// and the rest what the words set, and of any other line its own, 2 or 4.
+/// that of playing a script, of `serve` that of serving a plan, which says of the hosts, the address, the ports, the
+/// places and the rest what the words set, and of any other line its own, 2 or 4.
 #[tactic(auto, using(crate::proofs::Places::has_places))]
 pub fn perform<S, P, T>(alloc: Global, words: &[String], serves: S, plays: P, tells: T) -> u8
 where
@@ -100,6 +108,9 @@ where
         + Threads
         + Wait
         + Clock
+        + Files
+        + AllocGlobal
+        + RandomSource
         + Eprint
         + Copy
         + Drop
@@ -135,7 +146,9 @@ where
         + Wait
         + Clock
         + Env
+        + Files
         + AllocGlobal
+        + RandomSource
         + Eprint
         + Copy
         + Drop

@@ -1,12 +1,12 @@
 -- Where viewers are waited for, and where the hosts are.
-use Rattle.std.specs.Prelude.{◌≡◌, ◌++◌, ◌⊎◌, codes, ℕ, List}
+use Rattle.std.specs.Prelude.{◌≡◌, ◌++◌, ◌⊎◌, codes, ℕ, List, IsSomeAnd}
 use Rattle.std.specs.Net.Grammar.{IsIpText}
 use Rattle.std.specs.declared.net.ip_addr.IpAddr.{IpAddr}
 use Rattle.std.specs.Net.Socket.{IsPlainSocket, socket_ip}
 use Rattle.std.specs.declared.net.socket_addr.SocketAddr.{SocketAddr}
 use Rattle.roles.specs.declared.role.Role.{Role}
 use Rattle.plan.specs.declared.plan.Plan.{Plan}
-use Rattle.plan.specs.Statuses.{bind_for, port_for}
+use Rattle.plan.specs.Statuses.{bind_for, port_for, web_port_for}
 
 -- The text is this one in square brackets, in which an IPv6 address stands before a port (RFC 3986, section 3.2.2).
 abbrev pub IsBracketed : List ℕ → List ℕ → Type 0
@@ -21,3 +21,8 @@ IsBindText text ip = IsIpText text ip ⊎ ((inner : List ℕ) × IsBracketed tex
 pub record IsAddressFor (role : Role) (plan : Plan) (address : SocketAddr) : Type 0 where
   pub ip : IsBindText (bind_for role plan) (socket_ip address)
   pub port : IsPlainSocket address (port_for role plan)
+
+-- The address at which the browsers of a role come in: the same IP address, at a port of theirs.
+pub record IsWebAddressFor (role : Role) (plan : Plan) (address : SocketAddr) : Type 0 where
+  pub ip : IsBindText (bind_for role plan) (socket_ip address)
+  pub web_port : IsSomeAnd (web_port_for role plan) (λ port. IsPlainSocket address port)

@@ -1,5 +1,5 @@
 -- How the program ends, and how many viewers it may be told to serve.
-use Rattle.std.specs.Prelude.{ℕ, ◌≡◌, ◌≤◌, ◌⊎◌, List, Result, Ok, Err, if◌then◌else◌}
+use Rattle.std.specs.Prelude.{ℕ, ◌≡◌, ◌≤◌, ◌⊎◌, List, Option, None, Result, Ok, Err, if◌then◌else◌}
 use Rattle.std.specs.Option.{option_map_or}
 use Rattle.pixel_format.specs.declared.fault.Fault.{Fault}
 use Rattle.pixel_format.specs.declared.fault.Fault.TheVariants.{Memory}
@@ -24,6 +24,11 @@ places_for View plan = plan.view_places
 abbrev pub port_for : Role → Plan → ℕ
 port_for Full plan = plan.full
 port_for View plan = plan.view
+
+-- The port of the browsers of a role, if there is one: none with full control where all only look on.
+abbrev pub web_port_for : Role → Plan → Option ℕ
+web_port_for Full plan = if plan.is_view_only then None else plan.web.full
+web_port_for View plan = plan.web.view
 
 -- The text to bind for the viewers of a role: those with full control may have one of their own.
 abbrev pub bind_for : Role → Plan → List ℕ

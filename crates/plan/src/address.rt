@@ -1,9 +1,9 @@
 //! Where viewers come in.
 
-ghost use Rattle.std.specs.Prelude.{ℕ, List, IfOk, IfErr, MatchOption};
+ghost use Rattle.std.specs.Prelude.{◌≡◌, ℕ, List, IfOk, IfErr, MatchOption, Some};
 ghost use Rattle.std.specs.declared.net.ip_addr.IpAddr.{IpAddr as Ip};
-ghost use Rattle.plan.specs.Addresses.{IsAddressFor, IsBindText, IsBracketed};
-ghost use Rattle.plan.specs.Statuses.{bind_for};
+ghost use Rattle.plan.specs.Addresses.{IsAddressFor, IsBindText, IsBracketed, IsWebAddressFor};
+ghost use Rattle.plan.specs.Statuses.{bind_for, web_port_for};
 
 use crate::plan::{Plan, bind_of, port_of};
 use roles::Role;
@@ -40,6 +40,20 @@ pub fn address_of(plan: &Plan<'_>, role: Role) -> Result<SocketAddr, AddrParseEr
     let bind = bind_of(plan, role);
     match ip_of(bind) {
         Ok(ip) => Ok(SocketAddr::new(ip, port_of(plan, role))),
+        Err(error) => Err(error),
+    }
+}
+
+/// The address at which the browsers of a role come in, at this port of theirs. It fails where the text to bind is no
+/// IP address.
+pub fn web_address_of(plan: &Plan<'_>, role: Role, port: u16) -> Result<SocketAddr, AddrParseError>
+    requires { web_port_for role plan.now ≡ Some port }
+    ensures ok { IfOk result (λ address. IsWebAddressFor role plan.now address) }
+    ensures err { IfErr result (λ _. (ip : Ip) → ¬ (IsBindText (bind_for role plan.now) ip)) }
+{
+    let bind = bind_of(plan, role);
+    match ip_of(bind) {
+        Ok(ip) => Ok(SocketAddr::new(ip, port)),
         Err(error) => Err(error),
     }
 }

@@ -1,7 +1,7 @@
 //! What is to be served, and where.
 
 ghost use Rattle.std.specs.Prelude.{◌≡◌};
-ghost use Rattle.plan.specs.Statuses.{bind_for, places_for, port_for, runs_for};
+ghost use Rattle.plan.specs.Statuses.{bind_for, places_for, port_for, runs_for, web_port_for};
 
 use joined_runs::Runs;
 use roles::Role;
@@ -33,8 +33,34 @@ pub struct Plan<'a> {
     pub stalled: u64,
     /// Whether viewers are answered in the runs of rows, and not in joined runs.
     pub has_plain_runs: bool,
+    /// The ports for browsers, and what they are sent.
+    pub web: WebPlan<'a>,
     /// Whether a log is kept on standard error.
     pub is_logged: bool,
+}
+
+/// What browsers are told to be served by.
+#[derive(Clone, Copy, Debug)]
+pub struct WebPlan<'a> {
+    /// The port of browsers with full control, or `None` where there is none.
+    pub full: Option<u16>,
+    /// The port of browsers that only look, or `None` where there is none.
+    pub view: Option<u16>,
+    /// The folder whose files they are sent, or `None` where there is none.
+    pub root: Option<&'a str>,
+    /// The origins whose pages may connect, or none where those of the ports themselves may.
+    pub origins: &'a [String],
+}
+
+/// The port of the browsers of a role, if there is one: none with full control where all only look on.
+pub fn web_port_of(plan: &Plan<'_>, role: Role) -> Option<u16>
+    ensures { result ≡ web_port_for role plan.now }
+{
+    match role {
+        Role::Full if plan.is_view_only => None,
+        Role::Full => plan.web.full,
+        Role::View => plan.web.view,
+    }
 }
 
 /// The port of the viewers of a role.

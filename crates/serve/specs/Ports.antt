@@ -3,7 +3,7 @@ use Rattle.std.specs.Prelude.{◌≡◌, ◌⊎◌, ◌++◌, ◌∷◌, [], Lis
 use Rattle.std.specs.declared.net.socket_addr.SocketAddr.{SocketAddr}
 use Rattle.roles.specs.declared.role.Role.{Role}
 use Rattle.roles.specs.declared.role.Role.TheVariants.{Full, View}
-use Rattle.plan.specs.Addresses.{IsAddressFor}
+use Rattle.plan.specs.Addresses.{IsAddressFor, IsWebAddressFor}
 use Rattle.plan.specs.declared.plan.Plan.{Plan}
 
 -- The system was asked at this address, or not at all.
@@ -14,8 +14,21 @@ IsAskedAtMost address old new = (new ≡ old) ⊎ (new ≡ old ++ address ∷ []
 abbrev pub AsksFor : Role → Plan → List SocketAddr → List SocketAddr → Type 0
 AsksFor role plan old new = (new ≡ old) ⊎ ((address : SocketAddr) × IsAddressFor role plan address × (new ≡ old ++ address ∷ []))
 
--- It was asked at the address for viewers with full control, then at that for those who only look on, and nowhere else;
--- or it wasn't asked for one of them. For those with full control it wasn't asked where all only look on.
-abbrev pub AsksAsPlanned : Plan → List SocketAddr → List SocketAddr → Type 0
-AsksAsPlanned plan old new = (between : List SocketAddr) × AsksFor Full plan old between
+-- It was asked at the address that the plan has for the browsers of a role, or not at all. Where the plan has none it
+-- wasn't asked.
+abbrev pub AsksForWeb : Role → Plan → List SocketAddr → List SocketAddr → Type 0
+AsksForWeb role plan old new = (new ≡ old) ⊎ ((address : SocketAddr) × IsWebAddressFor role plan address × (new ≡ old ++ address ∷ []))
+
+-- It was asked at the address for viewers with full control, then at that for those who only look on; or it wasn't
+-- asked for one of them. For those with full control it wasn't asked where all only look on.
+abbrev pub AsksForViewers : Plan → List SocketAddr → List SocketAddr → Type 0
+AsksForViewers plan old new = (between : List SocketAddr) × AsksFor Full plan old between
     × (plan.is_view_only ≡ true → between ≡ old) × AsksFor View plan between new
+
+-- The same of browsers: the plan has no address for those with full control where all only look on.
+abbrev pub AsksForBrowsers : Plan → List SocketAddr → List SocketAddr → Type 0
+AsksForBrowsers plan old new = (between : List SocketAddr) × AsksForWeb Full plan old between × AsksForWeb View plan between new
+
+-- It was asked for viewers, then for browsers, and nowhere else.
+abbrev pub AsksAsPlanned : Plan → List SocketAddr → List SocketAddr → Type 0
+AsksAsPlanned plan old new = (between : List SocketAddr) × AsksForViewers plan old between × AsksForBrowsers plan between new

@@ -211,6 +211,29 @@ impl Display for Advice<'_> {
                 "there is no address for the host {}{said}; is its name right?",
                 plan.host
             ),
+            Stage::ReadOrigin(number) => match plan.web.origins.get(number) {
+                Some(origin) => write!(
+                    f,
+                    "--web-origin {origin} is no origin, such as https://lecture.example"
+                ),
+                None => Ok(()),
+            },
+            Stage::ReadRoot(why) => write!(
+                f,
+                "--web-root {}: {why}; name noVNC's folder, such as /usr/share/novnc",
+                plan.web.root.unwrap_or("")
+            ),
+            Stage::ListenWeb(role) => {
+                let (option, browsers) = match role {
+                    Role::Full => ("--web-full", "browsers with full control"),
+                    Role::View => ("--web-view", "browsers that only look on"),
+                };
+                write!(
+                    f,
+                    "can't listen on {} for {browsers}{said}; end the program that has the port, or choose another by {option}",
+                    bind_of(&plan, role)
+                )
+            }
             Stage::Connect => write!(
                 f,
                 "can't connect to the host {}{said}; is a VNC server running there, at that port?",

@@ -8,13 +8,15 @@ ghost use Rattle.serve.specs.declared.trouble.Trouble.{Trouble as Failure};
 
 use crate::advice::Advice;
 use crate::bound::Ports;
-use crate::entries::open_both;
+use crate::entries::open_all;
 use crate::journal::Journal;
 use crate::run::run;
 use crate::trouble::Trouble;
 use plan::{Plan, status_of};
-use std::alloc::Global;
+use std::alloc::{AllocGlobal, Global};
 use std::net::{Net, TcpListener, TcpStream};
+use std::random::RandomSource;
+use std::rt::Files;
 use std::sync::Wait;
 use std::thread::Threads;
 use std::time::Clock;
@@ -50,14 +52,17 @@ fn answer<R: Eprint, F: FnOnce() -> Result<(), Trouble>>(rt: &R, plan: &Plan<'_>
 /// joined. What was at fault is said on standard error: `fault N`, and a line of plain words. Where the first host is
 /// to be tried again (`again`), it is never 0.
 ///
-/// The ports that it asks the system for are added to `ports`: that of viewers with full control, and then that of those
-/// who only look on.
+/// The ports that it asks the system for are added to `ports`: that of viewers with full control, that of those who
+/// only look on, and then those of browsers.
 pub fn serve<R>(rt: R, alloc: Global, plan: &Plan<'_>, ports: &mut Ports) -> u8
 where
     R: Net<Stream = TcpStream, Listener = TcpListener>
         + Threads
         + Wait
         + Clock
+        + Files
+        + AllocGlobal
+        + RandomSource
         + Eprint
         + Copy
         + Drop
@@ -69,12 +74,12 @@ where
     ensures ended { result ≡ 0 → plan.now.again ≡ None }
 {
     let log = Journal::new(rt, alloc, plan.is_logged);
-    let opened = open_both(&rt, alloc, plan, ports, &log);
+    let opened = open_all(&rt, alloc, plan, ports, &log);
     answer(
         &rt,
         plan,
         move || -> Result<(), Trouble>
-            requires { HasPlaces plan.now × IfOk opened (λ entries. AreBoth plan.now entries.0 entries.1) }
+            requires { HasPlaces plan.now × IfOk opened (λ entrances. AreBoth plan.now entrances.full entrances.view) }
             ensures { OnOk result (plan.entry.now.again ≡ None) }
         { run(rt, alloc, plan, opened?, log) },
     )

@@ -3,6 +3,8 @@
 ghost use Rattle.std.specs.Prelude.{◌≡◌, ◌++◌, ◌∷◌, [], IfOk, OnOk};
 ghost use Rattle.serve.specs.Ports.{IsAskedAtMost};
 
+use roles::Role;
+use serving::Gate;
 use std::alloc::Global;
 use std::io;
 use std::marker::Model;
@@ -34,33 +36,46 @@ impl Ports {
     }
 }
 
-/// A listener, with the address at which the system was asked for it.
+/// A listener for the viewers of a role, with the address at which the system was asked for it.
 #[derive(Drop)]
 pub(crate) struct Bound {
-    listener: TcpListener,
+    gate: Gate,
     address: SocketAddr,
 }
 
 impl Bound {
-    /// Listens at this address. It fails where the system refuses that, or memory for the list of what was asked.
+    /// Listens at this address for the viewers of this role. It fails where the system refuses that, or memory for the
+    /// list of what was asked.
     pub(crate) fn at<R: Net<Stream = TcpStream, Listener = TcpListener>>(
         rt: &R,
         ports: &mut Ports,
         address: SocketAddr,
+        role: Role,
     ) -> io::Result<Bound>
         ensures address { IfOk result (λ bound. bound.address ≡ address) }
+        ensures role { IfOk result (λ bound. bound.gate.role ≡ role) }
         ensures ok { OnOk result (ports.new ≡ ports.old ++ address ∷ []) }
         ensures asked { IsAskedAtMost address ports.old ports.new }
     {
         ports.asked.push(address)?;
         let listener = TcpListener::bind(rt, address)?;
-        Ok(Bound { listener, address })
+        Ok(Bound {
+            gate: Gate::new(listener, role),
+            address,
+        })
     }
 
-    /// The listener.
-    pub(crate) fn listener(&self) -> &TcpListener
-        ensures { result.now ≡ self.now.listener }
+    /// The listener, with the role, for whoever owns it from now on.
+    pub(crate) fn into_gate(self) -> Gate
+        ensures { result ≡ self.gate }
     {
-        &self.listener
+        self.gate
+    }
+
+    /// The listener, with the role.
+    pub(crate) fn gate(&self) -> &Gate
+        ensures { result.now ≡ self.now.gate }
+    {
+        &self.gate
     }
 }

@@ -3,16 +3,18 @@
 ghost use Rattle.std.specs.Prelude.{◌≡◌, IfOk, true};
 ghost use Rattle.roles.specs.declared.role.Role.TheVariants.{Full};
 ghost use Rattle.serve.specs.Doors.{AreBoth, IsFullEntry};
-ghost use Rattle.serve.specs.Ports.{AsksAsPlanned, AsksFor};
+ghost use Rattle.serve.specs.Ports.{AsksAsPlanned, AsksFor, AsksForViewers};
 
 use crate::bound::Ports;
 use crate::open::{Entry, open};
 use crate::trouble::Trouble;
+use crate::web::{files_of, open_webs};
 use plan::Plan;
 use roles::Role;
-use serving::Log;
-use std::alloc::Global;
+use serving::{Log, WebEntry};
+use std::alloc::{AllocGlobal, Global};
 use std::net::{Net, TcpListener, TcpStream};
+use std::rt::Files;
 
 /// Listens for the viewers with full control, unless the plan has only those who look on.
 fn open_full<'a, R: Net<Stream = TcpStream, Listener = TcpListener>, G: Log>(
@@ -33,8 +35,8 @@ fn open_full<'a, R: Net<Stream = TcpStream, Listener = TcpListener>, G: Log>(
     Ok(Some(full))
 }
 
-/// Listens for the viewers with full control, if there are to be some, and then for those that only look on, and asks for
-/// no other port.
+/// Listens for the viewers with full control, if there are to be some, and then for those that only look on, and asks
+/// for no other port.
 #[tactic(auto, using(crate::proofs::Asking::first_alone, crate::proofs::Asking::both))]
 pub(crate) fn open_both<'a, R: Net<Stream = TcpStream, Listener = TcpListener>, G: Log>(
     rt: &R,
@@ -43,10 +45,39 @@ pub(crate) fn open_both<'a, R: Net<Stream = TcpStream, Listener = TcpListener>, 
     ports: &mut Ports,
     log: &G,
 ) -> Result<(Option<Entry<'a>>, Entry<'a>), Trouble>
-    ensures asked { AsksAsPlanned plan.now ports.old ports.new }
+    ensures asked { AsksForViewers plan.now ports.old ports.new }
     ensures both { IfOk result (λ entries. AreBoth plan.now entries.0 entries.1) }
 {
     let full = open_full(rt, alloc, plan, ports, log)?;
     let view = open(rt, alloc, plan, ports, Role::View, log)?;
     Ok((full, view))
+}
+
+/// Where all come in: viewers with full control, if there are to be some, those who only look on, and browsers.
+#[derive(Drop)]
+pub(crate) struct Entrances<'a> {
+    pub(crate) full: Option<Entry<'a>>,
+    pub(crate) view: Entry<'a>,
+    pub(crate) web: Vec<WebEntry>,
+}
+
+/// Reads the files for browsers, and then listens for all.
+#[tactic(auto, using(crate::proofs::Asking::none, crate::proofs::Asking::viewers_alone, crate::proofs::Asking::all))]
+pub(crate) fn open_all<'a, R, G>(
+    rt: &R,
+    alloc: Global,
+    plan: &Plan<'a>,
+    ports: &mut Ports,
+    log: &G,
+) -> Result<Entrances<'a>, Trouble>
+where
+    R: Net<Stream = TcpStream, Listener = TcpListener> + Files + AllocGlobal + Copy + Drop,
+    G: Log,
+    ensures asked { AsksAsPlanned plan.now ports.old ports.new }
+    ensures both { IfOk result (λ entrances. AreBoth plan.now entrances.full entrances.view) }
+{
+    let files = files_of(*rt, alloc, plan)?;
+    let (full, view) = open_both(rt, alloc, plan, ports, log)?;
+    let web = open_webs(rt, alloc, plan, ports, (&full, &view), &files, log)?;
+    Ok(Entrances { full, view, web })
 }

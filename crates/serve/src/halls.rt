@@ -3,15 +3,17 @@
 ghost use Rattle.std.specs.Prelude.{◌≡◌, IfOk};
 ghost use Rattle.raster.specs.Size.{IsScreenSize};
 
+use crate::entries::Entrances;
 use crate::meet::Met;
-use crate::open::Entry;
 use crate::supply::Supply;
 use crate::trouble::Trouble;
+use crate::web::start_web_porter;
 use crate::welcome::{Hall, start_porter};
-use serving::Log;
+use serving::{Log, Seat};
 use std::alloc::Global;
 use std::net::{Net, TcpListener, TcpStream};
-use std::sync::Wait;
+use std::random::RandomSource;
+use std::sync::{Arc, Wait};
 use std::thread::Threads;
 use std::time::Clock;
 
@@ -23,18 +25,29 @@ pub(crate) struct Halls {
 }
 
 impl Halls {
-    /// Starts the threads that let viewers in, those with full control if there are to be some.
+    /// Starts the threads that let viewers in, those with full control and browsers if there are to be some. The
+    /// threads of all places wait at these seats.
     fn start<R, G>(
         rt: R,
         alloc: Global,
-        entries: (Option<Entry<'_>>, Entry<'_>),
+        entrances: Entrances<'_>,
+        seats: Vec<Arc<Seat, Global>>,
         log: G,
     ) -> Result<Halls, Trouble>
     where
-        R: Threads + Wait + Clock + Copy + Drop + Send + 'static,
+        R: Net<Stream = TcpStream, Listener = TcpListener>
+            + Threads
+            + Wait
+            + Clock
+            + RandomSource
+            + Copy
+            + Drop
+            + Send
+            + 'static,
         G: Log + Drop + Copy + Send + 'static,
     {
-        let (full, view) = entries;
+        let Entrances { full, view, web } = entrances;
+        start_web_porter(rt, alloc, web, seats, log)?;
         let full = match full {
             Some(entry) => Some(start_porter(rt, alloc, entry, log)?),
             None => None,
@@ -61,20 +74,21 @@ impl Halls {
 }
 
 /// Nobody is let in yet.
-fn hold<R: Wait>(rt: &R, entries: &(Option<Entry<'_>>, Entry<'_>)) {
-    if let Some(full) = &entries.0 {
+fn hold<R: Wait>(rt: &R, entrances: &Entrances<'_>) {
+    if let Some(full) = &entrances.full {
         full.lobby.hold(rt, true);
     }
-    entries.1.lobby.hold(rt, true);
+    entrances.view.lobby.hold(rt, true);
 }
 
-/// Meets the first host, and lets viewers in. Where that host is tried again they are told until then that there is none
-/// yet; where it is tried once, they wait.
+/// Meets the first host, and lets viewers in. Where that host is tried again they are told until then that there is
+/// none yet; where it is tried once, they wait.
 pub(crate) fn welcome<R, G>(
     rt: R,
     alloc: Global,
     supply: &mut Supply<R, G>,
-    entries: (Option<Entry<'_>>, Entry<'_>),
+    entrances: Entrances<'_>,
+    seats: Vec<Arc<Seat, Global>>,
     log: G,
 ) -> Result<(Met<R>, Halls), Trouble>
 where
@@ -82,6 +96,7 @@ where
         + Threads
         + Wait
         + Clock
+        + RandomSource
         + Copy
         + Drop
         + Send
@@ -92,11 +107,11 @@ where
 {
     if !supply.tries_again() {
         let met = supply.first()?;
-        let halls = Halls::start(rt, alloc, entries, log)?;
+        let halls = Halls::start(rt, alloc, entrances, seats, log)?;
         return Ok((met, halls));
     }
-    hold(&rt, &entries);
-    let halls = Halls::start(rt, alloc, entries, log)?;
+    hold(&rt, &entrances);
+    let halls = Halls::start(rt, alloc, entrances, seats, log)?;
     match supply.first() {
         Ok(met) => {
             halls.open(&rt);

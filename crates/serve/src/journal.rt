@@ -4,7 +4,7 @@ use crate::quoted::Quoted;
 use jiff::Timestamp;
 use pixel_format::Fault;
 use roles::Role;
-use serving::{Doorplate, Event, Log, Parting, Visit};
+use serving::{Doorplate, Event, Log, Parting, Visit, Way};
 use std::alloc::Global;
 use std::fmt;
 use std::fmt::{Display, Formatter};
@@ -78,6 +78,21 @@ impl Display for Place {
     }
 }
 
+/// How a viewer's bytes travel, where it isn't over TCP as they are.
+#[derive(Drop)]
+struct By {
+    way: Way,
+}
+
+impl Display for By {
+    fn fmt<W: fmt::Write>(&self, f: &mut Formatter<W>) -> fmt::Result {
+        match self.way {
+            Way::Tcp => Ok(()),
+            Way::Web => f.write_str(" by=web"),
+        }
+    }
+}
+
 /// Why serving ended.
 #[derive(Drop)]
 struct Why {
@@ -101,6 +116,7 @@ fn viewer_out<W: fmt::Write>(
     f: &mut Formatter<W>,
     plate: &Doorplate,
     address: Option<SocketAddr>,
+    way: Way,
     visit: &Visit,
 ) -> fmt::Result {
     let why = Why {
@@ -109,10 +125,11 @@ fn viewer_out<W: fmt::Write>(
     };
     write!(
         f,
-        "viewer-out place={} role={} address={} seconds={} answers={} bytes={} why=\"{}\"",
+        "viewer-out place={} role={} address={}{} seconds={} answers={} bytes={} why=\"{}\"",
         plate.place,
         Name { role: plate.role },
         Place { address },
+        By { way },
         visit.served.as_secs(),
         visit.answers,
         visit.bytes,
@@ -145,10 +162,12 @@ impl Display for Line<'_> {
                 role,
                 address,
                 places,
+                way,
             } => write!(
                 f,
-                "listening role={} address={address} places={places}",
-                Name { role: *role }
+                "listening role={} address={address}{} places={places}",
+                Name { role: *role },
+                By { way: *way }
             ),
             Event::HostTried {
                 host,
@@ -166,29 +185,37 @@ impl Display for Line<'_> {
                 Place { address: *address },
                 Quoted { bytes: name }
             ),
-            Event::ViewerIn { plate, address } => write!(
+            Event::ViewerIn {
+                plate,
+                address,
+                way,
+            } => write!(
                 f,
-                "viewer-in place={} role={} address={}",
+                "viewer-in place={} role={} address={}{}",
                 plate.place,
                 Name { role: plate.role },
-                Place { address: *address }
+                Place { address: *address },
+                By { way: *way }
             ),
             Event::ViewerOut {
                 plate,
                 address,
+                way,
                 visit,
-            } => viewer_out(f, plate, *address, visit),
-            Event::NoPlace { role, address } => write!(
+            } => viewer_out(f, plate, *address, *way, visit),
+            Event::NoPlace { role, address, way } => write!(
                 f,
-                "no-place role={} address={}",
+                "no-place role={} address={}{}",
                 Name { role: *role },
-                Place { address: *address }
+                Place { address: *address },
+                By { way: *way }
             ),
-            Event::NoHost { role, address } => write!(
+            Event::NoHost { role, address, way } => write!(
                 f,
-                "no-host role={} address={}",
+                "no-host role={} address={}{}",
                 Name { role: *role },
-                Place { address: *address }
+                Place { address: *address },
+                By { way: *way }
             ),
             Event::HostOut { address, why } => {
                 let why = Why {

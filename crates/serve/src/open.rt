@@ -12,19 +12,20 @@ use crate::trouble::{Stage, Trouble};
 use pixel_format::Fault;
 use plan::{Plan, address_of, places_of};
 use roles::Role;
-use serving::{Event, Lobby, Log};
+use serving::{Event, Lobby, Log, Way};
 use std::alloc::Global;
 use std::net::{Net, TcpListener, TcpStream};
 use std::sync::Arc;
 
-/// Where the viewers of a role come in, and the lobby to which they are let. It listens at the port that the plan has for
-/// the role of that lobby.
+/// Where the viewers of a role come in, and the lobby to which they are let. It listens at the port that the plan has
+/// for the role of that lobby.
 #[derive(Drop)]
 pub(crate) struct Entry<'a> {
     pub(crate) plan: Plan<'a>,
     pub(crate) bound: Bound,
     pub(crate) lobby: Arc<Lobby, Global>,
     pub(crate) ghost port: { socket_port bound.address ≡ port_for (arc_value lobby).role plan },
+    pub(crate) ghost role: { bound.gate.role ≡ (arc_value lobby).role },
 }
 
 /// Listens for the viewers of a role, where the plan says, and tells the log where.
@@ -47,7 +48,7 @@ pub(crate) fn open<'a, R: Net<Stream = TcpStream, Listener = TcpListener>, G: Lo
     let Ok(address) = address_of(plan, role) else {
         return Err(Trouble::new(Stage::ReadBind(role), Fault::LinkFailed));
     };
-    let bound = match Bound::at(rt, ports, address) {
+    let bound = match Bound::at(rt, ports, address, role) {
         Ok(bound) => bound,
         Err(error) => return Err(Trouble::of(Stage::Listen(role), error)),
     };
@@ -61,6 +62,7 @@ pub(crate) fn open<'a, R: Net<Stream = TcpStream, Listener = TcpListener>, G: Lo
         role,
         address,
         places,
+        way: Way::Tcp,
     });
     Ok(Entry {
         plan: *plan,

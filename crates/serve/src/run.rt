@@ -6,12 +6,13 @@ ghost use Rattle.host_turns.specs.Running.{goes_on};
 ghost use Rattle.plan.specs.Statuses.{HasPlaces};
 ghost use Rattle.serve.specs.Doors.{AreAsPlanned, AreBoth};
 
+use crate::entries::Entrances;
 use crate::halls::welcome;
 use crate::host_text::texts_of;
 use crate::meet::Met;
-use crate::open::Entry;
 use crate::supply::Supply;
 use crate::trouble::{Stage, Trouble};
+use crate::web::shared;
 use crate::welcome::{Rooms, bells, rooms_of};
 use host_turns::Hosts;
 use joined_runs::Runs;
@@ -26,6 +27,7 @@ use serving::{Bell, Door, Log};
 use std::alloc::Global;
 use std::marker::Brand;
 use std::net::{Net, TcpListener, TcpStream};
+use std::random::RandomSource;
 use std::sync::{Arc, Wait};
 use std::thread::Threads;
 use std::time::Clock;
@@ -122,7 +124,7 @@ pub(crate) fn run<G, R>(
     rt: R,
     alloc: Global,
     plan: &Plan<'_>,
-    entries: (Option<Entry<'_>>, Entry<'_>),
+    entrances: Entrances<'_>,
     log: G,
 ) -> Result<(), Trouble>
 where
@@ -131,19 +133,22 @@ where
         + Threads
         + Wait
         + Clock
+        + RandomSource
         + Copy
         + Drop
         + Send
         + 'static,
     requires places { HasPlaces plan.now }
-    requires entries { AreBoth plan.now entries.0 entries.1 }
+    requires entries { AreBoth plan.now entrances.full entrances.view }
     ensures { OnOk result (plan.now.again ≡ None) }
 {
     let hosts = texts_of(alloc, plan)?;
-    let (full, view) = entries;
-    let rooms = rooms_of(rt, alloc, plan, &full, &view, log)?;
+    let rooms = rooms_of(rt, alloc, plan, &entrances.full, &entrances.view, log)?;
+    let Ok(seats) = shared(alloc, rooms.seats.as_slice()) else {
+        return Err(Trouble::new(Stage::Start, Fault::Memory));
+    };
     let mut supply = Supply::new(rt, log, hosts, plan.again);
-    let (met, halls) = welcome(rt, alloc, &mut supply, (full, view), log)?;
+    let (met, halls) = welcome(rt, alloc, &mut supply, entrances, seats, log)?;
     let why = reflect(rt, alloc, plan, supply, met, rooms);
     halls.close(&rt);
     match why {

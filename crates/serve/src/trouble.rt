@@ -4,6 +4,7 @@ use pixel_format::Fault;
 use roles::Role;
 use std::io;
 use std::io::ErrorKind;
+use web_root::RootFault;
 
 /// What was being done.
 #[derive(Clone, Copy, Debug, PartialEq, Eq)]
@@ -12,6 +13,12 @@ pub(crate) enum Stage {
     ReadBind(Role),
     /// Listening for viewers of a role.
     Listen(Role),
+    /// Reading this one of the origins.
+    ReadOrigin(usize),
+    /// Reading the files for browsers.
+    ReadRoot(RootFault),
+    /// Listening for browsers of a role.
+    ListenWeb(Role),
     /// Reading the first host's address.
     ReadHost,
     /// Reading the address of this one of the further hosts.

@@ -178,13 +178,15 @@ where
         bound,
         lobby,
     } = entry;
-    let address = bound.listener().local_addr();
+    let address = bound.gate().listener().local_addr();
     let Ok(theirs) = Arc::try_clone(&lobby) else {
         return Err(Trouble::new(Stage::Start, Fault::Memory));
     };
     let started = Builder::new().stack_size(STACK).spawn(
         &rt,
-        move || keep_door(&rt, bound.listener(), &theirs, &log),
+        move ||
+            requires { bound.gate.role ≡ (arc_value theirs).role }
+        { keep_door(&rt, bound.gate(), &theirs, &log) },
     );
     match started {
         Ok(_porter) => Ok(Hall { lobby, address }),

@@ -3,3 +3,4 @@ pub mod Doors
 pub mod Keeping
 pub mod Hello
 pub mod Wires
+pub mod Browsers

@@ -1,5 +1,6 @@
 //! What happens at the doors and at the host, for whoever keeps a log of it.
 
+use crate::gate::Way;
 use pixel_format::Fault;
 use roles::Role;
 use std::alloc::Global;
@@ -55,6 +56,7 @@ pub enum Event<'a> {
         role: Role,
         address: SocketAddr,
         places: u64,
+        way: Way,
     },
     /// A host was to be connected to, which the system did or, with this error, did not. The address is missing where
     /// the system had none for the name in the host's text.
@@ -74,22 +76,26 @@ pub enum Event<'a> {
     ViewerIn {
         plate: Doorplate,
         address: Option<SocketAddr>,
+        way: Way,
     },
     /// It has left.
     ViewerOut {
         plate: Doorplate,
         address: Option<SocketAddr>,
+        way: Way,
         visit: Visit,
     },
     /// One was refused, since all places were taken.
     NoPlace {
         role: Role,
         address: Option<SocketAddr>,
+        way: Way,
     },
     /// One was refused, since there is no host yet.
     NoHost {
         role: Role,
         address: Option<SocketAddr>,
+        way: Way,
     },
     /// The host has ended, or is at fault, or wasn't joined.
     HostOut {

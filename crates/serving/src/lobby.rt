@@ -5,29 +5,27 @@ ghost use Rattle.serving.specs.Doors.{role_behind};
 
 use crate::door::Door;
 use crate::event::{Doorplate, Event, Log, Visit};
-use crate::refusal::{no_host_bytes, refusal_bytes};
+use crate::gate::{Arrival, Gate, Way};
+use crate::refused::{Lack, Refused};
 use crate::seat::Seat;
 use crate::tcp::TcpLink;
+use crate::web::BrowserLink;
+use link::Link;
 use pixel_format::Fault;
 use roles::Role;
 use std::alloc::{AllocError, Global};
-use std::io::Write;
-use std::net::{SocketAddr, TcpListener, TcpStream};
+use std::net::SocketAddr;
 use std::sync::{Arc, Condvar, Mutex, Wait};
-use std::thread;
-use std::time::{Clock, Duration, Instant};
-
-/// For how long one who finds no place is kept before he is told so, in milliseconds. A place whose viewer has just
-/// left is free by then. Those who come within as long of one who was kept in vain are told at once: they came while he
-/// was kept, or nearly so.
-const PATIENCE_MILLIS: u64 = 50;
+use std::time::{Clock, Duration};
+use std::{io, thread};
+use web_link::AnyLink;
 
 /// For how long nobody is let in after the system refused to, in milliseconds: it may have no descriptor left.
 const PAUSE_MILLIS: u64 = 100;
 
 #[derive(Drop)]
 struct Waiting {
-    streams: Vec<TcpStream>,
+    arrivals: Vec<Arrival>,
     // How many places have no viewer, and none on the way.
     free: u64,
     // How many places there are.
@@ -39,10 +37,9 @@ struct Waiting {
 
 /// What became of one who came.
 #[derive(Drop)]
-enum Entrance {
+pub(crate) enum Entrance {
     Placed,
-    Full(TcpStream),
-    Early(TcpStream),
+    Refused(Arrival, Lack),
     Closed,
 }
 
@@ -67,7 +64,7 @@ impl Lobby {
             role,
             stalled,
             waiting: Mutex::new(Waiting {
-                streams: Vec::with_capacity(alloc, places as usize)?,
+                arrivals: Vec::with_capacity(alloc, places as usize)?,
                 free: places,
                 places,
                 is_held: false,
@@ -96,8 +93,8 @@ impl Lobby {
         let mut guard = self.waiting.lock(rt);
         let waiting = &mut *guard;
         waiting.is_closed = true;
-        let on_their_way = waiting.streams.len() as u64;
-        waiting.streams.clear();
+        let on_their_way = waiting.arrivals.len() as u64;
+        waiting.arrivals.clear();
         waiting.free = waiting.free.saturating_add(on_their_way);
         self.came.notify_all();
         self.freed.notify_all();
@@ -115,8 +112,15 @@ impl Lobby {
         drop(guard);
     }
 
-    /// Hands the stream to a place that is free, or becomes so in this time, or gives it back.
-    fn enter<R: Wait + Clock>(&self, rt: &R, stream: TcpStream, patience: Duration) -> Entrance {
+    /// Hands one who came by a gate of its role to a place that is free, or becomes so in this time, or gives him back.
+    pub(crate) fn enter<R: Wait + Clock>(
+        &self,
+        rt: &R,
+        arrival: Arrival,
+        patience: Duration,
+    ) -> Entrance
+        requires { arrival.role ≡ self.now.role }
+    {
         let guard = self.waiting.lock(rt);
         let (mut guard, _) = self
             .freed
@@ -128,12 +132,12 @@ impl Lobby {
             return Entrance::Closed;
         }
         if waiting.is_held {
-            return Entrance::Early(stream);
+            return Entrance::Refused(arrival, Lack::Host);
         }
         if waiting.free == 0 {
-            return Entrance::Full(stream);
+            return Entrance::Refused(arrival, Lack::Place);
         }
-        if waiting.streams.push(stream).is_ok() {
+        if waiting.arrivals.push(arrival).is_ok() {
             waiting.free -= 1;
             self.came.notify_one();
         }
@@ -148,19 +152,19 @@ impl Lobby {
     }
 
     /// Waits for a viewer, whoever came first. None where no more come.
-    fn leave<R: Wait>(&self, rt: &R) -> Option<TcpStream> {
+    fn leave<R: Wait>(&self, rt: &R) -> Option<Arrival> {
         let guard = self.waiting.lock(rt);
         let mut guard = self.came.wait_while(rt, guard, |waiting| {
-            waiting.streams.is_empty() && !waiting.is_closed
+            waiting.arrivals.is_empty() && !waiting.is_closed
         });
         let waiting = &mut *guard;
-        if waiting.is_closed || waiting.streams.is_empty() {
+        if waiting.is_closed || waiting.arrivals.is_empty() {
             return None;
         }
-        Some(waiting.streams.remove(0))
+        Some(waiting.arrivals.remove(0))
     }
 
-    fn is_closed<R: Wait>(&self, rt: &R) -> bool {
+    pub(crate) fn is_closed<R: Wait>(&self, rt: &R) -> bool {
         self.waiting.lock(rt).is_closed
     }
 }
@@ -178,8 +182,9 @@ pub struct TcpDoor<R: Wait + Clock + Drop, G: Log + Drop> {
     log: G,
     // A viewer was let in of whom the lobby hasn't been told that he is gone.
     has_served: bool,
-    // Where he came from, if the system told.
+    // Where he came from, if the system told, and how his bytes travel.
     address: Option<SocketAddr>,
+    way: Way,
 }
 
 impl<R: Wait + Clock + Drop, G: Log + Drop> TcpDoor<R, G> {
@@ -203,6 +208,7 @@ impl<R: Wait + Clock + Drop, G: Log + Drop> TcpDoor<R, G> {
             log,
             has_served: false,
             address: None,
+            way: Way::Tcp,
         }
     }
 
@@ -217,11 +223,69 @@ impl<R: Wait + Clock + Drop, G: Log + Drop> TcpDoor<R, G> {
     }
 }
 
+/// A viewer's link: over TCP as it is, or a browser's.
+pub type ViewerLink<R> = AnyLink<TcpLink<R>, BrowserLink<R>>;
+
+/// The connection below a viewer's link.
+fn connection_of<R: Wait + Clock + Drop>(viewer: &ViewerLink<R>) -> &TcpLink<R> {
+    match viewer {
+        AnyLink::Plain(link) => link,
+        AnyLink::Web(link) => link.connection(),
+    }
+}
+
+impl<R: Wait + Clock + Drop + Copy, G: Log + Drop> TcpDoor<R, G> {
+    ghost use Rattle.std.specs.Prelude.{◌≡◌, IfOk, IfSome};
+    ghost use Rattle.serving.specs.Answers.{unused};
+    ghost use Rattle.serving.specs.Browsers.{viewer_state};
+    ghost use Rattle.serving.specs.Doors.{role_behind};
+
+    /// The link of one who came by a gate of the door's role.
+    fn link(&self, arrival: Arrival) -> io::Result<ViewerLink<R>>
+        requires { arrival.role ≡ role_behind self.now }
+        ensures { IfOk result (λ link. viewer_state link ≡ unused) }
+    {
+        let way = arrival.way();
+        let link = TcpLink::new(
+            self.rt,
+            self.alloc,
+            arrival.into_stream(),
+            &self.seat,
+            self.lobby.stalled,
+        )?;
+        match way {
+            Way::Tcp => Ok(AnyLink::Plain(link)),
+            Way::Web => Ok(AnyLink::Web(BrowserLink::new(self.rt, self.alloc, link)?)),
+        }
+    }
+
+    /// Receives one who comes: his link, unless it can't be made, or he came by another role's gate. The lobby takes in
+    /// no such one, but its lock can't keep that for the proof.
+    fn receive(&mut self, arrival: Arrival) -> Option<ViewerLink<R>>
+        ensures { IfSome result (λ link. viewer_state link ≡ unused) }
+    {
+        let plate = self.plate();
+        self.has_served = true;
+        self.address = arrival.address();
+        self.way = arrival.way();
+        if arrival.role() != plate.role {
+            return None;
+        }
+        let link = self.link(arrival).ok()?;
+        self.log.tell(&Event::ViewerIn {
+            plate,
+            address: self.address,
+            way: self.way,
+        });
+        Some(link)
+    }
+}
+
 impl<R: Wait + Clock + Drop + Copy + Send, G: Log + Drop + Send> Door for TcpDoor<R, G> {
     ghost use Rattle.std.specs.Prelude.{◌≡◌, ⊤};
     ghost use Rattle.serving.specs.Doors.{role_behind};
 
-    type Viewer = TcpLink<R>;
+    type Viewer = ViewerLink<R>;
 
     ghost is_for = { λ door role. role ≡ role_behind door };
 
@@ -231,22 +295,15 @@ impl<R: Wait + Clock + Drop + Copy + Send, G: Log + Drop + Send> Door for TcpDoo
     ghost sees_off = { λ _ _ _ _. ⊤ };
 
     /// A viewer whose link can't be made is let go, and the next one waited for.
-    fn next(&mut self) -> Option<TcpLink<R>> {
-        let plate = self.plate();
-        for _ in self.rt.forever() {
+    fn next(&mut self) -> Option<ViewerLink<R>> {
+        let rt = self.rt;
+        for _ in rt.forever() {
             if self.has_served {
-                self.lobby.free(&self.rt);
+                self.lobby.free(&rt);
                 self.has_served = false;
             }
-            let stream = self.lobby.leave(&self.rt)?;
-            self.has_served = true;
-            self.address = stream.peer_addr().ok();
-            let stalled = self.lobby.stalled;
-            if let Ok(link) = TcpLink::new(self.rt, self.alloc, stream, &self.seat, stalled) {
-                self.log.tell(&Event::ViewerIn {
-                    plate,
-                    address: self.address,
-                });
+            let arrival = self.lobby.leave(&rt)?;
+            if let Some(link) = self.receive(arrival) {
                 return Some(link);
             }
         }
@@ -254,19 +311,23 @@ impl<R: Wait + Clock + Drop + Copy + Send, G: Log + Drop + Send> Door for TcpDoo
     }
 
     /// The connection is closed before the place is free.
-    fn left(&mut self, viewer: TcpLink<R>, answers: u64, why: Result<(), Fault>) {
+    fn left(&mut self, mut viewer: ViewerLink<R>, answers: u64, why: Result<(), Fault>) {
+        // A browser's close frame is answered.
+        viewer.flush();
+        let connection = connection_of(&viewer);
         let visit = Visit {
             why,
-            parting: viewer.parting(),
-            served: viewer.age(),
+            parting: connection.parting(),
+            served: connection.age(),
             answers,
-            bytes: viewer.sent(),
+            bytes: connection.sent(),
         };
         drop(viewer);
         let plate = self.plate();
         self.log.tell(&Event::ViewerOut {
             plate,
             address: self.address,
+            way: self.way,
             visit,
         });
         if self.has_served {
@@ -276,56 +337,25 @@ impl<R: Wait + Clock + Drop + Copy + Send, G: Log + Drop + Send> Door for TcpDoo
     }
 }
 
-/// For how long one who comes now is kept, where one was kept in vain until then.
-fn patience_after<R: Clock>(rt: &R, in_vain: Option<Instant>) -> Duration {
-    let patience = Duration::from_millis(PATIENCE_MILLIS);
-    match in_vain {
-        None => patience,
-        Some(until) => match until.elapsed(rt) {
-            Ok(passed) if passed < patience => Duration::ZERO,
-            _ => patience,
-        },
-    }
-}
-
-/// Lets viewers in while places are free, and tells the others, and the log, why not. The last of these stays open until
-/// the next comes, so that its text isn't lost. It ends with the first who comes once the lobby is closed.
-pub fn keep_door<R: Wait + Clock, G: Log>(rt: &R, listener: &TcpListener, lobby: &Lobby, log: &G) {
-    let mut last: Option<TcpStream> = None;
-    let mut in_vain: Option<Instant> = None;
-    for stream in listener.incoming() {
-        let Ok(stream) = stream else {
+/// Lets viewers in while places are free and there is a host, and tells the others, and the log, why not. It ends with
+/// the first who comes once the lobby is closed.
+pub fn keep_door<R: Wait + Clock, G: Log>(rt: &R, gate: &Gate, lobby: &Lobby, log: &G)
+    requires { gate.now.role ≡ lobby.now.role }
+{
+    let mut refused = Refused::new();
+    for _ in rt.forever() {
+        let Ok(arrival) = gate.accept() else {
             if lobby.is_closed(rt) {
                 break;
             }
             thread::sleep(rt, Duration::from_millis(PAUSE_MILLIS));
             continue;
         };
-        let patience = patience_after(rt, in_vain);
-        match lobby.enter(rt, stream, patience) {
+        let patience = refused.patience(rt);
+        match lobby.enter(rt, arrival, patience) {
             Entrance::Placed => {}
-            Entrance::Full(refused) => {
-                if !patience.is_zero() {
-                    in_vain = Instant::now(rt).ok();
-                }
-                // A peer that is gone already needs no reason.
-                let _ = (&refused).write(&refusal_bytes());
-                log.tell(&Event::NoPlace {
-                    role: lobby.role(),
-                    address: refused.peer_addr().ok(),
-                });
-                last = Some(refused);
-            }
-            Entrance::Early(refused) => {
-                let _ = (&refused).write(&no_host_bytes());
-                log.tell(&Event::NoHost {
-                    role: lobby.role(),
-                    address: refused.peer_addr().ok(),
-                });
-                last = Some(refused);
-            }
+            Entrance::Refused(arrival, lack) => refused.refuse(rt, arrival, lack, patience, log),
             Entrance::Closed => break,
         }
     }
-    drop(last);
 }

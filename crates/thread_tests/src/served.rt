@@ -14,6 +14,7 @@ mod names;
 mod options;
 mod room;
 mod scene;
+mod system;
 mod turns;
 mod updates;
 mod viewer;

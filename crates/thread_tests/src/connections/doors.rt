@@ -1,9 +1,11 @@
 //! Viewers who come in, are turned away, and leave.
 
+ghost use Rattle.std.specs.Prelude.{◌≡◌};
+
 use crate::connections::sockets::{connect, listen, make_seat};
 use link::{Gave, Link, Took};
 use roles::Role;
-use serving::{Door, Lobby, NoLog, TcpDoor, keep_door};
+use serving::{Door, Gate, Lobby, NoLog, TcpDoor, keep_door};
 use std::io::Read;
 use std::net::{TcpListener, TcpStream};
 use std::sync::{Arc, Wait};
@@ -70,15 +72,10 @@ fn visits(rt: &HostRuntime, listener: &TcpListener) -> io::Result<bool> {
 }
 
 /// Whether the visits are right. Then the lobby is closed, which whoever keeps the door sees as the next one comes.
-fn visits_and_closes<R: Wait>(
-    rt: &R,
-    net: &HostRuntime,
-    listener: &TcpListener,
-    lobby: &Lobby,
-) -> bool {
-    let right = visits(net, listener).unwrap_or(false);
+fn visits_and_closes<R: Wait>(rt: &R, net: &HostRuntime, gate: &Gate, lobby: &Lobby) -> bool {
+    let right = visits(net, gate.listener()).unwrap_or(false);
     lobby.close(rt);
-    let last = connect(net, listener);
+    let last = connect(net, gate.listener());
     right && last.is_ok()
 }
 
@@ -86,35 +83,39 @@ fn visits_and_closes<R: Wait>(
 fn serves<R: Threads + Wait + Clock + Send + Sync, D: Door + Send>(
     rt: &R,
     net: &HostRuntime,
-    listener: &TcpListener,
+    gate: &Gate,
     lobby: &Lobby,
     door: &mut D,
-) -> (u64, bool) {
+) -> (u64, bool)
+    requires { gate.now.role ≡ lobby.now.role }
+{
     let ((came, ()), right) = thread::join(
         rt,
         || thread::join(
             rt,
             || greets(door),
-            || keep_door(rt, listener, lobby, &NoLog),
+            ||
+                requires { gate.now.role ≡ lobby.now.role }
+            { keep_door(rt, gate, lobby, &NoLog) },
         ),
-        || visits_and_closes(rt, net, listener, lobby),
+        || visits_and_closes(rt, net, gate, lobby),
     );
     (came, right)
 }
 
-/// The same of a new lobby of one place. A listener that doesn't wait has nobody at most times, so that the system often
-/// lets nobody in.
+/// The same of a new lobby of one place. A listener that doesn't wait has nobody at most times, so that the system
+/// often lets nobody in.
 fn opens<R: Threads + Wait + Clock + Copy + Drop + Send + Sync>(
     rt: R,
     net: &HostRuntime,
 ) -> io::Result<(u64, bool)> {
-    let listener = listen(net)?;
-    listener.set_nonblocking(true)?;
+    let gate = Gate::new(listen(net)?, Role::Full);
+    gate.listener().set_nonblocking(true)?;
     let seat = make_seat(net)?;
     let lobby = Arc::new(net.alloc(), Lobby::new(net.alloc(), Role::Full, 1, 60)?)?;
     let shared = Arc::try_clone(&lobby)?;
     let mut door = TcpDoor::new(rt, net.alloc(), shared, seat, 1, NoLog);
-    Ok(serves(&rt, net, &listener, &lobby, &mut door))
+    Ok(serves(&rt, net, &gate, &lobby, &mut door))
 }
 
 #[test]

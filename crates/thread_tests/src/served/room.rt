@@ -38,10 +38,11 @@ pub(crate) struct Room {
 /// The name of a machine whose address the room has. Each other name is the system's.
 const DESK: &str = "desk";
 
-/// A runtime whose standard error stands in a room, and whose clock the room puts forward. The name `desk` moves with it.
+/// A runtime whose standard error stands in a room, and whose clock the room puts forward. The name `desk` moves with
+/// it.
 #[derive(Clone, Copy, Drop)]
 pub(crate) struct Ear<R: Drop> {
-    rt: R,
+    pub(crate) rt: R,
     pub(crate) alloc: Global,
     pub(crate) room: &'static Room,
 }

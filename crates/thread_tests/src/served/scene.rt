@@ -10,6 +10,8 @@ use command_line::run_words;
 use roles::Role;
 use std::alloc::{AllocError, Global};
 use std::net::{Net, TcpListener, TcpStream};
+use std::random::RandomSource;
+use std::rt::Files;
 use std::sync::Wait;
 use std::test::*;
 use std::thread::Threads;
@@ -168,6 +170,8 @@ where
         + Threads
         + Wait
         + Clock
+        + Files
+        + RandomSource
         + Copy
         + Drop
         + Send
@@ -199,6 +203,8 @@ where
         + Threads
         + Wait
         + Clock
+        + Files
+        + RandomSource
         + Copy
         + Drop
         + Send
@@ -243,6 +249,8 @@ where
         + Threads
         + Wait
         + Clock
+        + Files
+        + RandomSource
         + Copy
         + Drop
         + Send

@@ -1,0 +1,175 @@
+//! A browser, as far as a port sees it: requests, and a WebSocket's frames (RFC 6455). Frames are spelled by hand.
+
+use crate::loopback::{connect, hears};
+use std::alloc::Global;
+use std::io;
+use std::io::{Read, Write};
+use std::net::TcpStream;
+
+/// The answer to the key of `request` (RFC 6455, section 1.3).
+const ACCEPT: &str = "sec-websocket-accept: s3pPLMBiTxaQ9kYGzzhZRbK+xOo=\r\n";
+
+/// The mask of a client's frames (RFC 6455, section 5.7).
+const MASK: [u8; 4] = [0x37, 0xFA, 0x21, 0x3D];
+
+/// A head of an answer has at most this many bytes.
+const MOST_HEAD: usize = 4_096;
+
+/// A message of a client has at most this many bytes here, so that its length is one byte (RFC 6455, section 5.2).
+const MOST_SAID: usize = 125;
+
+/// A WebSocket that was opened.
+#[derive(Drop)]
+pub(crate) struct Browser {
+    stream: TcpStream,
+    // So many bytes are left of the message that is read.
+    left: usize,
+}
+
+/// What a page asks that opens a WebSocket at this host, with the standard's key.
+fn request(alloc: Global, host: &str, origin: &str) -> io::Result<String> {
+    Ok(format!(in alloc;
+        "GET /websockify HTTP/1.1\r\nHost: {host}\r\nUpgrade: websocket\r\nConnection: keep-alive, Upgrade\r\nOrigin: {origin}\r\nSec-WebSocket-Key: dGhlIHNhbXBsZSBub25jZQ==\r\nSec-WebSocket-Version: 13\r\n\r\n"
+    )?)
+}
+
+/// The head of the answer that comes next.
+fn head(alloc: Global, stream: &mut TcpStream) -> io::Result<Vec<u8>> {
+    let mut head = Vec::new(alloc);
+    for _ in 0..MOST_HEAD {
+        let mut one = [0u8; 1];
+        stream.read_exact(&mut one)?;
+        head.push(one[0])?;
+        if head.as_slice().ends_with(b"\r\n\r\n") {
+            break;
+        }
+    }
+    Ok(head)
+}
+
+/// Whether a head has this line.
+fn has(head: &[u8], line: &str) -> bool {
+    head.windows(line.len()).any(|part| part == line.as_bytes())
+}
+
+/// The head of the answer to one who asks for a path, and the beginning of the body.
+pub(crate) fn is_told(
+    net: &HostRuntime,
+    port: u16,
+    path: &str,
+    status: &[u8],
+    body: &[u8],
+) -> io::Result<bool> {
+    let alloc = net.alloc();
+    let mut stream = connect(net, port)?;
+    let request = format!(in alloc; "GET {path} HTTP/1.1\r\nHost: 127.0.0.1:{port}\r\n\r\n")?;
+    stream.write_all(request.as_bytes())?;
+    let head = head(alloc, &mut stream)?;
+    Ok(head.as_slice().starts_with(status) && hears(&mut stream, body)?)
+}
+
+/// Whether one who opens a WebSocket at this host, from a page of this origin, is told this status.
+pub(crate) fn is_answered(
+    net: &HostRuntime,
+    port: u16,
+    host: &str,
+    origin: &str,
+    status: &[u8],
+) -> io::Result<bool> {
+    let mut stream = connect(net, port)?;
+    stream.write_all(request(net.alloc(), host, origin)?.as_bytes())?;
+    let head = head(net.alloc(), &mut stream)?;
+    Ok(head.as_slice().starts_with(status))
+}
+
+impl Browser {
+    /// Opens a WebSocket from a page of the port's own. None where the port doesn't answer the key.
+    pub(crate) fn open(net: &HostRuntime, port: u16) -> io::Result<Option<Browser>> {
+        let alloc = net.alloc();
+        let mut stream = connect(net, port)?;
+        let host = format!(in alloc; "127.0.0.1:{port}")?;
+        let origin = format!(in alloc; "http://127.0.0.1:{port}")?;
+        stream.write_all(request(alloc, host.as_str(), origin.as_str())?.as_bytes())?;
+        let head = head(alloc, &mut stream)?;
+        if head.as_slice().starts_with(b"HTTP/1.1 101 ") && has(head.as_slice(), ACCEPT) {
+            Ok(Some(Browser { stream, left: 0 }))
+        } else {
+            Ok(None)
+        }
+    }
+
+    /// The connection.
+    pub(crate) fn stream(&mut self) -> &mut TcpStream {
+        &mut self.stream
+    }
+
+    /// Sends the first of these bytes, up to `MOST_SAID`, in a binary message.
+    pub(crate) fn say(&mut self, bytes: &[u8]) -> io::Result<()> {
+        let mut frame = [0u8; 6 + MOST_SAID];
+        let mut len = 0;
+        for byte in bytes.iter().take(MOST_SAID) {
+            frame[6 + len] = *byte ^ MASK[len % 4];
+            len += 1;
+        }
+        let [a, b, c, d] = MASK;
+        for (at, byte) in [0x82, 0x80 | len as u8, a, b, c, d].iter().enumerate() {
+            frame[at] = *byte;
+        }
+        let (frame, _) = frame.split_at(6 + len);
+        self.stream.write_all(frame)
+    }
+
+    /// Reads the head of the next frame. Whether it is that of a whole binary message, without a mask, of at most
+    /// 65,535 bytes.
+    fn begin(&mut self) -> io::Result<bool> {
+        let mut head = [0u8; 2];
+        self.stream.read_exact(&mut head)?;
+        let [first, len] = head;
+        self.left = usize::from(len);
+        if len == 126 {
+            let mut len = [0u8; 2];
+            self.stream.read_exact(&mut len)?;
+            self.left = usize::from(u16::from_be_bytes(len));
+        }
+        Ok(first == 0x82 && len <= 126)
+    }
+
+    /// The next byte of a message.
+    fn next(&mut self) -> io::Result<Option<u8>> {
+        if self.left == 0 && !self.begin()? {
+            return Ok(None);
+        }
+        let mut one = [0u8; 1];
+        self.stream.read_exact(&mut one)?;
+        self.left = self.left.saturating_sub(1);
+        Ok(Some(one[0]))
+    }
+
+    /// Whether these bytes come next, in messages.
+    pub(crate) fn hears(&mut self, wanted: &[u8]) -> io::Result<bool> {
+        for byte in wanted {
+            if self.next()? != Some(*byte) {
+                return Ok(false);
+            }
+        }
+        Ok(true)
+    }
+
+    /// The next eight bytes, in messages.
+    pub(crate) fn pixels(&mut self) -> io::Result<Option<[u8; 8]>> {
+        let mut pixels = [0u8; 8];
+        for pixel in &mut pixels {
+            match self.next()? {
+                Some(byte) => *pixel = byte,
+                None => return Ok(None),
+            }
+        }
+        Ok(Some(pixels))
+    }
+
+    /// Whether nothing more comes: the connection has ended.
+    pub(crate) fn is_let_go(&mut self) -> io::Result<bool> {
+        let mut more = [0u8; 1];
+        Ok(self.stream.read(&mut more)? == 0)
+    }
+}

@@ -1,0 +1,43 @@
+//! A host of a screen of 2 by 1, which is told one key and then ends.
+
+use crate::loopback::{accept, hears};
+use std::io;
+use std::io::{Read, Write};
+use std::net::TcpListener;
+
+/// The screen is 2 by 1, of 32 bits a pixel, named T (RFC 6143, 7.3.2 and 7.4).
+pub(crate) const INIT: &[u8] =
+    b"\0\x02\0\x01\x20\x18\0\x01\0\xFF\0\xFF\0\xFF\x10\x08\0\0\0\0\0\0\0\x01T";
+
+/// One update of 2 by 1, Raw: red and blue (RFC 6143, 7.6.1 and 7.7.1). A viewer of the same format that asks for the
+/// whole screen is answered so, too.
+pub(crate) const UPDATE: &[u8] = b"\0\0\0\x01\0\0\0\0\0\x02\0\x01\0\0\0\0\0\0\xFF\0\xFF\0\0\0";
+
+/// The key a goes down and up (RFC 6143, 7.5.4).
+pub(crate) const KEY: &[u8] = b"\x04\x01\0\0\0\0\0\x61\x04\0\0\0\0\0\0\x61";
+
+/// What a client gives that joins: its format, its four encodings, and a request of the whole screen (RFC 6143, 7.5.1
+/// to 7.5.3).
+const ASKED: &[u8] = b"\0\0\0\0\x20\x18\0\x01\0\xFF\0\xFF\0\xFF\x10\x08\0\0\0\0\
+      \x02\0\0\x04\0\0\0\x01\0\0\0\x05\0\0\0\x02\0\0\0\0\
+      \x03\0\0\0\0\0\0\x02\0\x01";
+
+/// What it asks for once an update was put: what is new of the whole screen.
+const ASKED_ANEW: &[u8] = b"\x03\x01\0\0\0\0\0\x02\0\x01";
+
+/// Whether the next who connects joins as a client has to, asks anew after the update, and then tells this key and
+/// nothing before it. The connection ends then.
+pub(crate) fn is_told_a_key(listener: &TcpListener) -> io::Result<bool> {
+    let mut stream = accept(listener)?;
+    stream.write_all(b"RFB 003.008\n")?;
+    let is_version = hears(&mut stream, b"RFB 003.008\n")?;
+    stream.write_all(b"\x01\x01")?;
+    let is_none = hears(&mut stream, b"\x01")?;
+    stream.write_all(b"\0\0\0\0")?;
+    let mut shared = [0u8; 1];
+    stream.read_exact(&mut shared)?;
+    stream.write_all(INIT)?;
+    let is_asked = is_version && is_none && hears(&mut stream, ASKED)?;
+    stream.write_all(UPDATE)?;
+    Ok(is_asked && hears(&mut stream, ASKED_ANEW)? && hears(&mut stream, KEY)?)
+}

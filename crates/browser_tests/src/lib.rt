@@ -1,0 +1,14 @@
+//! Tests of what browsers are told: of the web ports of `serving`, and of `serve` behind them, over loopback alone.
+//! They stand in a crate of their own so that what they try is proved once.
+#![tactic(auto)]
+
+#[cfg(test)]
+mod browser;
+#[cfg(test)]
+mod host;
+#[cfg(test)]
+mod loopback;
+#[cfg(test)]
+mod ports;
+#[cfg(test)]
+mod served;

@@ -1,0 +1,186 @@
+//! A web port before one place: files, strangers, one for whom there is no place, and one who follows on another.
+
+use crate::browser::{Browser, is_answered, is_told};
+use crate::loopback::{hears, listen};
+use bytes::Bytes;
+use link::{Gave, Link, Took};
+use roles::Role;
+use serving::{Door, Gate, Lobby, NoLog, Seat, TcpDoor, WebEntry, keep_web_doors};
+use std::alloc::Global;
+use std::hash::RandomState;
+use std::io::ErrorKind;
+use std::net::{Net, SocketAddr};
+use std::sync::{Arc, Wait};
+use std::test::*;
+use std::thread::Threads;
+use std::time::Clock;
+use std::{io, thread};
+use web_door::{Admission, FileTable, Site};
+
+/// A file, and its path.
+const FILE: &[u8] = b"let a;";
+
+const PATH: &str = "/app/ui.js";
+
+/// What one is told for whom there is no place: a message of 12 bytes, the version; one of 25, no type of security and
+/// a reason of 20 bytes; and a close frame with 1013, try again later (RFC 6143, 7.1.1 and 7.1.2; RFC 6455, 5.2 and
+/// 5.5.1).
+const REFUSAL: &[u8] =
+    b"\x82\x0CRFB 003.008\n\x82\x19\0\0\0\0\x14all places are taken\x88\x02\x03\xF5";
+
+/// The same to one who comes before there is a host, a message of 16 bytes.
+const EARLY: &[u8] = b"\x82\x0CRFB 003.008\n\x82\x10\0\0\0\0\x0Bno host yet\x88\x02\x03\xF5";
+
+/// So many find the place not yet free that was left.
+const TRIES: u64 = 1_000;
+
+/// Greets each viewer with a byte and then serves it until it ends. It answers how many came.
+fn greets<D: Door>(door: &mut D) -> u64 {
+    let mut into = [0u8; 64];
+    for count in 0..1_000u64 {
+        let Some(mut link) = door.next() else {
+            return count;
+        };
+        if link.give(b"R") != Gave::Bytes(1) {
+            return u64::MAX;
+        }
+        for _ in 0..1_000 {
+            if !matches!(link.take(&mut into), Took::Nothing | Took::Bytes(_)) {
+                break;
+            }
+        }
+        door.left(link, 0, Ok(()));
+    }
+    u64::MAX
+}
+
+/// What the port answers at this address.
+fn site(alloc: Global, address: SocketAddr) -> io::Result<Arc<Site, Global>> {
+    let mut files = FileTable::new(alloc);
+    if files
+        .add(String::from_str(alloc, PATH)?, Bytes::from_static(FILE))
+        .is_err()
+    {
+        return Err(io::Error::from(ErrorKind::OutOfMemory));
+    }
+    let mut hosts = Vec::new(alloc);
+    hosts.push(format!(in alloc; "{address}")?)?;
+    let mut origins = Vec::new(alloc);
+    origins.push(format!(in alloc; "http://{address}")?)?;
+    let site = Site::new(alloc, files, Admission { hosts, origins }, false)?;
+    Ok(Arc::new(alloc, site)?)
+}
+
+/// Whether a file is given, and nobody else's page is let in, nor one who comes to another host.
+fn asks(net: &HostRuntime, port: u16) -> io::Result<bool> {
+    let alloc = net.alloc();
+    let own = format!(in alloc; "127.0.0.1:{port}")?;
+    let origin = format!(in alloc; "http://127.0.0.1:{port}")?;
+    let is_given = is_told(net, port, PATH, b"HTTP/1.1 200 ", FILE)?;
+    let is_none = is_told(net, port, "/app/../app/ui.js", b"HTTP/1.1 404 ", b"")?;
+    let stranger = "https://stranger.example";
+    let is_stranger = is_answered(net, port, own.as_str(), stranger, b"HTTP/1.1 403 ")?;
+    let is_elsewhere = is_answered(
+        net,
+        port,
+        "stranger.example",
+        origin.as_str(),
+        b"HTTP/1.1 403 ",
+    )?;
+    Ok(is_given && is_none && is_stranger && is_elsewhere)
+}
+
+/// Whether one who comes is told these bytes once a WebSocket is opened.
+fn is_refused(net: &HostRuntime, port: u16, refusal: &[u8]) -> io::Result<bool> {
+    match Browser::open(net, port)? {
+        Some(mut browser) => hears(browser.stream(), refusal),
+        None => Ok(false),
+    }
+}
+
+/// Whether one who comes finds the place.
+fn is_let_in(net: &HostRuntime, port: u16) -> io::Result<bool> {
+    match Browser::open(net, port)? {
+        Some(mut browser) => hears(browser.stream(), b"\x82\x01R"),
+        None => Ok(false),
+    }
+}
+
+/// One comes in, a second is told why not, while files are given, and once the first has left there is a place again.
+fn visits(net: &HostRuntime, port: u16) -> io::Result<bool> {
+    let Some(mut first) = Browser::open(net, port)? else {
+        return Ok(false);
+    };
+    let is_greeted = first.hears(b"R")?;
+    let is_right = is_greeted && asks(net, port)? && is_refused(net, port, REFUSAL)?;
+    drop(first);
+    if !is_right {
+        return Ok(false);
+    }
+    for _ in 0..TRIES {
+        if is_let_in(net, port)? {
+            return Ok(true);
+        }
+    }
+    Ok(false)
+}
+
+/// Whether all is right: before there is a host, and then. The lobby is closed at the end.
+fn comes<R: Wait>(rt: &R, net: &HostRuntime, port: u16, lobby: &Lobby) -> bool {
+    let is_early = asks(net, port).unwrap_or(false)
+        && is_refused(net, port, EARLY).unwrap_or(false);
+    lobby.hold(rt, false);
+    let is_right = visits(net, port).unwrap_or(false);
+    lobby.close(rt);
+    is_early && is_right
+}
+
+/// How many came to the door while the port was kept, and whether each was told what it should be.
+fn serves<R: Net + Threads + Wait + Clock + Send + Sync, D: Door + Send>(
+    rt: &R,
+    net: &HostRuntime,
+    entry: WebEntry,
+    lobby: &Lobby,
+    port: u16,
+    door: &mut D,
+) -> io::Result<(u64, bool)> {
+    let alloc = net.alloc();
+    let keys = RandomState::new(net)?;
+    let mut entries = Vec::new(alloc);
+    entries.push(entry)?;
+    let seats: [Arc<Seat, Global>; 0] = [];
+    let ((came, kept), right) = thread::join(
+        rt,
+        || thread::join(
+            rt,
+            || greets(door),
+            move || keep_web_doors(rt, alloc, entries, &seats, keys, &NoLog),
+        ),
+        || comes(rt, net, port, lobby),
+    );
+    kept?;
+    Ok((came, right))
+}
+
+/// The same of a new lobby of one place, which nobody is let to yet.
+fn opens<R: Net + Threads + Wait + Clock + Copy + Drop + Send + Sync>(
+    rt: R,
+    net: &HostRuntime,
+) -> io::Result<(u64, bool)> {
+    let alloc = net.alloc();
+    let gate = Gate::new(listen(net)?, Role::Full);
+    let address = gate.listener().local_addr()?;
+    let lobby = Arc::new(alloc, Lobby::new(alloc, Role::Full, 1, 60)?)?;
+    lobby.hold(&rt, true);
+    let entry = WebEntry::new(gate, site(alloc, address)?, Arc::try_clone(&lobby)?)?;
+    let seat = Arc::new(alloc, Seat::new(net, alloc)?)?;
+    let shared = Arc::try_clone(&lobby)?;
+    let mut door = TcpDoor::new(rt, alloc, shared, seat, 1, NoLog);
+    serves(&rt, net, entry, &lobby, address.port(), &mut door)
+}
+
+#[test]
+fn web_port_answers_requests_and_lets_in(rt: HostRuntime) -> Result<(), Fail> {
+    assert_eq!(rt; opens(rt, &rt)?, (2, true));
+    Ok(())
+}

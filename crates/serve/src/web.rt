@@ -1,0 +1,219 @@
+//! The ports for browsers.
+
+ghost use Rattle.roles.specs.declared.role.Role.TheVariants.{Full};
+ghost use Rattle.serve.specs.Doors.{AreBoth, IsEntryFor, IsFullEntry};
+ghost use Rattle.serve.specs.Ports.{AsksForBrowsers, AsksForWeb};
+
+use crate::bound::{Bound, Ports};
+use crate::open::Entry;
+use crate::origins::{admission_of, first_bad};
+use crate::trouble::{Stage, Trouble};
+use pixel_format::Fault;
+use plan::{Plan, places_of, web_address_of, web_port_of};
+use roles::Role;
+use serving::{Event, Log, Seat, Way, WebEntry, keep_web_doors};
+use std::alloc::{AllocError, AllocGlobal, Global};
+use std::hash::RandomState;
+use std::net::{Net, SocketAddr, TcpListener, TcpStream};
+use std::random::RandomSource;
+use std::rt::Files;
+use std::sync::{Arc, Wait};
+use std::thread::{Builder, Threads};
+use std::time::Clock;
+use web_door::{FileTable, Site};
+use web_root::{RootFault, SystemDisk, read_all};
+
+/// The bytes of the stack of whoever keeps the web ports.
+const STACK: usize = 1_048_576;
+
+/// The files that browsers are sent, which are read here, once. An origin that is none is found out here, too.
+pub(crate) fn files_of<R: Files + AllocGlobal + Copy + Drop>(
+    rt: R,
+    alloc: Global,
+    plan: &Plan<'_>,
+) -> Result<FileTable, Trouble> {
+    if let Some(number) = first_bad(plan.web.origins) {
+        return Err(Trouble::new(Stage::ReadOrigin(number), Fault::LinkFailed));
+    }
+    let Some(root) = plan.web.root else {
+        return Ok(FileTable::new(alloc));
+    };
+    match read_all(alloc, &SystemDisk::new(rt, root)) {
+        Ok(files) => Ok(files),
+        Err(RootFault::Memory) => Err(Trouble::new(Stage::Start, Fault::Memory)),
+        Err(fault) => Err(Trouble::new(Stage::ReadRoot(fault), Fault::LinkFailed)),
+    }
+}
+
+/// The same files; their bytes are shared.
+fn copy_of(alloc: Global, files: &FileTable) -> Result<FileTable, AllocError> {
+    let mut copy = FileTable::new(alloc);
+    for file in files.files() {
+        let path = String::from_str(alloc, file.path.as_str())?;
+        if copy.add(path, file.body.clone()?).is_err() {
+            return Err(AllocError);
+        }
+    }
+    Ok(copy)
+}
+
+/// What the web port of a role answers at this address.
+fn site_of(
+    alloc: Global,
+    plan: &Plan<'_>,
+    role: Role,
+    address: SocketAddr,
+    files: &FileTable,
+) -> Result<Arc<Site, Global>, AllocError> {
+    let admission = admission_of(alloc, address, plan.web.origins)?;
+    let files = copy_of(alloc, files)?;
+    let site = Site::new(alloc, files, admission, role == Role::View)?;
+    Ok(Arc::new(alloc, site)?)
+}
+
+/// Listens for the browsers of a role whose entry this is, if the plan has a port for them, and tells the log where.
+#[tactic(auto, using(crate::proofs::Asking::asks_for_web))]
+fn open_web<R: Net<Stream = TcpStream, Listener = TcpListener>, G: Log>(
+    rt: &R,
+    alloc: Global,
+    plan: &Plan<'_>,
+    ports: &mut Ports,
+    role: Role,
+    entry: &Entry<'_>,
+    files: &FileTable,
+    log: &G,
+) -> Result<Option<WebEntry>, Trouble>
+    requires { IsEntryFor role plan.now entry.now }
+    ensures { AsksForWeb role plan.now ports.old ports.new }
+{
+    let Some(port) = web_port_of(plan, role) else {
+        return Ok(None);
+    };
+    let Ok(address) = web_address_of(plan, role, port) else {
+        return Err(Trouble::new(Stage::ReadBind(role), Fault::LinkFailed));
+    };
+    let Ok(site) = site_of(alloc, plan, role, address, files) else {
+        return Err(Trouble::new(Stage::Start, Fault::Memory));
+    };
+    let Ok(lobby) = Arc::try_clone(&entry.lobby) else {
+        return Err(Trouble::new(Stage::Start, Fault::Memory));
+    };
+    let bound = match Bound::at(rt, ports, address, role) {
+        Ok(bound) => bound,
+        Err(error) => return Err(Trouble::of(Stage::ListenWeb(role), error)),
+    };
+    match WebEntry::new(bound.into_gate(), site, lobby) {
+        Ok(web) => {
+            let places = places_of(plan, role);
+            log.tell(&Event::Listening {
+                role,
+                address,
+                places,
+                way: Way::Web,
+            });
+            Ok(Some(web))
+        }
+        Err(error) => Err(Trouble::of(Stage::ListenWeb(role), error)),
+    }
+}
+
+/// Adds a web port, if there is one.
+fn add(ports: &mut Vec<WebEntry>, port: Option<WebEntry>) -> Result<(), Trouble> {
+    let Some(port) = port else {
+        return Ok(());
+    };
+    match ports.push(port) {
+        Ok(()) => Ok(()),
+        Err(_) => Err(Trouble::new(Stage::Start, Fault::Memory)),
+    }
+}
+
+/// The web port of those with full control, if they have an entry.
+fn open_full_web<R: Net<Stream = TcpStream, Listener = TcpListener>, G: Log>(
+    rt: &R,
+    alloc: Global,
+    plan: &Plan<'_>,
+    ports: &mut Ports,
+    full: &Option<Entry<'_>>,
+    files: &FileTable,
+    log: &G,
+) -> Result<Option<WebEntry>, Trouble>
+    requires { IsFullEntry plan.now full.now }
+    ensures { AsksForWeb Full plan.now ports.old ports.new }
+{
+    match full {
+        Some(entry) => open_web(rt, alloc, plan, ports, Role::Full, entry, files, log),
+        None => Ok(None),
+    }
+}
+
+/// Listens for the browsers with full control, and then for those that only look on, where the plan has ports for them.
+#[tactic(auto, using(crate::proofs::Asking::first_web_alone, crate::proofs::Asking::both_webs))]
+pub(crate) fn open_webs<R: Net<Stream = TcpStream, Listener = TcpListener>, G: Log>(
+    rt: &R,
+    alloc: Global,
+    plan: &Plan<'_>,
+    ports: &mut Ports,
+    entries: (&Option<Entry<'_>>, &Entry<'_>),
+    files: &FileTable,
+    log: &G,
+) -> Result<Vec<WebEntry>, Trouble>
+    requires { AreBoth plan.now entries.0.now entries.1.now }
+    ensures { AsksForBrowsers plan.now ports.old ports.new }
+{
+    let (full, view) = entries;
+    let mut web = Vec::new(alloc);
+    let entry = open_full_web(rt, alloc, plan, ports, full, files, log)?;
+    add(&mut web, entry)?;
+    let entry = open_web(rt, alloc, plan, ports, Role::View, view, files, log)?;
+    add(&mut web, entry)?;
+    Ok(web)
+}
+
+/// The same seats.
+pub(crate) fn shared(
+    alloc: Global,
+    seats: &[Arc<Seat, Global>],
+) -> Result<Vec<Arc<Seat, Global>>, AllocError> {
+    let mut shared = Vec::new(alloc);
+    for seat in seats {
+        shared.push(Arc::try_clone(seat)?)?;
+    }
+    Ok(shared)
+}
+
+/// Starts the thread that lets browsers in, if there are ports for them.
+pub(crate) fn start_web_porter<R, G>(
+    rt: R,
+    alloc: Global,
+    entries: Vec<WebEntry>,
+    seats: Vec<Arc<Seat, Global>>,
+    log: G,
+) -> Result<(), Trouble>
+where
+    R: Net<Stream = TcpStream, Listener = TcpListener>
+        + Threads
+        + Wait
+        + Clock
+        + RandomSource
+        + Copy
+        + Drop
+        + Send
+        + 'static,
+    G: Log + Drop + Send + 'static,
+{
+    if entries.is_empty() {
+        return Ok(());
+    }
+    let keys = match RandomState::new(&rt) {
+        Ok(keys) => keys,
+        Err(error) => return Err(Trouble::of(Stage::Start, error)),
+    };
+    let started = Builder::new().stack_size(STACK).spawn(&rt, move || {
+        let _ = keep_web_doors(&rt, alloc, entries, seats.as_slice(), keys, &log);
+    });
+    match started {
+        Ok(_porter) => Ok(()),
+        Err(error) => Err(Trouble::of(Stage::Start, error)),
+    }
+}
