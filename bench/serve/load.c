@@ -1,4 +1,4 @@
-/* load [-s] [-c] [-o] PORT WIDTH HEIGHT MODE SECONDS ENCODING SEED
+/* load [-s] [-c] [-o] [-w] PORT WIDTH HEIGHT MODE SECONDS ENCODING SEED
  *
  * A VNC host at 127.0.0.1:PORT and viewers of what reflects it, in one process with one clock. MODE:
  *   small     64 by 64 pixels of noise at 16 places, 30 to 50 ms apart
@@ -16,6 +16,7 @@
  * -s: halfway one viewer stops reading. -c: at the end the host rests, and pictures are compared. -o: all viewers paint
  * on one screen, so that many large ones fit into memory, and each comes once the one before has a picture, or half a
  * second after it.
+ * -w: the viewers speak over WebSockets.
  * The script begins when every viewer has its first picture. It ends by itself 90 seconds after SECONDS at the latest.
  */
 #include "load.h"
@@ -37,7 +38,7 @@ volatile uint32_t last_update;
 volatile int measuring, stopping, begun, painting = 1;
 
 static struct viewer viewers[MOST_VIEWERS];
-static int viewer_count, group_count, with_stall, with_comparison, on_one;
+static int viewer_count, group_count, with_stall, with_comparison, on_one, over_web;
 static double seconds;
 
 /* What was counted in the measured time. */
@@ -76,6 +77,7 @@ static void add_viewer(int port, int group, int encoding)
     viewer->port = port;
     viewer->group = group;
     viewer->encoding = encoding;
+    viewer->is_web = over_web;
     viewer->screen = on_one && viewer != viewers ? viewers[0].screen : calloc((size_t)script.width * script.height, 4);
     viewer->input = malloc(INPUT_BYTES);
     viewer->times_room = 1 << 20;
@@ -224,6 +226,7 @@ int main(int count, char **words)
         with_stall |= words[1][1] == 's';
         with_comparison |= words[1][1] == 'c';
         on_one |= words[1][1] == 'o';
+        over_web |= words[1][1] == 'w';
     }
     if (count != 8) return 2;
     prctl(PR_SET_PDEATHSIG, SIGKILL);

@@ -34,7 +34,8 @@ struct host {
 };
 
 struct viewer {
-    int link, port, group, encoding, shifts[3];
+    int link, port, group, encoding, shifts[3], is_web;
+    uint64_t left; /* of the message that is read, over a WebSocket */
     uint32_t *screen, seen[MOST_PLACES];
     uint8_t *input;
     size_t at, have;
@@ -65,6 +66,8 @@ uint32_t read_32(const uint8_t *at);
 uint32_t spell(const int *shifts, uint32_t color);
 uint32_t unspell(const int *shifts, uint32_t pixel);
 int fetch(struct viewer *viewer, void *bytes, size_t count);
+int tell(struct viewer *viewer, const void *bytes, size_t count);
+int open_web(struct viewer *viewer);
 
 int choose_script(const char *mode, int width, int height);
 void *run_host(void *unused);

@@ -133,17 +133,18 @@ static int reach(struct viewer *viewer)
     viewer->link = socket(AF_INET, SOCK_STREAM, 0);
     setsockopt(viewer->link, SOL_SOCKET, SO_RCVTIMEO, &longest, sizeof longest);
     setsockopt(viewer->link, IPPROTO_TCP, TCP_NODELAY, &one, sizeof one);
-    return connect(viewer->link, (void *)&to, sizeof to);
+    if (connect(viewer->link, (void *)&to, sizeof to)) return -1;
+    return viewer->is_web ? open_web(viewer) : 0;
 }
 
 static int shake_hands(struct viewer *viewer)
 {
     uint8_t b[64];
-    if (fetch(viewer, b, 12) || deliver(viewer->link, "RFB 003.008\n", 12) || fetch(viewer, b, 1)) return -1;
+    if (fetch(viewer, b, 12) || tell(viewer, "RFB 003.008\n", 12) || fetch(viewer, b, 1)) return -1;
     int types = b[0];
     if (!types || types > 60 || fetch(viewer, b, types)) return -1;
-    if (deliver(viewer->link, "\1", 1) || fetch(viewer, b, 4) || read_32(b)) return -1;
-    if (deliver(viewer->link, "\1", 1) || fetch(viewer, b, 24)) return -1;
+    if (tell(viewer, "\1", 1) || fetch(viewer, b, 4) || read_32(b)) return -1;
+    if (tell(viewer, "\1", 1) || fetch(viewer, b, 24)) return -1;
     if (read_16(b) != script.width || read_16(b + 2) != script.height || b[4] != 32 || b[6])
         return fault(viewer, "another size or format than the host's");
     for (int k = 0; k < 3; k++) viewer->shifts[k] = b[14 + k];
@@ -152,7 +153,7 @@ static int shake_hands(struct viewer *viewer)
     uint8_t encodings[12] = {2, 0, 0, 2};
     write_32(encodings + 4, viewer->encoding);
     write_32(encodings + 8, COPY_RECT);
-    return deliver(viewer->link, encodings, 12);
+    return tell(viewer, encodings, 12);
 }
 
 static int ask(struct viewer *viewer, int incremental)
@@ -160,7 +161,7 @@ static int ask(struct viewer *viewer, int incremental)
     uint8_t b[10] = {3, incremental};
     write_16(b + 6, script.width);
     write_16(b + 8, script.height);
-    return deliver(viewer->link, b, 10);
+    return tell(viewer, b, 10);
 }
 
 /* Notes each number that it hadn't seen yet, and how long the update took from the host to here. */

@@ -1,6 +1,7 @@
 /* Bytes, pixels, the clock and lots. */
 #include "load.h"
 #include <errno.h>
+#include <stdio.h>
 #include <string.h>
 #include <sys/socket.h>
 #include <time.h>
@@ -62,7 +63,7 @@ int deliver(int link, const void *bytes, size_t count)
 }
 
 /* As `receive`, through the viewer's buffer; long runs go past it. */
-int fetch(struct viewer *viewer, void *bytes, size_t count)
+static int fetch_raw(struct viewer *viewer, void *bytes, size_t count)
 {
     char *at = bytes;
     while (count) {
@@ -87,6 +88,70 @@ int fetch(struct viewer *viewer, void *bytes, size_t count)
             viewer->at = 0;
             viewer->have = got;
         }
+    }
+    return 0;
+}
+
+/* The head of the next binary message of a WebSocket (RFC 6455, 5.2). A ping, which has no payload here, is passed over:
+ * a run is shorter than a server waits for its pong. */
+static int begin_message(struct viewer *viewer)
+{
+    uint8_t b[8];
+    do {
+        if (fetch_raw(viewer, b, 2)) return -1;
+        int kind = b[0], size = b[1];
+        if (size == 126) {
+            if (fetch_raw(viewer, b, 2)) return -1;
+            viewer->left = read_16(b);
+        } else if (size == 127) {
+            if (fetch_raw(viewer, b, 8)) return -1;
+            viewer->left = (uint64_t)read_32(b) << 32 | read_32(b + 4);
+        } else {
+            viewer->left = size;
+        }
+        if (kind != 0x82 && !(kind == 0x89 && !viewer->left)) return -1;
+    } while (!viewer->left);
+    return 0;
+}
+
+/* The next bytes of the protocol, over TCP or in messages. */
+int fetch(struct viewer *viewer, void *bytes, size_t count)
+{
+    char *at = bytes;
+    if (!viewer->is_web) return fetch_raw(viewer, bytes, count);
+    while (count) {
+        if (!viewer->left && begin_message(viewer)) return -1;
+        size_t part = viewer->left < count ? viewer->left : count;
+        if (fetch_raw(viewer, at, part)) return -1;
+        viewer->left -= part;
+        at += part;
+        count -= part;
+    }
+    return 0;
+}
+
+/* Up to 125 bytes, over TCP or in a message, whose mask is of no moment here. */
+int tell(struct viewer *viewer, const void *bytes, size_t count)
+{
+    uint8_t frame[131] = {0x82, 0x80 | count};
+    if (!viewer->is_web) return deliver(viewer->link, bytes, count);
+    if (count > 125) return -1;
+    memcpy(frame + 6, bytes, count);
+    return deliver(viewer->link, frame, count + 6);
+}
+
+/* The opening handshake (RFC 6455, 4.1), whose key is of no moment here. */
+int open_web(struct viewer *viewer)
+{
+    char text[512], end[4] = {0};
+    int length = snprintf(text, sizeof text,
+                          "GET /websockify HTTP/1.1\r\nHost: 127.0.0.1:%d\r\nUpgrade: websocket\r\nConnection: Upgrade\r\n"
+                          "Sec-WebSocket-Key: dGhlIHNhbXBsZSBub25jZQ==\r\nSec-WebSocket-Version: 13\r\n"
+                          "Sec-WebSocket-Protocol: binary\r\n\r\n", viewer->port);
+    if (deliver(viewer->link, text, length) || fetch_raw(viewer, text, 12) || memcmp(text + 9, "101", 3)) return -1;
+    while (memcmp(end, "\r\n\r\n", 4)) {
+        memmove(end, end + 1, 3);
+        if (fetch_raw(viewer, end + 3, 1)) return -1;
     }
     return 0;
 }
