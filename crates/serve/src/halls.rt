@@ -1,6 +1,6 @@
 //! Where viewers come in, from the first to the last.
 
-ghost use Rattle.std.specs.Prelude.{◌≡◌, IfOk};
+ghost use Rattle.std.specs.Prelude.{◌≡◌, IfOk, false};
 ghost use Rattle.raster.specs.Size.{IsScreenSize};
 
 use crate::entries::Entrances;
@@ -103,6 +103,7 @@ where
         + 'static,
     G: Log + Drop + Copy + Send + 'static,
     ensures size { IfOk result (λ both. IsScreenSize both.0.joined.w both.0.joined.h) }
+    ensures untimed { IfOk result (λ both. (both.0.reader.has_deadline ≡ false) × (both.0.writer.has_deadline ≡ false)) }
     ensures again { supply.new.turns.again ≡ supply.old.turns.again }
 {
     if !supply.tries_again() {

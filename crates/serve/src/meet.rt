@@ -1,6 +1,6 @@
 //! Meeting hosts.
 
-ghost use Rattle.std.specs.Prelude.{IfOk};
+ghost use Rattle.std.specs.Prelude.{◌≡◌, IfOk, false};
 ghost use Rattle.raster.specs.Size.{IsScreenSize};
 
 use crate::trouble::{Stage, Trouble};
@@ -31,7 +31,9 @@ pub(crate) struct Met<R: Clock + Drop> {
 fn connect<R: Net<Stream = TcpStream> + Clock + Copy + Drop>(
     rt: R,
     address: &SocketAddr,
-) -> io::Result<(JoiningLink<R>, JoiningLink<R>)> {
+) -> io::Result<(JoiningLink<R>, JoiningLink<R>)>
+    ensures { IfOk result (λ ends. ends.1.has_deadline ≡ false) }
+{
     let patience = Duration::from_secs(CONNECT_SECONDS);
     let stream = TcpStream::connect_timeout(&rt, address, patience)?;
     let (reader, writer) = HostLink::pair(stream)?;
@@ -69,7 +71,9 @@ impl Missed {
 pub(crate) fn connect_by_text<R: Net<Stream = TcpStream> + Clock + Copy + Drop>(
     rt: R,
     host: &str,
-) -> Result<Reached<R>, Missed> {
+) -> Result<Reached<R>, Missed>
+    ensures { IfOk result (λ reached. reached.writer.has_deadline ≡ false) }
+{
     let addresses = match host.to_socket_addrs(&rt) {
         Ok(addresses) => addresses,
         Err(error) => {
@@ -103,12 +107,14 @@ pub(crate) fn connect_by_text<R: Net<Stream = TcpStream> + Clock + Copy + Drop>(
     Err(missed)
 }
 
-/// Joins the host of this number, which was reached.
+/// Joins the host of this number, which was reached. Its links have no deadline then.
 #[tactic(auto, using(crate::proofs::Sizes::is_screen))]
 pub(crate) fn join<R>(rt: &R, number: usize, reached: Reached<R>) -> Result<Met<R>, Trouble>
 where
     R: Net<Stream = TcpStream> + Wait + Clock + Copy + Drop,
-    ensures { IfOk result (λ met. IsScreenSize met.joined.w met.joined.h) }
+    requires { reached.writer.has_deadline ≡ false }
+    ensures size { IfOk result (λ met. IsScreenSize met.joined.w met.joined.h) }
+    ensures untimed { IfOk result (λ met. (met.reader.has_deadline ≡ false) × (met.writer.has_deadline ≡ false)) }
 {
     let Reached {
         address: _,

@@ -1,6 +1,6 @@
 //! A run, from its first port to its end.
 
-ghost use Rattle.std.specs.Prelude.{◌≡◌, ◌≤◌, true, None, All, OnOk, length};
+ghost use Rattle.std.specs.Prelude.{◌≡◌, ◌≤◌, true, false, None, All, OnOk, length};
 ghost use Rattle.raster.specs.Size.{IsScreenSize};
 ghost use Rattle.host_turns.specs.Running.{goes_on};
 ghost use Rattle.plan.specs.Statuses.{HasPlaces};
@@ -77,7 +77,8 @@ where
 }
 
 /// Starts all threads, with the places that the plan says, and waits until the last host has ended. It answers what
-/// reading or joining that was answered. Where the first host is to be tried again, no end of a host is the last.
+/// reading or joining that was answered. Where the first host is to be tried again, no end of a host is the last. The
+/// first host's links have no deadline: a run of them would end ten seconds after it began.
 fn reflect<G, R>(
     rt: R,
     alloc: Global,
@@ -97,6 +98,7 @@ where
         + Send
         + 'static,
     requires size { IsScreenSize met.joined.w met.joined.h }
+    requires untimed { (met.reader.has_deadline ≡ false) × (met.writer.has_deadline ≡ false) }
     requires places { HasPlaces plan.now }
     requires doors { AreAsPlanned plan.now rooms.doors.items }
     requires again { supply.turns.again ≡ plan.now.again }

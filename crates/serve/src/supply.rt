@@ -1,6 +1,6 @@
 //! The hosts that follow on one that has ended.
 
-ghost use Rattle.std.specs.Prelude.{◌≡◌, ◌-◌, ◌≤◌, ⊤, IfOk, IsNone, None, is_some, length};
+ghost use Rattle.std.specs.Prelude.{◌≡◌, ◌-◌, ◌≤◌, ⊤, IfOk, IsNone, None, false, is_some, length};
 ghost use Rattle.plan.specs.Turns.{turn_of};
 
 use crate::meet::{Met, Missed, Reached, connect_by_text, join};
@@ -70,6 +70,7 @@ impl<
     /// so that only want of memory and a screen that can't be shown are errors.
     pub(crate) fn first(&mut self) -> Result<Met<R>, Trouble>
         ensures size { IfOk result (λ met. IsScreenSize met.joined.w met.joined.h) }
+        ensures untimed { IfOk result (λ met. (met.reader.has_deadline ≡ false) × (met.writer.has_deadline ≡ false)) }
         ensures again { self.new.turns.again ≡ self.old.turns.again }
     {
         let rt = self.rt;
@@ -93,6 +94,7 @@ impl<
     /// Meets the host of this number.
     fn meet(&mut self, number: usize) -> Result<Met<R>, Trouble>
         ensures size { IfOk result (λ met. IsScreenSize met.joined.w met.joined.h) }
+        ensures untimed { IfOk result (λ met. (met.reader.has_deadline ≡ false) × (met.writer.has_deadline ≡ false)) }
         ensures again { self.new.turns.again ≡ self.old.turns.again }
     {
         let reached = match self.reach(number) {
@@ -113,6 +115,7 @@ impl<
 
     /// Tries to connect to the host of this number, whose turn it is, and tells the log how the try ended.
     fn reach(&mut self, number: usize) -> Result<Reached<R>, Missed>
+        ensures untimed { IfOk result (λ reached. reached.writer.has_deadline ≡ false) }
         ensures turns { self.new.turns ≡ self.old.turns }
         ensures texts { self.new.texts ≡ self.old.texts }
     {
@@ -183,6 +186,9 @@ impl<
     R: Net<Stream = TcpStream, Listener = TcpListener> + Wait + Clock + Copy + Drop,
     G: Log + Drop,
 > Hosts<JoiningLink<R>> for Supply<R, G> {
+    ghost use Rattle.std.specs.Prelude.{◌≡◌, ◌⊎◌, ◌≤◌, ⊤, None, false};
+    ghost use Rattle.serving.specs.Wires.{joining_state};
+
     ghost came = { λ _. ⊤ };
 
     ghost are_out = { λ supply. (supply.turns.again ≡ None) × (supply.turns.further ≤ supply.turns.done) };
@@ -200,9 +206,17 @@ impl<
         unreachable!()
     }
 
-    fn joined(&mut self, reader: &mut JoiningLink<R>, host: &Joined) {
-        // Where the system keeps the limit the link fails in time, and the next host has its turn.
-        let _ = reader.lift();
+    /// The link that is read has no deadline any more. Where the system keeps its limit it is closed, so that the next
+    /// host has its turn.
+    fn joined(&mut self, reader: &mut JoiningLink<R>, host: &Joined)
+        ensures link { joining_state reader.new ≡ joining_state reader.old }
+        ensures again { self.new.turns.again ≡ self.old.turns.again }
+        ensures untimed { (reader.new.has_deadline ≡ false) ⊎ (reader.new.below.is_open ≡ false) }
+        ensures kept { reader.old.has_deadline ≡ false → reader.new.has_deadline ≡ false }
+    {
+        if reader.lift().is_err() {
+            reader.close();
+        }
         self.is_joined = true;
         self.telling = Telling::new();
         self.log.tell(&Event::HostJoined {
