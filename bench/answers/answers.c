@@ -207,15 +207,15 @@ typedef struct {
     int times;
 } Calls;
 
-static double call(int f, int kind, bool all, bool copies, int times) {
+static double call(int f, int kind, bool joined, bool all, bool copies, int times) {
     double start = now();
-    bench_answers(FORMATS[f].bytes, kind, false, W, H, screen, COUNT, all, copies, times, ours, 0);
+    bench_answers(FORMATS[f].bytes, kind, joined, W, H, screen, COUNT, all, copies, times, ours, 0);
     return now() - start;
 }
 
-static void try_once(Calls *c, int f, int kind, bool all, bool copies) {
-    c->few = least(c->few, call(f, kind, all, copies, 1));
-    c->many = least(c->many, call(f, kind, all, copies, 1 + c->times));
+static void try_once(Calls *c, int f, int kind, bool joined, bool all, bool copies) {
+    c->few = least(c->few, call(f, kind, joined, all, copies, 1));
+    c->many = least(c->many, call(f, kind, joined, all, copies, 1 + c->times));
 }
 
 static double an_answer(const Calls *c) { return (c->many - c->few) / c->times; }
@@ -238,8 +238,8 @@ static bool measure(int picture, int f, int kind, int rounds) {
         return false;
     }
     for (int k = 0; k < rounds; k++) {
-        try_once(&answers, f, kind, true, true);
-        try_once(&written, f, kind, true, false);
+        try_once(&answers, f, kind, false, true, true);
+        try_once(&written, f, kind, false, true, false);
         in_c = least(in_c, an_answer_in_c(size, kind, true));
         written_in_c = least(written_in_c, an_answer_in_c(size, kind, false));
         double start = now();
@@ -252,6 +252,20 @@ static bool measure(int picture, int f, int kind, int rounds) {
     return true;
 }
 
+/* Hextile with joined runs, which plain C doesn't write, beside the runs of rows, without the cut. */
+static void measure_joined(int picture, int f, int rounds) {
+    Calls rows = {1e9, 1e9, TIMES}, joined = {1e9, 1e9, TIMES};
+    draw(picture);
+    size_t len = bench_answers(FORMATS[f].bytes, HEXTILE, false, W, H, screen, COUNT, true, true, 0, ours, 0);
+    size_t found = bench_answers(FORMATS[f].bytes, HEXTILE, true, W, H, screen, COUNT, true, true, 0, ours, 0);
+    for (int k = 0; k < rounds; k++) {
+        try_once(&rows, f, HEXTILE, false, true, false);
+        try_once(&joined, f, HEXTILE, true, true, false);
+    }
+    double old = an_answer(&rows), mine = an_answer(&joined);
+    printf("| %s, %s | %.2f | %.2f | %.2f | %zu | %zu | %.2f |\n", FORMATS[f].name, PICTURES[picture], old, mine, mine / old, len, found, (double)found / len);
+}
+
 int main(int count, char **words) {
     int rounds = count > 1 ? atoi(words[1]) : 30;
     bool same = true;
@@ -260,7 +274,10 @@ int main(int count, char **words) {
     for (int f = 0; f < 2; f++)
         for (int picture = 0; picture < 5; picture++) same &= measure(picture, f, HEXTILE, rounds);
     Calls one = {1e9, 1e9, 5000};
-    for (int k = 0; k < rounds; k++) try_once(&one, 0, RAW, false, false);
+    for (int k = 0; k < rounds; k++) try_once(&one, 0, RAW, false, false, false);
     printf("\nOne tile of 8,160 is due: counted and written in %.1f microseconds.\n", an_answer(&one) * 1e3);
+    printf("\n| Hextile | rows, ms | joined, ms | times | rows, bytes | joined | times |\n|---|---|---|---|---|---|---|\n");
+    for (int f = 0; f < 2; f++)
+        for (int picture = 0; picture < 5; picture++) measure_joined(picture, f, rounds);
     return !same;
 }

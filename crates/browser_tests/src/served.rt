@@ -133,7 +133,7 @@ where
         full: ports.full,
         view: ports.view,
         is_view_only: false,
-        has_plain_runs: false,
+        has_joined_runs: false,
         full_places: 1,
         view_places: 1,
         stalled: 60,

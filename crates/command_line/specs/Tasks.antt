@@ -27,7 +27,7 @@ pub record IsPlanOf (s : Settings) (plan : Plan) : Type 0 where
   pub web_root : option_map (λ text. text.now) plan.web.root ≡ option_map string_bytes s.web_root
   pub web_origins : plan.web.origins.now ≡ s.web_origins.items
   pub stalled : plan.stalled ≡ s.stalled
-  pub plain_runs : plan.has_plain_runs ≡ s.plain_runs
+  pub joined_runs : plan.has_joined_runs ≡ s.joined_runs
   pub log : plan.is_logged ≡ s.log
 
 -- The line of `replay`, which has no further words.

@@ -64,7 +64,7 @@ fn plan_of(settings: &Settings) -> Plan<'_>
         full_places: settings.full_places,
         view_places: settings.view_places,
         stalled: settings.stalled,
-        has_plain_runs: settings.plain_runs,
+        has_joined_runs: settings.joined_runs,
         web: WebPlan {
             full: settings.web_full,
             view: settings.web_view,

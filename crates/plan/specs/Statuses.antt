@@ -35,9 +35,9 @@ abbrev pub bind_for : Role → Plan → List ℕ
 bind_for Full plan = option_map_or (λ text. text.now) plan.full_bind plan.bind.now
 bind_for View plan = plan.bind.now
 
--- The form in which viewers are answered: joined runs, unless the plain ones are told.
+-- The form in which viewers are answered: the runs of rows, unless joined runs are told.
 abbrev pub runs_for : Plan → Runs
-runs_for plan = if plan.has_plain_runs then OfRows else Joined
+runs_for plan = if plan.has_joined_runs then Joined else OfRows
 
 -- From 1 to 32 places for each role.
 abbrev pub HasPlaces : Plan → Type 0

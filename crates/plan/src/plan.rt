@@ -31,8 +31,8 @@ pub struct Plan<'a> {
     pub view_places: u64,
     /// How many seconds a viewer may take nothing of what it is sent.
     pub stalled: u64,
-    /// Whether viewers are answered in the runs of rows, and not in joined runs.
-    pub has_plain_runs: bool,
+    /// Whether viewers are answered in joined runs, and not in the runs of rows.
+    pub has_joined_runs: bool,
     /// The ports for browsers, and what they are sent.
     pub web: WebPlan<'a>,
     /// Whether a log is kept on standard error.
@@ -101,9 +101,9 @@ pub fn places_of(plan: &Plan<'_>, role: Role) -> u64
 pub fn runs_of(plan: &Plan<'_>) -> Runs
     ensures { result ≡ runs_for plan.now }
 {
-    if plan.has_plain_runs {
-        Runs::OfRows
-    } else {
+    if plan.has_joined_runs {
         Runs::Joined
+    } else {
+        Runs::OfRows
     }
 }

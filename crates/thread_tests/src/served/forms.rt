@@ -1,4 +1,5 @@
-//! The form in which `serve` answers a viewer that takes Hextile: joined runs, or with `--plain-runs` the runs of rows.
+//! The form in which `serve` answers a viewer that takes Hextile: the runs of rows, or with `--joined-runs` joined
+//! runs.
 
 use crate::served::lines::words_of;
 use crate::served::loopback::{accept, connect, free_port, listen};
@@ -49,19 +50,19 @@ const FORMS: &[Form] = &[
     // Blue is the background, which most pixels have, and the red pixel a subrectangle.
     Form {
         name: "joined runs",
-        options: "",
+        options: "--joined-runs",
         answer: b"\0\0\0\x01\0\0\0\0\0\x08\0\x03\0\0\0\x05\x0E\xFF\0\0\0\0\0\xFF\0\x01\0\0",
     },
     // Red is the background, since it comes first, and each row has a subrectangle: from 1, of 7, and two of 8.
     Form {
-        name: "plain runs",
-        options: "--plain-runs",
+        name: "the runs of rows",
+        options: "",
         answer: b"\0\0\0\x01\0\0\0\0\0\x08\0\x03\0\0\0\x05\x0E\0\0\xFF\0\xFF\0\0\0\x03\x10\x60\x01\x70\x02\x70",
     },
 ];
 
-/// Whether the client of this host joins, and asks for what is new once it was sent the update. The host closes once the
-/// viewer was shown it.
+/// Whether the client of this host joins, and asks for what is new once it was sent the update. The host closes once
+/// the viewer was shown it.
 fn is_host_right<R: Wait + Clock + Drop>(ear: &Ear<R>, listener: &TcpListener) -> io::Result<bool> {
     let mut stream = accept(listener)?;
     let mut said = [0u8; 14];
