@@ -1,0 +1,111 @@
+//! One viewer finds no memory, over links in memory and over TCP.
+
+ghost use Rattle.std.specs.Prelude.{◌≡◌};
+ghost use Rattle.roles.specs.declared.role.Role.TheVariants.{Full};
+
+use crate::board::Board;
+use crate::run::ends_well;
+use crate::tcp::{Keeper, come};
+use crate::viewers::Viewers;
+use crate::wire::VIEWERS;
+use roles::Role;
+use serving::{Door, Gate, Lobby, NoLog, Seat, TcpDoor, keep_door};
+use std::alloc::Global;
+use std::net::{Ipv4Addr, SocketAddr, TcpListener};
+use std::sync::atomic::Ordering;
+use std::sync::{Arc, Wait};
+use std::test::*;
+use std::thread::Threads;
+use std::time::Clock;
+use std::{fs, thread};
+
+/// Where the system counts all memory that is asked for, taking it would take that of other processes.
+fn expect_loose_counting(rt: &HostRuntime) -> Result<(), Fail> {
+    match fs::read_to_string(rt, "/proc/sys/vm/overcommit_memory") {
+        Ok(text) if text.starts_with('2') => Err(Fail::new("the system counts memory strictly")),
+        _ => Ok(()),
+    }
+}
+
+#[test]
+fn viewer_without_memory_is_let_go(rt: HostRuntime) -> Result<(), Fail> {
+    expect_loose_counting(&rt)?;
+    let board = Board::new(rt.alloc())?;
+    let viewers = Viewers {
+        alloc: rt.alloc(),
+        board: Arc::try_clone(&board)?,
+        hoard: None,
+    };
+    let is_right = ends_well(rt, rt.alloc(), viewers, &board)?;
+    assert!(rt; is_right);
+    assert_eq!(rt; board.left.load(Ordering::SeqCst), VIEWERS);
+    Ok(())
+}
+
+/// Whether a run with this door ends well, while the gate's viewers are let into the lobby.
+fn runs<D, R>(
+    rt: R,
+    net: &HostRuntime,
+    gate: &Gate,
+    lobby: &Lobby,
+    door: D,
+    board: &Arc<Board, Global>,
+) -> Result<bool, Fail>
+where
+    D: Door + Send + 'static,
+    R: Threads + Wait + Clock + Copy + Drop + Send + Sync + 'static,
+    requires gate { gate.now.role ≡ lobby.now.role }
+    requires door { D.is_for door Full }
+{
+    let (ended, ()) = thread::join(
+        &rt,
+        ||
+            requires { D.is_for door Full }
+        { ends_well(rt, net.alloc(), door, board) },
+        ||
+            requires { gate.now.role ≡ lobby.now.role }
+        { keep_door(&rt, gate, lobby, &NoLog) },
+    );
+    ended
+}
+
+/// Whether a run with this door ends well, and each viewer that comes in by the gate is given what it is to be given.
+fn serves<D, R>(
+    rt: R,
+    net: &HostRuntime,
+    gate: &Gate,
+    lobby: &Lobby,
+    door: D,
+    board: &Arc<Board, Global>,
+) -> Result<bool, Fail>
+where
+    D: Door + Send + 'static,
+    R: Threads + Wait + Clock + Copy + Drop + Send + Sync + 'static,
+    requires gate { gate.now.role ≡ lobby.now.role }
+    requires door { D.is_for door Full }
+{
+    let (came, ended) = thread::join(
+        &rt,
+        || come(&rt, net, gate.listener(), lobby, board),
+        ||
+            requires { (gate.now.role ≡ lobby.now.role) × D.is_for door Full }
+        { runs(rt, net, gate, lobby, door, board) },
+    );
+    Ok(ended? && came?)
+}
+
+#[test]
+fn viewer_without_memory_is_let_go_over_tcp(rt: HostRuntime) -> Result<(), Fail> {
+    expect_loose_counting(&rt)?;
+    let board = Board::new(rt.alloc())?;
+    let listener = TcpListener::bind(&rt, SocketAddr::from((Ipv4Addr::LOCALHOST, 0)))?;
+    let gate = Gate::new(listener, Role::Full);
+    let lobby = Arc::new(rt.alloc(), Lobby::new(rt.alloc(), Role::Full, 1, 60)?)?;
+    let seat = Arc::new(rt.alloc(), Seat::new(&rt, rt.alloc())?)?;
+    let log = Keeper::new(rt, rt.alloc(), Arc::try_clone(&board)?);
+    let door = TcpDoor::new(rt, rt.alloc(), Arc::try_clone(&lobby)?, seat, 1, log);
+    let is_right = serves(rt, &rt, &gate, &lobby, door, &board)?;
+    assert!(rt; is_right);
+    assert_eq!(rt; board.left.load(Ordering::SeqCst), VIEWERS);
+    Ok(())
+}

@@ -1,0 +1,97 @@
+//! The same viewers over TCP.
+
+use crate::board::{Board, hold};
+use crate::hoard::Hoard;
+use crate::viewers::{ends_right, given_to, sent_by};
+use crate::wire::VIEWERS;
+use serving::{Event, Lobby, Log};
+use std::alloc::Global;
+use std::io;
+use std::io::{Read, Write};
+use std::net::{TcpListener, TcpStream};
+use std::sync::{Arc, Mutex, Wait};
+use std::time::{Clock, Duration};
+
+/// Nobody waits longer than this many seconds.
+const LONG: u64 = 20;
+
+/// More bytes than a viewer is given.
+const MOST: usize = 128;
+
+/// A log that keeps memory from the second viewer while that has the place.
+#[derive(Drop)]
+pub(crate) struct Keeper<R: Drop> {
+    rt: R,
+    alloc: Global,
+    board: Arc<Board, Global>,
+    hoard: Mutex<Option<Hoard>>,
+}
+
+impl<R: Wait + Drop> Keeper<R> {
+    /// It keeps nothing yet.
+    pub(crate) fn new(rt: R, alloc: Global, board: Arc<Board, Global>) -> Keeper<R> {
+        Keeper {
+            rt,
+            alloc,
+            board,
+            hoard: Mutex::new(None),
+        }
+    }
+}
+
+impl<R: Wait + Drop> Log for Keeper<R> {
+    fn tell(&self, event: &Event<'_>) {
+        let mut hoard = self.hoard.lock(&self.rt);
+        match event {
+            Event::ViewerIn { .. } => {
+                if self.board.enter() == Some(2) {
+                    *hoard = Hoard::new(self.alloc).unwrap_or(None);
+                }
+            }
+            Event::ViewerOut { visit, .. } => {
+                *hoard = None;
+                let viewer = self.board.number();
+                let is_whole = visit.bytes == given_to(viewer).len() as u64;
+                self.board.leave(ends_right(viewer, &visit.why) && is_whole);
+            }
+            _ => {}
+        }
+    }
+}
+
+/// Whether a viewer is given what it is to be given. One that is let go is given nothing, and the others leave.
+fn visits(net: &HostRuntime, listener: &TcpListener, viewer: u64) -> io::Result<bool> {
+    let mut stream = TcpStream::connect(net, listener.local_addr()?)?;
+    stream.set_read_timeout(Some(Duration::from_secs(LONG)))?;
+    stream.write_all(sent_by(viewer))?;
+    let wanted = given_to(viewer);
+    if wanted.is_empty() {
+        return Ok(stream.read(&mut [0])? == 0);
+    }
+    let mut given = [0u8; MOST];
+    let Some(room) = given.get_mut(..wanted.len()) else {
+        return Ok(false);
+    };
+    stream.read_exact(room)?;
+    Ok(given.get(..wanted.len()) == Some(wanted))
+}
+
+/// The viewers come once the host was asked for more, and each once the place is free. Then the lobby is closed, which
+/// whoever keeps the door sees as one more comes.
+pub(crate) fn come<R: Wait + Clock>(
+    rt: &R,
+    net: &HostRuntime,
+    listener: &TcpListener,
+    lobby: &Lobby,
+    board: &Board,
+) -> io::Result<bool> {
+    hold(&board.told, 1);
+    let mut is_right = true;
+    for number in 0..VIEWERS {
+        is_right = visits(net, listener, number + 1).unwrap_or(false) && is_right;
+        lobby.await_empty(rt, Duration::from_secs(LONG));
+    }
+    lobby.close(rt);
+    let _last = TcpStream::connect(net, listener.local_addr()?)?;
+    Ok(is_right)
+}
