@@ -9,6 +9,8 @@ use command_line::run_words;
 use std::alloc::{AllocError, Global};
 use std::io::{Read, Write};
 use std::net::{Net, TcpListener, TcpStream};
+use std::random::RandomSource;
+use std::rt::Files;
 use std::sync::Wait;
 use std::sync::atomic::Ordering;
 use std::test::*;
@@ -116,6 +118,8 @@ where
         + Threads
         + Wait
         + Clock
+        + Files
+        + RandomSource
         + Copy
         + Drop
         + Send
@@ -138,6 +142,8 @@ where
         + Threads
         + Wait
         + Clock
+        + Files
+        + RandomSource
         + Copy
         + Drop
         + Send
