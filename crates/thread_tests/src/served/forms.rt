@@ -85,11 +85,12 @@ fn is_shown<R: Drop>(ear: &Ear<R>, stream: &mut TcpStream, form: &Form) -> io::R
         return Ok(false);
     };
     let mut begins = BLACK;
-    let mut turns: u64 = 0;
-    while begins == BLACK && turns < MOST_BLACK {
+    for _ in 0..MOST_BLACK {
         stream.write_all(ASK)?;
         stream.read_exact(&mut begins)?;
-        turns += 1;
+        if begins != BLACK {
+            break;
+        }
     }
     let mut ends = [0u8; 16];
     let Some(ends) = ends.get_mut(..rest.len()) else {
@@ -112,7 +113,7 @@ where
 }
 
 /// The status of `serve` for a host at this port, with a place for a viewer at the other.
-fn status<R>(rt: R, ear: Ear<R>, ports: [u16; 2], form: &Form) -> Result<u8, AllocError>
+fn status<R>(ear: Ear<R>, ports: [u16; 2], form: &Form) -> Result<u8, AllocError>
 where
     R: Net<Stream = TcpStream, Listener = TcpListener>
         + Threads
@@ -157,7 +158,7 @@ where
     let is_right = |part: usize| match part {
         0 => is_host_right(&ear, &listener).unwrap_or(false),
         1 => is_viewer_right(&ear, ports[1], form).unwrap_or(false),
-        _ => status(rt, Ear::new(rt, alloc, room), ports, form) == Ok(0),
+        _ => status(Ear::new(rt, alloc, room), ports, form) == Ok(0),
     };
     let are_right = thread::map_indices(&rt, alloc, PARTS, &is_right)?;
     Ok(!are_right.contains(&false))
