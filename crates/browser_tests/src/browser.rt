@@ -3,11 +3,11 @@
 use crate::loopback::{connect, hears};
 use std::alloc::Global;
 use std::io;
-use std::io::{Read, Write};
+use std::io::{ErrorKind, Read, Write};
 use std::net::TcpStream;
 
 /// The answer to the key of `request` (RFC 6455, section 1.3).
-const ACCEPT: &str = "sec-websocket-accept: s3pPLMBiTxaQ9kYGzzhZRbK+xOo=\r\n";
+const ACCEPT: &[u8] = b"sec-websocket-accept: s3pPLMBiTxaQ9kYGzzhZRbK+xOo=";
 
 /// The mask of a client's frames (RFC 6455, section 5.7).
 const MASK: [u8; 4] = [0x37, 0xFA, 0x21, 0x3D];
@@ -15,12 +15,10 @@ const MASK: [u8; 4] = [0x37, 0xFA, 0x21, 0x3D];
 /// A head of an answer has at most this many bytes.
 const MOST_HEAD: usize = 4_096;
 
-/// A message of a client has at most this many bytes here, so that its length is one byte (RFC 6455, section 5.2).
-const MOST_SAID: usize = 125;
-
 /// A WebSocket that was opened.
 #[derive(Drop)]
 pub(crate) struct Browser {
+    alloc: Global,
     stream: TcpStream,
     // So many bytes are left of the message that is read.
     left: usize,
@@ -47,9 +45,25 @@ fn head(alloc: Global, stream: &mut TcpStream) -> io::Result<Vec<u8>> {
     Ok(head)
 }
 
-/// Whether a head has this line.
-fn has(head: &[u8], line: &str) -> bool {
-    head.windows(line.len()).any(|part| part == line.as_bytes())
+/// Whether one of the lines of a head is this.
+fn has_line(head: &[u8], wanted: &[u8]) -> bool {
+    head.split(|byte| *byte == b'\n')
+        .any(|line| line.trim_ascii() == wanted)
+}
+
+/// A client's frame of a whole binary message, of up to 125 bytes (RFC 6455, section 5.2).
+fn frame(alloc: Global, payload: &[u8]) -> io::Result<Vec<u8>> {
+    let Ok(len) = u8::try_from(payload.len()) else {
+        return Err(io::Error::from(ErrorKind::InvalidInput));
+    };
+    let mut frame = Vec::new(alloc);
+    frame.push(0x82)?;
+    frame.push(0x80 | len)?;
+    frame.extend_from_slice(&MASK)?;
+    for (i, byte) in payload.iter().enumerate() {
+        frame.push(*byte ^ MASK[i % 4])?;
+    }
+    Ok(frame)
 }
 
 /// The head of the answer to one who asks for a path, and the beginning of the body.
@@ -91,8 +105,12 @@ impl Browser {
         let origin = format!(in alloc; "http://127.0.0.1:{port}")?;
         stream.write_all(request(alloc, host.as_str(), origin.as_str())?.as_bytes())?;
         let head = head(alloc, &mut stream)?;
-        if head.as_slice().starts_with(b"HTTP/1.1 101 ") && has(head.as_slice(), ACCEPT) {
-            Ok(Some(Browser { stream, left: 0 }))
+        if head.as_slice().starts_with(b"HTTP/1.1 101 ") && has_line(head.as_slice(), ACCEPT) {
+            Ok(Some(Browser {
+                alloc,
+                stream,
+                left: 0,
+            }))
         } else {
             Ok(None)
         }
@@ -103,20 +121,10 @@ impl Browser {
         &mut self.stream
     }
 
-    /// Sends the first of these bytes, up to `MOST_SAID`, in a binary message.
+    /// Sends these bytes, up to 125, in a binary message.
     pub(crate) fn say(&mut self, bytes: &[u8]) -> io::Result<()> {
-        let mut frame = [0u8; 6 + MOST_SAID];
-        let mut len = 0;
-        for byte in bytes.iter().take(MOST_SAID) {
-            frame[6 + len] = *byte ^ MASK[len % 4];
-            len += 1;
-        }
-        let [a, b, c, d] = MASK;
-        for (at, byte) in [0x82, 0x80 | len as u8, a, b, c, d].iter().enumerate() {
-            frame[at] = *byte;
-        }
-        let (frame, _) = frame.split_at(6 + len);
-        self.stream.write_all(frame)
+        let frame = frame(self.alloc, bytes)?;
+        self.stream.write_all(frame.as_slice())
     }
 
     /// Reads the head of the next frame. Whether it is that of a whole binary message, without a mask, of at most

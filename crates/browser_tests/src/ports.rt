@@ -9,7 +9,7 @@ use serving::{Door, Gate, Lobby, NoLog, Seat, TcpDoor, WebEntry, keep_web_doors}
 use std::alloc::Global;
 use std::hash::RandomState;
 use std::io::ErrorKind;
-use std::net::{Net, SocketAddr};
+use std::net::{Net, SocketAddr, TcpListener, TcpStream};
 use std::sync::{Arc, Wait};
 use std::test::*;
 use std::thread::Threads;
@@ -136,14 +136,18 @@ fn comes<R: Wait>(rt: &R, net: &HostRuntime, port: u16, lobby: &Lobby) -> bool {
 }
 
 /// How many came to the door while the port was kept, and whether each was told what it should be.
-fn serves<R: Net + Threads + Wait + Clock + Send + Sync, D: Door + Send>(
+fn serves<R, D>(
     rt: &R,
     net: &HostRuntime,
     entry: WebEntry,
     lobby: &Lobby,
     port: u16,
     door: &mut D,
-) -> io::Result<(u64, bool)> {
+) -> io::Result<(u64, bool)>
+where
+    R: Net<Stream = TcpStream, Listener = TcpListener> + Threads + Wait + Clock + Send + Sync,
+    D: Door + Send,
+{
     let alloc = net.alloc();
     let keys = RandomState::new(net)?;
     let mut entries = Vec::new(alloc);
@@ -163,10 +167,17 @@ fn serves<R: Net + Threads + Wait + Clock + Send + Sync, D: Door + Send>(
 }
 
 /// The same of a new lobby of one place, which nobody is let to yet.
-fn opens<R: Net + Threads + Wait + Clock + Copy + Drop + Send + Sync>(
-    rt: R,
-    net: &HostRuntime,
-) -> io::Result<(u64, bool)> {
+fn opens<R>(rt: R, net: &HostRuntime) -> io::Result<(u64, bool)>
+where
+    R: Net<Stream = TcpStream, Listener = TcpListener>
+        + Threads
+        + Wait
+        + Clock
+        + Copy
+        + Drop
+        + Send
+        + Sync,
+{
     let alloc = net.alloc();
     let gate = Gate::new(listen(net)?, Role::Full);
     let address = gate.listener().local_addr()?;
