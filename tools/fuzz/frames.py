@@ -231,6 +231,12 @@ def play(program, rng):
     with link:
         with contextlib.suppress(OSError):
             serving.send(link, serving.in_pieces(rng, head))
+        if b"\r\n\r\n" in head[:-4]:
+            # Bytes that come behind a request, before its answer, open no link: whoever sent them is let go.
+            with contextlib.suppress(OSError):
+                link.shutdown(socket.SHUT_WR)
+            take_all(link)
+            return None
         if not may_open(head, run.port):
             with contextlib.suppress(OSError):
                 link.shutdown(socket.SHUT_WR)
