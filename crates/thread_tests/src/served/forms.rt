@@ -10,7 +10,6 @@ use std::alloc::{AllocError, Global};
 use std::io::{Read, Write};
 use std::net::{Net, TcpListener, TcpStream};
 use std::random::RandomSource;
-use std::rt::Files;
 use std::sync::Wait;
 use std::sync::atomic::Ordering;
 use std::test::*;
@@ -119,7 +118,6 @@ where
         + Threads
         + Wait
         + Clock
-        + Files
         + RandomSource
         + Copy
         + Drop
@@ -143,7 +141,6 @@ where
         + Threads
         + Wait
         + Clock
-        + Files
         + RandomSource
         + Copy
         + Drop

@@ -11,7 +11,6 @@ use roles::Role;
 use std::alloc::{AllocError, Global};
 use std::net::{Net, TcpListener, TcpStream};
 use std::random::RandomSource;
-use std::rt::Files;
 use std::sync::Wait;
 use std::test::*;
 use std::thread::Threads;
@@ -170,7 +169,6 @@ where
         + Threads
         + Wait
         + Clock
-        + Files
         + RandomSource
         + Copy
         + Drop
@@ -203,7 +201,6 @@ where
         + Threads
         + Wait
         + Clock
-        + Files
         + RandomSource
         + Copy
         + Drop
@@ -249,7 +246,6 @@ where
         + Threads
         + Wait
         + Clock
-        + Files
         + RandomSource
         + Copy
         + Drop

@@ -1,9 +1,10 @@
-//! What a runtime in a room hands on as it is: files, memory, random bytes.
+//! What a runtime in a room hands on as it is, memory and random bytes, and files, which it has none of.
 
 use crate::served::room::Ear;
 use std::alloc::{Allocator, Global};
-use std::fs::{Metadata, OpenOptions};
+use std::fs::{File, Metadata, OpenOptions};
 use std::io;
+use std::io::ErrorKind;
 use std::random::RandomSource;
 use std::rt::Files;
 
@@ -21,48 +22,53 @@ impl<R: RandomSource + Drop> RandomSource for Ear<R> {
     }
 }
 
-impl<R: Files + Drop> Files for Ear<R> {
-    type File = R::File;
+/// No scene has files.
+fn none<T>() -> io::Result<T> {
+    Err(io::Error::from(ErrorKind::Unsupported))
+}
 
-    type Dir = R::Dir;
+impl<R: Drop> Files for Ear<R> {
+    type File = File;
 
-    fn open_file(&self, how: &OpenOptions, path: &str) -> io::Result<R::File> {
-        self.rt.open_file(how, path)
+    type Dir = io::Empty;
+
+    fn open_file(&self, _how: &OpenOptions, _path: &str) -> io::Result<File> {
+        none()
     }
 
-    fn open_dir(&self, path: &str) -> io::Result<R::Dir> {
-        self.rt.open_dir(path)
+    fn open_dir(&self, _path: &str) -> io::Result<io::Empty> {
+        none()
     }
 
-    fn metadata(&self, path: &str) -> io::Result<Metadata> {
-        self.rt.metadata(path)
+    fn metadata(&self, _path: &str) -> io::Result<Metadata> {
+        none()
     }
 
-    fn symlink_metadata(&self, path: &str) -> io::Result<Metadata> {
-        self.rt.symlink_metadata(path)
+    fn symlink_metadata(&self, _path: &str) -> io::Result<Metadata> {
+        none()
     }
 
-    fn copy(&self, from: &str, to: &str) -> io::Result<u64> {
-        self.rt.copy(from, to)
+    fn copy(&self, _from: &str, _to: &str) -> io::Result<u64> {
+        none()
     }
 
-    fn rename(&self, from: &str, to: &str) -> io::Result<()> {
-        self.rt.rename(from, to)
+    fn rename(&self, _from: &str, _to: &str) -> io::Result<()> {
+        none()
     }
 
-    fn remove_file(&self, path: &str) -> io::Result<()> {
-        self.rt.remove_file(path)
+    fn remove_file(&self, _path: &str) -> io::Result<()> {
+        none()
     }
 
-    fn create_dir(&self, path: &str) -> io::Result<()> {
-        self.rt.create_dir(path)
+    fn create_dir(&self, _path: &str) -> io::Result<()> {
+        none()
     }
 
-    fn remove_dir(&self, path: &str) -> io::Result<()> {
-        self.rt.remove_dir(path)
+    fn remove_dir(&self, _path: &str) -> io::Result<()> {
+        none()
     }
 
-    fn remove_dir_all<B: Allocator>(&self, alloc: B, path: &str) -> io::Result<()> {
-        self.rt.remove_dir_all(alloc, path)
+    fn remove_dir_all<B: Allocator>(&self, _alloc: B, _path: &str) -> io::Result<()> {
+        none()
     }
 }
