@@ -79,6 +79,25 @@ fn visits_and_closes<R: Wait>(rt: &R, net: &HostRuntime, gate: &Gate, lobby: &Lo
     right && last.is_ok()
 }
 
+/// How many came to the door while it was kept.
+fn keeps<R: Threads + Wait + Clock + Send + Sync, D: Door + Send>(
+    rt: &R,
+    gate: &Gate,
+    lobby: &Lobby,
+    door: &mut D,
+) -> u64
+    requires { gate.now.role ≡ lobby.now.role }
+{
+    let (came, ()) = thread::join(
+        rt,
+        || greets(door),
+        ||
+            requires { gate.now.role ≡ lobby.now.role }
+        { keep_door(rt, gate, lobby, &NoLog) },
+    );
+    came
+}
+
 /// How many came to the door while it was kept, and whether each was told what it should be.
 fn serves<R: Threads + Wait + Clock + Send + Sync, D: Door + Send>(
     rt: &R,
@@ -89,16 +108,12 @@ fn serves<R: Threads + Wait + Clock + Send + Sync, D: Door + Send>(
 ) -> (u64, bool)
     requires { gate.now.role ≡ lobby.now.role }
 {
-    let ((came, ()), right) = thread::join(
+    let (right, came) = thread::join(
         rt,
-        || thread::join(
-            rt,
-            || greets(door),
-            ||
-                requires { gate.now.role ≡ lobby.now.role }
-            { keep_door(rt, gate, lobby, &NoLog) },
-        ),
         || visits_and_closes(rt, net, gate, lobby),
+        ||
+            requires { gate.now.role ≡ lobby.now.role }
+        { keeps(rt, gate, lobby, door) },
     );
     (came, right)
 }
