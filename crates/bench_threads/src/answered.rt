@@ -3,8 +3,9 @@
 ghost use Rattle.std.specs.Prelude.{◌≡◌, ◌+◌, ◌*◌, length, IfOk};
 
 use crate::scene::{ALL, Brush, Room, TILE, cut};
+use fault::Fault;
 use joined_runs::Runs;
-use pixel_format::{Fault, Format};
+use pixel_format::Format;
 use raster::Encoding;
 use reflect_core::{Cut, Puts, ScreenSource};
 use rfb_wire::Choice;

@@ -30,7 +30,7 @@ fn looks<S: ScreenSource, R: Clock>(rt: &R, source: &mut S) -> Option<u128>
     Some(start.elapsed(rt).ok()?.as_nanos())
 }
 
-/// This many looks.
+/// Looks this many times, one after another.
 pub fn look_often<S: ScreenSource>(source: &mut S, count: u64)
     ensures { (S.width source.new ≡ S.width source.old) × (S.height source.new ≡ S.height source.old) }
 {

@@ -3,8 +3,8 @@
 ghost use Rattle.std.specs.Prelude.{◌≡◌, IfOk};
 ghost use Rattle.raster.specs.Screen.{IsWithin};
 
+use fault::Fault;
 use painter::{Painter, Patch};
-use pixel_format::Fault;
 use raster::Rect;
 use reflect_core::{Cut, Puts, ScreenSource};
 use std::alloc::Global;

@@ -32,7 +32,7 @@ fn request(alloc: Global, host: &str, origin: &str) -> io::Result<String> {
 }
 
 /// The head of the answer that comes next.
-fn head(alloc: Global, stream: &mut TcpStream) -> io::Result<Vec<u8>> {
+pub(crate) fn head(alloc: Global, stream: &mut TcpStream) -> io::Result<Vec<u8>> {
     let mut head = Vec::new(alloc);
     for _ in 0..MOST_HEAD {
         let mut one = [0u8; 1];
@@ -51,13 +51,14 @@ fn has_line(head: &[u8], wanted: &[u8]) -> bool {
         .any(|line| line.trim_ascii() == wanted)
 }
 
-/// A client's frame of a whole binary message, of up to 125 bytes (RFC 6455, section 5.2).
-fn frame(alloc: Global, payload: &[u8]) -> io::Result<Vec<u8>> {
+/// A client's frame of up to 125 bytes: a whole binary message begins with 0x82, a ping with 0x89 (RFC 6455, section
+/// 5.2).
+pub(crate) fn frame(alloc: Global, first: u8, payload: &[u8]) -> io::Result<Vec<u8>> {
     let Ok(len) = u8::try_from(payload.len()) else {
         return Err(io::Error::from(ErrorKind::InvalidInput));
     };
     let mut frame = Vec::new(alloc);
-    frame.push(0x82)?;
+    frame.push(first)?;
     frame.push(0x80 | len)?;
     frame.extend_from_slice(&MASK)?;
     for (i, byte) in payload.iter().enumerate() {
@@ -83,7 +84,7 @@ pub(crate) fn is_told(
 }
 
 /// Whether one who opens a WebSocket at this host, from a page of this origin, is told this status.
-pub(crate) fn is_answered(
+fn is_answered(
     net: &HostRuntime,
     port: u16,
     host: &str,
@@ -94,6 +95,20 @@ pub(crate) fn is_answered(
     stream.write_all(request(net.alloc(), host, origin)?.as_bytes())?;
     let head = head(net.alloc(), &mut stream)?;
     Ok(head.as_slice().starts_with(status))
+}
+
+/// Whether a page of another site opens no WebSocket at this port, and one of its own none under another host.
+pub(crate) fn are_strangers_refused(net: &HostRuntime, port: u16) -> io::Result<bool> {
+    let alloc = net.alloc();
+    let own = format!(in alloc; "127.0.0.1:{port}")?;
+    let origin = format!(in alloc; "http://127.0.0.1:{port}")?;
+    let stranger = "https://stranger.example";
+    let elsewhere = "stranger.example";
+    let status = b"HTTP/1.1 403 ";
+    Ok(
+        is_answered(net, port, own.as_str(), stranger, status)?
+            && is_answered(net, port, elsewhere, origin.as_str(), status)?,
+    )
 }
 
 impl Browser {
@@ -123,7 +138,7 @@ impl Browser {
 
     /// Sends these bytes, up to 125, in a binary message.
     pub(crate) fn say(&mut self, bytes: &[u8]) -> io::Result<()> {
-        let frame = frame(self.alloc, bytes)?;
+        let frame = frame(self.alloc, 0x82, bytes)?;
         self.stream.write_all(frame.as_slice())
     }
 

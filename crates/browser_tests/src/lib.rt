@@ -12,3 +12,5 @@ mod loopback;
 mod ports;
 #[cfg(test)]
 mod served;
+#[cfg(test)]
+mod times;

@@ -1,11 +1,11 @@
 //! A web port before one place: files, strangers, one for whom there is no place, and one who follows on another.
 
-use crate::browser::{Browser, is_answered, is_told};
+use crate::browser::{Browser, are_strangers_refused, is_told};
 use crate::loopback::{hears, listen};
 use bytes::Bytes;
 use link::{Gave, Link, Took};
 use roles::Role;
-use serving::{Door, Gate, Lobby, NoLog, Seat, TcpDoor, WebEntry, keep_web_doors};
+use serving::{Door, Gate, Lobby, NoLog, Seat, TcpDoor, WebEntry, WebPorter};
 use std::alloc::Global;
 use std::hash::RandomState;
 use std::io::ErrorKind;
@@ -55,7 +55,7 @@ fn greets<D: Door>(door: &mut D) -> u64 {
 }
 
 /// What the port answers at this address.
-fn site(alloc: Global, address: SocketAddr) -> io::Result<Arc<Site, Global>> {
+pub(crate) fn site(alloc: Global, address: SocketAddr) -> io::Result<Arc<Site, Global>> {
     let mut files = FileTable::new(alloc);
     if files
         .add(String::from_str(alloc, PATH)?, Bytes::from_static(FILE))
@@ -67,27 +67,16 @@ fn site(alloc: Global, address: SocketAddr) -> io::Result<Arc<Site, Global>> {
     hosts.push(format!(in alloc; "{address}")?)?;
     let mut origins = Vec::new(alloc);
     origins.push(format!(in alloc; "http://{address}")?)?;
+    let files = Arc::new(alloc, files)?;
     let site = Site::new(alloc, files, Admission { hosts, origins }, false)?;
     Ok(Arc::new(alloc, site)?)
 }
 
 /// Whether a file is given, and nobody else's page is let in, nor one who comes to another host.
 fn asks(net: &HostRuntime, port: u16) -> io::Result<bool> {
-    let alloc = net.alloc();
-    let own = format!(in alloc; "127.0.0.1:{port}")?;
-    let origin = format!(in alloc; "http://127.0.0.1:{port}")?;
     let is_given = is_told(net, port, PATH, b"HTTP/1.1 200 ", FILE)?;
     let is_none = is_told(net, port, "/app/../app/ui.js", b"HTTP/1.1 404 ", b"")?;
-    let stranger = "https://stranger.example";
-    let is_stranger = is_answered(net, port, own.as_str(), stranger, b"HTTP/1.1 403 ")?;
-    let is_elsewhere = is_answered(
-        net,
-        port,
-        "stranger.example",
-        origin.as_str(),
-        b"HTTP/1.1 403 ",
-    )?;
-    Ok(is_given && is_none && is_stranger && is_elsewhere)
+    Ok(is_given && is_none && are_strangers_refused(net, port)?)
 }
 
 /// Whether one who comes is told these bytes once a WebSocket is opened.
@@ -153,16 +142,12 @@ where
     let mut entries = Vec::new(alloc);
     entries.push(entry)?;
     let seats: [Arc<Seat, Global>; 0] = [];
-    let ((came, kept), right) = thread::join(
+    let porter = WebPorter::new(net, alloc, entries, keys)?;
+    let ((came, _), right) = thread::join(
         rt,
-        || thread::join(
-            rt,
-            || greets(door),
-            move || keep_web_doors(rt, alloc, entries, &seats, keys, &NoLog),
-        ),
+        || thread::join(rt, || greets(door), move || porter.keep(rt, &seats, &NoLog)),
         || comes(rt, net, port, lobby),
     );
-    kept?;
     Ok((came, right))
 }
 

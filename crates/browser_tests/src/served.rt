@@ -1,6 +1,6 @@
 //! `serve` between a host and two browsers.
 
-use crate::browser::{Browser, is_told};
+use crate::browser::{Browser, are_strangers_refused, is_told};
 use crate::host::{INIT, KEY, UPDATE, is_told_a_key};
 use crate::loopback::{free_port, listen};
 use plan::{Plan, WebPlan};
@@ -89,8 +89,8 @@ fn is_shown(browser: &mut Browser) -> io::Result<bool> {
     Ok(false)
 }
 
-/// Whether a browser at each port is shown the update, and the page of one that asks. The one that only looks on types
-/// in vain: its answer shows that this was read. Then the other types, and both are let go.
+/// Whether a browser at each port is shown the update, and the page of one that asks, while strangers are refused. The
+/// one that only looks on types in vain: its answer shows that this was read. Then the other types, and both are let go.
 fn are_served(net: &HostRuntime, ports: PortsOfRun) -> io::Result<bool> {
     let Some(mut view) = greeted(net, ports.web_view)? else {
         return Ok(false);
@@ -100,10 +100,13 @@ fn are_served(net: &HostRuntime, ports: PortsOfRun) -> io::Result<bool> {
     };
     let are_shown = is_shown(&mut view)? && is_shown(&mut full)?;
     let is_paged = is_told(net, ports.web_view, "/", b"HTTP/1.1 200 ", PAGE)?;
+    let are_kept_out = are_strangers_refused(net, ports.web_view)?
+        && are_strangers_refused(net, ports.web_full)?;
     view.say(IN_VAIN)?;
     let is_read = is_shown(&mut view)?;
     full.say(KEY)?;
-    Ok(are_shown && is_paged && is_read && full.is_let_go()? && view.is_let_go()?)
+    let is_right = are_shown && is_paged && are_kept_out && is_read;
+    Ok(is_right && full.is_let_go()? && view.is_let_go()?)
 }
 
 /// The status of `serve` before this host.

@@ -1,6 +1,6 @@
 -- One thing and then another, at the front of some bytes. Readers of messages of several parts rest on it.
 use Rattle.std.proofs.Common.{◌≡◌, ℕ, ◌+◌, Bool, true, false, List, [], ◌∷◌, drop, refl, ap, sym, ◌∙◌, arith}
-use Rattle.pixel_format.specs.declared.fault.Fault.{Fault}
+use Rattle.fault.specs.declared.kinds.Fault.{Fault}
 use Rattle.byte_reading.specs.Reading.{Reading, Done, Faulty, Want, ◌>>=◌, after, taken, wants_more, unless}
 use Rattle.byte_reading.proofs.ReadingLaws.{at_fault, done_is, faulty_is, faulty_is_not, after-done, after-faulty}
 

@@ -1,7 +1,7 @@
 -- The definitions compute the worked values. A definition that says something else is refused here.
 use Rattle.std.proofs.Common.{◌≡◌, ℕ, [], ◌∷◌, refl}
 use Rattle.std.specs.Prelude.{Some, ◌==◌}
-use Rattle.pixel_format.specs.declared.fault.Fault.TheVariants.{NoNone}
+use Rattle.fault.specs.declared.kinds.Fault.TheVariants.{NoNone}
 use Rattle.byte_reading.specs.Reading.{Reading, Done, ◌>>=◌, byte, u16, unless, after, taken, messages, rest, fault_of, whole_of}
 
 -- Two numbers of two bytes each, and a third that is begun.

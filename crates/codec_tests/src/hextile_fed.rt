@@ -2,8 +2,9 @@
 
 ghost use Rattle.std.specs.Prelude.{◌≡◌, ◌≤◌, ◌<◌, length};
 
+use fault::Fault;
 use hextile_codec::Reader;
-use pixel_format::{Fault, Format};
+use pixel_format::Format;
 use raster::Raster;
 use std::alloc::Global;
 

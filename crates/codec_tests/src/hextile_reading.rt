@@ -4,8 +4,9 @@ ghost use Rattle.std.specs.Prelude.{◌≡◌, ◌≤◌, ◌<◌};
 
 use crate::colours::{BLUE, GREEN, RED};
 use crate::hextile_fed::{Fed, fails_at_last, fault_after, feed, feed_new, shows_row};
+use fault::Fault;
 use hextile_codec::Reader;
-use pixel_format::{Fault, Format};
+use pixel_format::Format;
 use raster::Raster;
 use std::alloc::Global;
 use std::test::Fail;

@@ -3,7 +3,8 @@
 ghost use Rattle.std.specs.Prelude.{◌≡◌};
 
 use crate::colours::{BLUE, RED};
-use pixel_format::{Fault, Format};
+use fault::Fault;
+use pixel_format::Format;
 use raster::Raster;
 use rre_codec::Reader;
 use std::alloc::Global;

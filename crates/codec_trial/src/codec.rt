@@ -3,8 +3,9 @@
 ghost use Rattle.std.specs.Prelude.{◌≡◌};
 
 use crate::record::{Answer, Record};
+use fault::Fault;
 use joined_runs::Runs;
-use pixel_format::{Fault, Format};
+use pixel_format::Format;
 use raster::Raster;
 use std::alloc::Global;
 

@@ -10,8 +10,8 @@ mod record;
 mod timing;
 
 use codec::{is_read, is_written, values_of};
+use fault::Fault;
 use joined_runs::Runs;
-use pixel_format::Fault;
 use record::{Answer, Record, read_record};
 use std::alloc::Global;
 use std::test::Fail;

@@ -9,7 +9,7 @@ use pixel_format::Format;
 pub enum Answer {
     /// The rectangle is for reading alone.
     Unasked,
-    /// Exactly the data.
+    /// The data of the record, byte for byte.
     Data,
     /// Nothing: Raw is as short.
     Nothing,

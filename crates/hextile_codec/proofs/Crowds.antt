@@ -1,23 +1,22 @@
--- A tile that is crowded has many joined runs over any background. `is_crowded` owes that.
+-- A tile that is crowded has many runs in either form, over any background. `is_crowded` owes that.
 use Rattle.std.proofs.Common.{◌≡◌, ℕ, zero, suc, Bool, true, false, not, cond, ◌&&◌, ◌||◌, List, [], ◌∷◌, ◌++◌, length, map, get_or, refl, sym, ap, ◌∙◌, ◌+◌, ◌-◌, ◌<◌, ◌≤◌, ◌⊎◌, inl, inr, length-append, arith}
 use Rattle.std.specs.Prelude.{filter, ◌==◌}
 use Rattle.std.specs.List.{flat_map, list_all, range_with_len}
 use Rattle.std.proofs.lemmas.Bool.{and_from, and_parts, eq-eqb, eqb-true}
 use Rattle.std.proofs.lemmas.List.{append-nil}
 use Rattle.std.proofs.lemmas.Grind.{flat_map-append}
-use Rattle.std.proofs.lemmas.List.Folds.{list_all-append}
+use Rattle.std.proofs.lemmas.List.Elements.{filter-append}
 use Rattle.raster.specs.Screen.{Canvas}
 use Rattle.raster.specs.Encoding.{Subrect, begins_run, run_from, runs_of_row}
-use Rattle.joined_runs.specs.declared.runs.Runs.TheVariants.{Joined}
-use Rattle.joined_runs.specs.Joined.{count_of, is_below, written}
+use Rattle.joined_runs.specs.declared.runs.Runs.TheVariants.{OfRows, Joined}
+use Rattle.joined_runs.specs.Joined.{background_of, is_below, runs_over, with_below, written}
 use Rattle.joined_runs.proofs.WrittenParts.{written_append}
-use Rattle.hextile_codec.specs.Crowded.{IsCrowded, is_corner}
-use Rattle.hextile_codec.specs.Kinds.{has_one_value}
+use Rattle.hextile_codec.specs.Crowded.{is_corner, shown_in, AreBegun}
+use Rattle.hextile_codec.specs.Kinds.{has_one_value, HasMany}
 use Rattle.hextile_codec.specs.Marks.{runs_of_rows}
 use Rattle.hextile_codec.proofs.MarkedRuns.{range_split}
 use Rattle.hextile_codec.proofs.RowMarks.{Shows}
-use Rattle.hextile_codec.proofs.Tallies.{tally, tally_filter, tally_list, tally_split}
-use Rattle.hextile_codec.proofs.TileRuns.{mixed_front}
+use Rattle.hextile_codec.proofs.Tallies.{tally_filter, tally_split}
 
 -- ---- of one value or more
 
@@ -26,17 +25,6 @@ one_from v [] e = refl
 one_from v (t ∷ ts) e =
     let both = and_parts (t.value == v) (list_all (λ u. u.value == v) ts) e in
     ap (λ n. list_all (λ u. u.value == n) ts) (eqb-true t.value v both.0) ∙ both.1
-
-and_no : (a b : Bool) → (b ≡ true → ⊥) → (a && b) ≡ false
-and_no a true f = absurd (f refl)
-and_no true false f = refl
-and_no false false f = refl
-
-mixed_back : (ss ts : List Subrect) → has_one_value ts ≡ false → has_one_value (ss ++ ts) ≡ false
-mixed_back [] ts e = e
-mixed_back (s ∷ ss) ts e =
-    list_all-append (λ t. t.value == s.value) ss ts
-    ∙ and_no (list_all (λ t. t.value == s.value) ss) (list_all (λ t. t.value == s.value) ts) (λ all. let no : true ≡ false = sym (one_from s.value ts all) ∙ e in cc)
 
 all_pass : (p : Subrect → Bool) (ss : List Subrect) → list_all p ss ≡ true → length (filter p ss) ≡ length ss
 all_pass p [] e = refl
@@ -99,12 +87,22 @@ not_zero : (y : ℕ) → (y == 0) ≡ false → 0 < y
 not_zero zero e = absurd cc
 not_zero (suc y) e = omega arith
 
--- ---- in a crowded row
+-- ---- row after row
 
-module _ (canvas : Canvas) (h background y : ℕ) (row other : List ℕ) (size : length row ≡ 16) (shows : Shows row canvas y) (above : 0 < y → Shows other canvas (y - 1)) where
+next_row : (canvas : Canvas) (h background y : ℕ)
+    → written Joined canvas 16 h (runs_of_rows canvas background 16 0 (y + 1)) ≡ written Joined canvas 16 h (runs_of_rows canvas background 16 0 y) ++ written Joined canvas 16 h (runs_of_row canvas background 16 y)
+next_row canvas h background y =
+    let f : ℕ → List Subrect = runs_of_row canvas background 16 in
+    let place : 0 + y ≡ y = omega arith in
+    ap (λ l. written Joined canvas 16 h (flat_map f l)) (range_split 0 y 1)
+    ∙ (ap (written Joined canvas 16 h) (flat_map-append f (range_with_len 0 y) (range_with_len (0 + y) 1))
+    ∙ (written_append canvas 16 h Joined (flat_map f (range_with_len 0 y)) (flat_map f (range_with_len (0 + y) 1))
+    ∙ ap (λ l. written Joined canvas 16 h (flat_map f (range_with_len 0 y)) ++ written Joined canvas 16 h l) (ap (λ i. f i ++ []) place ∙ append-nil (f y))))
+
+module _ (canvas : Canvas) (h y : ℕ) (row other : List ℕ) (shows : Shows row canvas y) (above : 0 < y → Shows other canvas (y - 1)) where
   -- A corner begins a run that isn't joined to one above, unless it shows the background.
-  corner_begins : (x : ℕ) → x < 16 → is_corner row other x ≡ true → (is_written canvas h background y x ≡ true) ⊎ ((canvas x y == background) ≡ true)
-  corner_begins x lt e =
+  corner_begins : (background x : ℕ) → x < 16 → is_corner row other x ≡ true → (is_written canvas h background y x ≡ true) ⊎ ((canvas x y == background) ≡ true)
+  corner_begins background x lt e =
       let both = and_parts ((x == 0) || not (get_or row (x - 1) 0 == get_or row x 0)) (not (get_or other x 0 == get_or row x 0)) e in
       let here : get_or row x 0 ≡ canvas x y = shows x lt in
       let before : get_or row (x - 1) 0 ≡ canvas (x - 1) y = shows (x - 1) (omega (arith, lt)) in
@@ -121,61 +119,79 @@ module _ (canvas : Canvas) (h background y : ℕ) (row other : List ℕ) (size :
       by_background true e left none = inr e
       by_background false e left none = inl (rw (e, left, none) refl)
 
-  shown_count : (v : ℕ) → length (filter (λ x. canvas x y == v) (range_with_len 0 16)) ≡ count_of row v
-  shown_count v =
-      tally_filter (λ x. canvas x y == v) 0 16
-      ∙ (ap (tally (λ x. canvas x y == v) 0) (sym size)
-      ∙ sym (tally_list (λ u. u == v) row (λ x. canvas x y) 0 (λ k lt. let same : 0 + k ≡ k = omega arith in shows k (omega (arith, lt, size)) ∙ ap (λ i. canvas i y) (sym same))))
+  pub begun_on : (begun more : ℕ) → more ≤ length (filter (is_corner row other) (range_with_len 0 16)) → AreBegun canvas h y begun → AreBegun canvas h (y + 1) (begun + more)
+  begun_on begun more few so = λ background.
+      let split = tally_split (is_corner row other) (is_written canvas h background y) (λ x. canvas x y == background) 0 16 (λ x lo hi e. corner_begins background x (omega (arith, hi)) e) in
+      let count = written_count canvas h background y (range_with_len 0 16) in
+      let on = next_row canvas h background y in
+      let before : List Subrect = written Joined canvas 16 h (runs_of_rows canvas background 16 0 y) in
+      let here : List Subrect = written Joined canvas 16 h (runs_of_row canvas background 16 y) in
+      let upto : y + 1 ≡ suc y = omega arith in
+      let shown : shown_in canvas background (y + 1) ≡ shown_in canvas background y + length (filter (λ x. canvas x y == background) (range_with_len 0 16)) = ap (shown_in canvas background) upto in
+      omega (arith, so background, few, split, count, ap length on, length-append before here, shown, tally_filter (is_corner row other) 0 16, tally_filter (is_written canvas h background y) 0 16, tally_filter (λ x. canvas x y == background) 0 16)
 
-  pub row_many : (least : ℕ) → IsCrowded row other least → least ≤ length (written Joined canvas 16 h (runs_of_row canvas background 16 y))
-  row_many least c =
-      let split = tally_split (is_corner row other) (is_written canvas h background y) (λ x. canvas x y == background) 0 16 (λ x lo hi e. corner_begins x (omega (arith, hi)) e) in
-      let begun = written_count canvas h background y (range_with_len 0 16) in
-      omega (arith, split, begun, c.corners, c.mixed background, tally_filter (is_corner row other) 0 16, tally_filter (is_written canvas h background y) 0 16, tally_filter (λ x. canvas x y == background) 0 16, shown_count background)
+pub none_begun : (canvas : Canvas) (h y : ℕ) → AreBegun canvas h y 0
+none_begun canvas h y = λ background. omega arith
 
-  pub row_mixed : (least : ℕ) → IsCrowded row other least → has_one_value (written Joined canvas 16 h (runs_of_row canvas background 16 y)) ≡ false
-  row_mixed least c =
-      mixed_many (written Joined canvas 16 h (runs_of_row canvas background 16 y)) 4
-      (λ v. let some = written_of canvas h background y v (range_with_len 0 16) in omega (arith, some, shown_count v, c.mixed v)) (omega (arith, row_many least c, c.many))
+-- Those of one value are no more than the positions that show it.
+written_few : (canvas : Canvas) (h background v y : ℕ) → length (filter (λ s. s.value == v) (written Joined canvas 16 h (runs_of_rows canvas background 16 0 y))) ≤ shown_in canvas v y
+written_few canvas h background v zero = omega arith
+written_few canvas h background v (suc y) =
+    let upto : y + 1 ≡ suc y = omega arith in
+    let before : List Subrect = written Joined canvas 16 h (runs_of_rows canvas background 16 0 y) in
+    let here : List Subrect = written Joined canvas 16 h (runs_of_row canvas background 16 y) in
+    let on : written Joined canvas 16 h (runs_of_rows canvas background 16 0 (suc y)) ≡ before ++ here = ap (λ n. written Joined canvas 16 h (runs_of_rows canvas background 16 0 n)) (sym upto) ∙ next_row canvas h background y in
+    let parts : filter (λ s. s.value == v) (before ++ here) ≡ filter (λ s. s.value == v) before ++ filter (λ s. s.value == v) here = filter-append (λ s. s.value == v) before here in
+    let row = written_of canvas h background y v (range_with_len 0 16) in
+    omega (arith, ap (λ ss. length (filter (λ s. s.value == v) ss)) on, ap length parts, length-append (filter (λ s. s.value == v) before) (filter (λ s. s.value == v) here), written_few canvas h background v y, row)
 
--- ---- row after row
+-- ---- in both forms
 
--- Of the rows above y so many are begun.
-pub record AreBegun (canvas : Canvas) (y begun : ℕ) : Type 0 where
-  pub many : (background : ℕ) → begun ≤ length (written Joined canvas 16 16 (runs_of_rows canvas background 16 0 y))
-  pub mixed : 0 < begun → (background : ℕ) → has_one_value (written Joined canvas 16 16 (runs_of_rows canvas background 16 0 y)) ≡ false
+kept_one : (f : Subrect → Subrect) (b : Bool) (s : Subrect) (ss : List Subrect) (n : ℕ) → length (map f ss) ≤ n → length (map f (cond b (s ∷ ss) ss)) ≤ suc n
+kept_one f true s ss n le = omega (arith, le)
+kept_one f false s ss n le = omega (arith, le)
 
-pub none_begun : (canvas : Canvas) → AreBegun canvas 0 0
-none_begun canvas = record { many = λ background. omega arith; mixed = λ some. absurd (omega (arith, some)) }
+kept_few : (f : Subrect → Subrect) (p : Subrect → Bool) (ss : List Subrect) → length (map f (filter p ss)) ≤ length ss
+kept_few f p [] = omega arith
+kept_few f p (s ∷ ss) = kept_one f (p s) s (filter p ss) (length ss) (kept_few f p ss)
 
-next_row : (canvas : Canvas) (background y : ℕ)
-    → written Joined canvas 16 16 (runs_of_rows canvas background 16 0 (y + 1)) ≡ written Joined canvas 16 16 (runs_of_rows canvas background 16 0 y) ++ written Joined canvas 16 16 (runs_of_row canvas background 16 y)
-next_row canvas background y =
-    let f : ℕ → List Subrect = runs_of_row canvas background 16 in
-    let place : 0 + y ≡ y = omega arith in
-    ap (λ l. written Joined canvas 16 16 (flat_map f l)) (range_split 0 y 1)
-    ∙ (ap (written Joined canvas 16 16) (flat_map-append f (range_with_len 0 y) (range_with_len (0 + y) 1))
-    ∙ (written_append canvas 16 16 Joined (flat_map f (range_with_len 0 y)) (flat_map f (range_with_len (0 + y) 1))
-    ∙ ap (λ l. written Joined canvas 16 16 (flat_map f (range_with_len 0 y)) ++ written Joined canvas 16 16 l) (ap (λ i. f i ++ []) place ∙ append-nil (f y))))
+value_one : (canvas : Canvas) (h v : ℕ) (b : Bool) (s : Subrect) (ss : List Subrect) → (s.value == v) ≡ true → list_all (λ t. t.value == v) (map (with_below canvas 16 h) ss) ≡ true → list_all (λ t. t.value == v) (map (with_below canvas 16 h) (cond b (s ∷ ss) ss)) ≡ true
+value_one canvas h v true s ss e f = and_from (s.value == v) (list_all (λ t. t.value == v) (map (with_below canvas 16 h) ss)) e f
+value_one canvas h v false s ss e f = f
 
-pub begun_on : (canvas : Canvas) (y begun least : ℕ) (row other : List ℕ) → length row ≡ 16 → Shows row canvas y → (0 < y → Shows other canvas (y - 1)) → (0 < least → IsCrowded row other least) → AreBegun canvas y begun → AreBegun canvas (y + 1) (begun + least)
-begun_on canvas y begun zero row other size shows above crowded so =
-    record {
-      many = λ background. let on = next_row canvas background y in
-          let before : List Subrect = written Joined canvas 16 16 (runs_of_rows canvas background 16 0 y) in
-          omega (arith, so.many background, ap length on, length-append before (written Joined canvas 16 16 (runs_of_row canvas background 16 y)));
-      mixed = λ some background. next_row_mixed background (so.mixed (omega (arith, some)) background);
-    }
+kept_value : (canvas : Canvas) (h v : ℕ) (p : Subrect → Bool) (ss : List Subrect) → list_all (λ t. t.value == v) ss ≡ true → list_all (λ t. t.value == v) (map (with_below canvas 16 h) (filter p ss)) ≡ true
+kept_value canvas h v p [] e = refl
+kept_value canvas h v p (s ∷ ss) e =
+    let both = and_parts (s.value == v) (list_all (λ t. t.value == v) ss) e in
+    value_one canvas h v (p s) s (filter p ss) both.0 (kept_value canvas h v p ss both.1)
+
+-- Where the joined runs have more values than one, so have the runs of rows.
+rows_mixed : (canvas : Canvas) (h : ℕ) (ss : List Subrect) → has_one_value (written Joined canvas 16 h ss) ≡ false → has_one_value ss ≡ false
+rows_mixed canvas h [] mixed = absurd (let no : true ≡ false = mixed in cc)
+rows_mixed canvas h (s ∷ ss) mixed = by_test (has_one_value (s ∷ ss)) refl
   where
-    next_row_mixed : (background : ℕ) → has_one_value (written Joined canvas 16 16 (runs_of_rows canvas background 16 0 y)) ≡ false → has_one_value (written Joined canvas 16 16 (runs_of_rows canvas background 16 0 (y + 1))) ≡ false
-    next_row_mixed background e = ap has_one_value (next_row canvas background y) ∙ mixed_front (written Joined canvas 16 16 (runs_of_rows canvas background 16 0 y)) (written Joined canvas 16 16 (runs_of_row canvas background 16 y)) e
-begun_on canvas y begun (suc n) row other size shows above crowded so =
-    let c : IsCrowded row other (suc n) = crowded (omega arith) in
-    record {
-      many = λ background. let on = next_row canvas background y in
-          let before : List Subrect = written Joined canvas 16 16 (runs_of_rows canvas background 16 0 y) in
-          omega (arith, so.many background, row_many canvas 16 background y row other size shows above (suc n) c, ap length on, length-append before (written Joined canvas 16 16 (runs_of_row canvas background 16 y)));
-      mixed = λ some background.
-          ap has_one_value (next_row canvas background y)
-          ∙ mixed_back (written Joined canvas 16 16 (runs_of_rows canvas background 16 0 y)) (written Joined canvas 16 16 (runs_of_row canvas background 16 y)) (row_mixed canvas 16 background y row other size shows above (suc n) c);
-    }
+    by_test : (b : Bool) → has_one_value (s ∷ ss) ≡ b → b ≡ false
+    by_test false e = refl
+    by_test true e =
+        let all : list_all (λ t. t.value == s.value) (s ∷ ss) ≡ true = and_from (s.value == s.value) (list_all (λ t. t.value == s.value) ss) (eq-eqb s.value s.value refl) e in
+        let kept = kept_value canvas h s.value (λ run. not (is_below canvas 16 run)) (s ∷ ss) all in
+        absurd (let no : true ≡ false = sym (one_from s.value (written Joined canvas 16 h (s ∷ ss)) kept) ∙ mixed in cc)
+
+module _ (canvas : Canvas) (h corners most enough : ℕ) (begun : AreBegun canvas h h corners) (shown : (v : ℕ) → shown_in canvas v h ≤ most) (few : most < enough) (more : enough + most ≤ corners) where
+  many_over : (background : ℕ) → enough ≤ length (written Joined canvas 16 h (runs_over canvas background 16 h))
+  many_over background = omega (arith, begun background, shown background, more)
+
+  mixed_over : (background : ℕ) → has_one_value (written Joined canvas 16 h (runs_over canvas background 16 h)) ≡ false
+  mixed_over background =
+      mixed_many (written Joined canvas 16 h (runs_over canvas background 16 h)) most (λ v. omega (arith, written_few canvas h background v h, shown v)) (omega (arith, many_over background, few))
+
+  pub crowded_joined : HasMany Joined 16 h canvas enough
+  crowded_joined = record { many = many_over (background_of Joined 16 h canvas); mixed = mixed_over (background_of Joined 16 h canvas) }
+
+  pub crowded_rows : HasMany OfRows 16 h canvas enough
+  crowded_rows =
+      let runs : List Subrect = runs_over canvas (background_of OfRows 16 h canvas) 16 h in
+      record {
+        many = omega (arith, many_over (background_of OfRows 16 h canvas), kept_few (with_below canvas 16 h) (λ run. not (is_below canvas 16 run)) runs);
+        mixed = rows_mixed canvas h runs (mixed_over (background_of OfRows 16 h canvas));
+      }

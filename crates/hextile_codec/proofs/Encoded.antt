@@ -1,6 +1,6 @@
 -- What is answered of a rectangle, from what its tiles come to. Both forms are answered so.
 use Rattle.std.proofs.Common.{◌≡◌, ◌*◌, ◌<◌, ◌≤◌, ◌∙◌, ◌++◌, Bool, true, false, cond, ℕ, List, Option, Some, None, length, take, ap, arith}
-use Rattle.std.specs.Prelude.{MatchOption, nat_le, unwrap_or}
+use Rattle.std.specs.Prelude.{MatchOption, nat_le}
 use Rattle.std.proofs.lemmas.Bool.{lt-ltb, le-ltb, le-leb, lt-leb}
 use Rattle.std.proofs.lemmas.List.{take-append-le}
 use Rattle.pixel_format.specs.PixelFormat.{PixelFormat, pixel_len}
@@ -50,16 +50,22 @@ shorter_first xs ys le = ap (λ b. cond b xs ys) (le-leb (length xs) (length ys)
 pub shorter_second : (xs ys : List ℕ) → length ys < length xs → shorter xs ys ≡ ys
 shorter_second xs ys lt = ap (λ b. cond b xs ys) (lt-leb (length xs) (length ys) lt)
 
--- A number below the end of what was answered is below the length of the bytes.
-pub end_least : (bytes old new : List ℕ) (answer : Option ℕ) (n : ℕ) → AreAnswered bytes old new answer → n < unwrap_or answer (length old) → n < length bytes
-end_least bytes old new None n said lt = omega (arith, said, lt)
-end_least bytes old new (Some end) n said lt = omega (arith, said.0, lt)
+least : (b : Bool) (xs ys : List ℕ) (n : ℕ) → n ≤ length xs → n ≤ length ys → n ≤ length (cond b xs ys)
+least true xs ys n p q = p
+least false xs ys n p q = q
 
--- Others that don't end before it change nothing.
-pub keeps_first : (bytes others old new : List ℕ) (answer : Option ℕ) → AreAnswered bytes old new answer → unwrap_or answer (length old) ≤ length others → AreAnswered (shorter bytes others) old new answer
-keeps_first bytes others old new None said le = least (nat_le (length bytes) (length others)) bytes others (length old) said le
-  where
-    least : (b : Bool) (xs ys : List ℕ) (n : ℕ) → n ≤ length xs → n ≤ length ys → n ≤ length (cond b xs ys)
-    least true xs ys n p q = p
-    least false xs ys n p q = q
-keeps_first bytes others old new (Some end) said le = rw (shorter_first bytes others (omega (arith, said.0, le))) said
+-- Neither fits.
+pub none_fits : (bytes others old : List ℕ) → length old ≤ length bytes → length old ≤ length others → length old ≤ length (shorter bytes others)
+none_fits bytes others old le also = least (nat_le (length bytes) (length others)) bytes others (length old) le also
+
+-- The first doesn't fit, so that what was answered of the second holds.
+pub second_fits : (bytes others old now new : List ℕ) (answer : Option ℕ) → length now ≡ length old → length old ≤ length bytes → AreAnswered others now new answer → AreAnswered (shorter bytes others) old new answer
+second_fits bytes others old now new None size le said = none_fits bytes others old le (omega (arith, said, size))
+second_fits bytes others old now new (Some end) size le said =
+    let less : length others < length bytes = omega (arith, said.0, said.1, size, le) in
+    rw (shorter_second bytes others less) (said.0, omega (arith, said.1, size), said.2)
+
+-- The second is shorter.
+pub second_shorter : (bytes others old now new : List ℕ) (answer : Option ℕ) → length now ≡ length old → length others < length bytes → AreAnswered others now new answer → AreAnswered (shorter bytes others) old new answer
+second_shorter bytes others old now new None size lt said = rw (shorter_second bytes others lt) (omega (arith, said, size))
+second_shorter bytes others old now new (Some end) size lt said = rw (shorter_second bytes others lt) (said.0, omega (arith, said.1, size), said.2)

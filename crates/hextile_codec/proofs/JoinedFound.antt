@@ -1,6 +1,8 @@
 -- The runs of a tile, joined one after another. `join` goes through them once.
-use Rattle.std.proofs.Common.{◌≡◌, ℕ, List, [], ◌∷◌, ◌++◌, length, map, take, get_or, refl, sym, ap, ◌∙◌, ◌+◌, ◌<◌}
+use Rattle.std.proofs.Common.{◌≡◌, ℕ, true, false, not, ◌||◌, ◌-◌, List, [], ◌∷◌, ◌++◌, length, map, take, get_or, refl, sym, ap, ◌∙◌, ◌+◌, ◌<◌}
+use Rattle.std.specs.Prelude.{◌==◌}
 use Rattle.std.specs.List.{All}
+use Rattle.std.proofs.lemmas.Bool.{and_parts, eq-eqb}
 use Rattle.std.proofs.lemmas.List.{take_more, map_push}
 use Rattle.std.proofs.lemmas.List.Elements.{All-nil, All-cons}
 use Rattle.raster.specs.Screen.{Canvas}
@@ -13,6 +15,7 @@ use Rattle.raster.proofs.Runs.{each_run_over}
 use Rattle.joined_runs.proofs.WrittenParts.{written_append}
 use Rattle.hextile_codec.specs.declared.runs.Run.{Run}
 use Rattle.hextile_codec.specs.Kinds.{IsRowRun, subrect_of}
+use Rattle.hextile_codec.specs.TileMarks.{IsOther}
 
 -- A run is the same in both crates.
 pub same_run : (run : Run) (x y len : ℕ) → x ≡ run.x → y ≡ run.y → len ≡ run.len → run.high ≡ 1 → whole.subrect_of (record { value = run.value; x = x; y = y; len = len }) ≡ subrect_of run
@@ -42,3 +45,13 @@ module _ (canvas : Canvas) (w h : ℕ) where
 
   pub row_runs : (background : ℕ) (rs : List Run) → map subrect_of rs ≡ runs_over canvas background w h → All (IsRowRun w h) rs
   row_runs background rs e = all_rows rs (rw e (each_run_over canvas background w h is_row (λ x y lx ly b. (lx, ly, refl))))
+
+  all_others : (background : ℕ) (rs : List Run) → Each (λ s. s.value ≡ background → ⊥) (map subrect_of rs) → All (IsOther background) rs
+  all_others background [] e = All-nil (IsOther background)
+  all_others background (r ∷ rs) e = All-cons (IsOther background) r rs e.0 (all_others background rs e.1)
+
+  -- Runs over a background have another value.
+  pub row_others : (background : ℕ) (rs : List Run) → map subrect_of rs ≡ runs_over canvas background w h → All (IsOther background) rs
+  row_others background rs e =
+      all_others background rs
+      (rw e (each_run_over canvas background w h (λ s. s.value ≡ background → ⊥) (λ x y lx ly b same. let apart : false ≡ true = sym (ap not (eq-eqb (canvas x y) background same)) ∙ (and_parts (not (canvas x y == background)) ((x == 0) || not (canvas (x - 1) y == canvas x y)) b).0 in cc)))

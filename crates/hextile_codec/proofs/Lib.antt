@@ -28,3 +28,7 @@ pub mod Encoded
 pub mod Tallies
 pub mod Crowds
 pub mod PlainTile
+pub mod Searched
+pub mod Shown
+pub mod Buckets
+pub mod Heights

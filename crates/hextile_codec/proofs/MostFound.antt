@@ -89,7 +89,8 @@ seen values at best most u b =
           inl (rw same at (b.so_far s.k lt))
     ]
 
-grown : (values : List ℕ) (at best most : ℕ) → IsBest values at best most → at < length values → count_of values (get_or values at 0) ≤ most → IsBest values (at + 1) best most
+-- The next value isn't better.
+pub grown : (values : List ℕ) (at best most : ℕ) → IsBest values at best most → at < length values → count_of values (get_or values at 0) ≤ most → IsBest values (at + 1) best most
 grown values at best most b lt le =
     record {
       first = b.first;
@@ -106,9 +107,6 @@ grown values at best most b lt le =
 
 pub best_again : (values : List ℕ) (at best most : ℕ) → IsBest values at best most → at < length values → get_or values at 0 ≡ best → IsBest values (at + 1) best most
 best_again values at best most b lt e = grown values at best most b lt (rw e (omega (arith, b.count)))
-
-pub same_again : (values : List ℕ) (at best most : ℕ) → IsBest values at best most → at < length values → get_or values at 0 ≡ get_or values (at - 1) 0 → IsBest values (at + 1) best most
-same_again values at best most b lt e = grown values at best most b lt (rw e (b.so_far (at - 1) (omega (arith, b.below))))
 
 pub not_better : (values : List ℕ) (at best most count : ℕ) → IsBest values at best most → at < length values → count ≡ count_of (drop at values) (get_or values at 0) → count ≤ most → IsBest values (at + 1) best most
 not_better values at best most count b lt is le =

@@ -4,7 +4,7 @@ use Rattle.std.specs.Prelude.{slice_index, unwrap_or}
 use Rattle.std.proofs.lemmas.List.{length-take, length-drop}
 use Rattle.pixel_format.specs.PixelFormat.{PixelFormat, pixel_len}
 use Rattle.byte_reading.specs.Reading.{Reading, Done, Faulty, ◌>>=◌, byte, times, unless, Spells}
-use Rattle.pixel_format.specs.declared.fault.Fault.TheVariants.{SubrectOutside}
+use Rattle.fault.specs.declared.kinds.Fault.TheVariants.{SubrectOutside}
 use Rattle.raster.specs.declared.rect.Rect.{Rect}
 use Rattle.raster.specs.Screen.{Canvas, LooksLike, is_within, fill, part_of}
 use Rattle.raster.specs.Encoding.{Subrect, Carried, Tile, Drawn, subrect_value, hextile_subrect}

@@ -29,6 +29,13 @@ module _ (form : Runs) (format : PixelFormat) (w h : ℕ) (canvas : Canvas) wher
       let next : tile_count w h - k ≡ suc (tile_count w h - (k + 1)) = omega arith in
       ap (tiles_from_as form format w h canvas before k) next ∙ ap (λ (t : Rect). (tile_written before t).0 ++ rest_from (tile_written before t).1 (k + 1)) (sym is)
 
+  -- What is left begins with the next tile.
+  pub left_len : (before : Carried) (k : ℕ) (tile : Rect) (len : ℕ) → tile ≡ tile_rect w h k → k < tile_count w h → len ≡ length (tile_written before tile).0
+      → length (rest_from before k) ≡ len + length (rest_from (tile_written before tile).1 (k + 1))
+  left_len before k tile len is lt size =
+      ap length (rest_next before k tile is lt)
+      ∙ (length-append (tile_written before tile).0 (rest_from (tile_written before tile).1 (k + 1)) ∙ ap (λ n. n + length (rest_from (tile_written before tile).1 (k + 1))) (sym size))
+
   pub tile_is_put : (before after_it : Carried) (k : ℕ) (tile : Rect) (used stop : ℕ) (out new whole : List ℕ) → tile ≡ tile_rect w h k → k < tile_count w h → take stop new ≡ take used out ++ (tile_written before tile).0 → after_it ≡ (tile_written before tile).1
       → take used out ++ rest_from before k ≡ whole → take stop new ++ rest_from after_it (k + 1) ≡ whole
   tile_is_put before after_it k tile used stop out new whole is lt put leaves so =

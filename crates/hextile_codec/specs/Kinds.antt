@@ -1,11 +1,12 @@
 -- What the reflector knows of a tile before it writes it.
-use Rattle.std.specs.Prelude.{◌≡◌, ℕ, ◌+◌, ◌*◌, ◌<◌, ◌≤◌, Bool, true, false, ◌==◌, if◌then◌else◌, List, [], ◌∷◌, length, Some, None}
+use Rattle.std.specs.Prelude.{◌≡◌, ℕ, ◌+◌, ◌*◌, ◌/◌, ◌<◌, ◌≤◌, Bool, true, false, ◌==◌, if◌then◌else◌, List, [], ◌∷◌, length, Option, Some, None, MatchOption}
 use Rattle.std.specs.List.{list_all}
 use Rattle.pixel_format.specs.PixelFormat.{PixelFormat, pixel_len}
 use Rattle.raster.specs.Screen.{Canvas, values_of}
 use Rattle.raster.specs.Encoding.{Subrect, Carried, nothing_carried, raw_bytes, unless_said, drawn_bytes}
 use Rattle.joined_runs.specs.declared.runs.Runs.{Runs}
-use Rattle.joined_runs.specs.Joined.{background_of, subrects_of, tile_bytes_as}
+use Rattle.joined_runs.specs.declared.runs.Runs.TheVariants.{OfRows}
+use Rattle.joined_runs.specs.Joined.{background_of, runs_over, subrects_of, tile_bytes_as}
 use Rattle.hextile_codec.specs.declared.runs.Run.{Run}
 use Rattle.hextile_codec.specs.declared.kind.Kind.{Kind}
 use Rattle.hextile_codec.specs.declared.kind.Kind.TheVariants.{Raw, Plain, TwoColours, Coloured}
@@ -14,6 +15,10 @@ use Rattle.hextile_codec.specs.declared.kind.TileChoice.{TileChoice}
 -- A run, as a subrectangle.
 abbrev pub subrect_of : Run → Subrect
 subrect_of run = record { value = run.value; area = record { x = run.x; y = run.y; w = run.len; h = run.high } }
+
+-- A run, as a subrectangle this high.
+abbrev pub subrect_as_high : Run → ℕ → Subrect
+subrect_as_high run high = record { value = run.value; area = record { x = run.x; y = run.y; w = run.len; h = high } }
 
 -- It lies in a tile.
 pub record IsSmall (run : Run) : Type 0 where
@@ -63,6 +68,18 @@ pub record IsFoundAs (form : Runs) (w h : ℕ) (canvas : Canvas) (found : List S
 pub record HasMany (form : Runs) (w h : ℕ) (canvas : Canvas) (enough : ℕ) : Type 0 where
   pub many : enough ≤ length (subrects_of form w h canvas)
   pub mixed : has_one_value (subrects_of form w h canvas) ≡ false
+
+-- What a search answers: that there are too many of them, or the background, where they were found.
+abbrev pub IsSearched : Runs → ℕ → ℕ → Canvas → ℕ → List Subrect → Option ℕ → Type 0
+IsSearched form w h canvas enough found answer = MatchOption answer (HasMany form w h canvas enough) (IsFoundAs form w h canvas found)
+
+-- Beside it, that there are too many runs of rows, too, or the runs of rows over that background.
+abbrev pub AreBeside : ℕ → ℕ → Canvas → ℕ → List Subrect → Option ℕ → Type 0
+AreBeside w h canvas enough runs answer = MatchOption answer (HasMany OfRows w h canvas enough) (λ background. runs ≡ runs_over canvas background w h)
+
+-- This many subrectangles of more values than one have more bytes than the pixels.
+abbrev pub enough_of : PixelFormat → ℕ → ℕ → ℕ
+enough_of format w h = (1 + pixel_len format * (w * h)) / (pixel_len format + 2) + 1
 
 -- The bytes of a tile are these, its pixels or the drawing of its subrectangles.
 abbrev pub IsWrittenAs : Runs → PixelFormat → Carried → ℕ → ℕ → Canvas → List Subrect → ℕ → Kind → List ℕ → Type 0

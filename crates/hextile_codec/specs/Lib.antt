@@ -4,3 +4,5 @@ pub mod Kinds
 pub mod Bits
 pub mod Marks
 pub mod Crowded
+pub mod Buckets
+pub mod TileMarks

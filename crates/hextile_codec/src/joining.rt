@@ -1,16 +1,18 @@
 //! The subrectangles of a tile in either form.
 
-ghost use Rattle.std.specs.Prelude.{◌≡◌, ◌+◌, ◌*◌, ◌<◌, ◌≤◌, ◌^◌, false, length, map, MatchOption};
+ghost use Rattle.std.specs.Prelude.{◌≡◌, ◌+◌, ◌*◌, ◌<◌, ◌≤◌, ◌^◌, length, map};
 ghost use Rattle.std.specs.List.{All};
 ghost use Rattle.raster.specs.Screen.{value_at, part_of};
-ghost use Rattle.joined_runs.specs.declared.runs.Runs.TheVariants.{Joined};
-ghost use Rattle.joined_runs.specs.Joined.{background_of, subrects_of, written};
-ghost use Rattle.hextile_codec.specs.Kinds.{HasMany, IsRowRun, IsFoundAs, subrect_of};
+ghost use Rattle.joined_runs.specs.declared.runs.Runs.TheVariants.{OfRows, Joined};
+ghost use Rattle.joined_runs.specs.Joined.{joined_runs, runs_over, written};
+ghost use Rattle.hextile_codec.specs.Kinds.{IsRowRun, IsFoundAs, IsSearched, AreBeside, subrect_of};
 ghost use Rattle.hextile_codec.specs.Marks.{LiesAmong};
+ghost use Rattle.hextile_codec.specs.TileMarks.{AreTileMarks, IsOther};
 
 use crate::crowded::is_crowded;
-use crate::frequent::{Pixels, most_frequent, take_pixels};
-use crate::runs::{Found, Run, find_all, find_runs, is_plain};
+use crate::frequent::{Pixels, find_most};
+use crate::runs::{Found, Run, find_each_row, find_runs, is_plain};
+use crate::tile_marks::{TileMarks, find_whole};
 use joined_runs::{RowRun, Runs, height};
 use raster::{Rect, TILE_SIDE};
 
@@ -18,7 +20,7 @@ use raster::{Rect, TILE_SIDE};
 #[derive(Drop)]
 pub struct Room {
     pixels: Pixels,
-    runs: Found,
+    pub runs: Found,
     pub subrects: Found,
 }
 
@@ -58,49 +60,74 @@ fn join(values: &[u32], w: usize, tile: &Rect, runs: &[Run], joined: &mut Found)
     }
 }
 
-/// Finds the joined runs of a tile over its most frequent value, and answers that.
+/// Joins all runs of a whole tile with those below them, by its marks.
+fn join_marked(
+    values: &[u32],
+    w: usize,
+    tile: &Rect,
+    marks: &TileMarks,
+    runs: &[Run],
+    joined: &mut Found,
+)
+    requires lies { LiesAmong values.now w tile.now }
+    requires wide { tile.now.w ≡ 16 }
+    requires high { tile.now.h ≡ 16 }
+    requires marks { AreTileMarks (part_of tile.now (value_at w values.now)) marks.now.background marks.now }
+    requires rows { All (IsRowRun 16 16) runs.now }
+    requires others { All (IsOther marks.now.background) runs.now }
+    requires few { length runs.now ≤ 256 }
+    ensures { map subrect_of joined.new.items ≡ written Joined (part_of tile.now (value_at w values.now)) 16 16 (map subrect_of runs.now) }
+{
+    joined.clear();
+    for run in runs {
+        if let Some(high) = marks.height(values, w, tile, run) {
+            joined.push(Run {
+                high: high as u8,
+                ..*run
+            });
+        }
+    }
+}
+
+/// Finds the runs of rows of a tile over a background, and joins them.
+fn search_over(values: &[u32], w: usize, tile: &Rect, background: u32, room: &mut Room)
+    requires lies { LiesAmong values.now w tile.now }
+    requires w_some { 0 < tile.now.w }
+    requires w_most { tile.now.w ≤ TILE_SIDE }
+    requires h_most { tile.now.h ≤ TILE_SIDE }
+    ensures joined { map subrect_of room.new.subrects.items ≡ joined_runs (part_of tile.now (value_at w values.now)) background tile.now.w tile.now.h }
+    ensures rows { map subrect_of room.new.runs.items ≡ runs_over (part_of tile.now (value_at w values.now)) background tile.now.w tile.now.h }
+{
+    if tile.w == TILE_SIDE && tile.h == TILE_SIDE {
+        let marks = find_whole(values, w, tile, background, &mut room.runs);
+        let runs = room.runs.as_slice();
+        join_marked(values, w, tile, &marks, runs, &mut room.subrects);
+    } else {
+        find_each_row(values, w, tile, background, &mut room.runs);
+        join(values, w, tile, room.runs.as_slice(), &mut room.subrects);
+    }
+}
+
+/// Finds the joined runs of a tile over its most frequent value, which it answers, and its runs of rows over that.
 fn search_joined(values: &[u32], w: usize, tile: &Rect, room: &mut Room) -> u32
     requires lies { LiesAmong values.now w tile.now }
     requires w_some { 0 < tile.now.w }
     requires w_most { tile.now.w ≤ TILE_SIDE }
     requires h_some { 0 < tile.now.h }
     requires h_most { tile.now.h ≤ TILE_SIDE }
-    ensures { let canvas = part_of tile.now (value_at w values.now) in IsFoundAs Joined tile.now.w tile.now.h canvas (map subrect_of room.new.subrects.items) result }
+    ensures joined { IsFoundAs Joined tile.now.w tile.now.h (part_of tile.now (value_at w values.now)) (map subrect_of room.new.subrects.items) result }
+    ensures rows { map subrect_of room.new.runs.items ≡ runs_over (part_of tile.now (value_at w values.now)) result tile.now.w tile.now.h }
 {
-    take_pixels(values, w, tile, &mut room.pixels);
-    let background = most_frequent(room.pixels.as_slice());
-    find_all(values, w, tile, background, &mut room.runs);
-    join(values, w, tile, room.runs.as_slice(), &mut room.subrects);
+    let background = find_most(values, w, tile, &mut room.pixels);
+    search_over(values, w, tile, background, room);
     background
 }
 
-/// The same, where a tile of one value is answered at once, and one that will be Raw is left as soon as that shows;
-/// `None` as `find_subrects` answers it.
-fn find_joined(values: &[u32], w: usize, tile: &Rect, enough: usize, room: &mut Room) -> Option<u32>
-    requires lies { LiesAmong values.now w tile.now }
-    requires w_some { 0 < tile.now.w }
-    requires w_most { tile.now.w ≤ TILE_SIDE }
-    requires h_some { 0 < tile.now.h }
-    requires h_most { tile.now.h ≤ TILE_SIDE }
-    requires some { 0 < enough }
-    ensures { let canvas = part_of tile.now (value_at w values.now) in MatchOption result (HasMany Joined tile.now.w tile.now.h canvas enough) (IsFoundAs Joined tile.now.w tile.now.h canvas (map subrect_of room.new.subrects.items)) }
-{
-    let first = values[tile.y as usize * w + tile.x as usize];
-    if is_plain(values, w, tile, first) {
-        room.subrects.clear();
-        return Some(first);
-    }
-    if tile.w == TILE_SIDE && tile.h == TILE_SIDE && is_crowded(values, w, tile, enough) {
-        return None;
-    }
-    Some(search_joined(values, w, tile, room))
-}
-
-/// Finds the subrectangles of a tile in a form, and answers its background.
+/// Finds the joined runs of a tile over its most frequent value, which it answers, and its runs of rows over that. A tile
+/// of one value is answered at once, and one that will be Raw in both forms is left as soon as that shows.
 ///
-/// `None` only where there are `enough` of them, of more values than one.
-pub fn find_subrects(
-    form: Runs,
+/// `None` only where there are `enough` subrectangles in both forms, of more values than one.
+pub fn find_joined(
     values: &[u32],
     w: usize,
     tile: &Rect,
@@ -113,14 +140,64 @@ pub fn find_subrects(
     requires h_some { 0 < tile.now.h }
     requires h_most { tile.now.h ≤ TILE_SIDE }
     requires some { 0 < enough }
-    ensures { let canvas = part_of tile.now (value_at w values.now) in MatchOption result (HasMany form tile.now.w tile.now.h canvas enough) (IsFoundAs form tile.now.w tile.now.h canvas (map subrect_of room.new.subrects.items)) }
+    ensures joined { IsSearched Joined tile.now.w tile.now.h (part_of tile.now (value_at w values.now)) enough (map subrect_of room.new.subrects.items) result }
+    ensures rows { AreBeside tile.now.w tile.now.h (part_of tile.now (value_at w values.now)) enough (map subrect_of room.new.runs.items) result }
 {
-    match form {
-        Runs::OfRows => {
-            let background = values[tile.y as usize * w + tile.x as usize];
-            let found = &mut room.subrects;
-            find_runs(values, w, tile, background, enough, found).then_some(background)
-        }
-        Runs::Joined => find_joined(values, w, tile, enough, room),
+    let first = values[tile.y as usize * w + tile.x as usize];
+    if is_plain(values, w, tile, first) {
+        room.subrects.clear();
+        room.runs.clear();
+        return Some(first);
     }
+    if tile.w == TILE_SIDE && is_crowded(values, w, tile, enough) {
+        return None;
+    }
+    Some(search_joined(values, w, tile, room))
+}
+
+/// Finds the runs of the rows of a tile over its first pixel's value, which it answers.
+///
+/// `None` only where there are `enough` of them, of more values than one.
+pub fn find_rows(
+    values: &[u32],
+    w: usize,
+    tile: &Rect,
+    enough: usize,
+    runs: &mut Found,
+) -> Option<u32>
+    requires lies { LiesAmong values.now w tile.now }
+    requires w_some { 0 < tile.now.w }
+    requires w_most { tile.now.w ≤ TILE_SIDE }
+    requires h_some { 0 < tile.now.h }
+    requires h_most { tile.now.h ≤ TILE_SIDE }
+    ensures { IsSearched OfRows tile.now.w tile.now.h (part_of tile.now (value_at w values.now)) enough (map subrect_of runs.new.items) result }
+{
+    let first = values[tile.y as usize * w + tile.x as usize];
+    find_runs(values, w, tile, first, enough, runs).then_some(first)
+}
+
+/// The same, where those over the background of the joined runs are in `runs`, and often are the same.
+pub fn rows_beside(
+    values: &[u32],
+    w: usize,
+    tile: &Rect,
+    enough: usize,
+    background: Option<u32>,
+    runs: &mut Found,
+) -> Option<u32>
+    requires lies { LiesAmong values.now w tile.now }
+    requires w_some { 0 < tile.now.w }
+    requires w_most { tile.now.w ≤ TILE_SIDE }
+    requires h_some { 0 < tile.now.h }
+    requires h_most { tile.now.h ≤ TILE_SIDE }
+    requires beside { AreBeside tile.now.w tile.now.h (part_of tile.now (value_at w values.now)) enough (map subrect_of runs.old.items) background }
+    ensures { IsSearched OfRows tile.now.w tile.now.h (part_of tile.now (value_at w values.now)) enough (map subrect_of runs.new.items) result }
+{
+    let Some(background) = background else {
+        return None;
+    };
+    if values[tile.y as usize * w + tile.x as usize] == background {
+        return Some(background);
+    }
+    find_rows(values, w, tile, enough, runs)
 }

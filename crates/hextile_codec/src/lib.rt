@@ -23,6 +23,7 @@ mod rows;
 mod runs;
 mod stage;
 mod subrects;
+mod tile_marks;
 mod writing;
 
 pub use reading::Reader;

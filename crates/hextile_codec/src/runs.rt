@@ -81,7 +81,7 @@ pub fn is_plain(values: &[u32], w: usize, tile: &Rect, background: u32) -> bool
 }
 
 /// Adds the runs of four rows of 16, from row `y` on, found by their marks.
-fn add_marked(values: &[u32], w: usize, tile: &Rect, y: usize, marks: Marks, runs: &mut Found)
+pub fn add_marked(values: &[u32], w: usize, tile: &Rect, y: usize, marks: Marks, runs: &mut Found)
     requires lies { LiesAmong values.now w tile.now }
     requires wide { tile.now.w ≡ 16 }
     requires rows { y + 4 ≤ tile.now.h }
@@ -238,8 +238,8 @@ pub fn find_runs(
     find_by_rows(values, w, tile, background, enough, found)
 }
 
-/// Finds all runs of a tile, row after row.
-fn find_each_row(values: &[u32], w: usize, tile: &Rect, background: u32, found: &mut Found)
+/// Finds all runs of a tile other than a background, row after row, and puts them into `found`.
+pub fn find_each_row(values: &[u32], w: usize, tile: &Rect, background: u32, found: &mut Found)
     requires lies { LiesAmong values.now w tile.now }
     requires w_some { 0 < tile.now.w }
     requires w_most { tile.now.w ≤ TILE_SIDE }
@@ -250,21 +250,4 @@ fn find_each_row(values: &[u32], w: usize, tile: &Rect, background: u32, found: 
     for y in 0..tile.h as usize {
         add_row(row_of(values, w, tile, y), y, background, found);
     }
-}
-
-/// Finds all runs of a tile other than a background, and puts them into `found`.
-pub fn find_all(values: &[u32], w: usize, tile: &Rect, background: u32, found: &mut Found)
-    requires lies { LiesAmong values.now w tile.now }
-    requires w_some { 0 < tile.now.w }
-    requires w_most { tile.now.w ≤ TILE_SIDE }
-    requires h_most { tile.now.h ≤ TILE_SIDE }
-    ensures { map subrect_of found.new.items ≡ runs_over (part_of tile.now (value_at w values.now)) background tile.now.w tile.now.h }
-{
-    if tile.w == TILE_SIDE
-        && tile.h == TILE_SIDE
-        && find_marked(values, w, tile, background, TILE_AREA + 1, found)
-    {
-        return;
-    }
-    find_each_row(values, w, tile, background, found);
 }

@@ -4,7 +4,8 @@ ghost use Rattle.std.specs.Prelude.{◌≡◌, ◌≤◌};
 ghost use Rattle.hextile_codec.specs.Ahead.{needed, head_len, is_failed, fault_for};
 
 use crate::mask::{ANY_SUBRECTS, BACKGROUND_SPECIFIED, FOREGROUND_SPECIFIED, has};
-use pixel_format::{Fault, Format};
+use fault::Fault;
+use pixel_format::Format;
 
 /// What can be wrong with a tile.
 #[derive(Clone, Copy)]

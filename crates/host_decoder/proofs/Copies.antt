@@ -6,7 +6,7 @@ use Rattle.std.proofs.lemmas.Bool.Decides.{nat_tests}
 use Rattle.std.specs.Int.{w16, from_be_bytes}
 use Rattle.std.proofs.lemmas.List.{take-append-drop, length-take, length-drop, length-append}
 use Rattle.byte_reading.specs.Reading.{Reading, Done, Faulty, after, taken, wants_more, unless}
-use Rattle.pixel_format.specs.declared.fault.Fault.TheVariants.{CopyOutside}
+use Rattle.fault.specs.declared.kinds.Fault.TheVariants.{CopyOutside}
 use Rattle.byte_reading.proofs.ReadingLaws.{after-append, after_bind, after-stays, done, done_is, taken-append, taken-nil, taken-stays}
 use Rattle.raster.specs.declared.rect.Rect.{Rect}
 use Rattle.raster.specs.Screen.{IsWithin, is_within}

@@ -1,8 +1,8 @@
 -- A loop that feeds a piece to a decoder, step by step. `HostDecoder::feed` is such a loop.
 use Rattle.std.proofs.Common.{◌≡◌, ℕ, ◌+◌, ◌≤◌, Bool, true, false, List, length, drop, ◌⊎◌, inl, inr, None, Result, Ok, Err, refl, sym, ap, subst, ◌∙◌, arith}
 use Rattle.std.proofs.lemmas.List.{drop-drop, length-drop}
-use Rattle.pixel_format.specs.declared.fault.Fault.{Fault}
-use Rattle.pixel_format.specs.declared.fault.Fault.TheVariants.{Memory}
+use Rattle.fault.specs.declared.kinds.Fault.{Fault}
+use Rattle.fault.specs.declared.kinds.Fault.TheVariants.{Memory}
 use Rattle.byte_reading.specs.Reading.{Reading, Faulty, after, taken, fault_of}
 use Rattle.byte_reading.proofs.ReadingLaws.{faulty_is, faulty_is_not, none_left, none_wanted, wants_no_fault}
 use Rattle.raster.specs.Screen.{Canvas}

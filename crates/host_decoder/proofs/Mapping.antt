@@ -1,6 +1,6 @@
 -- Reading a thing, and telling it in another way. A rectangle's values are read, and told as a paint.
 use Rattle.std.proofs.Common.{◌≡◌, ℕ, suc, List, [], ◌∷◌, Result, Ok, Err, refl, sym, ap, ◌∙◌}
-use Rattle.pixel_format.specs.declared.fault.Fault.{Fault}
+use Rattle.fault.specs.declared.kinds.Fault.{Fault}
 use Rattle.byte_reading.specs.Reading.{Reading, Done, Faulty, Want, ◌>>=◌, after, taken, fault_of, Feeds}
 use Rattle.byte_reading.proofs.ReadingLaws.{after-done, after-faulty, done_is}
 use Rattle.raster.specs.declared.rect.Rect.{Rect}

@@ -1,7 +1,7 @@
 -- The data of a rectangle, and what follows them. One reader's bytes end where the next rectangle begins.
 use Rattle.std.proofs.Common.{◌≡◌, ℕ, suc, true, List, [], ◌∷◌, ◌++◌, length, map, drop, inr, refl, sym, ap, subst, ◌∙◌, arith}
 use Rattle.std.proofs.lemmas.List.{drop_all, map-append}
-use Rattle.pixel_format.specs.declared.fault.Fault.{Fault}
+use Rattle.fault.specs.declared.kinds.Fault.{Fault}
 use Rattle.byte_reading.specs.Reading.{Reading, Done, Faulty, Want, ◌>>=◌, after, taken, wants_more}
 use Rattle.byte_reading.proofs.InOrder.{then_done, then_taken, then_faulty}
 use Rattle.byte_reading.proofs.ReadingLaws.{after_bind_open, after-faulty, taken-nil, taken-open}

@@ -5,7 +5,7 @@ use Rattle.std.proofs.lemmas.List.{append-nil}
 use Rattle.byte_reading.proofs.InOrder.{unless_passes, unless_fails}
 use Rattle.byte_reading.proofs.ReadingLaws.{bind_assoc}
 use Rattle.pixel_format.specs.PixelFormat.{host_format}
-use Rattle.pixel_format.specs.declared.fault.Fault.TheVariants.{RectOutside}
+use Rattle.fault.specs.declared.kinds.Fault.TheVariants.{RectOutside}
 use Rattle.byte_reading.specs.Reading.{Reading, Done, Faulty, ◌>>=◌, after, times, u32, unless, Spells}
 use Rattle.raster.specs.declared.rect.Rect.{Rect}
 use Rattle.raster.specs.Encoding.{rect}

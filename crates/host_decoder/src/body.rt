@@ -8,12 +8,12 @@ use rre_codec::Reader as RreReader;
 /// What has come of a rectangle's data.
 #[derive(Drop)]
 pub(crate) enum Body {
-    /// Pixels.
+    /// Raw: the pixels that have come.
     Raw(RawPixels),
-    /// A source on the screen.
+    /// CopyRect: the position of the source, as far as it has come.
     Copy(CopySource),
-    /// A background and subrectangles.
+    /// RRE: a background and subrectangles, as far as they have come.
     Rre(RreReader),
-    /// Tiles.
+    /// Hextile: the tiles that have come.
     Hextile(HextileReader),
 }

@@ -7,8 +7,9 @@ ghost use Rattle.host_decoder.specs.Data.{IsCodecFor, CodecStands};
 ghost use Rattle.host_decoder.specs.Updates.{colour_of};
 
 use crate::rect_reader::RectReader;
+use fault::Fault;
 use painter::Painter;
-use pixel_format::{Fault, Format};
+use pixel_format::Format;
 use raster::{CodecReader, Rect, read_piece};
 
 impl<R: CodecReader> RectReader for R {

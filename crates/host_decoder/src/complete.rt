@@ -17,8 +17,8 @@ use crate::part::HostPart;
 use crate::passed::Passed;
 use crate::state::HostState;
 use crate::update_data::{begin_data, next_rectangle};
+use fault::{Fault, LONGEST_TEXT};
 use painter::{Painter, Patch};
-use pixel_format::{Fault, LONGEST_TEXT};
 use raster::Rect;
 use rfb_wire::{
     BELL, FRAMEBUFFER_UPDATE, Fields, KeptText, SERVER_CUT_TEXT, SET_COLOUR_MAP_ENTRIES, Text,

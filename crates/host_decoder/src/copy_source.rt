@@ -7,8 +7,8 @@ ghost use Rattle.raster.specs.Update.{Paint};
 ghost use Rattle.painter.specs.Painter.{IsAsLarge, IsPaintedOver};
 ghost use Rattle.host_decoder.specs.Data.{CopyStands, Fed, IsSource};
 
+use fault::Fault;
 use painter::Painter;
-use pixel_format::Fault;
 use raster::Rect;
 use rfb_wire::read_copy_source;
 use std::marker::Model;

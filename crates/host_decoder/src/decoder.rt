@@ -1,8 +1,8 @@
 //! Reading what a host sends, in whatever pieces it comes.
 
 ghost use Rattle.std.specs.Prelude.{◌≡◌, true, [], Err, None, IfNone, IfOk, IfSome, ◌≤◌, length};
-ghost use Rattle.pixel_format.specs.declared.fault.Fault.{Fault};
-ghost use Rattle.pixel_format.specs.declared.fault.Fault.TheVariants.{Memory};
+ghost use Rattle.fault.specs.declared.kinds.Fault.{Fault};
+ghost use Rattle.fault.specs.declared.kinds.Fault.TheVariants.{Memory};
 ghost use Rattle.byte_reading.specs.Reading.{Reading, Faulty, renewed, whole_of};
 ghost use Rattle.raster.specs.Screen.{Canvas};
 ghost use Rattle.raster.specs.Size.{IsScreenSize};
@@ -13,8 +13,8 @@ ghost use Rattle.host_decoder.specs.Events.{BringsWhole, brought_by, screen_behi
 
 use crate::event::HostEvent;
 use crate::state::HostState;
+use fault::Fault;
 use painter::Painter;
-use pixel_format::Fault;
 use std::alloc::Global;
 use std::marker::Model;
 use std::mem;

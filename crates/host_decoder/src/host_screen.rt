@@ -1,14 +1,14 @@
 //! A host's screen, and what reads it.
 
 ghost use Rattle.std.specs.Prelude.{◌≡◌, IfErr, IfOk};
-ghost use Rattle.pixel_format.specs.declared.fault.Fault.TheVariants.{Memory};
+ghost use Rattle.fault.specs.declared.kinds.Fault.TheVariants.{Memory};
 ghost use Rattle.raster.specs.Screen.{opening};
 ghost use Rattle.raster.specs.Size.{IsScreenSize};
 ghost use Rattle.host_decoder.specs.Decoder.{Decodes, IsFor, host_message};
 
 use crate::decoder::HostDecoder;
+use fault::Fault;
 use painter::Painter;
-use pixel_format::Fault;
 use std::alloc::Global;
 
 /// A decoder, and the painter of the screen that it reads. They are of one size, and are fed together:

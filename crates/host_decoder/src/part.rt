@@ -14,7 +14,7 @@ pub enum HostPart {
     Count,
     /// A rectangle's position and size, after which this many more rectangles follow.
     Area(u16),
-    /// Its encoding.
+    /// The encoding of the rectangle at this position and of this size; this many more rectangles follow.
     Encoding(u16, Rect),
     /// Padding, the first colour and the number of colours of a colour map.
     Colours,

@@ -9,8 +9,8 @@ ghost use Rattle.painter.specs.Drawing.{IsSameAround, drawn};
 ghost use Rattle.host_decoder.specs.Data.{IsRawFor, RawStands, RawTakes, ShowsFirst};
 
 use crate::rect_reader::RectReader;
+use fault::Fault;
 use painter::Painter;
-use pixel_format::Fault;
 use raster::{Canvas, Rect};
 use std::marker::Model;
 

@@ -12,8 +12,8 @@ ghost use Rattle.painter.specs.Drawing.{IsPaintedAround, IsSameAround, drawn};
 ghost use Rattle.painter.specs.Painter.{IsAsLarge, worked};
 ghost use Rattle.host_decoder.specs.Data.{putting, Fed, FedAs, IsDrawnAs};
 
+use fault::Fault;
 use painter::Painter;
-use pixel_format::Fault;
 use raster::Rect;
 
 /// A reader of a rectangle's pixels, in whatever pieces they come, in one encoding. It draws them on the rectangle that

@@ -13,8 +13,8 @@ use crate::event::HostEvent;
 use crate::part::HostPart;
 use crate::passed::Passed;
 use crate::update_data::read_data;
+use fault::Fault;
 use painter::{Painter, Patch};
-use pixel_format::Fault;
 use rfb_wire::{Fields, KeptText, SkippedBytes, Text};
 use std::alloc::Global;
 

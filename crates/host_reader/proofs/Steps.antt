@@ -10,8 +10,8 @@ use Rattle.link.specs.declared.link.Took.{Took}
 use Rattle.link.specs.declared.link.Took.TheVariants as took
 use Rattle.std.specs.List.{filter_map}
 use Rattle.byte_reading.specs.Reading.{Reading, Done, Faulty, Want, after, taken, whole_of, fault_of, wants_more, renewed, messages, rest, messages_from, rest_from}
-use Rattle.pixel_format.specs.declared.fault.Fault.{Fault}
-use Rattle.pixel_format.specs.declared.fault.Fault.TheVariants.{LinkEnded, LinkFailed, Memory, NumbersOut}
+use Rattle.fault.specs.declared.kinds.Fault.{Fault}
+use Rattle.fault.specs.declared.kinds.Fault.TheVariants.{LinkEnded, LinkFailed, Memory, NumbersOut}
 use Rattle.byte_reading.proofs.ReadingLaws.{after-append, messages-append, messages-open, messages-taken, none_whole, renewed_from, rest-append, rest-further, rest-taken, taken-le, taken-open, taken-some, wants_from}
 use Rattle.raster.specs.Screen.{Canvas}
 use Rattle.raster.specs.Update.{Update, after_updates}

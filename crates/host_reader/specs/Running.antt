@@ -1,8 +1,8 @@
 -- Reading a host's bytes from a link, and putting their updates (RFC 6143, 7.6).
 use Rattle.std.specs.Prelude.{◌≡◌, ℕ, ◌^◌, ◌<◌, ◌⊎◌, Bool, true, false, Option, Some, None, Result, Ok, Err, List, ◌++◌, length}
 use Rattle.byte_reading.specs.Reading.{Reading, Faulty, after, rest, wants_more}
-use Rattle.pixel_format.specs.declared.fault.Fault.{Fault}
-use Rattle.pixel_format.specs.declared.fault.Fault.TheVariants.{LinkEnded, LinkFailed, Memory, NumbersOut}
+use Rattle.fault.specs.declared.kinds.Fault.{Fault}
+use Rattle.fault.specs.declared.kinds.Fault.TheVariants.{LinkEnded, LinkFailed, Memory, NumbersOut}
 use Rattle.raster.specs.Screen.{Canvas}
 use Rattle.raster.specs.Update.{Update, after_updates}
 use Rattle.painter.specs.Painter.{Painting}

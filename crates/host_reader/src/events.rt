@@ -8,12 +8,12 @@ ghost use Rattle.host_decoder.specs.Events.{IsSized, brought_by};
 ghost use Rattle.reflect_core.specs.Plain.{IsPutRefusal};
 ghost use Rattle.host_reader.specs.Running.{CanRead, HasRead, Stops};
 
+use fault::Fault;
 use host_decoder::{HostDecoder, HostEvent};
 use painter::{Painter, Patch};
-use pixel_format::Fault;
 use reflect_core::Puts;
 
-/// Puts a patch.
+/// Puts a patch into the list of updates.
 fn put_patch<P: Puts>(publisher: &mut P, patch: Patch) -> Result<(), Fault>
     requires { (patch.width ≡ P.width publisher.old) × (patch.height ≡ P.height publisher.old) }
     ensures size { (P.width publisher.new ≡ P.width publisher.old) × (P.height publisher.new ≡ P.height publisher.old) }

@@ -6,10 +6,10 @@ ghost use Rattle.raster.specs.Screen.{Canvas};
 ghost use Rattle.host_reader.specs.Running.{EndsBetween, EndsWith, outcome};
 
 use crate::events::put_piece;
+use fault::Fault;
 use host_decoder::HostDecoder;
 use link::{Link, Took};
 use painter::Painter;
-use pixel_format::Fault;
 use reflect_core::Puts;
 use std::alloc::Global;
 use std::sync::Wait;

@@ -1,7 +1,7 @@
 -- A run grows by one turn. The loop over the hosts keeps that all turns so far are a run.
 use Rattle.std.proofs.Common.{◌≡◌, ℕ, true, List, ◌∷◌, refl, ap, subst, ◌∙◌}
 use Rattle.std.specs.Prelude.{Result}
-use Rattle.pixel_format.specs.declared.fault.Fault.{Fault}
+use Rattle.fault.specs.declared.kinds.Fault.{Fault}
 use Rattle.raster.specs.Update.{Update}
 use Rattle.link.specs.Links.{LinkState}
 use Rattle.host_turns.specs.Running.{HasRun, HasTurn, IsLinkOf, IsMissed, IsTurn, goes_on, links_with, put_with}

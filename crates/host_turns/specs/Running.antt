@@ -1,7 +1,7 @@
 -- What a run of hosts, one after another, leaves.
 use Rattle.std.specs.Prelude.{◌≡◌, ◌≢◌, ◌⊎◌, ℕ, ◌^◌, Bool, true, false, List, [], ◌∷◌, ◌++◌, length, Result, Ok, Err, ⊤}
-use Rattle.pixel_format.specs.declared.fault.Fault.{Fault}
-use Rattle.pixel_format.specs.declared.fault.Fault.TheVariants.{BadVersion, HostRefused, NoNone, SecurityFailed, BadScreen, LinkFailed, LinkEnded, Memory, NumbersOut}
+use Rattle.fault.specs.declared.kinds.Fault.{Fault}
+use Rattle.fault.specs.declared.kinds.Fault.TheVariants.{BadVersion, HostRefused, NoNone, SecurityFailed, BadScreen, LinkFailed, LinkEnded, Memory, NumbersOut}
 use Rattle.raster.specs.Screen.{Canvas, opening}
 use Rattle.raster.specs.Switch.{switch}
 use Rattle.raster.specs.Update.{Update}

@@ -1,13 +1,13 @@
 //! Which host is told.
 
-use serving::Bell;
+use serving::Alarm;
 use std::alloc::Global;
 use std::sync::atomic::{AtomicU64, Ordering};
 use std::sync::{Arc, Condvar, Mutex, Wait};
 
 /// The end of a connection that is written, and the number of its host.
 #[derive(Drop)]
-pub struct Errand<L: Drop> {
+pub struct NumberedLink<L: Drop> {
     pub link: L,
     pub number: u64,
 }
@@ -15,25 +15,25 @@ pub struct Errand<L: Drop> {
 #[derive(Drop)]
 struct Post<L: Drop> {
     // The host that is told next. One that nobody took is dropped for the one after it.
-    next: Option<Errand<L>>,
+    next: Option<NumberedLink<L>>,
     is_over: bool,
 }
 
 /// Hands each host from the thread that reads it to the one that tells it. Hosts are numbered by how many were left
 /// before them.
 #[derive(Drop)]
-pub struct Handover<L: Drop, W: Bell + Drop> {
+pub struct Handover<L: Drop, W: Alarm + Drop> {
     post: Mutex<Post<L>>,
     came: Condvar,
     left: AtomicU64,
     // Where the thread that tells a host rests.
-    bell: Arc<W, Global>,
+    alarm: Arc<W, Global>,
 }
 
-impl<L: Drop, W: Bell + Drop> Handover<L, W> {
+impl<L: Drop, W: Alarm + Drop> Handover<L, W> {
     /// The first host is told first.
-    pub fn new(link: L, bell: Arc<W, Global>) -> Handover<L, W> {
-        let next = Some(Errand { link, number: 0 });
+    pub fn new(link: L, alarm: Arc<W, Global>) -> Handover<L, W> {
+        let next = Some(NumberedLink { link, number: 0 });
         Handover {
             post: Mutex::new(Post {
                 next,
@@ -41,7 +41,7 @@ impl<L: Drop, W: Bell + Drop> Handover<L, W> {
             }),
             came: Condvar::new(),
             left: AtomicU64::new(0),
-            bell,
+            alarm,
         }
     }
 
@@ -49,14 +49,14 @@ impl<L: Drop, W: Bell + Drop> Handover<L, W> {
     pub(crate) fn give<R: Wait>(&self, rt: &R, link: L) {
         let number = self.left.load(Ordering::SeqCst);
         let mut guard = self.post.lock(rt);
-        guard.next = Some(Errand { link, number });
+        guard.next = Some(NumberedLink { link, number });
         self.came.notify_all();
     }
 
     /// The host was left: it is told no more.
     pub(crate) fn leave(&self) {
         let _ = self.left.fetch_add(1, Ordering::SeqCst);
-        self.bell.rouse();
+        self.alarm.rouse();
     }
 
     /// The host was left, and no other comes.
@@ -68,7 +68,7 @@ impl<L: Drop, W: Bell + Drop> Handover<L, W> {
     }
 
     /// Waits for the next host that is told. None where no other comes.
-    pub fn take<R: Wait>(&self, rt: &R) -> Option<Errand<L>> {
+    pub fn take<R: Wait>(&self, rt: &R) -> Option<NumberedLink<L>> {
         let guard = self.post.lock(rt);
         let mut guard = self
             .came

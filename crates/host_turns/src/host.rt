@@ -4,26 +4,26 @@ ghost use Rattle.std.specs.Prelude.{◌≡◌, ◌⊎◌, ◌<◌, [], ◌∷◌
 ghost use Rattle.raster.specs.Screen.{opening};
 ghost use Rattle.raster.specs.Size.{IsScreenSize};
 ghost use Rattle.host_decoder.specs.Decoder.{Decodes, IsFor, host_message};
-ghost use Rattle.pixel_format.specs.declared.fault.Fault.TheVariants.{Memory};
+ghost use Rattle.fault.specs.declared.kinds.Fault.TheVariants.{Memory};
 ghost use Rattle.link.specs.Links.{LinkState};
 ghost use Rattle.host_turns.specs.Running.{HasTurn, IsLinkOf, IsRead, IsMissed, IsSwitched, IsUnfit, IsWant, JoinsAt};
 
 use crate::handover::Handover;
 use crate::supply::Hosts;
+use fault::Fault;
 use host_decoder::HostScreen;
 use host_reader::run_host;
 use link::{Link, join_host};
 use painter::Painter;
-use pixel_format::Fault;
 use reflect_core::Puts;
 use rfb_wire::Joined;
-use serving::Bell;
+use serving::Alarm;
 use std::alloc::Global;
 use std::sync::Wait;
 
 /// What all hosts of a run have in common: the size of the screen in pixels.
 #[derive(Clone, Copy, Drop)]
-pub struct Ground {
+pub struct RunScreen {
     pub alloc: Global,
     pub width: u64,
     pub height: u64,
@@ -52,9 +52,9 @@ fn read<L: Link, P: Puts, R: Wait>(
 }
 
 /// The stay of a host that was joined: it is read to its end, and told no more. Its link comes after the others.
-pub(crate) fn stay<L: Link, H: Hosts<L>, P: Puts, W: Bell + Drop, R: Wait>(
+pub(crate) fn stay<L: Link, H: Hosts<L>, P: Puts, W: Alarm + Drop, R: Wait>(
     rt: &R,
-    ground: &Ground,
+    run_screen: &RunScreen,
     mut link: L,
     screen: HostScreen,
     hosts: &mut H,
@@ -63,15 +63,15 @@ pub(crate) fn stay<L: Link, H: Hosts<L>, P: Puts, W: Bell + Drop, R: Wait>(
     handover: &Handover<L, W>,
 ) -> Result<(), Fault>
     requires room { vec_len links.old < vec_capacity links.old }
-    requires size { (screen.decoder.width ≡ ground.now.width) × (screen.decoder.height ≡ ground.now.height) }
-    requires begins { Decodes screen.decoder screen.painter opening (host_message ground.now.width ground.now.height) }
+    requires size { (screen.decoder.width ≡ run_screen.now.width) × (screen.decoder.height ≡ run_screen.now.height) }
+    requires begins { Decodes screen.decoder screen.painter opening (host_message run_screen.now.width run_screen.now.height) }
     requires pair { IsFor screen.decoder screen.painter }
-    requires publisher { (P.width publisher.old ≡ ground.now.width) × (P.height publisher.old ≡ ground.now.height) }
+    requires publisher { (P.width publisher.old ≡ run_screen.now.width) × (P.height publisher.old ≡ run_screen.now.height) }
     ensures publisher { (P.width publisher.new ≡ P.width publisher.old) × (P.height publisher.new ≡ P.height publisher.old) }
     ensures again { H.again hosts.new ≡ H.again hosts.old }
-    ensures read { (left : LinkState) × (map L.state links.new.items ≡ map L.state links.old.items ++ left ∷ []) × IsRead ground.now.width ground.now.height result (L.state link) left (P.updates publisher.old) (P.updates publisher.new) }
+    ensures read { (left : LinkState) × (map L.state links.new.items ≡ map L.state links.old.items ++ left ∷ []) × IsRead run_screen.now.width run_screen.now.height result (L.state link) left (P.updates publisher.old) (P.updates publisher.new) }
 {
-    let answer = read(rt, ground.alloc, &mut link, screen, publisher);
+    let answer = read(rt, run_screen.alloc, &mut link, screen, publisher);
     handover.leave();
     // The answer is given out as well: the kit's borrow checker wants its copy made before the call.
     let told = answer;
@@ -82,25 +82,25 @@ pub(crate) fn stay<L: Link, H: Hosts<L>, P: Puts, W: Bell + Drop, R: Wait>(
 }
 
 /// Joins a host. `BadScreen` where its screen isn't of the run's size.
-fn join_at<L: Link, R: Wait>(rt: &R, ground: &Ground, link: &mut L) -> Result<Joined, Fault>
-    ensures ok { OnOk result (JoinsAt ground.now.width ground.now.height (L.state link.old) (L.state link.new)) }
-    ensures err { IfErr result (λ fault. IsUnfit ground.now.width ground.now.height fault (L.state link.old) (L.state link.new)) }
+fn join_at<L: Link, R: Wait>(rt: &R, run_screen: &RunScreen, link: &mut L) -> Result<Joined, Fault>
+    ensures ok { OnOk result (JoinsAt run_screen.now.width run_screen.now.height (L.state link.old) (L.state link.new)) }
+    ensures err { IfErr result (λ fault. IsUnfit run_screen.now.width run_screen.now.height fault (L.state link.old) (L.state link.new)) }
 {
     let joined = join_host(rt, link)?;
-    if joined.w != ground.width || joined.h != ground.height {
+    if joined.w != run_screen.width || joined.h != run_screen.height {
         return Err(Fault::BadScreen);
     }
     Ok(joined)
 }
 
 /// Puts a switch: the screen turns black.
-fn put_switch<P: Puts>(ground: &Ground, publisher: &mut P) -> Result<(), Fault>
-    requires { (P.width publisher.old ≡ ground.now.width) × (P.height publisher.old ≡ ground.now.height) }
+fn put_switch<P: Puts>(run_screen: &RunScreen, publisher: &mut P) -> Result<(), Fault>
+    requires { (P.width publisher.old ≡ run_screen.now.width) × (P.height publisher.old ≡ run_screen.now.height) }
     ensures publisher { (P.width publisher.new ≡ P.width publisher.old) × (P.height publisher.new ≡ P.height publisher.old) }
-    ensures ok { OnOk result (IsSwitched ground.now.width ground.now.height (P.updates publisher.old) (P.updates publisher.new)) }
+    ensures ok { OnOk result (IsSwitched run_screen.now.width run_screen.now.height (P.updates publisher.old) (P.updates publisher.new)) }
     ensures err { IfErr result (λ fault. IsWant (length (P.updates publisher.old)) fault × (P.updates publisher.new ≡ P.updates publisher.old)) }
 {
-    let mut black = Painter::new(ground.alloc, ground.width, ground.height)?;
+    let mut black = Painter::new(run_screen.alloc, run_screen.width, run_screen.height)?;
     let patch = black.switch()?;
     match publisher.put(patch) {
         Ok(_) => Ok(()),
@@ -109,52 +109,52 @@ fn put_switch<P: Puts>(ground: &Ground, publisher: &mut P) -> Result<(), Fault>
 }
 
 /// Takes all the memory that a further host wants: room for its link, and what reads it.
-fn make_ready<L>(ground: &Ground, links: &mut Vec<L>) -> Result<HostScreen, Fault>
+fn make_ready<L>(run_screen: &RunScreen, links: &mut Vec<L>) -> Result<HostScreen, Fault>
     ensures links { links.new.items ≡ links.old.items }
     ensures room { OnOk result (vec_len links.new < vec_capacity links.new) }
-    ensures size { IfOk result (λ screen. (screen.decoder.width ≡ ground.now.width) × (screen.decoder.height ≡ ground.now.height)) }
-    ensures begins { IfOk result (λ screen. Decodes screen.decoder screen.painter opening (host_message ground.now.width ground.now.height)) }
+    ensures size { IfOk result (λ screen. (screen.decoder.width ≡ run_screen.now.width) × (screen.decoder.height ≡ run_screen.now.height)) }
+    ensures begins { IfOk result (λ screen. Decodes screen.decoder screen.painter opening (host_message run_screen.now.width run_screen.now.height)) }
     ensures pair { IfOk result (λ screen. IsFor screen.decoder screen.painter) }
     ensures err { IfErr result (λ fault. fault ≡ Memory) }
 {
     links.reserve(1)?;
-    HostScreen::new(ground.alloc, ground.width, ground.height)
+    HostScreen::new(run_screen.alloc, run_screen.width, run_screen.height)
 }
 
 /// Joins a host at the screen's size, and then puts the switch. The link has room among those that were read.
 fn meet<L: Link, H: Hosts<L>, P: Puts, R: Wait>(
     rt: &R,
-    ground: &Ground,
+    run_screen: &RunScreen,
     hosts: &mut H,
     link: &mut L,
     links: &mut Vec<L>,
     publisher: &mut P,
 ) -> Result<HostScreen, Fault>
-    requires { (P.width publisher.old ≡ ground.now.width) × (P.height publisher.old ≡ ground.now.height) }
+    requires { (P.width publisher.old ≡ run_screen.now.width) × (P.height publisher.old ≡ run_screen.now.height) }
     ensures publisher { (P.width publisher.new ≡ P.width publisher.old) × (P.height publisher.new ≡ P.height publisher.old) }
     ensures again { H.again hosts.new ≡ H.again hosts.old }
     ensures links { links.new.items ≡ links.old.items }
     ensures room { OnOk result (vec_len links.new < vec_capacity links.new) }
-    ensures size { IfOk result (λ screen. (screen.decoder.width ≡ ground.now.width) × (screen.decoder.height ≡ ground.now.height)) }
-    ensures begins { IfOk result (λ screen. Decodes screen.decoder screen.painter opening (host_message ground.now.width ground.now.height)) }
+    ensures size { IfOk result (λ screen. (screen.decoder.width ≡ run_screen.now.width) × (screen.decoder.height ≡ run_screen.now.height)) }
+    ensures begins { IfOk result (λ screen. Decodes screen.decoder screen.painter opening (host_message run_screen.now.width run_screen.now.height)) }
     ensures pair { IfOk result (λ screen. IsFor screen.decoder screen.painter) }
-    ensures joins { OnOk result (JoinsAt ground.now.width ground.now.height (L.state link.old) (L.state link.new)) }
-    ensures switched { OnOk result (IsSwitched ground.now.width ground.now.height (P.updates publisher.old) (P.updates publisher.new)) }
-    ensures err { IfErr result (λ fault. IsMissed ground.now.width ground.now.height (length (P.updates publisher.old)) fault (L.state link.old)) }
+    ensures joins { OnOk result (JoinsAt run_screen.now.width run_screen.now.height (L.state link.old) (L.state link.new)) }
+    ensures switched { OnOk result (IsSwitched run_screen.now.width run_screen.now.height (P.updates publisher.old) (P.updates publisher.new)) }
+    ensures err { IfErr result (λ fault. IsMissed run_screen.now.width run_screen.now.height (length (P.updates publisher.old)) fault (L.state link.old)) }
     ensures unput { OnErr result (P.updates publisher.new ≡ P.updates publisher.old) }
 {
-    let joined = join_at(rt, ground, link)?;
+    let joined = join_at(rt, run_screen, link)?;
     hosts.joined(link, &joined);
-    let screen = make_ready(ground, links)?;
-    put_switch(ground, publisher)?;
+    let screen = make_ready(run_screen, links)?;
+    put_switch(run_screen, publisher)?;
     Ok(screen)
 }
 
 /// The turn of a further host, over the two ends of its connection: it is joined, the switch is put, and it is read to
 /// its end. Or it is missed. The one who tells the hosts goes on with it while it is read.
-pub(crate) fn take_turn<L: Link, H: Hosts<L>, P: Puts, W: Bell + Drop, R: Wait>(
+pub(crate) fn take_turn<L: Link, H: Hosts<L>, P: Puts, W: Alarm + Drop, R: Wait>(
     rt: &R,
-    ground: &Ground,
+    run_screen: &RunScreen,
     ends: (L, L),
     hosts: &mut H,
     links: &mut Vec<L>,
@@ -162,17 +162,17 @@ pub(crate) fn take_turn<L: Link, H: Hosts<L>, P: Puts, W: Bell + Drop, R: Wait>(
     handover: &Handover<L, W>,
 ) -> Result<(), Fault>
     requires came { H.came ends.0 }
-    requires publisher { (P.width publisher.old ≡ ground.now.width) × (P.height publisher.old ≡ ground.now.height) }
+    requires publisher { (P.width publisher.old ≡ run_screen.now.width) × (P.height publisher.old ≡ run_screen.now.height) }
     ensures publisher { (P.width publisher.new ≡ P.width publisher.old) × (P.height publisher.new ≡ P.height publisher.old) }
     ensures again { H.again hosts.new ≡ H.again hosts.old }
-    ensures turn { HasTurn ground.now.width ground.now.height (IsLinkOf L.state H.came) result (map L.state links.old.items) (map L.state links.new.items) (P.updates publisher.old) (P.updates publisher.new) }
+    ensures turn { HasTurn run_screen.now.width run_screen.now.height (IsLinkOf L.state H.came) result (map L.state links.old.items) (map L.state links.new.items) (P.updates publisher.old) (P.updates publisher.new) }
 {
     let (mut reader, writer) = ends;
-    match meet(rt, ground, hosts, &mut reader, links, publisher) {
+    match meet(rt, run_screen, hosts, &mut reader, links, publisher) {
         Ok(screen) => {
             handover.give(rt, writer);
             stay(
-                rt, ground, reader, screen, hosts, links, publisher, handover,
+                rt, run_screen, reader, screen, hosts, links, publisher, handover,
             )
         }
         Err(fault) => {

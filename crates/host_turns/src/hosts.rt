@@ -8,13 +8,13 @@ ghost use Rattle.link.specs.Links.{LinkState};
 ghost use Rattle.host_turns.specs.Running.{HasRun, IsLinkOf, IsOver, goes_on};
 
 use crate::handover::Handover;
-use crate::host::{Ground, stay, take_turn};
+use crate::host::{RunScreen, stay, take_turn};
 use crate::supply::Hosts;
+use fault::Fault;
 use host_decoder::HostScreen;
 use link::Link;
-use pixel_format::Fault;
 use reflect_core::Puts;
-use serving::Bell;
+use serving::Alarm;
 use std::sync::Wait;
 
 /// Whether the next host is taken after this answer of reading or of joining one.
@@ -36,18 +36,18 @@ fn goes_on(answer: &Result<(), Fault>) -> bool
 }
 
 /// Takes the further hosts in turn, until one ends so that no other is taken, or none is left.
-fn read_others<L: Link, H: Hosts<L>, P: Puts, W: Bell + Drop, R: Wait>(
+fn read_others<L: Link, H: Hosts<L>, P: Puts, W: Alarm + Drop, R: Wait>(
     rt: &R,
-    ground: &Ground,
+    run_screen: &RunScreen,
     answer: Result<(), Fault>,
     hosts: &mut H,
     links: &mut Vec<L>,
     publisher: &mut P,
     handover: &Handover<L, W>,
 ) -> Result<(), Fault>
-    requires { (P.width publisher.old ≡ ground.now.width) × (P.height publisher.old ≡ ground.now.height) }
-    ensures run { (link : LinkState) (old : List Update) → HasRun ground.now.width ground.now.height (IsLinkOf L.state H.came) answer link (map L.state links.old.items) old (P.updates publisher.old)
-        → HasRun ground.now.width ground.now.height (IsLinkOf L.state H.came) result link (map L.state links.new.items) old (P.updates publisher.new) }
+    requires { (P.width publisher.old ≡ run_screen.now.width) × (P.height publisher.old ≡ run_screen.now.height) }
+    ensures run { (link : LinkState) (old : List Update) → HasRun run_screen.now.width run_screen.now.height (IsLinkOf L.state H.came) answer link (map L.state links.old.items) old (P.updates publisher.old)
+        → HasRun run_screen.now.width run_screen.now.height (IsLinkOf L.state H.came) result link (map L.state links.new.items) old (P.updates publisher.new) }
     ensures over { IsOver H.are_out hosts.new result }
     ensures never { goes_on result ≡ true → H.again hosts.old ≡ None }
 {
@@ -59,7 +59,7 @@ fn read_others<L: Link, H: Hosts<L>, P: Puts, W: Bell + Drop, R: Wait>(
         let Some(ends) = hosts.next() else {
             return last;
         };
-        last = take_turn(rt, ground, ends, hosts, links, publisher, handover);
+        last = take_turn(rt, run_screen, ends, hosts, links, publisher, handover);
     }
     unreachable!()
 }
@@ -71,9 +71,9 @@ fn read_others<L: Link, H: Hosts<L>, P: Puts, W: Bell + Drop, R: Wait>(
 ///
 /// It answers as the last of them did: with the fault of reading it or of joining it, `BadScreen` where its screen has
 /// another size, `Memory` where memory is refused for what it wants, and `NumbersOut` where its switch has no number.
-pub fn read_all<L: Link, H: Hosts<L>, P: Puts, W: Bell + Drop, R: Wait>(
+pub fn read_all<L: Link, H: Hosts<L>, P: Puts, W: Alarm + Drop, R: Wait>(
     rt: &R,
-    ground: &Ground,
+    run_screen: &RunScreen,
     first: L,
     screen: HostScreen,
     hosts: &mut H,
@@ -82,16 +82,18 @@ pub fn read_all<L: Link, H: Hosts<L>, P: Puts, W: Bell + Drop, R: Wait>(
     handover: &Handover<L, W>,
 ) -> Result<(), Fault>
     requires room { (links.old.items ≡ []) × (0 < vec_capacity links.old) }
-    requires size { (screen.decoder.width ≡ ground.now.width) × (screen.decoder.height ≡ ground.now.height) }
-    requires begins { Decodes screen.decoder screen.painter opening (host_message ground.now.width ground.now.height) }
+    requires size { (screen.decoder.width ≡ run_screen.now.width) × (screen.decoder.height ≡ run_screen.now.height) }
+    requires begins { Decodes screen.decoder screen.painter opening (host_message run_screen.now.width run_screen.now.height) }
     requires pair { IsFor screen.decoder screen.painter }
-    requires publisher { (P.width publisher.old ≡ ground.now.width) × (P.height publisher.old ≡ ground.now.height) }
-    ensures run { HasRun ground.now.width ground.now.height (IsLinkOf L.state H.came) result (L.state first) (map L.state links.new.items) (P.updates publisher.old) (P.updates publisher.new) }
+    requires publisher { (P.width publisher.old ≡ run_screen.now.width) × (P.height publisher.old ≡ run_screen.now.height) }
+    ensures run { HasRun run_screen.now.width run_screen.now.height (IsLinkOf L.state H.came) result (L.state first) (map L.state links.new.items) (P.updates publisher.old) (P.updates publisher.new) }
     ensures over { IsOver H.are_out hosts.new result }
     ensures never { goes_on result ≡ true → H.again hosts.old ≡ None }
 {
-    let answer = stay(rt, ground, first, screen, hosts, links, publisher, handover);
-    let last = read_others(rt, ground, answer, hosts, links, publisher, handover);
+    let answer = stay(
+        rt, run_screen, first, screen, hosts, links, publisher, handover,
+    );
+    let last = read_others(rt, run_screen, answer, hosts, links, publisher, handover);
     handover.close(rt);
     last
 }

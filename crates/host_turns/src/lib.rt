@@ -9,7 +9,7 @@ mod host;
 mod hosts;
 mod supply;
 
-pub use handover::{Errand, Handover};
-pub use host::Ground;
+pub use handover::{Handover, NumberedLink};
+pub use host::RunScreen;
 pub use hosts::read_all;
 pub use supply::{Hosts, NoHosts};

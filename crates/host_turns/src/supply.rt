@@ -2,8 +2,8 @@
 
 ghost use Rattle.std.specs.Prelude.{◌≡◌, None, IfSome, IsNone};
 
+use fault::Fault;
 use link::Link;
-use pixel_format::Fault;
 use rfb_wire::Joined;
 
 /// Where the hosts come from that follow on one that has ended. It is asked in the thread that reads the hosts.

@@ -1,10 +1,8 @@
 -- What a writer says, step by step. `run_writer` owes that the host is told each input once.
 use Rattle.std.proofs.Common.{◌≡◌, ℕ, ◌<◌, ◌≤◌, Bool, true, false, List, [], ◌∷◌, ◌++◌, length, Ok, length-append, inl, inr, refl, sym, ap, subst, ◌∙◌, arith, append_assoc, append-nil, cond, map}
-use Rattle.std.specs.Int.{w32, to_be_bytes}
-use Rattle.std.specs.Prelude.{get_or, nat_lt}
+use Rattle.std.specs.Prelude.{nat_lt}
 use Rattle.std.proofs.lemmas.Bool.Decides.{nat_tests}
 use Rattle.std.proofs.lemmas.List.{map-append}
-use Rattle.rfb_wire.specs.Writing.{client_text_bytes}
 use Rattle.link.specs.Links.{LinkState, HasRisen}
 use Rattle.roles.specs.Held.{input_in}
 use Rattle.roles.specs.Spelling.{input_bytes}
@@ -12,9 +10,9 @@ use Rattle.roles.specs.Strokes.{Taken, sent_by, unbroken, passes_after, StrokesK
 use Rattle.roles.proofs.StrokesLaws.{unbroken_more}
 use Rattle.roles.proofs.UnbrokenLaws.{picked}
 use Rattle.input_relay.specs.declared.queue.Message.{Message}
-use Rattle.host_writer.specs.declared.give.Halt.{Halt}
-use Rattle.host_writer.specs.declared.give.Halt.TheVariants as halt
-use Rattle.host_writer.specs.Halting.{HaltsAt, IsWhy}
+use Rattle.link.specs.declared.give.Halt.{Halt}
+use Rattle.link.specs.declared.give.Halt.TheVariants as halt
+use Rattle.link.specs.Halting.{HaltsAt, IsWhy}
 use Rattle.host_writer.specs.Writing.{IsJudged, TellsInput, Tells, HaltsTelling, Did, Took, Saw, Looked, Writes, EndsWriting, answer_at, whole_request, taken_in, taken_from, all_taken, is_told, told, risen_to, says, said, last_said}
 
 -- What a link is once these bytes were given.
@@ -25,10 +23,6 @@ pub given_none : (link : LinkState) → link ≡ with_given link []
 given_none link = ap (λ t. record link { given = t }) (sym (append-nil link.given))
 
 -- ---- giving in two parts
-
--- The head of a text is the type and the number of its bytes.
-pub text_head : (count text : List ℕ) → count ≡ to_be_bytes w32 (length text) → (6 ∷ 0 ∷ 0 ∷ 0 ∷ get_or count 0 0 ∷ get_or count 1 0 ∷ get_or count 2 0 ∷ get_or count 3 0 ∷ []) ++ text ≡ client_text_bytes text
-text_head count text e = ap (λ c. (6 ∷ 0 ∷ 0 ∷ 0 ∷ get_or c 0 0 ∷ get_or c 1 0 ∷ get_or c 2 0 ∷ get_or c 3 0 ∷ []) ++ text) e
 
 longer_why : (was_set : Type 0) (h : Halt) (old new : LinkState) (left xs ys : List ℕ) → IsWhy was_set h old new left xs → IsWhy was_set h old new (left ++ ys) (xs ++ ys)
 longer_why was_set halt.Stopped old new left xs ys w = (w.0, w.1, w.2, omega (arith, w.3, length-append left ys, length-append xs ys))

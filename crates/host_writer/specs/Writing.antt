@@ -1,16 +1,16 @@
 -- What the host is told once it is joined: of the input taken of the relay what doesn't break into another place's
 -- stroke, and a request for each rise of a look (RFC 6143, 7.5.3 to 7.5.6; own).
 use Rattle.std.specs.Prelude.{◌≡◌, ℕ, ◌≤◌, ◌<◌, ◌⊎◌, max, nat_lt, if◌then◌else◌, Bool, true, false, List, [], ◌∷◌, ◌++◌, length, map, Result, Ok, Err}
-use Rattle.pixel_format.specs.declared.fault.Fault.{Fault}
-use Rattle.pixel_format.specs.declared.fault.Fault.TheVariants.{LinkEnded, LinkFailed}
+use Rattle.fault.specs.declared.kinds.Fault.{Fault}
+use Rattle.fault.specs.declared.kinds.Fault.TheVariants.{LinkEnded, LinkFailed}
 use Rattle.rfb_wire.specs.Writing.{request_bytes}
 use Rattle.roles.specs.Held.{input_in}
 use Rattle.roles.specs.Spelling.{input_bytes}
 use Rattle.roles.specs.Strokes.{Taken, input_from, unbroken, passes_after, StrokesKept, StrokesStand}
 use Rattle.link.specs.Links.{LinkState, HasRisen}
-use Rattle.host_writer.specs.Halting.{HaltsAt}
-use Rattle.host_writer.specs.declared.give.Halt.{Halt}
-use Rattle.host_writer.specs.declared.give.Halt.TheVariants as halt
+use Rattle.link.specs.Halting.{HaltsAt}
+use Rattle.link.specs.declared.give.Halt.{Halt}
+use Rattle.link.specs.declared.give.Halt.TheVariants as halt
 use Rattle.input_relay.specs.declared.queue.Message.{Message}
 
 -- One incremental request of the whole screen.

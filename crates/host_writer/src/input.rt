@@ -5,14 +5,13 @@ ghost use Rattle.rfb_wire.specs.ClientMessage.{longest_text};
 ghost use Rattle.rfb_wire.specs.Writing.{client_text_bytes};
 ghost use Rattle.roles.specs.Held.{input_in};
 ghost use Rattle.input_relay.specs.Ends.{host_of, taken_of};
-ghost use Rattle.host_writer.specs.Halting.{HaltsAt};
+ghost use Rattle.link.specs.Halting.{HaltsAt};
 ghost use Rattle.host_writer.specs.Writing.{HaltsTelling, Tells};
 ghost use Rattle.roles.specs.Spelling.{input_bytes};
 
-use crate::give::{Halt, give_all};
 use input_relay::Taker;
-use link::{Link, StopFlag};
-use rfb_wire::{CLIENT_CUT_TEXT, write_key, write_pointer};
+use link::{Halt, Link, StopFlag, give_all};
+use rfb_wire::{TEXT_HEAD_LEN, write_client_text_head, write_key, write_pointer};
 use roles::{Input, Strokes};
 use std::sync::Wait;
 
@@ -27,8 +26,9 @@ fn give_text<L: Link, F: StopFlag, R: Wait>(
     ensures ok { OnOk result (L.state link.new ≡ record (L.state link.old) { given = (L.state link.old).given ++ client_text_bytes text.now }) }
     ensures err { IfErr result (λ halt. HaltsAt (F.was_set stop.now) halt (L.state link.old) (L.state link.new) (client_text_bytes text.now)) }
 {
-    let [n3, n2, n1, n0] = (text.len() as u32).to_be_bytes();
-    give_all(rt, link, stop, &[CLIENT_CUT_TEXT, 0, 0, 0, n3, n2, n1, n0])?;
+    let mut head = [0; TEXT_HEAD_LEN];
+    write_client_text_head(text.len() as u32, &mut head);
+    give_all(rt, link, stop, &head)?;
     match give_all(rt, link, stop, text) {
         Err(Halt::Before) => Err(Halt::Inside),
         answer => answer,

@@ -4,7 +4,6 @@
 //! so it takes a handle that may wait.
 #![tactic(auto)]
 
-mod give;
 mod input;
 mod law;
 mod run;

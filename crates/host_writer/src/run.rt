@@ -5,11 +5,10 @@ ghost use Rattle.raster.specs.Size.{IsScreenSize};
 ghost use Rattle.input_relay.specs.Ends.{host_of, taken_of};
 ghost use Rattle.host_writer.specs.Writing.{Writes, answer_at, whole_request};
 
-use crate::give::{Halt, give_all};
 use crate::input::tell_input;
+use fault::Fault;
 use input_relay::Taker;
-use link::{Link, Rest, StopFlag};
-use pixel_format::Fault;
+use link::{Halt, Link, Rest, StopFlag, give_all};
 use raster::Rect;
 use reflect_core::ScreenSource;
 use rfb_wire::write_request;

@@ -2,8 +2,8 @@
 use Rattle.std.specs.Prelude.{◌≡◌, ℕ, zero, suc, [], ◌∷◌, ◌++◌, ◌≤◌, ◌^◌, ◌⊎◌, List, map}
 use Rattle.atomic_table.specs.Seated.{TableId}
 use Rattle.crossbeam_queue.specs.Passes.{view}
-use Rattle.pixel_format.specs.declared.fault.Fault.{Fault}
-use Rattle.pixel_format.specs.declared.fault.Fault.TheVariants.{QueueFull, NumbersOut}
+use Rattle.fault.specs.declared.kinds.Fault.{Fault}
+use Rattle.fault.specs.declared.kinds.Fault.TheVariants.{QueueFull, NumbersOut}
 use Rattle.roles.specs.declared.input.Input.{Input}
 use Rattle.roles.specs.Allowed as definitions
 use Rattle.roles.specs.Held.{input_in}

@@ -17,7 +17,7 @@ use std::sync::{Arc, Wait};
 pub struct Message {
     /// The number of the place.
     pub from: u64,
-    /// What it sent.
+    /// The input that it sent.
     pub input: Input,
 }
 

@@ -2,11 +2,11 @@
 
 ghost use Rattle.std.specs.Prelude.{◌≡◌, List, [], ◌∷◌, ◌++◌, ◌⊎◌, OnOk, IfErr};
 ghost use Rattle.roles.specs.Held.{input_in};
-ghost use Rattle.pixel_format.specs.declared.fault.Fault.TheVariants.{QueueFull, NumbersOut};
+ghost use Rattle.fault.specs.declared.kinds.Fault.TheVariants.{QueueFull, NumbersOut};
 ghost use Rattle.input_relay.specs.Ends.{inputs_of};
 
 use crate::queue::Sender;
-use pixel_format::Fault;
+use fault::Fault;
 use roles::{Input, InputSink};
 use std::sync::Wait;
 

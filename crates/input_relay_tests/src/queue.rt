@@ -3,8 +3,8 @@
 ghost use Rattle.std.specs.Prelude.{◌≡◌, ◌<◌, IfSome};
 ghost use Rattle.input_relay.specs.Ends.{relay_of, host_of};
 
+use fault::Fault;
 use input_relay::{Sender, Settled, Taker, relay, settle};
-use pixel_format::Fault;
 use roles::{Input, InputSink};
 use std::alloc::Global;
 use std::process::Abort;

@@ -2,7 +2,7 @@
 
 ghost use Rattle.std.specs.Prelude.{◌≡◌, ◌<◌, length};
 
-use pixel_format::Fault;
+use fault::Fault;
 use rfb_wire::Text;
 use roles::{Input, Strokes};
 use std::process::Abort;

@@ -1,10 +1,10 @@
 //! What a viewer is served with, where nobody else is there: no host to type to, no other thread to wait for.
 
 ghost use Rattle.std.specs.Prelude.{◌≡◌, []};
-ghost use Rattle.pixel_format.specs.declared.fault.Fault.TheVariants.{Gone};
+ghost use Rattle.fault.specs.declared.kinds.Fault.TheVariants.{Gone};
 
+use fault::Fault;
 use link::{Rest, StopFlag};
-use pixel_format::Fault;
 use roles::{Input, InputSink};
 use std::sync::Wait;
 

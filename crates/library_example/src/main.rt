@@ -10,12 +10,12 @@ ghost use Rattle.std.specs.Prelude.{◌≡◌};
 mod ends;
 
 use ends::{NoInput, NoRest, NoStop};
+use fault::Fault;
 use host_decoder::HostDecoder;
 use host_reader::run_host;
 use joined_runs::Runs;
 use link::{Gave, MemoryLink, Took};
 use painter::Painter;
-use pixel_format::Fault;
 use reflect_core::PlainScreen;
 use replay_script::{script_bytes, shown};
 use roles::Role;

@@ -6,7 +6,7 @@ use Rattle.byte_reading.proofs.ReadingLaws.{done_from, taken-append, taken-one, 
 use Rattle.rfb_wire.specs.Handshake.{Joined, version, host_hello, said_to_host}
 use Rattle.rfb_wire.specs.Joining.{ahead, to_send, HasHeard}
 use Rattle.rfb_wire.specs.declared.host_talk.HostTalk.{HostTalk}
-use Rattle.pixel_format.specs.declared.fault.Fault.{Fault}
+use Rattle.fault.specs.declared.kinds.Fault.{Fault}
 use Rattle.rfb_wire.proofs.Handshakes.{all_is_said}
 use Rattle.rfb_wire.proofs.JoiningSaid.{all_said, to_send_is}
 use Rattle.link.specs.Links.{LinkState}

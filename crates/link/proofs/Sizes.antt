@@ -4,7 +4,7 @@ use Rattle.std.specs.Prelude.{◌&&◌, nat_le}
 use Rattle.std.proofs.lemmas.Bool.{and_parts}
 use Rattle.std.proofs.lemmas.Bool.Decides.{nat_tests}
 use Rattle.byte_reading.specs.Reading.{Reading, Done, ◌>>=◌, step, after, bytes, padding, u16, u32, unless, Gives}
-use Rattle.pixel_format.specs.declared.fault.Fault.TheVariants.{BadScreen}
+use Rattle.fault.specs.declared.kinds.Fault.TheVariants.{BadScreen}
 use Rattle.byte_reading.proofs.ReadingLaws.{gives_bind, gives_padding, gives_step}
 use Rattle.rfb_wire.specs.Handshake.{Joined, is_size, kept_name, host_version, security_types, security_result, host_init, host_hello}
 

@@ -3,34 +3,26 @@
 ghost use Rattle.std.specs.Prelude.{◌≡◌, ◌+◌, ◌≤◌, ◌++◌, [], ◌∷◌, ℕ, List, length, IfOk, IfErr, OnOk};
 ghost use Rattle.link.specs.Joins.{Hears, Joins, LinkFails, FailsAs};
 
-use crate::link::{Gave, Link, Took};
-use pixel_format::{Fault, Format};
+use crate::give::{Halt, give_all};
+use crate::link::{Link, Took};
+use crate::waiting::NeverSet;
+use fault::Fault;
+use pixel_format::Format;
 use raster::{COPY_RECT, Encoding, Rect};
 use rfb_wire::{HostHello, Joined, write_request, write_set_encodings, write_set_pixel_format};
 use std::sync::Wait;
 
-/// Gives all of these bytes.
-fn give_all<L: Link, R: Wait>(rt: &R, link: &mut L, bytes: &[u8]) -> Result<(), Fault>
+/// Gives all of these bytes. No flag ends a join.
+fn give_bytes<L: Link, R: Wait>(rt: &R, link: &mut L, bytes: &[u8]) -> Result<(), Fault>
     ensures given { OnOk result (L.state link.new ≡ record (L.state link.old) { given = (L.state link.old).given ++ bytes.now }) }
     ensures taken { (L.state link.new).taken ≡ (L.state link.old).taken }
     ensures err { IfErr result (λ fault. LinkFails fault (L.state link.old) (L.state link.new)) }
 {
-    let mut left = bytes;
-    for _ in rt.forever() {
-        if left.is_empty() {
-            return Ok(());
-        }
-        match link.give(left) {
-            Gave::Bytes(count) => {
-                let (_, rest) = left.split_at(count);
-                left = rest;
-            }
-            Gave::Nothing => {}
-            Gave::End => return Err(Fault::LinkEnded),
-            Gave::Failed => return Err(Fault::LinkFailed),
-        }
+    match give_all(rt, link, &NeverSet, bytes) {
+        Ok(()) => Ok(()),
+        Err(Halt::Failed) => Err(Fault::LinkFailed),
+        Err(Halt::Stopped | Halt::Before | Halt::Inside) => Err(Fault::LinkEnded),
     }
-    unreachable!()
 }
 
 /// Takes the next byte. A handshake is short, and what comes after it is left to others.
@@ -58,7 +50,7 @@ fn hear<L: Link, R: Wait>(rt: &R, link: &mut L) -> Result<Joined, Fault>
 {
     let mut hello = HostHello::new();
     for _ in rt.forever() {
-        give_all(rt, link, hello.out())?;
+        give_bytes(rt, link, hello.out())?;
         let count = hello.out().len();
         hello.sent(count);
         match hello.done() {
@@ -83,7 +75,7 @@ pub fn join_host<L: Link, R: Wait>(rt: &R, link: &mut L) -> Result<Joined, Fault
     let joined = hear(rt, link)?;
     let mut format = [0; 20];
     write_set_pixel_format(&Format::HOST, &mut format);
-    give_all(rt, link, &format)?;
+    give_bytes(rt, link, &format)?;
     let mut encodings = [0; 20];
     let numbers = [
         COPY_RECT,
@@ -92,7 +84,7 @@ pub fn join_host<L: Link, R: Wait>(rt: &R, link: &mut L) -> Result<Joined, Fault
         Encoding::Raw.number(),
     ];
     write_set_encodings(&numbers, &mut encodings);
-    give_all(rt, link, &encodings)?;
+    give_bytes(rt, link, &encodings)?;
     let screen = Rect {
         x: 0,
         y: 0,
@@ -101,6 +93,6 @@ pub fn join_host<L: Link, R: Wait>(rt: &R, link: &mut L) -> Result<Joined, Fault
     };
     let mut request = [0; 10];
     write_request(false, &screen, &mut request);
-    give_all(rt, link, &request)?;
+    give_bytes(rt, link, &request)?;
     Ok(joined)
 }

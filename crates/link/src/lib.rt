@@ -1,14 +1,16 @@
 //! A link to a peer, and the handshake with a host over it (RFC 6143, sections 7.1 to 7.3 and 7.5).
 //!
-//! A link takes and gives bytes and says what came of it. Only `MemoryLink::new` takes memory. `join_host` waits as its
-//! link does, so it takes a handle that may wait; nothing else does.
+//! A link takes and gives bytes and says what came of it. Only `MemoryLink::new` takes memory. `join_host` and
+//! `give_all` wait as their link does, so they take a handle that may wait; nothing else does.
 #![tactic(auto)]
 
+mod give;
 mod join;
 mod link;
 mod memory_link;
 mod waiting;
 
+pub use give::{Halt, give_all};
 pub use join::join_host;
 pub use link::{Gave, Link, Took};
 pub use memory_link::MemoryLink;

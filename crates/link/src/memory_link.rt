@@ -1,10 +1,10 @@
 //! A link in memory.
 
 ghost use Rattle.std.specs.Prelude.{◌≡◌, ℕ, ◌+◌, ◌≤◌, [], ◌++◌, length, take, IfOk, IfErr};
-ghost use Rattle.pixel_format.specs.declared.fault.Fault.TheVariants.{Memory};
+ghost use Rattle.fault.specs.declared.kinds.Fault.TheVariants.{Memory};
 
 use crate::link::{Gave, Link, Took};
-use pixel_format::{Fault, LIMIT};
+use fault::{Fault, LIMIT};
 use std::alloc::Global;
 use std::marker::Model;
 

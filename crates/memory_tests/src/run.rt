@@ -13,7 +13,7 @@ use reflector::{Running, run_all};
 use rfb_wire::Joined;
 use roles::Role;
 use screen_pair::Publishes;
-use serving::{Door, NoBell};
+use serving::{Door, NoAlarm};
 use std::alloc::Global;
 use std::marker::Brand;
 use std::sync::{Arc, Wait};
@@ -42,9 +42,9 @@ where
     name.push(b'T');
     let mut doors = Vec::new(alloc);
     doors.push((Role::Full, door))?;
-    let everyone = Arc::new(alloc, NoBell)?;
-    let bell = Arc::new(alloc, NoBell)?;
-    let running = run_all::<J, Wire, NoHosts, D, NoBell, NoBell, R>(
+    let everyone = Arc::new(alloc, NoAlarm)?;
+    let alarm = Arc::new(alloc, NoAlarm)?;
+    let running = run_all::<J, Wire, NoHosts, D, NoAlarm, NoAlarm, R>(
         rt,
         alloc,
         history,
@@ -59,7 +59,7 @@ where
         doors,
         Runs::Joined,
         everyone,
-        bell,
+        alarm,
     )?;
     let Running {
         result,

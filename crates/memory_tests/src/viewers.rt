@@ -4,7 +4,7 @@ use crate::board::Board;
 use crate::bytes::{GREETING_AND_UPDATE, GREETING_LEN, HELLO_AND_ASK, HELLO_LEN};
 use crate::hoard::Hoard;
 use crate::wire::{Peer, Wire};
-use pixel_format::Fault;
+use fault::Fault;
 use serving::Door;
 use std::alloc::Global;
 use std::sync::Arc;

@@ -4,8 +4,8 @@ ghost use Rattle.std.specs.Prelude.{◌≡◌, IfOk};
 ghost use Rattle.serving.specs.Answers.{unused};
 
 use crate::board::{Board, hold};
+use fault::Fault;
 use link::{Gave, Link, MemoryLink, Took};
-use pixel_format::Fault;
 use std::alloc::Global;
 use std::marker::Model;
 use std::sync::Arc;

@@ -40,8 +40,7 @@ abbrev pub after_host : List ℕ → Counters → List ℕ
 after_host before c =
     let a = after_one before (codes "host_joined") (codes "gauge") (codes "1 while a host is joined.") (one_if c.is_joined) in
     let b = after_one a (codes "host_silent_seconds") (codes "gauge") (codes "Seconds since the last byte of the host.") c.silent_seconds in
-    let d = after_one b (codes "host_joins_total") (codes "counter") (codes "Hosts that were joined.") c.joins in
-    after_one d (codes "host_tries_total") (codes "counter") (codes "Hosts that were tried.") c.tries
+    after_one b (codes "host_joins_total") (codes "counter") (codes "Hosts that were joined.") c.joins
 
 abbrev pub after_places : List ℕ → Counters → List ℕ
 after_places before c =
@@ -56,11 +55,6 @@ after_sent before c =
     let b = after_one a (codes "answers_total") (codes "counter") (codes "Updates begun for viewers.") c.answers in
     after_one b (codes "sent_bytes_total") (codes "counter") (codes "Bytes sent to viewers.") c.bytes
 
-abbrev pub after_input : List ℕ → Counters → List ℕ
-after_input before c =
-    let a = after_one before (codes "input_queued") (codes "gauge") (codes "Inputs that wait for the host.") c.queued in
-    after_one a (codes "input_dropped_total") (codes "counter") (codes "Inputs dropped inside another viewer's stroke.") c.dropped
-
 abbrev pub after_lag : List ℕ → Lag → List ℕ
 after_lag before lag =
     let head = after_comments before (codes "viewer_lag_updates") (codes "gauge") (codes "By how many updates this share of the viewers is behind at most.") in
@@ -69,4 +63,4 @@ after_lag before lag =
     after_sample most (codes "viewer_lag_updates") (codes "{share=\"1\"}") lag.all
 
 abbrev pub metrics_of : Counters → List ℕ
-metrics_of c = after_lag (after_input (after_sent (after_places (after_host [] c) c) c) c) c.lag
+metrics_of c = after_lag (after_sent (after_places (after_host [] c) c) c) c.lag

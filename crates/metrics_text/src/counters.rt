@@ -26,8 +26,6 @@ pub struct Counters {
     pub silent_seconds: u64,
     /// How many hosts were joined.
     pub joins: u64,
-    /// How many hosts were tried.
-    pub tries: u64,
     /// How many places there are.
     pub places: ByRole,
     /// How many viewers have a place.
@@ -44,8 +42,4 @@ pub struct Counters {
     pub bytes: u64,
     /// By how many updates the viewers are behind now.
     pub lag: Lag,
-    /// How many inputs wait for the host.
-    pub queued: u64,
-    /// How many inputs were dropped, since another viewer's stroke was under way.
-    pub dropped: u64,
 }

@@ -13,9 +13,6 @@ reflectord_host_silent_seconds 2
 # HELP reflectord_host_joins_total Hosts that were joined.
 # TYPE reflectord_host_joins_total counter
 reflectord_host_joins_total 3
-# HELP reflectord_host_tries_total Hosts that were tried.
-# TYPE reflectord_host_tries_total counter
-reflectord_host_tries_total 40
 # HELP reflectord_places Places of a role.
 # TYPE reflectord_places gauge
 reflectord_places{role=\"full\"} 4
@@ -41,12 +38,6 @@ reflectord_answers_total 8
 # HELP reflectord_sent_bytes_total Bytes sent to viewers.
 # TYPE reflectord_sent_bytes_total counter
 reflectord_sent_bytes_total 9
-# HELP reflectord_input_queued Inputs that wait for the host.
-# TYPE reflectord_input_queued gauge
-reflectord_input_queued 10
-# HELP reflectord_input_dropped_total Inputs dropped inside another viewer's stroke.
-# TYPE reflectord_input_dropped_total counter
-reflectord_input_dropped_total 11
 # HELP reflectord_viewer_lag_updates By how many updates this share of the viewers is behind at most.
 # TYPE reflectord_viewer_lag_updates gauge
 reflectord_viewer_lag_updates{share=\"0.5\"} 0
@@ -59,7 +50,6 @@ fn counters() -> Counters {
         is_joined: true,
         silent_seconds: 2,
         joins: 3,
-        tries: 40,
         places: ByRole { full: 4, view: 32 },
         viewers: ByRole { full: 1, view: 31 },
         came: ByRole { full: 5, view: 600 },
@@ -72,8 +62,6 @@ fn counters() -> Counters {
             nine_tenths: 1,
             all: 12,
         },
-        queued: 10,
-        dropped: 11,
     }
 }
 

@@ -2,7 +2,7 @@
 
 ghost use Rattle.std.specs.Prelude.{◌≡◌, [], IfOk, OnOk};
 ghost use Rattle.std.specs.String.{string_bytes};
-ghost use Rattle.metrics_text.specs.Metrics.{after_host, after_input, after_lag, after_places, after_sent, metrics_of};
+ghost use Rattle.metrics_text.specs.Metrics.{after_host, after_lag, after_places, after_sent, metrics_of};
 
 use crate::counters::{Counters, Lag};
 use crate::families::{Family, put_by_role, put_head, put_sample, put_single};
@@ -24,12 +24,6 @@ const HOST_JOINS: Family<'static> = Family {
     name: "host_joins_total",
     kind: "counter",
     help: "Hosts that were joined.",
-};
-
-const HOST_TRIES: Family<'static> = Family {
-    name: "host_tries_total",
-    kind: "counter",
-    help: "Hosts that were tried.",
 };
 
 const PLACES: Family<'static> = Family {
@@ -74,35 +68,22 @@ const BYTES: Family<'static> = Family {
     help: "Bytes sent to viewers.",
 };
 
-const QUEUED: Family<'static> = Family {
-    name: "input_queued",
-    kind: "gauge",
-    help: "Inputs that wait for the host.",
-};
-
-const DROPPED: Family<'static> = Family {
-    name: "input_dropped_total",
-    kind: "counter",
-    help: "Inputs dropped inside another viewer's stroke.",
-};
-
 const LAG: Family<'static> = Family {
     name: "viewer_lag_updates",
     kind: "gauge",
     help: "By how many updates this share of the viewers is behind at most.",
 };
 
-/// Of the host.
+/// Writes the numbers of the host.
 fn put_host(text: &mut String, counters: &Counters) -> Result<(), AllocError>
     ensures { OnOk result (string_bytes text.new ≡ after_host (string_bytes text.old) counters.now) }
 {
     put_single(text, HOST_JOINED, u64::from(counters.is_joined))?;
     put_single(text, HOST_SILENT, counters.silent_seconds)?;
-    put_single(text, HOST_JOINS, counters.joins)?;
-    put_single(text, HOST_TRIES, counters.tries)
+    put_single(text, HOST_JOINS, counters.joins)
 }
 
-/// Of the places.
+/// Writes the numbers of the places.
 fn put_places(text: &mut String, counters: &Counters) -> Result<(), AllocError>
     ensures { OnOk result (string_bytes text.new ≡ after_places (string_bytes text.old) counters.now) }
 {
@@ -119,14 +100,6 @@ fn put_sent(text: &mut String, counters: &Counters) -> Result<(), AllocError>
     put_single(text, UPDATES, counters.updates)?;
     put_single(text, ANSWERS, counters.answers)?;
     put_single(text, BYTES, counters.bytes)
-}
-
-/// Of what viewers typed and pointed.
-fn put_input(text: &mut String, counters: &Counters) -> Result<(), AllocError>
-    ensures { OnOk result (string_bytes text.new ≡ after_input (string_bytes text.old) counters.now) }
-{
-    put_single(text, QUEUED, counters.queued)?;
-    put_single(text, DROPPED, counters.dropped)
 }
 
 /// By how many updates viewers are behind.
@@ -147,7 +120,6 @@ pub fn metrics_text(alloc: Global, counters: &Counters) -> Result<String, AllocE
     put_host(&mut text, counters)?;
     put_places(&mut text, counters)?;
     put_sent(&mut text, counters)?;
-    put_input(&mut text, counters)?;
     put_lag(&mut text, &counters.lag)?;
     Ok(text)
 }

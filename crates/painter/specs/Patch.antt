@@ -6,7 +6,7 @@ use Rattle.raster.specs.Screen.{Canvas, LooksLike, tile_count, tile_rect, value_
 use Rattle.raster.specs.Update.{Paint, Put, Update, Paints, Bell, Cut, after_paints, paints_of}
 use Rattle.painter.specs.declared.patch.Change.{Change}
 use Rattle.painter.specs.declared.patch.Change.TheVariants as code
-use Rattle.pixel_format.specs.declared.limits.TheConstants.{LONGEST_TEXT}
+use Rattle.fault.specs.declared.limits.TheConstants.{LONGEST_TEXT}
 
 -- An update, and the width and height of the screen that it is for.
 pub record SizedUpdate : Type 0 where

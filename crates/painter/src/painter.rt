@@ -5,7 +5,7 @@ ghost use Rattle.painter.specs.Patch.{tile_area};
 ghost use Rattle.painter.specs.Same.{AreSameUpdates};
 ghost use Rattle.painter.specs.Drawing.{IsPaintedAround, drawn};
 ghost use Rattle.painter.specs.Painter.{IsAsLarge, IsPaintedOver, colours_in, colours_of, is_touched, tile_puts, touched_below, worked};
-ghost use Rattle.pixel_format.specs.declared.fault.Fault.TheVariants.{Memory};
+ghost use Rattle.fault.specs.declared.kinds.Fault.TheVariants.{Memory};
 ghost use Rattle.raster.specs.Painted.{Fits, paint_of};
 ghost use Rattle.raster.specs.Picture.{Picture, shown};
 ghost use Rattle.raster.specs.Screen.{Canvas, IsWithin, LooksLike, opening, tile_count, tile_rect, value_at};
@@ -15,7 +15,7 @@ ghost use Rattle.raster.specs.Update as update;
 ghost use Rattle.std.specs.List.{flat_map, sum_by};
 
 use crate::patch::Patch;
-use pixel_format::Fault;
+use fault::Fault;
 use raster::{Paint, Raster, Rect, tile_count, tile_rect};
 use std::alloc::Global;
 use std::marker::Model;

@@ -2,8 +2,8 @@
 
 ghost use Rattle.std.specs.Prelude.{◌≡◌, ℕ, ◌<◌, ◌≤◌, ◌*◌, length, All, IfOk, IfErr, IfSome};
 ghost use Rattle.painter.specs.Patch.{AreTiles, AreTouchedTiles, ShowsOver, is_bell, text_of, tile_paints};
-ghost use Rattle.pixel_format.specs.declared.fault.Fault.TheVariants.{Memory};
-ghost use Rattle.pixel_format.specs.declared.limits.TheConstants.{LONGEST_TEXT};
+ghost use Rattle.fault.specs.declared.kinds.Fault.TheVariants.{Memory};
+ghost use Rattle.fault.specs.declared.limits.TheConstants.{LONGEST_TEXT};
 ghost use Rattle.raster.specs.Screen.{LooksLike, meets, tile_count, tile_rect, value_at};
 ghost use Rattle.raster.specs.Size.{IsScreenSize};
 ghost use Rattle.raster.specs.Update.{Paints, Bell, Cut, after_paints, paints_of};
@@ -12,7 +12,7 @@ ghost use Rattle.std.specs.Option.{option_copied};
 ghost use Rattle.tiles.specs.Grid.{IsTouched};
 ghost use Rattle.tiles.specs.Touched.{touches};
 
-use pixel_format::Fault;
+use fault::Fault;
 use raster::{put, tile_rect};
 use std::alloc::Global;
 use std::marker::Model;
@@ -87,7 +87,7 @@ impl Patch {
         }
     }
 
-    /// A Bell.
+    /// The patch of a Bell (RFC 6143, 7.6.3): no tile changes.
     pub fn bell(width: u64, height: u64) -> Self
         requires { IsScreenSize width height }
         ensures { result ≡ record { width = width; height = height; update = Bell } }

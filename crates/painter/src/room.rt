@@ -1,12 +1,12 @@
 //! Room for a copy of a board.
 
 ghost use Rattle.std.specs.Prelude.{◌≡◌, IfOk, IfErr};
-ghost use Rattle.pixel_format.specs.declared.fault.Fault.TheVariants.{Memory};
+ghost use Rattle.fault.specs.declared.kinds.Fault.TheVariants.{Memory};
 ghost use Rattle.raster.specs.Size.{IsScreenSize};
 
 use crate::board::Board;
 use crate::text::LastText;
-use pixel_format::Fault;
+use fault::Fault;
 use std::alloc::Global;
 use std::marker::Model;
 use tiles::Grid;

@@ -3,11 +3,11 @@
 ghost use Rattle.std.specs.Prelude.{◌≡◌, IfOk, IfErr, IfSome};
 ghost use Rattle.std.specs.Arc.{arc_value};
 ghost use Rattle.painter.specs.Board.{IsSameScreen};
-ghost use Rattle.pixel_format.specs.declared.fault.Fault.TheVariants.{Memory};
+ghost use Rattle.fault.specs.declared.kinds.Fault.TheVariants.{Memory};
 
 use crate::board::Board;
 use crate::room::Room;
-use pixel_format::Fault;
+use fault::Fault;
 use std::alloc::Global;
 use std::marker::Model;
 use std::sync::Arc;

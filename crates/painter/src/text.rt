@@ -1,12 +1,12 @@
 //! The last text of the host's cut buffer.
 
 ghost use Rattle.std.specs.Prelude.{◌≡◌, ℕ, ◌≤◌, length, IfOk, IfErr, IfSome, Some, None, if◌then◌else◌};
-ghost use Rattle.pixel_format.specs.declared.fault.Fault.TheVariants.{Memory};
+ghost use Rattle.fault.specs.declared.kinds.Fault.TheVariants.{Memory};
 ghost use Rattle.painter.specs.Kept.{number_of, bytes_of, is_later, newer};
 ghost use Rattle.std.specs.Option.{option_copied};
-ghost use Rattle.pixel_format.specs.declared.limits.TheConstants.{LONGEST_TEXT};
+ghost use Rattle.fault.specs.declared.limits.TheConstants.{LONGEST_TEXT};
 
-use pixel_format::{Fault, LONGEST_TEXT};
+use fault::{Fault, LONGEST_TEXT};
 use std::alloc::Global;
 use std::marker::Model;
 
@@ -22,7 +22,7 @@ impl Model for LastText {
     ghost use Rattle.std.specs.Prelude.{◌≤◌, Option, length, vec_capacity};
     ghost use Rattle.raster.specs.Update.{NumberedText};
     ghost use Rattle.painter.specs.Kept.{numbered};
-    ghost use Rattle.pixel_format.specs.declared.limits.TheConstants.{LONGEST_TEXT};
+    ghost use Rattle.fault.specs.declared.limits.TheConstants.{LONGEST_TEXT};
 
     ghost Value = { Option NumberedText };
 

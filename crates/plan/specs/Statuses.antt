@@ -1,8 +1,8 @@
 -- How the program ends, and how many viewers it may be told to serve.
 use Rattle.std.specs.Prelude.{ℕ, ◌≡◌, ◌≤◌, ◌⊎◌, List, Option, None, Result, Ok, Err, if◌then◌else◌}
 use Rattle.std.specs.Option.{option_map_or}
-use Rattle.pixel_format.specs.declared.fault.Fault.{Fault}
-use Rattle.pixel_format.specs.declared.fault.Fault.TheVariants.{Memory}
+use Rattle.fault.specs.declared.kinds.Fault.{Fault}
+use Rattle.fault.specs.declared.kinds.Fault.TheVariants.{Memory}
 use Rattle.joined_runs.specs.declared.runs.Runs.{Runs}
 use Rattle.joined_runs.specs.declared.runs.Runs.TheVariants.{OfRows, Joined}
 use Rattle.roles.specs.declared.role.Role.{Role}

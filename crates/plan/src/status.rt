@@ -3,7 +3,7 @@
 ghost use Rattle.std.specs.Prelude.{◌≡◌};
 ghost use Rattle.plan.specs.Statuses.{IsStatus, status_for};
 
-use pixel_format::Fault;
+use fault::Fault;
 
 /// The exit status of a run that ended so: 0 where the host ended between two messages, 4 where memory was refused, and
 /// 3 for every other fault.

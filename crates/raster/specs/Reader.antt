@@ -1,6 +1,6 @@
 -- What a codec's reader of a rectangle makes of the bytes that come to it.
 use Rattle.std.specs.Prelude.{◌≡◌, ℕ, List, length, Result}
-use Rattle.pixel_format.specs.declared.fault.Fault.{Fault}
+use Rattle.fault.specs.declared.kinds.Fault.{Fault}
 use Rattle.byte_reading.specs.Reading.{Reading, Done, ◌>>=◌, after, taken, Feeds}
 use Rattle.raster.specs.Screen.{Canvas, values_of}
 

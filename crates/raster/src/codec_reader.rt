@@ -9,7 +9,8 @@ ghost use Rattle.raster.specs.Screen.{Map, LooksLike, kept};
 ghost use Rattle.raster.specs.Reader.{values_read, Steps, Draws};
 
 use crate::canvas::Canvas;
-use pixel_format::{Fault, Format};
+use fault::Fault;
+use pixel_format::Format;
 
 /// A reader of one rectangle in an encoding, in whatever pieces its bytes come. It draws what they say on a canvas of
 /// the rectangle's size, and takes no memory.

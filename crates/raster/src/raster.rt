@@ -2,7 +2,7 @@
 
 ghost use Rattle.std.specs.Prelude.{◌≡◌, ℕ, ◌+◌, ◌*◌, ◌<◌, ◌≤◌, ◌^◌, length, slice_index, map, All, IfOk, IfErr, ⊤};
 ghost use Rattle.std.specs.Int.{w32, from_le_bytes};
-ghost use Rattle.pixel_format.specs.declared.fault.Fault.TheVariants.{Memory};
+ghost use Rattle.fault.specs.declared.kinds.Fault.TheVariants.{Memory};
 ghost use Rattle.raster.specs.Colours.{colour_of};
 ghost use Rattle.raster.specs.Screen.{LooksLike, IsWithin, opening, fill, lay, copy, value_at, kept};
 ghost use Rattle.raster.specs.Update.{after_paints};
@@ -13,7 +13,7 @@ use crate::canvas::{Canvas, VALUE_LEN};
 use crate::colours;
 use crate::painting::{self, Paint};
 use crate::rect::Rect;
-use pixel_format::Fault;
+use fault::Fault;
 use std::alloc::Global;
 use std::marker::Model;
 

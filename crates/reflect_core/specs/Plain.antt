@@ -1,7 +1,7 @@
 -- What a source for one thread holds.
 use Rattle.std.specs.Prelude.{◌≡◌, ℕ, ◌^◌, ◌<◌, ◌≤◌, List, length, map, All, ◌⊎◌}
-use Rattle.pixel_format.specs.declared.fault.Fault.{Fault}
-use Rattle.pixel_format.specs.declared.fault.Fault.TheVariants.{Memory, NumbersOut}
+use Rattle.fault.specs.declared.kinds.Fault.{Fault}
+use Rattle.fault.specs.declared.kinds.Fault.TheVariants.{Memory, NumbersOut}
 use Rattle.raster.specs.Size.{IsScreenSize}
 use Rattle.raster.specs.Update.{Update}
 use Rattle.painter.specs.Board.{BoardStands, Posted}

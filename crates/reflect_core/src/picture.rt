@@ -1,12 +1,12 @@
 //! The colours that a cut shows.
 
 ghost use Rattle.std.specs.Prelude.{◌≡◌, ◌*◌, ◌<◌, ◌≤◌, ◌^◌, true, false, IfOk, IfErr, length, vec_capacity};
-ghost use Rattle.pixel_format.specs.declared.fault.Fault.TheVariants.{Memory};
+ghost use Rattle.fault.specs.declared.kinds.Fault.TheVariants.{Memory};
 ghost use Rattle.raster.specs.Screen.{IsWithin, LooksLike, lay, part_of, value_at};
 ghost use Rattle.raster.specs.Size.{IsScreenSize};
 
+use fault::Fault;
 use painter::{Board, Shown, copy_area};
-use pixel_format::Fault;
 use raster::Rect;
 use std::alloc::Global;
 use std::marker::Model;
@@ -133,7 +133,7 @@ impl Picture {
         }
     }
 
-    /// The colours.
+    /// The colours of the whole screen, row by row.
     pub fn as_slice(&self) -> &[u32]
         ensures value { result.now ≡ self.now.items }
         ensures len { length result.now ≡ length self.now.items }

@@ -3,8 +3,8 @@ use Rattle.std.proofs.Common.{◌≡◌, ℕ, ◌+◌, ◌<◌, true, List, [], 
 use Rattle.std.specs.Prelude.{IfSome, Result, slice_get}
 use Rattle.std.specs.List.{filter_map}
 use Rattle.std.proofs.lemmas.List.{append-nil, take-append-drop}
-use Rattle.pixel_format.specs.declared.fault.Fault.{Fault}
-use Rattle.pixel_format.specs.declared.fault.Fault.TheVariants.{Memory}
+use Rattle.fault.specs.declared.kinds.Fault.{Fault}
+use Rattle.fault.specs.declared.kinds.Fault.TheVariants.{Memory}
 use Rattle.byte_reading.specs.Reading.{Reading, Done, Faulty, Want, after, messages_from, taken, fault_of, renewed, rest, whole_of}
 use Rattle.raster.specs.Screen.{Canvas, LooksLike, opening}
 use Rattle.raster.specs.Switch.{switch}

@@ -5,8 +5,8 @@ use Rattle.std.specs.Option.{option_to_list}
 use Rattle.std.proofs.Math.Seq.{take-append_seam}
 use Rattle.std.proofs.lemmas.List.{get_or-map, length-map, map-append, take_more}
 use Rattle.std.proofs.lemmas.Option.{slice_get-get_or}
-use Rattle.pixel_format.specs.declared.fault.Fault.{Fault}
-use Rattle.pixel_format.specs.declared.fault.Fault.TheVariants.{Memory, NumbersOut}
+use Rattle.fault.specs.declared.kinds.Fault.{Fault}
+use Rattle.fault.specs.declared.kinds.Fault.TheVariants.{Memory, NumbersOut}
 use Rattle.raster.specs.Size.{IsScreenSize}
 use Rattle.reflect_world.specs.Schedule.{Step, World}
 use Rattle.reflect_world.specs.World.{IsFaithful, IsServed, IsKept, IsRefusal, JoinsUnder, Kept, Leaves, Reached, Shows, ShowsUnder, Standing, StopsAt, entry_of, setup_of, step_of, step_with, unmarked, with_steps, world_of}

@@ -1,6 +1,6 @@
 -- What a step to the next host leaves: the world as it was, or the same with another host's bytes.
 use Rattle.std.proofs.Common.{Option, Some, None}
-use Rattle.pixel_format.specs.declared.fault.Fault.{Fault}
+use Rattle.fault.specs.declared.kinds.Fault.{Fault}
 use Rattle.raster.specs.Update.{Update}
 use Rattle.reflect_world.specs.Schedule.{World, next_begins, next_host}
 

@@ -3,7 +3,7 @@ use Rattle.std.proofs.Common.{◌≡◌, ℕ, ◌+◌, ◌<◌, Bool, true, fals
 use Rattle.std.specs.Prelude.{nat_lt, is_some, slice_get, slice_index_or, slice_set, min, ◌==◌, if◌then◌else◌}
 use Rattle.std.proofs.lemmas.Bool.{eqb-true}
 use Rattle.std.proofs.lemmas.List.{get_or_default, length-set, set-get_or}
-use Rattle.pixel_format.specs.declared.fault.Fault.{Fault}
+use Rattle.fault.specs.declared.kinds.Fault.{Fault}
 use Rattle.byte_reading.specs.Reading.{Reading, fault_of, rest}
 use Rattle.raster.specs.Screen.{opening}
 use Rattle.raster.specs.Update.{Update, view}
@@ -11,7 +11,7 @@ use Rattle.joined_runs.specs.declared.runs.Runs.{Runs}
 use Rattle.rfb_wire.specs.ServerMessage.{ServerMessage}
 use Rattle.roles.specs.Allowed.{Input}
 use Rattle.roles.specs.declared.role.Role.{Role}
-use Rattle.pixel_format.specs.declared.fault.Fault.TheVariants.{Memory, NumbersOut}
+use Rattle.fault.specs.declared.kinds.Fault.TheVariants.{Memory, NumbersOut}
 use Rattle.raster.specs.Switch.{switch}
 use Rattle.host_decoder.specs.Hosts.{ended_updates, updates_in_turn}
 use Rattle.reflect_core.specs.Plain.{Plain}

@@ -1,7 +1,7 @@
 -- A reflector as the code keeps it, and the world of the definitions that it stands for.
 use Rattle.std.specs.Prelude.{◌≡◌, ℕ, ◌^◌, ◌⊎◌, Bool, true, false, if◌then◌else◌, List, [], ◌∷◌, ◌++◌, length, map, is_some, slice_get, slice_index_or, drop, take, Option, Some, None, ◌≤◌}
-use Rattle.pixel_format.specs.declared.fault.Fault.{Fault}
-use Rattle.pixel_format.specs.declared.fault.Fault.TheVariants.{Memory, NumbersOut}
+use Rattle.fault.specs.declared.kinds.Fault.{Fault}
+use Rattle.fault.specs.declared.kinds.Fault.TheVariants.{Memory, NumbersOut}
 use Rattle.raster.specs.Screen.{opening}
 use Rattle.raster.specs.Size.{IsScreenSize}
 use Rattle.raster.specs.Update.{Update}

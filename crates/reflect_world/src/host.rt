@@ -1,16 +1,16 @@
 //! The host of a world.
 
 ghost use Rattle.std.specs.Prelude.{◌≡◌, ℕ, ◌<◌, [], ◌∷◌, ◌++◌, List, length, Option, Some, None, Ok, Err, IfOk, IfErr, IfSome, OnOk};
-ghost use Rattle.pixel_format.specs.declared.fault.Fault.TheVariants.{Memory};
+ghost use Rattle.fault.specs.declared.kinds.Fault.TheVariants.{Memory};
 ghost use Rattle.raster.specs.Size.{IsScreenSize};
 ghost use Rattle.raster.specs.Update.{Update};
 ghost use Rattle.painter.specs.Patch.{SizedUpdate};
 ghost use Rattle.reflect_world.specs.Host.{BeginsNext, CanRead, HasReadTo, HostStands, IsHost, IsSameHost, ReadsMessage, ReadsOn, patch_in};
 
 use crate::unread::Unread;
+use fault::Fault;
 use host_decoder::{HostEvent, HostScreen};
 use painter::Patch;
-use pixel_format::Fault;
 use std::alloc::Global;
 use std::marker::Model;
 

@@ -1,7 +1,7 @@
 //! A viewer of a world.
 
 ghost use Rattle.std.specs.Prelude.{◌≡◌, ℕ, ◌+◌, ◌≤◌, ◌<◌, [], ◌++◌, true, false, is_some, option_map, vec_capacity, vec_len, min, length, take, None, Some, IfOk, IfErr, MatchOption, OnOk, ◌∷◌};
-ghost use Rattle.pixel_format.specs.declared.fault.Fault.TheVariants.{Memory};
+ghost use Rattle.fault.specs.declared.kinds.Fault.TheVariants.{Memory};
 ghost use Rattle.raster.specs.Size.{IsScreenSize};
 ghost use Rattle.roles.specs.Held.{input_in};
 ghost use Rattle.viewer_session.specs.Session.{Stands, fault_in, is_ready};
@@ -9,8 +9,8 @@ ghost use Rattle.viewer_session.specs.Viewer.{Setup, new_viewer};
 ghost use Rattle.reflect_world.specs.World.{GoesOn, HasLooked, HasSent, IsBrokenOff, IsFed, IsWritten, ReadsMore, WritesSome, left_by};
 
 use crate::unread::Unread;
+use fault::Fault;
 use joined_runs::Runs;
-use pixel_format::Fault;
 use reflect_core::PlainScreen;
 use roles::{Input, Role};
 use std::alloc::Global;

@@ -1,7 +1,7 @@
 //! Inputs on their way to the host.
 
 ghost use Rattle.std.specs.Prelude.{◌≡◌, ◌+◌, ◌<◌, ◌≤◌, List, [], ◌∷◌, ◌++◌, length, map, IfOk, OnOk, IfErr};
-ghost use Rattle.pixel_format.specs.declared.fault.Fault.TheVariants.{Memory};
+ghost use Rattle.fault.specs.declared.kinds.Fault.TheVariants.{Memory};
 ghost use Rattle.roles.specs.Held.{input_in};
 ghost use Rattle.rfb_wire.specs.ClientMessage.{longest_text};
 ghost use Rattle.rfb_wire.specs.Writing.{client_text_bytes};
@@ -11,8 +11,8 @@ ghost use Rattle.reflect_world.specs.Schedule.{taken_from};
 ghost use Rattle.roles.specs.Spelling.{input_bytes};
 
 use crate::scene::PLACES;
-use pixel_format::Fault;
-use rfb_wire::{CLIENT_CUT_TEXT, write_key, write_pointer};
+use fault::Fault;
+use rfb_wire::{TEXT_HEAD_LEN, write_client_text_head, write_key, write_pointer};
 use roles::{Input, Strokes};
 use std::alloc::Global;
 use std::marker::Model;
@@ -174,8 +174,9 @@ fn spell_text(text: &[u8], out: &mut Vec<u8>) -> Result<(), Fault>
     ensures err { IfErr result (λ fault. (fault ≡ Memory) × (out.new.items ≡ out.old.items)) }
 {
     let before = out.len();
-    let [n3, n2, n1, n0] = (text.len() as u32).to_be_bytes();
-    add(&[CLIENT_CUT_TEXT, 0, 0, 0, n3, n2, n1, n0], out)?;
+    let mut head = [0; TEXT_HEAD_LEN];
+    write_client_text_head(text.len() as u32, &mut head);
+    add(&head, out)?;
     match add(text, out) {
         Ok(()) => Ok(()),
         Err(fault) => {

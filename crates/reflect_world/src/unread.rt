@@ -1,9 +1,9 @@
 //! Bytes that came and wait to be read.
 
 ghost use Rattle.std.specs.Prelude.{◌≡◌, ◌≤◌, [], ◌++◌, ◌-◌, length, drop, take, OnOk, IfErr};
-ghost use Rattle.pixel_format.specs.declared.fault.Fault.TheVariants.{Memory};
+ghost use Rattle.fault.specs.declared.kinds.Fault.TheVariants.{Memory};
 
-use pixel_format::Fault;
+use fault::Fault;
 use std::alloc::Global;
 use std::marker::Model;
 
@@ -25,7 +25,7 @@ impl Model for Unread {
 }
 
 impl Unread {
-    /// No bytes.
+    /// Nothing has come, so nothing is left to read.
     pub fn new(alloc: Global) -> Self
         ensures { result ≡ [] }
     {
@@ -46,7 +46,7 @@ impl Unread {
         }
     }
 
-    /// The bytes.
+    /// The bytes that have come and were not read yet.
     pub fn bytes(&self) -> &[u8]
         ensures { result.now ≡ self.now }
     {

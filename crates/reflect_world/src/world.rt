@@ -1,7 +1,7 @@
 //! A reflector on one thread, step by step.
 
 ghost use Rattle.std.specs.Prelude.{◌≡◌, ℕ, ◌<◌, ◌≤◌, ◌^◌, ◌↔◌, [], ◌∷◌, ◌++◌, false, nat_lt, length, map, take, IfOk, IfErr, OnOk, OnErr, IsTrue, IsSome};
-ghost use Rattle.pixel_format.specs.declared.fault.Fault.TheVariants.{Memory};
+ghost use Rattle.fault.specs.declared.kinds.Fault.TheVariants.{Memory};
 ghost use Rattle.raster.specs.Size.{IsScreenSize};
 ghost use Rattle.reflect_world.specs.Relay.{spelled};
 ghost use Rattle.reflect_world.specs.Schedule as played;
@@ -10,8 +10,8 @@ ghost use Rattle.reflect_world.specs.World.{HasPlayed, HasStopped, IsFaithful, S
 
 use crate::scene::Scene;
 use crate::step::{Entry, Step};
+use fault::Fault;
 use joined_runs::Runs;
-use pixel_format::Fault;
 use roles::Role;
 use std::alloc::Global;
 use std::marker::Model;

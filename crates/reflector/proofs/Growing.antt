@@ -1,6 +1,6 @@
 -- What the source of a place knows only grows, from visit to visit.
 use Rattle.std.proofs.Common.{ℕ, Bool, List, [], ◌∷◌, Result, ap, sym, ◌∙◌, append-nil, inl, inr}
-use Rattle.pixel_format.specs.declared.fault.Fault.{Fault}
+use Rattle.fault.specs.declared.kinds.Fault.{Fault}
 use Rattle.raster.specs.Update.{Update}
 use Rattle.roles.specs.Allowed.{Input}
 use Rattle.roles.specs.declared.role.Role.{Role}

@@ -2,7 +2,7 @@
 use Rattle.std.proofs.Common.{◌≡◌, ◌≤◌, ℕ, Bool, true, List, [], ◌∷◌, ◌++◌, Result, refl, sym, ap, subst, ◌∙◌, append-nil, inl, inr}
 use Rattle.std.specs.Prelude.{drop}
 use Rattle.std.proofs.lemmas.List.{take-append-drop}
-use Rattle.pixel_format.specs.declared.fault.Fault.{Fault}
+use Rattle.fault.specs.declared.kinds.Fault.{Fault}
 use Rattle.raster.specs.Update.{Update}
 use Rattle.roles.specs.Allowed.{Input, allowed}
 use Rattle.roles.specs.declared.role.Role.{Role}

@@ -1,6 +1,6 @@
 -- The visits of a place, as far as they have come. `serve_viewers` owes all of them.
 use Rattle.std.proofs.Common.{◌≡◌, ℕ, Bool, true, false, List, [], ◌∷◌, Result, refl, subst, inl, inr}
-use Rattle.pixel_format.specs.declared.fault.Fault.{Fault}
+use Rattle.fault.specs.declared.kinds.Fault.{Fault}
 use Rattle.raster.specs.Update.{Update}
 use Rattle.roles.specs.Allowed.{Input}
 use Rattle.roles.specs.declared.role.Role.{Role}

@@ -1,6 +1,6 @@
 -- A place of viewers that only look on sends nothing: nothing of their input is allowed. `join_place` tells it.
 use Rattle.std.proofs.Common.{◌≡◌, Bool, true, List, [], ◌∷◌, ◌++◌, length, Result, refl, ap, subst, ◌∙◌, append-nil, arith}
-use Rattle.pixel_format.specs.declared.fault.Fault.{Fault}
+use Rattle.fault.specs.declared.kinds.Fault.{Fault}
 use Rattle.raster.specs.Update.{Update}
 use Rattle.roles.specs.Allowed.{Input, allowed}
 use Rattle.roles.specs.declared.role.Role.{Role}

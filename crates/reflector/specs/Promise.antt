@@ -1,6 +1,6 @@
 -- What the running program promises of each viewer of a place (own).
 use Rattle.std.specs.Prelude.{◌≡◌, Bool, true, List, ◌++◌, Result}
-use Rattle.pixel_format.specs.declared.fault.Fault.{Fault}
+use Rattle.fault.specs.declared.kinds.Fault.{Fault}
 use Rattle.raster.specs.Update.{Update}
 use Rattle.roles.specs.Allowed.{Input, allowed}
 use Rattle.roles.specs.declared.role.Role.{Role}

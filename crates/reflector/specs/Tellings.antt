@@ -1,7 +1,7 @@
 -- What the hosts were told, one after another (own).
 use Rattle.std.specs.Prelude.{◌≡◌, ℕ, List, [], ◌∷◌, ◌++◌, Result, ⊤}
 use Rattle.reflect_core.specs.Sequential.{Begins}
-use Rattle.pixel_format.specs.declared.fault.Fault.{Fault}
+use Rattle.fault.specs.declared.kinds.Fault.{Fault}
 use Rattle.roles.specs.Strokes.{StrokesKept, StrokesStand, Taken}
 use Rattle.link.specs.Links.{LinkState}
 use Rattle.host_writer.specs.Writing.{Did, Writes, all_taken, said, taken_in}

@@ -1,8 +1,8 @@
 -- The visits of one place, one after another: which viewers its door let in, what each was served, and what the place
 -- sent of their input (own).
 use Rattle.std.specs.Prelude.{◌≡◌, ◌⊎◌, ℕ, Bool, true, false, List, [], ◌∷◌, Result, Err, ⊤}
-use Rattle.pixel_format.specs.declared.fault.Fault.{Fault}
-use Rattle.pixel_format.specs.declared.fault.Fault.TheVariants.{Memory}
+use Rattle.fault.specs.declared.kinds.Fault.{Fault}
+use Rattle.fault.specs.declared.kinds.Fault.TheVariants.{Memory}
 use Rattle.raster.specs.Update.{Update}
 use Rattle.joined_runs.specs.declared.runs.Runs.{Runs}
 use Rattle.roles.specs.Allowed.{Input}

@@ -6,15 +6,15 @@
 //! call returns.
 #![tactic(auto)]
 
-mod crew;
-mod errands;
+mod context;
 mod join;
 mod law;
 mod place;
 mod reader;
 mod run;
 mod seated;
-mod welcome;
+mod session_maker;
+mod turns;
 mod writer;
 mod written;
 

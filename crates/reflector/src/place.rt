@@ -1,23 +1,23 @@
 //! A place, which serves one viewer after another.
 
 ghost use Rattle.std.specs.Prelude.{◌≡◌, ◌⊎◌, ⊤, IfOk, IfErr};
-ghost use Rattle.pixel_format.specs.declared.fault.Fault.TheVariants.{Memory, NumbersOut, QueueFull};
+ghost use Rattle.fault.specs.declared.kinds.Fault.TheVariants.{Memory, NumbersOut, QueueFull};
 ghost use Rattle.input_relay.specs.Ends.{inputs_of, place_of, relay_of};
 ghost use Rattle.serving.specs.Answers.{unused};
 ghost use Rattle.reflector.specs.Promise.{KeepsPromise};
 ghost use Rattle.reflector.specs.Senders.{IsSameSender};
 ghost use Rattle.reflector.specs.Visits.{HasVisits, IsReceived, at, setup_of};
 
-use crate::crew::Crew;
+use crate::context::RunContext;
 use crate::seated::{Seat, Seated};
-use crate::welcome::Welcome;
+use crate::session_maker::SessionMaker;
+use fault::Fault;
 use input_relay::Sender;
 use joined_runs::Runs;
 use link::{Link, Rest, StopFlag};
-use pixel_format::Fault;
 use reflect_core::ScreenSource;
 use roles::{InputSink, Role};
-use serving::{Bell, Door, Ringing, Stop};
+use serving::{Alarm, Door, Ringing, Stop};
 use std::alloc::Global;
 use std::marker::Brand;
 use std::snapshot::Snapshot;
@@ -62,7 +62,7 @@ pub struct OfPlace<S, D, R: Wait + Drop> {
 
 impl<S: ScreenSource, D: Door, R: Wait + Drop> Promise<Place<S, D, R>> for OfPlace<S, D, R> {
     ghost use Rattle.std.specs.Prelude.{◌≡◌, ◌⊎◌, ⊤};
-    ghost use Rattle.pixel_format.specs.declared.fault.Fault.TheVariants.{NumbersOut, QueueFull};
+    ghost use Rattle.fault.specs.declared.kinds.Fault.TheVariants.{NumbersOut, QueueFull};
     ghost use Rattle.input_relay.specs.Ends.{inputs_of};
     ghost use Rattle.reflector.specs.Senders.{IsSameSender};
     ghost use Rattle.reflector.specs.Promise.{KeepsPromise};
@@ -74,7 +74,7 @@ impl<S: ScreenSource, D: Door, R: Wait + Drop> Promise<Place<S, D, R>> for OfPla
 /// The thread of a place.
 pub type PlaceHandle<S, D, R> = PromisedHandle<Place<S, D, R>, OfPlace<S, D, R>>;
 
-/// Rests for a moment: the relay is full, and whoever takes of it rings no bell.
+/// Rests for a moment: the relay is full, and whoever takes of it rings no alarm.
 #[derive(Drop)]
 struct Nap<R: Clock + Drop> {
     clock: R,
@@ -90,18 +90,18 @@ impl<R: Clock + Drop> Rest for Nap<R> {
 /// go (`Memory`).
 fn receive<L: Link, S: ScreenSource, K: InputSink, F: StopFlag, Z: Rest, R: Wait>(
     rt: &R,
-    welcome: &Welcome,
+    maker: &SessionMaker,
     link: &mut L,
     source: &mut S,
     sink: &mut K,
     stop: &F,
     rest: &Z,
 ) -> (u64, Result<(), Fault>)
-    requires screen { (s : S) → (S.width s ≡ welcome.now.width) × (S.height s ≡ welcome.now.height) }
+    requires screen { (s : S) → (S.width s ≡ maker.now.width) × (S.height s ≡ maker.now.height) }
     requires fresh { L.state link.old ≡ unused }
-    ensures { IsReceived S.looks S.cuts S.may_end (F.was_set stop.now) K.may_refuse S.known (setup_of welcome.now.width welcome.now.height welcome.now.name.items welcome.now.runs) welcome.now.role source.old source.new (K.sent sink.old) (K.sent sink.new) result.1 (L.state link.new) }
+    ensures { IsReceived S.looks S.cuts S.may_end (F.was_set stop.now) K.may_refuse S.known (setup_of maker.now.width maker.now.height maker.now.name.items maker.now.runs) maker.now.role source.old source.new (K.sent sink.old) (K.sent sink.new) result.1 (L.state link.new) }
 {
-    match welcome.open() {
+    match maker.open() {
         Ok(mut session) => {
             let why = run_viewer(rt, link, source, sink, &mut session, stop, rest);
             (session.answers(), why)
@@ -113,15 +113,15 @@ fn receive<L: Link, S: ScreenSource, K: InputSink, F: StopFlag, Z: Rest, R: Wait
 /// Serves one viewer after another, until no more come or the flag is set.
 fn serve_viewers<S: ScreenSource, K: InputSink, D: Door, F: StopFlag, Z: Rest, R: Wait>(
     rt: &R,
-    welcome: &Welcome,
+    maker: &SessionMaker,
     door: &mut D,
     source: &mut S,
     sink: &mut K,
     stop: &F,
     rest: &Z,
 )
-    requires { (s : S) → (S.width s ≡ welcome.now.width) × (S.height s ≡ welcome.now.height) }
-    ensures { HasVisits D.lets_in D.sees_off (λ source_old source_new sent_old sent_new why left. IsReceived S.looks S.cuts S.may_end (F.was_set stop.now) K.may_refuse S.known (setup_of welcome.now.width welcome.now.height welcome.now.name.items welcome.now.runs) welcome.now.role source_old source_new sent_old sent_new why left) (at door.old source.old (K.sent sink.old)) (at door.new source.new (K.sent sink.new)) }
+    requires { (s : S) → (S.width s ≡ maker.now.width) × (S.height s ≡ maker.now.height) }
+    ensures { HasVisits D.lets_in D.sees_off (λ source_old source_new sent_old sent_new why left. IsReceived S.looks S.cuts S.may_end (F.was_set stop.now) K.may_refuse S.known (setup_of maker.now.width maker.now.height maker.now.name.items maker.now.runs) maker.now.role source_old source_new sent_old sent_new why left) (at door.old source.old (K.sent sink.old)) (at door.new source.new (K.sent sink.new)) }
 {
     for _ in rt.forever() {
         if stop.is_set() {
@@ -130,66 +130,67 @@ fn serve_viewers<S: ScreenSource, K: InputSink, D: Door, F: StopFlag, Z: Rest, R
         let Some(mut link) = door.next() else {
             return;
         };
-        let (answers, why) = receive(rt, welcome, &mut link, source, sink, stop, rest);
+        let (answers, why) = receive(rt, maker, &mut link, source, sink, stop, rest);
         door.left(link, answers, why);
     }
     unreachable!()
 }
 
-/// The same with the sender that T names as the sink, after each input of which the bell is rung.
+/// The same with the sender that T names as the sink, after each input of which the alarm is rung.
 fn serve_from<
     T: Seat,
     S: ScreenSource,
     D: Door,
-    W: Bell + Drop,
+    W: Alarm + Drop,
     F: StopFlag,
     Z: Rest,
     R: Wait + Drop,
 >(
     rt: &R,
-    welcome: &Welcome,
+    maker: &SessionMaker,
     door: &mut D,
     source: &mut S,
     sender: Sender<R>,
-    bell: W,
+    alarm: W,
     stop: &F,
     rest: &Z,
 ) -> Sender<R>
-    requires screen { (s : S) → (S.width s ≡ welcome.now.width) × (S.height s ≡ welcome.now.height) }
+    requires screen { (s : S) → (S.width s ≡ maker.now.width) × (S.height s ≡ maker.now.height) }
     requires named { (relay_of sender ≡ T.relay) × (place_of sender ≡ T.place) }
     ensures named { (relay_of result ≡ T.relay) × (place_of result ≡ T.place) }
-    ensures visits { HasVisits D.lets_in D.sees_off (λ source_old source_new sent_old sent_new why left. IsReceived S.looks S.cuts S.may_end (F.was_set stop.now) (λ fault. (fault ≡ QueueFull) ⊎ (fault ≡ NumbersOut)) S.known (setup_of welcome.now.width welcome.now.height welcome.now.name.items welcome.now.runs) welcome.now.role source_old source_new sent_old sent_new why left) (at door.old source.old (inputs_of sender)) (at door.new source.new (inputs_of result)) }
+    ensures visits { HasVisits D.lets_in D.sees_off (λ source_old source_new sent_old sent_new why left. IsReceived S.looks S.cuts S.may_end (F.was_set stop.now) (λ fault. (fault ≡ QueueFull) ⊎ (fault ≡ NumbersOut)) S.known (setup_of maker.now.width maker.now.height maker.now.name.items maker.now.runs) maker.now.role source_old source_new sent_old sent_new why left) (at door.old source.old (inputs_of sender)) (at door.new source.new (inputs_of result)) }
 {
     let inner: Seated<T, R> = Seated::new(sender);
-    let mut sink = Ringing { inner, bell };
-    serve_viewers(rt, welcome, door, source, &mut sink, stop, rest);
-    let Ringing { inner, bell: _ } = sink;
+    let mut sink = Ringing { inner, alarm };
+    serve_viewers(rt, maker, door, source, &mut sink, stop, rest);
+    let Ringing { inner, alarm: _ } = sink;
     inner.into_sender()
 }
 
 /// Keeps a place until no more viewers come or the flag is set.
-fn keep<S: ScreenSource, D: Door, W: Bell + Drop, F: StopFlag, R: Wait + Clock + Copy + Drop>(
+fn keep<S: ScreenSource, D: Door, W: Alarm + Drop, F: StopFlag, R: Wait + Clock + Copy + Drop>(
     rt: R,
-    welcome: Welcome,
+    maker: SessionMaker,
     mut door: D,
     mut watcher: S,
     sender: Sender<R>,
-    bell: W,
+    alarm: W,
     stop: &F,
 ) -> Place<S, D, R>
-    requires { (s : S) → (S.width s ≡ welcome.width) × (S.height s ≡ welcome.height) }
+    requires { (s : S) → (S.width s ≡ maker.width) × (S.height s ≡ maker.height) }
     ensures sender { IsSameSender sender result.sender }
-    ensures visits { HasVisits D.lets_in D.sees_off (λ source_old source_new sent_old sent_new why left. IsReceived S.looks S.cuts S.may_end (F.was_set stop.now) (λ fault. (fault ≡ QueueFull) ⊎ (fault ≡ NumbersOut)) S.known (setup_of welcome.width welcome.height welcome.name.items welcome.runs) welcome.role source_old source_new sent_old sent_new why left) (at door watcher (inputs_of sender)) (at result.door result.watcher (inputs_of result.sender)) }
-    ensures promise { KeepsPromise D.lets_in D.sees_off S.known (setup_of welcome.width welcome.height welcome.name.items welcome.runs) welcome.role (at door watcher (inputs_of sender)) (at result.door result.watcher (inputs_of result.sender)) }
+    ensures visits { HasVisits D.lets_in D.sees_off (λ source_old source_new sent_old sent_new why left. IsReceived S.looks S.cuts S.may_end (F.was_set stop.now) (λ fault. (fault ≡ QueueFull) ⊎ (fault ≡ NumbersOut)) S.known (setup_of maker.width maker.height maker.name.items maker.runs) maker.role source_old source_new sent_old sent_new why left) (at door watcher (inputs_of sender)) (at result.door result.watcher (inputs_of result.sender)) }
+    ensures promise { KeepsPromise D.lets_in D.sees_off S.known (setup_of maker.width maker.height maker.name.items maker.runs) maker.role (at door watcher (inputs_of sender)) (at result.door result.watcher (inputs_of result.sender)) }
 {
     let rest = Nap { clock: rt };
+    // A brand names this one sender, so that the sink which comes back is known to be it.
     let sender = serve_from::<Brand, S, D, W, F, Nap<R>, R>(
         &rt,
-        &welcome,
+        &maker,
         &mut door,
         &mut watcher,
         sender,
-        bell,
+        alarm,
         stop,
         &rest,
     );
@@ -202,8 +203,8 @@ fn keep<S: ScreenSource, D: Door, W: Bell + Drop, F: StopFlag, R: Wait + Clock +
 
 /// Starts the thread of a place. It fails where memory is refused, or no thread can be made (`Memory`).
 pub(crate) fn start_place<S, D, B, W, R>(
-    crew: &Crew<R, B, W>,
-    welcome: Welcome,
+    context: &RunContext<R, B, W>,
+    maker: SessionMaker,
     door: D,
     watcher: S,
     sender: Sender<R>,
@@ -211,23 +212,23 @@ pub(crate) fn start_place<S, D, B, W, R>(
 where
     S: ScreenSource + Drop + Send + 'static,
     D: Door + Send + 'static,
-    B: Bell + Drop + Send + Sync + 'static,
-    W: Bell + Drop + Send + Sync + 'static,
+    B: Alarm + Drop + Send + Sync + 'static,
+    W: Alarm + Drop + Send + Sync + 'static,
     R: Threads + Wait + Clock + Copy + Drop + Send + 'static,
-    requires { (s : S) → (S.width s ≡ welcome.width) × (S.height s ≡ welcome.height) }
-    ensures welcome { IfOk result (λ handle. (handle.promise.role ≡ welcome.role) × (handle.promise.width ≡ welcome.width) × (handle.promise.height ≡ welcome.height) × (handle.promise.name.value.items ≡ welcome.name.items) × (handle.promise.runs ≡ welcome.runs)) }
+    requires { (s : S) → (S.width s ≡ maker.width) × (S.height s ≡ maker.height) }
+    ensures maker { IfOk result (λ handle. (handle.promise.role ≡ maker.role) × (handle.promise.width ≡ maker.width) × (handle.promise.height ≡ maker.height) × (handle.promise.name.value.items ≡ maker.name.items) × (handle.promise.runs ≡ maker.runs)) }
     ensures ends { IfOk result (λ handle. (handle.promise.door.value ≡ door) × (handle.promise.watcher.value ≡ watcher) × (handle.promise.sender.value ≡ sender)) }
     ensures err { IfErr result (λ fault. fault ≡ Memory) }
 {
-    let rt = crew.rt;
-    let bell = Arc::try_clone(&crew.writer)?;
-    let stop: Arc<Stop<Arc<B, Global>>, Global> = Arc::try_clone(&crew.stop)?;
+    let rt = context.rt;
+    let alarm = Arc::try_clone(&context.writer)?;
+    let stop: Arc<Stop<Arc<B, Global>>, Global> = Arc::try_clone(&context.stop)?;
     let promise = OfPlace {
-        role: welcome.role,
-        width: welcome.width,
-        height: welcome.height,
-        name: Snapshot::of(&welcome.name),
-        runs: welcome.runs,
+        role: maker.role,
+        width: maker.width,
+        height: maker.height,
+        name: Snapshot::of(&maker.name),
+        runs: maker.runs,
         door: Snapshot::of(&door),
         watcher: Snapshot::of(&watcher),
         sender: Snapshot::of(&sender),
@@ -236,11 +237,11 @@ where
         &rt,
         promise,
         move || -> Place<S, D, R>
-            requires { (s : S) → (S.width s ≡ welcome.width) × (S.height s ≡ welcome.height) }
+            requires { (s : S) → (S.width s ≡ maker.width) × (S.height s ≡ maker.height) }
             ensures sender { IsSameSender sender result.sender }
-            ensures visits { HasVisits D.lets_in D.sees_off (λ source_old source_new sent_old sent_new why left. IsReceived S.looks S.cuts S.may_end ⊤ (λ fault. (fault ≡ QueueFull) ⊎ (fault ≡ NumbersOut)) S.known (setup_of welcome.width welcome.height welcome.name.items welcome.runs) welcome.role source_old source_new sent_old sent_new why left) (at door watcher (inputs_of sender)) (at result.door result.watcher (inputs_of result.sender)) }
-            ensures promise { KeepsPromise D.lets_in D.sees_off S.known (setup_of welcome.width welcome.height welcome.name.items welcome.runs) welcome.role (at door watcher (inputs_of sender)) (at result.door result.watcher (inputs_of result.sender)) }
-        { keep(rt, welcome, door, watcher, sender, bell, &*stop) },
+            ensures visits { HasVisits D.lets_in D.sees_off (λ source_old source_new sent_old sent_new why left. IsReceived S.looks S.cuts S.may_end ⊤ (λ fault. (fault ≡ QueueFull) ⊎ (fault ≡ NumbersOut)) S.known (setup_of maker.width maker.height maker.name.items maker.runs) maker.role source_old source_new sent_old sent_new why left) (at door watcher (inputs_of sender)) (at result.door result.watcher (inputs_of result.sender)) }
+            ensures promise { KeepsPromise D.lets_in D.sees_off S.known (setup_of maker.width maker.height maker.name.items maker.runs) maker.role (at door watcher (inputs_of sender)) (at result.door result.watcher (inputs_of result.sender)) }
+        { keep(rt, maker, door, watcher, sender, alarm, &*stop) },
     );
     match started {
         Ok(handle) => Ok(handle),

@@ -1,17 +1,17 @@
 //! The thread that reads the hosts.
 
 ghost use Rattle.std.specs.Prelude.{◌≡◌, ◌<◌, true, None, [], map, vec_capacity, IfOk, IfErr};
-ghost use Rattle.pixel_format.specs.declared.fault.Fault.TheVariants.{Memory};
+ghost use Rattle.fault.specs.declared.kinds.Fault.TheVariants.{Memory};
 ghost use Rattle.raster.specs.Screen.{opening};
 ghost use Rattle.host_decoder.specs.Decoder.{Decodes, IsFor, host_message};
 ghost use Rattle.host_turns.specs.Running.{HasRun, IsLinkOf, IsOver, goes_on};
 
+use fault::Fault;
 use host_decoder::HostScreen;
-use host_turns::{Ground, Handover, Hosts, read_all};
+use host_turns::{Handover, Hosts, RunScreen, read_all};
 use link::Link;
-use pixel_format::Fault;
 use reflect_core::Puts;
-use serving::{Bell, Ringing};
+use serving::{Alarm, Ringing};
 use std::alloc::Global;
 use std::snapshot::Snapshot;
 use std::sync::{Arc, Wait};
@@ -52,43 +52,43 @@ pub(crate) type ReaderHandle<L, H, P> = PromisedHandle<HostsRead<L, H, P>, OfHos
 /// What the thread begins with: the first host's link, what reads it, and room for one link.
 #[derive(Drop)]
 struct Begun<L: Link> {
-    ground: Ground,
+    run_screen: RunScreen,
     link: L,
     screen: HostScreen,
     links: Vec<L>,
 }
 
-/// Reads the hosts, and rings the bell after each put.
-fn read<L: Link, H: Hosts<L>, P: Puts + Drop, B: Bell + Drop, W: Bell + Drop, R: Wait>(
+/// Reads the hosts, and rings the alarm after each put.
+fn read<L: Link, H: Hosts<L>, P: Puts + Drop, B: Alarm + Drop, W: Alarm + Drop, R: Wait>(
     rt: &R,
     begun: Begun<L>,
     mut hosts: H,
     publisher: P,
-    bell: B,
+    alarm: B,
     handover: &Handover<L, W>,
 ) -> HostsRead<L, H, P>
     requires room { (begun.links.items ≡ []) × (0 < vec_capacity begun.links) }
-    requires size { (begun.screen.decoder.width ≡ begun.ground.width) × (begun.screen.decoder.height ≡ begun.ground.height) }
-    requires begins { Decodes begun.screen.decoder begun.screen.painter opening (host_message begun.ground.width begun.ground.height) }
+    requires size { (begun.screen.decoder.width ≡ begun.run_screen.width) × (begun.screen.decoder.height ≡ begun.run_screen.height) }
+    requires begins { Decodes begun.screen.decoder begun.screen.painter opening (host_message begun.run_screen.width begun.run_screen.height) }
     requires pair { IsFor begun.screen.decoder begun.screen.painter }
-    requires publisher { (P.width publisher ≡ begun.ground.width) × (P.height publisher ≡ begun.ground.height) }
-    ensures run { HasRun begun.ground.width begun.ground.height (IsLinkOf L.state H.came) result.result (L.state begun.link) (map L.state result.links.items) (P.updates publisher) (P.updates result.publisher) }
+    requires publisher { (P.width publisher ≡ begun.run_screen.width) × (P.height publisher ≡ begun.run_screen.height) }
+    ensures run { HasRun begun.run_screen.width begun.run_screen.height (IsLinkOf L.state H.came) result.result (L.state begun.link) (map L.state result.links.items) (P.updates publisher) (P.updates result.publisher) }
     ensures over { IsOver H.are_out result.hosts result.result }
     ensures never { goes_on result.result ≡ true → H.again hosts ≡ None }
 {
     let Begun {
-        ground,
+        run_screen,
         link,
         screen,
         mut links,
     } = begun;
     let mut ringing = Ringing {
         inner: publisher,
-        bell,
+        alarm,
     };
     let result = read_all(
         rt,
-        &ground,
+        &run_screen,
         link,
         screen,
         &mut hosts,
@@ -96,7 +96,7 @@ fn read<L: Link, H: Hosts<L>, P: Puts + Drop, B: Bell + Drop, W: Bell + Drop, R:
         &mut ringing,
         handover,
     );
-    let Ringing { inner, bell: _ } = ringing;
+    let Ringing { inner, alarm: _ } = ringing;
     HostsRead {
         result,
         hosts,
@@ -108,47 +108,47 @@ fn read<L: Link, H: Hosts<L>, P: Puts + Drop, B: Bell + Drop, W: Bell + Drop, R:
 /// Starts the thread that reads the hosts. It fails where memory is refused, or no thread can be made (`Memory`).
 pub(crate) fn start_reader<L, H, P, B, W, R>(
     rt: R,
-    ground: Ground,
+    run_screen: RunScreen,
     link: L,
     hosts: H,
     publisher: P,
-    bell: B,
+    alarm: B,
     handover: Arc<Handover<L, W>, Global>,
 ) -> Result<ReaderHandle<L, H, P>, Fault>
 where
     L: Link + Send + 'static,
     H: Hosts<L> + Send + 'static,
     P: Puts + Drop + Send + 'static,
-    B: Bell + Drop + Send + 'static,
-    W: Bell + Drop + Send + Sync + 'static,
+    B: Alarm + Drop + Send + 'static,
+    W: Alarm + Drop + Send + Sync + 'static,
     R: Threads + Wait + Copy + Drop + Send + 'static,
-    requires { (P.width publisher ≡ ground.width) × (P.height publisher ≡ ground.height) }
-    ensures of { IfOk result (λ handle. (handle.promise.width ≡ ground.width) × (handle.promise.height ≡ ground.height) × (handle.promise.link.value ≡ link) × (handle.promise.publisher.value ≡ publisher) × (handle.promise.hosts.value ≡ hosts)) }
+    requires { (P.width publisher ≡ run_screen.width) × (P.height publisher ≡ run_screen.height) }
+    ensures of { IfOk result (λ handle. (handle.promise.width ≡ run_screen.width) × (handle.promise.height ≡ run_screen.height) × (handle.promise.link.value ≡ link) × (handle.promise.publisher.value ≡ publisher) × (handle.promise.hosts.value ≡ hosts)) }
     ensures err { IfErr result (λ fault. fault ≡ Memory) }
 {
     let promise = OfHosts {
-        width: ground.width,
-        height: ground.height,
+        width: run_screen.width,
+        height: run_screen.height,
         link: Snapshot::of(&link),
         publisher: Snapshot::of(&publisher),
         hosts: Snapshot::of(&hosts),
     };
     let begun = Begun {
-        ground,
+        run_screen,
         link,
-        screen: HostScreen::new(ground.alloc, ground.width, ground.height)?,
-        links: Vec::with_capacity(ground.alloc, 1)?,
+        screen: HostScreen::new(run_screen.alloc, run_screen.width, run_screen.height)?,
+        links: Vec::with_capacity(run_screen.alloc, 1)?,
     };
     let started = thread::spawn_with(
         &rt,
         promise,
         move ||
             requires room { (begun.links.items ≡ []) × (0 < vec_capacity begun.links) }
-            requires size { (begun.screen.decoder.width ≡ begun.ground.width) × (begun.screen.decoder.height ≡ begun.ground.height) }
-            requires begins { Decodes begun.screen.decoder begun.screen.painter opening (host_message begun.ground.width begun.ground.height) }
+            requires size { (begun.screen.decoder.width ≡ begun.run_screen.width) × (begun.screen.decoder.height ≡ begun.run_screen.height) }
+            requires begins { Decodes begun.screen.decoder begun.screen.painter opening (host_message begun.run_screen.width begun.run_screen.height) }
             requires pair { IsFor begun.screen.decoder begun.screen.painter }
-            requires publisher { (P.width publisher ≡ begun.ground.width) × (P.height publisher ≡ begun.ground.height) }
-        { read(&rt, begun, hosts, publisher, bell, &*handover) },
+            requires publisher { (P.width publisher ≡ begun.run_screen.width) × (P.height publisher ≡ begun.run_screen.height) }
+        { read(&rt, begun, hosts, publisher, alarm, &*handover) },
     );
     match started {
         Ok(handle) => Ok(handle),

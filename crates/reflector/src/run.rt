@@ -2,7 +2,7 @@
 
 ghost use Rattle.std.specs.Prelude.{◌≡◌, ◌⊎◌, ◌+◌, ◌≤◌, ℕ, true, None, [], ◌∷◌, All, drop, map, length, slice_index_or, vec_len, IfOk, IfErr};
 ghost use Rattle.reflect_core.specs.Sequential.{nothing_put};
-ghost use Rattle.pixel_format.specs.declared.fault.Fault.TheVariants.{Memory, NoPlace};
+ghost use Rattle.fault.specs.declared.kinds.Fault.TheVariants.{Memory, NoPlace};
 ghost use Rattle.raster.specs.Size.{IsScreenSize};
 ghost use Rattle.input_relay.specs.Ends.{fresh, host_of, relay_of, strand_of, taken_of};
 ghost use Rattle.roles.specs.Strokes.{StrokesStand};
@@ -15,22 +15,22 @@ ghost use Rattle.tally_word.specs.History.{puts_of};
 ghost use Rattle.host_turns.specs.Running.{HasRun, IsLinkOf, IsOver, goes_on};
 ghost use Rattle.reflector.specs.Visits.{IsOfScreen};
 
-use crate::crew::Crew;
+use crate::context::RunContext;
 use crate::place::{PlaceHandle, start_place};
 use crate::reader::{HostsRead, ReaderHandle, start_reader};
-use crate::welcome::Welcome;
+use crate::session_maker::SessionMaker;
 use crate::writer::{HostsTold, WriterHandle, start_writer};
 use crate::written::Written;
-use host_turns::{Ground, Handover, Hosts};
+use fault::Fault;
+use host_turns::{Handover, Hosts, RunScreen};
 use input_relay::{Sender, Taker, relay};
 use joined_runs::Runs;
 use link::{Link, Rest};
-use pixel_format::Fault;
 use reflect_core::{Puts, ScreenSource};
 use rfb_wire::Joined;
 use roles::{Role, Strokes};
 use screen_pair::Publishes;
-use serving::{Bell, Door, Stop};
+use serving::{Alarm, Door, Stop};
 use shared_screen::{Publisher, Watcher, shared};
 use std::alloc::Global;
 use std::sync::{Arc, Wait};
@@ -67,7 +67,7 @@ struct Started<L: Link, H: Hosts<L>, P: Puts + Drop, S: ScreenSource, D: Door, R
 
 /// Starts the thread of each place, with the sender of its number.
 fn start_places<S, D, B, W, R>(
-    crew: &Crew<R, B, W>,
+    context: &RunContext<R, B, W>,
     joined: &Joined,
     mut doors: Vec<(Role, D)>,
     mut watchers: Vec<S>,
@@ -76,8 +76,8 @@ fn start_places<S, D, B, W, R>(
 where
     S: ScreenSource + Drop + Send + 'static,
     D: Door + Send + 'static,
-    B: Bell + Drop + Send + Sync + 'static,
-    W: Bell + Drop + Send + Sync + 'static,
+    B: Alarm + Drop + Send + Sync + 'static,
+    W: Alarm + Drop + Send + Sync + 'static,
     R: Threads + Wait + Clock + Copy + Drop + Send + 'static,
     requires size { IsScreenSize joined.now.w joined.now.h }
     requires screen { (s : S) → (S.width s ≡ joined.now.w) × (S.height s ≡ joined.now.h) }
@@ -85,16 +85,16 @@ where
     ensures of { IfOk result (λ places. map (λ place. place.promise.sender.value) places.items ≡ senders.items) }
     ensures doors { IfOk result (λ places. map (λ place. (place.promise.role, place.promise.door.value)) places.items ≡ doors.items) }
     ensures watchers { IfOk result (λ places. map (λ place. place.promise.watcher.value) places.items ≡ watchers.items) }
-    ensures screen { IfOk result (λ places. All (λ place. IsOfScreen joined.now.w joined.now.h joined.now.name crew.now.runs place.promise.width place.promise.height place.promise.name.value.items place.promise.runs) places.items) }
+    ensures screen { IfOk result (λ places. All (λ place. IsOfScreen joined.now.w joined.now.h joined.now.name context.now.runs place.promise.width place.promise.height place.promise.name.value.items place.promise.runs) places.items) }
     ensures err { IfErr result (λ fault. fault ≡ Memory) }
 {
-    let mut places = Vec::new(crew.alloc);
+    let mut places = Vec::new(context.alloc);
     for sender in senders {
         let (role, door) = doors.remove(0);
         let watcher = watchers.remove(0);
         let name = joined.name.as_slice();
-        let welcome = Welcome::new(crew.alloc, joined.w, joined.h, name, role, crew.runs)?;
-        let place = start_place(crew, welcome, door, watcher, sender)?;
+        let maker = SessionMaker::new(context.alloc, joined.w, joined.h, name, role, context.runs)?;
+        let place = start_place(context, maker, door, watcher, sender)?;
         places.push(place)?;
     }
     Ok(places)
@@ -102,7 +102,7 @@ where
 
 /// Starts all threads: the places', the host's writer's, and last the one that reads the hosts. Nothing is put before.
 fn start_all<L, H, P, S, D, B, W, R>(
-    crew: &Crew<R, B, W>,
+    context: &RunContext<R, B, W>,
     handover: &Arc<Handover<L, W>, Global>,
     first: L,
     joined: &Joined,
@@ -119,8 +119,8 @@ where
     P: Puts + Drop + Send + 'static,
     S: ScreenSource + Drop + Send + 'static,
     D: Door + Send + 'static,
-    B: Bell + Drop + Send + Sync + 'static,
-    W: Bell + Rest + Drop + Send + Sync + 'static,
+    B: Alarm + Drop + Send + Sync + 'static,
+    W: Alarm + Rest + Drop + Send + Sync + 'static,
     R: Threads + Wait + Clock + Copy + Drop + Send + 'static,
     requires size { IsScreenSize joined.now.w joined.now.h }
     requires publisher { (P.width publisher ≡ joined.now.w) × (P.height publisher ≡ joined.now.h) }
@@ -129,23 +129,25 @@ where
     ensures places { IfOk result (λ started. map (λ place. place.promise.sender.value) started.places.items ≡ senders.items) }
     ensures doors { IfOk result (λ started. map (λ place. (place.promise.role, place.promise.door.value)) started.places.items ≡ doors.items) }
     ensures watchers { IfOk result (λ started. map (λ place. place.promise.watcher.value) started.places.items ≡ drop 1 watchers.items) }
-    ensures screen { IfOk result (λ started. All (λ place. IsOfScreen joined.now.w joined.now.h joined.now.name crew.now.runs place.promise.width place.promise.height place.promise.name.value.items place.promise.runs) started.places.items) }
+    ensures screen { IfOk result (λ started. All (λ place. IsOfScreen joined.now.w joined.now.h joined.now.name context.now.runs place.promise.width place.promise.height place.promise.name.value.items place.promise.runs) started.places.items) }
     ensures writer { IfOk result (λ started. (started.writer.promise.taker.value ≡ taker) × (started.writer.promise.source.value ≡ slice_index_or watchers.items 0 started.writer.promise.source.value) × StrokesStand started.writer.promise.strokes.value []) }
     ensures reader { IfOk result (λ started. (started.reader.promise.width ≡ joined.now.w) × (started.reader.promise.height ≡ joined.now.h) × (started.reader.promise.link.value ≡ first) × (started.reader.promise.publisher.value ≡ publisher) × (started.reader.promise.hosts.value ≡ hosts)) }
     ensures err { IfErr result (λ fault. fault ≡ Memory) }
 {
     let watcher = watchers.remove(0);
-    let strokes = Strokes::new(crew.alloc, senders.len() as u64)?;
-    let places = start_places(crew, joined, doors, watchers, senders)?;
-    let writer = start_writer(crew, Arc::try_clone(handover)?, watcher, taker, strokes)?;
-    let ground = Ground {
-        alloc: crew.alloc,
+    let strokes = Strokes::new(context.alloc, senders.len() as u64)?;
+    let places = start_places(context, joined, doors, watchers, senders)?;
+    let writer = start_writer(context, Arc::try_clone(handover)?, watcher, taker, strokes)?;
+    let run_screen = RunScreen {
+        alloc: context.alloc,
         width: joined.w,
         height: joined.h,
     };
-    let bell = Arc::try_clone(&crew.everyone)?;
+    let alarm = Arc::try_clone(&context.everyone)?;
     let handover = Arc::try_clone(handover)?;
-    let reader = start_reader(crew.rt, ground, first, hosts, publisher, bell, handover)?;
+    let reader = start_reader(
+        context.rt, run_screen, first, hosts, publisher, alarm, handover,
+    )?;
     Ok(Started {
         places,
         writer,
@@ -155,7 +157,7 @@ where
 
 /// Waits until the hosts are read, tells all threads to end, and waits for the hosts' writer.
 fn end_all<L, H, P, S, D, B, W, R>(
-    crew: &Crew<R, B, W>,
+    context: &RunContext<R, B, W>,
     started: Started<L, H, P, S, D, R>,
 ) -> Running<L, H, P, S, D, R>
 where
@@ -164,8 +166,8 @@ where
     P: Puts + Drop,
     S: ScreenSource,
     D: Door,
-    B: Bell + Drop,
-    W: Bell + Drop,
+    B: Alarm + Drop,
+    W: Alarm + Drop,
     R: Threads + Wait + Drop,
     ensures run { HasRun started.reader.promise.width started.reader.promise.height (IsLinkOf L.state H.came) result.result (L.state started.reader.promise.link.value) (map L.state result.links.items) (P.updates started.reader.promise.publisher.value) (P.updates result.publisher) }
     ensures over { IsOver H.are_out result.hosts result.result }
@@ -184,13 +186,13 @@ where
         hosts,
         links,
         publisher,
-    } = reader.join(&crew.rt);
-    crew.stop.set();
+    } = reader.join(&context.rt);
+    context.stop.set();
     let HostsTold {
         written,
         taker,
         strokes,
-    } = writer.join(&crew.rt);
+    } = writer.join(&context.rt);
     Running {
         result,
         links,
@@ -205,7 +207,7 @@ where
 
 /// A run over any screen: its publisher, and a watcher for each place and one for the hosts' writer.
 fn run_over<L, H, P, S, D, B, W, R>(
-    crew: &Crew<R, B, W>,
+    context: &RunContext<R, B, W>,
     links: (L, L),
     joined: &Joined,
     hosts: H,
@@ -219,8 +221,8 @@ where
     P: Puts + Drop + Send + 'static,
     S: ScreenSource + Drop + Send + 'static,
     D: Door + Send + 'static,
-    B: Bell + Drop + Send + Sync + 'static,
-    W: Bell + Rest + Drop + Send + Sync + 'static,
+    B: Alarm + Drop + Send + Sync + 'static,
+    W: Alarm + Rest + Drop + Send + Sync + 'static,
     R: Threads + Wait + Clock + Copy + Drop + Send + 'static,
     requires size { IsScreenSize joined.now.w joined.now.h }
     requires publisher { (P.width publisher ≡ joined.now.w) × (P.height publisher ≡ joined.now.h) }
@@ -234,20 +236,20 @@ where
     ensures told { IfOk result (λ run. (source : S) × (source ≡ slice_index_or watchers.items 0 source) × TellsHosts S.looks S.width S.height source (links_in L.state run.written) (taken_of run.taker) run.strokes) }
     ensures doors { IfOk result (λ run. map (λ place. (place.promise.role, place.promise.door.value)) run.places.items ≡ doors.items) }
     ensures watchers { IfOk result (λ run. map (λ place. place.promise.watcher.value) run.places.items ≡ drop 1 watchers.items) }
-    ensures screen { IfOk result (λ run. All (λ place. IsOfScreen joined.now.w joined.now.h joined.now.name crew.now.runs place.promise.width place.promise.height place.promise.name.value.items place.promise.runs) run.places.items) }
+    ensures screen { IfOk result (λ run. All (λ place. IsOfScreen joined.now.w joined.now.h joined.now.name context.now.runs place.promise.width place.promise.height place.promise.name.value.items place.promise.runs) run.places.items) }
     ensures err { IfErr result (λ fault. fault ≡ Memory) }
 {
     let (read, written) = links;
-    let (senders, taker) = relay(crew.rt, crew.alloc, doors.len() as u64)?;
-    let bell = Arc::try_clone(&crew.writer)?;
-    let handover = Arc::new(crew.alloc, Handover::new(written, bell))?;
+    let (senders, taker) = relay(context.rt, context.alloc, doors.len() as u64)?;
+    let alarm = Arc::try_clone(&context.writer)?;
+    let handover = Arc::new(context.alloc, Handover::new(written, alarm))?;
     match start_all(
-        crew, &handover, read, joined, hosts, doors, publisher, watchers, senders, taker,
+        context, &handover, read, joined, hosts, doors, publisher, watchers, senders, taker,
     ) {
-        Ok(started) => Ok(end_all(crew, started)),
+        Ok(started) => Ok(end_all(context, started)),
         Err(fault) => {
-            crew.stop.set();
-            handover.close(&crew.rt);
+            context.stop.set();
+            handover.close(&context.rt);
             Err(fault)
         }
     }
@@ -295,8 +297,8 @@ where
     L: Link + Send + 'static,
     H: Hosts<L> + Send + 'static,
     D: Door + Send + 'static,
-    B: Bell + Drop + Send + Sync + 'static,
-    W: Bell + Rest + Drop + Send + Sync + 'static,
+    B: Alarm + Drop + Send + Sync + 'static,
+    W: Alarm + Rest + Drop + Send + Sync + 'static,
     R: Threads + Wait + Clock + Copy + Drop + Send + 'static,
     requires history { history.seen.book ≡ J.book }
     requires size { IsScreenSize joined.w joined.h × (joined.w ≡ J.width) × (joined.h ≡ J.height) }
@@ -316,7 +318,7 @@ where
     ensures err { IfErr result (λ fault. (fault ≡ Memory) ⊎ (fault ≡ NoPlace)) }
 {
     let stop = Arc::new(alloc, Stop::new(Arc::try_clone(&everyone)?))?;
-    let crew = Crew {
+    let context = RunContext {
         rt,
         alloc,
         runs,
@@ -333,7 +335,7 @@ where
         doors.len() + 1,
     )?;
     run_over(
-        &crew,
+        &context,
         (reader, writer),
         &joined,
         hosts,

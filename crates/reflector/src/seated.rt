@@ -1,11 +1,11 @@
 //! The sender of one place, whatever it sends.
 
 ghost use Rattle.std.specs.Prelude.{◌≡◌, ◌⊎◌};
-ghost use Rattle.pixel_format.specs.declared.fault.Fault.TheVariants.{QueueFull, NumbersOut};
+ghost use Rattle.fault.specs.declared.kinds.Fault.TheVariants.{QueueFull, NumbersOut};
 ghost use Rattle.input_relay.specs.Ends.{inputs_of, place_of, relay_of};
 
+use fault::Fault;
 use input_relay::Sender;
-use pixel_format::Fault;
 use roles::{Input, InputSink};
 use std::marker::{Brand, PhantomData};
 use std::sync::Wait;
@@ -16,7 +16,7 @@ pub(crate) trait Seat {
     ghost use Rattle.std.specs.Prelude.{ℕ};
     ghost use Rattle.atomic_table.specs.Seated.{TableId};
 
-    /// The relay.
+    /// The relay of which it is a sender.
     ghost relay: { TableId };
 
     /// The number of the place.

@@ -1,23 +1,23 @@
 //! The thread that tells the hosts.
 
 ghost use Rattle.std.specs.Prelude.{◌≡◌, [], IfOk, IfErr};
-ghost use Rattle.pixel_format.specs.declared.fault.Fault.TheVariants.{Memory};
+ghost use Rattle.fault.specs.declared.kinds.Fault.TheVariants.{Memory};
 ghost use Rattle.raster.specs.Size.{IsScreenSize};
 ghost use Rattle.input_relay.specs.Ends.{host_of, taken_of};
 ghost use Rattle.reflector.specs.Tellings.{HasTold, desk};
 ghost use Rattle.reflector.specs.Written.{links_in};
 
-use crate::crew::Crew;
-use crate::errands::{Errands, Round};
+use crate::context::RunContext;
+use crate::turns::{LinkTurns, Round};
 use crate::written::Written;
+use fault::Fault;
 use host_turns::Handover;
 use host_writer::run_writer;
 use input_relay::Taker;
 use link::{Link, Rest};
-use pixel_format::Fault;
 use reflect_core::ScreenSource;
 use roles::Strokes;
-use serving::Bell;
+use serving::Alarm;
 use std::alloc::Global;
 use std::snapshot::Snapshot;
 use std::sync::{Arc, Wait};
@@ -55,9 +55,9 @@ pub(crate) type WriterHandle<L, S, R> = PromisedHandle<HostsTold<L, R>, OfTaker<
 
 /// Tells one host after another, each until it is left or its link ends, and the rest of the input goes on to the next.
 /// A fault of a link isn't told: the reader's tells it.
-fn write<L: Link, E: Errands<L>, S: ScreenSource + Drop, Z: Rest, R: Wait + Drop>(
+fn write<L: Link, E: LinkTurns<L>, S: ScreenSource + Drop, Z: Rest, R: Wait + Drop>(
     rt: &R,
-    errands: &mut E,
+    turns: &mut E,
     mut source: S,
     taker: &mut Taker<R>,
     strokes: &mut Strokes,
@@ -65,20 +65,20 @@ fn write<L: Link, E: Errands<L>, S: ScreenSource + Drop, Z: Rest, R: Wait + Drop
 )
     requires { (s : S) → IsScreenSize (S.width s) (S.height s) }
     ensures relay { host_of taker.new ≡ host_of taker.old }
-    ensures told { HasTold S.looks S.width S.height (desk (E.links errands.old) source (taken_of taker.old) strokes.old) (E.links errands.new) (taken_of taker.new) strokes.new }
+    ensures told { HasTold S.looks S.width S.height (desk (E.links turns.old) source (taken_of taker.old) strokes.old) (E.links turns.new) (taken_of taker.new) strokes.new }
 {
     for _ in rt.forever() {
-        let Some(mut link) = errands.next(rt) else {
+        let Some(mut link) = turns.next(rt) else {
             return;
         };
-        let _ = run_writer(rt, &mut link, &mut source, taker, strokes, &*errands, rest);
-        errands.told(link);
+        let _ = run_writer(rt, &mut link, &mut source, taker, strokes, &*turns, rest);
+        turns.told(link);
     }
     unreachable!()
 }
 
 /// The same of the hosts of a handover.
-fn tell<L: Link, W: Bell + Drop, S: ScreenSource + Drop, Z: Rest, R: Wait + Drop>(
+fn tell<L: Link, W: Alarm + Drop, S: ScreenSource + Drop, Z: Rest, R: Wait + Drop>(
     rt: &R,
     handover: Arc<Handover<L, W>, Global>,
     source: S,
@@ -90,10 +90,10 @@ fn tell<L: Link, W: Bell + Drop, S: ScreenSource + Drop, Z: Rest, R: Wait + Drop
     ensures relay { host_of result.taker ≡ host_of taker }
     ensures told { HasTold S.looks S.width S.height (desk [] source (taken_of taker) strokes) (links_in L.state result.written) (taken_of result.taker) result.strokes }
 {
-    let mut errands = Round::new(handover);
-    write(rt, &mut errands, source, &mut taker, &mut strokes, rest);
+    let mut turns = Round::new(handover);
+    write(rt, &mut turns, source, &mut taker, &mut strokes, rest);
     HostsTold {
-        written: errands.into_written(),
+        written: turns.into_written(),
         taker,
         strokes,
     }
@@ -112,7 +112,7 @@ where
     L: Link + Send + 'static,
     S: ScreenSource + Drop + Send + 'static,
     Z: Rest + Drop + Send + Sync + 'static,
-    W: Bell + Drop + Send + Sync + 'static,
+    W: Alarm + Drop + Send + Sync + 'static,
     R: Threads + Wait + Copy + Drop + Send + 'static,
     requires { (s : S) → IsScreenSize (S.width s) (S.height s) }
     ensures of { IfOk result (λ handle. (handle.promise.source.value ≡ source) × (handle.promise.taker.value ≡ taker) × (handle.promise.strokes.value ≡ strokes)) }
@@ -140,7 +140,7 @@ where
 
 /// Starts the thread that tells the hosts. It fails where memory is refused, or no thread can be made (`Memory`).
 pub(crate) fn start_writer<L, S, B, W, R>(
-    crew: &Crew<R, B, W>,
+    context: &RunContext<R, B, W>,
     handover: Arc<Handover<L, W>, Global>,
     source: S,
     taker: Taker<R>,
@@ -149,13 +149,13 @@ pub(crate) fn start_writer<L, S, B, W, R>(
 where
     L: Link + Send + 'static,
     S: ScreenSource + Drop + Send + 'static,
-    B: Bell + Drop + Send + Sync + 'static,
-    W: Bell + Rest + Drop + Send + Sync + 'static,
+    B: Alarm + Drop + Send + Sync + 'static,
+    W: Alarm + Rest + Drop + Send + Sync + 'static,
     R: Threads + Wait + Copy + Drop + Send + 'static,
     requires { (s : S) → IsScreenSize (S.width s) (S.height s) }
     ensures of { IfOk result (λ handle. (handle.promise.source.value ≡ source) × (handle.promise.taker.value ≡ taker) × (handle.promise.strokes.value ≡ strokes)) }
     ensures err { IfErr result (λ fault. fault ≡ Memory) }
 {
-    let rest = Arc::try_clone(&crew.writer)?;
-    tell_beside(crew.rt, rest, handover, source, taker, strokes)
+    let rest = Arc::try_clone(&context.writer)?;
+    tell_beside(context.rt, rest, handover, source, taker, strokes)
 }

@@ -10,7 +10,7 @@ use std::snapshot::Snapshot;
 /// Links one after another, each as it was at one time. No link and no byte is kept.
 #[derive(Drop)]
 enum Trail<L> {
-    /// None.
+    /// No link was noted.
     Nothing,
     /// These, and then this one.
     Then(Snapshot<Trail<L>>, Snapshot<L>),
@@ -24,7 +24,7 @@ pub struct Written<L> {
 }
 
 impl<L: Link> Written<L> {
-    /// No link.
+    /// No link was noted yet.
     pub(crate) fn new() -> Written<L>
         ensures { links_in L.state result ≡ [] }
     {

@@ -9,8 +9,8 @@ ghost use Rattle.raster.specs.Size.{IsScreenSize};
 
 mod reads;
 
+use fault::Fault;
 use joined_runs::Runs;
-use pixel_format::Fault;
 use reads::FewReads;
 use reflect_world::{Step, World, play};
 use replay_script::{Access, Line, shown};

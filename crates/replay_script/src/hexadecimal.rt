@@ -4,11 +4,11 @@ ghost use Rattle.std.specs.Prelude.{◌≡◌, ℕ, ◌<◌, List, [], ◌∷◌
 ghost use Rattle.std.specs.List.{concat};
 ghost use Rattle.std.specs.String.{string_bytes};
 ghost use Rattle.hex.specs.Hex.{encode_upper, upper_digits};
-ghost use Rattle.pixel_format.specs.declared.fault.Fault.TheVariants.{Memory};
+ghost use Rattle.fault.specs.declared.kinds.Fault.TheVariants.{Memory};
 ghost use Rattle.replay_script.specs.Script.{IsDivided, IsHex, bytes_text};
 
+use fault::Fault;
 use hex::FromHexError;
-use pixel_format::Fault;
 use std::alloc::{AllocError, Global};
 
 /// The bytes of a text in HEX: words of hex digits of either case, divided by one blank each, with an even number of

@@ -2,14 +2,14 @@
 
 ghost use Rattle.std.specs.Prelude.{◌≡◌, ◌≢◌, ◌==◌, ◌≤◌, ◌<◌, ◌^◌, ◌++◌, ◌∷◌, ◌&&◌, ◌||◌, ℕ, All, IfOk, IfErr, IfSome, IfNone, codes, length, nat_lt, slice_index};
 ghost use Rattle.std.specs.Fmt.{decimal};
-ghost use Rattle.pixel_format.specs.declared.fault.Fault.TheVariants.{Memory};
+ghost use Rattle.fault.specs.declared.kinds.Fault.TheVariants.{Memory};
 ghost use Rattle.replay_script.specs.Script.{blank};
 ghost use Rattle.replay_script.specs.Line.{IsInRange, ReadsBehind, Says, access_word};
 ghost use Rattle.replay_script.specs.declared.line.Access as declared_access;
 ghost use Rattle.replay_script.specs.declared.line.Line as declared;
 
 use crate::hexadecimal::script_bytes;
-use pixel_format::Fault;
+use fault::Fault;
 use std::alloc::Global;
 
 /// What a viewer of a script may do.
@@ -141,7 +141,7 @@ fn screen_line(text: &str) -> Option<Line<'_>>
     Some(Line::Screen(width, height, name))
 }
 
-/// `HEX`
+/// What follows `host`: `HEX`, the bytes that the host sends.
 fn host_line(alloc: Global, text: &str) -> Result<Option<Line<'static>>, Fault>
     ensures reads { IfOk result (ReadsBehind (codes "host") text.now) }
     ensures memory { IfErr result (λ fault. fault ≡ Memory) }
@@ -189,7 +189,7 @@ fn greet_line(text: &str) -> Option<Line<'static>>
     Some(Line::Greet(viewer, access))
 }
 
-/// `V HEX`
+/// What follows `viewer`: `V HEX`, the viewer and the bytes that it sends.
 fn viewer_line(alloc: Global, text: &str) -> Result<Option<Line<'static>>, Fault>
     ensures reads { IfOk result (ReadsBehind (codes "viewer") text.now) }
     ensures memory { IfErr result (λ fault. fault ≡ Memory) }
@@ -206,7 +206,7 @@ fn viewer_line(alloc: Global, text: &str) -> Result<Option<Line<'static>>, Fault
     }
 }
 
-/// `V`
+/// What follows `turn`: `V`, the viewer whose turn it is.
 fn turn_line(text: &str) -> Option<Line<'static>>
     ensures { ReadsBehind (codes "turn") text.now result }
 {
@@ -214,7 +214,7 @@ fn turn_line(text: &str) -> Option<Line<'static>>
     Some(Line::Turn(viewer))
 }
 
-/// `V`
+/// What follows `leave`: `V`, the viewer that leaves.
 fn leave_line(text: &str) -> Option<Line<'static>>
     ensures { ReadsBehind (codes "leave") text.now result }
 {
@@ -222,7 +222,7 @@ fn leave_line(text: &str) -> Option<Line<'static>>
     Some(Line::Leave(viewer))
 }
 
-/// `V`
+/// What follows `dropped`: `V`, the viewer whose dropped inputs are counted.
 fn dropped_line(text: &str) -> Option<Line<'static>>
     ensures { ReadsBehind (codes "dropped") text.now result }
 {

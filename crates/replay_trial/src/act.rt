@@ -1,6 +1,6 @@
 //! Lines of worlds, sessions and what is held: what is done, and what is seen then.
 
-use pixel_format::Fault;
+use fault::Fault;
 use replay_script::script_bytes;
 use roles::Input;
 use std::alloc::Global;

@@ -40,7 +40,7 @@ impl<'a> io::Read for EndlessReader<'a> {
     }
 }
 
-/// Takes nothing.
+/// A writer that takes no byte, as a full disk.
 #[derive(Drop)]
 struct FullWriter;
 

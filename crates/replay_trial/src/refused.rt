@@ -7,7 +7,7 @@ pub enum Outcome {
     Whole,
     /// It printed the first of its lines, each whole, and ended for want of memory; or a viewer's text was lost.
     Refused,
-    /// Anything else.
+    /// It ended in another way, or printed something else.
     Otherwise,
 }
 

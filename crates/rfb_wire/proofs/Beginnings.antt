@@ -4,7 +4,7 @@ use Rattle.std.proofs.Common.{◌≡◌, ℕ, zero, suc, ◌+◌, ◌<◌, Bool,
 use Rattle.std.specs.Prelude.{◌⊎◌, IsTrue, nat_le}
 use Rattle.std.specs.Int.{w32, from_be_bytes}
 use Rattle.std.proofs.lemmas.Bool.{cases_lt}
-use Rattle.pixel_format.specs.declared.fault.Fault.TheVariants.{BadFormat, UnknownMessage}
+use Rattle.fault.specs.declared.kinds.Fault.TheVariants.{BadFormat, UnknownMessage}
 use Rattle.byte_reading.specs.Reading.{Reading, Done, Faulty, Want, ◌>>=◌, step, after, fault_of, wants_more, bytes, padding, times, u32, unless}
 use Rattle.byte_reading.proofs.ReadingLaws.{after-append}
 use Rattle.rfb_wire.specs.ClientMessage.{ClientMessage, SetPixelFormat, SetEncodings, Ask, Key, Pointer, CutText, LostText, client_message, longest_text}
@@ -17,7 +17,7 @@ use Rattle.rfb_wire.specs.declared.kept_text.KeptText.{KeptText}
 use Rattle.rfb_wire.specs.declared.skipped_bytes.SkippedBytes.{SkippedBytes}
 use Rattle.rfb_wire.specs.declared.client_reader.state.State.{State}
 use Rattle.rfb_wire.specs.declared.client_reader.state.State.TheVariants.{Fields, Keeping, Passing, Whole, Failed}
-use Rattle.pixel_format.specs.declared.fault.Fault.{Fault}
+use Rattle.fault.specs.declared.kinds.Fault.{Fault}
 use Rattle.rfb_wire.specs.declared.message.ClientMessage as declared
 use Rattle.rfb_wire.proofs.Losing.{losing-after}
 use Rattle.rfb_wire.proofs.ViewerParts.{is_head, part_wants, part_full}

@@ -4,7 +4,7 @@ use Rattle.std.proofs.Common.{◌≡◌, ℕ, zero, suc, ◌+◌, zero-add, ◌<
 use Rattle.std.specs.Prelude.{MatchResult}
 use Rattle.std.proofs.lemmas.List.{take-append-drop, length-drop, length-take}
 use Rattle.std.proofs.Math.Seq.{drop-nil}
-use Rattle.pixel_format.specs.declared.fault.Fault.{Fault}
+use Rattle.fault.specs.declared.kinds.Fault.{Fault}
 use Rattle.byte_reading.specs.Reading.{Reading, after, taken, wants_more, fault_of}
 use Rattle.byte_reading.proofs.ReadingLaws.{IsFed, after-append, fed_stops, fed_all, feeds_ok, taken-append}
 use Rattle.rfb_wire.specs.ClientMessage.{ClientMessage}

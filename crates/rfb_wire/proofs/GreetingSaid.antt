@@ -4,7 +4,7 @@ use Rattle.std.specs.Prelude.{nat_le, if◌then◌else◌, is_none}
 use Rattle.std.proofs.lemmas.Bool.{le-leb, lt-leb, cases_lt}
 use Rattle.std.proofs.lemmas.List.{length-append, length-take, take_all, drop-take}
 use Rattle.byte_reading.specs.Reading.{fault_of}
-use Rattle.pixel_format.specs.declared.fault.Fault.{Fault}
+use Rattle.fault.specs.declared.kinds.Fault.{Fault}
 use Rattle.rfb_wire.specs.Handshake.{version, server_init, said_to_viewer}
 use Rattle.rfb_wire.specs.Greeting.{Greeting, ahead, due, to_send, IsPrepared}
 

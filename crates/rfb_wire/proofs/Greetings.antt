@@ -7,8 +7,8 @@ use Rattle.std.proofs.lemmas.Bool.{ne_eqb, cases_lt}
 use Rattle.std.proofs.lemmas.List.{take_more}
 use Rattle.std.proofs.Math.Seq.{drop-cons}
 use Rattle.byte_reading.specs.Reading.{Reading, Done, Faulty, Want, ◌>>=◌, byte, unless, step, after, whole_of, fault_of, wants_more}
-use Rattle.pixel_format.specs.declared.fault.Fault.{Fault}
-use Rattle.pixel_format.specs.declared.fault.Fault.TheVariants.{BadVersion, BadChoice}
+use Rattle.fault.specs.declared.kinds.Fault.{Fault}
+use Rattle.fault.specs.declared.kinds.Fault.TheVariants.{BadVersion, BadChoice}
 use Rattle.byte_reading.proofs.ReadingLaws.{after-append, after-done, after-faulty}
 use Rattle.rfb_wire.specs.Greeting.{Greeting, ahead}
 use Rattle.rfb_wire.specs.Handshake.{version, is_version, viewer_choice, viewer_hello}

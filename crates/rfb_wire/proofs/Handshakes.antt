@@ -5,7 +5,7 @@ use Rattle.std.specs.Int.{w16, w32, to_be_bytes}
 use Rattle.std.proofs.lemmas.Bool.{le-leb, and_from}
 use Rattle.pixel_format.specs.PixelFormat.{host_format}
 use Rattle.byte_reading.specs.Reading.{Reading, Done, Faulty, Want, ◌>>=◌, after, bytes, padding, u16, u32, unless, Spells}
-use Rattle.pixel_format.specs.declared.fault.Fault.TheVariants.{BadScreen}
+use Rattle.fault.specs.declared.kinds.Fault.TheVariants.{BadScreen}
 use Rattle.byte_reading.proofs.ReadingLaws.{after-done, after-faulty, bind_assoc, faulty_is_not, done}
 use Rattle.raster.proofs.Spellings.{spells_bind, spells_then, spells_bytes}
 use Rattle.raster.proofs.Pixels.{spells_u16, spells_u32}

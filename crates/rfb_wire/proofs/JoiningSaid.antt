@@ -3,7 +3,7 @@ use Rattle.std.proofs.Common.{◌≡◌, ℕ, ◌+◌, ◌-◌, ◌<◌, true, L
 use Rattle.std.specs.Prelude.{is_some, is_none, if◌then◌else◌}
 use Rattle.std.proofs.lemmas.List.{drop-take, take_min, length-take, drop_all}
 use Rattle.std.proofs.lemmas.Bool.{cases_lt}
-use Rattle.pixel_format.specs.declared.fault.Fault.{Fault}
+use Rattle.fault.specs.declared.kinds.Fault.{Fault}
 use Rattle.byte_reading.specs.Reading.{Reading, ◌>>=◌, after, bytes, u32, whole_of, fault_of}
 use Rattle.rfb_wire.specs.Handshake.{version, refused, host_version, security_types, security_result, said_to_host}
 use Rattle.rfb_wire.specs.Joining.{version_ahead, types_ahead, result_ahead, version_of, types_of, result_of, ahead, said, to_send, is_field, FitsStage, IsSound, HasHeard}

@@ -4,7 +4,7 @@ use Rattle.std.specs.Prelude.{◌==◌, ◌&&◌, slice_index}
 use Rattle.std.specs.List.{list_any}
 use Rattle.std.specs.Int.{w16, w32, from_be_bytes}
 use Rattle.byte_reading.specs.Reading.{Reading, Done, Faulty, ◌>>=◌, padding, u32, unless, whole_of, fault_of, wants_more}
-use Rattle.pixel_format.specs.declared.fault.Fault.TheVariants as fault
+use Rattle.fault.specs.declared.kinds.Fault.TheVariants as fault
 use Rattle.rfb_wire.specs.Handshake.{Joined, is_host_version, is_size, kept_name, refused, security_types, security_result, host_init}
 use Rattle.rfb_wire.specs.Joining.{version_ahead, types_ahead, result_ahead, init_ahead, ahead, is_field, is_open, FitsStage, IsSound}
 use Rattle.rfb_wire.specs.declared.host_talk.Stage.{Stage}

@@ -3,7 +3,7 @@ use Rattle.std.proofs.Common.{◌≡◌, ℕ, ◌<◌, ◌≤◌, true, false, n
 use Rattle.std.specs.Prelude.{◌==◌, ◌&&◌}
 use Rattle.std.specs.List.{list_any}
 use Rattle.byte_reading.specs.Reading.{Done, ◌>>=◌, padding, u32, unless}
-use Rattle.pixel_format.specs.declared.fault.Fault.TheVariants as fault
+use Rattle.fault.specs.declared.kinds.Fault.TheVariants as fault
 use Rattle.rfb_wire.specs.Handshake.{Joined, is_host_version, is_size, kept_name}
 use Rattle.rfb_wire.specs.Joining.{said, IsJudged}
 use Rattle.rfb_wire.specs.declared.host_talk.Stage.{Stage}

@@ -2,7 +2,7 @@
 use Rattle.std.proofs.Common.{Some, ◌≡◌, ℕ, suc, List, [], ◌∷◌, Option, None, ◌⊎◌, inl, inr, Ok, Err, refl, sym, ap, subst, ◌∙◌}
 use Rattle.std.specs.Prelude.{option_map}
 use mathlib.Core.Path.{fun_ext}
-use Rattle.pixel_format.specs.declared.fault.Fault.{Fault}
+use Rattle.fault.specs.declared.kinds.Fault.{Fault}
 use Rattle.byte_reading.specs.Reading.{Reading, Done, Faulty, Want, step, after, taken, renewed, whole_of, fault_of, Feeds, GivesWhole}
 use Rattle.byte_reading.proofs.ReadingLaws.{done_from, found_is}
 use Rattle.rfb_wire.specs.ClientMessage.{ClientMessage, SetPixelFormat, SetEncodings, Ask, Key, Pointer, CutText, LostText, without_text}

@@ -10,7 +10,7 @@ use Rattle.raster.proofs.Spellings.{Each, spells_done, spells_bind, spells_then,
 use Rattle.raster.proofs.Pixels.{spells_u16, spells_u32}
 use Rattle.rfb_wire.specs.ClientMessage.{ClientMessage, client_message, choice_of, text, longest_text, SetPixelFormat, SetEncodings}
 use Rattle.pixel_format.specs.PixelFormat.{PixelFormat, IsAccepted, accepts, format_at, format_bytes}
-use Rattle.pixel_format.specs.declared.fault.Fault.TheVariants.{BadFormat}
+use Rattle.fault.specs.declared.kinds.Fault.TheVariants.{BadFormat}
 use Rattle.pixel_format.proofs.FormatsBack.{format_back, written_is_accepted}
 use Rattle.rfb_wire.specs.Writing.{set_encodings_bytes, set_pixel_format_bytes}
 

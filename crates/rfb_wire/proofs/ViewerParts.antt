@@ -6,7 +6,7 @@ use mathlib.Core.Path.{fun_ext}
 use Rattle.std.proofs.lemmas.Bool.{lt-ltb}
 use Rattle.pixel_format.specs.PixelFormat.{PixelFormat, accepts, format_at}
 use Rattle.std.proofs.lemmas.List.{take_all, length-drop, length-take}
-use Rattle.pixel_format.specs.declared.fault.Fault.TheVariants.{BadFormat}
+use Rattle.fault.specs.declared.kinds.Fault.TheVariants.{BadFormat}
 use Rattle.byte_reading.specs.Reading.{Reading, Done, Faulty, ◌>>=◌, after, taken, bytes, padding, times, u32, wants_more, unless}
 use Rattle.byte_reading.proofs.ReadingLaws.{bind_assoc, after-append}
 use Rattle.byte_reading.proofs.Heads.{head_wants, head_full, head_takes}

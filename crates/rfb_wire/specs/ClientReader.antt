@@ -1,7 +1,7 @@
 -- How reading a viewer's message goes on, by what its reader holds.
 use Rattle.std.specs.Prelude.{◌≡◌, ℕ, suc, Bool, true, false, ◌<◌, ◌≤◌, ◌==◌, ◌||◌, ◌⊎◌, unwrap_or, Some, List, ◌++◌, length, take}
 use Rattle.std.specs.List.{list_any}
-use Rattle.pixel_format.specs.declared.fault.Fault.TheVariants.{UnknownMessage}
+use Rattle.fault.specs.declared.kinds.Fault.TheVariants.{UnknownMessage}
 use Rattle.byte_reading.specs.Reading.{Reading, Done, Faulty, ◌>>=◌, step, after, taken, fault_of, bytes, padding, u32, times}
 use Rattle.rfb_wire.specs.ClientMessage as client
 use Rattle.rfb_wire.specs.ClientMessage.{ClientMessage, SetEncodings, CutText, LostText, client_message, set_pixel_format, set_encodings, key_event, pointer_event, text, kind_of}

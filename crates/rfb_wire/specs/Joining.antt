@@ -2,7 +2,7 @@
 use Rattle.std.specs.Prelude.{◌≡◌, ℕ, ◌==◌, ◌≤◌, ◌<◌, not, Bool, true, false, List, [], ◌∷◌, ◌++◌, length, drop, is_none, if◌then◌else◌}
 use Rattle.std.specs.List.{list_any}
 use Rattle.byte_reading.specs.Reading.{Reading, Done, Faulty, ◌>>=◌, step, after, bytes, padding, u32, unless, fault_of}
-use Rattle.pixel_format.specs.declared.fault.Fault.TheVariants as fault
+use Rattle.fault.specs.declared.kinds.Fault.TheVariants as fault
 use Rattle.rfb_wire.specs.Handshake.{Joined, version, host_version, security_types, refused, security_result, kept_name, host_init, host_hello}
 use Rattle.rfb_wire.specs.declared.host_talk.Stage.{Stage}
 use Rattle.rfb_wire.specs.declared.host_talk.Stage.TheVariants as at

@@ -1,6 +1,6 @@
 -- What the messages in the code stand for, and what a reader of a viewer's messages does.
 use Rattle.std.specs.Prelude.{◌≡◌, ℕ, ◌⊎◌, List, Result}
-use Rattle.pixel_format.specs.declared.fault.Fault.{Fault}
+use Rattle.fault.specs.declared.kinds.Fault.{Fault}
 use Rattle.byte_reading.specs.Reading.{Reading, Done, Faulty, Want, Feeds}
 use Rattle.rfb_wire.specs.declared.choice.Choice as declared_choice
 use Rattle.rfb_wire.specs.declared.message.ClientMessage as declared

@@ -51,7 +51,7 @@ impl<P: FixedPart> Fields<P> {
         }
     }
 
-    /// The part.
+    /// Which part of a message it is.
     pub fn part(&self) -> P
         ensures value { result ≡ self.now.0 }
         ensures missing { length self.now.1 < P.len_of self.now.0 }

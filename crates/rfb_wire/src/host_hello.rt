@@ -3,7 +3,7 @@
 use crate::host_talk::HostTalk;
 use crate::joined::Joined;
 use crate::version::SAID_TO_HOST;
-use pixel_format::Fault;
+use fault::Fault;
 use std::marker::Model;
 
 /// A host's handshake in mid-course: what has come of it, and what is to be said to it. It takes no memory.

@@ -8,7 +8,7 @@ use crate::joined::Joined;
 use crate::security_type::NONE;
 use crate::version::VERSION_LEN;
 use arrayvec::ArrayVec;
-use pixel_format::{Fault, Reason};
+use fault::{Fault, Reason};
 
 /// Which field of the handshake is being read, or how it ended.
 #[derive(Clone, Copy)]
@@ -23,7 +23,7 @@ pub(crate) enum Stage {
     Reason,
     /// Its security types (7.1.2).
     Types,
-    /// SecurityResult (7.1.3).
+    /// The outcome of the handshake, SecurityResult (7.1.3).
     SecurityResult,
     /// The size of its screen, first in ServerInit (7.3.2).
     Size,
@@ -102,7 +102,7 @@ pub(crate) struct HostTalk {
     pub(crate) wanted: usize,
     /// The width of the host's screen in pixels, once it is told.
     pub(crate) w: u64,
-    /// Its height.
+    /// The height of the host's screen in pixels, once it is told.
     pub(crate) h: u64,
     /// How many bytes of the name are left that aren't kept.
     pub(crate) rest: u32,

@@ -1,11 +1,11 @@
 //! A text that is kept as it comes.
 
 ghost use Rattle.std.specs.Prelude.{◌≡◌, ◌+◌, ◌-◌, ◌<◌, ◌≤◌, [], ◌++◌, length, OnOk, IfOk, IfErr};
-ghost use Rattle.pixel_format.specs.declared.limits.TheConstants.{LONGEST_TEXT};
-ghost use Rattle.pixel_format.specs.declared.fault.Fault.TheVariants.{Memory};
+ghost use Rattle.fault.specs.declared.limits.TheConstants.{LONGEST_TEXT};
+ghost use Rattle.fault.specs.declared.kinds.Fault.TheVariants.{Memory};
 
 use crate::text::Text;
-use pixel_format::Fault;
+use fault::Fault;
 use std::alloc::Global;
 use std::marker::Model;
 use std::mem;
@@ -19,7 +19,7 @@ pub struct KeptText {
 
 impl Model for KeptText {
     ghost use Rattle.std.specs.Prelude.{ℕ, ◌+◌, ◌<◌, ◌≤◌, List, length};
-    ghost use Rattle.pixel_format.specs.declared.limits.TheConstants.{LONGEST_TEXT};
+    ghost use Rattle.fault.specs.declared.limits.TheConstants.{LONGEST_TEXT};
 
     ghost Value = { List ℕ × ℕ };
 

@@ -1,22 +1,22 @@
 //! The types of messages: the first byte of each (RFC 6143, 7.5 and 7.6).
 
 /// What a viewer sends to say in which format it wants pixels (RFC 6143, 7.5.1).
-pub const SET_PIXEL_FORMAT: u8 = 0;
+pub(crate) const SET_PIXEL_FORMAT: u8 = 0;
 
 /// What a viewer sends to say which encodings it reads (RFC 6143, 7.5.2).
-pub const SET_ENCODINGS: u8 = 2;
+pub(crate) const SET_ENCODINGS: u8 = 2;
 
 /// What a viewer sends to ask for a rectangle (RFC 6143, 7.5.3).
-pub const FRAMEBUFFER_UPDATE_REQUEST: u8 = 3;
+pub(crate) const FRAMEBUFFER_UPDATE_REQUEST: u8 = 3;
 
 /// What a viewer sends where a key goes down or up (RFC 6143, 7.5.4).
-pub const KEY_EVENT: u8 = 4;
+pub(crate) const KEY_EVENT: u8 = 4;
 
 /// What a viewer sends where its pointer moves, or a button goes down or up (RFC 6143, 7.5.5).
-pub const POINTER_EVENT: u8 = 5;
+pub(crate) const POINTER_EVENT: u8 = 5;
 
 /// What a viewer sends where it has a new cut text (RFC 6143, 7.5.6).
-pub const CLIENT_CUT_TEXT: u8 = 6;
+pub(crate) const CLIENT_CUT_TEXT: u8 = 6;
 
 /// What a server sends to bring rectangles (RFC 6143, 7.6.1).
 pub const FRAMEBUFFER_UPDATE: u8 = 0;

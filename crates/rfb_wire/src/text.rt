@@ -1,7 +1,7 @@
 //! Cut texts.
 
 ghost use Rattle.std.specs.Prelude.{◌≡◌, ◌≤◌, length};
-ghost use Rattle.pixel_format.specs.declared.limits.TheConstants.{LONGEST_TEXT};
+ghost use Rattle.fault.specs.declared.limits.TheConstants.{LONGEST_TEXT};
 
 use std::marker::Model;
 
@@ -14,7 +14,7 @@ pub struct Text {
 
 impl Model for Text {
     ghost use Rattle.std.specs.Prelude.{List, ℕ, ◌≤◌, length};
-    ghost use Rattle.pixel_format.specs.declared.limits.TheConstants.{LONGEST_TEXT};
+    ghost use Rattle.fault.specs.declared.limits.TheConstants.{LONGEST_TEXT};
 
     ghost Value = { List ℕ };
 
@@ -41,7 +41,7 @@ impl Text {
         bytes
     }
 
-    /// Its bytes.
+    /// The bytes of the text.
     pub fn as_slice(&self) -> &[u8]
         ensures value { result.now ≡ self.now }
         ensures short { length result.now ≤ LONGEST_TEXT }

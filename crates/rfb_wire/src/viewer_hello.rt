@@ -10,7 +10,7 @@ use crate::security_type::NONE;
 use crate::version::{SAID_TO_HOST, VERSION_LEN};
 use crate::write::{BEFORE_INIT_LEN, BEFORE_NAME_LEN, write_handshake};
 use arrayvec::ArrayVec;
-use pixel_format::Fault;
+use fault::Fault;
 use std::marker::Model;
 
 /// How many bytes a viewer says: its version, its choice of a security type, and the shared-flag (RFC 6143, 7.1.1,

@@ -7,7 +7,7 @@ ghost use Rattle.std.specs.Prelude.{◌≡◌, ◌≤◌, ◌<◌, ◌+◌, ◌*
 ghost use Rattle.std.specs.Int.{w32, to_be_bytes};
 ghost use Rattle.pixel_format.specs.PixelFormat.{host_format, format_bytes};
 ghost use Rattle.rfb_wire.specs.Handshake.{server_init, said_to_viewer};
-ghost use Rattle.rfb_wire.specs.Writing.{Writes, update_head_bytes, rectangle_head_bytes, set_encodings_bytes, request_bytes, key_bytes, pointer_bytes, client_text_bytes, bell_bytes, server_text_bytes, text_bytes, set_pixel_format_bytes};
+ghost use Rattle.rfb_wire.specs.Writing.{Writes, update_head_bytes, rectangle_head_bytes, set_encodings_bytes, request_bytes, key_bytes, pointer_bytes, client_text_bytes, bell_bytes, server_text_bytes, text_bytes, text_head_bytes, set_pixel_format_bytes};
 
 use crate::message_type::{
     BELL, CLIENT_CUT_TEXT, FRAMEBUFFER_UPDATE, FRAMEBUFFER_UPDATE_REQUEST, KEY_EVENT,
@@ -18,6 +18,12 @@ use crate::version::{SAID_TO_HOST, VERSION_LEN};
 use byteorder::{BigEndian, ByteOrder};
 use pixel_format::Format;
 use raster::Rect;
+
+/// How many bytes the header of a rectangle has (RFC 6143, 7.6.1).
+pub const RECTANGLE_HEAD_LEN: usize = 12;
+
+/// How many bytes the header of a cut text has, a viewer's or a server's (RFC 6143, 7.5.6 and 7.6.4).
+pub const TEXT_HEAD_LEN: usize = 8;
 
 /// Copies these bytes to the front.
 fn put(bytes: &[u8], out: &mut [u8]) -> usize
@@ -130,14 +136,31 @@ fn put_counted(text: &[u8], out: &mut [u8]) -> usize
     4 + put(text, &mut out[4..])
 }
 
-/// A text after the type of its message.
+/// The type of a message that is a text, and the number of the text's bytes.
+fn put_text_head(kind: u8, len: u32, out: &mut [u8]) -> usize
+    requires { 8 ≤ length out.old }
+    ensures { Writes (text_head_bytes kind len) out.old out.new result }
+{
+    let [n3, n2, n1, n0] = len.to_be_bytes();
+    put(&[kind, 0, 0, 0, n3, n2, n1, n0], out)
+}
+
+/// A text after the header of its message.
 fn put_text(kind: u8, text: &[u8], out: &mut [u8]) -> usize
     requires few { length text.now < 2 ^ 32 }
     requires room { 8 + length text.now ≤ length out.old }
     ensures { Writes (text_bytes kind text.now) out.old out.new result }
 {
-    put(&[kind, 0, 0, 0], out);
-    4 + put_counted(text, &mut out[4..])
+    put_text_head(kind, text.len() as u32, out);
+    TEXT_HEAD_LEN + put(text, &mut out[TEXT_HEAD_LEN..])
+}
+
+/// The header of a ClientCutText, which a text of `len` bytes follows: 8 bytes (RFC 6143, 7.5.6).
+pub fn write_client_text_head(len: u32, out: &mut [u8]) -> usize
+    requires { 8 ≤ length out.old }
+    ensures { Writes (text_head_bytes 6 len) out.old out.new result }
+{
+    put_text_head(CLIENT_CUT_TEXT, len, out)
 }
 
 /// A ClientCutText: 8 bytes and the Latin-1 text, unchanged (RFC 6143, 7.5.6).

@@ -1,6 +1,7 @@
 //! A viewer's messages as they come, in pieces.
 
-use pixel_format::{Fault, Format};
+use fault::Fault;
+use pixel_format::Format;
 use raster::{Encoding, Rect};
 use rfb_wire::{ClientMessage, ClientReader};
 use std::alloc::Global;

@@ -1,7 +1,7 @@
 //! Joining a host whose screen is 2 by 1 and whose name is T, over links of every course.
 
+use fault::Fault;
 use link::{Gave, Link, MemoryLink, Took, join_host};
-use pixel_format::Fault;
 use rfb_wire::Joined;
 use std::alloc::Global;
 use std::sync::Wait;

@@ -6,7 +6,7 @@ use Rattle.std.proofs.lemmas.Bool.{and_parts, or_parts, ltb-false, ne_eqb, eq-eq
 use Rattle.std.proofs.lemmas.Bool.Decides.{nat_tests}
 use Rattle.std.proofs.lemmas.Grind.{common_steps}
 use Rattle.std.proofs.lemmas.List.{append-nil}
-use Rattle.pixel_format.specs.declared.limits.TheConstants.{LIMIT}
+use Rattle.fault.specs.declared.limits.TheConstants.{LIMIT}
 use Rattle.roles.specs.Allowed.{Input, Key, Pointer, Cut, passes, keys_after, keys_down, last_pointer}
 use Rattle.roles.specs.Held.{Kept, kept_with}
 use Rattle.roles.specs.Strokes.{Taken, sent_by, keys_of, buttons_of, has_down, passes_after, unbroken_after, unbroken, left_out_after, dropped, StrokesKept, StrokesStand, is_holding, lets_pass, let_through, counts_after}

@@ -5,7 +5,7 @@ use Rattle.std.specs.List.{filter_map}
 use Rattle.std.proofs.lemmas.Bool.{and_parts, not-true, eq-eqb, cases_Bool, both_ways}
 use Rattle.std.proofs.lemmas.List.{append-nil}
 use Rattle.rfb_wire.specs.ClientMessage.{ClientMessage}
-use Rattle.pixel_format.specs.declared.limits.TheConstants.{LIMIT}
+use Rattle.fault.specs.declared.limits.TheConstants.{LIMIT}
 use Rattle.roles.specs.declared.role.Role.{Role}
 use Rattle.roles.specs.declared.role.Role.TheVariants.{Full, View}
 use Rattle.roles.specs.Allowed.{Input, Key, Pointer, Cut, input_of, with_key, without_key, passes, keys_after, passing, keys_down, last_pointer, releases, allowed}

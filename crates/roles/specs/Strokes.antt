@@ -2,7 +2,7 @@
 -- with a key or a button (RFC 6143, 7.5.4 and 7.5.5; the rule is this project's own).
 use Rattle.std.specs.Prelude.{◌≡◌, ◌≢◌, ◌⊎◌, ℕ, ◌+◌, ◌<◌, min, Bool, false, not, ◌&&◌, ◌||◌, ◌==◌, nat_lt, if◌then◌else◌, List, [], ◌∷◌, ◌++◌, length, slice_index, slice_set}
 use Rattle.std.specs.List.{list_any}
-use Rattle.pixel_format.specs.declared.limits.TheConstants.{LIMIT}
+use Rattle.fault.specs.declared.limits.TheConstants.{LIMIT}
 use Rattle.roles.specs.Allowed.{Input, passes, keys_down, last_pointer}
 use Rattle.roles.specs.Held.{Kept, kept_with}
 

@@ -15,7 +15,7 @@ use rfb_wire::ClientMessage;
 use std::marker::Model;
 
 /// The most keys that are held down for one viewer.
-pub const MOST_KEYS: usize = 64;
+const MOST_KEYS: usize = 64;
 
 /// The keys that a viewer holds down, by rising number, and its last pointer event.
 #[derive(Drop)]
@@ -111,8 +111,7 @@ impl Held {
     /// Whether a message of a viewer of this role passes to the host, and what is held after it. It takes no memory.
     ///
     /// Of a viewer in full control pass, in order, each pointer event, each text that was kept, the press of a key that
-    /// is down or while fewer than `MOST_KEYS` are, and the release of a key that is down; of a view-only viewer
-    /// nothing.
+    /// is down or while fewer than 64 are, and the release of a key that is down; of a view-only viewer nothing.
     pub fn passes(&mut self, role: Role, message: &ClientMessage) -> bool
         ensures value { result ≡ passes_if self.old.keys (input_for role (message_of message.now)) }
         ensures kept { self.new ≡ kept_after self.old (input_for role (message_of message.now)) }
@@ -127,7 +126,7 @@ impl Held {
     }
 
     /// Whether an input passes, and what is held after it: the press of a key that is down or while fewer than
-    /// `MOST_KEYS` are, the release of a key that is down, each pointer event and each text. It takes no memory.
+    /// 64 are, the release of a key that is down, each pointer event and each text. It takes no memory.
     pub(crate) fn takes(&mut self, input: &Input) -> bool
         ensures value { result ≡ passes self.old.keys (input_in input.now) }
         ensures kept { self.new ≡ kept_after self.old (Some (input_in input.now)) }
@@ -170,7 +169,7 @@ impl Held {
         }
     }
 
-    /// How many inputs are to be released where the viewer leaves: at most `MOST_KEYS` keys and a pointer event.
+    /// How many inputs are to be released where the viewer leaves: at most 64 keys and a pointer event.
     pub fn releases(&self) -> usize
         ensures value { result ≡ length (left_in self.now) }
         ensures most { result ≤ 65 }

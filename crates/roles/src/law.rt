@@ -1,7 +1,7 @@
 //! What holds of all that a viewer sends.
 
 ghost use Rattle.std.specs.Prelude.{◌≡◌, ◌≢◌, ℕ, ◌-◌, min, Bool, List, ◌∷◌, ◌++◌, length, map, true, false};
-ghost use Rattle.pixel_format.specs.declared.limits.TheConstants.{LIMIT};
+ghost use Rattle.fault.specs.declared.limits.TheConstants.{LIMIT};
 ghost use Rattle.rfb_wire.specs.ClientMessage.{ClientMessage};
 ghost use Rattle.roles.specs.declared.role.Role.{Role};
 ghost use Rattle.roles.specs.Allowed.{allowed};

@@ -1,12 +1,12 @@
 //! Where input goes.
 
 ghost use Rattle.std.specs.Prelude.{◌≡◌, List, [], ◌∷◌, ◌++◌, OnOk, IfErr};
-ghost use Rattle.pixel_format.specs.declared.fault.Fault.{Fault};
+ghost use Rattle.fault.specs.declared.kinds.Fault.{Fault};
 ghost use Rattle.roles.specs.Allowed as definitions;
 ghost use Rattle.roles.specs.Held.{input_in};
 
 use crate::input::Input;
-use pixel_format::Fault;
+use fault::Fault;
 
 /// What takes the input of one viewer on its way to the host.
 pub trait InputSink {

@@ -1,13 +1,13 @@
 //! Which input of several places goes to the host, so that no place breaks into another's stroke.
 
 ghost use Rattle.std.specs.Prelude.{◌≡◌, ◌<◌, if◌then◌else◌, List, [], ◌∷◌, ◌++◌, length, slice_index, IfOk, IfErr};
-ghost use Rattle.pixel_format.specs.declared.fault.Fault.TheVariants.{Memory};
+ghost use Rattle.fault.specs.declared.kinds.Fault.TheVariants.{Memory};
 ghost use Rattle.roles.specs.Held.{input_in};
 ghost use Rattle.roles.specs.Strokes.{Taken, input_from, unbroken, passes_after, dropped, StrokesStand, lets_pass, let_through, counts_after};
 
 use crate::held::Held;
 use crate::input::Input;
-use pixel_format::{Fault, LIMIT};
+use fault::{Fault, LIMIT};
 use std::alloc::Global;
 use std::marker::Model;
 
@@ -72,7 +72,7 @@ impl Strokes {
     /// Whether an input that was taken of this place passes to the host. It takes no memory.
     ///
     /// It passes where no other place has a key or a button down, unless it is the release of a key that isn't down of
-    /// its place, or the press of a further key while `MOST_KEYS` are down. What doesn't pass is counted.
+    /// its place, or the press of a further key while 64 are down. What doesn't pass is counted.
     pub fn passes(&mut self, place: u64, input: &Input) -> bool
         ensures value { (taken : List Taken) → StrokesStand self.old taken → result ≡ passes_after (unbroken taken) (input_from place (input_in input.now)) }
         ensures unbroken { (taken : List Taken) → StrokesStand self.old taken

@@ -5,7 +5,7 @@ use Rattle.std.proofs.lemmas.Bool.{lt-ltb, ne_eqb}
 use Rattle.std.proofs.lemmas.List.{append-nil}
 use Rattle.pixel_format.specs.PixelFormat.{PixelFormat}
 use Rattle.byte_reading.specs.Reading.{Reading, Done, Faulty, Want, after, taken, wants_more, whole_of, fault_of}
-use Rattle.pixel_format.specs.declared.fault.Fault.TheVariants.{SubrectOutside}
+use Rattle.fault.specs.declared.kinds.Fault.TheVariants.{SubrectOutside}
 use Rattle.byte_reading.proofs.ReadingLaws.{after-append, after-done, after-faulty, done, done_is, wants_no_fault, wants_not_whole}
 use Rattle.raster.specs.Encoding.{Drawing, Subrect, drawn}
 use Rattle.raster.specs.Screen.{Canvas, LooksLike, kept}

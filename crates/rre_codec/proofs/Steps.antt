@@ -6,7 +6,7 @@ use Rattle.std.specs.Prelude.{◌==◌}
 use Rattle.std.proofs.lemmas.List.{length-take, length-drop, take-append-drop}
 use Rattle.pixel_format.specs.PixelFormat.{PixelFormat, pixel_len, pixel_of}
 use Rattle.byte_reading.specs.Reading.{Reading, Done, Faulty, ◌>>=◌, after, taken, times, unless, u32, Spells}
-use Rattle.pixel_format.specs.declared.fault.Fault.TheVariants.{SubrectOutside}
+use Rattle.fault.specs.declared.kinds.Fault.TheVariants.{SubrectOutside}
 use Rattle.byte_reading.proofs.ReadingLaws.{after-append, after_bind, after_bind_open}
 use Rattle.raster.specs.declared.rect.Rect.{Rect}
 use Rattle.raster.specs.Screen.{Canvas, LooksLike, fill, is_within, kept}

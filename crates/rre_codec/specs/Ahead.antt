@@ -2,7 +2,7 @@
 use Rattle.std.specs.Prelude.{◌≡◌, ℕ, ◌+◌, List, ◌++◌, length, Bool, true, false, nat_lt}
 use Rattle.pixel_format.specs.PixelFormat.{PixelFormat, pixel_len}
 use Rattle.byte_reading.specs.Reading.{Reading, Done, Faulty, ◌>>=◌, after, taken, times, wants_more}
-use Rattle.pixel_format.specs.declared.fault.Fault.TheVariants.{SubrectOutside}
+use Rattle.fault.specs.declared.kinds.Fault.TheVariants.{SubrectOutside}
 use Rattle.raster.specs.Screen.{Canvas, LooksLike, kept}
 use Rattle.raster.specs.Encoding.{Drawing, drawn, rre, rre_subrect}
 use Rattle.rre_codec.specs.declared.stage.Stage.{Stage}

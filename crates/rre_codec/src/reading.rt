@@ -12,7 +12,8 @@ ghost use Rattle.rre_codec.specs.Ahead.{Leads, needed, is_open, ahead, Stands, I
 use crate::run::COUNT_LEN;
 use crate::stage::{MOST_NEEDED, Stage, is_open, needed};
 use arrayvec::ArrayVec;
-use pixel_format::{Fault, Format};
+use fault::Fault;
+use pixel_format::Format;
 use raster::{Canvas, CodecReader, RECT_LEN, Rect, read_piece};
 use std::marker::Model;
 

@@ -47,7 +47,7 @@ impl Request {
     }
 }
 
-/// `end PLACE`
+/// `end PLACE`: the viewer of this place is asked to leave.
 fn end_request(line: &str) -> Option<Request>
     ensures found { IfSome result (λ request. IsInRange request × Says request line.now) }
     ensures none { IfNone result ((place : ℕ) → place < 2 ^ 64 → ¬ Says (request.End place) line.now) }

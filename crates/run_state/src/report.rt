@@ -12,7 +12,7 @@ pub struct HostReport<'a> {
     pub name: &'a str,
     /// The width of its screen in pixels.
     pub width: u64,
-    /// The height.
+    /// The height of its screen in pixels.
     pub height: u64,
     /// For how many seconds it has been joined.
     pub seconds: u64,

@@ -2,7 +2,7 @@
 
 ghost use Rattle.std.specs.Prelude.{◌≡◌, ◌⊎◌, ◌^◌, ◌<◌, ◌≤◌, [], length, vec_len, All, IfOk, IfErr};
 ghost use Rattle.left_right.specs.Handles.{published, pending};
-ghost use Rattle.pixel_format.specs.declared.fault.Fault.TheVariants.{Memory, NoPlace};
+ghost use Rattle.fault.specs.declared.kinds.Fault.TheVariants.{Memory, NoPlace};
 ghost use Rattle.raster.specs.Size.{IsScreenSize};
 
 use crate::eye::Eye;
@@ -11,11 +11,11 @@ use crate::publishing::opened;
 use crate::spares::Spares;
 use crate::stamped::Stamped;
 use crate::writer::PairWriter;
+use fault::Fault;
 use left_right::WriteHandle;
-use pixel_format::Fault;
 use std::alloc::Global;
 use std::sync::Wait;
-use tally_word::{Front, Naming, Raiser};
+use tally_word::{HistoryFront, Naming, Raiser};
 
 /// How many boards there may be beside one for each place: those of the two copies, and the one that is made.
 pub const BESIDE_PLACES: usize = 3;
@@ -25,7 +25,7 @@ pub const BESIDE_PLACES: usize = 3;
 pub fn eyes<J: Naming, R: Wait + Drop>(
     alloc: Global,
     handle: &WriteHandle<Published<J>, Stamped<J>, R>,
-    front: &Front<J>,
+    front: &HistoryFront<J>,
     places: usize,
 ) -> Result<Vec<Eye<J>>, Fault>
     ensures count { IfOk result (λ eyes. vec_len eyes ≡ places) }

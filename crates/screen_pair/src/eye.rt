@@ -1,7 +1,7 @@
 //! The readers' ends of a pair.
 
 ghost use Rattle.std.specs.Prelude.{◌≡◌, ◌⊎◌, ◌≤◌, ◌-◌, [], length, take, IfOk, IfErr};
-ghost use Rattle.pixel_format.specs.declared.fault.Fault.TheVariants.{Gone};
+ghost use Rattle.fault.specs.declared.kinds.Fault.TheVariants.{Gone};
 ghost use Rattle.raster.specs.Screen.{IsWithin};
 ghost use Rattle.reflect_core.specs.Sequential.{Begins};
 ghost use Rattle.reflect_core.specs.Source.{IsCutOf};
@@ -11,20 +11,20 @@ use crate::news::PairNews;
 use crate::published::Published;
 use crate::publishes::Publishes;
 use crate::writer::PairWriter;
+use fault::Fault;
 use left_right::ReadHandle;
-use pixel_format::Fault;
 use raster::Rect;
 use reflect_core::Cut;
 use std::marker::Model;
 use std::sync::Wait;
-use tally_word::{Front, Naming};
+use tally_word::{HistoryFront, Naming};
 use tiles::Have;
 
 /// Reads what is published: contracts see the list of updates that it knows.
 #[derive(Drop)]
 pub struct Eye<J: Naming> {
     reader: ReadHandle<Published<J>>,
-    front: Front<J>,
+    front: HistoryFront<J>,
     number: u64,
 }
 
@@ -42,7 +42,7 @@ impl<J: Naming> Model for Eye<J> {
 
 impl<J: Naming> Eye<J> {
     /// It knows no update.
-    pub(crate) fn new(reader: ReadHandle<Published<J>>, front: &Front<J>) -> Self
+    pub(crate) fn new(reader: ReadHandle<Published<J>>, front: &HistoryFront<J>) -> Self
         ensures { result ≡ [] }
     {
         Eye {
@@ -63,6 +63,7 @@ impl<J: Naming> Eye<J> {
     pub fn is_published(&self)
         ensures { ArePublished J.published (length self.now - 1) self.now }
     {
+        // Both do nothing. Their clauses say what the front's type keeps, which the proof needs here.
         self.front.is_legal();
         self.front.is_backed();
     }
@@ -88,13 +89,13 @@ impl<J: Naming> Eye<J> {
     }
 
     /// The same with the first `number` updates of a beginning of the history.
-    pub fn learn_first(&mut self, front: &Front<J>, number: u64)
+    pub fn learn_first(&mut self, front: &HistoryFront<J>, number: u64)
         requires { number ≤ length (puts_of front.now) }
         ensures one { (self.new ≡ self.old) ⊎ (self.new ≡ take number (puts_of front.now)) }
         ensures mine { Begins self.old self.new }
         ensures told { Begins (take number (puts_of front.now)) self.new }
     {
-        // Both are beginnings of one history.
+        // Nothing reads `both`. Its clauses say that the two are beginnings of one history, which the proof needs.
         let mut both = self.front.again();
         both.learn(front);
         if self.number < number {
@@ -124,6 +125,7 @@ impl<J: Naming> Eye<J> {
             return Err(Fault::Gone);
         }
         let front = copy.front();
+        // Nothing reads `both`: as in `learn_first`, its clauses say that the two are beginnings of one history.
         let mut both = self.front.again();
         both.learn(&front);
         copy.show(area, have, into);
@@ -147,6 +149,7 @@ impl<J: Naming> Eye<J> {
             return Err(Fault::Gone);
         }
         let front = copy.front();
+        // Nothing reads `both`: as in `learn_first`, its clauses say that the two are beginnings of one history.
         let mut both = self.front.again();
         both.learn(&front);
         self.number = number;

@@ -1,22 +1,22 @@
 //! A copy of the screen.
 
 ghost use Rattle.std.specs.Prelude.{◌≡◌, ◌+◌, ◌^◌, ◌≤◌, [], length, IfOk, IfErr};
-ghost use Rattle.pixel_format.specs.declared.fault.Fault.TheVariants.{Memory};
+ghost use Rattle.fault.specs.declared.kinds.Fault.TheVariants.{Memory};
 ghost use Rattle.raster.specs.Screen.{IsWithin};
 ghost use Rattle.reflect_core.specs.Source.{IsCutOf};
 ghost use Rattle.screen_pair.specs.Published.{IsPublished};
 ghost use Rattle.tally_word.specs.History.{puts_of};
 
 use crate::stamped::Stamped;
+use fault::Fault;
 use left_right::Absorb;
 use painter::{Board, Shown};
-use pixel_format::Fault;
 use raster::Rect;
 use reflect_core::Cut;
 use std::alloc::{AllocError, Global};
 use std::marker::Model;
 use std::sync::Arc;
-use tally_word::{Change, Front, Naming};
+use tally_word::{Change, HistoryFront, Naming};
 use tiles::Have;
 
 /// A copy of the screen: contracts see the history that it stands for. That its board is the one of that history's
@@ -24,7 +24,7 @@ use tiles::Have;
 #[derive(Drop)]
 pub struct Published<J: Naming> {
     board: Shown,
-    front: Front<J>,
+    front: HistoryFront<J>,
 }
 
 impl<J: Naming> Model for Published<J> {
@@ -95,7 +95,7 @@ impl<J: Naming> Published<J> {
     }
 
     /// The history that it stands for.
-    pub(crate) fn front(&self) -> Front<J>
+    pub(crate) fn front(&self) -> HistoryFront<J>
         ensures { result ≡ self.now }
     {
         self.front.again()

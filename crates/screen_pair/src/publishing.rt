@@ -3,18 +3,18 @@
 
 ghost use Rattle.std.specs.Prelude.{◌≡◌, ◌^◌, ◌<◌, ◌≤◌, [], length, suc, IfOk, IfErr, MatchResult};
 ghost use Rattle.left_right.specs.Handles.{published, pending};
-ghost use Rattle.pixel_format.specs.declared.fault.Fault.TheVariants.{Memory};
+ghost use Rattle.fault.specs.declared.kinds.Fault.TheVariants.{Memory};
 ghost use Rattle.tally_word.specs.History.{puts_of};
 
 use crate::news::PairNews;
 use crate::published::Published;
 use crate::publishes::Publishes;
 use crate::stamped::Stamped;
+use fault::Fault;
 use left_right::WriteHandle;
-use pixel_format::Fault;
 use std::alloc::Global;
 use std::sync::Wait;
-use tally_word::{Front, Naming};
+use tally_word::{HistoryFront, Naming};
 
 /// A pair of opening screens, and room for `places` readers and for the operations of each later put. It fails where
 /// memory is refused (`Memory`).

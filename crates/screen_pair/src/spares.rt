@@ -2,19 +2,19 @@
 
 ghost use Rattle.std.specs.Prelude.{◌≡◌, ◌<◌, ◌^◌, [], length, IfOk, IfErr, IfSome};
 ghost use Rattle.std.specs.Arc.{arc_value};
-ghost use Rattle.pixel_format.specs.declared.fault.Fault.TheVariants.{Memory};
+ghost use Rattle.fault.specs.declared.kinds.Fault.TheVariants.{Memory};
 ghost use Rattle.raster.specs.Size.{IsScreenSize};
 ghost use Rattle.screen_pair.specs.Published.{IsNext};
 ghost use Rattle.tally_word.specs.History.{puts_of};
 
 use crate::published::Published;
 use crate::stamped::Stamped;
+use fault::Fault;
 use painter::{Board, Patch};
-use pixel_format::Fault;
 use std::alloc::Global;
 use std::marker::Model;
 use std::sync::Arc;
-use tally_word::{Front, Naming};
+use tally_word::{HistoryFront, Naming};
 
 /// How many boards that nobody else has are kept for later puts.
 const MOST_FREE: usize = 4;
@@ -28,7 +28,7 @@ pub struct Spares<J: Naming> {
     alloc: Global,
     width: u64,
     height: u64,
-    opening: Front<J>,
+    opening: HistoryFront<J>,
 }
 
 impl<J: Naming> Model for Spares<J> {

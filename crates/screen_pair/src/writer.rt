@@ -13,13 +13,13 @@ use crate::publishes::Publishes;
 use crate::publishing::{publish, tell};
 use crate::spares::Spares;
 use crate::stamped::Stamped;
+use fault::{Fault, LIMIT};
 use left_right::{Absorb, WriteHandle};
 use painter::Patch;
-use pixel_format::{Fault, LIMIT};
 use reflect_core::Puts;
 use std::marker::Model;
 use std::sync::Wait;
-use tally_word::{Change, Front, Naming, Raiser};
+use tally_word::{Change, HistoryFront, Naming, Raiser};
 
 /// Publishes updates: contracts see the list of those that are published.
 #[derive(Drop)]
@@ -51,7 +51,7 @@ where
 
 /// Sees that the tally stands at the number of updates that are published: where the last of them isn't raised, it is.
 /// It says whether these are all updates: not where an earlier publish was refused.
-fn catch_up<J: Naming>(raiser: &mut Raiser<J>, shown: &Front<J>, number: u64) -> bool
+fn catch_up<J: Naming>(raiser: &mut Raiser<J>, shown: &HistoryFront<J>, number: u64) -> bool
     requires begins { Begins shown.now raiser.old }
     requires count { (number ≡ length (puts_of shown.now)) × (number < 2 ^ 62) }
     requires published { J.published (puts_of shown.now) }
@@ -59,6 +59,7 @@ fn catch_up<J: Naming>(raiser: &mut Raiser<J>, shown: &Front<J>, number: u64) ->
     ensures count { IsTrue result → length raiser.new ≡ 2 * number }
 {
     let changes = raiser.changes();
+    // It does nothing. Its clause says that puts and raises take turns, so that their number is that of the updates.
     raiser.is_legal();
     if changes == 2 * number {
         return true;
@@ -130,6 +131,7 @@ impl<J: Naming + Publishes, R: Wait + Drop> Puts for PairWriter<J, R> {
         let Ok(board) = self.spares.next(self.handle.published(), &patch) else {
             return Err((Fault::Memory, patch));
         };
+        // It does nothing. Its clause says that puts and raises take turns, so that a put may follow.
         self.raiser.is_legal();
         self.raiser.put(&patch);
         let next = Stamped::new(board, number + 1, self.raiser.front());

@@ -4,7 +4,8 @@ ghost use Rattle.std.specs.Prelude.{◌+◌, ◌*◌, ◌≤◌, length};
 
 use crate::coloured::coloured;
 use crate::scenes::{JOINED, SCENES, Scene};
-use pixel_format::{Fault, Format};
+use fault::Fault;
+use pixel_format::Format;
 use raster::Rect;
 use reflect_core::Cut;
 use rfb_wire::write_update_head;

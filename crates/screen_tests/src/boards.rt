@@ -3,8 +3,8 @@
 ghost use Rattle.std.specs.Prelude.{◌≡◌};
 
 use crate::coloured::coloured;
+use fault::Fault;
 use painter::{Board, Painter, Patch, Shown};
-use pixel_format::Fault;
 use raster::Rect;
 use reflect_core::Cut;
 use std::alloc::Global;

@@ -3,8 +3,8 @@
 ghost use Rattle.std.specs.Prelude.{◌≡◌, IfOk};
 
 use crate::coloured::coloured;
+use fault::Fault;
 use painter::{Board, Painter, Patch};
-use pixel_format::Fault;
 use raster::Rect;
 use std::alloc::Global;
 use std::test::Fail;

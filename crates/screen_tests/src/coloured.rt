@@ -3,8 +3,8 @@
 ghost use Rattle.std.specs.Prelude.{◌≡◌, ◌*◌, length, IfOk};
 ghost use Rattle.raster.specs.Size.{IsScreenSize};
 
+use fault::Fault;
 use painter::{Board, Painter};
-use pixel_format::Fault;
 use raster::Rect;
 use std::alloc::Global;
 

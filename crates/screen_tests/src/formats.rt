@@ -1,6 +1,7 @@
 //! Worked values of RFC 6143, section 7.4, and of this project's rules beside it, typed by hand.
 
-use pixel_format::{Fault, Format};
+use fault::Fault;
+use pixel_format::Format;
 use std::test::Fail;
 
 const RED: u32 = 0x00FF_0000;

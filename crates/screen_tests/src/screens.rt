@@ -3,8 +3,8 @@
 ghost use Rattle.std.specs.Prelude.{◌≡◌, IfOk};
 
 use crate::numbers::rect;
+use fault::Fault;
 use painter::{Painter, Patch};
-use pixel_format::Fault;
 use raster::Rect;
 use reflect_core::{Asked, Cut, PlainScreen, Puts, ScreenSource};
 use std::alloc::Global;

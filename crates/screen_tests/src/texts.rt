@@ -2,8 +2,8 @@
 
 ghost use Rattle.std.specs.Prelude.{◌≡◌, length};
 
+use fault::LONGEST_TEXT;
 use painter::LastText;
-use pixel_format::LONGEST_TEXT;
 use std::test::Fail;
 
 /// Whether the text is the longest one after it is set and where no text follows, another where one does, and none

@@ -1,8 +1,8 @@
 -- A run that didn't end well has another status than 0.
 use Rattle.std.proofs.Common.{◌≡◌, ℕ, Result, Ok, Err, sym, ◌∙◌}
 use Rattle.std.specs.Prelude.{MatchResult, OnOk}
-use Rattle.pixel_format.specs.declared.fault.Fault.{Fault}
-use Rattle.pixel_format.specs.declared.fault.Fault.TheVariants as fault
+use Rattle.fault.specs.declared.kinds.Fault.{Fault}
+use Rattle.fault.specs.declared.kinds.Fault.TheVariants as fault
 use Rattle.plan.specs.Statuses.{status_for}
 
 isnt_nought : {A : Type 0} (f : Fault) → status_for (Err f) ≡ 0 → A

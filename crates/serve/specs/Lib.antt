@@ -1,2 +1,3 @@
+pub mod Browsers
 pub mod Doors
 pub mod Ports

@@ -2,7 +2,7 @@
 
 use crate::quoted::Quoted;
 use crate::trouble::{Stage, Trouble};
-use pixel_format::Fault;
+use fault::Fault;
 use plan::{Plan, bind_of, port_of};
 use roles::Role;
 use std::fmt;

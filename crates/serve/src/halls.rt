@@ -5,10 +5,10 @@ ghost use Rattle.raster.specs.Size.{IsScreenSize};
 
 use crate::entries::Entrances;
 use crate::meet::Met;
+use crate::rooms::{Hall, start_porter};
 use crate::supply::Supply;
 use crate::trouble::Trouble;
 use crate::web::start_web_porter;
-use crate::welcome::{Hall, start_porter};
 use serving::{Log, Seat};
 use std::alloc::Global;
 use std::net::{Net, TcpListener, TcpStream};

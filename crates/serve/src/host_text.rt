@@ -4,7 +4,7 @@ ghost use Rattle.std.specs.Prelude.{◌≡◌, ◌∷◌, IfOk, map};
 ghost use Rattle.std.specs.String.{string_bytes};
 
 use crate::trouble::{Stage, Trouble};
-use pixel_format::Fault;
+use fault::Fault;
 use plan::Plan;
 use std::alloc::{AllocError, Global};
 use std::net::SocketAddr;

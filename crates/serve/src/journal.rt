@@ -1,10 +1,10 @@
 //! The log: a line an event, on standard error.
 
 use crate::quoted::Quoted;
+use fault::Fault;
 use jiff::Timestamp;
-use pixel_format::Fault;
 use roles::Role;
-use serving::{Doorplate, Event, Log, Parting, Visit, Way};
+use serving::{Event, Log, Parting, PlaceId, Visit, Way};
 use std::alloc::Global;
 use std::fmt;
 use std::fmt::{Display, Formatter};
@@ -50,11 +50,11 @@ struct Line<'a> {
 }
 
 #[derive(Drop)]
-struct Name {
+struct RoleName {
     role: Role,
 }
 
-impl Display for Name {
+impl Display for RoleName {
     fn fmt<W: fmt::Write>(&self, f: &mut Formatter<W>) -> fmt::Result {
         f.write_str(match self.role {
             Role::Full => "full",
@@ -65,11 +65,11 @@ impl Display for Name {
 
 /// An address, or `-`.
 #[derive(Drop)]
-struct Place {
+struct AddressOrDash {
     address: Option<SocketAddr>,
 }
 
-impl Display for Place {
+impl Display for AddressOrDash {
     fn fmt<W: fmt::Write>(&self, f: &mut Formatter<W>) -> fmt::Result {
         match self.address {
             Some(address) => write!(f, "{address}"),
@@ -114,7 +114,7 @@ impl Display for Why {
 
 fn viewer_out<W: fmt::Write>(
     f: &mut Formatter<W>,
-    plate: &Doorplate,
+    place_id: &PlaceId,
     address: Option<SocketAddr>,
     way: Way,
     visit: &Visit,
@@ -126,9 +126,11 @@ fn viewer_out<W: fmt::Write>(
     write!(
         f,
         "viewer-out place={} role={} address={}{} seconds={} answers={} bytes={} why=\"{}\"",
-        plate.place,
-        Name { role: plate.role },
-        Place { address },
+        place_id.place,
+        RoleName {
+            role: place_id.role
+        },
+        AddressOrDash { address },
         By { way },
         visit.served.as_secs(),
         visit.answers,
@@ -166,7 +168,7 @@ impl Display for Line<'_> {
             } => write!(
                 f,
                 "listening role={} address={address}{} places={places}",
-                Name { role: *role },
+                RoleName { role: *role },
                 By { way: *way }
             ),
             Event::HostTried {
@@ -182,39 +184,41 @@ impl Display for Line<'_> {
             } => write!(
                 f,
                 "host-joined address={} width={width} height={height} name=\"{}\"",
-                Place { address: *address },
+                AddressOrDash { address: *address },
                 Quoted { bytes: name }
             ),
             Event::ViewerIn {
-                plate,
+                place_id,
                 address,
                 way,
             } => write!(
                 f,
                 "viewer-in place={} role={} address={}{}",
-                plate.place,
-                Name { role: plate.role },
-                Place { address: *address },
+                place_id.place,
+                RoleName {
+                    role: place_id.role
+                },
+                AddressOrDash { address: *address },
                 By { way: *way }
             ),
             Event::ViewerOut {
-                plate,
+                place_id,
                 address,
                 way,
                 visit,
-            } => viewer_out(f, plate, *address, *way, visit),
-            Event::NoPlace { role, address, way } => write!(
+            } => viewer_out(f, place_id, *address, *way, visit),
+            Event::PlacesTaken { role, address, way } => write!(
                 f,
                 "no-place role={} address={}{}",
-                Name { role: *role },
-                Place { address: *address },
+                RoleName { role: *role },
+                AddressOrDash { address: *address },
                 By { way: *way }
             ),
             Event::NoHost { role, address, way } => write!(
                 f,
                 "no-host role={} address={}{}",
-                Name { role: *role },
-                Place { address: *address },
+                RoleName { role: *role },
+                AddressOrDash { address: *address },
                 By { way: *way }
             ),
             Event::HostOut { address, why } => {
@@ -222,7 +226,7 @@ impl Display for Line<'_> {
                     why: *why,
                     parting: Parting::Closed,
                 };
-                let place = Place { address: *address };
+                let place = AddressOrDash { address: *address };
                 write!(f, "host-out address={place} why=\"{why}\"")
             }
         }

@@ -17,12 +17,12 @@ mod meet;
 mod open;
 mod origins;
 mod quoted;
+mod rooms;
 mod run;
 mod supply;
 mod telling;
 mod trouble;
 mod web;
-mod welcome;
 
 pub use answer::serve;
 pub use bound::Ports;

@@ -9,7 +9,7 @@ ghost use Rattle.serve.specs.Ports.{AsksFor};
 
 use crate::bound::{Bound, Ports};
 use crate::trouble::{Stage, Trouble};
-use pixel_format::Fault;
+use fault::Fault;
 use plan::{Plan, address_of, places_of};
 use roles::Role;
 use serving::{Event, Lobby, Log, Way};

@@ -10,20 +10,20 @@ use crate::entries::Entrances;
 use crate::halls::welcome;
 use crate::host_text::texts_of;
 use crate::meet::Met;
+use crate::rooms::{Rooms, alarms, rooms_of};
 use crate::supply::Supply;
 use crate::trouble::{Stage, Trouble};
 use crate::web::shared;
-use crate::welcome::{Rooms, bells, rooms_of};
+use fault::Fault;
 use host_turns::Hosts;
 use joined_runs::Runs;
 use link::{Link, Rest};
-use pixel_format::Fault;
 use plan::{Plan, runs_of};
 use reflector::{Running, run_all};
 use rfb_wire::Joined;
 use roles::Role;
 use screen_pair::Publishes;
-use serving::{Bell, Door, Log};
+use serving::{Alarm, Door, Log};
 use std::alloc::Global;
 use std::marker::Brand;
 use std::net::{Net, TcpListener, TcpStream};
@@ -51,8 +51,8 @@ where
     L: Link + Send + 'static,
     H: Hosts<L> + Send + 'static,
     D: Door + Send + 'static,
-    B: Bell + Drop + Send + Sync + 'static,
-    W: Bell + Rest + Drop + Send + Sync + 'static,
+    B: Alarm + Drop + Send + Sync + 'static,
+    W: Alarm + Rest + Drop + Send + Sync + 'static,
     R: Threads + Wait + Clock + Copy + Drop + Send + 'static,
     requires history { history.seen.book ≡ J.book }
     requires size { IsScreenSize joined.w joined.h × (joined.w ≡ J.width) × (joined.h ≡ J.height) }
@@ -105,7 +105,7 @@ where
     ensures { goes_on result ≡ true → plan.now.again ≡ None }
 {
     let Rooms { doors, seats } = rooms;
-    let (writer, everyone) = bells(alloc, seats)?;
+    let (writer, everyone) = alarms(alloc, seats)?;
     over::<Brand, _, _, _, _, _, _>(
         rt,
         alloc,

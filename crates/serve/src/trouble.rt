@@ -1,6 +1,6 @@
 //! What went wrong, and where.
 
-use pixel_format::Fault;
+use fault::Fault;
 use roles::Role;
 use std::io;
 use std::io::ErrorKind;

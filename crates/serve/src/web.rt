@@ -1,6 +1,9 @@
 //! The ports for browsers.
 
+ghost use Rattle.std.specs.Prelude.{◌≡◌, ◌++◌, ◌∷◌, [], IfOk, IfSome, MatchOption, None, OnOk};
+ghost use Rattle.std.specs.Arc.{arc_value};
 ghost use Rattle.roles.specs.declared.role.Role.TheVariants.{Full};
+ghost use Rattle.serve.specs.Browsers.{AreWebEntries, IsSiteFor, IsWebEntryFor, looks_only};
 ghost use Rattle.serve.specs.Doors.{AreBoth, IsEntryFor, IsFullEntry};
 ghost use Rattle.serve.specs.Ports.{AsksForBrowsers, AsksForWeb};
 
@@ -8,10 +11,10 @@ use crate::bound::{Bound, Ports};
 use crate::open::Entry;
 use crate::origins::{admission_of, first_bad};
 use crate::trouble::{Stage, Trouble};
-use pixel_format::Fault;
+use fault::Fault;
 use plan::{Plan, places_of, web_address_of, web_port_of};
 use roles::Role;
-use serving::{Event, Log, Seat, Way, WebEntry, keep_web_doors};
+use serving::{Event, Log, Seat, Way, WebEntry, WebPorter};
 use std::alloc::{AllocError, AllocGlobal, Global};
 use std::hash::RandomState;
 use std::net::{Net, SocketAddr, TcpListener, TcpStream};
@@ -26,15 +29,14 @@ use web_root::{RootFault, SystemDisk, read_all};
 /// The bytes of the stack of whoever keeps the web ports.
 const STACK: usize = 1_048_576;
 
-/// The files that browsers are sent, which are read here, once. An origin that is none is found out here, too.
-pub(crate) fn files_of<R: Files + AllocGlobal + Copy + Drop>(
+/// The files of the plan's folder, if it names one.
+fn read_files<R: Files + AllocGlobal + Copy + Drop>(
     rt: R,
     alloc: Global,
     plan: &Plan<'_>,
-) -> Result<FileTable, Trouble> {
-    if let Some(number) = first_bad(plan.web.origins) {
-        return Err(Trouble::new(Stage::ReadOrigin(number), Fault::LinkFailed));
-    }
+) -> Result<FileTable, Trouble>
+    ensures { plan.now.web.root ≡ None → IfOk result (λ files. files ≡ []) }
+{
     let Some(root) = plan.web.root else {
         return Ok(FileTable::new(alloc));
     };
@@ -45,16 +47,33 @@ pub(crate) fn files_of<R: Files + AllocGlobal + Copy + Drop>(
     }
 }
 
-/// The same files; their bytes are shared.
-fn copy_of(alloc: Global, files: &FileTable) -> Result<FileTable, AllocError> {
-    let mut copy = FileTable::new(alloc);
-    for file in files.files() {
-        let path = String::from_str(alloc, file.path.as_str())?;
-        if copy.add(path, file.body.clone()?).is_err() {
-            return Err(AllocError);
-        }
+/// The files that browsers are sent, which are read here, once, and shared by all web ports. An origin that is none is
+/// found out here, too.
+pub(crate) fn files_of<R: Files + AllocGlobal + Copy + Drop>(
+    rt: R,
+    alloc: Global,
+    plan: &Plan<'_>,
+) -> Result<Arc<FileTable, Global>, Trouble>
+    ensures { plan.now.web.root ≡ None → IfOk result (λ files. arc_value files ≡ []) }
+{
+    if let Some(number) = first_bad(plan.web.origins) {
+        return Err(Trouble::new(Stage::ReadOrigin(number), Fault::LinkFailed));
     }
-    Ok(copy)
+    let files = read_files(rt, alloc, plan)?;
+    match Arc::new(alloc, files) {
+        Ok(files) => Ok(files),
+        Err(_) => Err(Trouble::new(Stage::Start, Fault::Memory)),
+    }
+}
+
+/// Whether viewers of this role only look on.
+fn looks_only(role: Role) -> bool
+    ensures { result ≡ looks_only role }
+{
+    match role {
+        Role::Full => false,
+        Role::View => true,
+    }
 }
 
 /// What the web port of a role answers at this address.
@@ -63,11 +82,13 @@ fn site_of(
     plan: &Plan<'_>,
     role: Role,
     address: SocketAddr,
-    files: &FileTable,
-) -> Result<Arc<Site, Global>, AllocError> {
+    files: &Arc<FileTable, Global>,
+) -> Result<Arc<Site, Global>, AllocError>
+    ensures { IfOk result (λ site. IsSiteFor role plan.now (arc_value files.now) (arc_value site)) }
+{
     let admission = admission_of(alloc, address, plan.web.origins)?;
-    let files = copy_of(alloc, files)?;
-    let site = Site::new(alloc, files, admission, role == Role::View)?;
+    let files = Arc::try_clone(files)?;
+    let site = Site::new(alloc, files, admission, looks_only(role))?;
     Ok(Arc::new(alloc, site)?)
 }
 
@@ -80,11 +101,12 @@ fn open_web<R: Net<Stream = TcpStream, Listener = TcpListener>, G: Log>(
     ports: &mut Ports,
     role: Role,
     entry: &Entry<'_>,
-    files: &FileTable,
+    files: &Arc<FileTable, Global>,
     log: &G,
 ) -> Result<Option<WebEntry>, Trouble>
     requires { IsEntryFor role plan.now entry.now }
-    ensures { AsksForWeb role plan.now ports.old ports.new }
+    ensures asked { AsksForWeb role plan.now ports.old ports.new }
+    ensures entry { IfOk result (λ web. IfSome web (λ entry. IsWebEntryFor role plan.now (arc_value files.now) entry)) }
 {
     let Some(port) = web_port_of(plan, role) else {
         return Ok(None);
@@ -118,7 +140,9 @@ fn open_web<R: Net<Stream = TcpStream, Listener = TcpListener>, G: Log>(
 }
 
 /// Adds a web port, if there is one.
-fn add(ports: &mut Vec<WebEntry>, port: Option<WebEntry>) -> Result<(), Trouble> {
+fn add(ports: &mut Vec<WebEntry>, port: Option<WebEntry>) -> Result<(), Trouble>
+    ensures { OnOk result (MatchOption port (ports.new.items ≡ ports.old.items) (λ port. ports.new.items ≡ ports.old.items ++ port ∷ [])) }
+{
     let Some(port) = port else {
         return Ok(());
     };
@@ -135,11 +159,12 @@ fn open_full_web<R: Net<Stream = TcpStream, Listener = TcpListener>, G: Log>(
     plan: &Plan<'_>,
     ports: &mut Ports,
     full: &Option<Entry<'_>>,
-    files: &FileTable,
+    files: &Arc<FileTable, Global>,
     log: &G,
 ) -> Result<Option<WebEntry>, Trouble>
     requires { IsFullEntry plan.now full.now }
-    ensures { AsksForWeb Full plan.now ports.old ports.new }
+    ensures asked { AsksForWeb Full plan.now ports.old ports.new }
+    ensures entry { IfOk result (λ web. IfSome web (λ entry. IsWebEntryFor Full plan.now (arc_value files.now) entry)) }
 {
     match full {
         Some(entry) => open_web(rt, alloc, plan, ports, Role::Full, entry, files, log),
@@ -148,18 +173,19 @@ fn open_full_web<R: Net<Stream = TcpStream, Listener = TcpListener>, G: Log>(
 }
 
 /// Listens for the browsers with full control, and then for those that only look on, where the plan has ports for them.
-#[tactic(auto, using(crate::proofs::Asking::first_web_alone, crate::proofs::Asking::both_webs))]
+#[tactic(auto, using(crate::proofs::Asking::first_web_alone, crate::proofs::Asking::both_webs, crate::proofs::Browsers::both))]
 pub(crate) fn open_webs<R: Net<Stream = TcpStream, Listener = TcpListener>, G: Log>(
     rt: &R,
     alloc: Global,
     plan: &Plan<'_>,
     ports: &mut Ports,
     entries: (&Option<Entry<'_>>, &Entry<'_>),
-    files: &FileTable,
+    files: &Arc<FileTable, Global>,
     log: &G,
 ) -> Result<Vec<WebEntry>, Trouble>
     requires { AreBoth plan.now entries.0.now entries.1.now }
-    ensures { AsksForBrowsers plan.now ports.old ports.new }
+    ensures asked { AsksForBrowsers plan.now ports.old ports.new }
+    ensures entries { IfOk result (λ web. AreWebEntries plan.now (arc_value files.now) web.items) }
 {
     let (full, view) = entries;
     let mut web = Vec::new(alloc);
@@ -209,9 +235,13 @@ where
         Ok(keys) => keys,
         Err(error) => return Err(Trouble::of(Stage::Start, error)),
     };
-    let started = Builder::new().stack_size(STACK).spawn(&rt, move || {
-        let _ = keep_web_doors(&rt, alloc, entries, seats.as_slice(), keys, &log);
-    });
+    let porter = match WebPorter::new(&rt, alloc, entries, keys) {
+        Ok(porter) => porter,
+        Err(error) => return Err(Trouble::of(Stage::Start, error)),
+    };
+    let started = Builder::new()
+        .stack_size(STACK)
+        .spawn(&rt, move || porter.keep(&rt, seats.as_slice(), &log));
     match started {
         Ok(_porter) => Ok(()),
         Err(error) => Err(Trouble::of(Stage::Start, error)),

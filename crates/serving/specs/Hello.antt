@@ -13,8 +13,8 @@ abbrev pub hello_nanos : ℕ
 hello_nanos = 10_000_000_000
 
 -- How long a wait may last where this many bytes of the hello are missing, this many nanoseconds after the viewer came:
--- without an end after the hello, else for what is left of the ten seconds, if anything is.
+-- for what is left of the ten seconds, if anything is. After them it has no end, or the hello is late.
 abbrev pub IsPatience : Patience → ℕ → ℕ → Type 0
-IsPatience Endless missing passed = missing ≡ 0
-IsPatience (AtMost left) missing passed = (1 ≤ missing) × (passed < hello_nanos) × (as_nanos left + passed ≡ hello_nanos)
-IsPatience Over missing passed = (1 ≤ missing) × (hello_nanos ≤ passed)
+IsPatience (AtMost left) missing passed = (passed < hello_nanos) × (as_nanos left + passed ≡ hello_nanos)
+IsPatience Endless missing passed = (hello_nanos ≤ passed) × (missing ≡ 0)
+IsPatience Over missing passed = (hello_nanos ≤ passed) × (1 ≤ missing)

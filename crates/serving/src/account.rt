@@ -4,8 +4,8 @@ ghost use Rattle.std.specs.Prelude.{◌≡◌};
 ghost use Rattle.std.specs.IoError.{error_kind};
 ghost use Rattle.serving.specs.Answers.{gave_for, is_passing, took_for};
 
+use fault::LIMIT;
 use link::{Gave, Took};
-use pixel_format::LIMIT;
 use std::io;
 use std::io::ErrorKind;
 use std::marker::Model;

@@ -65,6 +65,7 @@ impl WebEntry {
     ) -> io::Result<WebEntry>
         requires { gate.role ≡ (arc_value lobby).role }
         ensures role { IfOk result (λ entry. entry.gate.role ≡ gate.role) }
+        ensures site { IfOk result (λ entry. arc_value entry.site ≡ arc_value site) }
         ensures lobby { IfOk result (λ entry. arc_value entry.lobby ≡ arc_value lobby) }
     {
         gate.listener().set_nonblocking(true)?;
@@ -94,7 +95,9 @@ impl WebEntry {
         alloc: Global,
         keys: RandomState,
     ) -> io::Result<Caller>
-        ensures { IfOk result (λ caller. caller.arrival.role ≡ self.now.gate.role) }
+        ensures role { IfOk result (λ caller. caller.arrival.role ≡ self.now.gate.role) }
+        ensures site { IfOk result (λ caller. caller.guest.site ≡ arc_value self.now.site) }
+        ensures lobby { IfOk result (λ caller. arc_value caller.lobby ≡ arc_value self.now.lobby) }
     {
         let arrival = self.gate.accept()?;
         arrival.stream().set_nonblocking(true)?;

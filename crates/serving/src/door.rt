@@ -1,13 +1,13 @@
 //! Where viewers come from.
 
 ghost use Rattle.std.specs.Prelude.{◌≡◌, Bool, Result, IfSome, is_some, ⊤};
-ghost use Rattle.pixel_format.specs.declared.fault.Fault.{Fault};
+ghost use Rattle.fault.specs.declared.kinds.Fault.{Fault};
 ghost use Rattle.link.specs.Links.{LinkState};
 ghost use Rattle.roles.specs.declared.role.Role.{Role};
 ghost use Rattle.serving.specs.Answers.{unused};
 
+use fault::Fault;
 use link::Link;
-use pixel_format::Fault;
 
 /// Where the viewers of one place come from, one after another.
 pub trait Door: Drop {

@@ -1,7 +1,7 @@
 //! What happens at the doors and at the host, for whoever keeps a log of it.
 
 use crate::gate::Way;
-use pixel_format::Fault;
+use fault::Fault;
 use roles::Role;
 use std::alloc::Global;
 use std::io::ErrorKind;
@@ -11,7 +11,7 @@ use std::time::Duration;
 
 /// Which place it is: its number, and the role of whoever has it.
 #[derive(Clone, Copy, Debug)]
-pub struct Doorplate {
+pub struct PlaceId {
     /// The number of the place, counted from 1 over all places of the program.
     pub place: u64,
     /// What whoever has it may do.
@@ -74,19 +74,19 @@ pub enum Event<'a> {
     },
     /// A viewer has a place.
     ViewerIn {
-        plate: Doorplate,
+        place_id: PlaceId,
         address: Option<SocketAddr>,
         way: Way,
     },
     /// It has left.
     ViewerOut {
-        plate: Doorplate,
+        place_id: PlaceId,
         address: Option<SocketAddr>,
         way: Way,
         visit: Visit,
     },
     /// One was refused, since all places were taken.
-    NoPlace {
+    PlacesTaken {
         role: Role,
         address: Option<SocketAddr>,
         way: Way,

@@ -16,23 +16,23 @@ const HELLO_SECONDS: u64 = 10;
 /// How long a wait for a viewer may last.
 #[derive(Clone, Copy, Drop)]
 pub(crate) enum Patience {
+    /// So long: the seconds for its hello aren't over.
+    AtMost(Duration),
     /// Without an end: its hello has come.
     Endless,
-    /// So long.
-    AtMost(Duration),
     /// Its hello is late.
     Over,
 }
 
-/// How long a wait may last where `missing` bytes of the hello are missing, this long after the viewer came.
+/// How long a wait may last where `missing` bytes of the hello are missing, this long after the viewer came. None that
+/// begins within the seconds for the hello outlasts them, even where no byte is missing: bytes may come in messages of
+/// which some are, and whoever counts those looks then.
 pub(crate) fn longest_wait(missing: usize, passed: Duration) -> Patience
     ensures { IsPatience result missing (as_nanos passed) }
 {
-    if missing == 0 {
-        return Patience::Endless;
-    }
     match Duration::from_secs(HELLO_SECONDS).checked_sub(passed) {
         Some(left) if !left.is_zero() => Patience::AtMost(left),
+        _ if missing == 0 => Patience::Endless,
         _ => Patience::Over,
     }
 }

@@ -3,8 +3,8 @@
 use crate::host::HostLink;
 use crate::noted::Noted;
 use crate::socket::HostSocket;
+use fault::LIMIT;
 use link::{Gave, Link, Took};
-use pixel_format::LIMIT;
 use std::io;
 use std::marker::Model;
 use std::net::TcpStream;

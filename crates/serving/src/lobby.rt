@@ -4,14 +4,14 @@ ghost use Rattle.std.specs.Prelude.{◌≡◌, IfOk};
 ghost use Rattle.serving.specs.Doors.{role_behind};
 
 use crate::door::Door;
-use crate::event::{Doorplate, Event, Log, Visit};
+use crate::event::{Event, Log, Parting, PlaceId, Visit};
 use crate::gate::{Arrival, Gate, Way};
 use crate::refused::{Lack, Refused};
 use crate::seat::Seat;
-use crate::tcp::TcpLink;
+use crate::tcp::ViewerTcpLink;
 use crate::web::BrowserLink;
+use fault::Fault;
 use link::Link;
-use pixel_format::Fault;
 use roles::Role;
 use std::alloc::{AllocError, Global};
 use std::net::SocketAddr;
@@ -152,7 +152,7 @@ impl Lobby {
     }
 
     /// Waits for a viewer, whoever came first. None where no more come.
-    fn leave<R: Wait>(&self, rt: &R) -> Option<Arrival> {
+    fn next_arrival<R: Wait>(&self, rt: &R) -> Option<Arrival> {
         let guard = self.waiting.lock(rt);
         let mut guard = self.came.wait_while(rt, guard, |waiting| {
             waiting.arrivals.is_empty() && !waiting.is_closed
@@ -213,10 +213,10 @@ impl<R: Wait + Clock + Drop, G: Log + Drop> TcpDoor<R, G> {
     }
 
     /// What a log is told of the place: its number, and the role of the lobby.
-    fn plate(&self) -> Doorplate
+    fn place_id(&self) -> PlaceId
         ensures { (result.place ≡ self.now.place) × (result.role ≡ role_behind self.now) }
     {
-        Doorplate {
+        PlaceId {
             place: self.place,
             role: self.lobby.role(),
         }
@@ -224,13 +224,21 @@ impl<R: Wait + Clock + Drop, G: Log + Drop> TcpDoor<R, G> {
 }
 
 /// A viewer's link: over TCP as it is, or a browser's.
-pub type ViewerLink<R> = AnyLink<TcpLink<R>, BrowserLink<R>>;
+pub type ViewerLink<R> = AnyLink<ViewerTcpLink<R>, BrowserLink<R>>;
 
 /// The connection below a viewer's link.
-fn connection_of<R: Wait + Clock + Drop>(viewer: &ViewerLink<R>) -> &TcpLink<R> {
+fn connection_of<R: Wait + Clock + Drop>(viewer: &ViewerLink<R>) -> &ViewerTcpLink<R> {
     match viewer {
         AnyLink::Plain(link) => link,
         AnyLink::Web(link) => link.connection(),
+    }
+}
+
+/// How a viewer's connection stands.
+fn parting_of<R: Wait + Clock + Drop>(viewer: &ViewerLink<R>) -> Parting {
+    match viewer {
+        AnyLink::Plain(link) => link.parting(),
+        AnyLink::Web(link) => link.parting(),
     }
 }
 
@@ -246,7 +254,7 @@ impl<R: Wait + Clock + Drop + Copy, G: Log + Drop> TcpDoor<R, G> {
         ensures { IfOk result (λ link. viewer_state link ≡ unused) }
     {
         let way = arrival.way();
-        let link = TcpLink::new(
+        let link = ViewerTcpLink::new(
             self.rt,
             self.alloc,
             arrival.into_stream(),
@@ -264,16 +272,16 @@ impl<R: Wait + Clock + Drop + Copy, G: Log + Drop> TcpDoor<R, G> {
     fn receive(&mut self, arrival: Arrival) -> Option<ViewerLink<R>>
         ensures { IfSome result (λ link. viewer_state link ≡ unused) }
     {
-        let plate = self.plate();
+        let place_id = self.place_id();
         self.has_served = true;
         self.address = arrival.address();
         self.way = arrival.way();
-        if arrival.role() != plate.role {
+        if arrival.role() != place_id.role {
             return None;
         }
         let link = self.link(arrival).ok()?;
         self.log.tell(&Event::ViewerIn {
-            plate,
+            place_id,
             address: self.address,
             way: self.way,
         });
@@ -302,7 +310,7 @@ impl<R: Wait + Clock + Drop + Copy + Send, G: Log + Drop + Send> Door for TcpDoo
                 self.lobby.free(&rt);
                 self.has_served = false;
             }
-            let arrival = self.lobby.leave(&rt)?;
+            let arrival = self.lobby.next_arrival(&rt)?;
             if let Some(link) = self.receive(arrival) {
                 return Some(link);
             }
@@ -317,15 +325,15 @@ impl<R: Wait + Clock + Drop + Copy + Send, G: Log + Drop + Send> Door for TcpDoo
         let connection = connection_of(&viewer);
         let visit = Visit {
             why,
-            parting: connection.parting(),
+            parting: parting_of(&viewer),
             served: connection.age(),
             answers,
             bytes: connection.sent(),
         };
         drop(viewer);
-        let plate = self.plate();
+        let place_id = self.place_id();
         self.log.tell(&Event::ViewerOut {
-            plate,
+            place_id,
             address: self.address,
             way: self.way,
             visit,

@@ -1,6 +1,6 @@
 //! The porter of all web ports: one thread for all that comes before a link.
 
-use crate::bell::Bell;
+use crate::alarm::Alarm;
 use crate::caller::{Caller, Progress, WebEntry};
 use crate::event::Log;
 use crate::lobby::Entrance;
@@ -16,6 +16,9 @@ use std::time::{Clock, Duration, Instant};
 
 /// So many connections are asking at once, at most. The others wait in the system's queue.
 pub const MOST_GUESTS: usize = 64;
+
+/// So many of those whom a poll heard are told at once.
+const MOST_EVENTS: usize = 128;
 
 /// Those who are late are let go, and a closed lobby is seen, after so long.
 const LOOK_MILLIS: u64 = 500;
@@ -79,7 +82,7 @@ fn hear(poll: &Poll, caller: &mut Caller, number: usize) -> bool {
 }
 
 /// The web ports of a run, and those who ask at them. A poll hears a port under its number, and one who asks under that
-/// of his place, behind those of the ports.
+/// of his place, behind those of the ports. The peer chooses the names of fields, so maps of them take secret keys.
 #[derive(Drop)]
 struct Porch {
     alloc: Global,
@@ -87,10 +90,16 @@ struct Porch {
     entries: Vec<WebEntry>,
     guests: Guests,
     refused: Refused,
+    keys: RandomState,
 }
 
 impl Porch {
-    fn new(net: &impl Net, alloc: Global, mut entries: Vec<WebEntry>) -> io::Result<Porch> {
+    fn new(
+        net: &impl Net,
+        alloc: Global,
+        mut entries: Vec<WebEntry>,
+        keys: RandomState,
+    ) -> io::Result<Porch> {
         let poll = Poll::new(net)?;
         for (number, entry) in entries.iter_mut().enumerate() {
             let heard = entry.heard();
@@ -103,13 +112,14 @@ impl Porch {
             entries,
             guests: Guests::new(alloc)?,
             refused: Refused::new(),
+            keys,
         })
     }
 
     /// The next who came by a port.
-    fn accept<R: Clock>(&self, rt: &R, keys: RandomState, port: usize) -> Option<Caller> {
+    fn accept<R: Clock>(&self, rt: &R, port: usize) -> Option<Caller> {
         let entry = self.entries.get(port)?;
-        entry.accept(rt, self.alloc, keys).ok()
+        entry.accept(rt, self.alloc, self.keys).ok()
     }
 
     /// Lets one ask at this place, who is heard from now on. One who can't be heard is let go.
@@ -121,11 +131,11 @@ impl Porch {
     }
 
     /// Lets the next who came by a port ask, where there is a place for him. False where there is none, or none came.
-    fn let_one_ask<R: Clock>(&mut self, rt: &R, keys: RandomState, port: usize) -> bool {
+    fn let_one_ask<R: Clock>(&mut self, rt: &R, port: usize) -> bool {
         let Some(place) = self.guests.free() else {
             return false;
         };
-        match self.accept(rt, keys, port) {
+        match self.accept(rt, port) {
             Some(caller) => {
                 self.admit(caller, place);
                 true
@@ -135,9 +145,9 @@ impl Porch {
     }
 
     /// Lets all who came by a port ask, while there is room.
-    fn let_ask<R: Clock>(&mut self, rt: &R, keys: RandomState, port: usize) {
+    fn let_ask<R: Clock>(&mut self, rt: &R, port: usize) {
         for _ in 0..MOST_GUESTS {
-            if !self.let_one_ask(rt, keys, port) {
+            if !self.let_one_ask(rt, port) {
                 return;
             }
         }
@@ -186,20 +196,14 @@ impl Porch {
 
     /// Lets those ask who wait at the ports. A poll hears a port once for all of them, so each port is looked at
     /// whenever a place may be free.
-    fn let_all_ask<R: Clock>(&mut self, rt: &R, keys: RandomState) {
+    fn let_all_ask<R: Clock>(&mut self, rt: &R) {
         for port in 0..self.entries.len() {
-            self.let_ask(rt, keys, port);
+            self.let_ask(rt, port);
         }
     }
 
     /// Waits, but not for long, and goes on with all of whom it heard.
-    fn turn<R: Wait + Clock, G: Log>(
-        &mut self,
-        rt: &R,
-        events: &mut Events,
-        keys: RandomState,
-        log: &G,
-    ) {
+    fn turn<R: Wait + Clock, G: Log>(&mut self, rt: &R, events: &mut Events, log: &G) {
         let longest = Some(Duration::from_millis(LOOK_MILLIS));
         if self.poll.poll(events, longest).is_err() {
             return;
@@ -208,7 +212,7 @@ impl Porch {
         if let Ok(now) = Instant::now(rt) {
             self.let_go(now);
         }
-        self.let_all_ask(rt, keys);
+        self.let_all_ask(rt);
     }
 
     fn is_closed<R: Wait>(&self, rt: &R) -> bool {
@@ -223,33 +227,54 @@ fn wake(seats: &[Arc<Seat, Global>]) {
     }
 }
 
-/// Keeps all web ports: answers requests, and lets those to the lobby of their port who open a link. It wakes the
-/// places of these seats now and then, and ends soon after the lobbies are closed. The peer chooses the names of
-/// fields, so maps of them take secret keys.
-pub fn keep_web_doors<R, G>(
-    rt: &R,
-    alloc: Global,
-    entries: Vec<WebEntry>,
-    seats: &[Arc<Seat, Global>],
-    keys: RandomState,
-    log: &G,
-) -> io::Result<()>
-where
-    R: Net + Wait + Clock,
-    G: Log,
-{
-    let mut porch = Porch::new(rt, alloc, entries)?;
-    let mut events = Events::with_capacity(alloc, 128)?;
-    let mut rang = Instant::now(rt)?;
-    for _ in rt.forever() {
-        porch.turn(rt, &mut events, keys, log);
-        if porch.is_closed(rt) {
-            break;
-        }
-        if rang.elapsed(rt)? >= Duration::from_secs(WAKE_SECONDS) {
-            rang = Instant::now(rt)?;
-            wake(seats);
+/// Whether it is so long ago that the places were woken that they are to be again. Where the clock can't be read they
+/// are.
+fn is_due<R: Clock>(rt: &R, woken: &Option<Instant>) -> bool {
+    match woken {
+        Some(woken) => match woken.elapsed(rt) {
+            Ok(passed) => passed >= Duration::from_secs(WAKE_SECONDS),
+            Err(_) => true,
+        },
+        None => true,
+    }
+}
+
+/// The porter of all web ports of a run. All that it waits with is made before its thread is, so that whoever starts it
+/// is told where that fails.
+#[derive(Drop)]
+pub struct WebPorter {
+    porch: Porch,
+    events: Events,
+}
+
+impl WebPorter {
+    /// The porter of these ports. The peer chooses the names of fields, so maps of them take secret keys. It fails where
+    /// memory is refused, or a poll by the system.
+    pub fn new(
+        net: &impl Net,
+        alloc: Global,
+        entries: Vec<WebEntry>,
+        keys: RandomState,
+    ) -> io::Result<WebPorter> {
+        Ok(WebPorter {
+            porch: Porch::new(net, alloc, entries, keys)?,
+            events: Events::with_capacity(alloc, MOST_EVENTS)?,
+        })
+    }
+
+    /// Keeps the ports: answers requests, and lets those to the lobby of their port who open a link. It wakes the places
+    /// of these seats now and then, and ends soon after the lobbies are closed.
+    pub fn keep<R: Wait + Clock, G: Log>(mut self, rt: &R, seats: &[Arc<Seat, Global>], log: &G) {
+        let mut woken = Instant::now(rt).ok();
+        for _ in rt.forever() {
+            self.porch.turn(rt, &mut self.events, log);
+            if self.porch.is_closed(rt) {
+                break;
+            }
+            if is_due(rt, &woken) {
+                woken = Instant::now(rt).ok();
+                wake(seats);
+            }
         }
     }
-    Ok(())
 }

@@ -2,7 +2,7 @@
 
 ghost use Rattle.std.specs.Prelude.{◌≡◌, codes};
 ghost use Rattle.byte_reading.specs.Reading.{Faulty, after};
-ghost use Rattle.pixel_format.specs.declared.fault.Fault.TheVariants.{HostRefused};
+ghost use Rattle.fault.specs.declared.kinds.Fault.TheVariants.{HostRefused};
 ghost use Rattle.rfb_wire.specs.Handshake.{host_hello};
 
 /// A handshake of version 3.8 that has no security type, and why (RFC 6143, 7.1.1 and 7.1.2). It is the same whatever

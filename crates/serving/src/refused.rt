@@ -60,7 +60,7 @@ fn tell<G: Log>(refused: &Arrival, lack: Lack, log: &G) {
     match lack {
         Lack::Place => {
             say(refused, &refusal_bytes());
-            log.tell(&Event::NoPlace { role, address, way });
+            log.tell(&Event::PlacesTaken { role, address, way });
         }
         Lack::Host => {
             say(refused, &no_host_bytes());

@@ -1,23 +1,23 @@
-//! What rings a bell after each step.
+//! What rings an alarm after each step.
 
 ghost use Rattle.std.specs.Prelude.{◌≡◌};
 
-use crate::bell::Bell;
+use crate::alarm::Alarm;
+use fault::Fault;
 use painter::Patch;
-use pixel_format::Fault;
 use reflect_core::Puts;
 use roles::{Input, InputSink};
 
-/// The inner's steps, and a ring of the bell after each that succeeded.
+/// The inner's steps, and a ring of the alarm after each that succeeded.
 #[derive(Drop)]
-pub struct Ringing<T: Drop, B: Bell + Drop> {
+pub struct Ringing<T: Drop, B: Alarm + Drop> {
     /// What takes the updates or the input.
     pub inner: T,
     /// Who is told that there is more.
-    pub bell: B,
+    pub alarm: B,
 }
 
-impl<T: Puts + Drop, B: Bell + Drop> Puts for Ringing<T, B> {
+impl<T: Puts + Drop, B: Alarm + Drop> Puts for Ringing<T, B> {
     ghost updates = { λ ringing. T.updates ringing.inner };
 
     ghost width = { λ ringing. T.width ringing.inner };
@@ -26,19 +26,19 @@ impl<T: Puts + Drop, B: Bell + Drop> Puts for Ringing<T, B> {
 
     fn put(&mut self, patch: Patch) -> Result<u64, (Fault, Patch)> {
         let number = self.inner.put(patch)?;
-        self.bell.ring();
+        self.alarm.ring();
         Ok(number)
     }
 }
 
-impl<T: InputSink + Drop, B: Bell + Drop> InputSink for Ringing<T, B> {
+impl<T: InputSink + Drop, B: Alarm + Drop> InputSink for Ringing<T, B> {
     ghost sent = { λ ringing. T.sent ringing.inner };
 
     ghost may_refuse = { T.may_refuse };
 
     fn send(&mut self, input: Input) -> Result<(), (Fault, Input)> {
         self.inner.send(input)?;
-        self.bell.ring();
+        self.alarm.ring();
         Ok(())
     }
 }

@@ -1,5 +1,5 @@
 //! Where the thread of a place waits.
-use crate::bell::Bell;
+use crate::alarm::Alarm;
 use mio::net::TcpStream;
 use mio::{Events, Interest, Poll, Token, Waker};
 use std::alloc::Global;
@@ -9,7 +9,7 @@ use std::sync::atomic::{AtomicBool, Ordering};
 use std::sync::{Mutex, Wait};
 use std::time::Duration;
 
-const BELL: Token = Token(0);
+const ALARM: Token = Token(0);
 
 const SOCKET: Token = Token(1);
 
@@ -19,7 +19,7 @@ struct Ears {
     events: Events,
 }
 
-/// Where the thread of a place waits for its viewer's socket and for the bell, both at once. The place's thread alone
+/// Where the thread of a place waits for its viewer's socket and for the alarm, both at once. The place's thread alone
 /// locks the ears, so it never waits for the lock.
 ///
 /// `rung` is set from a ring until the thread answers, and while it is set a ring costs one exchange. The thread
@@ -35,7 +35,7 @@ impl Seat {
     pub fn new(net: &impl Net, alloc: Global) -> io::Result<Seat> {
         let poll = Poll::new(net)?;
         let events = Events::with_capacity(alloc, 4)?;
-        let waker = Waker::new(poll.registry(), BELL)?;
+        let waker = Waker::new(poll.registry(), ALARM)?;
         Ok(Seat {
             rung: AtomicBool::new(false),
             waker,
@@ -55,7 +55,8 @@ impl Seat {
         guard.poll.registry().register(socket, SOCKET, both)
     }
 
-    /// Waits for the bell, or for the socket to become readable or writable, at most so long. It may end for no reason.
+    /// Waits for the alarm, or for the socket to become readable or writable, at most so long. It may end for no
+    /// reason.
     pub fn wait<R: Wait>(&self, rt: &R, most: Option<Duration>) -> io::Result<()> {
         let mut guard = self.ears.lock(rt);
         let Ears { poll, events } = &mut *guard;
@@ -63,7 +64,7 @@ impl Seat {
     }
 }
 
-impl Bell for Seat {
+impl Alarm for Seat {
     fn ring(&self) {
         if !self.rung.swap(true, Ordering::SeqCst) {
             self.rouse();

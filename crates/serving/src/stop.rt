@@ -2,34 +2,34 @@
 
 ghost use Rattle.std.specs.Prelude.{⊤};
 
-use crate::bell::Bell;
+use crate::alarm::Alarm;
 use link::StopFlag;
 use std::sync::atomic::{AtomicBool, Ordering};
 
-/// A flag that threads share, and the bell that ends their waits. No clause knows when it is set.
+/// A flag that threads share, and the alarm that ends their waits. No clause knows when it is set.
 #[derive(Drop)]
-pub struct Stop<B: Bell + Drop> {
+pub struct Stop<B: Alarm + Drop> {
     flag: AtomicBool,
-    bell: B,
+    alarm: B,
 }
 
-impl<B: Bell + Drop> Stop<B> {
+impl<B: Alarm + Drop> Stop<B> {
     /// A flag that isn't set.
-    pub fn new(bell: B) -> Stop<B> {
+    pub fn new(alarm: B) -> Stop<B> {
         Stop {
             flag: AtomicBool::new(false),
-            bell,
+            alarm,
         }
     }
 
     /// Sets the flag, and then ends each wait.
     pub fn set(&self) {
         self.flag.store(true, Ordering::SeqCst);
-        self.bell.rouse();
+        self.alarm.rouse();
     }
 }
 
-impl<B: Bell + Drop> StopFlag for Stop<B> {
+impl<B: Alarm + Drop> StopFlag for Stop<B> {
     ghost was_set = { λ _. ⊤ };
 
     fn is_set(&self) -> bool {

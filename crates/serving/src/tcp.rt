@@ -35,8 +35,8 @@ fn parting_after(before: Parting, answer: &io::Result<usize>) -> Parting {
     }
 }
 
-/// A viewer's connection. `take` waits, until bytes come, until the seat's bell rings, or until bytes that are kept can
-/// go out.
+/// A viewer's connection. `take` waits, until bytes come, until the seat's alarm rings, or until bytes that are kept
+/// can go out.
 ///
 /// `give` keeps small slices, and `take` writes what is kept before it waits, so an answer of many rectangles is one
 /// call of the system. A large slice is written from where it lies, in one call with what is kept; where it finds no
@@ -45,7 +45,7 @@ fn parting_after(before: Parting, answer: &io::Result<usize>) -> Parting {
 ///
 /// It is proved over every socket; a viewer's is a stream over TCP.
 #[derive(Drop)]
-pub struct TcpLink<R: Wait + Clock + Drop, S: Socket = Noted<TcpStream>> {
+pub struct ViewerTcpLink<R: Wait + Clock + Drop, S: Socket = Noted<TcpStream>> {
     rt: R,
     socket: S,
     seat: Arc<Seat, Global>,
@@ -65,7 +65,7 @@ pub struct TcpLink<R: Wait + Clock + Drop, S: Socket = Noted<TcpStream>> {
     account: Account,
 }
 
-impl<R: Wait + Clock + Drop, S: Socket> Model for TcpLink<R, S> {
+impl<R: Wait + Clock + Drop, S: Socket> Model for ViewerTcpLink<R, S> {
     ghost use Rattle.std.specs.Prelude.{◌≡◌, ◌-◌, true, length};
     ghost use Rattle.serving.specs.Hello.{hello_len};
     ghost use Rattle.serving.specs.Wires.{Wired, Carries};
@@ -78,7 +78,7 @@ impl<R: Wait + Clock + Drop, S: Socket> Model for TcpLink<R, S> {
     ghost invariant = { λ l. Carries (record { own = l.account; sent = S.sent l.socket; received = S.received l.socket; kept = l.kept.bytes; is_open = true }) × (l.missing ≡ hello_len - length l.account.taken) };
 }
 
-impl<R: Wait + Clock + Drop> TcpLink<R> {
+impl<R: Wait + Clock + Drop> ViewerTcpLink<R> {
     ghost use Rattle.std.specs.Prelude.{◌≡◌, IfOk};
     ghost use Rattle.serving.specs.Wires.{fresh};
 
@@ -90,18 +90,18 @@ impl<R: Wait + Clock + Drop> TcpLink<R> {
         stream: std::net::TcpStream,
         seat: &Arc<Seat, Global>,
         stalled: u64,
-    ) -> io::Result<TcpLink<R>>
+    ) -> io::Result<ViewerTcpLink<R>>
         ensures { IfOk result (λ link. link ≡ fresh) }
     {
         outlast(&stream, stalled)?;
         stream.set_nonblocking(true)?;
         let mut stream = TcpStream::from_std(stream);
         seat.hear(&rt, &mut stream)?;
-        TcpLink::over(rt, alloc, Noted::new(stream), seat)
+        ViewerTcpLink::over(rt, alloc, Noted::new(stream), seat)
     }
 }
 
-impl<R: Wait + Clock + Drop, S: Socket> TcpLink<R, S> {
+impl<R: Wait + Clock + Drop, S: Socket> ViewerTcpLink<R, S> {
     ghost use Rattle.std.specs.Prelude.{◌≡◌, ◌<◌, [], length, IfOk};
     ghost use Rattle.link.specs.Links.{TakesAs, GivesAs};
     ghost use Rattle.serving.specs.Wires.{Carries, fresh};
@@ -113,7 +113,7 @@ impl<R: Wait + Clock + Drop, S: Socket> TcpLink<R, S> {
         alloc: Global,
         socket: S,
         seat: &Arc<Seat, Global>,
-    ) -> io::Result<TcpLink<R, S>>
+    ) -> io::Result<ViewerTcpLink<R, S>>
         requires sent { S.sent socket ≡ [] }
         requires received { S.received socket ≡ [] }
         ensures { IfOk result (λ link. link ≡ fresh) }
@@ -121,7 +121,7 @@ impl<R: Wait + Clock + Drop, S: Socket> TcpLink<R, S> {
         let opened = Instant::now(&rt)?;
         let kept = Kept::new(alloc)?;
         let seat = Arc::try_clone(seat)?;
-        Ok(TcpLink {
+        Ok(ViewerTcpLink {
             rt,
             socket,
             seat,
@@ -284,7 +284,7 @@ impl<R: Wait + Clock + Drop, S: Socket> TcpLink<R, S> {
     }
 }
 
-impl<R: Wait + Clock + Drop, S: Socket> Link for TcpLink<R, S> {
+impl<R: Wait + Clock + Drop, S: Socket> Link for ViewerTcpLink<R, S> {
     ghost state = { λ l. l.own };
 
     fn take(&mut self, into: &mut [u8]) -> Took {

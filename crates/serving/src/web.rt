@@ -2,7 +2,9 @@
 
 ghost use Rattle.std.specs.Prelude.{◌≡◌};
 
-use crate::tcp::TcpLink;
+use crate::event::Parting;
+use crate::hello::{HELLO_LEN, Patience, longest_wait};
+use crate::tcp::ViewerTcpLink;
 use link::{Gave, Link, Took};
 use std::alloc::Global;
 use std::io;
@@ -15,31 +17,43 @@ use web_link::{GatheringLink, WebLink};
 /// dead.
 const SILENCE_SECONDS: u64 = 30;
 
-/// A browser's connection: the bytes of binary messages over a `TcpLink`, which go out as large as they can be. It
-/// takes as that does, and where it is woken after a long silence it says a ping; who wakes it is the porter.
+/// A browser's connection: the bytes of binary messages over a `ViewerTcpLink`, which go out as large as they can be.
+/// It takes as that does, but the time for its hello counts the bytes of messages alone: neither headers nor pings are
+/// a part of it. Where it is woken after a long silence it says a ping; who wakes it is the porter.
 #[derive(Drop)]
 pub struct BrowserLink<R: Wait + Clock + Drop> {
     rt: R,
-    link: GatheringLink<WebLink<TcpLink<R>>>,
+    link: GatheringLink<WebLink<ViewerTcpLink<R>>>,
+    // This many bytes of the hello are missing, and whether some were when its time was over.
+    missing: usize,
+    is_late: bool,
     // When a byte was given or a ping said last, and whether a byte was given since then.
     said: Instant,
     has_given: bool,
 }
 
 impl<R: Wait + Clock + Drop> Model for BrowserLink<R> {
+    ghost use Rattle.std.specs.Prelude.{◌≡◌, ◌-◌, length};
+    ghost use Rattle.serving.specs.Hello.{hello_len};
     ghost use Rattle.web_link.specs.Gathering.{Gathered};
 
     ghost Value = { Gathered };
 
     ghost view = { λ b. b.link };
+
+    // What is missing of the hello are the bytes that weren't taken from messages.
+    ghost invariant = { λ b. b.missing ≡ hello_len - length b.link.own.taken };
 }
 
 impl<R: Wait + Clock + Drop> BrowserLink<R> {
-    ghost use Rattle.std.specs.Prelude.{◌≡◌, IfOk};
+    ghost use Rattle.std.specs.Prelude.{◌≡◌, ◌-◌, IfOk, length};
+    ghost use Rattle.std.specs.Duration.{as_nanos};
+    ghost use Rattle.link.specs.Links.{with_failure};
     ghost use Rattle.serving.specs.Answers.{unused};
+    ghost use Rattle.serving.specs.Hello.{IsPatience, hello_len};
 
     /// Over a link that has taken and given nothing. It fails where memory is refused, or the clock by the system.
-    pub fn new(rt: R, alloc: Global, below: TcpLink<R>) -> io::Result<BrowserLink<R>>
+    pub fn new(rt: R, alloc: Global, below: ViewerTcpLink<R>) -> io::Result<BrowserLink<R>>
         requires { below.own ≡ unused }
         ensures { IfOk result (λ link. link.own ≡ unused) }
     {
@@ -48,14 +62,40 @@ impl<R: Wait + Clock + Drop> BrowserLink<R> {
         Ok(BrowserLink {
             rt,
             link,
+            missing: HELLO_LEN,
+            is_late: false,
             said,
             has_given: false,
         })
     }
 
     /// The connection below.
-    pub fn connection(&self) -> &TcpLink<R> {
+    pub fn connection(&self) -> &ViewerTcpLink<R> {
         self.link.below().below()
+    }
+
+    /// How the connection stands. No clause says so.
+    pub fn parting(&self) -> Parting {
+        if self.is_late {
+            Parting::Late
+        } else {
+            self.connection().parting()
+        }
+    }
+
+    /// How long a wait for it may last, this long after it came.
+    fn patience(&self, passed: Duration) -> Patience
+        ensures { IsPatience result (hello_len - length self.now.own.taken) (as_nanos passed) }
+    {
+        longest_wait(self.missing, passed)
+    }
+
+    /// It is given up, since its hello is late.
+    fn give_up(&mut self)
+        ensures { self.new ≡ record self.old { own = with_failure self.old.own } }
+    {
+        self.is_late = true;
+        self.link.fail();
     }
 
     /// Says a ping after a long silence. A clock that can't be read says none.
@@ -83,7 +123,15 @@ impl<R: Wait + Clock + Drop> Link for BrowserLink<R> {
 
     fn take(&mut self, into: &mut [u8]) -> Took {
         self.keep_alive();
-        self.link.take(into)
+        if let Patience::Over = self.patience(self.connection().age()) {
+            self.give_up();
+            return Took::Failed;
+        }
+        let took = self.link.take(into);
+        if let Took::Bytes(count) = took {
+            self.missing = self.missing.saturating_sub(count);
+        }
+        took
     }
 
     fn give(&mut self, bytes: &[u8]) -> Gave {

@@ -1,6 +1,6 @@
 //! Where the host's writer rests.
 
-use crate::bell::Bell;
+use crate::alarm::Alarm;
 use link::Rest;
 use std::sync::Wait;
 use std::thread::Parker;
@@ -20,7 +20,7 @@ impl WriterSeat {
     }
 }
 
-impl Bell for WriterSeat {
+impl Alarm for WriterSeat {
     fn ring(&self) {
         self.parker.unpark();
     }

@@ -1,12 +1,12 @@
 //! How a shared screen begins.
 
 ghost use Rattle.std.specs.Prelude.{◌≡◌, ◌⊎◌, ◌≤◌, [], length, vec_len, All, IfOk, IfErr};
-ghost use Rattle.pixel_format.specs.declared.fault.Fault.TheVariants.{Memory, NoPlace};
+ghost use Rattle.fault.specs.declared.kinds.Fault.TheVariants.{Memory, NoPlace};
 ghost use Rattle.raster.specs.Size.{IsScreenSize};
 
 use crate::publisher::Publisher;
 use crate::watcher::Watcher;
-use pixel_format::Fault;
+use fault::Fault;
 use screen_pair::{BESIDE_PLACES, Eye, Spares, Stamped, eyes, opened};
 use std::alloc::Global;
 use std::sync::{Arc, Wait};
@@ -51,9 +51,9 @@ pub fn shared<J: Naming, R: Wait + Drop + Copy>(
     ensures watchers { IfOk result (λ ends. All (λ w. w ≡ record { updates = []; tally = 0 }) ends.1.items) }
     ensures err { IfErr result (λ fault. (fault ≡ Memory) ⊎ (fault ≡ NoPlace)) }
 {
-    let (roll, author) = history.named();
-    let roll = Arc::new(alloc, roll)?;
-    let (raiser, glance) = tally(&roll, author)?;
+    let (change_count, author) = history.named();
+    let change_count = Arc::new(alloc, change_count)?;
+    let (raiser, glance) = tally(&change_count, author)?;
     let front = raiser.front();
     let opening = Stamped::opening(alloc, width, height, &front)?;
     let handle = opened(rt, alloc, &opening, places)?;

@@ -6,14 +6,14 @@ ghost use Rattle.reflect_core.specs.Plain.{IsPutRefusal};
 ghost use Rattle.tally_word.specs.History.{Put, Raise, puts_of};
 
 use crate::news::News;
+use fault::{Fault, LIMIT};
 use left_right::{Absorb, WriteHandle};
 use painter::Patch;
-use pixel_format::{Fault, LIMIT};
 use reflect_core::Puts;
 use screen_pair::{Published, Publishes, Spares, Stamped, publish, tell};
 use std::marker::Model;
 use std::sync::Wait;
-use tally_word::{Change, Front, Naming, Raiser};
+use tally_word::{Change, HistoryFront, Naming, Raiser};
 
 /// Puts updates, and raises the tally after each: contracts see its history, all that was put and raised.
 #[derive(Drop)]
@@ -23,7 +23,7 @@ where
 {
     handle: WriteHandle<Published<J>, Stamped<J>, R>,
     raiser: Raiser<J>,
-    front: Front<J>,
+    front: HistoryFront<J>,
     spares: Spares<J>,
 }
 
@@ -100,6 +100,7 @@ impl<J: Naming + Publishes, R: Wait + Drop> Puts for Publisher<J, R> {
         if number >= LIMIT {
             return Err((Fault::NumbersOut, patch));
         }
+        // It does nothing. Its clause says that puts and raises take turns.
         self.front.is_legal();
         // An update that was refused its publish stays the last of the history.
         if self.raiser.changes() != 2 * number {

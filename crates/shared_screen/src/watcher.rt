@@ -1,7 +1,7 @@
 //! The ends that look and cut.
 
 ghost use Rattle.std.specs.Prelude.{◌≡◌, ◌⊎◌, ◌+◌, ◌≤◌, ◌∷◌, [], length, IfOk, IfErr};
-ghost use Rattle.pixel_format.specs.declared.fault.Fault.TheVariants.{Gone};
+ghost use Rattle.fault.specs.declared.kinds.Fault.TheVariants.{Gone};
 ghost use Rattle.raster.specs.Screen.{IsWithin};
 ghost use Rattle.raster.specs.Update.{view};
 ghost use Rattle.reflect_core.specs.Sequential.{Begins};
@@ -12,7 +12,7 @@ ghost use Rattle.tally_word.specs.History.{puts_of, ArePublished};
 
 use crate::news::News;
 use crate::publisher::Publisher;
-use pixel_format::Fault;
+use fault::Fault;
 use raster::Rect;
 use reflect_core::{Cut, ScreenSource};
 use screen_pair::{Eye, Publishes};
@@ -121,6 +121,7 @@ impl<J: Naming> ScreenSource for Watcher<J> {
     {
         let number = self.glance.look();
         let front = self.glance.front();
+        // This and `is_published` do nothing. Their clauses say what their types keep, which the proof needs here.
         front.is_legal();
         self.eye.learn_first(&front, number);
         self.eye.is_published();

@@ -4,11 +4,11 @@ ghost use Rattle.std.specs.Prelude.{◌≡◌, ◌<◌, ◌^◌, ◌+◌, ◌++�
 ghost use Rattle.tally_word.specs.History.{Put, Raise, puts_of, tally_of, IsLegal, IsBacked};
 
 use crate::change::Change;
-use crate::front::Front;
+use crate::change_count::ChangeCount;
+use crate::front::HistoryFront;
 use crate::half::Half;
 use crate::law::{Add, Law, Nothing, Turn};
 use crate::naming::Naming;
-use crate::roll::Roll;
 use logbook::{Offer, Seen};
 use painter::Patch;
 use std::marker::{Model, PhantomData};
@@ -35,11 +35,11 @@ impl<J: Naming> Model for Author<J> {
 }
 
 impl<J: Naming> Author<J> {
-    /// All changes.
-    pub fn front(&self) -> Front<J>
+    /// The whole history: all changes that were made so far.
+    pub fn front(&self) -> HistoryFront<J>
         ensures { result ≡ self.now }
     {
-        Front {
+        HistoryFront {
             seen: self.seen.again(),
             of: PhantomData,
         }
@@ -53,14 +53,18 @@ impl<J: Naming> Author<J> {
     }
 
     /// Adds the change that is asked for, by one exchange.
-    fn add(&mut self, roll: &Roll<J>, asked: &Offer<Change, (u64, u64), Law<J>, Nothing>)
+    fn add(
+        &mut self,
+        change_count: &ChangeCount<J>,
+        asked: &Offer<Change, (u64, u64), Law<J>, Nothing>,
+    )
         requires few { length self.old < 2 ^ 63 }
         requires allowed { IsLegal (self.old ++ asked.now.ask ∷ []) × IsBacked J.published (self.old ++ asked.now.ask ∷ []) }
         ensures { self.new ≡ self.old ++ asked.now.ask ∷ [] }
     {
         let mut offer: Offer<Change, (u64, u64), Law<J>, Turn> = self.half.offered(asked);
         let mut pen = self.seen.no_pen();
-        roll.word.compare_exchange::<Add<J>, Turn>(
+        change_count.word.compare_exchange::<Add<J>, Turn>(
             self.changes,
             self.changes + 1,
             &mut self.seen,
@@ -72,23 +76,23 @@ impl<J: Naming> Author<J> {
     }
 
     /// Puts a patch's update, by one exchange.
-    pub fn put(&mut self, roll: &Roll<J>, patch: &Patch)
+    pub fn put(&mut self, change_count: &ChangeCount<J>, patch: &Patch)
         requires few { length self.old < 2 ^ 63 }
         requires raised { tally_of self.old ≡ length (puts_of self.old) }
         ensures { self.new ≡ self.old ++ Put patch.now.update ∷ [] }
     {
         let asked = self.seen.plain::<Nothing, Patch, Add<J>>(patch);
-        self.add(roll, &asked);
+        self.add(change_count, &asked);
     }
 
     /// Raises the tally to the number of the updates, all of which are published, by one exchange.
-    pub fn raise(&mut self, roll: &Roll<J>, number: u64)
+    pub fn raise(&mut self, change_count: &ChangeCount<J>, number: u64)
         requires published { J.published (puts_of self.old) }
         requires few { length self.old < 2 ^ 63 }
         requires next { (number ≡ length (puts_of self.old)) × (number ≡ tally_of self.old + 1) }
         ensures { self.new ≡ self.old ++ Raise number ∷ [] }
     {
         let asked = self.seen.plain::<Nothing, u64, Add<J>>(&number);
-        self.add(roll, &asked);
+        self.add(change_count, &asked);
     }
 }

@@ -5,21 +5,21 @@ ghost use Rattle.reflect_core.specs.Sequential.{Begins};
 ghost use Rattle.tally_word.specs.History.{IsLegal, IsBacked};
 
 use crate::change::Change;
+use crate::change_count::ChangeCount;
 use crate::law::{Add, Law, Look, Nothing};
 use crate::naming::Naming;
 use crate::news::TallyNews;
-use crate::roll::Roll;
 use logbook::{Offer, Seen};
 use std::marker::{Model, PhantomData};
 
 /// A beginning of the history, which was seen: contracts see its changes. It has no bytes.
 #[derive(Drop)]
-pub struct Front<J: Naming> {
+pub struct HistoryFront<J: Naming> {
     pub(crate) seen: Seen<Change, (u64, u64), Law<J>>,
     pub(crate) of: PhantomData<J>,
 }
 
-impl<J: Naming> Model for Front<J> {
+impl<J: Naming> Model for HistoryFront<J> {
     ghost use Rattle.std.specs.Prelude.{◌≡◌, List};
     ghost use Rattle.tally_word.specs.History as history;
     ghost use Rattle.tally_word.specs.History.{IsLegal, IsBacked};
@@ -31,19 +31,19 @@ impl<J: Naming> Model for Front<J> {
     ghost invariant = { λ f. (f.seen.book ≡ J.book) × IsLegal f.seen.log × IsBacked J.published f.seen.log };
 }
 
-impl<J: Naming> Front<J> {
-    /// An equal one.
-    pub fn again(&self) -> Front<J>
+impl<J: Naming> HistoryFront<J> {
+    /// A second one, which knows the same.
+    pub fn again(&self) -> HistoryFront<J>
         ensures { result ≡ self.now }
     {
-        Front {
+        HistoryFront {
             seen: self.seen.again(),
             of: PhantomData,
         }
     }
 
     /// What the longer of both knows is known from now on.
-    pub fn learn(&mut self, other: &Front<J>)
+    pub fn learn(&mut self, other: &HistoryFront<J>)
         ensures mine { Begins self.old self.new }
         ensures told { Begins other.now self.new }
     {
@@ -62,6 +62,7 @@ impl<J: Naming> Front<J> {
     pub fn is_backed(&self)
         ensures { IsBacked J.published self.now }
     {
+        // As in `is_legal`: the type's invariant is at hand where a field is named.
         let _ = &self.seen;
     }
 
@@ -75,14 +76,15 @@ impl<J: Naming> Front<J> {
     }
 
     /// All changes so far are known from now on: one load, which answers how many they are.
-    pub fn look(&mut self, roll: &Roll<J>) -> u64
+    pub fn look(&mut self, change_count: &ChangeCount<J>) -> u64
         ensures grows { Begins self.old self.new }
         ensures count { result ≡ length self.new }
     {
         let mut offer: Offer<Change, (u64, u64), Law<J>, Nothing> = self
             .seen
             .plain::<Nothing, u64, Add<J>>(&0);
-        roll.word
+        change_count
+            .word
             .load::<Look<J>, Nothing>(&mut self.seen, &mut offer)
     }
 }

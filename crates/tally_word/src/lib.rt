@@ -7,6 +7,7 @@
 
 mod author;
 mod change;
+mod change_count;
 mod front;
 mod glance;
 mod half;
@@ -15,15 +16,14 @@ mod naming;
 mod news;
 mod opened;
 mod raiser;
-mod roll;
 
 pub use author::Author;
 pub use change::Change;
-pub use front::Front;
+pub use change_count::ChangeCount;
+pub use front::HistoryFront;
 pub use glance::Glance;
 pub use law::Law;
 pub use naming::{Naming, Publicity};
 pub use news::TallyNews;
 pub use opened::Opened;
 pub use raiser::{Raiser, tally};
-pub use roll::Roll;

@@ -23,7 +23,7 @@ pub trait Naming: Publicity {
     ghost use Rattle.std.specs.Prelude.{ℕ};
     ghost use Rattle.logbook.specs.Pages.{Book};
 
-    /// The history.
+    /// The book in which the history of this name is kept.
     ghost book: { Book };
 
     /// The width of its screen in pixels.

@@ -1,17 +1,17 @@
 //! The end that raises the tally.
 
 ghost use Rattle.std.specs.Prelude.{◌≡◌, ◌<◌, ◌^◌, ◌+◌, ◌++◌, ◌∷◌, [], length, IfOk, IfErr};
-ghost use Rattle.pixel_format.specs.declared.fault.Fault.TheVariants.{Memory};
+ghost use Rattle.fault.specs.declared.kinds.Fault.TheVariants.{Memory};
 ghost use Rattle.tally_word.specs.History.{Put, Raise, puts_of, tally_of, IsLegal};
 
 use crate::author::Author;
-use crate::front::Front;
+use crate::change_count::ChangeCount;
+use crate::front::HistoryFront;
 use crate::glance::Glance;
 use crate::naming::Naming;
 use crate::news::TallyNews;
-use crate::roll::Roll;
+use fault::Fault;
 use painter::Patch;
-use pixel_format::Fault;
 use std::alloc::Global;
 use std::marker::Model;
 use std::sync::Arc;
@@ -19,7 +19,7 @@ use std::sync::Arc;
 /// Puts updates, and raises the tally: contracts see all changes. There is one of a history.
 #[derive(Drop)]
 pub struct Raiser<J: Naming> {
-    roll: Arc<Roll<J>, Global>,
+    change_count: Arc<ChangeCount<J>, Global>,
     author: Author<J>,
 }
 
@@ -35,20 +35,26 @@ impl<J: Naming> Model for Raiser<J> {
 /// A raiser and a glance of a history, which know what its author does. It fails where the count of the word's owners
 /// is full (`Memory`).
 pub fn tally<J: Naming>(
-    roll: &Arc<Roll<J>, Global>,
+    change_count: &Arc<ChangeCount<J>, Global>,
     author: Author<J>,
 ) -> Result<(Raiser<J>, Glance<J>), Fault>
     ensures ok { IfOk result (λ ends. (ends.0 ≡ author) × (ends.1 ≡ author)) }
     ensures err { IfErr result (λ fault. fault ≡ Memory) }
 {
-    let glance = Glance::new(Arc::try_clone(roll)?, &author.front());
-    let roll = Arc::try_clone(roll)?;
-    Ok((Raiser { roll, author }, glance))
+    let glance = Glance::new(Arc::try_clone(change_count)?, &author.front());
+    let change_count = Arc::try_clone(change_count)?;
+    Ok((
+        Raiser {
+            change_count,
+            author,
+        },
+        glance,
+    ))
 }
 
 impl<J: Naming> Raiser<J> {
-    /// What it knows.
-    pub fn front(&self) -> Front<J>
+    /// The beginning of the history that it knows.
+    pub fn front(&self) -> HistoryFront<J>
         ensures { result ≡ self.now }
     {
         self.author.front()
@@ -74,7 +80,7 @@ impl<J: Naming> Raiser<J> {
         requires raised { tally_of self.old ≡ length (puts_of self.old) }
         ensures { self.new ≡ self.old ++ Put patch.now.update ∷ [] }
     {
-        self.author.put(&self.roll, patch);
+        self.author.put(&self.change_count, patch);
     }
 
     /// Raises the tally to the number of the updates, of which one was put since the last raise, and all of which are
@@ -85,7 +91,7 @@ impl<J: Naming> Raiser<J> {
         requires next { (number ≡ length (puts_of self.old)) × (number ≡ tally_of self.old + 1) }
         ensures { self.new ≡ self.old ++ Raise number ∷ [] }
     {
-        self.author.raise(&self.roll, number);
+        self.author.raise(&self.change_count, number);
     }
 
     /// News of what it knows.

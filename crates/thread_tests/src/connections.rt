@@ -1,6 +1,6 @@
 //! Tests of `serving`, over loopback alone, bounded in count and by the ten seconds that a viewer's handshake has.
 
-mod bells;
+mod alarms;
 mod doors;
 mod hosts;
 mod links;

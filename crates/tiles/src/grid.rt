@@ -6,10 +6,10 @@ ghost use Rattle.raster.specs.Size.{IsScreenSize};
 ghost use Rattle.raster.specs.Update.{Update};
 ghost use Rattle.tiles.specs.Grid.{GridStands, IsCaughtUp, IsTouched, stamp_at};
 ghost use Rattle.tiles.specs.Touched.{last_touch};
-ghost use Rattle.pixel_format.specs.declared.fault.Fault.TheVariants.{Memory};
+ghost use Rattle.fault.specs.declared.kinds.Fault.TheVariants.{Memory};
 
 use crate::covered::{tiles_along, tiles_met};
-use pixel_format::Fault;
+use fault::Fault;
 use raster::{Rect, tile_count};
 use std::alloc::Global;
 use std::marker::Model;

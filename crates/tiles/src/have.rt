@@ -5,10 +5,10 @@ ghost use Rattle.raster.specs.Screen.{IsWithin, fill, tile_count, tiles_across};
 ghost use Rattle.raster.specs.Size.{IsScreenSize};
 ghost use Rattle.tiles.specs.Have.{AtMost, HaveStands, IsSameSize, entry, lowered, sent_at};
 ghost use Rattle.tiles.specs.Touched.{Event, Requested, NewFormat, Answered};
-ghost use Rattle.pixel_format.specs.declared.fault.Fault.TheVariants.{Memory};
+ghost use Rattle.fault.specs.declared.kinds.Fault.TheVariants.{Memory};
 
 use crate::covered::{tiles_along, tiles_inside, tiles_met};
-use pixel_format::Fault;
+use fault::Fault;
 use raster::{Rect, tile_count};
 use std::alloc::Global;
 use std::marker::Model;

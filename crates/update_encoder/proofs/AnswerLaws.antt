@@ -25,8 +25,7 @@ use Rattle.update_encoder.specs.Answer.{pixels_in, colours_in, same_numbers, rep
 use Rattle.raster.proofs.Places.{Has, has_holds, holds_has, values_at, tinted_at, length_values}
 use Rattle.raster.proofs.Spellings.{Each}
 use Rattle.rfb_wire.specs.Written.{AreRead}
-use Rattle.rfb_wire.proofs.Updates.{copy_is_read, update_is_read}
-use Rattle.update_encoder.proofs.Rectangles.{spelled_is_read}
+use Rattle.rfb_wire.proofs.Updates.{spelled_is_read, copy_is_read, update_is_read}
 use Rattle.tiles.specs.Brings.{IsPart}
 use Rattle.update_encoder.specs.Style.{Style}
 use Rattle.update_encoder.proofs.Counts.{count_spelled}

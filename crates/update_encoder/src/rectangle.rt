@@ -20,10 +20,7 @@ use joined_runs::Runs;
 use pixel_format::Format;
 use raster::{COPY_RECT, Encoding, Rect};
 use reflect_core::Cut;
-use rfb_wire::write_rectangle_head;
-
-/// How many bytes the header of a rectangle has.
-const HEAD: usize = 12;
+use rfb_wire::{RECTANGLE_HEAD_LEN, write_rectangle_head};
 
 /// Writes a CopyRect: a header, and the source's top left (RFC 6143, 7.7.2).
 fn write_copy(area: &Rect, above: &Rect, out: &mut [u8]) -> usize
@@ -33,13 +30,13 @@ fn write_copy(area: &Rect, above: &Rect, out: &mut [u8]) -> usize
     ensures written { IsFront (rectangle_bytes area.now 1 (copy_source (Some above.now))) out.new result }
     ensures len { result ≡ 16 }
 {
-    let (head, source) = out.split_at_mut(HEAD);
+    let (head, source) = out.split_at_mut(RECTANGLE_HEAD_LEN);
     write_rectangle_head(area, COPY_RECT, head);
     let [x1, x0] = (above.x as u16).to_be_bytes();
     let [y1, y0] = (above.y as u16).to_be_bytes();
     let (place, _) = source.split_at_mut(4);
     place.copy_from_slice(&[x1, x0, y1, y0]);
-    HEAD + 4
+    RECTANGLE_HEAD_LEN + 4
 }
 
 /// Writes pixel values in an encoding and a form, where that has fewer bytes than Raw.
@@ -94,11 +91,11 @@ fn write_encoded(
         &style.format,
         pixels,
     );
-    let (head, rest) = out.split_at_mut(HEAD);
+    let (head, rest) = out.split_at_mut(RECTANGLE_HEAD_LEN);
     let (data, _) = rest.split_at_mut(4 * count);
     let len = encode(style.runs, kind, pixels, area, &style.format, data)?;
     write_rectangle_head(area, kind.number(), head);
-    Some(HEAD + len)
+    Some(RECTANGLE_HEAD_LEN + len)
 }
 
 /// Writes a rectangle in Raw (RFC 6143, 7.7.1).
@@ -109,12 +106,12 @@ fn write_raw(cut: &Cut, area: &Rect, format: &Format, out: &mut [u8]) -> usize
     ensures room { result ≤ 12 + 4 * (area.now.w * area.now.h) }
 {
     let len = format.bytes() * (area.w * area.h) as usize;
-    let (head, data) = out.split_at_mut(HEAD);
+    let (head, data) = out.split_at_mut(RECTANGLE_HEAD_LEN);
     let (rows, _) = data.split_at_mut(len);
     write_rectangle_head(area, Encoding::Raw.number(), head);
     let (width, height) = (cut.width as usize, cut.height as usize);
     write_rows(cut.colours.as_slice(), width, height, area, format, rows);
-    HEAD + len
+    RECTANGLE_HEAD_LEN + len
 }
 
 /// Writes a CopyRect of the rectangle before, where it may be and there is one which the area repeats.

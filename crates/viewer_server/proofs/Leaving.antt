@@ -1,7 +1,7 @@
 -- A viewer leaves, input by input. `run_viewer` owes that its releases follow what passed.
 use Rattle.std.proofs.Common.{◌≡◌, Bool, true, false, List, [], ◌∷◌, ◌++◌, Option, None, Some, Ok, Err, inl, inr, refl, sym, ap, ◌∙◌, append_assoc, append-nil}
 use Rattle.std.specs.Prelude.{is_some}
-use Rattle.pixel_format.specs.declared.fault.Fault.{Fault}
+use Rattle.fault.specs.declared.kinds.Fault.{Fault}
 use Rattle.roles.specs.Allowed.{Input}
 use Rattle.viewer_server.specs.Steps.{Unpassed, Passes, Leaves}
 use Rattle.viewer_session.specs.Acts.{waiting_list}

@@ -3,7 +3,7 @@
 use Rattle.std.proofs.Common.{◌≡◌, ℕ, ◌+◌, ◌≤◌, ◌⊎◌, Bool, true, false, cond, List, [], ◌∷◌, ◌++◌, length, take, drop, None, inl, inr, refl, sym, ap, subst, ◌∙◌, arith, append-nil, length-append}
 use Rattle.std.specs.Prelude.{is_some}
 use Rattle.std.proofs.lemmas.List.{take-append-drop, drop-drop, length-take}
-use Rattle.pixel_format.specs.declared.fault.Fault.{Fault}
+use Rattle.fault.specs.declared.kinds.Fault.{Fault}
 use Rattle.viewer_session.specs.Viewer.{Setup, Viewer, after_byte, after_bytes}
 use Rattle.viewer_session.specs.Session.{State, Stands, StandsBut, FeedsUpTo, FeedsToFault, at_rest, with_marks}
 use Rattle.viewer_session.proofs.SessionLaws.{stands_input}

@@ -1,7 +1,7 @@
 -- A viewer was served, and has left. `run_viewer` owes both of the whole call.
 use Rattle.std.specs.Prelude.{is_some}
 use Rattle.std.proofs.Common.{◌≡◌, ℕ, ◌⊎◌, true, false, List, [], ◌∷◌, ◌++◌, Ok, Err, Result, inl, inr, sym, ap, subst, ◌∙◌, append_assoc}
-use Rattle.pixel_format.specs.declared.fault.Fault.{Fault}
+use Rattle.fault.specs.declared.kinds.Fault.{Fault}
 use Rattle.raster.specs.Update.{Update}
 use Rattle.roles.specs.Allowed.{Input, allowed}
 use Rattle.roles.specs.Held.{HeldStands, left_in}

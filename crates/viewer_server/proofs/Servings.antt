@@ -1,11 +1,11 @@
 -- Serving a viewer, act by act. `run_viewer` owes it of all acts together.
 use Rattle.std.proofs.Common.{◌≡◌, ℕ, ◌-◌, ◌<◌, ◌≤◌, ◌⊎◌, Bool, true, false, cond, List, [], ◌∷◌, ◌++◌, length, take, Option, Some, None, Result, Ok, Err, inl, inr, refl, sym, ap, subst, ◌∙◌, arith, append_assoc, append-nil, length-append, true≢false}
-use Rattle.std.specs.Prelude.{not, if◌then◌else◌, ◌&&◌, ◌||◌, ◌==◌, is_some, is_none, nat_lt, nat_le, unwrap_or, max}
+use Rattle.std.specs.Prelude.{if◌then◌else◌, ◌&&◌, ◌||◌, ◌==◌, is_some, is_none, nat_lt, nat_le, unwrap_or, max}
 use Rattle.std.proofs.Math.Seq.{take-add}
 use Rattle.std.proofs.lemmas.List.{take-append-le, length-take}
 use Rattle.std.proofs.lemmas.Bool.Decides.{nat_tests}
-use Rattle.pixel_format.specs.declared.fault.Fault.{Fault}
-use Rattle.pixel_format.specs.declared.fault.Fault.TheVariants.{LinkEnded, LinkFailed}
+use Rattle.fault.specs.declared.kinds.Fault.{Fault}
+use Rattle.fault.specs.declared.kinds.Fault.TheVariants.{LinkEnded, LinkFailed}
 use Rattle.byte_reading.specs.Reading.{Reading, Done, Faulty, Want, whole_of, fault_of}
 use Rattle.rfb_wire.specs.ClientMessage.{ClientMessage}
 use Rattle.raster.specs.declared.rect.Rect.{Rect}
@@ -627,7 +627,3 @@ clear_if box None w e (inr some) = absurd (true≢false (sym some ∙ ap is_some
 -- Where no input waits nothing is to be passed on.
 pub box_clear : (box : Unpassed) → is_some box.waiting ≡ false → WaitsIfLeft box → box ≡ all_passed
 box_clear box e k = clear_if box box.waiting refl e k
-
-pub is_not : (b : Bool) → not b ≡ true → b ≡ false
-is_not true e = absurd cc
-is_not false e = refl

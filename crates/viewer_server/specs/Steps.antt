@@ -1,7 +1,7 @@
 -- The steps of serving one viewer, on the way.
 use Rattle.std.specs.Prelude.{◌≡◌, ℕ, ◌≤◌, ◌<◌, ◌⊎◌, Bool, true, false, is_some, List, [], ◌∷◌, ◌++◌, length, take, drop, Option, Some, None, Result, Ok, Err}
-use Rattle.pixel_format.specs.declared.fault.Fault.{Fault}
-use Rattle.pixel_format.specs.declared.fault.Fault.TheVariants.{Gone}
+use Rattle.fault.specs.declared.kinds.Fault.{Fault}
+use Rattle.fault.specs.declared.kinds.Fault.TheVariants.{Gone}
 use Rattle.raster.specs.Update.{Update}
 use Rattle.roles.specs.Allowed.{Input}
 use Rattle.link.specs.declared.link.Took.{Took}

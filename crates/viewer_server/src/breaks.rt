@@ -3,7 +3,7 @@
 ghost use Rattle.std.specs.Prelude.{◌≡◌};
 ghost use Rattle.viewer_server.specs.declared.breaks.Break.TheVariants.{At};
 
-use pixel_format::Fault;
+use fault::Fault;
 
 /// Why serving breaks off, and what becomes of the viewer's input that isn't in the sink.
 #[derive(Drop)]

@@ -6,8 +6,8 @@ ghost use Rattle.viewer_session.specs.Session.{IsSameSession, fault_in};
 ghost use Rattle.viewer_server.specs.Steps.{FillsAs, Passes, Reads, all_passed};
 ghost use Rattle.viewer_session.specs.Acts.{waiting_list};
 
+use fault::Fault;
 use link::{Link, Took};
-use pixel_format::Fault;
 use roles::{Input, InputSink};
 use std::marker::Model;
 use viewer_session::Session;
@@ -38,7 +38,7 @@ impl Model for Inbox {
 }
 
 impl Inbox {
-    /// Nothing has come.
+    /// An empty inbox: no byte has come.
     pub(crate) fn new() -> Inbox
         ensures { result ≡ all_passed }
     {

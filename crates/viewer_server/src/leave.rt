@@ -6,8 +6,8 @@ ghost use Rattle.viewer_server.specs.Steps.{Leaves};
 ghost use Rattle.viewer_session.specs.Acts.{waiting_list};
 
 use crate::inbox::Inbox;
+use fault::Fault;
 use link::{Rest, StopFlag};
-use pixel_format::Fault;
 use roles::InputSink;
 use std::sync::Wait;
 use viewer_session::Session;

@@ -9,8 +9,8 @@ ghost use Rattle.viewer_server.specs.Steps.{GoesOn, HasServed, Hears, Offers, Sa
 
 use crate::breaks::Break;
 use crate::inbox::Inbox;
+use fault::Fault;
 use link::{Gave, Link, Rest, StopFlag, Took};
-use pixel_format::Fault;
 use reflect_core::ScreenSource;
 use roles::InputSink;
 use std::sync::Wait;
@@ -91,9 +91,9 @@ fn hear<L: Link>(link: &mut L, session: &mut Session, inbox: &mut Inbox) -> Resu
     }
 }
 
-/// Serves the viewer until the link ends or the flag is set: passes its input on, has a turn where nothing is unsent,
-/// gives what its session sends, and takes its bytes where no input waits. Where the sink is full it only rests, so
-/// that updates go on. Bytes are taken only where a turn was had or others are unsent.
+/// Serves the viewer until the link ends or the flag is set: passes on all of its input that has come, has a turn where
+/// nothing is unsent, gives what its session sends, and takes its bytes. Where the sink is full it only rests, so that
+/// updates go on. Bytes are taken only where a turn was had or others are unsent.
 pub(crate) fn serve<L: Link, S: ScreenSource, K: InputSink, F: StopFlag, Z: Rest, R: Wait>(
     rt: &R,
     link: &mut L,
@@ -116,12 +116,15 @@ pub(crate) fn serve<L: Link, S: ScreenSource, K: InputSink, F: StopFlag, Z: Rest
             return Ok(());
         }
         let is_full = relay(sink, session, inbox)?;
+        if !is_full && inbox.waits() {
+            continue;
+        }
         let is_offered = offer(source, session)?;
         say(link, session)?;
         if is_full {
             link.flush();
             rest.rest(rt);
-        } else if !inbox.waits() && (is_offered || !session.out().is_empty()) {
+        } else if is_offered || !session.out().is_empty() {
             let goes_on = hear(link, session, inbox)?;
             if !goes_on {
                 return Ok(());

@@ -3,7 +3,7 @@ use Rattle.std.proofs.Common.{◌≡◌, ℕ, Bool, true, false, List, refl}
 use Rattle.std.specs.Prelude.{◌==◌, ◌&&◌, not, slice_index, nat_le, if◌then◌else◌}
 use Rattle.byte_reading.specs.Reading.{Done, Gives, ◌>>=◌, byte, bytes, padding, u16, u32, times, unless}
 use Rattle.pixel_format.specs.PixelFormat.{IsAccepted, accepts, is_accepted, format_at}
-use Rattle.pixel_format.specs.declared.fault.Fault.TheVariants.{BadFormat}
+use Rattle.fault.specs.declared.kinds.Fault.TheVariants.{BadFormat}
 use Rattle.raster.specs.Encoding.{rect}
 use Rattle.rfb_wire.specs.ClientMessage.{ClientMessage, SetPixelFormat, SetEncodings, Ask, Key, Pointer, CutText, LostText, client_message, choice_of, flag, longest_text}
 use Rattle.byte_reading.proofs.ReadingLaws.{gives_bind, gives_if, gives_padding}

@@ -1,7 +1,7 @@
 -- A piece of a viewer's bytes is taken, message by message. `Session::feed` stops where an input waits.
 use Rattle.std.proofs.Common.{◌≡◌, ℕ, Bool, true, false, List, [], ◌∷◌, ◌++◌, drop, Option, Some, None, Err, refl, sym, ap, subst, ◌∙◌, append_assoc, append-nil, inl, inr, ◌⊎◌}
 use Rattle.std.specs.Prelude.{if◌then◌else◌, is_some, option_map}
-use Rattle.pixel_format.specs.declared.fault.Fault.{Fault}
+use Rattle.fault.specs.declared.kinds.Fault.{Fault}
 use Rattle.byte_reading.specs.Reading.{Reading, Done, Faulty, Want, Gives, after, taken, whole_of, fault_of, wants_more, renewed}
 use Rattle.byte_reading.proofs.ReadingLaws.{after-faulty}
 use Rattle.rfb_wire.specs.ClientMessage.{ClientMessage, without_text}

@@ -1,7 +1,7 @@
 -- What a viewer's bytes make of it, message by message. A session keeps it by its fields.
 use Rattle.std.proofs.Common.{◌≡◌, ℕ, ◌<◌, ◌≤◌, Ok, true, List, [], ◌∷◌, length, drop, Option, Some, None, refl, sym, ap, ◌∙◌, arith, inl, inr}
 use Rattle.std.specs.Prelude.{option_map}
-use Rattle.pixel_format.specs.declared.fault.Fault.{Fault}
+use Rattle.fault.specs.declared.kinds.Fault.{Fault}
 use Rattle.byte_reading.specs.Reading.{Reading, Done, Faulty, Want, after, taken, fault_of, whole_of, wants_more, renewed, Feeds, GivesWhole}
 use Rattle.byte_reading.proofs.ReadingLaws.{after-done, after-faulty, taken-le, taken-some}
 use Rattle.rfb_wire.specs.ClientMessage.{ClientMessage, without_text}

@@ -1,7 +1,7 @@
 -- What a viewer's bytes make of what it is sent. What was said stays said.
 use Rattle.std.proofs.Common.{◌≡◌, ℕ, ◌+◌, Bool, true, false, List, [], ◌++◌, Option, Some, None, refl, ap, sym, ◌∙◌, append-nil, append_assoc}
 use Rattle.std.specs.Prelude.{is_some, if◌then◌else◌}
-use Rattle.pixel_format.specs.declared.fault.Fault.{Fault}
+use Rattle.fault.specs.declared.kinds.Fault.{Fault}
 use Rattle.byte_reading.specs.Reading.{Reading, Done, Faulty, Want, step, fault_of, wants_more}
 use Rattle.rfb_wire.specs.ClientMessage.{ClientMessage}
 use Rattle.rfb_wire.specs.Greeting.{Greeting}

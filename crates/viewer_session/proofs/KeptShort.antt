@@ -5,7 +5,7 @@ use Rattle.std.specs.Prelude.{◌==◌, not, nat_le, if◌then◌else◌}
 use Rattle.std.proofs.lemmas.Bool.Decides.{nat_tests}
 use Rattle.byte_reading.specs.Reading.{Reading, Done, ◌>>=◌, Gives, after, step, byte, bytes, padding, u16, u32, times, unless}
 use Rattle.pixel_format.specs.PixelFormat.{accepts, format_at}
-use Rattle.pixel_format.specs.declared.fault.Fault.TheVariants.{BadFormat}
+use Rattle.fault.specs.declared.kinds.Fault.TheVariants.{BadFormat}
 use Rattle.raster.specs.Encoding.{rect}
 use Rattle.rfb_wire.specs.ClientMessage.{ClientMessage, SetPixelFormat, SetEncodings, Ask, Key, Pointer, CutText, LostText, client_message, choice_of, flag, longest_text, without_text}
 use Rattle.byte_reading.proofs.ReadingLaws.{gives_bind, gives_bytes, gives_if, gives_padding, gives_step, gives_then}

@@ -1,6 +1,6 @@
 -- What a session keeps, and which viewers it stands for.
 use Rattle.std.specs.Prelude.{◌≡◌, ℕ, ◌+◌, ◌≤◌, Bool, true, false, max, ◌&&◌, ◌||◌, ◌==◌, ◌<◌, ◌⊎◌, ◌++◌, nat_le, nat_lt, if◌then◌else◌, is_some, is_none, unwrap_or, List, [], ◌∷◌, length, drop, take, Option, Some, None, Ok}
-use Rattle.pixel_format.specs.declared.fault.Fault.{Fault}
+use Rattle.fault.specs.declared.kinds.Fault.{Fault}
 use Rattle.pixel_format.specs.PixelFormat.{PixelFormat}
 use Rattle.byte_reading.specs.Reading.{Reading, Done, whole_of, fault_of, wants_more, Gives, GivesWhole}
 use Rattle.raster.specs.Size.{IsScreenSize}

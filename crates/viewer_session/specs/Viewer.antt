@@ -1,6 +1,6 @@
 -- A viewer as a session keeps it: its hello, the messages in its bytes, and what it is sent (RFC 6143, 7.1 to 7.6).
 use Rattle.std.specs.Prelude.{ℕ, ◌+◌, Bool, ◌&&◌, nat_le, if◌then◌else◌, is_some, is_none, List, [], ◌∷◌, ◌++◌, length, Option, Some, None}
-use Rattle.pixel_format.specs.declared.fault.Fault.{Fault}
+use Rattle.fault.specs.declared.kinds.Fault.{Fault}
 use Rattle.byte_reading.specs.Reading.{Reading, Done, Faulty, Want, step, fault_of, whole_of, wants_more}
 use Rattle.raster.specs.Update.{Update}
 use Rattle.joined_runs.specs.declared.runs.Runs.{Runs}

@@ -21,7 +21,7 @@ pub struct Coming {
 }
 
 impl Coming {
-    /// Nothing comes.
+    /// Nothing comes after the piece.
     pub fn nothing() -> Self
         ensures { result ≡ record { text = false; head = false; answer = None } }
     {

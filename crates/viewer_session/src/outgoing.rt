@@ -1,7 +1,7 @@
 //! What a session sends: a cut of the source, and what of it waits to be sent, piece by piece.
 
 ghost use Rattle.std.specs.Prelude.{◌≡◌, ℕ, ◌+◌, ◌*◌, ◌≤◌, Bool, true, if◌then◌else◌, is_some, [], ◌++◌, drop, length, IfOk, IfErr, IfSome};
-ghost use Rattle.pixel_format.specs.declared.fault.Fault.TheVariants.{Memory, Gone};
+ghost use Rattle.fault.specs.declared.kinds.Fault.TheVariants.{Memory, Gone};
 ghost use Rattle.raster.specs.Screen.{IsWithin};
 ghost use Rattle.raster.specs.Size.{IsScreenSize};
 ghost use Rattle.reflect_core.specs.Sequential.{Begins};
@@ -12,19 +12,14 @@ ghost use Rattle.viewer_session.specs.Outgoing.{answer_coming, longest_piece, te
 
 use crate::coming::Coming;
 use crate::piece::Piece;
-use pixel_format::{Fault, LONGEST_TEXT};
+use fault::{Fault, LONGEST_TEXT};
 use raster::{Rect, TILE_SIDE};
 use reflect_core::{Cut, ScreenSource};
+use rfb_wire::{RECTANGLE_HEAD_LEN, TEXT_HEAD_LEN};
 use std::alloc::Global;
 use std::marker::Model;
 use tiles::Have;
 use update_encoder::Answer;
-
-/// How many bytes a text's message has before the text (RFC 6143, 7.6.4).
-const TEXT_HEAD: usize = 8;
-
-/// How many bytes the header of a rectangle has (RFC 6143, 7.6.1).
-const RECTANGLE_HEAD: usize = 12;
 
 /// How many bytes a pixel of the widest format has (RFC 6143, 7.4).
 const WIDEST_PIXEL: usize = 4;
@@ -163,6 +158,6 @@ fn room_for(width: u64) -> usize
     requires { width ≤ 4096 }
     ensures { result ≡ longest_piece width }
 {
-    let longest_text = TEXT_HEAD + LONGEST_TEXT as usize;
-    longest_text.max(RECTANGLE_HEAD + WIDEST_PIXEL * (TILE_SIDE * width) as usize)
+    let longest_text = TEXT_HEAD_LEN + LONGEST_TEXT as usize;
+    longest_text.max(RECTANGLE_HEAD_LEN + WIDEST_PIXEL * (TILE_SIDE * width) as usize)
 }

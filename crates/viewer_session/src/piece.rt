@@ -1,13 +1,13 @@
 //! A piece of the bytes that wait to be sent.
 
 ghost use Rattle.std.specs.Prelude.{◌≡◌, ℕ, ◌+◌, ◌-◌, ◌*◌, ◌≤◌, ◌^◌, ◌<◌, [], ◌++◌, drop, length, IfOk, IfErr};
-ghost use Rattle.pixel_format.specs.declared.fault.Fault.TheVariants.{Memory};
-ghost use Rattle.pixel_format.specs.declared.limits.TheConstants.{LONGEST_TEXT};
+ghost use Rattle.fault.specs.declared.kinds.Fault.TheVariants.{Memory};
+ghost use Rattle.fault.specs.declared.limits.TheConstants.{LONGEST_TEXT};
 ghost use Rattle.raster.specs.declared.tile.TheConstants.{TILE_SIDE};
 ghost use Rattle.rfb_wire.specs.Writing.{bell_bytes, server_text_bytes, update_head_bytes};
 ghost use Rattle.update_encoder.specs.Coming.{AnswerStands, coming};
 
-use pixel_format::Fault;
+use fault::Fault;
 use reflect_core::Cut;
 use rfb_wire::{write_bell, write_server_text, write_update_head};
 use std::alloc::Global;

@@ -1,7 +1,7 @@
 //! One viewer's session: how it begins, and what it shows.
 
 ghost use Rattle.std.specs.Prelude.{◌≡◌, ◌+◌, ◌≤◌, ◌↔◌, Bool, IsTrue, ◌++◌, ◌∷◌, true, false, [], drop, length, is_some, option_map, IfOk, IfErr, MatchOption, None};
-ghost use Rattle.pixel_format.specs.declared.fault.Fault.TheVariants.{Memory};
+ghost use Rattle.fault.specs.declared.kinds.Fault.TheVariants.{Memory};
 ghost use Rattle.byte_reading.specs.Reading.{fault_of};
 ghost use Rattle.raster.specs.Size.{IsScreenSize};
 ghost use Rattle.rfb_wire.specs.ClientReader.{ahead};
@@ -16,8 +16,9 @@ mod reading;
 mod turning;
 
 use crate::outgoing::Outgoing;
+use fault::Fault;
 use joined_runs::Runs;
-use pixel_format::{Fault, Format};
+use pixel_format::Format;
 use raster::Encoding;
 pub use reading::Fed;
 use reflect_core::Asked;

@@ -4,6 +4,7 @@ use Rattle.std.proofs.Math.Logic.{∥∥₁_map, ∥∥₁_elim, ∥∥₁_prop}
 use Rattle.std.proofs.lemmas.Grind.{common_steps}
 use Rattle.std.proofs.lemmas.List.Elements.{All-nil, All-cons, All-append}
 use Rattle.std.specs.Prelude.{slice_index_or, bytes_eq, codes}
+use Rattle.std.specs.Arc.{arc_value}
 use denote.Ref.{Bor}
 use Rattle.http.specs.Request.{head_of}
 use Rattle.http.specs.Uri.{uri_path}
@@ -60,7 +61,7 @@ chosen false x y nx ny e = ny e
 
 path_status : (site : Site) (path : List ℕ) → (path_reply site path).status ≡ 101 → ⊥
 path_status site path =
-    chosen (bytes_eq path (codes "/")) (landing_reply site.landing) (file_reply (file_at site.files path)) (landing_status site.landing) (file_status (file_at site.files path))
+    chosen (bytes_eq path (codes "/")) (landing_reply site.landing) (file_reply (file_at (arc_value site.files) path)) (landing_status site.landing) (file_status (file_at (arc_value site.files) path))
 
 plain_status : (site : Site) (head : Parts) → (plain_reply site head).status ≡ 101 → ⊥
 plain_status site head =

@@ -1,5 +1,6 @@
 -- What a request is answered with.
 use Rattle.std.specs.Prelude.{◌≡◌, ◌↔◌, ℕ, Bool, true, false, ◌||◌, List, [], ◌∷◌, ◌++◌, codes, bytes_eq, if◌then◌else◌, Option, None, Some, IfSome}
+use Rattle.std.specs.Arc.{arc_value}
 use Rattle.http.specs.FieldValue.{FieldValue}
 use Rattle.http.specs.HeaderMap.{get_all}
 use Rattle.http.specs.Uri.{uri_path}
@@ -50,7 +51,7 @@ landing_reply (Page body) = record { status = 200; own = (codes "content-type", 
 landing_reply (There location) = record { status = 302; own = (codes "location", location.bytes) ∷ []; body = [] }
 
 abbrev pub path_reply : Site → List ℕ → Reply
-path_reply site path = if bytes_eq path (codes "/") then landing_reply site.landing else file_reply (file_at site.files path)
+path_reply site path = if bytes_eq path (codes "/") then landing_reply site.landing else file_reply (file_at (arc_value site.files) path)
 
 -- GET and HEAD read a path; other methods are answered with 405.
 abbrev pub reads : List ℕ → Bool

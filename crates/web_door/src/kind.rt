@@ -7,27 +7,27 @@ ghost use Rattle.web_door.specs.Kinds.{kind_by_name, content_type};
 /// What a file is.
 #[derive(Clone, Copy, Debug, PartialEq, Eq)]
 pub enum Kind {
-    /// A page.
+    /// An HTML page.
     Html,
-    /// A script.
+    /// A JavaScript file.
     Script,
     /// A style sheet.
     Style,
     /// Settings, or words of another language.
     Json,
-    /// A picture in lines.
+    /// A picture in the format SVG.
     Svg,
-    /// A picture.
+    /// A picture in the format PNG.
     Png,
-    /// A page's sign.
+    /// The icon that a browser shows beside the name of a page.
     Icon,
-    /// A sound.
+    /// A sound in the format MP3.
     Mp3,
-    /// A sound.
+    /// A sound in the format Ogg.
     Ogg,
-    /// Letters.
+    /// A font in the format WOFF.
     Woff,
-    /// Letters.
+    /// A font in the format TrueType.
     TrueType,
 }
 

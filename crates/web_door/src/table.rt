@@ -14,14 +14,14 @@ pub const MOST_FILES: usize = 2_000;
 /// Its files have at most this many bytes together: 16 MiB.
 pub const MOST_BYTES: usize = 16_777_216;
 
-/// A file.
+/// A file that is served under one path.
 #[derive(Drop)]
 pub struct WebFile {
     /// Its path in a request, from the slash on.
     pub path: String,
-    /// What it is.
+    /// The kind of the file, by which its Content-Type is chosen.
     pub kind: Kind,
-    /// Its bytes.
+    /// The bytes of the file.
     pub body: Bytes,
 }
 
@@ -68,7 +68,7 @@ impl FileTable {
     ghost use Rattle.web_door.specs.Kinds.{kind_by_name};
     ghost use Rattle.web_door.specs.Tables.{file_at, total, refusal, IsAdded, met};
 
-    /// No file.
+    /// A table without a file.
     pub fn new(alloc: Global) -> FileTable
         ensures { result ≡ [] }
     {
@@ -78,7 +78,7 @@ impl FileTable {
         }
     }
 
-    /// Its files.
+    /// The files of the table, in the order in which they were added.
     pub fn files(&self) -> &[WebFile]
         ensures files { result.now ≡ self.now }
         ensures few { length self.now ≤ MOST_FILES }

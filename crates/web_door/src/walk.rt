@@ -5,7 +5,7 @@
 pub enum Found {
     /// A regular file of this many bytes.
     File(usize),
-    /// Another folder.
+    /// A folder, which is walked in its turn.
     Folder,
     /// Something else, as a symbolic link or a device.
     Other,

@@ -8,7 +8,7 @@ use link::{Gave, Link, Took};
 pub enum AnyLink<A: Link, B: Link> {
     /// Over a stream as it is.
     Plain(A),
-    /// In messages.
+    /// In the binary messages of a WebSocket.
     Web(B),
 }
 

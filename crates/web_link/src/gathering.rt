@@ -2,8 +2,8 @@
 
 use crate::kept::Kept;
 use crate::web::WebLink;
+use fault::LIMIT;
 use link::{Gave, Link, Took};
-use pixel_format::LIMIT;
 use std::alloc::{AllocError, Global};
 use std::marker::Model;
 use told::Record;
@@ -11,9 +11,9 @@ use told::Record;
 /// How the link below was lost while kept bytes were given to it.
 #[derive(Clone, Copy)]
 enum Loss {
-    /// It ended.
+    /// The link below ended.
     Ended,
-    /// It failed.
+    /// The link below failed.
     Failed,
 }
 
@@ -91,7 +91,8 @@ impl<L: Link> GatheringLink<L> {
         let _ = &self.failures;
     }
 
-    fn fail(&mut self)
+    /// Counts one more failure: of the link below, or of whoever gives the link up.
+    pub fn fail(&mut self)
         ensures { self.new ≡ record self.old { own = with_failure self.old.own } }
     {
         self.failures = LIMIT.min(self.failures + 1);

@@ -3,8 +3,8 @@
 use crate::code::{NORMAL, code_of};
 use crate::saying::Saying;
 use crate::unsent::Unsent;
+use fault::LIMIT;
 use link::{Gave, Link, Took};
-use pixel_format::LIMIT;
 use std::marker::Model;
 use told::Record;
 use web_frames::{FrameReader, Place, binary_head, control_frame};

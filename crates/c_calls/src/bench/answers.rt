@@ -3,9 +3,10 @@
 ghost use Rattle.std.specs.Prelude.{◌≡◌, ◌+◌, ◌*◌, ◌≤◌, length, IfOk};
 ghost use Rattle.raster.specs.Size.{IsScreenSize};
 
+use fault::Fault;
 use joined_runs::Runs;
 use painter::{Board, Painter};
-use pixel_format::{Fault, Format};
+use pixel_format::Format;
 use raster::{Encoding, Rect};
 use reflect_core::Cut;
 use rfb_wire::Choice;

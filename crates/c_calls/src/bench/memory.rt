@@ -2,8 +2,8 @@
 
 ghost use Rattle.std.specs.Prelude.{◌≡◌, ◌≤◌, true};
 
+use fault::Fault;
 use joined_runs::Runs;
-use pixel_format::Fault;
 use reflect_core::PlainScreen;
 use roles::Role;
 use std::alloc::Global;

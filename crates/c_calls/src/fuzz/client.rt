@@ -2,7 +2,7 @@
 
 use crate::fuzz::pieces::Pieces;
 use crate::fuzz::report::Report;
-use pixel_format::Fault;
+use fault::Fault;
 use rfb_wire::{ClientMessage, ClientReader};
 use std::alloc::Global;
 

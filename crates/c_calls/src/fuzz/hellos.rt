@@ -2,7 +2,7 @@
 
 use crate::fuzz::pieces::Pieces;
 use crate::fuzz::report::Report;
-use pixel_format::Fault;
+use fault::Fault;
 use rfb_wire::{HostHello, ViewerHello};
 
 /// Writes down what there is to say to the viewer: it is said.

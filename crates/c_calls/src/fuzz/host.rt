@@ -4,9 +4,9 @@ ghost use Rattle.host_decoder.specs.Decoder.{IsFor};
 
 use crate::fuzz::pieces::Pieces;
 use crate::fuzz::report::Report;
+use fault::{Fault, LIMIT};
 use host_decoder::{HostEvent, HostScreen};
 use painter::{Board, Patch};
-use pixel_format::{Fault, LIMIT};
 use std::alloc::Global;
 
 /// Applies a patch of the board's size, and answers whether it is.

@@ -1,6 +1,6 @@
 //! What is written down of a stream.
 
-use pixel_format::Fault;
+use fault::Fault;
 
 /// Bytes that are written one after the other, as far as they have room.
 #[derive(Drop)]
@@ -28,7 +28,7 @@ impl<'a> Report<'a> {
         }
     }
 
-    /// Writes bytes.
+    /// Writes these bytes, in order.
     pub fn bytes(&mut self, bytes: &[u8]) {
         for byte in bytes {
             self.byte(*byte);

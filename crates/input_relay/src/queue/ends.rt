@@ -1,7 +1,7 @@
 //! What the ends of the relay do.
 
 ghost use Rattle.std.specs.Prelude.{◌≡◌, ◌+◌, ◌<◌, ◌≤◌, [], ◌∷◌, ◌++◌, map, length, vec_len, List, IfOk, OnOk, IfErr, IfSome, IfNone, All};
-ghost use Rattle.pixel_format.specs.declared.fault.Fault.TheVariants.{Memory};
+ghost use Rattle.fault.specs.declared.kinds.Fault.TheVariants.{Memory};
 ghost use Rattle.std.specs.Arc.{arc_value};
 ghost use Rattle.crossbeam_queue.specs.Passes.{view, IsPassOf};
 ghost use Rattle.input_relay.specs.Relay.{message, strand, taker, Accounted};
@@ -10,7 +10,7 @@ ghost use Rattle.input_relay.specs.Ends.{place_of, sent_of, relay_of, taken_of, 
 
 use super::{Back, Line, MOST, Message, ROOM, Seats, Sender, Sent, Settled, Taken, Taker, View};
 use crossbeam_queue::Pass;
-use pixel_format::Fault;
+use fault::Fault;
 use roles::Input;
 use std::alloc::Global;
 use std::sync::{Arc, Wait};

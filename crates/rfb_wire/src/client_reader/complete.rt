@@ -18,12 +18,13 @@ use crate::message_type::{
     SET_PIXEL_FORMAT,
 };
 use crate::text::Text;
-use pixel_format::{Fault, Format, LONGEST_TEXT};
+use fault::{Fault, LONGEST_TEXT};
+use pixel_format::Format;
 use raster::Rect;
 use std::alloc::Global;
 
 /// How reading goes on after a part that has these bytes.
-pub fn complete(alloc: Global, part: Part, b: &[u8]) -> State
+pub(crate) fn complete(alloc: Global, part: Part, b: &[u8]) -> State
     requires { length b.now ≡ len_of part }
     ensures { ahead result ≡ after (form_of part) b.now }
 {

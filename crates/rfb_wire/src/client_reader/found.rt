@@ -10,20 +10,20 @@ use raster::{COPY_RECT, Encoding};
 /// What the numbers so far say (RFC 6143, 7.5.2 and 7.7): the first encoding of pixels that the reflector writes, and
 /// whether CopyRect is among them. The list itself is not kept.
 #[derive(Clone, Copy)]
-pub struct Found {
+pub(crate) struct Found {
     kind: Option<Encoding>,
     copy: bool,
 }
 
 impl Found {
     /// What is found in no numbers.
-    pub const NOTHING: Found = Found {
+    pub(crate) const NOTHING: Found = Found {
         kind: None,
         copy: false,
     };
 
     /// One more number. Of the encodings of pixels the first counts.
-    pub fn note(self, number: u32) -> Found
+    pub(crate) fn note(self, number: u32) -> Found
         ensures { (others : List ℕ) → choice_with result others ≡ choice_with self (number ∷ others) }
     {
         let kind = Encoding::of_number(number);
@@ -34,7 +34,7 @@ impl Found {
     }
 
     /// The choice, where no more numbers come.
-    pub fn choice(self) -> Choice
+    pub(crate) fn choice(self) -> Choice
         ensures { choice_in result ≡ choice_with self [] }
     {
         Choice {

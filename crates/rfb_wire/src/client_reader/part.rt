@@ -7,7 +7,7 @@ use crate::fields::FixedPart;
 
 /// What is read next, where the number of its bytes is known.
 #[derive(Clone, Copy)]
-pub enum Part {
+pub(crate) enum Part {
     /// The type of a message.
     Kind,
     /// Padding and a pixel format.

@@ -13,12 +13,12 @@ use crate::fields::{Fields, FixedPart};
 use crate::kept_text::KeptText;
 use crate::message::ClientMessage;
 use crate::skipped_bytes::SkippedBytes;
-use pixel_format::Fault;
+use fault::Fault;
 use std::alloc::Global;
 
 /// What has come of a message.
 #[derive(Drop)]
-pub enum State {
+pub(crate) enum State {
     /// Some fields of a fixed length.
     Fields(Fields<Part>),
     /// A part of a text that is kept.
@@ -85,14 +85,14 @@ fn skip(len: u32, bytes: &mut SkippedBytes, piece: &[u8]) -> (Option<State>, usi
 
 impl State {
     /// Nothing of a message.
-    pub fn start() -> State
+    pub(crate) fn start() -> State
         ensures { ahead result ≡ client_message }
     {
         State::Fields(Fields::of(Part::Kind))
     }
 
     /// A text of which this many bytes are left to be read past.
-    pub fn past(left: u32, len: u32) -> State
+    pub(crate) fn past(left: u32, len: u32) -> State
         ensures { ahead result ≡ passing left len }
     {
         if left == 0 {
@@ -103,7 +103,7 @@ impl State {
     }
 
     /// Whether nothing of a message has come.
-    pub fn is_start(&self) -> bool
+    pub(crate) fn is_start(&self) -> bool
         ensures value { IsTrue result ↔ IsOrLoses (ahead self.now) client_message }
         ensures begins { IsTrue result → ahead self.now ≡ client_message }
     {
@@ -114,7 +114,7 @@ impl State {
     }
 
     /// Whether another byte is wanted: neither is a message whole nor a fault shown.
-    pub fn wants_more(&self) -> bool
+    pub(crate) fn wants_more(&self) -> bool
         ensures value { result ≡ wants_more (ahead self.now) }
         ensures partial { result ≡ is_partial self.now }
     {
@@ -128,7 +128,7 @@ impl State {
     }
 
     /// The fault that is shown.
-    pub fn fault(&self) -> Option<Fault>
+    pub(crate) fn fault(&self) -> Option<Fault>
         ensures { result ≡ fault_of (ahead self.now) }
     {
         // A part shows none; `wants_more` is asked for the proof.
@@ -142,7 +142,7 @@ impl State {
     }
 
     /// Takes bytes from the front of a piece, and answers how many: all that its part or its text wants.
-    pub fn advance(&mut self, alloc: Global, piece: &[u8]) -> usize
+    pub(crate) fn advance(&mut self, alloc: Global, piece: &[u8]) -> usize
         requires wanted { wants_more (ahead self.old) ≡ true }
         requires some { 0 < length piece.now }
         ensures { UsesOrLoses (ahead self.old) (ahead self.new) piece.now result }
@@ -170,7 +170,7 @@ impl State {
     }
 
     /// Takes a piece, up to the end of a whole message, and answers how many bytes it used, or the fault.
-    pub fn feed(&mut self, alloc: Global, piece: &[u8]) -> Result<usize, Fault>
+    pub(crate) fn feed(&mut self, alloc: Global, piece: &[u8]) -> Result<usize, Fault>
         ensures { FeedsOrLoses (ahead self.old) (ahead self.new) piece.now result }
     {
         let mut used = 0;

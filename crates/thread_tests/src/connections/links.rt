@@ -1,12 +1,12 @@
 //! A viewer's link, and what is tried over it. One function owns the link, and lends it to each trial.
 
-use crate::connections::bells::{ends_each_wait, keeps_early_rings};
+use crate::connections::alarms::{ends_each_wait, keeps_early_rings};
 use crate::connections::sockets::{make_seat, pair};
 use crate::connections::viewers::{
     gives_a_long_answer, keeps_small_slices, passes_both_ways, sees_the_end, waits_for_a_viewer,
 };
 use link::Link;
-use serving::{Seat, TcpLink};
+use serving::{Seat, ViewerTcpLink};
 use std::alloc::Global;
 use std::io;
 use std::net::TcpStream;
@@ -81,7 +81,7 @@ fn is_right<R: Threads + Wait + Clock + Copy + Drop + Send + Sync>(
 ) -> io::Result<bool> {
     let seat = make_seat(net)?;
     let (far, near) = pair(net)?;
-    let mut link = TcpLink::new(rt, net.alloc(), near, &seat, 60)?;
+    let mut link = ViewerTcpLink::new(rt, net.alloc(), near, &seat, 60)?;
     plays(&rt, net.alloc(), trial, &seat, &mut link, far)
 }
 

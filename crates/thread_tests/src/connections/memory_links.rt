@@ -5,7 +5,7 @@ ghost use Rattle.std.specs.Prelude.{◌≡◌, [], IfOk};
 use crate::connections::memory_socket::{MemorySocket, Turn};
 use crate::connections::sockets::make_seat;
 use link::{Gave, Link, Took};
-use serving::{Bell, HostLink, JoiningLink, Parting, TcpLink};
+use serving::{Alarm, HostLink, JoiningLink, Parting, ViewerTcpLink};
 use std::alloc::Global;
 use std::io;
 use std::io::ErrorKind;
@@ -76,13 +76,16 @@ fn narrow(alloc: Global) -> io::Result<Vec<Turn>> {
 }
 
 /// Whether a flush leaves just so many bytes of the version sent.
-fn has_sent<R: Wait + Clock + Drop>(link: &mut TcpLink<R, MemorySocket>, count: usize) -> bool {
+fn has_sent<R: Wait + Clock + Drop>(
+    link: &mut ViewerTcpLink<R, MemorySocket>,
+    count: usize,
+) -> bool {
     link.flush();
     VERSION.get(..count) == Some(link.socket().sent.as_slice())
 }
 
 /// Whether the version that it was given in two slices, which are kept, goes out in turns.
-fn sends_in_turns<R: Wait + Clock + Drop>(link: &mut TcpLink<R, MemorySocket>) -> bool {
+fn sends_in_turns<R: Wait + Clock + Drop>(link: &mut ViewerTcpLink<R, MemorySocket>) -> bool {
     let gave = [link.give(b"RFB 003."), link.give(b"008\n")];
     let is_kept = gave == [Gave::Bytes(8), Gave::Bytes(4)] && link.socket().sent.is_empty();
     is_kept && has_sent(link, 3) && has_sent(link, 4) && has_sent(link, 12)
@@ -95,7 +98,7 @@ fn viewer_is_given_each_byte_in_order_once(rt: HostRuntime) -> Result<(), Fail> 
     let alloc = rt.alloc();
     let seat = make_seat(&rt)?;
     let below = socket(alloc, b"", narrow(alloc)?, Vec::new(alloc))?;
-    let mut link = TcpLink::over(&rt, alloc, below, &seat)?;
+    let mut link = ViewerTcpLink::over(&rt, alloc, below, &seat)?;
     let bytes = large();
     let is_right = sends_in_turns(&mut link) && gives_all(&mut link, &bytes);
     assert!(rt; is_right);
@@ -108,7 +111,7 @@ fn viewer_is_given_each_byte_in_order_once(rt: HostRuntime) -> Result<(), Fail> 
 /// Whether a large slice that is given goes out behind what is kept, in turns: some of what is kept, the rest of it, and
 /// ten bytes of the slice.
 fn sends_behind<R: Wait + Clock + Drop>(
-    link: &mut TcpLink<R, MemorySocket>,
+    link: &mut ViewerTcpLink<R, MemorySocket>,
     bytes: &[u8; LARGE],
 ) -> bool {
     let is_kept = link.give(VERSION) == Gave::Bytes(12);
@@ -126,7 +129,7 @@ fn large_slice_goes_out_with_what_is_kept(rt: HostRuntime) -> Result<(), Fail> {
     let sends = vec![in alloc; Turn::AtMost(5), Turn::AtMost(7), Turn::AtMost(10)]?;
     let seat = make_seat(&rt)?;
     let below = socket(alloc, b"", sends, Vec::new(alloc))?;
-    let mut link = TcpLink::over(&rt, alloc, below, &seat)?;
+    let mut link = ViewerTcpLink::over(&rt, alloc, below, &seat)?;
     let bytes = large();
     let is_sent = sends_behind(&mut link, &bytes);
     let (first, rest) = bytes.split_at(10);
@@ -165,7 +168,7 @@ fn viewer_is_taken_each_byte_in_order_once(rt: HostRuntime) -> Result<(), Fail> 
     ]?;
     let seat = make_seat(&rt)?;
     let below = socket(alloc, HELLO, Vec::new(alloc), receives)?;
-    let mut link = TcpLink::over(&rt, alloc, below, &seat)?;
+    let mut link = ViewerTcpLink::over(&rt, alloc, below, &seat)?;
     // So that the take that finds nothing doesn't wait.
     seat.ring();
     let is_begun = brings(&mut link, b"RFB 0") && answers(&mut link, Took::Nothing);
@@ -222,11 +225,11 @@ fn viewers_link_says_how_it_stands(rt: HostRuntime) -> Result<(), Fail> {
     for (kind, parting) in PARTINGS {
         let turns = vec![in alloc; Turn::Fails(kind)]?;
         let below = socket(alloc, HELLO, Vec::new(alloc), turns)?;
-        let mut read = TcpLink::over(&rt, alloc, below, &seat)?;
+        let mut read = ViewerTcpLink::over(&rt, alloc, below, &seat)?;
         let is_told = answers(&mut read, Took::Failed) && read.parting() == parting;
         let turns = vec![in alloc; Turn::Fails(kind)]?;
         let below = socket(alloc, HELLO, turns, Vec::new(alloc))?;
-        let mut written = TcpLink::over(&rt, alloc, below, &seat)?;
+        let mut written = ViewerTcpLink::over(&rt, alloc, below, &seat)?;
         let is_kept = written.give(VERSION) == Gave::Bytes(12);
         written.flush();
         assert!(rt; is_told && is_kept && written.parting() == parting);

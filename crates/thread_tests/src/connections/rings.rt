@@ -1,27 +1,27 @@
 //! What rings after each step.
 
 ghost use Rattle.std.specs.Prelude.{◌≡◌, [], IfOk};
-ghost use Rattle.pixel_format.specs.declared.fault.Fault.TheVariants.{QueueFull};
+ghost use Rattle.fault.specs.declared.kinds.Fault.TheVariants.{QueueFull};
 
+use fault::Fault;
 use input_relay::{Sender, Taker, relay};
 use link::Rest;
 use painter::Patch;
-use pixel_format::Fault;
 use reflect_core::{PlainScreen, Puts};
 use roles::{Input, InputSink};
-use serving::{Bell, Ringing, WriterSeat};
+use serving::{Alarm, Ringing, WriterSeat};
 use std::alloc::Global;
 use std::sync::atomic::{AtomicU64, Ordering};
 use std::sync::{Arc, Wait};
 use std::test::*;
 
-/// A bell that counts its rings.
+/// An alarm that counts its rings.
 #[derive(Drop)]
 struct Count {
     rings: AtomicU64,
 }
 
-impl Bell for Count {
+impl Alarm for Count {
     fn ring(&self) {
         let _ = self.rings.fetch_add(1, Ordering::SeqCst);
     }
@@ -54,24 +54,24 @@ fn press() -> Input {
 fn put_rings(alloc: Global) -> Result<(bool, u64), Fault> {
     let mut screen = Ringing {
         inner: PlainScreen::new(alloc, 2, 1)?,
-        bell: Count {
+        alarm: Count {
             rings: AtomicU64::new(0),
         },
     };
     let is_put = matches!(screen.put(Patch::bell(2, 1)), Ok(1));
-    Ok((is_put, screen.bell.rings.load(Ordering::SeqCst)))
+    Ok((is_put, screen.alarm.rings.load(Ordering::SeqCst)))
 }
 
 /// Whether an input is refused where the sink is full, and how often that rings.
 fn refusal_rings() -> (bool, u64) {
     let mut full = Ringing {
         inner: Full,
-        bell: Count {
+        alarm: Count {
             rings: AtomicU64::new(0),
         },
     };
     let is_refused = matches!(full.send(press()), Err((Fault::QueueFull, _)));
-    (is_refused, full.bell.rings.load(Ordering::SeqCst))
+    (is_refused, full.alarm.rings.load(Ordering::SeqCst))
 }
 
 /// An update that is put rings once, and an input that is refused rings nobody.
@@ -102,11 +102,11 @@ fn rings_and_relays<R: Wait + Drop, S: InputSink>(
 /// The same of a new relay of one place.
 fn send_rings<R: Wait + Copy + Drop>(rt: R, alloc: Global) -> Result<bool, Fault> {
     let writer = Arc::new(alloc, WriterSeat::new())?;
-    let bell = Arc::try_clone(&writer)?;
+    let alarm = Arc::try_clone(&writer)?;
     let (mut senders, mut taker) = relay(rt, alloc, 1)?;
     match senders.pop() {
         Some(inner) => {
-            let mut ringing = Ringing { inner, bell };
+            let mut ringing = Ringing { inner, alarm };
             Ok(rings_and_relays(&rt, &mut ringing, &mut taker, &writer))
         }
         None => Ok(false),

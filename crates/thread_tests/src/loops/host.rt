@@ -3,11 +3,11 @@
 ghost use Rattle.std.specs.Prelude.{◌≡◌};
 
 use crate::loops::watch::{ALWAYS, link_of, number};
+use fault::Fault;
 use host_decoder::HostDecoder;
 use host_reader::run_host;
 use link::Took;
 use painter::{Painter, Patch};
-use pixel_format::Fault;
 use raster::Rect;
 use reflect_core::{Cut, PlainScreen, Puts, ScreenSource};
 use std::alloc::Global;

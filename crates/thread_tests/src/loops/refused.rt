@@ -1,14 +1,14 @@
 //! A sink that refuses an input of a viewer for good.
 
 ghost use Rattle.std.specs.Prelude.{◌≡◌, ◌⊎◌};
-ghost use Rattle.pixel_format.specs.declared.fault.Fault.TheVariants.{QueueFull, NumbersOut};
+ghost use Rattle.fault.specs.declared.kinds.Fault.TheVariants.{QueueFull, NumbersOut};
 ghost use Rattle.input_relay.specs.Ends.{inputs_of};
 
 use crate::loops::watch::{ALWAYS, link_of, make_watch, red_and_blue};
+use fault::Fault;
 use input_relay::{Sender, relay};
 use joined_runs::Runs;
 use link::Took;
-use pixel_format::Fault;
 use roles::{Input, InputSink, Role};
 use std::sync::Wait;
 use std::test::Fail;

@@ -1,14 +1,14 @@
 //! What a viewer is given, and what of its input is relayed.
 
 ghost use Rattle.std.specs.Prelude.{◌≡◌, ◌⊎◌};
-ghost use Rattle.pixel_format.specs.declared.fault.Fault.TheVariants.{QueueFull, NumbersOut};
+ghost use Rattle.fault.specs.declared.kinds.Fault.TheVariants.{QueueFull, NumbersOut};
 ghost use Rattle.input_relay.specs.Ends.{inputs_of};
 
 use crate::loops::watch::{ALWAYS, link_of, make_watch, number, red_and_blue};
+use fault::Fault;
 use input_relay::{Sender, Taker, relay};
 use joined_runs::Runs;
 use link::{Gave, MemoryLink, Took};
-use pixel_format::Fault;
 use roles::{Input, InputSink, Role};
 use std::alloc::Global;
 use std::sync::Wait;

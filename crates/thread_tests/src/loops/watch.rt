@@ -2,9 +2,9 @@
 
 ghost use Rattle.std.specs.Prelude.{◌≡◌, IfOk};
 
+use fault::Fault;
 use link::{Gave, MemoryLink, Rest, StopFlag, Took};
 use painter::Painter;
-use pixel_format::Fault;
 use raster::Rect;
 use reflect_core::{PlainScreen, Puts};
 use std::alloc::Global;

@@ -3,10 +3,10 @@
 ghost use Rattle.std.specs.Prelude.{◌≡◌, length};
 
 use crate::loops::watch::{ALWAYS, Watch, link_of, make_watch, number, red_and_blue};
+use fault::Fault;
 use host_writer::run_writer;
 use input_relay::{Sender, Taker, relay};
 use link::{Gave, MemoryLink};
-use pixel_format::Fault;
 use raster::Rect;
 use reflect_core::{Cut, PlainScreen, ScreenSource};
 use rfb_wire::Text;

@@ -1,7 +1,7 @@
 //! What the peers of a run know of one another.
 
 use crate::runs::sight::View;
-use pixel_format::Fault;
+use fault::Fault;
 use std::alloc::Global;
 use std::sync::Arc;
 use std::sync::atomic::{AtomicU64, Ordering};

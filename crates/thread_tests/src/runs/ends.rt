@@ -10,18 +10,18 @@ use crate::runs::queue::Queue;
 use crate::runs::sight::View;
 use crate::runs::wire::Wire;
 use arrayvec::ArrayVec;
+use fault::Fault;
 use host_turns::Hosts;
 use input_relay::settle;
 use joined_runs::Runs;
 use link::Link;
-use pixel_format::Fault;
 use raster::Rect;
 use reflect_core::{Cut, ScreenSource};
 use reflector::{Place, Running, join_place, run_all};
 use rfb_wire::Joined;
 use roles::Role;
 use screen_pair::Publishes;
-use serving::{Door, NoBell};
+use serving::{Door, NoAlarm};
 use shared_screen::{Publisher, Watcher};
 use std::alloc::Global;
 use std::marker::Brand;
@@ -163,8 +163,8 @@ where
 {
     let mut name = ArrayVec::new();
     name.push(b'T');
-    let everyone = Arc::new(alloc, NoBell)?;
-    let bell = Arc::new(alloc, NoBell)?;
+    let everyone = Arc::new(alloc, NoAlarm)?;
+    let alarm = Arc::new(alloc, NoAlarm)?;
     let mut hosts = Queue {
         alloc,
         board: Arc::try_clone(board)?,
@@ -176,7 +176,7 @@ where
     let Some((reader, writer)) = Hosts::next(&mut hosts) else {
         return Ok(false);
     };
-    let running = run_all::<J, Wire, Queue, Queue, NoBell, NoBell, R>(
+    let running = run_all::<J, Wire, Queue, Queue, NoAlarm, NoAlarm, R>(
         rt,
         alloc,
         history,
@@ -191,7 +191,7 @@ where
         doors,
         Runs::Joined,
         everyone,
-        bell,
+        alarm,
     )?;
     ends(rt, alloc, running, course.view, &course.end)
 }

@@ -4,8 +4,8 @@ ghost use Rattle.std.specs.Prelude.{◌≡◌};
 ghost use Rattle.serving.specs.Answers.{unused};
 
 use crate::runs::peer::Peer;
+use fault::LIMIT;
 use link::{Gave, Link, Took};
-use pixel_format::LIMIT;
 use std::marker::Model;
 use told::Record;
 

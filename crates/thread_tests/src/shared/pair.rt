@@ -3,7 +3,7 @@
 ghost use Rattle.std.specs.Prelude.{◌≡◌, ◌≤◌};
 
 use crate::shared::puts::{ALL, Reads, Room, beside, puts_many};
-use pixel_format::Fault;
+use fault::Fault;
 use screen_pair::{Eye, PairWriter, Publishes, pair};
 use std::alloc::Global;
 use std::marker::Brand;
@@ -84,9 +84,9 @@ fn plays<J: Naming + Publishes + Send + Sync, R: Threads + Wait + Sync + Send + 
     requires places { (1 ≤ places) × (places ≤ 65) }
 {
     let mut room = Room::new(alloc)?;
-    let (roll, author) = opened.named();
-    let roll = Arc::new(alloc, roll)?;
-    let (raiser, _glance) = tally(&roll, author)?;
+    let (change_count, author) = opened.named();
+    let change_count = Arc::new(alloc, change_count)?;
+    let (raiser, _glance) = tally(&change_count, author)?;
     let (mut writer, mut eyes) = pair(rt, alloc, raiser, 4, 4, places)?;
     if is_short {
         puts_many(alloc, &mut writer, 5, true)

@@ -3,8 +3,8 @@
 ghost use Rattle.std.specs.Prelude.{◌≡◌, IfOk};
 ghost use Rattle.std.specs.Thread.{IsSync, IsSend};
 
+use fault::Fault;
 use painter::{Painter, Patch};
-use pixel_format::Fault;
 use raster::Rect;
 use reflect_core::{Cut, Puts};
 use std::alloc::Global;

@@ -3,7 +3,7 @@
 ghost use Rattle.std.specs.Prelude.{◌≡◌, ◌≤◌};
 
 use crate::shared::puts::{ALL, MANY, Reads, Room, beside, puts_many, puts_one};
-use pixel_format::Fault;
+use fault::Fault;
 use reflect_core::ScreenSource;
 use screen_pair::Publishes;
 use shared_screen::{Publisher, Watcher, shared};

@@ -10,7 +10,8 @@ ghost use Rattle.viewer_session.specs.Session.{Serves, Stands, IsSameSession, Is
 ghost use Rattle.viewer_session.specs.Viewer.{Setup, Viewer, after_byte};
 
 use super::{Session, say};
-use pixel_format::{Fault, Format, LONGEST_TEXT};
+use fault::{Fault, LONGEST_TEXT};
+use pixel_format::Format;
 use raster::Rect;
 use rfb_wire::{Choice, ClientMessage};
 use roles::Input;

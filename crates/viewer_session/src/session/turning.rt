@@ -1,7 +1,7 @@
 //! Turns: looks, cuts, and what they begin to send.
 
 ghost use Rattle.std.specs.Prelude.{◌≡◌, ◌<◌, not, ◌==◌, true, false, is_some, List, ◌∷◌, length, IfOk, IfErr, IfSome, Ok};
-ghost use Rattle.pixel_format.specs.declared.fault.Fault.TheVariants.{Gone};
+ghost use Rattle.fault.specs.declared.kinds.Fault.TheVariants.{Gone};
 ghost use Rattle.reflect_core.specs.Asked.{AskedStands, LiesOn};
 ghost use Rattle.reflect_core.specs.Sequential.{Begins};
 ghost use Rattle.tiles.specs.Have.{HaveStands};
@@ -13,7 +13,7 @@ ghost use Rattle.viewer_session.specs.Session.{HasOnlyLooked, IsSameViewer, is_r
 ghost use Rattle.viewer_session.specs.Turn.{update_part};
 
 use super::Session;
-use pixel_format::Fault;
+use fault::Fault;
 use raster::Rect;
 use reflect_core::{Cut, ScreenSource};
 use update_encoder::{Answer, Style};

@@ -14,5 +14,5 @@ returns-in-Ok-clause-ok g c =
     record {
       put = patch.update;
       added = c.in-Ok.ensures.ok.1;
-      same = at_size (λ v k. (start : Canvas) → AreSameUpdates v k start (switch v k ∷ []) (patch.update ∷ [])) black.width black.height c.args.ground.now.width c.args.ground.now.height size.0 size.1 c.in_ok-patch.ensures.same;
+      same = at_size (λ v k. (start : Canvas) → AreSameUpdates v k start (switch v k ∷ []) (patch.update ∷ [])) black.width black.height c.args.run_screen.now.width c.args.run_screen.now.height size.0 size.1 c.in_ok-patch.ensures.same;
     }

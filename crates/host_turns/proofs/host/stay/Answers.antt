@@ -12,7 +12,7 @@ pub read-answer-requires-clause-begins : goal.read-answer-requires-clause-begins
 read-answer-requires-clause-begins g c =
     let screen = c.args.screen in
     let size = c.requires.size in
-    at_size (λ v k. Decodes screen.decoder screen.painter opening (host_message v k)) c.args.ground.now.width c.args.ground.now.height screen.decoder.width screen.decoder.height (sym size.0) (sym size.1) c.requires.begins
+    at_size (λ v k. Decodes screen.decoder screen.painter opening (host_message v k)) c.args.run_screen.now.width c.args.run_screen.now.height screen.decoder.width screen.decoder.height (sym size.0) (sym size.1) c.requires.begins
 
 pub returns-clause-read : goal.returns-clause-read
 returns-clause-read g c =
@@ -24,6 +24,6 @@ returns-clause-read g c =
     let over = λ (link : LinkState). IsRead screen.decoder.width screen.decoder.height c.read-answer.result (state c.args.link) link (g.P.Puts.updates c.args.publisher.now) (g.P.Puts.updates c.read-answer.new.publisher) in (
       left,
       ap (map state) pushed ∙ map-append state c.args.links.now.items (c.left.new.reader ∷ []),
-      at_size (λ v k. IsRead v k c.read-answer.result (state c.args.link) left (g.P.Puts.updates c.args.publisher.now) (g.P.Puts.updates c.read-answer.new.publisher)) screen.decoder.width screen.decoder.height c.args.ground.now.width c.args.ground.now.height size.0 size.1
+      at_size (λ v k. IsRead v k c.read-answer.result (state c.args.link) left (g.P.Puts.updates c.args.publisher.now) (g.P.Puts.updates c.read-answer.new.publisher)) screen.decoder.width screen.decoder.height c.args.run_screen.now.width c.args.run_screen.now.height size.0 size.1
           (subst over (sym c.left.ensures.link) c.read-answer.ensures.read),
     )

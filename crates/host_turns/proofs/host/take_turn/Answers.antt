@@ -22,7 +22,7 @@ returns-in-Err-clause-turn g c =
     let state = g.L.Link.state in
     record {
       turn = Missed c.in-Err.fault;
-      is = missed c.args.ground.now.width c.args.ground.now.height state g.H.Hosts.came c.args.ends.0 c.in-Err.fault _ c.requires.came c.in-Err.ensures.err;
+      is = missed c.args.run_screen.now.width c.args.run_screen.now.height state g.H.Hosts.came c.args.ends.0 c.in-Err.fault _ c.requires.came c.in-Err.ensures.err;
       answer = refl;
       handed = ap (map state) c.meet.ensures.links;
       put = c.in-Err.ensures.unput;

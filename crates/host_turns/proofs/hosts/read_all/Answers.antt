@@ -8,7 +8,7 @@ returns-clause-run g c =
     let state = g.L.Link.state in
     let read = c.stay-answer.ensures.read in
     let put = g.P.Puts.updates c.stay-answer.new.publisher in
-    let begun : HasRun c.args.ground.now.width c.args.ground.now.height (IsLinkOf state g.H.Hosts.came) c.stay-answer.result (state c.args.first) (map state c.stay-answer.new.links.items) (g.P.Puts.updates c.args.publisher.now) put = record {
+    let begun : HasRun c.args.run_screen.now.width c.args.run_screen.now.height (IsLinkOf state g.H.Hosts.came) c.stay-answer.result (state c.args.first) (map state c.stay-answer.new.links.items) (g.P.Puts.updates c.args.publisher.now) put = record {
       first = record { answer = c.stay-answer.result; joined = state c.args.first; left = read.0; put = put };
       begins = refl;
       read = read.2;

@@ -12,6 +12,6 @@ invariant-loop g l =
       wide : g.P.Puts.width l.publisher ≡ g.P.Puts.width l.fn.publisher;
       high : g.P.Puts.height l.publisher ≡ g.P.Puts.height l.fn.publisher;
       again : g.H.Hosts.again l.hosts ≡ g.H.Hosts.again l.fn.hosts;
-      run : (link : LinkState) (old : List Update) → HasRun l.fn.ground.width l.fn.ground.height (IsLinkOf g.L.Link.state g.H.Hosts.came) l.fn.answer link (map g.L.Link.state l.fn.links.items) old (g.P.Puts.updates l.fn.publisher)
-          → HasRun l.fn.ground.width l.fn.ground.height (IsLinkOf g.L.Link.state g.H.Hosts.came) l.last link (map g.L.Link.state l.links.items) old (g.P.Puts.updates l.publisher);
+      run : (link : LinkState) (old : List Update) → HasRun l.fn.run_screen.width l.fn.run_screen.height (IsLinkOf g.L.Link.state g.H.Hosts.came) l.fn.answer link (map g.L.Link.state l.fn.links.items) old (g.P.Puts.updates l.fn.publisher)
+          → HasRun l.fn.run_screen.width l.fn.run_screen.height (IsLinkOf g.L.Link.state g.H.Hosts.came) l.last link (map g.L.Link.state l.links.items) old (g.P.Puts.updates l.publisher);
     }

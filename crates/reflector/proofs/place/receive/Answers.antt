@@ -6,5 +6,5 @@ use Rattle.reflector.proofs.place.receive.Goals as goal
 
 pub returns-in-Ok : goal.returns-in-Ok
 returns-in-Ok g c =
-    let welcome = c.args.welcome.now in let s = setup_of welcome.width welcome.height welcome.name.items welcome.runs in
-    received_served g.S.ScreenSource.looks g.S.ScreenSource.cuts g.S.ScreenSource.may_end _ g.K.InputSink.may_refuse g.S.ScreenSource.known s welcome.role _ _ _ _ _ _ _ c.requires.fresh (c.run_viewer-why.ensures.serves s welcome.role true (c.in-Ok.ensures.stands s refl refl refl refl)) c.run_viewer-why.ensures.grows
+    let maker = c.args.maker.now in let s = setup_of maker.width maker.height maker.name.items maker.runs in
+    received_served g.S.ScreenSource.looks g.S.ScreenSource.cuts g.S.ScreenSource.may_end _ g.K.InputSink.may_refuse g.S.ScreenSource.known s maker.role _ _ _ _ _ _ _ c.requires.fresh (c.run_viewer-why.ensures.serves s maker.role true (c.in-Ok.ensures.stands s refl refl refl refl)) c.run_viewer-why.ensures.grows

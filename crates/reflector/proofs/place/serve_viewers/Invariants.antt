@@ -7,5 +7,5 @@ invariant-loop g l =
     (goal.iterator-loop g).can_next l.iterator' × (goal.iterator-loop g).is_finite l.iterator'
     × IsVisiting g.D.Door.lets_in g.D.Door.sees_off
     (λ source_old source_new sent_old sent_new why left. IsReceived g.S.ScreenSource.looks g.S.ScreenSource.cuts g.S.ScreenSource.may_end (g.F.StopFlag.was_set l.fn.stop) g.K.InputSink.may_refuse
-    g.S.ScreenSource.known (setup_of l.fn.welcome.width l.fn.welcome.height l.fn.welcome.name.items l.fn.welcome.runs) l.fn.welcome.role source_old source_new sent_old sent_new why left)
+    g.S.ScreenSource.known (setup_of l.fn.maker.width l.fn.maker.height l.fn.maker.name.items l.fn.maker.runs) l.fn.maker.role source_old source_new sent_old sent_new why left)
     (at l.fn.door l.fn.source (g.K.InputSink.sent l.fn.sink)) (at l.door l.source (g.K.InputSink.sent l.sink))

@@ -12,12 +12,12 @@ loop-sender-preserved g c =
     let watchers_here : 0 < length c.loop-sender.watchers.items = omega (arith, inv.watcher_count, gone) in
     let door = first_left _ _ _ doors_here c.remove-role.ensures.value c.remove-role.ensures.by_index.2 in
     let watcher = first_left _ _ _ watchers_here c.remove-watcher.ensures.value c.remove-watcher.ensures.by_index.2 in
-    let told = c.in_ok-welcome.ensures in let of = c.in_ok-place.ensures.welcome in let ends = c.in_ok-place.ensures.ends in
+    let told = c.in_ok-maker.ensures in let of = c.in_ok-place.ensures.maker in let ends = c.in_ok-place.ensures.ends in
     record {
       begun = rw c.in_ok-push.ensures.items (grown _ c.loop-sender.places.items c.in_ok-place.place c.in-Some.sender _ _ ends.2 (rw (← steps) inv.begun));
       doors = rw c.in_ok-push.ensures.items (grown_by _ c.loop-sender.places.items c.in_ok-place.place c.remove-role.result _ _ _ door (pair_of _ _ c.remove-role.result (of.0 ∙ told.named.0) ends.0) inv.doors);
       watchers = rw c.in_ok-push.ensures.items (grown_by _ c.loop-sender.places.items c.in_ok-place.place c.remove-watcher.result _ _ _ watcher ends.1 inv.watchers);
-      screen = rw c.in_ok-push.ensures.items (all_snoc (λ place. IsOfScreen c.args.joined.now.w c.args.joined.now.h c.args.joined.now.name c.args.crew.now.runs place.promise.width place.promise.height place.promise.name.value.items place.promise.runs) c.loop-sender.places.items c.in_ok-place.place inv.screen (rw (← c.joined.view_is) (of.1 ∙ told.size.0), rw (← c.joined.view_is) (of.2 ∙ told.size.1), rw (← c.joined.view_is) (of.3 ∙ (told.named.1 ∙ ap name_of c.as_slice-name.ensures.value)), of.4 ∙ told.formed));
+      screen = rw c.in_ok-push.ensures.items (all_snoc (λ place. IsOfScreen c.args.joined.now.w c.args.joined.now.h c.args.joined.now.name c.args.context.now.runs place.promise.width place.promise.height place.promise.name.value.items place.promise.runs) c.loop-sender.places.items c.in_ok-place.place inv.screen (rw (← c.joined.view_is) (of.1 ∙ told.size.0), rw (← c.joined.view_is) (of.2 ∙ told.size.1), rw (← c.joined.view_is) (of.3 ∙ (told.named.1 ∙ ap name_of c.as_slice-name.ensures.value)), of.4 ∙ told.formed));
       door_count = search rules;
       watcher_count = search rules;
     }

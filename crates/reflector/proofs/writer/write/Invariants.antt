@@ -8,4 +8,4 @@ use Rattle.reflector.proofs.writer.write.Given as goal
 abbrev pub invariant-loop : goal.invariant-loop
 invariant-loop g l =
     (goal.iterator-loop g).can_next l.iterator' × (goal.iterator-loop g).is_finite l.iterator' × (host_of l.taker ≡ host_of l.fn.taker)
-    × IsTelling g.S.ScreenSource.looks g.S.ScreenSource.width g.S.ScreenSource.height (desk (g.E.Errands.links l.fn.errands) l.fn.source (taken_of l.fn.taker) l.fn.strokes) (desk (g.E.Errands.links l.errands) l.source (taken_of l.taker) l.strokes)
+    × IsTelling g.S.ScreenSource.looks g.S.ScreenSource.width g.S.ScreenSource.height (desk (g.E.LinkTurns.links l.fn.turns) l.fn.source (taken_of l.fn.taker) l.fn.strokes) (desk (g.E.LinkTurns.links l.turns) l.source (taken_of l.taker) l.strokes)

@@ -1,12 +1,13 @@
-use Rattle.std.proofs.Common.{◌≡◌, ◌<◌, ◌⊎◌, true, false, length, inl, inr, refl, sym, ap, ◌∙◌}
+use Rattle.std.proofs.Common.{◌≡◌, ◌<◌, ◌⊎◌, true, false, length, inl, inr, refl, sym, ap, ◌∙◌, true≢false}
+use Rattle.std.specs.Prelude.{is_some}
 use Rattle.std.proofs.lemmas.Result.{err_from_is_err_and}
 use Rattle.link.specs.Links.{LinkState}
 use Rattle.viewer_session.proofs.Parts.{begins_same, begins_on}
 use Rattle.viewer_server.specs.Steps.{Unpassed}
 use Rattle.viewer_server.proofs.Saying.{some_bytes}
-use Rattle.viewer_server.proofs.Servings.{serving_begins, serving_still, serving_relayed, serving_offered, serving_said, serving_anew, serving_heard, served_stop, served_relay, served_gone, served_halt, served_hear, served_end, was_offered, waits_after, box_clear, is_not}
+use Rattle.viewer_server.proofs.Servings.{serving_begins, serving_still, serving_relayed, serving_offered, serving_said, serving_anew, serving_heard, served_stop, served_relay, served_gone, served_halt, served_hear, served_end, was_offered, waits_after, box_clear}
 use Rattle.viewer_server.proofs.serve.serve.Goals as goal
-use Rattle.viewer_server.proofs.serve.serve.Goals.{then-is_offered, else-is_offered}
+use Rattle.viewer_server.proofs.serve.serve.Goals.{then-is_offered-via-then-is_offered, then-is_offered-via-else-is_offered+then-not-is_empty, else-not-is_full-via-then-not-is_full+else-waits, else-not-is_full-via-else-not-is_full}
 
 pub loop-init : goal.loop-init
 loop-init g c = (
@@ -53,6 +54,23 @@ returns-in_err-say-clause-serves g c = λ s role greet k.
     rw (p.1, p.2)
     (served_halt g.S.ScreenSource.looks g.S.ScreenSource.cuts g.S.ScreenSource.may_end _ g.K.InputSink.may_refuse _ _ _ _ s _ _ _ _ _ _ _ _ (g.L.Link.state c.loop.link) _ said c.relay.ensures.left inv.failed inv.ended c.in_err-say.ensures.why)
 
+-- Another input waits: it is passed on in the next round.
+pub loop-preserved-then-waits : goal.loop-preserved-then-waits
+loop-preserved-then-waits g c =
+    let inv = c.loop.invariant.2 in (
+      tt,
+      tt,
+      record {
+        left = c.relay.ensures.left;
+        grows = inv.grows;
+        wide = inv.wide ∙ sym c.relay.ensures.same.width;
+        high = inv.high ∙ sym c.relay.ensures.same.height;
+        failed = inv.failed;
+        ended = inv.ended;
+        serving = λ s role greet k. serving_relayed g.S.ScreenSource.looks g.S.ScreenSource.cuts g.K.InputSink.may_refuse _ _ _ _ s _ _ _ _ _ c.in_ok-is_full.is_full _ _ _ _ _ (inv.serving s role greet k) c.relay.ensures.same c.in_ok-is_full.ensures.goes_on;
+      },
+    )
+
 pub loop-preserved-then-is_full : goal.loop-preserved-then-is_full
 loop-preserved-then-is_full g c =
     let inv = c.loop.invariant.2 in
@@ -77,31 +95,46 @@ loop-preserved-then-is_full g c =
 pub returns-in_err-goes_on-clause-serves : goal.returns-in_err-goes_on-clause-serves
 returns-in_err-goes_on-clause-serves g c = λ s role greet k.
     let inv = c.loop.invariant.2 in
+    let none : is_some c.relay.new.inbox.waiting ≡ false =
+    elim c.else-not-is_full.branch [
+      | else-not-is_full-via-then-not-is_full+else-waits w ↦ sym w.waits.ensures ∙ w.if-waits.false
+      | else-not-is_full-via-else-not-is_full w ↦ absurd (true≢false (sym w.if-not-is_full.false ∙ c.if-is_full.false))
+    ] in
     let p = err_from_is_err_and c.from_residual-in_err-goes_on.result c.from_residual-in_err-goes_on.ensures.1 in
     let relayed = serving_relayed g.S.ScreenSource.looks g.S.ScreenSource.cuts g.K.InputSink.may_refuse _ _ _ _ s _ _ _ _ _ c.in_ok-is_full.is_full _ _ _ _ _ (inv.serving s role greet k) c.relay.ensures.same c.in_ok-is_full.ensures.goes_on in
     let offered = serving_offered g.S.ScreenSource.looks g.S.ScreenSource.cuts g.S.ScreenSource.may_end _ _ _ _ _ _ _ s _ _ _ _ _ _ c.in_ok-is_offered.is_offered _ _ relayed c.offer.ensures.grows c.in_ok-is_offered.ensures.offers in
     let said = serving_said g.S.ScreenSource.looks g.S.ScreenSource.cuts _ _ _ _ s _ _ _ _ _ _ c.in_ok-is_offered.is_offered _ _ _ offered c.say.ensures.says in
     rw (p.1, p.2)
-    (served_hear g.S.ScreenSource.looks g.S.ScreenSource.cuts g.S.ScreenSource.may_end _ g.K.InputSink.may_refuse _ _ _ _ s _ _ _ _ _ _ _ c.in_ok-is_offered.is_offered _ _ (g.L.Link.state c.say.new.link) _ said (box_clear c.relay.new.inbox (sym c.waits.ensures ∙ c.if-not-waits.true) c.relay.ensures.left) c.hear.ensures.same (c.in_ok-say.ensures.why.0 ∙ inv.failed) (c.in_ok-say.ensures.why.1 ∙ inv.ended) c.in_err-goes_on.ensures.hears)
+    (served_hear g.S.ScreenSource.looks g.S.ScreenSource.cuts g.S.ScreenSource.may_end _ g.K.InputSink.may_refuse _ _ _ _ s _ _ _ _ _ _ _ c.in_ok-is_offered.is_offered _ _ (g.L.Link.state c.say.new.link) _ said (box_clear c.relay.new.inbox none c.relay.ensures.left) c.hear.ensures.same (c.in_ok-say.ensures.why.0 ∙ inv.failed) (c.in_ok-say.ensures.why.1 ∙ inv.ended) c.in_err-goes_on.ensures.hears)
 
 pub returns-then-not-goes_on-clause-serves : goal.returns-then-not-goes_on-clause-serves
 returns-then-not-goes_on-clause-serves g c = λ s role greet k.
     let inv = c.loop.invariant.2 in
+    let none : is_some c.relay.new.inbox.waiting ≡ false =
+    elim c.else-not-is_full.branch [
+      | else-not-is_full-via-then-not-is_full+else-waits w ↦ sym w.waits.ensures ∙ w.if-waits.false
+      | else-not-is_full-via-else-not-is_full w ↦ absurd (true≢false (sym w.if-not-is_full.false ∙ c.if-is_full.false))
+    ] in
     let relayed = serving_relayed g.S.ScreenSource.looks g.S.ScreenSource.cuts g.K.InputSink.may_refuse _ _ _ _ s _ _ _ _ _ c.in_ok-is_full.is_full _ _ _ _ _ (inv.serving s role greet k) c.relay.ensures.same c.in_ok-is_full.ensures.goes_on in
     let offered = serving_offered g.S.ScreenSource.looks g.S.ScreenSource.cuts g.S.ScreenSource.may_end _ _ _ _ _ _ _ s _ _ _ _ _ _ c.in_ok-is_offered.is_offered _ _ relayed c.offer.ensures.grows c.in_ok-is_offered.ensures.offers in
     let said = serving_said g.S.ScreenSource.looks g.S.ScreenSource.cuts _ _ _ _ s _ _ _ _ _ _ c.in_ok-is_offered.is_offered _ _ _ offered c.say.ensures.says in
     let h = rw c.if-not-goes_on.true at c.in_ok-goes_on.ensures.hears in
     let why : (c.in_ok-is_offered.is_offered ≡ true) ⊎ (0 < length c.say.new.session.unsent) =
-    elim c.if-is_offered.branch [
-      | then-is_offered w ↦ inl w.if-is_offered.true
-      | else-is_offered w ↦ inr (some_bytes w.out.result.now c.say.new.session.unsent w.is_empty.result w.out.ensures.empty w.is_empty.ensures (is_not w.is_empty.result (sym w.value-is ∙ c.if-not-is_empty.true)))
+    elim c.then-is_offered.branch [
+      | then-is_offered-via-then-is_offered w ↦ inl w.if-is_offered.true
+      | then-is_offered-via-else-is_offered+then-not-is_empty w ↦ inr (some_bytes w.out.result.now c.say.new.session.unsent w.is_empty.result w.out.ensures.empty w.is_empty.ensures w.if-not-is_empty.true)
     ] in
     let is = was_offered c.in_ok-is_offered.is_offered _ _ _ _ _ h why in
-    served_end g.S.ScreenSource.looks g.S.ScreenSource.cuts g.S.ScreenSource.may_end _ g.K.InputSink.may_refuse _ _ _ _ s _ _ _ _ _ _ _ _ (g.L.Link.state c.say.new.link) _ (rw is at said) (box_clear c.relay.new.inbox (sym c.waits.ensures ∙ c.if-not-waits.true) c.relay.ensures.left) (c.in_ok-say.ensures.why.0 ∙ inv.failed) (c.in_ok-say.ensures.why.1 ∙ inv.ended) h
+    served_end g.S.ScreenSource.looks g.S.ScreenSource.cuts g.S.ScreenSource.may_end _ g.K.InputSink.may_refuse _ _ _ _ s _ _ _ _ _ _ _ _ (g.L.Link.state c.say.new.link) _ (rw is at said) (box_clear c.relay.new.inbox none c.relay.ensures.left) (c.in_ok-say.ensures.why.0 ∙ inv.failed) (c.in_ok-say.ensures.why.1 ∙ inv.ended) h
 
-pub loop-preserved-then-not-is_empty : goal.loop-preserved-then-not-is_empty
-loop-preserved-then-not-is_empty g c =
+pub loop-preserved-else-is_full : goal.loop-preserved-else-is_full
+loop-preserved-else-is_full g c =
     let inv = c.loop.invariant.2 in
+    let none : is_some c.relay.new.inbox.waiting ≡ false =
+    elim c.else-not-is_full.branch [
+      | else-not-is_full-via-then-not-is_full+else-waits w ↦ sym w.waits.ensures ∙ w.if-waits.false
+      | else-not-is_full-via-else-not-is_full w ↦ absurd (true≢false (sym w.if-not-is_full.false ∙ c.if-is_full.false))
+    ] in
     let h = rw c.if-not-goes_on.false at c.in_ok-goes_on.ensures.hears in (
       tt,
       tt,
@@ -116,7 +149,7 @@ loop-preserved-then-not-is_empty g c =
             let relayed = serving_relayed g.S.ScreenSource.looks g.S.ScreenSource.cuts g.K.InputSink.may_refuse _ _ _ _ s _ _ _ _ _ c.in_ok-is_full.is_full _ _ _ _ _ (inv.serving s role greet k) c.relay.ensures.same c.in_ok-is_full.ensures.goes_on in
             let offered = serving_offered g.S.ScreenSource.looks g.S.ScreenSource.cuts g.S.ScreenSource.may_end _ _ _ _ _ _ _ s _ _ _ _ _ _ c.in_ok-is_offered.is_offered _ _ relayed c.offer.ensures.grows c.in_ok-is_offered.ensures.offers in
             let said = serving_said g.S.ScreenSource.looks g.S.ScreenSource.cuts _ _ _ _ s _ _ _ _ _ _ c.in_ok-is_offered.is_offered _ _ _ offered c.say.ensures.says in
-            serving_heard g.S.ScreenSource.looks g.S.ScreenSource.cuts _ _ _ _ s _ _ _ _ _ _ _ c.in_ok-is_offered.is_offered _ _ (g.L.Link.state c.say.new.link) _ said (box_clear c.relay.new.inbox (sym c.waits.ensures ∙ c.if-not-waits.true) c.relay.ensures.left) c.hear.ensures.same h;
+            serving_heard g.S.ScreenSource.looks g.S.ScreenSource.cuts _ _ _ _ s _ _ _ _ _ _ _ c.in_ok-is_offered.is_offered _ _ (g.L.Link.state c.say.new.link) _ said (box_clear c.relay.new.inbox none c.relay.ensures.left) c.hear.ensures.same h;
       },
     )
 

@@ -4,7 +4,7 @@ use Rattle.tally_word.proofs.author.Author.add.Goals as goal
 
 pub compare_exchange-requires : goal.compare_exchange-requires
 compare_exchange-requires g c =
-    let h = c.args.roll.now.is_word in
+    let h = c.args.change_count.now.is_word in
     let offer = c.offered-offer.ensures in
     let pen = c.no_pen-pen.ensures in
     let log = c.self.inside.seen.log in let e = c.args.asked.now.ask in

@@ -1,0 +1,20 @@
+-- Where giving leaves off.
+use Rattle.std.specs.Prelude.{◌≡◌, ℕ, ◌≤◌, ◌<◌, List, ◌++◌, length}
+use Rattle.link.specs.Links.{LinkState, HasRisen}
+use Rattle.link.specs.declared.give.Halt.{Halt}
+use Rattle.link.specs.declared.give.Halt.TheVariants as halt
+
+-- Why this number of all bytes is left: the flag was set; the link said that it ended, before the first byte or after
+-- it; it failed.
+abbrev pub IsWhy : (was_set : Type 0) → Halt → (old new : LinkState) → (left all : List ℕ) → Type 0
+IsWhy was_set halt.Stopped old new left all = was_set × (new.failed ≡ old.failed) × (new.ended ≡ old.ended) × (length left ≤ length all)
+IsWhy was_set halt.Before old new left all = HasRisen old.ended new.ended × (new.failed ≡ old.failed) × (left ≡ all) × (0 < length all)
+IsWhy was_set halt.Inside old new left all = HasRisen old.ended new.ended × (0 < length left) × (length left < length all)
+IsWhy was_set halt.Failed old new left all = HasRisen old.failed new.failed × (0 < length left) × (length left ≤ length all)
+
+-- All of these bytes were given but the last of them.
+pub record HaltsAt (was_set : Type 0) (halt : Halt) (old new : LinkState) (all : List ℕ) : Type 0 where
+  pub left : List ℕ
+  pub given : new.given ++ left ≡ old.given ++ all
+  pub taken : new.taken ≡ old.taken
+  pub why : IsWhy was_set halt old new left all

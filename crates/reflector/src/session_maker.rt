@@ -1,0 +1,78 @@
+//! What a viewer is welcomed with.
+
+ghost use Rattle.std.specs.Prelude.{◌≡◌, ◌≤◌, length, true, None, IfOk, IfErr};
+ghost use Rattle.fault.specs.declared.kinds.Fault.TheVariants.{Memory};
+ghost use Rattle.raster.specs.Size.{IsScreenSize};
+ghost use Rattle.viewer_session.specs.Session.{Stands};
+ghost use Rattle.viewer_session.specs.Viewer.{Setup, new_viewer};
+ghost use Rattle.reflector.specs.Visits.{name_of};
+
+use fault::Fault;
+use joined_runs::Runs;
+use roles::Role;
+use std::alloc::Global;
+use viewer_session::Session;
+
+/// The name of a screen whose host has none. A viewer is told at least one byte.
+const NO_NAME: &[u8] = b"reflectord";
+
+/// The size and the name of the screen that the viewers of a place are shown, their role, and the form in which they are
+/// answered.
+#[derive(Drop)]
+pub(crate) struct SessionMaker {
+    alloc: Global,
+    pub(crate) width: u64,
+    pub(crate) height: u64,
+    pub(crate) name: Vec<u8>,
+    pub(crate) role: Role,
+    pub(crate) runs: Runs,
+    pub(crate) ghost size: { IsScreenSize width height },
+    pub(crate) ghost named: { (1 ≤ length name.items) × (length name.items ≤ 255) },
+}
+
+impl SessionMaker {
+    /// It fails where memory is refused for the name (`Memory`).
+    pub(crate) fn new(
+        alloc: Global,
+        width: u64,
+        height: u64,
+        name: &[u8],
+        role: Role,
+        runs: Runs,
+    ) -> Result<SessionMaker, Fault>
+        requires size { IsScreenSize width height }
+        requires name { length name.now ≤ 255 }
+        ensures size { IfOk result (λ maker. (maker.width ≡ width) × (maker.height ≡ height)) }
+        ensures named { IfOk result (λ maker. (maker.role ≡ role) × (maker.name.items ≡ name_of name.now)) }
+        ensures formed { IfOk result (λ maker. maker.runs ≡ runs) }
+        ensures err { IfErr result (λ fault. fault ≡ Memory) }
+    {
+        let name = if name.is_empty() { NO_NAME } else { name };
+        let name = name.to_vec(alloc)?;
+        Ok(SessionMaker {
+            alloc,
+            width,
+            height,
+            name,
+            role,
+            runs,
+        })
+    }
+
+    /// A viewer's session, which begins with its hello. It fails where memory is refused (`Memory`).
+    pub(crate) fn open(&self) -> Result<Session, Fault>
+        ensures size { IfOk result (λ session. (session.width ≡ self.now.width) × (session.height ≡ self.now.height)) }
+        ensures uncut { IfOk result (λ session. session.asked.last ≡ None) }
+        ensures stands { IfOk result (λ session. (s : Setup) → s.w ≡ self.now.width → s.h ≡ self.now.height → s.name ≡ self.now.name.items → s.runs ≡ self.now.runs → Stands s session (new_viewer self.now.role true)) }
+        ensures err { IfErr result (λ fault. fault ≡ Memory) }
+    {
+        Session::open(
+            self.alloc,
+            self.width,
+            self.height,
+            self.name.as_slice(),
+            self.role,
+            self.runs,
+        )
+    }
+}

@@ -1,0 +1,32 @@
+-- What a browser is answered at the web port of a role (own).
+use Rattle.std.specs.Prelude.{◌≡◌, ◌<◌, Bool, true, false, List, All, length, map}
+use Rattle.std.specs.Arc.{arc_value}
+use Rattle.std.specs.String.{string_bytes}
+use Rattle.roles.specs.declared.role.Role.{Role}
+use Rattle.roles.specs.declared.role.Role.TheVariants.{Full, View}
+use Rattle.web_door.specs.Landings.{LeadsToStart}
+use Rattle.web_door.specs.declared.site.Site.{Site}
+use Rattle.web_door.specs.declared.table.WebFile.{WebFile}
+use Rattle.plan.specs.declared.plan.Plan.{Plan}
+use Rattle.serving.specs.declared.caller.WebEntry.{WebEntry}
+
+-- Viewers of this role only look on.
+abbrev pub looks_only : Role → Bool
+looks_only Full = false
+looks_only View = true
+
+-- The site has these files, its start is the role's, and where the plan names origins those that may open a link are
+-- these and no others.
+pub record IsSiteFor (role : Role) (plan : Plan) (files : List WebFile) (site : Site) : Type 0 where
+  pub table : arc_value site.files ≡ files
+  pub start : LeadsToStart (looks_only role) site.landing
+  pub origins : 0 < length plan.web.origins.now → map string_bytes site.admission.origins.items ≡ map string_bytes plan.web.origins.now
+
+-- Who comes by the port has this role, and asks such a site.
+pub record IsWebEntryFor (role : Role) (plan : Plan) (files : List WebFile) (entry : WebEntry) : Type 0 where
+  pub comes_as : entry.gate.role ≡ role
+  pub asks : IsSiteFor role plan files (arc_value entry.site)
+
+-- Each of the ports is one for its own role.
+abbrev pub AreWebEntries : Plan → List WebFile → List WebEntry → Type 0
+AreWebEntries plan files entries = All (λ entry. IsWebEntryFor entry.gate.role plan files entry) entries

@@ -1,0 +1,218 @@
+//! Places for viewers, and who lets them in.
+
+ghost use Rattle.std.specs.Prelude.{◌≡◌, ◌+◌, ◌++◌, ◌<◌, ◌∷◌, [], length, replicate, IfErr, IfOk, OnOk};
+ghost use Rattle.std.specs.Arc.{arc_value};
+ghost use Rattle.fault.specs.declared.kinds.Fault.TheVariants.{Memory};
+ghost use Rattle.plan.specs.Statuses.{HasPlaces, places_for};
+ghost use Rattle.roles.specs.declared.role.Role.TheVariants.{Full};
+ghost use Rattle.serve.specs.Doors.{AreAsPlanned, AreBoth, HaveTheirRoles, IsFullEntry, roles_in};
+
+use crate::open::Entry;
+use crate::trouble::{Stage, Trouble};
+use fault::Fault;
+use plan::{Plan, places_of};
+use roles::Role;
+use serving::{Everyone, Lobby, Log, Seat, TcpDoor, WriterSeat, keep_door};
+use std::alloc::Global;
+use std::io;
+use std::net::{Net, SocketAddr, TcpStream};
+use std::sync::{Arc, Wait};
+use std::thread::{Builder, Threads};
+use std::time::{Clock, Duration};
+
+/// The bytes of the stack of whoever keeps a door.
+const STACK: usize = 262_144;
+
+/// For how long viewers are waited for once the host has ended, in milliseconds.
+const GOODBYE_MILLIS: u64 = 1_000;
+
+/// How long a knock at the own door may take, in milliseconds.
+const KNOCK_MILLIS: u64 = 200;
+
+/// The doors of all places with their roles, and where each place's thread waits.
+#[derive(Drop)]
+pub(crate) struct Rooms<R: Wait + Clock + Drop, G: Log + Drop> {
+    pub(crate) doors: Vec<(Role, TcpDoor<R, G>)>,
+    pub(crate) seats: Vec<Arc<Seat, Global>>,
+    pub(crate) ghost told: { HaveTheirRoles doors.items },
+}
+
+impl<R: Wait + Clock + Drop + Copy + Net, G: Log + Drop + Copy> Rooms<R, G> {
+    /// No place.
+    pub(crate) fn new(alloc: Global) -> Rooms<R, G>
+        ensures { result.doors.items ≡ [] }
+    {
+        Rooms {
+            doors: Vec::new(alloc),
+            seats: Vec::new(alloc),
+        }
+    }
+
+    /// One place more, at which its thread waits on this seat.
+    fn add(
+        &mut self,
+        rt: R,
+        alloc: Global,
+        entry: &Entry<'_>,
+        seat: Seat,
+        log: G,
+    ) -> Result<(), Fault>
+        requires { length self.old.doors.items < 64 }
+        ensures count { OnOk result (length self.new.doors.items ≡ length self.old.doors.items + 1) }
+        ensures roles { OnOk result (roles_in self.new.doors.items ≡ roles_in self.old.doors.items ++ (arc_value entry.now.lobby).role ∷ []) }
+    {
+        let place = self.doors.len() as u64 + 1;
+        let seat = Arc::new(alloc, seat)?;
+        self.seats.push(Arc::try_clone(&seat)?)?;
+        let lobby = Arc::try_clone(&entry.lobby)?;
+        let role = lobby.role();
+        let door = TcpDoor::new(rt, alloc, lobby, seat, place, log);
+        self.doors.push((role, door))?;
+        Ok(())
+    }
+
+    /// The places of viewers with full control, if the plan has some. They are the first.
+    #[tactic(auto, using(crate::proofs::Counts::entry_places))]
+    fn add_full(
+        &mut self,
+        rt: R,
+        alloc: Global,
+        plan: &Plan<'_>,
+        full: &Option<Entry<'_>>,
+        log: G,
+    ) -> Result<(), Trouble>
+        requires none { self.old.doors.items ≡ [] }
+        requires entry { IsFullEntry plan.now full.now }
+        requires places { HasPlaces plan.now }
+        ensures count { OnOk result (length self.new.doors.items ≡ places_for Full plan.now) }
+        ensures roles { OnOk result (roles_in self.new.doors.items ≡ replicate (places_for Full plan.now) Full) }
+    {
+        let _plan = plan;
+        match full {
+            Some(entry) => self.add_all(rt, alloc, entry, log),
+            None => Ok(()),
+        }
+    }
+
+    /// The places of one role more, as many as the entry's plan says.
+    pub(crate) fn add_all(
+        &mut self,
+        rt: R,
+        alloc: Global,
+        entry: &Entry<'_>,
+        log: G,
+    ) -> Result<(), Trouble>
+        requires { length self.old.doors.items + places_for (arc_value entry.now.lobby).role entry.now.plan < 65 }
+        ensures count { OnOk result (length self.new.doors.items ≡ length self.old.doors.items + places_for (arc_value entry.now.lobby).role entry.now.plan) }
+        ensures roles { OnOk result (roles_in self.new.doors.items ≡ roles_in self.old.doors.items ++ replicate (places_for (arc_value entry.now.lobby).role entry.now.plan) (arc_value entry.now.lobby).role) }
+    {
+        let places = places_of(&entry.plan, entry.lobby.role());
+        for _place in 0..places {
+            let seat = match Seat::new(&rt, alloc) {
+                Ok(seat) => seat,
+                Err(error) => return Err(Trouble::of(Stage::Start, error)),
+            };
+            if let Err(fault) = self.add(rt, alloc, entry, seat, log) {
+                return Err(Trouble::new(Stage::Start, fault));
+            }
+        }
+        Ok(())
+    }
+}
+
+/// The places of a plan whose viewers come in by these entries.
+#[tactic(auto, using(crate::proofs::Counts::full_most, crate::proofs::Counts::entry_places))]
+pub(crate) fn rooms_of<R: Wait + Clock + Drop + Copy + Net, G: Log + Drop + Copy>(
+    rt: R,
+    alloc: Global,
+    plan: &Plan<'_>,
+    full: &Option<Entry<'_>>,
+    view: &Entry<'_>,
+    log: G,
+) -> Result<Rooms<R, G>, Trouble>
+    requires entries { AreBoth plan.now full.now view.now }
+    requires places { HasPlaces plan.now }
+    ensures { IfOk result (λ rooms. AreAsPlanned plan.now rooms.doors.items) }
+{
+    let mut rooms = Rooms::new(alloc);
+    rooms.add_full(rt, alloc, plan, full, log)?;
+    rooms.add_all(rt, alloc, view, log)?;
+    Ok(rooms)
+}
+
+/// Where the host's writer rests, and who is woken by news: it and all these seats.
+pub(crate) fn alarms(
+    alloc: Global,
+    seats: Vec<Arc<Seat, Global>>,
+) -> Result<(Arc<WriterSeat, Global>, Arc<Everyone, Global>), Fault>
+    ensures err { IfErr result (λ fault. fault ≡ Memory) }
+{
+    let writer = Arc::new(alloc, WriterSeat::new())?;
+    let everyone = Everyone {
+        writer: Arc::try_clone(&writer)?,
+        seats,
+    };
+    Ok((writer, Arc::new(alloc, everyone)?))
+}
+
+/// What is left to do with a role's viewers while its door is kept: to send them away.
+#[derive(Drop)]
+pub(crate) struct Hall {
+    lobby: Arc<Lobby, Global>,
+    address: io::Result<SocketAddr>,
+}
+
+/// Starts the thread that lets the viewers of a role in.
+pub(crate) fn start_porter<R, G>(
+    rt: R,
+    alloc: Global,
+    entry: Entry<'_>,
+    log: G,
+) -> Result<Hall, Trouble>
+where
+    R: Threads + Wait + Clock + Copy + Drop + Send + 'static,
+    G: Log + Drop + Send + 'static,
+{
+    let Entry {
+        plan: _,
+        bound,
+        lobby,
+    } = entry;
+    let address = bound.gate().listener().local_addr();
+    let Ok(theirs) = Arc::try_clone(&lobby) else {
+        return Err(Trouble::new(Stage::Start, Fault::Memory));
+    };
+    let started = Builder::new().stack_size(STACK).spawn(
+        &rt,
+        move ||
+            requires { bound.gate.role ≡ (arc_value theirs).role }
+        { keep_door(&rt, bound.gate(), &theirs, &log) },
+    );
+    match started {
+        Ok(_porter) => Ok(Hall { lobby, address }),
+        Err(error) => Err(Trouble::of(Stage::Start, error)),
+    }
+}
+
+impl Hall {
+    /// Viewers are let in from now on.
+    pub(crate) fn open<R: Wait>(&self, rt: &R) {
+        self.lobby.hold(rt, false);
+    }
+
+    /// No more viewers come, and those that are there are waited for, though not for long. Whoever keeps the door is
+    /// knocked at, so that he sees it.
+    pub(crate) fn close<R: Net + Wait + Clock>(&self, rt: &R) {
+        self.lobby.close(rt);
+        if let Ok(address) = &self.address {
+            let knock = TcpStream::connect_timeout(
+                rt,
+                address,
+                Duration::from_millis(KNOCK_MILLIS),
+            );
+            drop(knock);
+        }
+        self.lobby
+            .await_empty(rt, Duration::from_millis(GOODBYE_MILLIS));
+    }
+}

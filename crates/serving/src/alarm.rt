@@ -1,0 +1,68 @@
+//! Alarms, which end waits.
+
+use crate::seat::Seat;
+use crate::writer_seat::WriterSeat;
+use link::Rest;
+use std::alloc::Global;
+use std::sync::{Arc, Wait};
+use std::thread;
+
+/// What ends the wait of other threads. No clause says that one wakes.
+pub trait Alarm {
+    /// There is something new: ends the wait of each that would look at it, or else its next one.
+    fn ring(&self);
+
+    /// Ends each wait, or else the next, also of those that could do nothing about news.
+    fn rouse(&self);
+}
+
+/// An alarm for threads that never wait, as over links in memory. One that rests on it lets others run.
+#[derive(Clone, Copy, Drop)]
+pub struct NoAlarm;
+
+impl Alarm for NoAlarm {
+    fn ring(&self) {}
+
+    fn rouse(&self) {}
+}
+
+impl Rest for NoAlarm {
+    fn rest<R: Wait>(&self, _rt: &R) {
+        thread::yield_now();
+    }
+}
+
+impl<B: Alarm> Alarm for Arc<B, Global> {
+    fn ring(&self) {
+        (**self).ring();
+    }
+
+    fn rouse(&self) {
+        (**self).rouse();
+    }
+}
+
+/// The host's writer, and then each place: the host can work on while the viewers are told.
+#[derive(Drop)]
+pub struct Everyone {
+    /// Where the host's writer rests.
+    pub writer: Arc<WriterSeat, Global>,
+    /// Where the places wait.
+    pub seats: Vec<Arc<Seat, Global>>,
+}
+
+impl Alarm for Everyone {
+    fn ring(&self) {
+        self.writer.ring();
+        for seat in &self.seats {
+            seat.ring();
+        }
+    }
+
+    fn rouse(&self) {
+        self.writer.rouse();
+        for seat in &self.seats {
+            seat.rouse();
+        }
+    }
+}

@@ -1,0 +1,123 @@
+//! Rings, and waits that they end. A ring that is lost is seen after ten seconds, since the viewer's handshake is late
+//! by then.
+
+use link::{Link, Rest, StopFlag, Took};
+use serving::{Alarm, Everyone, Seat, Stop, WriterSeat};
+use std::alloc::Global;
+use std::sync::atomic::{AtomicU64, Ordering};
+use std::sync::{Arc, Wait};
+use std::thread::Threads;
+use std::{io, thread};
+
+/// This many rings are answered.
+const MANY: u64 = 1_000;
+
+/// Whether a ring before a take ends it, and a rouse too; they end the writer's rest as well.
+pub(crate) fn keeps_early_rings<R: Wait, L: Link>(rt: &R, seat: &Seat, link: &mut L) -> bool {
+    let mut into = [0u8; 4];
+    // The socket is writable for the first time, which ends a wait.
+    let first = link.take(&mut into);
+    seat.ring();
+    seat.ring();
+    let rung = link.take(&mut into);
+    seat.rouse();
+    let roused = link.take(&mut into);
+    let writer = WriterSeat::new();
+    writer.ring();
+    writer.rest(rt);
+    writer.rouse();
+    writer.rest(rt);
+    [first, rung, roused] == [Took::Nothing; 3]
+}
+
+/// Looks at the number after each take, until the flag is set. False where a take failed, or the number hadn't risen to
+/// the last.
+fn follows<L: Link, F: StopFlag>(
+    link: &mut L,
+    stop: &F,
+    news: &AtomicU64,
+    seen: &AtomicU64,
+) -> bool {
+    let mut into = [0u8; 4];
+    for _ in 0..1_000_000 {
+        if stop.is_set() {
+            return seen.load(Ordering::SeqCst) == MANY;
+        }
+        seen.store(news.load(Ordering::SeqCst), Ordering::SeqCst);
+        if link.take(&mut into) != Took::Nothing {
+            break;
+        }
+    }
+    seen.store(u64::MAX, Ordering::SeqCst);
+    false
+}
+
+/// Raises the number and rings, again each time that it was seen. Then it sets the flag.
+fn tells<R: Wait, B: Alarm + Drop>(
+    rt: &R,
+    stop: &Stop<B>,
+    seat: &Seat,
+    news: &AtomicU64,
+    seen: &AtomicU64,
+) {
+    for number in 1..=MANY {
+        news.store(number, Ordering::SeqCst);
+        seat.ring();
+        for _ in rt.forever() {
+            if seen.load(Ordering::SeqCst) >= number {
+                break;
+            }
+            thread::yield_now();
+        }
+    }
+    stop.set();
+}
+
+fn rests_until<R: Wait, F: StopFlag>(rt: &R, stop: &F, writer: &WriterSeat) {
+    for _ in rt.forever() {
+        if stop.is_set() {
+            return;
+        }
+        writer.rest(rt);
+    }
+}
+
+/// Whether the link's holder sees each number that is rung for, and then the flag ends its wait and the writer's.
+fn ends_both<R: Threads + Wait + Send + Sync, L: Link + Send>(
+    rt: &R,
+    stop: &Stop<Everyone>,
+    writer: &WriterSeat,
+    seat: &Seat,
+    link: &mut L,
+) -> bool {
+    let was_set = stop.is_set();
+    let news = AtomicU64::new(0);
+    let seen = AtomicU64::new(0);
+    let ((right, ()), ()) = thread::join(
+        rt,
+        || thread::join(
+            rt,
+            || follows(link, stop, &news, &seen),
+            || rests_until(rt, stop, writer),
+        ),
+        || tells(rt, stop, seat, &news, &seen),
+    );
+    !was_set && right && stop.is_set()
+}
+
+/// Whether a new flag, with the alarm of a writer and of one place, does so.
+pub(crate) fn ends_each_wait<R: Threads + Wait + Send + Sync, L: Link + Send>(
+    rt: &R,
+    alloc: Global,
+    seat: &Arc<Seat, Global>,
+    link: &mut L,
+) -> io::Result<bool> {
+    let mut seats = Vec::new(alloc);
+    seats.push(Arc::try_clone(seat)?)?;
+    let writer = Arc::new(alloc, WriterSeat::new())?;
+    let stop = Stop::new(Everyone {
+        writer: Arc::try_clone(&writer)?,
+        seats,
+    });
+    Ok(ends_both(rt, &stop, &writer, seat, link))
+}
