@@ -45,12 +45,12 @@ class Library:
         return ctypes.string_at(self.out, length)
 
 
-def program():
-    """The path of reflectord, which is proved and built first."""
-    crate = TOP / "crates" / "reflectord"
-    words = ["rt", "run", "--", "replay"]
+def program(name="reflectord"):
+    """The path of a program, which is proved and built first."""
+    crate = TOP / "crates" / name
+    words = ["rt", "run", "--", *(["replay"] if name == "reflectord" else [])]
     subprocess.run(words, cwd=crate, check=True, stdin=subprocess.DEVNULL, stderr=subprocess.DEVNULL)
-    return crate / "out" / "reflectord"
+    return crate / "out" / name
 
 
 @contextlib.contextmanager
