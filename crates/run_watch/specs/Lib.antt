@@ -1,0 +1,4 @@
+pub mod Healths
+pub mod Lines
+pub mod Notices
+pub mod Tallies

@@ -1,0 +1,48 @@
+//! One who asks.
+
+ghost use Rattle.std.specs.Prelude.{◌≡◌, OnOk};
+
+use crate::hasty::Hasty;
+use crate::watched::Watched;
+use http_server::{Config, Connection, serve};
+use http1::Limits;
+use std::alloc::Global;
+use std::hash::RandomState;
+use std::io;
+use std::io::{Read, Write};
+use std::time::{Clock, Instant};
+
+/// The head of a request has at most this many bytes: 4 KiB.
+pub const MOST_HEAD: usize = 4_096;
+
+/// A connection on which nothing was asked. The peer chooses the names of fields, so their map takes secret keys. A
+/// request has no body.
+fn connection_of(alloc: Global, keys: RandomState) -> Connection {
+    let config = Config {
+        limits: Limits {
+            max_head_len: MOST_HEAD,
+            max_extensions_len: 0,
+            max_trailers_len: 2,
+        },
+        max_body_len: 0,
+        max_pending: 65_536,
+        read_size: 2_048,
+    };
+    Connection::new(alloc, keys, config)
+}
+
+/// Answers one who has connected, whose stream is read and written by these two, as the run stood when he did. It fails
+/// where he isn't done at this moment, and where a read or a write does.
+pub fn answer_one<R: Clock, I: Read + Drop, O: Write + Drop>(
+    rt: &R,
+    alloc: Global,
+    keys: RandomState,
+    mut watched: &Watched,
+    (reader, writer): (I, O),
+    until: Instant,
+) -> io::Result<()> {
+    let mut connection = connection_of(alloc, keys);
+    let mut reader = Hasty::new(rt, reader, until);
+    let mut writer = Hasty::new(rt, writer, until);
+    serve(&mut connection, &mut watched, &mut reader, &mut writer)
+}
