@@ -12,11 +12,15 @@ use Rattle.painter.specs.Painter.{Painting, IsPaintedOver, worked}
 in_whole : (w h x y : ℕ) → x < w → y < h → holds (whole_screen w h) x y ≡ true
 in_whole w h x y lx ly = holds_has (whole_screen w h) x y (record { left = omega arith; right = omega (arith, lx); top = omega arith; bottom = omega (arith, ly) })
 
--- What a switch leaves doesn't depend on what it is laid over.
-same_over : (w h : ℕ) (a b : Canvas) → LooksLike w h (after_paints a (paints_of (switch w h))) (after_paints b (paints_of (switch w h)))
-same_over w h a b x y lx ly =
+-- Whatever a switch is laid over, it leaves a black screen.
+is_black : (w h : ℕ) (start : Canvas) → LooksLike w h (after_paints start (paints_of (switch w h))) opening
+is_black w h start x y lx ly =
     let over : Canvas = value_at w (values_of w h opening) in
-    ap (λ t. if t then over (x - 0) (y - 0) else a x y) (in_whole w h x y lx ly) ∙ sym (ap (λ t. if t then over (x - 0) (y - 0) else b x y) (in_whole w h x y lx ly))
+    ap (λ t. if t then over (x - 0) (y - 0) else start x y) (in_whole w h x y lx ly) ∙ values_at w h opening (x - 0) (y - 0) (omega (arith, lx)) (omega (arith, ly))
+
+-- So what it leaves doesn't depend on what it is laid over.
+same_over : (w h : ℕ) (a b : Canvas) → LooksLike w h (after_paints a (paints_of (switch w h))) (after_paints b (paints_of (switch w h)))
+same_over w h a b x y lx ly = is_black w h a x y lx ly ∙ sym (is_black w h b x y lx ly)
 
 -- What is painted over one start is painted over any other.
 switched_over : (screen : Painting) (a b : Canvas) → IsPaintedOver a (paints_of (switch screen.width screen.height)) screen → IsPaintedOver b (paints_of (switch screen.width screen.height)) screen
@@ -51,8 +55,16 @@ pub patch_switches : (screen : Painting) (us : List Update) → IsPaintedOver op
     → (start : Canvas) → AreSameUpdates screen.width screen.height start (switch screen.width screen.height ∷ []) us
 patch_switches screen us over same start = same start (paints_of (switch screen.width screen.height)) (switched_over screen opening start over)
 
--- And the next update begins over what the switch left.
+-- And the next update begins over a black screen.
 pub begins_black : (screen new : Painting) → IsPaintedOver opening (paints_of (switch screen.width screen.height)) screen
     → ((start : Canvas) → LooksLike screen.width screen.height (worked screen) start → IsPaintedOver start [] new)
-    → (start : Canvas) → IsPaintedOver (after_paints start (paints_of (switch screen.width screen.height))) [] new
-begins_black screen new over begun start = begun (after_paints start (paints_of (switch screen.width screen.height))) (switched_over screen opening start over).shows
+    → IsPaintedOver opening [] new
+begins_black screen new over begun = begun opening (λ x y lx ly. over.shows x y lx ly ∙ is_black screen.width screen.height opening x y lx ly)
+
+-- Which is what the switch left.
+pub begins_switched : (screen : Painting) (start : Canvas) → IsPaintedOver opening [] screen → IsPaintedOver (after_paints start (paints_of (switch screen.width screen.height))) [] screen
+begins_switched screen start stands =
+    record {
+      shows = λ x y lx ly. stands.shows x y lx ly ∙ sym (is_black screen.width screen.height start x y lx ly);
+      touched = stands.touched;
+    }

@@ -1,4 +1,4 @@
-//! What follows for lists of updates that come to the same.
+//! Laws: what follows for lists of updates that come to the same.
 
 ghost use Rattle.std.specs.Prelude.{◌≡◌, ℕ, ◌<◌, List, [], ◌++◌};
 ghost use Rattle.painter.specs.Same.{AreSameUpdates};

@@ -86,7 +86,29 @@ impl Painter {
         })
     }
 
-    /// Its width and height in pixels.
+    /// The screen for a host that follows another: black, with no tile touched, and the patch that turns the screen of
+    /// the host before it black. It fails where memory is refused (`Memory`).
+    pub fn black(alloc: Global, width: u64, height: u64) -> Result<(Self, Patch), Fault>
+        requires { IsScreenSize width height }
+        ensures size { IfOk result (λ made. (made.0.width ≡ width) × (made.0.height ≡ height)) }
+        ensures black { IfOk result (λ made. IsPaintedOver opening [] made.0) }
+        ensures sized { IfOk result (λ made. (made.1.width ≡ width) × (made.1.height ≡ height)) }
+        ensures same { IfOk result (λ made. (start : Canvas) → AreSameUpdates width height start (switch width height ∷ []) (made.1.update ∷ [])) }
+        ensures err { IfErr result (λ fault. fault ≡ Memory) }
+    {
+        let mut black = Painter::new(alloc, width, height)?;
+        black.draw_on(Rect {
+            x: 0,
+            y: 0,
+            w: width,
+            h: height,
+        });
+        black.end_drawing();
+        let patch = black.patch()?;
+        Ok((black, patch))
+    }
+
+    /// The width and height of the screen in pixels.
     pub fn size(&self) -> (u64, u64)
         ensures { (result.0 ≡ self.now.width) × (result.1 ≡ self.now.height) }
     {
@@ -236,16 +258,8 @@ impl Painter {
         ensures err { IfErr result (λ fault. (fault ≡ Memory) × (self.new ≡ self.old)) }
     {
         let (width, height) = self.size();
-        let mut black = Painter::new(self.alloc, width, height)?;
-        black.draw_on(Rect {
-            x: 0,
-            y: 0,
-            w: width,
-            h: height,
-        });
-        black.end_drawing();
-        let patch = black.patch()?;
-        *self = black;
+        let (next, patch) = Painter::black(self.alloc, width, height)?;
+        *self = next;
         Ok(patch)
     }
 }

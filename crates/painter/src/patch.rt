@@ -151,8 +151,8 @@ impl Patch {
         }
     }
 
-    /// Whether it is a Bell.
-    pub fn is_bell(&self) -> bool
+    /// Whether the update is a Bell.
+    pub(crate) fn is_bell(&self) -> bool
         ensures { result ≡ is_bell self.now.update }
     {
         matches!(&self.change, Change::Bell)

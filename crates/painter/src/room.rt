@@ -13,7 +13,7 @@ use tiles::Grid;
 
 /// Room for a copy of a board of one screen size. That for its colours isn't touched before they come.
 #[derive(Drop)]
-pub struct Room {
+pub(crate) struct Room {
     width: u64,
     height: u64,
     colours: Vec<u32>,

@@ -1,4 +1,4 @@
-//! A board that others show too.
+//! A board that may be shared with others.
 
 ghost use Rattle.std.specs.Prelude.{◌≡◌, IfOk, IfErr, IfSome};
 ghost use Rattle.std.specs.Arc.{arc_value};

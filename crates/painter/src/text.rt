@@ -43,7 +43,7 @@ impl LastText {
         })
     }
 
-    /// The number of the update that brought it.
+    /// The number of the update that brought the text, or none where there is no text.
     pub fn number(&self) -> Option<u64>
         ensures { result ≡ number_of self.now }
     {
@@ -61,7 +61,7 @@ impl LastText {
         }
     }
 
-    /// There is no text.
+    /// Forgets the text: from now on there is none.
     pub fn clear(&mut self)
         ensures { self.new ≡ None }
     {
