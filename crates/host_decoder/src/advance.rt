@@ -18,7 +18,8 @@ use painter::Painter;
 use rfb_wire::{Fields, FixedPart, KeptText, SkippedBytes};
 use std::alloc::Global;
 
-/// What becomes of fields.
+/// Takes bytes of fields whose length is fixed. It answers the state that follows, or none where they stay, and how
+/// many bytes it took.
 pub(crate) fn take_fields(
     alloc: Global,
     painter: &mut Painter,

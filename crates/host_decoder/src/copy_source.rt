@@ -16,7 +16,7 @@ use std::marker::Model;
 /// How many bytes a source has: x and y, in two bytes each.
 const SOURCE_LEN: usize = 4;
 
-/// A reader of a source.
+/// The bytes of a source that have come.
 #[derive(Drop)]
 pub(crate) struct CopySource {
     bytes: [u8; SOURCE_LEN],
@@ -57,7 +57,7 @@ impl CopySource {
         count
     }
 
-    /// Whether all bytes have come.
+    /// Whether all four bytes of the source have come.
     fn is_full(&self) -> bool
         ensures value { result ≡ (length self.now == 4) }
         ensures most { length self.now ≤ 4 }

@@ -1,4 +1,4 @@
-//! What holds of all events.
+//! A law: the events of a stream bring the updates of the stream.
 
 ghost use Rattle.std.specs.Prelude.{◌≡◌, ℕ, List, [], ◌∷◌, map};
 ghost use Rattle.std.specs.List.{filter_map};

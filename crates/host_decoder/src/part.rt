@@ -5,10 +5,10 @@ ghost use Rattle.std.specs.Prelude.{◌≡◌};
 use raster::Rect;
 use rfb_wire::FixedPart;
 
-/// What is read next, where the number of its bytes is known.
+/// The part of a message that is read next, where the number of its bytes is known.
 #[derive(Clone, Copy)]
-pub enum HostPart {
-    /// The type of a message.
+pub(crate) enum HostPart {
+    /// The first byte of a message, which says its type.
     Kind,
     /// Padding and the number of rectangles of an update.
     Count,

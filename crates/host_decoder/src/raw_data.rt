@@ -116,7 +116,7 @@ impl RawPixels {
         self.done += pixels.len();
     }
 
-    /// Takes bytes that are all wanted.
+    /// Takes all of these bytes. They end no later than the rectangle.
     pub(crate) fn take_all(&mut self, painter: &mut Painter, bytes: &[u8])
         requires fits { IsRawFor painter.old.area self.old }
         requires missing { length self.old.begun + length bytes.now + 4 * self.old.done ≤ 4 * self.old.count }

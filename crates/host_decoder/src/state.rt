@@ -1,4 +1,4 @@
-//! How far a decoder has come.
+//! How far a decoder has come in a message.
 
 ghost use Rattle.std.specs.Prelude.{◌≡◌, ℕ, ◌<◌, ◌≤◌, false, true, length, unwrap_or, IfOk, IsFalse, IsTrue, Result};
 ghost use Rattle.byte_reading.specs.Reading.{Reading};
@@ -18,32 +18,32 @@ use painter::{Painter, Patch};
 use rfb_wire::{Fields, KeptText, SkippedBytes, Text};
 use std::alloc::Global;
 
-/// What has come of a message.
+/// The part of a message that has come.
 #[derive(Drop)]
 pub(crate) enum HostState {
-    /// Some fields of a fixed length.
+    /// A part of the fields whose length is fixed.
     Fields(Fields<HostPart>),
     /// A part of a rectangle's data, after which this many rectangles follow.
     Pixels(u16, Data),
     /// A part of a text that is kept.
     Keeping(KeptText),
-    /// A part of what is read past.
+    /// A part of the bytes that are read past.
     Passing(Passed, SkippedBytes),
-    /// All of it.
+    /// The whole message, as the event that it brings.
     Whole(HostEvent),
-    /// What shows a fault, or nothing, since memory was refused.
+    /// The fault that the message shows, or `Memory` where memory was refused. Nothing more is read.
     Failed(Fault),
 }
 
 impl HostState {
-    /// Nothing of a message.
+    /// The state between two messages: nothing of the next has come.
     pub(crate) fn start() -> HostState
         ensures { result ≡ start }
     {
         HostState::Fields(Fields::of(HostPart::Kind))
     }
 
-    /// What is read past, of which this many bytes are left.
+    /// The state in which this many bytes are still to be read past.
     pub(crate) fn past(what: Passed, left: u32) -> HostState
         ensures stands { (w h : ℕ) → StandsUnpainted w h result (passing left what) }
         ensures suits { (w h : ℕ) → Suits w h result }
@@ -55,7 +55,7 @@ impl HostState {
         }
     }
 
-    /// A text that is kept, of which all bytes have come.
+    /// The state in which all bytes of a text that is kept have come.
     pub(crate) fn text(painter: &Painter, text: Text) -> HostState
         requires { IsScreenSize painter.now.width painter.now.height }
         ensures stands { StandsUnpainted painter.now.width painter.now.height result (keeping text 0) }
@@ -65,7 +65,7 @@ impl HostState {
         HostState::Whole(HostEvent::Cut(Patch::text(width, height, text.into_vec())))
     }
 
-    /// Whether another byte is taken.
+    /// Whether it takes another byte: not after a whole message, nor after a fault.
     pub(crate) fn is_open(&self) -> bool
         ensures { result ≡ is_open self.now }
     {
@@ -92,7 +92,8 @@ impl HostState {
         }
     }
 
-    /// What becomes of it with bytes from the front of some, if it doesn't stay, and how many bytes it takes.
+    /// Takes bytes from the front of a piece. It answers the state that follows, or none where this one stays, and how
+    /// many bytes it took.
     fn step(
         &mut self,
         alloc: Global,
