@@ -11,18 +11,18 @@ use update_encoder::Answer;
 /// What of a cut comes after the piece: its text where one is news, then an answer. Of the answer the header comes
 /// first, and then one rectangle after the other.
 #[derive(Drop)]
-pub struct Coming {
-    /// The cut's text comes.
-    pub text: bool,
-    /// The answer's header comes.
-    pub head: bool,
+pub(crate) struct Coming {
+    /// Whether the text of the cut comes.
+    pub(crate) text: bool,
+    /// Whether the header of the answer comes.
+    pub(crate) head: bool,
     /// The answer, if there is one.
-    pub answer: Option<Answer>,
+    pub(crate) answer: Option<Answer>,
 }
 
 impl Coming {
     /// Nothing comes after the piece.
-    pub fn nothing() -> Self
+    pub(crate) fn nothing() -> Self
         ensures { result ≡ record { text = false; head = false; answer = None } }
     {
         Coming {
@@ -33,7 +33,7 @@ impl Coming {
     }
 
     /// The next part of what comes is the piece from now on. It is empty where nothing comes.
-    pub fn put_next(&mut self, cut: &Cut, strip: &mut [u32], piece: &mut Piece)
+    pub(crate) fn put_next(&mut self, cut: &Cut, strip: &mut [u32], piece: &mut Piece)
         requires is_of { IsOf self.old cut.now }
         requires strip { TILE_SIDE * cut.now.width ≤ length strip.old }
         requires room { piece.old.room ≡ longest_piece cut.now.width }

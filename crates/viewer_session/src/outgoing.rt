@@ -27,7 +27,7 @@ const WIDEST_PIXEL: usize = 4;
 /// A cut of the source, one piece of the bytes that wait to be sent, and what of the cut comes after it. Contracts see
 /// the cut, the piece's bytes, and all bytes that aren't sent.
 #[derive(Drop)]
-pub struct Outgoing {
+pub(crate) struct Outgoing {
     cut: Cut,
     piece: Piece,
     strip: Vec<u32>,
@@ -48,7 +48,7 @@ impl Model for Outgoing {
 impl Outgoing {
     /// Nothing waits, over a screen of `width` by `height` pixels. All the room is taken here. It fails where memory is
     /// refused (`Memory`).
-    pub fn new(alloc: Global, width: u64, height: u64) -> Result<Self, Fault>
+    pub(crate) fn new(alloc: Global, width: u64, height: u64) -> Result<Self, Fault>
         requires { IsScreenSize width height }
         ensures size { IfOk result (λ out. (out.cut.width ≡ width) × (out.cut.height ≡ height)) }
         ensures empty { IfOk result (λ out. (out.filled ≡ 0) × (out.piece ≡ []) × (out.unsent ≡ [])) }
@@ -66,14 +66,14 @@ impl Outgoing {
     }
 
     /// The last cut. Before the first it shows nothing.
-    pub fn cut(&self) -> &Cut
+    pub(crate) fn cut(&self) -> &Cut
         ensures { result.now ≡ self.now.cut }
     {
         &self.cut
     }
 
     /// The piece that is sent next: as long as it isn't empty, the first of the bytes that wait.
-    pub fn piece(&self) -> &[u8]
+    pub(crate) fn piece(&self) -> &[u8]
         ensures value { result.now ≡ self.now.piece }
         ensures begins { Begins result.now self.now.unsent }
         ensures shows { length result.now ≡ 0 → self.now.unsent ≡ [] }
@@ -83,7 +83,7 @@ impl Outgoing {
     }
 
     /// This many bytes of the piece, from the first on, were sent. Once it is empty the next takes its place.
-    pub fn sent(&mut self, count: usize)
+    pub(crate) fn sent(&mut self, count: usize)
         requires { count ≤ length self.old.piece }
         ensures cut { self.new.cut ≡ self.old.cut }
         ensures unsent { self.new.unsent ≡ drop count self.old.unsent }
@@ -98,7 +98,7 @@ impl Outgoing {
     }
 
     /// Further bytes of a hello wait, where nothing comes after the piece.
-    pub fn append(&mut self, bytes: &[u8])
+    pub(crate) fn append(&mut self, bytes: &[u8])
         requires room { self.old.filled + length bytes.now ≤ 65544 }
         requires alone { self.old.unsent ≡ self.old.piece }
         ensures cut { self.new.cut ≡ self.old.cut }
@@ -110,7 +110,7 @@ impl Outgoing {
     }
 
     /// Cuts the source, where all bytes were sent. What is cut waits only once `begin` says so.
-    pub fn take<S: ScreenSource>(
+    pub(crate) fn take<S: ScreenSource>(
         &mut self,
         source: &mut S,
         area: &Rect,
@@ -133,7 +133,7 @@ impl Outgoing {
     }
 
     /// What of the cut is sent waits from now on, and nothing else: a Bell, its text and an answer, in this order.
-    pub fn begin(&mut self, bell: bool, text: bool, answer: Option<Answer>)
+    pub(crate) fn begin(&mut self, bell: bool, text: bool, answer: Option<Answer>)
         requires text { text ≡ true → is_some self.old.cut.text ≡ true }
         requires answer { IfSome answer (λ begun. AnswerStands begun self.old.cut) }
         ensures cut { self.new.cut ≡ self.old.cut }

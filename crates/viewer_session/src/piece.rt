@@ -17,7 +17,7 @@ use update_encoder::Answer;
 /// Bytes that wait to be sent, in room that was reserved for them. Contracts see how much room there is and how much of
 /// it is taken, and the bytes that aren't sent yet.
 #[derive(Drop)]
-pub struct Piece {
+pub(crate) struct Piece {
     bytes: Vec<u8>,
     filled: usize,
     sent: usize,
@@ -35,8 +35,8 @@ impl Model for Piece {
 }
 
 impl Piece {
-    /// An empty one with room for this many bytes. It fails where memory is refused (`Memory`).
-    pub fn new(alloc: Global, room: usize) -> Result<Self, Fault>
+    /// An empty piece with room for this many bytes. It fails where memory is refused (`Memory`).
+    pub(crate) fn new(alloc: Global, room: usize) -> Result<Self, Fault>
         ensures ok { IfOk result (λ piece. (piece.room ≡ room) × (piece.filled ≡ 0) × (piece.unsent ≡ [])) }
         ensures err { IfErr result (λ fault. fault ≡ Memory) }
     {
@@ -52,7 +52,7 @@ impl Piece {
     }
 
     /// The bytes that aren't sent yet.
-    pub fn unsent(&self) -> &[u8]
+    pub(crate) fn unsent(&self) -> &[u8]
         ensures value { result.now ≡ self.now.unsent }
         ensures few { length result.now ≤ self.now.filled }
         ensures within { self.now.filled ≤ self.now.room }
@@ -60,8 +60,8 @@ impl Piece {
         &self.bytes.as_slice()[self.sent..self.filled]
     }
 
-    /// This many of them, from the first on, were sent.
-    pub fn sent(&mut self, count: usize)
+    /// The first of the unsent bytes, this many, were sent.
+    pub(crate) fn sent(&mut self, count: usize)
         requires { count ≤ length self.old.unsent }
         ensures room { (self.new.room ≡ self.old.room) × (self.new.filled ≡ self.old.filled) }
         ensures unsent { self.new.unsent ≡ drop count self.old.unsent }
@@ -70,7 +70,7 @@ impl Piece {
     }
 
     /// Further bytes wait, after those that waited before.
-    pub fn append(&mut self, bytes: &[u8])
+    pub(crate) fn append(&mut self, bytes: &[u8])
         requires { self.old.filled + length bytes.now ≤ self.old.room }
         ensures room { self.new.room ≡ self.old.room }
         ensures filled { self.new.filled ≡ self.old.filled + length bytes.now }
@@ -82,7 +82,7 @@ impl Piece {
     }
 
     /// Nothing waits from now on.
-    pub fn clear(&mut self)
+    pub(crate) fn clear(&mut self)
         ensures room { (self.new.room ≡ self.old.room) × (self.new.filled ≡ 0) }
         ensures unsent { self.new.unsent ≡ [] }
     {
@@ -91,7 +91,7 @@ impl Piece {
     }
 
     /// A Bell waits from now on, and nothing else (RFC 6143, 7.6.3).
-    pub fn put_bell(&mut self)
+    pub(crate) fn put_bell(&mut self)
         requires { 1 ≤ self.old.room }
         ensures room { self.new.room ≡ self.old.room }
         ensures unsent { self.new.unsent ≡ bell_bytes }
@@ -101,7 +101,7 @@ impl Piece {
     }
 
     /// A text waits from now on, and nothing else (RFC 6143, 7.6.4).
-    pub fn put_text(&mut self, text: &[u8])
+    pub(crate) fn put_text(&mut self, text: &[u8])
         requires short { length text.now ≤ LONGEST_TEXT }
         requires room { 8 + length text.now ≤ self.old.room }
         ensures room { self.new.room ≡ self.old.room }
@@ -112,7 +112,7 @@ impl Piece {
     }
 
     /// The header of an update of this many rectangles waits from now on, and nothing else (RFC 6143, 7.6.1).
-    pub fn put_update_head(&mut self, rectangles: u64)
+    pub(crate) fn put_update_head(&mut self, rectangles: u64)
         requires few { rectangles < 65536 }
         requires room { 4 ≤ self.old.room }
         ensures room { self.new.room ≡ self.old.room }
@@ -124,7 +124,7 @@ impl Piece {
 
     /// The next rectangle of an answer waits from now on, and nothing else; where there is none, nothing does. It is
     /// encoded over a strip of pixel values.
-    pub fn put_rectangle(&mut self, answer: &mut Answer, cut: &Cut, strip: &mut [u32])
+    pub(crate) fn put_rectangle(&mut self, answer: &mut Answer, cut: &Cut, strip: &mut [u32])
         requires stands { AnswerStands answer.old cut.now }
         requires strip { TILE_SIDE * cut.now.width ≤ length strip.old }
         requires room { 12 + 64 * cut.now.width ≤ self.old.room }

@@ -203,7 +203,7 @@ impl Session {
         }
     }
 
-    /// Whether the hello is done.
+    /// Whether the hello is done, so that messages are read.
     fn is_greeted(&self) -> bool
         ensures value { result ≡ is_greeted self.now }
         ensures fresh { is_greeted self.now ≡ false → fault_of (ahead self.now.reader) ≡ None }
