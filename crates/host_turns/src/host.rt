@@ -1,8 +1,10 @@
 //! The turn of one host.
 
 ghost use Rattle.std.specs.Prelude.{◌≡◌, ◌⊎◌, ◌<◌, [], ◌∷◌, ◌++◌, length, map, vec_capacity, vec_len, IfErr, IfOk, OnErr, OnOk};
-ghost use Rattle.raster.specs.Screen.{opening};
+ghost use Rattle.painter.specs.Same.{AreSameUpdates};
+ghost use Rattle.raster.specs.Screen.{Canvas, opening};
 ghost use Rattle.raster.specs.Size.{IsScreenSize};
+ghost use Rattle.raster.specs.Switch.{switch};
 ghost use Rattle.host_decoder.specs.Decoder.{Decodes, IsFor, host_message};
 ghost use Rattle.fault.specs.declared.kinds.Fault.TheVariants.{Memory};
 ghost use Rattle.link.specs.Links.{LinkState};
@@ -14,7 +16,7 @@ use fault::Fault;
 use host_decoder::HostScreen;
 use host_reader::run_host;
 use link::{Link, join_host};
-use painter::Painter;
+use painter::Patch;
 use reflect_core::Puts;
 use rfb_wire::Joined;
 use serving::Alarm;
@@ -93,32 +95,33 @@ fn join_at<L: Link, R: Wait>(rt: &R, run_screen: &RunScreen, link: &mut L) -> Re
     Ok(joined)
 }
 
-/// Puts a switch: the screen turns black.
-fn put_switch<P: Puts>(run_screen: &RunScreen, publisher: &mut P) -> Result<(), Fault>
-    requires { (P.width publisher.old ≡ run_screen.now.width) × (P.height publisher.old ≡ run_screen.now.height) }
+/// Puts the patch of a switch: the screen turns black.
+fn put_switch<P: Puts>(patch: Patch, publisher: &mut P) -> Result<(), Fault>
+    requires publisher { (P.width publisher.old ≡ patch.width) × (P.height publisher.old ≡ patch.height) }
+    requires same { (start : Canvas) → AreSameUpdates patch.width patch.height start (switch patch.width patch.height ∷ []) (patch.update ∷ []) }
     ensures publisher { (P.width publisher.new ≡ P.width publisher.old) × (P.height publisher.new ≡ P.height publisher.old) }
-    ensures ok { OnOk result (IsSwitched run_screen.now.width run_screen.now.height (P.updates publisher.old) (P.updates publisher.new)) }
+    ensures ok { OnOk result (IsSwitched patch.width patch.height (P.updates publisher.old) (P.updates publisher.new)) }
     ensures err { IfErr result (λ fault. IsWant (length (P.updates publisher.old)) fault × (P.updates publisher.new ≡ P.updates publisher.old)) }
 {
-    let mut black = Painter::new(run_screen.alloc, run_screen.width, run_screen.height)?;
-    let patch = black.switch()?;
     match publisher.put(patch) {
         Ok(_) => Ok(()),
         Err((fault, _patch)) => Err(fault),
     }
 }
 
-/// Takes all the memory that a further host wants: room for its link, and what reads it.
-fn make_ready<L>(run_screen: &RunScreen, links: &mut Vec<L>) -> Result<HostScreen, Fault>
+/// Takes all the memory that a further host wants: room for its link, what reads it, and the patch of its switch.
+fn make_ready<L>(run_screen: &RunScreen, links: &mut Vec<L>) -> Result<(HostScreen, Patch), Fault>
     ensures links { links.new.items ≡ links.old.items }
     ensures room { OnOk result (vec_len links.new < vec_capacity links.new) }
-    ensures size { IfOk result (λ screen. (screen.decoder.width ≡ run_screen.now.width) × (screen.decoder.height ≡ run_screen.now.height)) }
-    ensures begins { IfOk result (λ screen. Decodes screen.decoder screen.painter opening (host_message run_screen.now.width run_screen.now.height)) }
-    ensures pair { IfOk result (λ screen. IsFor screen.decoder screen.painter) }
+    ensures size { IfOk result (λ made. (made.0.decoder.width ≡ run_screen.now.width) × (made.0.decoder.height ≡ run_screen.now.height)) }
+    ensures begins { IfOk result (λ made. Decodes made.0.decoder made.0.painter opening (host_message run_screen.now.width run_screen.now.height)) }
+    ensures pair { IfOk result (λ made. IsFor made.0.decoder made.0.painter) }
+    ensures sized { IfOk result (λ made. (made.1.width ≡ run_screen.now.width) × (made.1.height ≡ run_screen.now.height)) }
+    ensures same { IfOk result (λ made. (start : Canvas) → AreSameUpdates run_screen.now.width run_screen.now.height start (switch run_screen.now.width run_screen.now.height ∷ []) (made.1.update ∷ [])) }
     ensures err { IfErr result (λ fault. fault ≡ Memory) }
 {
     links.reserve(1)?;
-    HostScreen::new(run_screen.alloc, run_screen.width, run_screen.height)
+    HostScreen::switched(run_screen.alloc, run_screen.width, run_screen.height)
 }
 
 /// Joins a host at the screen's size, and then puts the switch. The link has room among those that were read.
@@ -145,8 +148,8 @@ fn meet<L: Link, H: Hosts<L>, P: Puts, R: Wait>(
 {
     let joined = join_at(rt, run_screen, link)?;
     hosts.joined(link, &joined);
-    let screen = make_ready(run_screen, links)?;
-    put_switch(run_screen, publisher)?;
+    let (screen, patch) = make_ready(run_screen, links)?;
+    put_switch(patch, publisher)?;
     Ok(screen)
 }
 
