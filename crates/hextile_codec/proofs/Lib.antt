@@ -32,3 +32,5 @@ pub mod Searched
 pub mod Shown
 pub mod Buckets
 pub mod Heights
+pub mod Unbroken
+pub mod BreakBits

@@ -6,3 +6,4 @@ pub mod Marks
 pub mod Crowded
 pub mod Buckets
 pub mod TileMarks
+pub mod Breaks

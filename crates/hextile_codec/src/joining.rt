@@ -2,17 +2,18 @@
 
 ghost use Rattle.std.specs.Prelude.{◌≡◌, ◌+◌, ◌*◌, ◌<◌, ◌≤◌, ◌^◌, length, map};
 ghost use Rattle.std.specs.List.{All};
-ghost use Rattle.raster.specs.Screen.{value_at, part_of};
+ghost use Rattle.raster.specs.Screen.{Canvas, value_at, part_of};
 ghost use Rattle.joined_runs.specs.declared.runs.Runs.TheVariants.{OfRows, Joined};
 ghost use Rattle.joined_runs.specs.Joined.{joined_runs, runs_over, written};
+ghost use Rattle.hextile_codec.specs.Breaks.{StandsAmong};
 ghost use Rattle.hextile_codec.specs.Kinds.{IsRowRun, IsFoundAs, IsSearched, AreBeside, subrect_of};
 ghost use Rattle.hextile_codec.specs.Marks.{LiesAmong};
-ghost use Rattle.hextile_codec.specs.TileMarks.{AreTileMarks, IsOther};
 
+use crate::breaks::Breaks;
 use crate::crowded::is_crowded;
 use crate::frequent::{Pixels, find_most};
 use crate::runs::{Found, Run, find_each_row, find_runs, is_plain};
-use crate::tile_marks::{TileMarks, find_whole};
+use crate::tile_marks::find_whole;
 use joined_runs::{RowRun, Runs, height};
 use raster::{Rect, TILE_SIDE};
 
@@ -60,27 +61,15 @@ fn join(values: &[u32], w: usize, tile: &Rect, runs: &[Run], joined: &mut Found)
     }
 }
 
-/// Joins all runs of a whole tile with those below them, by its marks.
-fn join_marked(
-    values: &[u32],
-    w: usize,
-    tile: &Rect,
-    marks: &TileMarks,
-    runs: &[Run],
-    joined: &mut Found,
-)
-    requires lies { LiesAmong values.now w tile.now }
-    requires wide { tile.now.w ≡ 16 }
-    requires high { tile.now.h ≡ 16 }
-    requires marks { AreTileMarks (part_of tile.now (value_at w values.now)) marks.now.background marks.now }
+/// Joins all runs of a whole tile with those below them, by its breaks.
+fn join_marked(breaks: &Breaks, runs: &[Run], joined: &mut Found)
     requires rows { All (IsRowRun 16 16) runs.now }
-    requires others { All (IsOther marks.now.background) runs.now }
     requires few { length runs.now ≤ 256 }
-    ensures { map subrect_of joined.new.items ≡ written Joined (part_of tile.now (value_at w values.now)) 16 16 (map subrect_of runs.now) }
+    ensures { (canvas : Canvas) → All (StandsAmong canvas breaks.now) runs.now → map subrect_of joined.new.items ≡ written Joined canvas 16 16 (map subrect_of runs.now) }
 {
     joined.clear();
     for run in runs {
-        if let Some(high) = marks.height(values, w, tile, run) {
+        if let Some(high) = breaks.height(run) {
             joined.push(Run {
                 high: high as u8,
                 ..*run
@@ -101,7 +90,8 @@ fn search_over(values: &[u32], w: usize, tile: &Rect, background: u32, room: &mu
     if tile.w == TILE_SIDE && tile.h == TILE_SIDE {
         let marks = find_whole(values, w, tile, background, &mut room.runs);
         let runs = room.runs.as_slice();
-        join_marked(values, w, tile, &marks, runs, &mut room.subrects);
+        let breaks = marks.breaks(values, w, tile);
+        join_marked(&breaks, runs, &mut room.subrects);
     } else {
         find_each_row(values, w, tile, background, &mut room.runs);
         join(values, w, tile, room.runs.as_slice(), &mut room.subrects);

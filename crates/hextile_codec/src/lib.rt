@@ -7,6 +7,7 @@
 //! bytes. Nothing here takes memory or a handle.
 #![tactic(auto)]
 
+mod breaks;
 mod colours;
 mod crowded;
 mod drawing;

@@ -73,7 +73,7 @@ fn mark_row(row: &[u32], background: u32) -> Marks
 }
 
 /// The bits of four rows of 16 as those of one word, the first row's lowest.
-fn join_bits(first: u64, second: u64, third: u64, fourth: u64) -> u64
+pub fn join_bits(first: u64, second: u64, third: u64, fourth: u64) -> u64
     requires few { (first < 2 ^ 16) × (second < 2 ^ 16) × (third < 2 ^ 16) × (fourth < 2 ^ 16) }
     ensures first { (x : ℕ) → x < 16 → bit_at result x ≡ bit_at first x }
     ensures second { (x : ℕ) → x < 16 → bit_at result (16 + x) ≡ bit_at second x }
