@@ -80,8 +80,9 @@ fn most_frequent(values: &[u32]) -> u32
     // None of those that come first at `at` or later is more frequent than there are left, nor than the others.
     while at < len && most < (len - at).min(len - most) {
         let value = values[at];
-        // A value isn't more frequent than its bucket. One that was counted mostly has a bucket of its own.
-        if value != best && most < buckets[bucket_of(value)] {
+        // A value isn't more frequent than its bucket. One that was counted mostly has a bucket of its own, also the
+        // best, so that the second test is rarely made.
+        if most < buckets[bucket_of(value)] && value != best {
             let count = count_of(&values[at..], value);
             if count > most {
                 best = value;

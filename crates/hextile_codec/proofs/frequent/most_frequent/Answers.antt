@@ -5,7 +5,7 @@ use Rattle.joined_runs.specs.Joined.{count_of}
 use Rattle.hextile_codec.specs.Buckets.{bucket_of}
 use Rattle.hextile_codec.proofs.MostFound.{count_few, best_again, grown, better, not_better, none_left, half, best_is}
 use Rattle.hextile_codec.proofs.frequent.most_frequent.Goals as goal
-use Rattle.hextile_codec.proofs.frequent.most_frequent.Goals.{then-value-best+then-most-buckets+then-count-most, then-value-best+then-most-buckets+else-count-most, else-value-best, else-value-best-via-then-value-best+else-most-buckets, else-value-best-via-else-value-best}
+use Rattle.hextile_codec.proofs.frequent.most_frequent.Goals.{then-most-buckets+then-value-best+then-count-most, then-most-buckets+then-value-best+else-count-most, else-most-buckets, else-most-buckets-via-else-most-buckets, else-most-buckets-via-then-most-buckets+else-value-best}
 
 -- What is left of a list, as a slice has it.
 left_is : (values : List ℕ) (at u : ℕ) → count_of (take (length values - at) (drop at values)) u ≡ count_of (drop at values) u
@@ -19,18 +19,18 @@ loop-at-preserved c =
     let values : List ℕ = c.args.values.now in
     let at : ℕ = c.loop-at.at in
     let inside : at < length values = omega (arith, c.loop-at-test.true) in
-    elim c.if-value-best.branch [
-      | then-value-best+then-most-buckets+then-count-most w ↦
+    elim c.if-most-buckets.branch [
+      | then-most-buckets+then-value-best+then-count-most w ↦
           rw (w.best-is, w.most-is) (better values at c.loop-at.best c.loop-at.most w.count_of-count.result c.loop-at.invariant inside (w.count_of-count.ensures.count ∙ left_is values at (get_or values at 0)) (omega (arith, w.if-count-most.true)))
-      | then-value-best+then-most-buckets+else-count-most w ↦
+      | then-most-buckets+then-value-best+else-count-most w ↦
           rw (w.best-is, w.most-is) (not_better values at c.loop-at.best c.loop-at.most w.count_of-count.result c.loop-at.invariant inside (w.count_of-count.ensures.count ∙ left_is values at (get_or values at 0)) (omega (arith, w.if-count-most.false)))
-      | else-value-best w ↦ rw (w.best-is, w.most-is) (elim w.else-value-best.branch [
-        | else-value-best-via-then-value-best+else-most-buckets v ↦
+      | else-most-buckets w ↦ rw (w.best-is, w.most-is) (elim w.else-most-buckets.branch [
+        | else-most-buckets-via-else-most-buckets v ↦
             let u : ℕ = get_or values at 0 in
             let few = c.count_buckets-buckets.ensures.counts u in
-            let place : get_or c.count_buckets-buckets.result v.bucket_of.result 0 ≡ get_or c.count_buckets-buckets.result (bucket_of u) 0 = ap (λ b. get_or c.count_buckets-buckets.result b 0) v.bucket_of.ensures.value in
+            let place : get_or c.count_buckets-buckets.result c.bucket_of.result 0 ≡ get_or c.count_buckets-buckets.result (bucket_of u) 0 = ap (λ b. get_or c.count_buckets-buckets.result b 0) c.bucket_of.ensures.value in
             grown values at c.loop-at.best c.loop-at.most c.loop-at.invariant inside (omega (arith, few, place, v.if-most-buckets.false))
-        | else-value-best-via-else-value-best v ↦ best_again values at c.loop-at.best c.loop-at.most c.loop-at.invariant inside v.if-value-best.false
+        | else-most-buckets-via-then-most-buckets+else-value-best v ↦ best_again values at c.loop-at.best c.loop-at.most c.loop-at.invariant inside v.if-value-best.false
       ])
     ]
 
