@@ -5,7 +5,7 @@ use crate::loopback::{hears, listen};
 use bytes::Bytes;
 use link::{Gave, Link, Took};
 use roles::Role;
-use serving::{Door, Gate, Lobby, NoLog, Seat, TcpDoor, WebEntry, WebPorter};
+use serving::{Desk, Door, Gate, Lobby, NoLog, Seat, TcpDoor, WebEntry, WebPorter};
 use std::alloc::Global;
 use std::hash::RandomState;
 use std::io::ErrorKind;
@@ -166,7 +166,8 @@ where
     let alloc = net.alloc();
     let gate = Gate::new(listen(net)?, Role::Full);
     let address = gate.listener().local_addr()?;
-    let lobby = Arc::new(alloc, Lobby::new(alloc, Role::Full, 1, 60)?)?;
+    let desk = Arc::new(alloc, Desk::new(alloc, 1)?)?;
+    let lobby = Arc::new(alloc, Lobby::new(alloc, Role::Full, 1, 60, desk)?)?;
     lobby.hold(&rt, true);
     let entry = WebEntry::new(gate, site(alloc, address)?, Arc::try_clone(&lobby)?)?;
     let seat = Arc::new(alloc, Seat::new(net, alloc)?)?;

@@ -6,6 +6,7 @@ use crate::loopback::{free_port, listen};
 use plan::{Plan, WebPlan};
 use serve::{Ports, serve};
 use std::alloc::AllocGlobal;
+use std::env::Env;
 use std::net::{Net, TcpListener, TcpStream};
 use std::random::RandomSource;
 use std::rt::Files;
@@ -119,6 +120,7 @@ where
         + Files
         + AllocGlobal
         + RandomSource
+        + Env
         + Eprint
         + Copy
         + Drop
@@ -146,6 +148,8 @@ where
             root: None,
             origins: &[],
         },
+        control: None,
+        metrics: None,
         is_logged: false,
     };
     Ok(serve(rt, alloc, &plan, &mut Ports::new(alloc)))
@@ -161,6 +165,7 @@ where
         + Files
         + AllocGlobal
         + RandomSource
+        + Env
         + Eprint
         + Copy
         + Drop

@@ -6,7 +6,7 @@ use crate::ports::site;
 use link::{Gave, Link, Took};
 use roles::Role;
 use serving::{
-    Alarm, BrowserLink, Gate, Lobby, NoLog, Parting, Seat, ViewerTcpLink, WebEntry, WebPorter,
+    Alarm, BrowserLink, Desk, Gate, Lobby, NoLog, Parting, Seat, ViewerTcpLink, WebEntry, WebPorter,
 };
 use std::alloc::Global;
 use std::hash::RandomState;
@@ -237,7 +237,8 @@ where
     let alloc = net.alloc();
     let gate = Gate::new(listen(net)?, Role::View);
     let address = gate.listener().local_addr()?;
-    let lobby = Arc::new(alloc, Lobby::new(alloc, Role::View, 1, 60)?)?;
+    let desk = Arc::new(alloc, Desk::new(alloc, 1)?)?;
+    let lobby = Arc::new(alloc, Lobby::new(alloc, Role::View, 1, 60, desk)?)?;
     let entry = WebEntry::new(gate, site(alloc, address)?, Arc::try_clone(&lobby)?)?;
     let mut entries = Vec::new(alloc);
     entries.push(entry)?;

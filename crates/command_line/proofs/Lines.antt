@@ -13,6 +13,7 @@ behind (first ∷ rest) = rest
 pub is_no_task : (words rest : List Text) (status : ℕ) → words ≡ codes "serve" ∷ rest → IsBad (fault_of serve rest) status → IsNoTask words status
 is_no_task words rest status line bad = record {
   no_replay = λ same. grind arith;
+  no_control = λ other. grind arith;
   no_serve = λ other same. subst (λ (r : List Text). IsBad (fault_of serve r) status) (ap behind (sym line ∙ same)) bad;
   two_or_four = elim bad [
     | inl four ↦ inr four

@@ -1,5 +1,5 @@
 -- What a line asks for. Its words are those after the program's name.
-use Rattle.std.specs.Prelude.{◌≡◌, ◌≢◌, ◌≤◌, ◌⊎◌, ◌∷◌, List, [], codes, option_map, ℕ}
+use Rattle.std.specs.Prelude.{◌≡◌, ◌≢◌, ◌<◌, ◌≤◌, ◌⊎◌, ◌∷◌, List, [], codes, length, option_map, ℕ}
 use Rattle.std.specs.String.{string_bytes}
 use Rattle.clap.specs.Words.{Text, fault_of}
 use Rattle.plan.specs.declared.plan.Plan.{Plan}
@@ -8,7 +8,7 @@ use Rattle.settings.specs.Given.{AreSetBy}
 use Rattle.settings.specs.Serve.{IsBad, serve}
 use Rattle.settings.specs.declared.values.Settings.{Settings}
 use Rattle.command_line.specs.declared.task.Task.{Task}
-use Rattle.command_line.specs.declared.task.Task.TheVariants.{Replay, Serve, Explain}
+use Rattle.command_line.specs.declared.task.Task.TheVariants.{Replay, Serve, Control, Explain}
 
 -- `serve` is told what the line sets.
 pub record IsPlanOf (s : Settings) (plan : Plan) : Type 0 where
@@ -28,40 +28,56 @@ pub record IsPlanOf (s : Settings) (plan : Plan) : Type 0 where
   pub web_origins : plan.web.origins.now ≡ s.web_origins.items
   pub stalled : plan.stalled ≡ s.stalled
   pub joined_runs : plan.has_joined_runs ≡ s.joined_runs
+  pub metrics : option_map (λ text. text.now) plan.metrics ≡ option_map string_bytes s.metrics
+  pub control : option_map (λ text. text.now) plan.control ≡ option_map string_bytes s.control
   pub log : plan.is_logged ≡ s.log
 
 -- The line of `replay`, which has no further words.
 abbrev pub replay_line : List Text
 replay_line = codes "replay" ∷ []
 
--- Nothing can be done: the line isn't that of `replay`, and if it is one of `serve`, then its options are at fault, or
--- memory was refused. The status is 2, or 4 where memory was refused.
+-- A line of `control` has a path and at least one word of a request behind it.
+abbrev pub IsControlLine : List Text → Type 0
+IsControlLine words = (rest : List Text) × (words ≡ codes "control" ∷ rest) × (1 < length rest)
+
+-- Nothing can be done: the line isn't that of `replay` or of `control`, and if it is one of `serve`, then its options are
+-- at fault, or memory was refused. The status is 2, or 4 where memory was refused.
 pub record IsNoTask (words : List Text) (status : ℕ) : Type 0 where
   pub no_replay : words ≢ replay_line
+  pub no_control : ¬ IsControlLine words
   pub no_serve : (rest : List Text) → words ≡ codes "serve" ∷ rest → IsBad (fault_of serve rest) status
   pub two_or_four : (status ≡ 2) ⊎ (status ≡ 4)
 
--- What the words ask for: `replay` alone to play a script, and `serve` with its options to reflect a host as they say.
+-- What the words ask for: `replay` alone to play a script, `control` to ask something of a run, and `serve` with its
+-- options to reflect a host as they say.
 abbrev pub IsAsked : List Text → Task → Type 0
 IsAsked words Replay = words ≡ replay_line
 IsAsked words (Serve settings) = (rest : List Text) × (words ≡ codes "serve" ∷ rest) × AreSetBy rest settings
+IsAsked words Control = IsControlLine words
 IsAsked words (Explain bad) = IsNoTask words bad.status
 
--- What was done: a script was played, or a plan was served that says what the line sets, and ended with this status;
--- what can't be done has its own.
-abbrev pub IsDone : (serves : Plan → ℕ → Type 0) → (plays : ℕ → Type 0) → Task → ℕ → Type 0
-IsDone serves plays Replay status = plays status
-IsDone serves plays (Serve settings) status = (plan : Plan) × IsPlanOf settings plan × serves plan status
-IsDone serves plays (Explain bad) status = status ≡ bad.status
+-- What was done: a script was played, or a run was asked, or a plan was served that says what the line sets, and ended
+-- with this status; what can't be done has its own.
+abbrev pub IsDone : (serves : Plan → ℕ → Type 0) → (plays : ℕ → Type 0) → (asks : ℕ → Type 0) → Task → ℕ → Type 0
+IsDone serves plays asks Replay status = plays status
+IsDone serves plays asks (Serve settings) status = (plan : Plan) × IsPlanOf settings plan × serves plan status
+IsDone serves plays asks Control status = asks status
+IsDone serves plays asks (Explain bad) status = status ≡ bad.status
 
 -- A script may end with 0, or with 2 to 4.
 abbrev pub MayEndAScript : ℕ → Type 0
 MayEndAScript status = (status ≡ 0) ⊎ ((2 ≤ status) × (status ≤ 4))
 
--- How a task may end: a script as it may; a run as `serve` may; what can't be done with its own status.
+-- What was asked for is done, or it isn't.
+abbrev pub MayEndAnAsking : ℕ → Type 0
+MayEndAnAsking status = (status ≡ 0) ⊎ (status ≡ 1)
+
+-- How a task may end: a script as it may; a run as `serve` may; asking as that may; what can't be done with its own
+-- status.
 abbrev pub EndsAs : Task → ℕ → Type 0
 EndsAs Replay status = MayEndAScript status
 EndsAs (Serve settings) status = IsStatus status
+EndsAs Control status = MayEndAnAsking status
 EndsAs (Explain bad) status = status ≡ bad.status
 
 -- The words ask for a task, and the status is one with which it may end.

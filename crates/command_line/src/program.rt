@@ -2,11 +2,12 @@
 
 ghost use Rattle.std.specs.Prelude.{◌≡◌, map, option_map};
 ghost use Rattle.std.specs.String.{string_bytes};
-ghost use Rattle.command_line.specs.Tasks.{IsAnswered, IsAsked, IsDone, IsPlanOf, MayEndAScript};
+ghost use Rattle.command_line.specs.Tasks.{IsAnswered, IsAsked, IsDone, IsPlanOf, MayEndAScript, MayEndAnAsking};
 ghost use Rattle.command_line.specs.declared.task.Task.{Task as Asked};
 ghost use Rattle.plan.specs.Statuses.{HasPlaces, IsStatus};
 ghost use Rattle.plan.specs.declared.plan.Plan.{Plan as Told};
 
+use crate::asking::ask;
 use crate::task::{Task, task_of};
 use plan::{Plan, WebPlan};
 use serve::{Ports, serve};
@@ -71,26 +72,38 @@ fn plan_of(settings: &Settings) -> Plan<'_>
             root: shown(&settings.web_root),
             origins: settings.web_origins.as_slice(),
         },
+        metrics: shown(&settings.metrics),
+        control: shown(&settings.control),
         is_logged: settings.log,
     }
 }
 
 /// Has done what these words say, which are those after the program's name, and answers the exit status: of `replay`
-/// that of playing a script, of `serve` that of serving a plan, which says of the hosts, the address, the ports, the
-/// places and the rest what the words set, and of any other line its own, 2 or 4.
+/// that of playing a script, of `control` that of asking, of `serve` that of serving a plan, which says of the hosts,
+/// the address, the ports, the places and the rest what the words set, and of any other line its own, 2 or 4.
 #[tactic(auto, using(crate::proofs::Places::has_places))]
-pub fn perform<S, P, T>(alloc: Global, words: &[String], serves: S, plays: P, tells: T) -> u8
+pub fn perform<S, P, A, T>(
+    alloc: Global,
+    words: &[String],
+    serves: S,
+    plays: P,
+    asks: A,
+    tells: T,
+) -> u8
 where
     S: FnOnce(Plan<'_>) -> u8 + Drop,
     P: FnOnce() -> u8 + Drop,
+    A: FnOnce() -> u8 + Drop,
     T: FnOnce(&str) + Drop,
     requires serves { (plan : Told) → HasPlaces plan → S.pre serves plan }
     requires plays { P.pre plays }
+    requires asks { A.pre asks }
     requires tells { T.IsAlwaysCallable tells }
-    ensures { (task : Asked) × IsAsked (map string_bytes words.now) task × IsDone (λ plan status. S.post serves plan status) (λ status. P.post plays status) task result }
+    ensures { (task : Asked) × IsAsked (map string_bytes words.now) task × IsDone (λ plan status. S.post serves plan status) (λ status. P.post plays status) (λ status. A.post asks status) task result }
 {
     match task_of(alloc, words) {
         Task::Replay => plays(),
+        Task::Control => asks(),
         Task::Serve(settings) => serves(plan_of(&settings)),
         Task::Explain(BadLine { status, text }) => {
             tells(text.as_str());
@@ -100,8 +113,8 @@ where
 }
 
 /// Does what these words say, which are those after the program's name, and answers the exit status: that of
-/// `replay::replay` or of `serve`; 2 where the line is no command, with what is wrong with it on standard error;
-/// 4 where memory is refused.
+/// `replay::replay` or of `serve`; of `control` 0 with the answer on standard output, or 1 with the reason on standard
+/// error; 2 where the line is no command, with what is wrong with it on standard error; 4 where memory is refused.
 pub fn run_words<R, I, O>(rt: R, alloc: Global, words: &[String], reader: I, writer: O) -> u8
 where
     R: Net<Stream = TcpStream, Listener = TcpListener>
@@ -111,6 +124,8 @@ where
         + Files
         + AllocGlobal
         + RandomSource
+        + Env
+        + Print
         + Eprint
         + Copy
         + Drop
@@ -130,6 +145,9 @@ where
         move || -> u8
             ensures { MayEndAScript result }
         { replay::replay(alloc, reader, writer) },
+        move || -> u8
+            ensures { MayEndAnAsking result }
+        { ask(&rt, alloc, words) },
         move |text: &str| {
             // Where standard error takes no text the status alone says it.
             let _ = rt.eprint(text);
@@ -149,6 +167,7 @@ where
         + Files
         + AllocGlobal
         + RandomSource
+        + Print
         + Eprint
         + Copy
         + Drop

@@ -14,12 +14,14 @@ pub enum Task {
     Replay,
     /// To reflect a host.
     Serve(Settings),
+    /// To ask something of a run.
+    Control,
     /// Nothing that can be done.
     Explain(BadLine),
 }
 
-/// What the words after the program's name ask for. The first picks the program: `serve` has options, `replay` no
-/// further words; every other line is explained.
+/// What the words after the program's name ask for. The first picks the program: `serve` has options, `control` a path
+/// and the words of a request, `replay` no further words; every other line is explained.
 pub(crate) fn task_of(alloc: Global, words: &[String]) -> Task
     ensures { IsAsked (map string_bytes words.now) result }
 {
@@ -28,6 +30,7 @@ pub(crate) fn task_of(alloc: Global, words: &[String]) -> Task
     };
     match first.as_str() {
         "replay" if rest.is_empty() => Task::Replay,
+        "control" if rest.len() > 1 => Task::Control,
         "serve" => match settings(alloc, rest) {
             Ok(settings) => Task::Serve(settings),
             Err(bad) => Task::Explain(bad),

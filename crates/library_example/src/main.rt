@@ -23,7 +23,7 @@ use std::alloc::Global;
 use std::io::{self, Read};
 use std::sync::Wait;
 use std::test::Fail;
-use viewer_server::run_viewer;
+use viewer_server::{NoProgress, run_viewer};
 use viewer_session::Session;
 
 /// How wide the host's screen is, in pixels.
@@ -101,6 +101,7 @@ fn serve_viewer<R: Wait>(
         &mut session,
         &NoStop,
         &NoRest,
+        &NoProgress,
     );
     Ok((ended, shown(alloc, link.given())?))
 }

@@ -9,7 +9,7 @@ use crate::tcp::{Keeper, come};
 use crate::viewers::Viewers;
 use crate::wire::VIEWERS;
 use roles::Role;
-use serving::{Door, Gate, Lobby, NoLog, Seat, TcpDoor, keep_door};
+use serving::{Desk, Door, Gate, Lobby, NoLog, PlaceCount, Seat, TcpDoor, keep_door};
 use std::alloc::Global;
 use std::net::{Ipv4Addr, SocketAddr, TcpListener};
 use std::sync::atomic::Ordering;
@@ -35,6 +35,7 @@ fn viewer_without_memory_is_let_go(rt: HostRuntime) -> Result<(), Fail> {
         alloc: rt.alloc(),
         board: Arc::try_clone(&board)?,
         hoard: None,
+        count: PlaceCount::new(),
     };
     let is_right = ends_well(rt, rt.alloc(), viewers, &board)?;
     assert!(rt; is_right);
@@ -100,7 +101,9 @@ fn viewer_without_memory_is_let_go_over_tcp(rt: HostRuntime) -> Result<(), Fail>
     let board = Board::new(rt.alloc())?;
     let listener = TcpListener::bind(&rt, SocketAddr::from((Ipv4Addr::LOCALHOST, 0)))?;
     let gate = Gate::new(listener, Role::Full);
-    let lobby = Arc::new(rt.alloc(), Lobby::new(rt.alloc(), Role::Full, 1, 60)?)?;
+    let desk = Arc::new(rt.alloc(), Desk::new(rt.alloc(), 1)?)?;
+    let lobby = Lobby::new(rt.alloc(), Role::Full, 1, 60, desk)?;
+    let lobby = Arc::new(rt.alloc(), lobby)?;
     let seat = Arc::new(rt.alloc(), Seat::new(&rt, rt.alloc())?)?;
     let log = Keeper::new(rt, rt.alloc(), Arc::try_clone(&board)?);
     let door = TcpDoor::new(rt, rt.alloc(), Arc::try_clone(&lobby)?, seat, 1, log);

@@ -5,7 +5,7 @@ use crate::bytes::{GREETING_AND_UPDATE, GREETING_LEN, HELLO_AND_ASK, HELLO_LEN};
 use crate::hoard::Hoard;
 use crate::wire::{Peer, Wire};
 use fault::Fault;
-use serving::Door;
+use serving::{Door, PlaceCount};
 use std::alloc::Global;
 use std::sync::Arc;
 
@@ -16,6 +16,7 @@ pub(crate) struct Viewers {
     pub(crate) board: Arc<Board, Global>,
     /// What is kept from the second one.
     pub(crate) hoard: Option<Hoard>,
+    pub(crate) count: PlaceCount,
 }
 
 /// What each viewer sends, in their order.
@@ -62,6 +63,10 @@ impl Door for Viewers {
             self.hoard = Hoard::new(self.alloc).ok()?;
         }
         Some(wire)
+    }
+
+    fn count(&self) -> &PlaceCount {
+        &self.count
     }
 
     fn left(&mut self, link: Wire, _answers: u64, why: Result<(), Fault>) {

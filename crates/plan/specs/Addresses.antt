@@ -1,6 +1,6 @@
 -- Where viewers are waited for, and where the hosts are.
 use Rattle.std.specs.Prelude.{◌≡◌, ◌++◌, ◌⊎◌, codes, ℕ, List, IsSomeAnd}
-use Rattle.std.specs.Net.Grammar.{IsIpText}
+use Rattle.std.specs.Net.Grammar.{IsIpText, IsSocketText}
 use Rattle.std.specs.declared.net.ip_addr.IpAddr.{IpAddr}
 use Rattle.std.specs.Net.Socket.{IsPlainSocket, socket_ip}
 use Rattle.std.specs.declared.net.socket_addr.SocketAddr.{SocketAddr}
@@ -26,3 +26,7 @@ pub record IsAddressFor (role : Role) (plan : Plan) (address : SocketAddr) : Typ
 pub record IsWebAddressFor (role : Role) (plan : Plan) (address : SocketAddr) : Type 0 where
   pub ip : IsBindText (bind_for role plan) (socket_ip address)
   pub web_port : IsSomeAnd (web_port_for role plan) (λ port. IsPlainSocket address port)
+
+-- The address at which machines read the run's numbers: the plan's text writes it.
+abbrev pub IsMetricsAddressFor : Plan → SocketAddr → Type 0
+IsMetricsAddressFor plan address = IsSomeAnd plan.metrics (λ text. IsSocketText text.now address)

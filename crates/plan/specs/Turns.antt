@@ -1,5 +1,6 @@
 -- Whose turn it is of several hosts, by their numbers: 0 is the first, and those that follow on it have the next ones.
-use Rattle.std.specs.Prelude.{Option, Some, None, ℕ, ◌+◌, if◌then◌else◌, nat_lt, option_map}
+use Rattle.std.specs.Prelude.{◌≡◌, ◌⊎◌, ◌≤◌, Bool, Option, Some, None, ℕ, ◌+◌, if◌then◌else◌, is_some, nat_lt, option_map, true}
+use Rattle.plan.specs.declared.plan.Plan.{Plan}
 use Rattle.plan.specs.declared.turns.Turns.{Turns}
 
 -- The next of the hosts that follow on the first, if there is one that had no turn.
@@ -13,3 +14,16 @@ turn_of turns = next_or (following turns)
     next_or : Option ℕ → Option ℕ
     next_or (Some number) = Some number
     next_or None = option_map (λ _. 0) turns.again
+
+-- No host is left: each of them had its turn, and the first is to have no other.
+abbrev pub HadAllTurns : Turns → Type 0
+HadAllTurns turns = (turns.again ≡ None) × (turns.further ≤ turns.done)
+
+-- The pause after which the first host has its turn again whatever is asked. Where the run may be asked to stop there is
+-- none.
+abbrev pub endless : Bool → Option ℕ → Option ℕ
+endless may_be_stopped again = if may_be_stopped then None else again
+
+-- A run of this plan may end well: its first host has its turn but once, or an operator may stop it.
+abbrev pub MayEnd : Plan → Type 0
+MayEnd plan = (plan.again ≡ None) ⊎ (is_some plan.control ≡ true)

@@ -1,8 +1,8 @@
 //! Where viewers come in.
 
-ghost use Rattle.std.specs.Prelude.{◌≡◌, ℕ, List, IfOk, IfErr, MatchOption, Some};
+ghost use Rattle.std.specs.Prelude.{◌≡◌, ℕ, List, IfOk, IfErr, IfSome, MatchOption, Some, is_some};
 ghost use Rattle.std.specs.declared.net.ip_addr.IpAddr.{IpAddr as Ip};
-ghost use Rattle.plan.specs.Addresses.{IsAddressFor, IsBindText, IsBracketed, IsWebAddressFor};
+ghost use Rattle.plan.specs.Addresses.{IsAddressFor, IsBindText, IsBracketed, IsMetricsAddressFor, IsWebAddressFor};
 ghost use Rattle.plan.specs.Statuses.{bind_for, web_port_for};
 
 use crate::plan::{Plan, bind_of, port_of};
@@ -55,5 +55,17 @@ pub fn web_address_of(plan: &Plan<'_>, role: Role, port: u16) -> Result<SocketAd
     match ip_of(bind) {
         Ok(ip) => Ok(SocketAddr::new(ip, port)),
         Err(error) => Err(error),
+    }
+}
+
+/// The address at which machines read the run's numbers, if the plan has a text for one. It fails where that writes no IP
+/// address with a port.
+pub fn metrics_address_of(plan: &Plan<'_>) -> Option<Result<SocketAddr, AddrParseError>>
+    ensures none { is_some result ≡ is_some plan.now.metrics }
+    ensures ok { IfSome result (λ address. IfOk address (λ a. IsMetricsAddressFor plan.now a)) }
+{
+    match plan.metrics {
+        Some(text) => Some(text.parse::<SocketAddr>()),
+        None => None,
     }
 }

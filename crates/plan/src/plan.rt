@@ -35,6 +35,10 @@ pub struct Plan<'a> {
     pub has_joined_runs: bool,
     /// The ports for browsers, and what they are sent.
     pub web: WebPlan<'a>,
+    /// The address at which machines read the run's numbers, `IP:PORT`, or `None` where they can't.
+    pub metrics: Option<&'a str>,
+    /// The path of the socket at which an operator may ask something of the run, or `None` where there is none.
+    pub control: Option<&'a str>,
     /// Whether a log is kept on standard error.
     pub is_logged: bool,
 }

@@ -1,11 +1,21 @@
 //! A pause that was made.
 
-ghost use Rattle.std.specs.Prelude.{◌≡◌};
+ghost use Rattle.std.specs.Prelude.{◌≡◌, IfOk};
 
 use std::thread;
 use std::time::{Clock, Duration};
 
-/// Whoever has one has let so many seconds pass: only `after` makes it. That the system lets them pass no clause says.
+/// Who may call a pause off.
+pub trait CallsOff {
+    /// What shows that a pause was called off.
+    type Order: Drop;
+
+    /// That the pause is called off, if it is.
+    fn order(&self) -> Option<Self::Order>;
+}
+
+/// Whoever has one has let so many seconds pass: only `after` and `after_unless` make it. That the system lets them
+/// pass no clause says.
 #[derive(Debug, Drop)]
 pub struct Rested {
     seconds: u64,
@@ -18,5 +28,22 @@ impl Rested {
     {
         thread::sleep(rt, Duration::from_secs(seconds));
         Rested { seconds }
+    }
+
+    /// Lets so many seconds pass, unless that is called off, for which it asks before each.
+    pub fn after_unless<R: Clock, C: CallsOff>(
+        rt: &R,
+        seconds: u64,
+        caller: &C,
+    ) -> Result<Rested, C::Order>
+        ensures { IfOk result (λ rested. rested.seconds ≡ seconds) }
+    {
+        for _second in 0..seconds {
+            if let Some(order) = caller.order() {
+                return Err(order);
+            }
+            thread::sleep(rt, Duration::from_secs(1));
+        }
+        Ok(Rested { seconds })
     }
 }

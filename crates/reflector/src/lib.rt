@@ -7,6 +7,7 @@
 #![tactic(auto)]
 
 mod context;
+mod counted;
 mod join;
 mod law;
 mod place;

@@ -9,6 +9,7 @@ ghost use Rattle.reflector.specs.Senders.{IsSameSender};
 ghost use Rattle.reflector.specs.Visits.{HasVisits, IsReceived, at, setup_of};
 
 use crate::context::RunContext;
+use crate::counted::Counted;
 use crate::seated::{Seat, Seated};
 use crate::session_maker::SessionMaker;
 use fault::Fault;
@@ -17,7 +18,7 @@ use joined_runs::Runs;
 use link::{Link, Rest, StopFlag};
 use reflect_core::ScreenSource;
 use roles::{InputSink, Role};
-use serving::{Alarm, Door, Ringing, Stop};
+use serving::{Alarm, Door, PlaceCount, Ringing, Stop};
 use std::alloc::Global;
 use std::marker::Brand;
 use std::snapshot::Snapshot;
@@ -96,6 +97,7 @@ fn receive<L: Link, S: ScreenSource, K: InputSink, F: StopFlag, Z: Rest, R: Wait
     sink: &mut K,
     stop: &F,
     rest: &Z,
+    count: &PlaceCount,
 ) -> (u64, Result<(), Fault>)
     requires screen { (s : S) → (S.width s ≡ maker.now.width) × (S.height s ≡ maker.now.height) }
     requires fresh { L.state link.old ≡ unused }
@@ -103,7 +105,8 @@ fn receive<L: Link, S: ScreenSource, K: InputSink, F: StopFlag, Z: Rest, R: Wait
 {
     match maker.open() {
         Ok(mut session) => {
-            let why = run_viewer(rt, link, source, sink, &mut session, stop, rest);
+            let progress = Counted { count };
+            let why = run_viewer(rt, link, source, sink, &mut session, stop, rest, &progress);
             (session.answers(), why)
         }
         Err(fault) => (0, Err(fault)),
@@ -130,7 +133,8 @@ fn serve_viewers<S: ScreenSource, K: InputSink, D: Door, F: StopFlag, Z: Rest, R
         let Some(mut link) = door.next() else {
             return;
         };
-        let (answers, why) = receive(rt, maker, &mut link, source, sink, stop, rest);
+        let count = door.count();
+        let (answers, why) = receive(rt, maker, &mut link, source, sink, stop, rest, count);
         door.left(link, answers, why);
     }
     unreachable!()

@@ -3,9 +3,9 @@ use Rattle.std.proofs.Common.{◌≡◌, ◌⊎◌, ◌++◌, ◌∷◌, inl, in
 use Rattle.std.specs.declared.net.socket_addr.SocketAddr.{SocketAddr}
 use Rattle.roles.specs.declared.role.Role.{Role}
 use Rattle.roles.specs.declared.role.Role.TheVariants.{Full, View}
-use Rattle.plan.specs.Addresses.{IsAddressFor, IsWebAddressFor}
+use Rattle.plan.specs.Addresses.{IsAddressFor, IsMetricsAddressFor, IsWebAddressFor}
 use Rattle.plan.specs.declared.plan.Plan.{Plan}
-use Rattle.serve.specs.Ports.{AsksAsPlanned, AsksFor, AsksForBrowsers, AsksForViewers, AsksForWeb, IsAskedAtMost}
+use Rattle.serve.specs.Ports.{AsksAsPlanned, AsksFor, AsksForBrowsers, AsksForMetrics, AsksForPeople, AsksForViewers, AsksForWeb, IsAskedAtMost}
 
 -- Who asks at the address of a role asks for that role.
 pub asks_for : (role : Role) (plan : Plan) (address : SocketAddr) (old new : List SocketAddr) → IsAddressFor role plan address → IsAskedAtMost address old new → AsksFor role plan old new
@@ -31,12 +31,27 @@ first_web_alone plan old new first = (new, first, inl refl)
 pub both_webs : (plan : Plan) (old between new : List SocketAddr) → AsksForWeb Full plan old between → AsksForWeb View plan between new → AsksForBrowsers plan old new
 both_webs plan old between new first second = (between, first, second)
 
+-- So does who asks at that of machines.
+pub asks_for_metrics : (plan : Plan) (address : SocketAddr) (old new : List SocketAddr) → IsMetricsAddressFor plan address → IsAskedAtMost address old new → AsksForMetrics plan old new
+asks_for_metrics plan address old new is (inl same) = inl same
+asks_for_metrics plan address old new is (inr asked) = inr (address, is, asked)
+
 -- No port was asked for, or only those of viewers, or those of browsers too.
-pub none : (plan : Plan) (ports : List SocketAddr) → AsksAsPlanned plan ports ports
+pub none : (plan : Plan) (ports : List SocketAddr) → AsksForPeople plan ports ports
 none plan ports = (ports, (ports, inl refl, λ _. refl, inl refl), (ports, inl refl, inl refl))
 
-pub viewers_alone : (plan : Plan) (old new : List SocketAddr) → AsksForViewers plan old new → AsksAsPlanned plan old new
+pub viewers_alone : (plan : Plan) (old new : List SocketAddr) → AsksForViewers plan old new → AsksForPeople plan old new
 viewers_alone plan old new viewers = (new, viewers, (new, inl refl, inl refl))
 
-pub all : (plan : Plan) (old between new : List SocketAddr) → AsksForViewers plan old between → AsksForBrowsers plan between new → AsksAsPlanned plan old new
+pub all : (plan : Plan) (old between new : List SocketAddr) → AsksForViewers plan old between → AsksForBrowsers plan between new → AsksForPeople plan old new
 all plan old between new viewers browsers = (between, viewers, browsers)
+
+-- For machines, too.
+pub planned : (plan : Plan) (old between new : List SocketAddr) → AsksForPeople plan old between → AsksForMetrics plan between new → AsksAsPlanned plan old new
+planned plan old between new people machines = (between, people, machines)
+
+pub people_alone : (plan : Plan) (old new : List SocketAddr) → AsksForPeople plan old new → AsksAsPlanned plan old new
+people_alone plan old new people = (new, people, inl refl)
+
+pub nobody : (plan : Plan) (ports : List SocketAddr) → AsksAsPlanned plan ports ports
+nobody plan ports = (ports, none plan ports, inl refl)

@@ -1,3 +1,5 @@
 pub mod Browsers
 pub mod Doors
 pub mod Ports
+pub mod States
+pub mod Stops

@@ -3,7 +3,7 @@ use Rattle.std.specs.Prelude.{◌≡◌, ◌⊎◌, ◌++◌, ◌∷◌, [], Lis
 use Rattle.std.specs.declared.net.socket_addr.SocketAddr.{SocketAddr}
 use Rattle.roles.specs.declared.role.Role.{Role}
 use Rattle.roles.specs.declared.role.Role.TheVariants.{Full, View}
-use Rattle.plan.specs.Addresses.{IsAddressFor, IsWebAddressFor}
+use Rattle.plan.specs.Addresses.{IsAddressFor, IsMetricsAddressFor, IsWebAddressFor}
 use Rattle.plan.specs.declared.plan.Plan.{Plan}
 
 -- The system was asked at this address, or not at all.
@@ -30,5 +30,14 @@ abbrev pub AsksForBrowsers : Plan → List SocketAddr → List SocketAddr → Ty
 AsksForBrowsers plan old new = (between : List SocketAddr) × AsksForWeb Full plan old between × AsksForWeb View plan between new
 
 -- It was asked for viewers, then for browsers, and nowhere else.
+abbrev pub AsksForPeople : Plan → List SocketAddr → List SocketAddr → Type 0
+AsksForPeople plan old new = (between : List SocketAddr) × AsksForViewers plan old between × AsksForBrowsers plan between new
+
+-- It was asked at the address that the plan has for machines that watch the run, or not at all. Where the plan has none
+-- it wasn't asked.
+abbrev pub AsksForMetrics : Plan → List SocketAddr → List SocketAddr → Type 0
+AsksForMetrics plan old new = (new ≡ old) ⊎ ((address : SocketAddr) × IsMetricsAddressFor plan address × (new ≡ old ++ address ∷ []))
+
+-- It was asked for people, then for machines, and nowhere else.
 abbrev pub AsksAsPlanned : Plan → List SocketAddr → List SocketAddr → Type 0
-AsksAsPlanned plan old new = (between : List SocketAddr) × AsksForViewers plan old between × AsksForBrowsers plan between new
+AsksAsPlanned plan old new = (between : List SocketAddr) × AsksForPeople plan old between × AsksForMetrics plan between new

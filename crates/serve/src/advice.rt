@@ -206,6 +206,11 @@ impl Display for Advice<'_> {
                     "can't listen on {bind} port {port} for {viewers}{said}; {way}"
                 )
             }
+            Stage::Control => write!(
+                f,
+                "can't listen at {}{said}; is it a file of another kind, or another reflector's?",
+                plan.control.unwrap_or("")
+            ),
             Stage::LookUp => write!(
                 f,
                 "there is no address for the host {}{said}; is its name right?",
@@ -234,6 +239,16 @@ impl Display for Advice<'_> {
                     bind_of(&plan, role)
                 )
             }
+            Stage::ReadMetrics => write!(
+                f,
+                "--metrics {} is no IP:PORT, such as 127.0.0.1:9100",
+                plan.metrics.unwrap_or("")
+            ),
+            Stage::ListenMetrics => write!(
+                f,
+                "can't listen on {} for machines{said}; end the program that has the port, or choose another by --metrics",
+                plan.metrics.unwrap_or("")
+            ),
             Stage::Connect => write!(
                 f,
                 "can't connect to the host {}{said}; is a VNC server running there, at that port?",

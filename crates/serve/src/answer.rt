@@ -1,19 +1,24 @@
 //! What `serve` says and answers.
 
-ghost use Rattle.std.specs.Prelude.{◌≡◌, Err, None, IfOk, MatchResult, OnOk, Result};
+ghost use Rattle.std.specs.Prelude.{◌≡◌, Err, IfOk, MatchResult, OnOk, Result};
 ghost use Rattle.plan.specs.Statuses.{HasPlaces, IsStatus, status_for};
+ghost use Rattle.plan.specs.Turns.{MayEnd};
 ghost use Rattle.serve.specs.Doors.{AreBoth};
 ghost use Rattle.serve.specs.Ports.{AsksAsPlanned};
 ghost use Rattle.serve.specs.declared.trouble.Trouble.{Trouble as Failure};
 
 use crate::advice::Advice;
 use crate::bound::Ports;
-use crate::entries::open_all;
 use crate::journal::Journal;
-use crate::run::run;
+use crate::metrics::{open_ports, run_watched};
+use crate::sentry::Sentry;
+use crate::surroundings::Surroundings;
 use crate::trouble::Trouble;
+use fault::Fault;
 use plan::{Plan, status_of};
+use run_watch::Gravity;
 use std::alloc::{AllocGlobal, Global};
+use std::env::Env;
 use std::net::{Net, TcpListener, TcpStream};
 use std::random::RandomSource;
 use std::rt::Files;
@@ -21,19 +26,23 @@ use std::sync::Wait;
 use std::thread::Threads;
 use std::time::Clock;
 
-/// Says what went wrong: its number, and then what it means.
-fn say<R: Eprint>(rt: &R, plan: &Plan<'_>, trouble: &Trouble) {
+/// Says what went wrong: its number, and then what it means. Where standard error takes no text the exit status alone
+/// says it.
+fn say<R: Eprint + Clock + Wait + Drop>(journal: &Journal<R>, plan: &Plan<'_>, trouble: &Trouble) {
     let advice = Advice {
         plan: *plan,
         trouble,
     };
-    // Where standard error takes no text the exit status alone says it.
-    let _ = rt.eprintln(format_args!("fault {}", trouble.fault.number()));
-    let _ = rt.eprintln(format_args!("reflectord: {advice}"));
+    let number = trouble.fault.number();
+    journal.say(Gravity::Fault, format_args!("fault {number}"));
+    journal.say(Gravity::Fault, format_args!("reflectord: {advice}"));
 }
 
 /// Runs, says what went wrong, if something did, and answers the exit status for how it ended.
-fn answer<R: Eprint, F: FnOnce() -> Result<(), Trouble>>(rt: &R, plan: &Plan<'_>, runs: F) -> u8
+fn answer<R, F>(journal: &Journal<R>, plan: &Plan<'_>, runs: F) -> u8
+where
+    R: Eprint + Clock + Wait + Drop,
+    F: FnOnce() -> Result<(), Trouble>,
     requires { F.pre runs }
     ensures status { (ended : Result (Unit {0}) Failure) × F.post runs ended × MatchResult ended (λ _. result ≡ 0) (λ trouble. result ≡ status_for (Err trouble.fault)) }
     ensures range { IsStatus result }
@@ -41,7 +50,7 @@ fn answer<R: Eprint, F: FnOnce() -> Result<(), Trouble>>(rt: &R, plan: &Plan<'_>
     match runs() {
         Ok(()) => status_of(&Ok(())),
         Err(trouble) => {
-            say(rt, plan, &trouble);
+            say(journal, plan, &trouble);
             status_of(&Err(trouble.fault))
         }
     }
@@ -50,10 +59,11 @@ fn answer<R: Eprint, F: FnOnce() -> Result<(), Trouble>>(rt: &R, plan: &Plan<'_>
 /// Reflects a host until it ends, and answers the exit status: 0 where the host ended between two messages, 4 where
 /// memory was refused, and 3 for every other fault, also where a port can't be bound or the host can't be reached or
 /// joined. What was at fault is said on standard error: `fault N`, and a line of plain words. Where the first host is
-/// to be tried again (`again`), it is never 0.
+/// to be tried again (`again`), it is never 0, unless an operator may stop the run (`control`).
 ///
 /// The ports that it asks the system for are added to `ports`: that of viewers with full control, that of those who
-/// only look on, and then those of browsers.
+/// only look on, then those of browsers, and that of machines.
+#[tactic(auto, using(crate::proofs::Asking::nobody))]
 pub fn serve<R>(rt: R, alloc: Global, plan: &Plan<'_>, ports: &mut Ports) -> u8
 where
     R: Net<Stream = TcpStream, Listener = TcpListener>
@@ -63,6 +73,7 @@ where
         + Files
         + AllocGlobal
         + RandomSource
+        + Env
         + Eprint
         + Copy
         + Drop
@@ -71,16 +82,22 @@ where
     requires { HasPlaces plan.now }
     ensures ports { AsksAsPlanned plan.now ports.old ports.new }
     ensures status { IsStatus result }
-    ensures ended { result ≡ 0 → plan.now.again ≡ None }
+    ensures ended { result ≡ 0 → MayEnd plan.now }
 {
-    let log = Journal::new(rt, alloc, plan.is_logged);
-    let opened = open_all(&rt, alloc, plan, ports, &log);
+    let surroundings = Surroundings::of(&rt, alloc);
+    let Ok(log) = Sentry::new(rt, alloc, plan, &surroundings) else {
+        return status_of(&Err(Fault::Memory));
+    };
+    let Ok(journal) = log.journal().clone() else {
+        return status_of(&Err(Fault::Memory));
+    };
+    let opened = open_ports(&rt, alloc, plan, ports, &log);
     answer(
-        &rt,
+        &journal,
         plan,
         move || -> Result<(), Trouble>
-            requires { HasPlaces plan.now × IfOk opened (λ entrances. AreBoth plan.now entrances.full entrances.view) }
-            ensures { OnOk result (plan.entry.now.again ≡ None) }
-        { run(rt, alloc, plan, opened?, log) },
+            requires { HasPlaces plan.now × IfOk opened (λ opened. AreBoth plan.now opened.entrances.full opened.entrances.view) }
+            ensures { OnOk result (MayEnd plan.entry.now) }
+        { run_watched(rt, alloc, plan, opened?, &log) },
     )
 }

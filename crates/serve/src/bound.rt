@@ -34,6 +34,20 @@ impl Ports {
             asked: Vec::new(alloc),
         }
     }
+
+    /// Listens at this address, at which the system is asked for a port. It fails where that is refused, or memory for
+    /// the list of what was asked.
+    pub(crate) fn listen<R: Net<Stream = TcpStream, Listener = TcpListener>>(
+        &mut self,
+        rt: &R,
+        address: SocketAddr,
+    ) -> io::Result<TcpListener>
+        ensures ok { OnOk result (self.new ≡ self.old ++ address ∷ []) }
+        ensures asked { IsAskedAtMost address self.old self.new }
+    {
+        self.asked.push(address)?;
+        TcpListener::bind(rt, address)
+    }
 }
 
 /// A listener for the viewers of a role, with the address at which the system was asked for it.
@@ -57,8 +71,7 @@ impl Bound {
         ensures ok { OnOk result (ports.new ≡ ports.old ++ address ∷ []) }
         ensures asked { IsAskedAtMost address ports.old ports.new }
     {
-        ports.asked.push(address)?;
-        let listener = TcpListener::bind(rt, address)?;
+        let listener = ports.listen(rt, address)?;
         Ok(Bound {
             gate: Gate::new(listener, role),
             address,

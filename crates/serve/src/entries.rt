@@ -3,18 +3,32 @@
 ghost use Rattle.std.specs.Prelude.{◌≡◌, IfOk, true};
 ghost use Rattle.roles.specs.declared.role.Role.TheVariants.{Full};
 ghost use Rattle.serve.specs.Doors.{AreBoth, IsFullEntry};
-ghost use Rattle.serve.specs.Ports.{AsksAsPlanned, AsksFor, AsksForViewers};
+ghost use Rattle.serve.specs.Ports.{AsksForPeople, AsksFor, AsksForViewers};
 
 use crate::bound::Ports;
 use crate::open::{Entry, open};
-use crate::trouble::Trouble;
+use crate::trouble::{Stage, Trouble};
 use crate::web::{files_of, open_webs};
-use plan::Plan;
+use fault::Fault;
+use plan::{Plan, places_of};
 use roles::Role;
-use serving::{Log, WebEntry};
+use serving::{Desk, Log, WebEntry};
 use std::alloc::{AllocGlobal, Global};
 use std::net::{Net, TcpListener, TcpStream};
 use std::rt::Files;
+use std::sync::Arc;
+
+/// The doors of all places of a plan.
+fn desk_of(alloc: Global, plan: &Plan<'_>) -> Result<Arc<Desk, Global>, Trouble> {
+    let places = places_of(plan, Role::Full).saturating_add(places_of(plan, Role::View));
+    let Ok(desk) = Desk::new(alloc, places as usize) else {
+        return Err(Trouble::new(Stage::Start, Fault::Memory));
+    };
+    match Arc::new(alloc, desk) {
+        Ok(desk) => Ok(desk),
+        Err(_) => Err(Trouble::new(Stage::Start, Fault::Memory)),
+    }
+}
 
 /// Listens for the viewers with full control, unless the plan has only those who look on.
 fn open_full<'a, R: Net<Stream = TcpStream, Listener = TcpListener>, G: Log>(
@@ -22,6 +36,7 @@ fn open_full<'a, R: Net<Stream = TcpStream, Listener = TcpListener>, G: Log>(
     alloc: Global,
     plan: &Plan<'a>,
     ports: &mut Ports,
+    desk: &Arc<Desk, Global>,
     log: &G,
 ) -> Result<Option<Entry<'a>>, Trouble>
     ensures asked { AsksFor Full plan.now ports.old ports.new }
@@ -31,7 +46,7 @@ fn open_full<'a, R: Net<Stream = TcpStream, Listener = TcpListener>, G: Log>(
     if plan.is_view_only {
         return Ok(None);
     }
-    let full = open(rt, alloc, plan, ports, Role::Full, log)?;
+    let full = open(rt, alloc, plan, ports, Role::Full, desk, log)?;
     Ok(Some(full))
 }
 
@@ -48,8 +63,9 @@ pub(crate) fn open_both<'a, R: Net<Stream = TcpStream, Listener = TcpListener>, 
     ensures asked { AsksForViewers plan.now ports.old ports.new }
     ensures both { IfOk result (λ entries. AreBoth plan.now entries.0 entries.1) }
 {
-    let full = open_full(rt, alloc, plan, ports, log)?;
-    let view = open(rt, alloc, plan, ports, Role::View, log)?;
+    let desk = desk_of(alloc, plan)?;
+    let full = open_full(rt, alloc, plan, ports, &desk, log)?;
+    let view = open(rt, alloc, plan, ports, Role::View, &desk, log)?;
     Ok((full, view))
 }
 
@@ -73,7 +89,7 @@ pub(crate) fn open_all<'a, R, G>(
 where
     R: Net<Stream = TcpStream, Listener = TcpListener> + Files + AllocGlobal + Copy + Drop,
     G: Log,
-    ensures asked { AsksAsPlanned plan.now ports.old ports.new }
+    ensures asked { AsksForPeople plan.now ports.old ports.new }
     ensures both { IfOk result (λ entrances. AreBoth plan.now entrances.full entrances.view) }
 {
     let files = files_of(*rt, alloc, plan)?;

@@ -6,9 +6,11 @@ ghost use Rattle.raster.specs.Size.{IsScreenSize};
 use crate::entries::Entrances;
 use crate::meet::Met;
 use crate::rooms::{Hall, start_porter};
+use crate::start::{Control, start_control};
 use crate::supply::Supply;
-use crate::trouble::Trouble;
+use crate::trouble::{Stage, Trouble};
 use crate::web::start_web_porter;
+use fault::Fault;
 use serving::{Log, Seat};
 use std::alloc::Global;
 use std::net::{Net, TcpListener, TcpStream};
@@ -32,7 +34,7 @@ impl Halls {
         alloc: Global,
         entrances: Entrances<'_>,
         seats: Vec<Arc<Seat, Global>>,
-        log: G,
+        log: &G,
     ) -> Result<Halls, Trouble>
     where
         R: Net<Stream = TcpStream, Listener = TcpListener>
@@ -44,7 +46,7 @@ impl Halls {
             + Drop
             + Send
             + 'static,
-        G: Log + Drop + Copy + Send + 'static,
+        G: Log + Clone + Drop + Send + 'static,
     {
         let Entrances { full, view, web } = entrances;
         start_web_porter(rt, alloc, web, seats, log)?;
@@ -81,16 +83,15 @@ fn hold<R: Wait>(rt: &R, entrances: &Entrances<'_>) {
     entrances.view.lobby.hold(rt, true);
 }
 
-/// Meets the first host, and lets viewers in. Where that host is tried again they are told until then that there is
-/// none yet; where it is tried once, they wait.
-pub(crate) fn welcome<R, G>(
+/// Starts the threads that let viewers in, and the one that hears an operator, if one may ask something.
+fn start_all<R, G>(
     rt: R,
     alloc: Global,
-    supply: &mut Supply<R, G>,
     entrances: Entrances<'_>,
     seats: Vec<Arc<Seat, Global>>,
-    log: G,
-) -> Result<(Met<R>, Halls), Trouble>
+    control: Option<Control>,
+    log: &G,
+) -> Result<Arc<Halls, Global>, Trouble>
 where
     R: Net<Stream = TcpStream, Listener = TcpListener>
         + Threads
@@ -101,18 +102,55 @@ where
         + Drop
         + Send
         + 'static,
-    G: Log + Drop + Copy + Send + 'static,
+    G: Log + Clone + Drop + Send + 'static,
+{
+    let halls = Halls::start(rt, alloc, entrances, seats, log)?;
+    let Ok(halls) = Arc::new(alloc, halls) else {
+        return Err(Trouble::new(Stage::Start, Fault::Memory));
+    };
+    if let Some(control) = control {
+        let Ok(theirs) = Arc::try_clone(&halls) else {
+            return Err(Trouble::new(Stage::Start, Fault::Memory));
+        };
+        start_control(rt, alloc, control, theirs)?;
+    }
+    Ok(halls)
+}
+
+/// Meets the first host, and lets viewers in. Where that host is tried again they are told until then that there is
+/// none yet; where it is tried once, they wait.
+pub(crate) fn welcome<R, G>(
+    rt: R,
+    alloc: Global,
+    supply: &mut Supply<R, G>,
+    entrances: Entrances<'_>,
+    seats: Vec<Arc<Seat, Global>>,
+    control: Option<Control>,
+    log: &G,
+) -> Result<(Met<R>, Arc<Halls, Global>), Trouble>
+where
+    R: Net<Stream = TcpStream, Listener = TcpListener>
+        + Threads
+        + Wait
+        + Clock
+        + RandomSource
+        + Copy
+        + Drop
+        + Send
+        + 'static,
+    G: Log + Clone + Drop + Send + 'static,
     ensures size { IfOk result (λ both. IsScreenSize both.0.joined.w both.0.joined.h) }
     ensures untimed { IfOk result (λ both. (both.0.reader.has_deadline ≡ false) × (both.0.writer.has_deadline ≡ false)) }
     ensures again { supply.new.turns.again ≡ supply.old.turns.again }
+    ensures lifeline { supply.new.lifeline ≡ supply.old.lifeline }
 {
     if !supply.tries_again() {
         let met = supply.first()?;
-        let halls = Halls::start(rt, alloc, entrances, seats, log)?;
+        let halls = start_all(rt, alloc, entrances, seats, control, log)?;
         return Ok((met, halls));
     }
     hold(&rt, &entrances);
-    let halls = Halls::start(rt, alloc, entrances, seats, log)?;
+    let halls = start_all(rt, alloc, entrances, seats, control, log)?;
     match supply.first() {
         Ok(met) => {
             halls.open(&rt);

@@ -3,31 +3,96 @@
 use crate::quoted::Quoted;
 use fault::Fault;
 use jiff::Timestamp;
+use notify::standard_error_has_room;
 use roles::Role;
+use run_watch::{Gravity, Ledger, Paper, prefix_of};
 use serving::{Event, Log, Parting, PlaceId, Visit, Way};
-use std::alloc::Global;
+use std::alloc::{AllocError, Global};
 use std::fmt;
 use std::fmt::{Display, Formatter};
 use std::io::ErrorKind;
 use std::net::SocketAddr;
+use std::sync::{Arc, Mutex, Wait};
 use std::time::Clock;
+use told::Record;
 
-/// A log on standard error, if it is kept. Each line is written at once, so that the lines of threads don't mix. A line
-/// for which memory is refused is left out.
-#[derive(Clone, Copy, Drop)]
-pub(crate) struct Journal<R: Eprint + Clock + Drop> {
+/// Standard error, of which clauses know what was written to it.
+#[derive(Drop)]
+struct StandardError<R: Eprint + Drop> {
     rt: R,
-    alloc: Global,
-    is_kept: bool,
+    taken: Record,
 }
 
-impl<R: Eprint + Clock + Drop> Journal<R> {
-    pub(crate) fn new(rt: R, alloc: Global, is_kept: bool) -> Journal<R> {
-        Journal { rt, alloc, is_kept }
+impl<R: Eprint + Drop> Paper for StandardError<R> {
+    ghost text = { λ paper. paper.taken.bytes };
+
+    fn has_room(&self) -> bool {
+        standard_error_has_room()
+    }
+
+    fn take(&mut self, written: &str) -> bool {
+        if self.rt.eprint(written).is_err() {
+            return false;
+        }
+        self.taken.note(written.as_bytes());
+        true
     }
 }
 
-impl<R: Eprint + Clock + Drop> Log for Journal<R> {
+/// Standard error, and the log on it, if it is kept. Each line is written at once, so that the lines of threads don't
+/// mix, and nobody waits for room: a line that finds none, or for which memory is refused, is left out, and the next one
+/// says how many were.
+#[derive(Clone, Drop)]
+pub(crate) struct Journal<R: Eprint + Clock + Wait + Drop> {
+    rt: R,
+    alloc: Global,
+    is_kept: bool,
+    is_journal: bool,
+    ledger: Arc<Mutex<Ledger<StandardError<R>>>, Global>,
+}
+
+impl<R: Eprint + Clock + Wait + Copy + Drop> Journal<R> {
+    /// A log that is kept or not, on a standard error that the journal of systemd reads or does not. It fails where
+    /// memory is refused for it.
+    pub(crate) fn new(
+        rt: R,
+        alloc: Global,
+        is_kept: bool,
+        is_journal: bool,
+    ) -> Result<Journal<R>, AllocError> {
+        let paper = StandardError {
+            rt,
+            taken: Record::new(),
+        };
+        Ok(Journal {
+            rt,
+            alloc,
+            is_kept,
+            is_journal,
+            ledger: Arc::new(alloc, Mutex::new(Ledger::new(alloc, paper)))?,
+        })
+    }
+}
+
+impl<R: Eprint + Clock + Wait + Drop> Journal<R> {
+    /// Writes a line of this gravity, if there is room.
+    pub(crate) fn say<D: Display + Drop>(&self, gravity: Gravity, line: D) {
+        let prefix = prefix_of(gravity, self.is_journal);
+        if let Ok(line) = format!(in self.alloc; "{prefix}{line}") {
+            self.ledger.lock(&self.rt).write(line);
+        }
+    }
+}
+
+/// How grave it is that this happens.
+fn gravity_of(event: &Event<'_>) -> Gravity {
+    match event {
+        Event::HostOut { .. } => Gravity::Warning,
+        _ => Gravity::Plain,
+    }
+}
+
+impl<R: Eprint + Clock + Wait + Drop> Log for Journal<R> {
     fn tell(&self, event: &Event<'_>) {
         if !self.is_kept {
             return;
@@ -36,10 +101,7 @@ impl<R: Eprint + Clock + Drop> Log for Journal<R> {
             return;
         };
         let line = Line { event };
-        if let Ok(line) = format!(in self.alloc; "{now:.3} {line}\n") {
-            // A line that standard error does not take is left out.
-            let _ = self.rt.eprint(line.as_str());
-        }
+        self.say(gravity_of(event), format_args!("{now:.3} {line}"));
     }
 }
 
@@ -103,6 +165,7 @@ struct Why {
 impl Display for Why {
     fn fmt<W: fmt::Write>(&self, f: &mut Formatter<W>) -> fmt::Result {
         match (&self.why, self.parting) {
+            (_, Parting::Dismissed) => f.write_str("sent away"),
             (Ok(()), Parting::Closed) => f.write_str("ended"),
             (Ok(()), _) => f.write_str("host gone"),
             (Err(_), Parting::Stalled) => f.write_str("stalled"),
@@ -217,6 +280,13 @@ impl Display for Line<'_> {
             Event::NoHost { role, address, way } => write!(
                 f,
                 "no-host role={} address={}{}",
+                RoleName { role: *role },
+                AddressOrDash { address: *address },
+                By { way: *way }
+            ),
+            Event::NoEntry { role, address, way } => write!(
+                f,
+                "no-entry role={} address={}{}",
                 RoleName { role: *role },
                 AddressOrDash { address: *address },
                 By { way: *way }

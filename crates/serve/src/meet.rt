@@ -30,21 +30,27 @@ pub(crate) struct Met<R: Clock + Drop> {
 /// Connects to a host: the end to be read, over which the handshake has ten seconds, and the end to be written.
 fn connect<R: Net<Stream = TcpStream> + Clock + Copy + Drop>(
     rt: R,
-    address: &SocketAddr,
-) -> io::Result<(JoiningLink<R>, JoiningLink<R>)>
-    ensures { IfOk result (λ ends. ends.1.has_deadline ≡ false) }
+    address: SocketAddr,
+) -> io::Result<Reached<R>>
+    ensures { IfOk result (λ reached. reached.writer.has_deadline ≡ false) }
 {
     let patience = Duration::from_secs(CONNECT_SECONDS);
-    let stream = TcpStream::connect_timeout(&rt, address, patience)?;
-    let (reader, writer) = HostLink::pair(stream)?;
+    let stream = TcpStream::connect_timeout(&rt, &address, patience)?;
+    let (reader, writer) = HostLink::pair(stream.try_clone()?)?;
     let reader = JoiningLink::new(rt, reader)?;
-    Ok((reader, JoiningLink::without_limit(rt, writer)))
+    Ok(Reached {
+        address,
+        stream,
+        reader,
+        writer: JoiningLink::without_limit(rt, writer),
+    })
 }
 
-/// A host that was connected to, at this address.
+/// A host that was connected to, at this address: the ends of its connection, and what ends it from another thread.
 #[derive(Drop)]
 pub(crate) struct Reached<R: Clock + Drop> {
     pub(crate) address: SocketAddr,
+    pub(crate) stream: TcpStream,
     pub(crate) reader: JoiningLink<R>,
     pub(crate) writer: JoiningLink<R>,
 }
@@ -88,14 +94,8 @@ pub(crate) fn connect_by_text<R: Net<Stream = TcpStream> + Clock + Copy + Drop>(
         error: io::Error::from(ErrorKind::NotFound),
     };
     for address in addresses.take(MOST_ADDRESSES) {
-        match connect(rt, &address) {
-            Ok((reader, writer)) => {
-                return Ok(Reached {
-                    address,
-                    reader,
-                    writer,
-                });
-            }
+        match connect(rt, address) {
+            Ok(reached) => return Ok(reached),
             Err(error) => {
                 missed = Missed {
                     address: Some(address),
@@ -107,20 +107,20 @@ pub(crate) fn connect_by_text<R: Net<Stream = TcpStream> + Clock + Copy + Drop>(
     Err(missed)
 }
 
-/// Joins the host of this number, which was reached. Its links have no deadline then.
+/// Joins the host of this number over the ends of its connection. They have no deadline then.
 #[tactic(auto, using(crate::proofs::Sizes::is_screen))]
-pub(crate) fn join<R>(rt: &R, number: usize, reached: Reached<R>) -> Result<Met<R>, Trouble>
+pub(crate) fn join<R>(
+    rt: &R,
+    number: usize,
+    ends: (JoiningLink<R>, JoiningLink<R>),
+) -> Result<Met<R>, Trouble>
 where
     R: Net<Stream = TcpStream> + Wait + Clock + Copy + Drop,
-    requires { reached.writer.has_deadline ≡ false }
+    requires { ends.1.has_deadline ≡ false }
     ensures size { IfOk result (λ met. IsScreenSize met.joined.w met.joined.h) }
     ensures untimed { IfOk result (λ met. (met.reader.has_deadline ≡ false) × (met.writer.has_deadline ≡ false)) }
 {
-    let Reached {
-        address: _,
-        mut reader,
-        writer,
-    } = reached;
+    let (mut reader, writer) = ends;
     let joined = match join_host(rt, &mut reader) {
         Ok(joined) => joined,
         Err(fault) => return Err(Trouble::new(Stage::Join(number), fault)),

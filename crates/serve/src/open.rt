@@ -12,7 +12,7 @@ use crate::trouble::{Stage, Trouble};
 use fault::Fault;
 use plan::{Plan, address_of, places_of};
 use roles::Role;
-use serving::{Event, Lobby, Log, Way};
+use serving::{Desk, Event, Lobby, Log, Way};
 use std::alloc::Global;
 use std::net::{Net, TcpListener, TcpStream};
 use std::sync::Arc;
@@ -36,6 +36,7 @@ pub(crate) fn open<'a, R: Net<Stream = TcpStream, Listener = TcpListener>, G: Lo
     plan: &Plan<'a>,
     ports: &mut Ports,
     role: Role,
+    desk: &Arc<Desk, Global>,
     log: &G,
 ) -> Result<Entry<'a>, Trouble>
     ensures asked { AsksFor role plan.now ports.old ports.new }
@@ -52,7 +53,10 @@ pub(crate) fn open<'a, R: Net<Stream = TcpStream, Listener = TcpListener>, G: Lo
         Ok(bound) => bound,
         Err(error) => return Err(Trouble::of(Stage::Listen(role), error)),
     };
-    let Ok(lobby) = Lobby::new(alloc, role, places, plan.stalled) else {
+    let Ok(desk) = Arc::try_clone(desk) else {
+        return Err(Trouble::new(Stage::Start, Fault::Memory));
+    };
+    let Ok(lobby) = Lobby::new(alloc, role, places, plan.stalled, desk) else {
         return Err(Trouble::new(Stage::Start, Fault::Memory));
     };
     let Ok(lobby) = Arc::new(alloc, lobby) else {

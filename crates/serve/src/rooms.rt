@@ -12,7 +12,7 @@ use crate::trouble::{Stage, Trouble};
 use fault::Fault;
 use plan::{Plan, places_of};
 use roles::Role;
-use serving::{Everyone, Lobby, Log, Seat, TcpDoor, WriterSeat, keep_door};
+use serving::{Everyone, HostCount, Lobby, Log, Seat, TcpDoor, WriterSeat, keep_door};
 use std::alloc::Global;
 use std::io;
 use std::net::{Net, SocketAddr, TcpStream};
@@ -37,7 +37,7 @@ pub(crate) struct Rooms<R: Wait + Clock + Drop, G: Log + Drop> {
     pub(crate) ghost told: { HaveTheirRoles doors.items },
 }
 
-impl<R: Wait + Clock + Drop + Copy + Net, G: Log + Drop + Copy> Rooms<R, G> {
+impl<R: Wait + Clock + Drop + Copy + Net, G: Log + Clone + Drop> Rooms<R, G> {
     /// No place.
     pub(crate) fn new(alloc: Global) -> Rooms<R, G>
         ensures { result.doors.items ≡ [] }
@@ -49,13 +49,14 @@ impl<R: Wait + Clock + Drop + Copy + Net, G: Log + Drop + Copy> Rooms<R, G> {
     }
 
     /// One place more, at which its thread waits on this seat.
+    #[tactic(auto, using(crate::proofs::Roles::one_more))]
     fn add(
         &mut self,
         rt: R,
         alloc: Global,
         entry: &Entry<'_>,
         seat: Seat,
-        log: G,
+        log: &G,
     ) -> Result<(), Fault>
         requires { length self.old.doors.items < 64 }
         ensures count { OnOk result (length self.new.doors.items ≡ length self.old.doors.items + 1) }
@@ -66,7 +67,7 @@ impl<R: Wait + Clock + Drop + Copy + Net, G: Log + Drop + Copy> Rooms<R, G> {
         self.seats.push(Arc::try_clone(&seat)?)?;
         let lobby = Arc::try_clone(&entry.lobby)?;
         let role = lobby.role();
-        let door = TcpDoor::new(rt, alloc, lobby, seat, place, log);
+        let door = TcpDoor::new(rt, alloc, lobby, seat, place, log.clone()?);
         self.doors.push((role, door))?;
         Ok(())
     }
@@ -79,7 +80,7 @@ impl<R: Wait + Clock + Drop + Copy + Net, G: Log + Drop + Copy> Rooms<R, G> {
         alloc: Global,
         plan: &Plan<'_>,
         full: &Option<Entry<'_>>,
-        log: G,
+        log: &G,
     ) -> Result<(), Trouble>
         requires none { self.old.doors.items ≡ [] }
         requires entry { IsFullEntry plan.now full.now }
@@ -100,7 +101,7 @@ impl<R: Wait + Clock + Drop + Copy + Net, G: Log + Drop + Copy> Rooms<R, G> {
         rt: R,
         alloc: Global,
         entry: &Entry<'_>,
-        log: G,
+        log: &G,
     ) -> Result<(), Trouble>
         requires { length self.old.doors.items + places_for (arc_value entry.now.lobby).role entry.now.plan < 65 }
         ensures count { OnOk result (length self.new.doors.items ≡ length self.old.doors.items + places_for (arc_value entry.now.lobby).role entry.now.plan) }
@@ -122,13 +123,13 @@ impl<R: Wait + Clock + Drop + Copy + Net, G: Log + Drop + Copy> Rooms<R, G> {
 
 /// The places of a plan whose viewers come in by these entries.
 #[tactic(auto, using(crate::proofs::Counts::full_most, crate::proofs::Counts::entry_places))]
-pub(crate) fn rooms_of<R: Wait + Clock + Drop + Copy + Net, G: Log + Drop + Copy>(
+pub(crate) fn rooms_of<R: Wait + Clock + Drop + Copy + Net, G: Log + Clone + Drop>(
     rt: R,
     alloc: Global,
     plan: &Plan<'_>,
     full: &Option<Entry<'_>>,
     view: &Entry<'_>,
-    log: G,
+    log: &G,
 ) -> Result<Rooms<R, G>, Trouble>
     requires entries { AreBoth plan.now full.now view.now }
     requires places { HasPlaces plan.now }
@@ -140,19 +141,21 @@ pub(crate) fn rooms_of<R: Wait + Clock + Drop + Copy + Net, G: Log + Drop + Copy
     Ok(rooms)
 }
 
-/// Where the host's writer rests, and who is woken by news: it and all these seats.
-pub(crate) fn alarms(
+/// Who is woken by news: the host's writer, who rests here, and all these seats. What is put is counted there.
+pub(crate) fn everyone_of(
     alloc: Global,
+    writer: &Arc<WriterSeat, Global>,
     seats: Vec<Arc<Seat, Global>>,
-) -> Result<(Arc<WriterSeat, Global>, Arc<Everyone, Global>), Fault>
+    count: &Arc<HostCount, Global>,
+) -> Result<Arc<Everyone, Global>, Fault>
     ensures err { IfErr result (λ fault. fault ≡ Memory) }
 {
-    let writer = Arc::new(alloc, WriterSeat::new())?;
     let everyone = Everyone {
-        writer: Arc::try_clone(&writer)?,
+        count: Arc::try_clone(count)?,
+        writer: Arc::try_clone(writer)?,
         seats,
     };
-    Ok((writer, Arc::new(alloc, everyone)?))
+    Ok(Arc::new(alloc, everyone)?)
 }
 
 /// What is left to do with a role's viewers while its door is kept: to send them away.
@@ -167,11 +170,11 @@ pub(crate) fn start_porter<R, G>(
     rt: R,
     alloc: Global,
     entry: Entry<'_>,
-    log: G,
+    log: &G,
 ) -> Result<Hall, Trouble>
 where
     R: Threads + Wait + Clock + Copy + Drop + Send + 'static,
-    G: Log + Drop + Send + 'static,
+    G: Log + Clone + Drop + Send + 'static,
 {
     let Entry {
         plan: _,
@@ -180,6 +183,9 @@ where
     } = entry;
     let address = bound.gate().listener().local_addr();
     let Ok(theirs) = Arc::try_clone(&lobby) else {
+        return Err(Trouble::new(Stage::Start, Fault::Memory));
+    };
+    let Ok(log) = log.clone() else {
         return Err(Trouble::new(Stage::Start, Fault::Memory));
     };
     let started = Builder::new().stack_size(STACK).spawn(

@@ -1,16 +1,18 @@
 //! A run, from its first port to its end.
 
-ghost use Rattle.std.specs.Prelude.{◌≡◌, ◌≤◌, true, false, None, All, OnOk, length};
+ghost use Rattle.std.specs.Prelude.{◌≡◌, ◌≤◌, true, false, None, All, OnOk, is_some, length};
 ghost use Rattle.raster.specs.Size.{IsScreenSize};
 ghost use Rattle.host_turns.specs.Running.{goes_on};
 ghost use Rattle.plan.specs.Statuses.{HasPlaces};
+ghost use Rattle.plan.specs.Turns.{MayEnd, endless};
 ghost use Rattle.serve.specs.Doors.{AreAsPlanned, AreBoth};
 
 use crate::entries::Entrances;
 use crate::halls::welcome;
 use crate::host_text::texts_of;
 use crate::meet::Met;
-use crate::rooms::{Rooms, alarms, rooms_of};
+use crate::rooms::{Rooms, everyone_of, rooms_of};
+use crate::start::{Control, control_of, lifeline_of, was_cut};
 use crate::supply::Supply;
 use crate::trouble::{Stage, Trouble};
 use crate::web::shared;
@@ -23,11 +25,12 @@ use reflector::{Running, run_all};
 use rfb_wire::Joined;
 use roles::Role;
 use screen_pair::Publishes;
-use serving::{Alarm, Door, Log};
-use std::alloc::Global;
+use serving::{Alarm, Desk, Door, Log, WriterSeat};
+use std::alloc::{AllocError, Global};
 use std::marker::Brand;
 use std::net::{Net, TcpListener, TcpStream};
 use std::random::RandomSource;
+use std::rt::Files;
 use std::sync::{Arc, Wait};
 use std::thread::Threads;
 use std::time::Clock;
@@ -86,6 +89,7 @@ fn reflect<G, R>(
     supply: Supply<R, G>,
     met: Met<R>,
     rooms: Rooms<R, G>,
+    writer: Arc<WriterSeat, Global>,
 ) -> Result<(), Fault>
 where
     G: Log + Drop + Send + 'static,
@@ -101,11 +105,11 @@ where
     requires untimed { (met.reader.has_deadline ≡ false) × (met.writer.has_deadline ≡ false) }
     requires places { HasPlaces plan.now }
     requires doors { AreAsPlanned plan.now rooms.doors.items }
-    requires again { supply.turns.again ≡ plan.now.again }
-    ensures { goes_on result ≡ true → plan.now.again ≡ None }
+    requires again { endless (is_some supply.lifeline) supply.turns.again ≡ endless (is_some plan.now.control) plan.now.again }
+    ensures { goes_on result ≡ true → MayEnd plan.now }
 {
     let Rooms { doors, seats } = rooms;
-    let (writer, everyone) = alarms(alloc, seats)?;
+    let everyone = everyone_of(alloc, &writer, seats, supply.desk.count())?;
     over::<Brand, _, _, _, _, _, _>(
         rt,
         alloc,
@@ -120,17 +124,21 @@ where
     )
 }
 
-/// Joins the first host, and reflects it and those that follow on it until the last ends, for viewers who come in by
-/// these entries, one for each role that is served. Then the places are waited for, though not for long.
-pub(crate) fn run<G, R>(
+/// Joins the first host, and reflects it and those that follow on it until the last ends, in these rooms. Then the
+/// places are waited for, though not for long. The hosts' writer rests at this seat.
+fn reflect_all<G, R>(
     rt: R,
     alloc: Global,
     plan: &Plan<'_>,
+    mut supply: Supply<R, G>,
     entrances: Entrances<'_>,
-    log: G,
+    rooms: Rooms<R, G>,
+    control: Option<Control>,
+    writer: Arc<WriterSeat, Global>,
+    log: &G,
 ) -> Result<(), Trouble>
 where
-    G: Log + Drop + Copy + Send + 'static,
+    G: Log + Clone + Drop + Send + 'static,
     R: Net<Stream = TcpStream, Listener = TcpListener>
         + Threads
         + Wait
@@ -141,20 +149,90 @@ where
         + Send
         + 'static,
     requires places { HasPlaces plan.now }
-    requires entries { AreBoth plan.now entrances.full entrances.view }
-    ensures { OnOk result (plan.now.again ≡ None) }
+    requires doors { AreAsPlanned plan.now rooms.doors.items }
+    requires again { endless (is_some supply.lifeline) supply.turns.again ≡ endless (is_some plan.now.control) plan.now.again }
+    ensures { OnOk result (MayEnd plan.now) }
 {
-    let hosts = texts_of(alloc, plan)?;
-    let rooms = rooms_of(rt, alloc, plan, &entrances.full, &entrances.view, log)?;
     let Ok(seats) = shared(alloc, rooms.seats.as_slice()) else {
         return Err(Trouble::new(Stage::Start, Fault::Memory));
     };
-    let mut supply = Supply::new(rt, log, hosts, plan.again);
-    let (met, halls) = welcome(rt, alloc, &mut supply, entrances, seats, log)?;
-    let why = reflect(rt, alloc, plan, supply, met, rooms);
+    let (met, halls) = welcome(rt, alloc, &mut supply, entrances, seats, control, log)?;
+    let why = reflect(rt, alloc, plan, supply, met, rooms, writer);
     halls.close(&rt);
     match why {
         Ok(()) => Ok(()),
         Err(fault) => Err(Trouble::new(Stage::Run, fault)),
     }
+}
+
+/// What the threads of a run share beside its rooms.
+#[derive(Drop)]
+struct Common<G: Drop> {
+    /// The doors of all places.
+    desk: Arc<Desk, Global>,
+    /// Where the hosts' writer rests.
+    writer: Arc<WriterSeat, Global>,
+    log: G,
+}
+
+impl<G: Log + Clone + Drop> Common<G> {
+    /// For a run into which viewers come by these entries.
+    fn new(alloc: Global, entrances: &Entrances<'_>, log: &G) -> Result<Common<G>, AllocError> {
+        Ok(Common {
+            desk: Arc::try_clone(entrances.view.lobby.desk())?,
+            writer: Arc::new(alloc, WriterSeat::new())?,
+            log: log.clone()?,
+        })
+    }
+}
+
+/// Reflects the hosts of a plan, for viewers who come in by these entries, one for each role that is served, until the
+/// last host ends or an operator stops the run, if one can.
+#[tactic(auto, using(crate::proofs::Stopping::stopped))]
+pub(crate) fn run<G, R>(
+    rt: R,
+    alloc: Global,
+    plan: &Plan<'_>,
+    entrances: Entrances<'_>,
+    log: &G,
+) -> Result<(), Trouble>
+where
+    G: Log + Clone + Drop + Send + 'static,
+    R: Net<Stream = TcpStream, Listener = TcpListener>
+        + Files
+        + Threads
+        + Wait
+        + Clock
+        + RandomSource
+        + Copy
+        + Drop
+        + Send
+        + 'static,
+    requires places { HasPlaces plan.now }
+    requires entries { AreBoth plan.now entrances.full entrances.view }
+    ensures { OnOk result (MayEnd plan.now) }
+{
+    let hosts = texts_of(alloc, plan)?;
+    let rooms = rooms_of(rt, alloc, plan, &entrances.full, &entrances.view, log)?;
+    let Ok(
+        Common {
+            desk,
+            writer,
+            log: theirs,
+        },
+    ) = Common::new(alloc, &entrances, log)
+    else {
+        return Err(Trouble::new(Stage::Start, Fault::Memory));
+    };
+    let control = control_of(&rt, alloc, plan, &desk, &writer)?;
+    let lifeline = lifeline_of(&control)?;
+    let held = lifeline_of(&control)?;
+    let supply = Supply::new(rt, alloc, theirs, desk, hosts, plan.again, held);
+    let why = reflect_all(
+        rt, alloc, plan, supply, entrances, rooms, control, writer, log,
+    );
+    if was_cut(&rt, &lifeline) {
+        return Ok(());
+    }
+    why
 }

@@ -1,29 +1,36 @@
 //! The hosts that follow on one that has ended.
 
-ghost use Rattle.std.specs.Prelude.{◌≡◌, ◌-◌, ◌≤◌, ⊤, IfOk, IsNone, None, false, is_some, length};
-ghost use Rattle.plan.specs.Turns.{turn_of};
+ghost use Rattle.std.specs.Prelude.{◌≡◌, ◌⊎◌, ◌-◌, ◌≤◌, ⊤, IfOk, IfSome, IsNone, None, false, is_some, length, true};
+ghost use Rattle.plan.specs.Turns.{endless, turn_of};
+ghost use Rattle.serve.specs.Stops.{IsOut};
 
+use crate::lifeline::{Cut, Lifeline, Recall};
 use crate::meet::{Met, Missed, Reached, connect_by_text, join};
+use crate::quoted::Quoted;
 use crate::telling::Telling;
 use crate::trouble::Trouble;
 use fault::Fault;
 use host_turns::Hosts;
 use plan::{Rested, Turns};
 use rfb_wire::Joined;
-use serving::{Event, JoiningLink, Log};
+use serving::{Desk, Event, HostCard, JoiningLink, Log, clock_millis};
+use std::alloc::Global;
 use std::net::{Net, SocketAddr, TcpListener, TcpStream};
-use std::sync::Wait;
+use std::sync::{Arc, Wait};
 use std::time::Clock;
 
-/// The hosts over TCP, in their order. One that can't be reached is passed over. The log is told of the tries of a round
-/// as `Telling` says.
+/// The hosts over TCP, in their order. One that can't be reached is passed over. The log is told of the tries of a
+/// round as `Telling` says.
 #[derive(Drop)]
 pub(crate) struct Supply<
     R: Net<Stream = TcpStream, Listener = TcpListener> + Wait + Clock + Copy + Drop,
     G: Log + Drop,
 > {
     rt: R,
+    alloc: Global,
     log: G,
+    /// Where it is known which host is joined.
+    pub(crate) desk: Arc<Desk, Global>,
     /// The texts that say where the hosts are, by their numbers.
     texts: Vec<String>,
     turns: Turns,
@@ -32,6 +39,10 @@ pub(crate) struct Supply<
     present: Option<SocketAddr>,
     /// Whether that host was joined.
     is_joined: bool,
+    /// What an operator ends the run by, if one can.
+    lifeline: Option<Arc<Lifeline, Global>>,
+    /// That the run was seen to be asked to stop.
+    stopped: Option<Cut>,
 }
 
 impl<
@@ -41,21 +52,34 @@ impl<
     ghost use Rattle.raster.specs.Size.{IsScreenSize};
 
     /// The first of these hosts has its turn. It has its turn again so many seconds after all the others had theirs, if
-    /// at all.
-    pub(crate) fn new(rt: R, log: G, texts: Vec<String>, again: Option<u64>) -> Supply<R, G>
+    /// at all. Where there is a lifeline the run ends once that was cut.
+    pub(crate) fn new(
+        rt: R,
+        alloc: Global,
+        log: G,
+        desk: Arc<Desk, Global>,
+        texts: Vec<String>,
+        again: Option<u64>,
+        lifeline: Option<Arc<Lifeline, Global>>,
+    ) -> Supply<R, G>
         ensures texts { result.texts ≡ texts }
         ensures hosts { (result.turns.further ≡ length texts.items - 1) × (result.turns.done ≡ 0) }
         ensures again { result.turns.again ≡ again }
+        ensures lifeline { is_some result.lifeline ≡ is_some lifeline }
     {
         let further = texts.len().saturating_sub(1);
         Supply {
             rt,
+            alloc,
             log,
+            desk,
             texts,
             turns: Turns::new(further, again),
             telling: Telling::new(),
             present: None,
             is_joined: false,
+            lifeline,
+            stopped: None,
         }
     }
 
@@ -66,12 +90,13 @@ impl<
         self.turns.again().is_some()
     }
 
-    /// Meets the first host, which is joined then. Where it is to be tried again, hosts have their turns until one is met,
-    /// so that only want of memory and a screen that can't be shown are errors.
+    /// Meets the first host, which is joined then. Where it is to be tried again, hosts have their turns until one is
+    /// met, so that only want of memory and a screen that can't be shown are errors.
     pub(crate) fn first(&mut self) -> Result<Met<R>, Trouble>
         ensures size { IfOk result (λ met. IsScreenSize met.joined.w met.joined.h) }
         ensures untimed { IfOk result (λ met. (met.reader.has_deadline ≡ false) × (met.writer.has_deadline ≡ false)) }
         ensures again { self.new.turns.again ≡ self.old.turns.again }
+        ensures lifeline { self.new.lifeline ≡ self.old.lifeline }
     {
         let rt = self.rt;
         let mut number = 0;
@@ -80,7 +105,7 @@ impl<
                 Ok(met) => return Ok(met),
                 Err(trouble) => trouble,
             };
-            if self.turns.again().is_none() || trouble.is_final() {
+            if self.turns.again().is_none() || trouble.is_final() || self.is_cut().is_some() {
                 return Err(trouble);
             }
             number = match self.turn() {
@@ -96,12 +121,13 @@ impl<
         ensures size { IfOk result (λ met. IsScreenSize met.joined.w met.joined.h) }
         ensures untimed { IfOk result (λ met. (met.reader.has_deadline ≡ false) × (met.writer.has_deadline ≡ false)) }
         ensures again { self.new.turns.again ≡ self.old.turns.again }
+        ensures lifeline { self.new.lifeline ≡ self.old.lifeline }
     {
-        let reached = match self.reach(number) {
-            Ok(reached) => reached,
+        let ends = match self.reach(number) {
+            Ok(ends) => ends,
             Err(missed) => return Err(missed.trouble()),
         };
-        match join(&self.rt, number, reached) {
+        match join(&self.rt, number, ends) {
             Ok(mut met) => {
                 self.joined(&mut met.reader, &met.joined);
                 Ok(met)
@@ -113,11 +139,38 @@ impl<
         }
     }
 
+    /// Whether an operator has asked the run to stop.
+    fn is_cut(&self) -> Option<Cut>
+        ensures { is_some result ≡ true → is_some self.now.lifeline ≡ true }
+    {
+        match &self.lifeline {
+            Some(lifeline) => lifeline.is_cut(&self.rt),
+            None => None,
+        }
+    }
+
+    /// The ends of a connection to a host that is read from now on.
+    fn take_up(&self, reached: Reached<R>) -> (JoiningLink<R>, JoiningLink<R>)
+        ensures { result.1 ≡ reached.writer }
+    {
+        let Reached {
+            address: _,
+            stream,
+            reader,
+            writer,
+        } = reached;
+        if let Some(lifeline) = &self.lifeline {
+            lifeline.hold(&self.rt, stream);
+        }
+        (reader, writer)
+    }
+
     /// Tries to connect to the host of this number, whose turn it is, and tells the log how the try ended.
-    fn reach(&mut self, number: usize) -> Result<Reached<R>, Missed>
-        ensures untimed { IfOk result (λ reached. reached.writer.has_deadline ≡ false) }
+    fn reach(&mut self, number: usize) -> Result<(JoiningLink<R>, JoiningLink<R>), Missed>
+        ensures untimed { IfOk result (λ ends. ends.1.has_deadline ≡ false) }
         ensures turns { self.new.turns ≡ self.old.turns }
         ensures texts { self.new.texts ≡ self.old.texts }
+        ensures lifeline { self.new.lifeline ≡ self.old.lifeline }
     {
         let host = match self.texts.get(number) {
             Some(text) => text.as_str(),
@@ -142,17 +195,53 @@ impl<
                 refused,
             });
         }
-        if tried.is_err() {
-            self.telling.fail(&self.rt);
+        match tried {
+            Ok(reached) => Ok(self.take_up(reached)),
+            Err(missed) => {
+                self.telling.fail(&self.rt);
+                Err(missed)
+            }
         }
-        tried
+    }
+
+    /// Tells the desk that a host is joined, and has it counted when bytes come over this link. Where memory is refused
+    /// for its name it is told without one.
+    fn tell_joined(&self, reader: &mut JoiningLink<R>, host: &Joined)
+        ensures { reader.new ≡ reader.old }
+    {
+        let name = Quoted {
+            bytes: host.name.as_slice(),
+        };
+        let name = match format!(in self.alloc; "{name}") {
+            Ok(name) => name,
+            Err(_) => String::new(self.alloc),
+        };
+        self.desk.host_joined(
+            &self.rt,
+            HostCard {
+                address: self.present,
+                name,
+                width: host.w,
+                height: host.h,
+                since: clock_millis(&self.rt),
+            },
+        );
+        if let Ok(count) = Arc::try_clone(self.desk.count()) {
+            count.hear(&self.rt);
+            reader.count_by(count);
+        }
     }
 
     /// Tells the log why a host was left, unless it is one that wasn't joined in a round that isn't told.
     fn tell_out(&mut self, why: Result<(), Fault>)
         ensures turns { self.new.turns ≡ self.old.turns }
         ensures texts { self.new.texts ≡ self.old.texts }
+        ensures lifeline { self.new.lifeline ≡ self.old.lifeline }
     {
+        if let Some(lifeline) = &self.lifeline {
+            lifeline.let_go(&self.rt);
+        }
+        self.desk.host_left(&self.rt);
         if !self.is_joined {
             self.telling.fail(&self.rt);
         }
@@ -164,19 +253,44 @@ impl<
         }
     }
 
-    /// Whose turn it is next, by its number: that of the first host after its pause. It is nobody's where each host had
-    /// one, and the first is to have no other.
-    fn turn(&mut self) -> Option<usize>
-        ensures value { result ≡ turn_of self.old.turns }
+    /// The pause before the first host has its turn again, unless the run is to stop.
+    fn pause(&mut self, seconds: u64) -> Option<Rested>
+        ensures rested { IfSome result (λ rested. rested.seconds ≡ seconds) }
+        ensures stopped { IsNone result → (is_some self.new.stopped ≡ true) × (is_some self.new.lifeline ≡ true) }
+        ensures turns { self.new.turns ≡ self.old.turns }
         ensures texts { self.new.texts ≡ self.old.texts }
+        ensures lifeline { self.new.lifeline ≡ self.old.lifeline }
+    {
+        let Some(lifeline) = &self.lifeline else {
+            return Some(Rested::after(&self.rt, seconds));
+        };
+        let recall = Recall {
+            rt: &self.rt,
+            lifeline,
+        };
+        match Rested::after_unless(&self.rt, seconds, &recall) {
+            Ok(rested) => Some(rested),
+            Err(cut) => {
+                self.stopped = Some(cut);
+                None
+            }
+        }
+    }
+
+    /// Whose turn it is next, by its number: that of the first host after its pause. It is nobody's where each host had
+    /// one, and the first is to have no other, or where the run is to stop.
+    fn turn(&mut self) -> Option<usize>
+        ensures value { (result ≡ turn_of self.old.turns) ⊎ (is_some self.new.stopped ≡ true) }
+        ensures texts { self.new.texts ≡ self.old.texts }
+        ensures lifeline { self.new.lifeline ≡ self.old.lifeline }
         ensures again { self.new.turns.again ≡ self.old.turns.again }
-        ensures out { IsNone result → (self.new.turns.again ≡ None) × (self.new.turns.further ≤ self.new.turns.done) }
+        ensures out { IsNone result → IsOut self.new.turns self.new.stopped self.new.lifeline }
     {
         if let Some(number) = self.turns.next() {
             return Some(number);
         }
         let seconds = self.turns.again()?;
-        let rested = Rested::after(&self.rt, seconds);
+        let rested = self.pause(seconds)?;
         self.telling.begin(&self.rt);
         Some(self.turns.begin_anew(rested))
     }
@@ -191,16 +305,22 @@ impl<
 
     ghost came = { λ _. ⊤ };
 
-    ghost are_out = { λ supply. (supply.turns.again ≡ None) × (supply.turns.further ≤ supply.turns.done) };
+    ghost are_out = { λ supply. IsOut supply.turns supply.stopped supply.lifeline };
 
-    ghost again = { λ supply. supply.turns.again };
+    // Where an operator may end the run nothing is said of hosts that come again.
+    ghost again = { λ supply. endless (is_some supply.lifeline) supply.turns.again };
 
+    #[tactic(auto, using(crate::proofs::Stopping::never))]
     fn next(&mut self) -> Option<(JoiningLink<R>, JoiningLink<R>)> {
         let rt = self.rt;
         for _ in rt.forever() {
+            self.stopped = self.is_cut();
+            if self.stopped.is_some() {
+                return None;
+            }
             let number = self.turn()?;
-            if let Ok(reached) = self.reach(number) {
-                return Some((reached.reader, reached.writer));
+            if let Ok(ends) = self.reach(number) {
+                return Some(ends);
             }
         }
         unreachable!()
@@ -213,12 +333,14 @@ impl<
         ensures again { self.new.turns.again ≡ self.old.turns.again }
         ensures untimed { (reader.new.has_deadline ≡ false) ⊎ (reader.new.below.is_open ≡ false) }
         ensures kept { reader.old.has_deadline ≡ false → reader.new.has_deadline ≡ false }
+        ensures lifeline { self.new.lifeline ≡ self.old.lifeline }
     {
         if reader.lift().is_err() {
             reader.close();
         }
         self.is_joined = true;
         self.telling = Telling::new();
+        self.tell_joined(reader, host);
         self.log.tell(&Event::HostJoined {
             address: self.present,
             name: host.name.as_slice(),

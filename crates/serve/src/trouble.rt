@@ -19,6 +19,12 @@ pub(crate) enum Stage {
     ReadRoot(RootFault),
     /// Listening for browsers of a role.
     ListenWeb(Role),
+    /// Reading the address to listen on for machines.
+    ReadMetrics,
+    /// Listening for machines.
+    ListenMetrics,
+    /// Listening for an operator.
+    Control,
     /// Reading the first host's address.
     ReadHost,
     /// Reading the address of this one of the further hosts.

@@ -214,7 +214,7 @@ pub(crate) fn start_web_porter<R, G>(
     alloc: Global,
     entries: Vec<WebEntry>,
     seats: Vec<Arc<Seat, Global>>,
-    log: G,
+    log: &G,
 ) -> Result<(), Trouble>
 where
     R: Net<Stream = TcpStream, Listener = TcpListener>
@@ -226,7 +226,7 @@ where
         + Drop
         + Send
         + 'static,
-    G: Log + Drop + Send + 'static,
+    G: Log + Clone + Drop + Send + 'static,
 {
     if entries.is_empty() {
         return Ok(());
@@ -238,6 +238,9 @@ where
     let porter = match WebPorter::new(&rt, alloc, entries, keys) {
         Ok(porter) => porter,
         Err(error) => return Err(Trouble::of(Stage::Start, error)),
+    };
+    let Ok(log) = log.clone() else {
+        return Err(Trouble::new(Stage::Start, Fault::Memory));
     };
     let started = Builder::new()
         .stack_size(STACK)

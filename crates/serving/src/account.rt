@@ -91,7 +91,7 @@ impl Account {
     }
 
     /// It said once more that it ended.
-    fn end(&mut self)
+    pub(crate) fn end(&mut self)
         ensures { self.new ≡ with_end self.old }
     {
         self.ends = LIMIT.min(self.ends + 1);

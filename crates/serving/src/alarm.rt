@@ -1,5 +1,6 @@
 //! Alarms, which end waits.
 
+use crate::count::HostCount;
 use crate::seat::Seat;
 use crate::writer_seat::WriterSeat;
 use link::Rest;
@@ -42,9 +43,12 @@ impl<B: Alarm> Alarm for Arc<B, Global> {
     }
 }
 
-/// The host's writer, and then each place: the host can work on while the viewers are told.
+/// The host's writer, and then each place: the host can work on while the viewers are told. It is rung once for each
+/// update that is put, and counts them.
 #[derive(Drop)]
 pub struct Everyone {
+    /// What is counted of the hosts.
+    pub count: Arc<HostCount, Global>,
     /// Where the host's writer rests.
     pub writer: Arc<WriterSeat, Global>,
     /// Where the places wait.
@@ -53,6 +57,7 @@ pub struct Everyone {
 
 impl Alarm for Everyone {
     fn ring(&self) {
+        self.count.note_put();
         self.writer.ring();
         for seat in &self.seats {
             seat.ring();

@@ -6,6 +6,7 @@ ghost use Rattle.link.specs.Links.{LinkState};
 ghost use Rattle.roles.specs.declared.role.Role.{Role};
 ghost use Rattle.serving.specs.Answers.{unused};
 
+use crate::count::PlaceCount;
 use fault::Fault;
 use link::Link;
 
@@ -29,6 +30,9 @@ pub trait Door: Drop {
     fn next(&mut self) -> Option<Self::Viewer>
         ensures came { IfSome result (λ link. Self.Viewer.state link ≡ unused) }
         ensures lets_in { lets_in self.old (is_some result) self.new };
+
+    /// What is counted of its viewer while it is served.
+    fn count(&self) -> &PlaceCount;
 
     /// Takes back a viewer's link that was served to its end: how many answers it was begun, and how serving ended.
     fn left(&mut self, viewer: Self::Viewer, answers: u64, why: Result<(), Fault>)

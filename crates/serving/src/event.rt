@@ -31,6 +31,8 @@ pub enum Parting {
     Stalled,
     /// The system reported another error.
     Broken,
+    /// It was open, and the viewer was asked to leave.
+    Dismissed,
 }
 
 /// What became of a viewer that was served.
@@ -93,6 +95,12 @@ pub enum Event<'a> {
     },
     /// One was refused, since there is no host yet.
     NoHost {
+        role: Role,
+        address: Option<SocketAddr>,
+        way: Way,
+    },
+    /// One was refused, since an operator has nobody let in.
+    NoEntry {
         role: Role,
         address: Option<SocketAddr>,
         way: Way,

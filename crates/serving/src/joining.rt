@@ -1,13 +1,16 @@
 //! The host's link while it is joined.
 
+use crate::count::HostCount;
 use crate::host::HostLink;
 use crate::noted::Noted;
 use crate::socket::HostSocket;
 use fault::LIMIT;
 use link::{Gave, Link, Took};
+use std::alloc::Global;
 use std::io;
 use std::marker::Model;
 use std::net::TcpStream;
+use std::sync::Arc;
 use std::time::{Clock, Duration, Instant};
 
 /// The seconds that a host's side of the handshake may take.
@@ -24,6 +27,8 @@ pub struct JoiningLink<R: Clock + Drop, S: HostSocket = Noted<TcpStream>> {
     /// When the handshake began, or `None` where there is no deadline.
     opened: Option<Instant>,
     failures: u64,
+    /// Where it is noted when the host's bytes came, if anywhere.
+    count: Option<Arc<HostCount, Global>>,
 }
 
 impl<R: Clock + Drop, S: HostSocket> Model for JoiningLink<R, S> {
@@ -52,6 +57,7 @@ impl<R: Clock + Drop, S: HostSocket> JoiningLink<R, S> {
             link,
             opened: Some(opened),
             failures,
+            count: None,
         })
     }
 
@@ -66,6 +72,7 @@ impl<R: Clock + Drop, S: HostSocket> JoiningLink<R, S> {
             link,
             opened: None,
             failures,
+            count: None,
         }
     }
 
@@ -77,6 +84,20 @@ impl<R: Clock + Drop, S: HostSocket> JoiningLink<R, S> {
         self.link.limit(None)?;
         self.opened = None;
         Ok(())
+    }
+
+    /// From now on it is noted there when the host's bytes came.
+    pub fn count_by(&mut self, count: Arc<HostCount, Global>)
+        ensures { self.new ≡ self.old }
+    {
+        self.count = Some(count);
+    }
+
+    /// Bytes of the host came now.
+    fn hear(&self) {
+        if let Some(count) = &self.count {
+            count.hear(&self.rt);
+        }
     }
 
     /// Closes the connection, both ends of it: the host sees that, and this end has no descriptor any more.
@@ -143,8 +164,10 @@ impl<R: Clock + Drop, S: HostSocket> Link for JoiningLink<R, S> {
             return Took::Failed;
         }
         let took = self.link.take(into);
-        if took == Took::Failed {
-            self.fail();
+        match took {
+            Took::Bytes(_) => self.hear(),
+            Took::Failed => self.fail(),
+            Took::Nothing | Took::End => {}
         }
         took
     }

@@ -8,6 +8,8 @@
 mod account;
 mod alarm;
 mod caller;
+mod count;
+mod desk;
 mod door;
 mod event;
 mod gate;
@@ -31,6 +33,8 @@ mod writer_seat;
 
 pub use alarm::{Alarm, Everyone, NoAlarm};
 pub use caller::WebEntry;
+pub use count::{HostCount, PlaceCount, clock_millis};
+pub use desk::{Comer, Desk, Glance, Guest, HostCard, Totals};
 pub use door::Door;
 pub use event::{Event, Log, NoLog, Parting, PlaceId, Visit};
 pub use gate::{Arrival, Gate, Way};
@@ -40,7 +44,7 @@ pub use lobby::{Lobby, TcpDoor, ViewerLink, keep_door};
 pub use noted::{Closing, Gathering, Noted};
 pub use options::{outlast, outlast_host};
 pub use porter::{MOST_GUESTS, WebPorter};
-pub use refusal::{no_host_bytes, refusal_bytes};
+pub use refusal::{no_entry_bytes, no_host_bytes, refusal_bytes};
 pub use ringing::Ringing;
 pub use seat::Seat;
 pub use socket::{HostSocket, Socket};

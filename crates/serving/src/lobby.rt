@@ -3,6 +3,8 @@
 ghost use Rattle.std.specs.Prelude.{◌≡◌, IfOk};
 ghost use Rattle.serving.specs.Doors.{role_behind};
 
+use crate::count::PlaceCount;
+use crate::desk::{Comer, Desk};
 use crate::door::Door;
 use crate::event::{Event, Log, Parting, PlaceId, Visit};
 use crate::gate::{Arrival, Gate, Way};
@@ -13,6 +15,7 @@ use crate::web::BrowserLink;
 use fault::Fault;
 use link::Link;
 use roles::Role;
+use run_control::Entry;
 use std::alloc::{AllocError, Global};
 use std::net::SocketAddr;
 use std::sync::{Arc, Condvar, Mutex, Wait};
@@ -35,6 +38,19 @@ struct Waiting {
     is_closed: bool,
 }
 
+/// What there isn't for one who comes, if there is something.
+fn lack(waiting: &Waiting, is_open: bool) -> Option<Lack> {
+    if !is_open {
+        Some(Lack::Entry)
+    } else if waiting.is_held {
+        Some(Lack::Host)
+    } else if waiting.free == 0 {
+        Some(Lack::Place)
+    } else {
+        None
+    }
+}
+
 /// What became of one who came.
 #[derive(Drop)]
 pub(crate) enum Entrance {
@@ -49,6 +65,7 @@ pub struct Lobby {
     role: Role,
     // For how many seconds one of its viewers may take nothing.
     stalled: u64,
+    desk: Arc<Desk, Global>,
     waiting: Mutex<Waiting>,
     came: Condvar,
     freed: Condvar,
@@ -57,12 +74,19 @@ pub struct Lobby {
 impl Lobby {
     /// A lobby for the viewers of a role, whose places are all free, and who may take nothing for so many seconds. It
     /// fails where memory is refused for the streams on their way.
-    pub fn new(alloc: Global, role: Role, places: u64, stalled: u64) -> Result<Lobby, AllocError>
+    pub fn new(
+        alloc: Global,
+        role: Role,
+        places: u64,
+        stalled: u64,
+        desk: Arc<Desk, Global>,
+    ) -> Result<Lobby, AllocError>
         ensures { IfOk result (λ lobby. (lobby.role ≡ role) × (lobby.stalled ≡ stalled)) }
     {
         Ok(Lobby {
             role,
             stalled,
+            desk,
             waiting: Mutex::new(Waiting {
                 arrivals: Vec::with_capacity(alloc, places as usize)?,
                 free: places,
@@ -80,6 +104,11 @@ impl Lobby {
         ensures { result ≡ self.now.role }
     {
         self.role
+    }
+
+    /// The doors of its places, among others.
+    pub fn desk(&self) -> &Arc<Desk, Global> {
+        &self.desk
     }
 
     /// From now on each viewer that comes is told that there is no host yet, or no longer is.
@@ -121,24 +150,23 @@ impl Lobby {
     ) -> Entrance
         requires { arrival.role ≡ self.now.role }
     {
+        let is_open = self.desk.entry(rt) == Entry::Open;
         let guard = self.waiting.lock(rt);
         let (mut guard, _) = self
             .freed
             .wait_timeout_while(rt, guard, patience, |waiting| {
-                waiting.free == 0 && !waiting.is_closed && !waiting.is_held
+                waiting.free == 0 && is_open && !waiting.is_closed && !waiting.is_held
             });
         let waiting = &mut *guard;
         if waiting.is_closed {
             return Entrance::Closed;
         }
-        if waiting.is_held {
-            return Entrance::Refused(arrival, Lack::Host);
-        }
-        if waiting.free == 0 {
-            return Entrance::Refused(arrival, Lack::Place);
+        if let Some(lack) = lack(waiting, is_open) {
+            self.desk.refuse();
+            return Entrance::Refused(arrival, lack);
         }
         if waiting.arrivals.push(arrival).is_ok() {
-            waiting.free -= 1;
+            waiting.free = waiting.free.saturating_sub(1);
             self.came.notify_one();
         }
         Entrance::Placed
@@ -212,6 +240,18 @@ impl<R: Wait + Clock + Drop, G: Log + Drop> TcpDoor<R, G> {
         }
     }
 
+    /// The place is free again, if a viewer had it or was on the way to it.
+    fn vacate(&mut self)
+        ensures lobby { self.new.lobby ≡ self.old.lobby }
+        ensures place { self.new.place ≡ self.old.place }
+    {
+        if self.has_served {
+            self.lobby.desk.leave(&self.rt, self.place);
+            self.lobby.free(&self.rt);
+            self.has_served = false;
+        }
+    }
+
     /// What a log is told of the place: its number, and the role of the lobby.
     fn place_id(&self) -> PlaceId
         ensures { (result.place ≡ self.now.place) × (result.role ≡ role_behind self.now) }
@@ -267,8 +307,8 @@ impl<R: Wait + Clock + Drop + Copy, G: Log + Drop> TcpDoor<R, G> {
         }
     }
 
-    /// Receives one who comes: his link, unless it can't be made, or he came by another role's gate. The lobby takes in
-    /// no such one, but its lock can't keep that for the proof.
+    /// Receives one who comes: his link, unless it can't be made, nobody is let in any more, or he came by another
+    /// role's gate. The lobby takes in no such one, but its lock can't keep that for the proof.
     fn receive(&mut self, arrival: Arrival) -> Option<ViewerLink<R>>
         ensures { IfSome result (λ link. viewer_state link ≡ unused) }
     {
@@ -277,6 +317,15 @@ impl<R: Wait + Clock + Drop + Copy, G: Log + Drop> TcpDoor<R, G> {
         self.address = arrival.address();
         self.way = arrival.way();
         if arrival.role() != place_id.role {
+            return None;
+        }
+        let comer = Comer {
+            place: place_id.place,
+            role: place_id.role,
+            address: self.address,
+            way: self.way,
+        };
+        if !self.lobby.desk.enter(&self.rt, comer, &self.seat) {
             return None;
         }
         let link = self.link(arrival).ok()?;
@@ -306,16 +355,17 @@ impl<R: Wait + Clock + Drop + Copy + Send, G: Log + Drop + Send> Door for TcpDoo
     fn next(&mut self) -> Option<ViewerLink<R>> {
         let rt = self.rt;
         for _ in rt.forever() {
-            if self.has_served {
-                self.lobby.free(&rt);
-                self.has_served = false;
-            }
+            self.vacate();
             let arrival = self.lobby.next_arrival(&rt)?;
             if let Some(link) = self.receive(arrival) {
                 return Some(link);
             }
         }
         unreachable!()
+    }
+
+    fn count(&self) -> &PlaceCount {
+        self.seat.count()
     }
 
     /// The connection is closed before the place is free.
@@ -338,10 +388,7 @@ impl<R: Wait + Clock + Drop + Copy + Send, G: Log + Drop + Send> Door for TcpDoo
             way: self.way,
             visit,
         });
-        if self.has_served {
-            self.lobby.free(&self.rt);
-            self.has_served = false;
-        }
+        self.vacate();
     }
 }
 

@@ -19,3 +19,10 @@ pub fn no_host_bytes() -> [u8; 28]
 {
     *b"RFB 003.008\n\0\0\0\0\x0Bno host yet"
 }
+
+/// The same to one who comes while an operator has nobody let in.
+pub fn no_entry_bytes() -> [u8; 36]
+    ensures { after host_hello result ≡ Faulty (HostRefused (codes "no viewer is let in")) }
+{
+    *b"RFB 003.008\n\0\0\0\0\x13no viewer is let in"
+}

@@ -4,7 +4,7 @@ ghost use Rattle.std.specs.Prelude.{◌<◌, ◌≤◌, length};
 
 use crate::event::{Event, Log};
 use crate::gate::{Arrival, Way};
-use crate::refusal::{no_host_bytes, refusal_bytes};
+use crate::refusal::{no_entry_bytes, no_host_bytes, refusal_bytes};
 use std::io::Write;
 use std::time::{Clock, Duration, Instant};
 use web_link::refusal_frames;
@@ -24,6 +24,8 @@ pub(crate) enum Lack {
     Place,
     /// A host.
     Host,
+    /// Leave to come in: an operator has nobody let in.
+    Entry,
 }
 
 /// Those who weren't let in at a door: the last of them, who stays until the next is refused, so that his text isn't
@@ -65,6 +67,10 @@ fn tell<G: Log>(refused: &Arrival, lack: Lack, log: &G) {
         Lack::Host => {
             say(refused, &no_host_bytes());
             log.tell(&Event::NoHost { role, address, way });
+        }
+        Lack::Entry => {
+            say(refused, &no_entry_bytes());
+            log.tell(&Event::NoEntry { role, address, way });
         }
     }
 }

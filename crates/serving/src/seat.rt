@@ -1,5 +1,6 @@
 //! Where the thread of a place waits.
 use crate::alarm::Alarm;
+use crate::count::PlaceCount;
 use mio::net::TcpStream;
 use mio::{Events, Interest, Poll, Token, Waker};
 use std::alloc::Global;
@@ -27,6 +28,9 @@ struct Ears {
 #[derive(Drop)]
 pub struct Seat {
     rung: AtomicBool,
+    /// Its viewer is to leave.
+    is_dismissed: AtomicBool,
+    count: PlaceCount,
     waker: Waker,
     ears: Mutex<Ears>,
 }
@@ -38,6 +42,8 @@ impl Seat {
         let waker = Waker::new(poll.registry(), ALARM)?;
         Ok(Seat {
             rung: AtomicBool::new(false),
+            is_dismissed: AtomicBool::new(false),
+            count: PlaceCount::new(),
             waker,
             ears: Mutex::new(Ears { poll, events }),
         })
@@ -53,6 +59,28 @@ impl Seat {
         let guard = self.ears.lock(rt);
         let both = Interest::READABLE | Interest::WRITABLE;
         guard.poll.registry().register(socket, SOCKET, both)
+    }
+
+    /// The viewer of the place is to leave: its link ends.
+    pub(crate) fn dismiss(&self) {
+        self.is_dismissed.store(true, Ordering::SeqCst);
+        self.rouse();
+    }
+
+    /// Whether the viewer of the place is to leave.
+    pub(crate) fn is_dismissed(&self) -> bool {
+        self.is_dismissed.load(Ordering::SeqCst)
+    }
+
+    /// What is counted of the viewer of the place.
+    pub fn count(&self) -> &PlaceCount {
+        &self.count
+    }
+
+    /// The place has another viewer, of which nothing was counted.
+    pub(crate) fn welcome(&self) {
+        self.is_dismissed.store(false, Ordering::SeqCst);
+        self.count.begin();
     }
 
     /// Waits for the alarm, or for the socket to become readable or writable, at most so long. It may end for no

@@ -35,6 +35,13 @@ fn parting_after(before: Parting, answer: &io::Result<usize>) -> Parting {
     }
 }
 
+/// How many bytes the system took once it took so many more than these. That is noted at the seat.
+fn counted(seat: &Seat, sent: u64, more: usize) -> u64 {
+    let sent = sent.saturating_add(more as u64);
+    seat.count().note_bytes(sent);
+    sent
+}
+
 /// A viewer's connection. `take` waits, until bytes come, until the seat's alarm rings, or until bytes that are kept
 /// can go out.
 ///
@@ -42,6 +49,8 @@ fn parting_after(before: Parting, answer: &io::Result<usize>) -> Parting {
 /// call of the system. A large slice is written from where it lies, in one call with what is kept; where it finds no
 /// room it stays with the caller, uncopied. While bytes can't go out, rings are left unanswered, so a viewer that takes
 /// nothing costs nothing.
+///
+/// Where its viewer is to leave (`Seat::dismiss`) it ends, as if the peer had closed it.
 ///
 /// It is proved over every socket; a viewer's is a stream over TCP.
 #[derive(Drop)]
@@ -179,7 +188,7 @@ impl<R: Wait + Clock + Drop, S: Socket> ViewerTcpLink<R, S> {
         self.parting = parting_after(self.parting, &answer);
         match gave_of(&answer) {
             Gave::Bytes(count) => {
-                self.sent = self.sent.saturating_add(count as u64);
+                self.sent = counted(&self.seat, self.sent, count);
                 self.is_blocked = false;
                 true
             }
@@ -219,7 +228,7 @@ impl<R: Wait + Clock + Drop, S: Socket> ViewerTcpLink<R, S> {
         let answer = self.kept.send_with(&mut self.socket, bytes);
         self.parting = parting_after(self.parting, &answer);
         match gave_of(&answer) {
-            Gave::Bytes(count) => self.sent = self.sent.saturating_add(count as u64),
+            Gave::Bytes(count) => self.sent = counted(&self.seat, self.sent, count),
             Gave::Nothing => self.is_blocked = true,
             _ => self.is_broken = true,
         }
@@ -292,6 +301,11 @@ impl<R: Wait + Clock + Drop, S: Socket> Link for ViewerTcpLink<R, S> {
         if self.is_broken {
             self.account.fail();
             return Took::Failed;
+        }
+        if self.seat.is_dismissed() {
+            self.parting = Parting::Dismissed;
+            self.account.end();
+            return Took::End;
         }
         if self.is_full && !self.holds_back() {
             // There is room again: the caller gives on.

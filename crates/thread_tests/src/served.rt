@@ -1,6 +1,7 @@
 //! Tests of `serve` over loopback alone, a host and a viewer in threads, and `serve` between them, in which each wait
 //! ends; and of the lines that `settings` and `command_line` read.
 
+mod control;
 mod early;
 mod ending;
 mod forms;
@@ -14,6 +15,7 @@ mod names;
 mod options;
 mod room;
 mod scene;
+mod surroundings;
 mod system;
 mod turns;
 mod updates;

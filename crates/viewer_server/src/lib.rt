@@ -9,8 +9,10 @@ mod breaks;
 mod inbox;
 mod law;
 mod leave;
+mod progress;
 mod run;
 mod serve;
 
 pub use law::viewer_holds_each_answer;
+pub use progress::{NoProgress, Progress};
 pub use run::run_viewer;

@@ -10,6 +10,7 @@ ghost use Rattle.viewer_server.specs.Serving.{Serves};
 use crate::breaks::Break;
 use crate::inbox::Inbox;
 use crate::leave::leave;
+use crate::progress::Progress;
 use crate::serve::serve;
 use fault::Fault;
 use link::{Link, Rest, StopFlag};
@@ -21,14 +22,14 @@ use viewer_session::Session;
 /// Serves a viewer over a link, from any source, and relays its input to any sink. Once it has left, its input that
 /// waits and then the releases go to the sink, until they are in or the flag is set.
 ///
-/// A turn is had before each call of `take` with nothing unsent. While the sink is full no bytes are taken of the
-/// viewer, and updates go on. It rests only where the sink is full.
+/// A turn is had before each call of `take` with nothing unsent, and then it is told how far the viewer is. While the
+/// sink is full no bytes are taken of the viewer, and updates go on. It rests only where the sink is full.
 ///
 /// It is `Ok` where the link ends between two messages with nothing unsent, or where the flag is set. Else it is the
 /// fault of the viewer's bytes, `LinkFailed`, `LinkEnded`, `Gone` where the source has ended, if it may end, or the
 /// fault with which the sink refuses an input for good, any but `QueueFull`. Then that input and all after it are given
 /// up: the sink is offered nothing more.
-pub fn run_viewer<L: Link, S: ScreenSource, K: InputSink, F: StopFlag, Z: Rest, R: Wait>(
+pub fn run_viewer<L, S, K, F, Z, P, R>(
     rt: &R,
     link: &mut L,
     source: &mut S,
@@ -36,7 +37,16 @@ pub fn run_viewer<L: Link, S: ScreenSource, K: InputSink, F: StopFlag, Z: Rest, 
     session: &mut Session,
     stop: &F,
     rest: &Z,
+    progress: &P,
 ) -> Result<(), Fault>
+where
+    L: Link,
+    S: ScreenSource,
+    K: InputSink,
+    F: StopFlag,
+    Z: Rest,
+    P: Progress,
+    R: Wait,
     requires screen { (S.width source.old ≡ session.old.width) × (S.height source.old ≡ session.old.height) }
     requires uncut { session.old.asked.last ≡ None }
     ensures grows { Begins (S.known source.old) (S.known source.new) }
@@ -44,7 +54,9 @@ pub fn run_viewer<L: Link, S: ScreenSource, K: InputSink, F: StopFlag, Z: Rest, 
         → Serves S.looks S.cuts S.may_end (F.was_set stop.now) K.may_refuse source.old source.new (S.known source.new) s (new_viewer role greet) (K.sent sink.old) (K.sent sink.new) result (L.state link.old) (L.state link.new) }
 {
     let mut inbox = Inbox::new();
-    let served = serve(rt, link, source, sink, session, &mut inbox, stop, rest);
+    let served = serve(
+        rt, link, source, sink, session, &mut inbox, stop, rest, progress,
+    );
     link.flush();
     match served {
         Ok(()) => leave(rt, sink, session, &mut inbox, stop, rest),

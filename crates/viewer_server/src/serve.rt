@@ -9,6 +9,7 @@ ghost use Rattle.viewer_server.specs.Steps.{GoesOn, HasServed, Hears, Offers, Sa
 
 use crate::breaks::Break;
 use crate::inbox::Inbox;
+use crate::progress::Progress;
 use fault::Fault;
 use link::{Gave, Link, Rest, StopFlag, Took};
 use reflect_core::ScreenSource;
@@ -16,8 +17,12 @@ use roles::InputSink;
 use std::sync::Wait;
 use viewer_session::Session;
 
-/// Has a turn, unless bytes are unsent. It answers whether none were.
-fn offer<S: ScreenSource>(source: &mut S, session: &mut Session) -> Result<bool, Fault>
+/// Has a turn, unless bytes are unsent, and tells how far the viewer is then. It answers whether none were.
+fn offer<S: ScreenSource, P: Progress>(
+    source: &mut S,
+    session: &mut Session,
+    progress: &P,
+) -> Result<bool, Fault>
     requires { (S.width source.old ≡ session.old.width) × (S.height source.old ≡ session.old.height) }
     ensures source { (S.width source.new ≡ S.width source.old) × (S.height source.new ≡ S.height source.old) }
     ensures session { (session.new.width ≡ session.old.width) × (session.new.height ≡ session.old.height) }
@@ -28,6 +33,7 @@ fn offer<S: ScreenSource>(source: &mut S, session: &mut Session) -> Result<bool,
         return Ok(false);
     }
     session.turn(source)?;
+    progress.tell(session.answers(), session.shown());
     Ok(true)
 }
 
@@ -94,7 +100,7 @@ fn hear<L: Link>(link: &mut L, session: &mut Session, inbox: &mut Inbox) -> Resu
 /// Serves the viewer until the link ends or the flag is set: passes on all of its input that has come, has a turn where
 /// nothing is unsent, gives what its session sends, and takes its bytes. Where the sink is full it only rests, so that
 /// updates go on. Bytes are taken only where a turn was had or others are unsent.
-pub(crate) fn serve<L: Link, S: ScreenSource, K: InputSink, F: StopFlag, Z: Rest, R: Wait>(
+pub(crate) fn serve<L, S, K, F, Z, P, R>(
     rt: &R,
     link: &mut L,
     source: &mut S,
@@ -103,7 +109,16 @@ pub(crate) fn serve<L: Link, S: ScreenSource, K: InputSink, F: StopFlag, Z: Rest
     inbox: &mut Inbox,
     stop: &F,
     rest: &Z,
+    progress: &P,
 ) -> Result<(), Break>
+where
+    L: Link,
+    S: ScreenSource,
+    K: InputSink,
+    F: StopFlag,
+    Z: Rest,
+    P: Progress,
+    R: Wait,
     requires screen { (S.width source.old ≡ session.old.width) × (S.height source.old ≡ session.old.height) }
     requires uncut { session.old.asked.last ≡ None }
     requires empty { inbox.old ≡ all_passed }
@@ -119,7 +134,7 @@ pub(crate) fn serve<L: Link, S: ScreenSource, K: InputSink, F: StopFlag, Z: Rest
         if !is_full && inbox.waits() {
             continue;
         }
-        let is_offered = offer(source, session)?;
+        let is_offered = offer(source, session, progress)?;
         say(link, session)?;
         if is_full {
             link.flush();

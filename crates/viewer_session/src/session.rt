@@ -263,6 +263,12 @@ impl Session {
         self.answers
     }
 
+    /// How many updates the screen showed that was looked at last, whether an answer was begun then or not, for a log: no
+    /// clause speaks of it.
+    pub fn shown(&self) -> u64 {
+        self.asked.last_cut().unwrap_or(0)
+    }
+
     /// Whether the viewer stands between two messages: its hello is done, there is no fault, and no byte was used since
     /// the hello's end or the last whole message.
     pub fn between(&self) -> bool

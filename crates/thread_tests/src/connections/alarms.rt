@@ -2,7 +2,7 @@
 //! by then.
 
 use link::{Link, Rest, StopFlag, Took};
-use serving::{Alarm, Everyone, Seat, Stop, WriterSeat};
+use serving::{Alarm, Everyone, HostCount, Seat, Stop, WriterSeat};
 use std::alloc::Global;
 use std::sync::atomic::{AtomicU64, Ordering};
 use std::sync::{Arc, Wait};
@@ -116,6 +116,7 @@ pub(crate) fn ends_each_wait<R: Threads + Wait + Send + Sync, L: Link + Send>(
     seats.push(Arc::try_clone(seat)?)?;
     let writer = Arc::new(alloc, WriterSeat::new())?;
     let stop = Stop::new(Everyone {
+        count: Arc::new(alloc, HostCount::new())?,
         writer: Arc::try_clone(&writer)?,
         seats,
     });

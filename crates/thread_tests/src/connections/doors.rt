@@ -5,7 +5,7 @@ ghost use Rattle.std.specs.Prelude.{◌≡◌};
 use crate::connections::sockets::{connect, listen, make_seat};
 use link::{Gave, Link, Took};
 use roles::Role;
-use serving::{Door, Gate, Lobby, NoLog, TcpDoor, keep_door};
+use serving::{Desk, Door, Gate, Lobby, NoLog, TcpDoor, keep_door};
 use std::io::Read;
 use std::net::{TcpListener, TcpStream};
 use std::sync::{Arc, Wait};
@@ -127,7 +127,11 @@ fn opens<R: Threads + Wait + Clock + Copy + Drop + Send + Sync>(
     let gate = Gate::new(listen(net)?, Role::Full);
     gate.listener().set_nonblocking(true)?;
     let seat = make_seat(net)?;
-    let lobby = Arc::new(net.alloc(), Lobby::new(net.alloc(), Role::Full, 1, 60)?)?;
+    let desk = Arc::new(net.alloc(), Desk::new(net.alloc(), 1)?)?;
+    let lobby = Arc::new(
+        net.alloc(),
+        Lobby::new(net.alloc(), Role::Full, 1, 60, desk)?,
+    )?;
     let shared = Arc::try_clone(&lobby)?;
     let mut door = TcpDoor::new(rt, net.alloc(), shared, seat, 1, NoLog);
     Ok(serves(&rt, net, &gate, &lobby, &mut door))

@@ -12,7 +12,7 @@ use link::Took;
 use roles::{Input, InputSink, Role};
 use std::sync::Wait;
 use std::test::Fail;
-use viewer_server::run_viewer;
+use viewer_server::{NoProgress, run_viewer};
 use viewer_session::Session;
 
 /// Refuses the second input that it is offered for good, and takes each other.
@@ -64,6 +64,7 @@ fn nothing_is_offered_after_a_refusal(rt: HostRuntime) -> Result<(), Fail> {
         &mut session,
         &watch,
         &watch,
+        &NoProgress,
     );
     assert!(rt; matches!(answer, Err(Fault::NumbersOut)) && sink.offers == 2);
     let first = taker.take();

@@ -14,7 +14,7 @@ use std::alloc::Global;
 use std::sync::Wait;
 use std::sync::atomic::Ordering;
 use std::test::Fail;
-use viewer_server::run_viewer;
+use viewer_server::{NoProgress, run_viewer};
 use viewer_session::Session;
 
 /// The end of a relay that is full for this many calls.
@@ -69,7 +69,16 @@ fn serves<R: Wait + Drop>(
     let mut screen = red_and_blue(alloc)?;
     let mut session = Session::ready(alloc, 2, 1, case.role, Runs::OfRows)?;
     let watch = make_watch(case.stop);
-    let answer = run_viewer(rt, link, &mut screen, sink, &mut session, &watch, &watch);
+    let answer = run_viewer(
+        rt,
+        link,
+        &mut screen,
+        sink,
+        &mut session,
+        &watch,
+        &watch,
+        &NoProgress,
+    );
     let rests = watch.rests.load(Ordering::SeqCst);
     Ok(number(answer) == case.answer && case.rests.0 <= rests && rests <= case.rests.1)
 }

@@ -21,7 +21,7 @@ use reflector::{Place, Running, join_place, run_all};
 use rfb_wire::Joined;
 use roles::Role;
 use screen_pair::Publishes;
-use serving::{Door, NoAlarm};
+use serving::{Door, NoAlarm, PlaceCount};
 use shared_screen::{Publisher, Watcher};
 use std::alloc::Global;
 use std::marker::Brand;
@@ -138,6 +138,7 @@ fn doors_of(
             place,
             scripts,
             may_end: true,
+            count: PlaceCount::new(),
         };
         doors.push((Role::Full, queue))?;
     }
@@ -171,6 +172,7 @@ where
         place: 0,
         scripts: course.hosts,
         may_end: course.may_end,
+        count: PlaceCount::new(),
     };
     let doors = doors_of(alloc, board, course)?;
     let Some((reader, writer)) = Hosts::next(&mut hosts) else {

@@ -7,7 +7,7 @@ use crate::runs::wire::Wire;
 use fault::Fault;
 use host_turns::Hosts;
 use rfb_wire::Joined;
-use serving::Door;
+use serving::{Door, PlaceCount};
 use std::alloc::Global;
 use std::sync::Arc;
 
@@ -21,6 +21,7 @@ pub(crate) struct Queue {
     pub(crate) scripts: &'static [Script],
     /// Whether another host may be asked for where none is left.
     pub(crate) may_end: bool,
+    pub(crate) count: PlaceCount,
 }
 
 impl Queue {
@@ -84,6 +85,10 @@ impl Door for Queue {
         let wire = self.wire()?;
         self.board.enter(self.place);
         Some(wire)
+    }
+
+    fn count(&self) -> &PlaceCount {
+        &self.count
     }
 
     fn left(&mut self, viewer: Wire, _answers: u64, why: Result<(), Fault>) {

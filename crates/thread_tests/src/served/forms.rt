@@ -4,6 +4,7 @@
 use crate::served::lines::words_of;
 use crate::served::loopback::{accept, connect, free_port, listen};
 use crate::served::room::{Ear, Room};
+use crate::served::system::SocketFiles;
 use crate::served::viewer::is_greeted;
 use command_line::run_words;
 use std::alloc::{AllocError, Global};
@@ -119,6 +120,7 @@ where
         + Wait
         + Clock
         + RandomSource
+        + SocketFiles
         + Copy
         + Drop
         + Send
@@ -142,6 +144,7 @@ where
         + Wait
         + Clock
         + RandomSource
+        + SocketFiles
         + Copy
         + Drop
         + Send

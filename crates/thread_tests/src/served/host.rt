@@ -33,6 +33,11 @@ const ASKED: &[u8] = b"\0\0\0\0\x20\x18\0\x01\0\xFF\0\xFF\0\xFF\x10\x08\0\0\0\0\
 /// What it asks for once an update was put: what is new of the whole screen.
 const ASKED_ANEW: &[u8] = b"\x03\x01\0\0\0\0\0\x02\0\x01";
 
+/// The key a goes down, and up again.
+pub(crate) const KEY_DOWN: &[u8; 8] = b"\x04\x01\0\0\0\0\0\x61";
+
+const KEY_UP: &[u8; 8] = b"\x04\0\0\0\0\0\0\x61";
+
 /// A host that waits until the client has gone reads this often at most.
 const READS: u64 = 20_000;
 
@@ -71,6 +76,8 @@ pub(crate) enum Ending {
     EndsBadly,
     /// Closes a little after so many viewers have asked for news. Nothing more is said to it meanwhile.
     ClosesInLull(u64),
+    /// It is told a key that goes down, and is left once it was told that it is up again.
+    IsLeft,
 }
 
 /// Whether a host is joined at its listener as it has to be, and asked anew after each of its updates, each of which is
@@ -125,8 +132,19 @@ fn is_client_right<R: Wait + Clock + Drop>(
             let are_waiting = ear.reaches(&ear.room.shown, count);
             Ok(is_silent(ear, stream)? && are_waiting && is_right)
         }
+        Ending::IsLeft => Ok(is_left(ear, stream)? && is_right),
         _ => Ok(is_right),
     }
+}
+
+/// Whether the client presses a key (RFC 6143, 7.5.4), and lets it go before it goes itself.
+fn is_left<R: Drop>(ear: &Ear<R>, stream: &mut TcpStream) -> io::Result<bool> {
+    let mut told = [0u8; 8];
+    stream.read_exact(&mut told)?;
+    let is_down = told == *KEY_DOWN;
+    ear.room.asked.store(1, Ordering::SeqCst);
+    stream.read_exact(&mut told)?;
+    Ok(is_down && told == *KEY_UP && stream.read(&mut told)? == 0)
 }
 
 /// Whether the client gives its version, and then goes once the clock is put forward. It doesn't take so long itself.

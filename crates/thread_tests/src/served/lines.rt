@@ -8,10 +8,11 @@ use std::test::*;
 /// The exit status of a line that is no command.
 const BAD_COMMAND: u8 = 2;
 
-/// No word, a word too many, a word that is no command, a host that isn't told, a port that is no number, an option
-/// that there isn't.
+/// No word, a word too many, a path without a request, a word that is no command, a host that isn't told, a port that is
+/// no number, an option that there isn't.
 const LINES: &str = "
 replay again
+control /run/reflectord
 srve
 serve
 serve --host 127.0.0.1:5900 --full none

@@ -5,6 +5,9 @@ use std::boxed::Box;
 use std::fmt::Display;
 use std::io::ErrorKind;
 use std::net::{Ipv4Addr, Net, SocketAddr, TcpListener, TcpStream};
+use std::os::fd::OwnedFd;
+use std::os::unix::net as unix;
+use std::os::unix::net::UnixStream;
 use std::sync::atomic::{AtomicU64, Ordering};
 use std::sync::{Mutex, Wait};
 use std::thread::Threads;
@@ -19,6 +22,8 @@ const TURNS: u64 = 20_000;
 pub(crate) struct Room {
     /// What stands on standard error.
     text: Mutex<String>,
+    /// What stands on standard output.
+    said: Mutex<String>,
     /// The lines that are to stand there.
     wanted: Mutex<Vec<String>>,
     /// How many seconds the clock is ahead.
@@ -38,8 +43,8 @@ pub(crate) struct Room {
 /// The name of a machine whose address the room has. Each other name is the system's.
 const DESK: &str = "desk";
 
-/// A runtime whose standard error stands in a room, and whose clock the room puts forward. The name `desk` moves with
-/// it.
+/// A runtime whose standard output and error stand in a room, and whose clock the room puts forward. The name `desk`
+/// moves with it.
 #[derive(Clone, Copy, Drop)]
 pub(crate) struct Ear<R: Drop> {
     pub(crate) rt: R,
@@ -54,6 +59,7 @@ impl Room {
             alloc,
             Room {
                 text: Mutex::new(String::new(alloc)),
+                said: Mutex::new(String::new(alloc)),
                 wanted: Mutex::new(Vec::new(alloc)),
                 ahead: AtomicU64::new(0),
                 shown: AtomicU64::new(0),
@@ -192,6 +198,31 @@ impl<R: Wait + Clock + Drop> Eprint for Ear<R> {
     }
 }
 
+impl<R: Wait + Clock + Drop> Ear<R> {
+    /// What stands on standard output ends so.
+    pub(crate) fn has_said(&self, words: &str) -> bool {
+        self.room.said.lock(self).as_str().ends_with(words)
+    }
+}
+
+impl<R: Wait + Clock + Drop> Print for Ear<R> {
+    fn print<D: Display + Drop>(&self, value: D) -> io::Result<()> {
+        match write!(self.room.said.lock(self), "{value}") {
+            Ok(()) => Ok(()),
+            Err(_) => Err(io::Error::from(ErrorKind::OutOfMemory)),
+        }
+    }
+
+    fn println<D: Display + Drop>(&self, value: D) -> io::Result<()> {
+        self.print(value)?;
+        self.print("\n")
+    }
+
+    fn write_all(&self, _bytes: &[u8]) -> io::Result<()> {
+        Err(io::Error::from(ErrorKind::Unsupported))
+    }
+}
+
 impl<R: Clock + Drop> Clock for Ear<R> {
     fn monotonic(&self) -> io::Result<Duration> {
         let ahead = Duration::from_secs(self.room.ahead.load(Ordering::SeqCst));
@@ -222,6 +253,14 @@ impl<R: Net<Stream = TcpStream, Listener = TcpListener> + Drop> Net for Ear<R> {
 
     fn connect_timeout(&self, address: SocketAddr, timeout: Duration) -> io::Result<TcpStream> {
         self.rt.connect_timeout(address, timeout)
+    }
+
+    fn connect_unix(&self, address: &unix::SocketAddr) -> io::Result<UnixStream> {
+        self.rt.connect_unix(address)
+    }
+
+    fn unix_socket(&self) -> io::Result<OwnedFd> {
+        self.rt.unix_socket()
     }
 
     fn lookup_host(&self, host: &str, port: u16, found: &mut [SocketAddr]) -> io::Result<usize> {

@@ -5,6 +5,7 @@ use crate::served::host::{Host, is_host_right};
 use crate::served::lines::words_of;
 use crate::served::loopback::{free_port, listen};
 use crate::served::room::{Ear, Room};
+use crate::served::system::SocketFiles;
 use crate::served::viewer::{Viewer, is_viewer_right};
 use command_line::run_words;
 use roles::Role;
@@ -56,6 +57,8 @@ pub(crate) enum Told {
     Named(&'static str),
     /// By these words.
     As(&'static str),
+    /// At the first listener, by a run that hears an operator.
+    Heard,
 }
 
 /// A line of standard error.
@@ -114,6 +117,10 @@ impl Stage {
             )?,
             Told::Named(name) => format!(in alloc; "{name}:{first}")?,
             Told::As(words) => String::from_str(alloc, words)?,
+            Told::Heard => {
+                let path = control_path(alloc, full)?;
+                format!(in alloc; "127.0.0.1:{first} --control {path}")?
+            }
         };
         let options = scene.options;
         format!(in alloc;
@@ -146,6 +153,11 @@ impl Stage {
     }
 }
 
+/// Where an operator of the run that has this port is heard.
+pub(crate) fn control_path(alloc: Global, full: u16) -> Result<String, AllocError> {
+    format!(in alloc; "/tmp/reflectord-test-{full}")
+}
+
 /// The ports of three listeners, and three that nobody has.
 fn ports<R: Net<Stream = TcpStream, Listener = TcpListener>>(
     rt: &R,
@@ -170,6 +182,7 @@ where
         + Wait
         + Clock
         + RandomSource
+        + SocketFiles
         + Copy
         + Drop
         + Send
@@ -202,6 +215,7 @@ where
         + Wait
         + Clock
         + RandomSource
+        + SocketFiles
         + Copy
         + Drop
         + Send
@@ -247,6 +261,7 @@ where
         + Wait
         + Clock
         + RandomSource
+        + SocketFiles
         + Copy
         + Drop
         + Send

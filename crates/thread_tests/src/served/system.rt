@@ -1,10 +1,12 @@
-//! What a runtime in a room hands on as it is, memory and random bytes, and files, which it has none of.
+//! What a runtime in a room hands on as it is: memory, random bytes and sockets that are files. It has no other files.
 
 use crate::served::room::Ear;
 use std::alloc::{Allocator, Global};
 use std::fs::{File, Metadata, OpenOptions};
 use std::io;
 use std::io::ErrorKind;
+use std::os::fd::BorrowedFd;
+use std::os::unix::net::SocketAddr;
 use std::random::RandomSource;
 use std::rt::Files;
 
@@ -27,7 +29,33 @@ fn none<T>() -> io::Result<T> {
     Err(io::Error::from(ErrorKind::Unsupported))
 }
 
-impl<R: Drop> Files for Ear<R> {
+/// Files that are sockets.
+pub(crate) trait SocketFiles {
+    /// Gives this address to a socket.
+    fn bind(&self, socket: BorrowedFd<'_>, address: &SocketAddr) -> io::Result<()>;
+
+    /// What stands at this path.
+    fn find(&self, path: &str) -> io::Result<Metadata>;
+
+    /// Removes it.
+    fn remove(&self, path: &str) -> io::Result<()>;
+}
+
+impl SocketFiles for HostRuntime {
+    fn bind(&self, socket: BorrowedFd<'_>, address: &SocketAddr) -> io::Result<()> {
+        self.bind_unix(socket, address)
+    }
+
+    fn find(&self, path: &str) -> io::Result<Metadata> {
+        self.symlink_metadata(path)
+    }
+
+    fn remove(&self, path: &str) -> io::Result<()> {
+        self.remove_file(path)
+    }
+}
+
+impl<R: SocketFiles + Drop> Files for Ear<R> {
     type File = File;
 
     type Dir = io::Empty;
@@ -44,8 +72,8 @@ impl<R: Drop> Files for Ear<R> {
         none()
     }
 
-    fn symlink_metadata(&self, _path: &str) -> io::Result<Metadata> {
-        none()
+    fn symlink_metadata(&self, path: &str) -> io::Result<Metadata> {
+        self.rt.find(path)
     }
 
     fn copy(&self, _from: &str, _to: &str) -> io::Result<u64> {
@@ -56,8 +84,8 @@ impl<R: Drop> Files for Ear<R> {
         none()
     }
 
-    fn remove_file(&self, _path: &str) -> io::Result<()> {
-        none()
+    fn remove_file(&self, path: &str) -> io::Result<()> {
+        self.rt.remove(path)
     }
 
     fn create_dir(&self, _path: &str) -> io::Result<()> {
@@ -70,5 +98,9 @@ impl<R: Drop> Files for Ear<R> {
 
     fn remove_dir_all<B: Allocator>(&self, _alloc: B, _path: &str) -> io::Result<()> {
         none()
+    }
+
+    fn bind_unix(&self, socket: BorrowedFd<'_>, address: &SocketAddr) -> io::Result<()> {
+        self.rt.bind(socket, address)
     }
 }

@@ -1,10 +1,12 @@
 //! A viewer of a screen of 2 by 1.
 
+use crate::served::control::is_sent_away;
 use crate::served::early::is_early_one_right;
 use crate::served::host::INIT;
 use crate::served::input::{types, types_in_vain};
 use crate::served::loopback::{RED_AND_BLUE, connect, is_closed_beside, update};
 use crate::served::room::Ear;
+use crate::served::system::SocketFiles;
 use crate::served::visits::{Leaving, are_visits_right};
 use roles::Role;
 use std::io;
@@ -19,7 +21,7 @@ pub(crate) const HELLO: &[u8] = b"RFB 003.008\n\x01\x01";
 
 /// The server's side up to its screen: the version, one type of security, and that it went well (RFC 6143, 7.1.1 to
 /// 7.1.3).
-const GREETING: &[u8] = b"RFB 003.008\n\x01\x01\0\0\0\0";
+pub(crate) const GREETING: &[u8] = b"RFB 003.008\n\x01\x01\0\0\0\0";
 
 /// What one is told who comes before there is a host: version 3.8, no type of security, and the reason with its length
 /// (RFC 6143, 7.1.1 and 7.1.2).
@@ -60,6 +62,8 @@ pub(crate) enum Viewer {
     Visits(&'static [Leaving]),
     /// Comes before there is a host, and is told so; once there is one it comes again, and leaves.
     ComesEarly,
+    /// Holds a key until it is sent away by the first of these requests. The others are done then.
+    IsSentAway(&'static [&'static str]),
 }
 
 /// Whether a viewer at the port of this role is greeted as it has to be, and then given what it has to be. It tells the
@@ -71,12 +75,13 @@ pub(crate) fn is_viewer_right<R>(
     viewer: &Viewer,
 ) -> io::Result<bool>
 where
-    R: Net<Stream = TcpStream, Listener = TcpListener> + Wait + Clock + Drop,
+    R: Net<Stream = TcpStream, Listener = TcpListener> + SocketFiles + Wait + Clock + Drop,
 {
     match viewer {
         Viewer::Nobody => Ok(true),
         Viewer::Visits(leavings) => are_visits_right(ear, role, port, leavings),
         Viewer::ComesEarly => is_early_one_right(ear, port),
+        Viewer::IsSentAway(requests) => is_sent_away(ear, port, requests),
         _ => match comes_in(ear, port)? {
             Some(mut stream) => {
                 let is_greeted = is_screen(&mut stream, INIT)? && is_closed_beside(ear, port);
@@ -88,7 +93,7 @@ where
 }
 
 /// A viewer that is greeted up to its screen. One that is told that there is no host yet comes again.
-fn comes_in<R>(ear: &Ear<R>, port: u16) -> io::Result<Option<TcpStream>>
+pub(crate) fn comes_in<R>(ear: &Ear<R>, port: u16) -> io::Result<Option<TcpStream>>
 where
     R: Net<Stream = TcpStream, Listener = TcpListener> + Wait + Clock + Drop,
 {
@@ -106,7 +111,7 @@ where
 }
 
 /// What a viewer is told up to its screen.
-fn greeting(stream: &mut TcpStream) -> io::Result<[u8; 18]> {
+pub(crate) fn greeting(stream: &mut TcpStream) -> io::Result<[u8; 18]> {
     let mut greeting = [0u8; 18];
     stream.write_all(HELLO)?;
     stream.read_exact(&mut greeting)?;
@@ -114,7 +119,7 @@ fn greeting(stream: &mut TcpStream) -> io::Result<[u8; 18]> {
 }
 
 /// Whether this screen comes next.
-fn is_screen(stream: &mut TcpStream, init: &[u8]) -> io::Result<bool> {
+pub(crate) fn is_screen(stream: &mut TcpStream, init: &[u8]) -> io::Result<bool> {
     let mut screen = [0u8; 64];
     let Some(screen) = screen.get_mut(..init.len()) else {
         return Ok(false);
@@ -136,7 +141,9 @@ fn is_served<R: Wait + Clock + Drop>(
     viewer: &Viewer,
 ) -> io::Result<bool> {
     match viewer {
-        Viewer::Nobody | Viewer::Visits(_) | Viewer::ComesEarly => Ok(true),
+        Viewer::Nobody | Viewer::Visits(_) | Viewer::ComesEarly | Viewer::IsSentAway(_) => {
+            Ok(true)
+        }
         Viewer::AsksForAll => is_shown_all(ear, stream),
         Viewer::IsLetGo => is_let_go(ear, stream),
         Viewer::Follows(last)

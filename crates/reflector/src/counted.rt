@@ -1,0 +1,16 @@
+//! How far a viewer is, for the counters of its place.
+
+use serving::PlaceCount;
+use viewer_server::Progress;
+
+/// Notes how far a viewer is in the counters of its place.
+#[derive(Drop)]
+pub(crate) struct Counted<'a> {
+    pub(crate) count: &'a PlaceCount,
+}
+
+impl Progress for Counted<'_> {
+    fn tell(&self, answers: u64, shown: u64) {
+        self.count.note_answer(answers, shown);
+    }
+}

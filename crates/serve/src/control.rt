@@ -1,0 +1,183 @@
+//! What an operator asks over a socket of this machine.
+
+use crate::halls::Halls;
+use crate::lifeline::Lifeline;
+use crate::state::state;
+use run_control::{Outcome, Request};
+use serving::{Desk, WriterSeat};
+use std::alloc::Global;
+use std::io::{ErrorKind, Read, Write};
+use std::net::Net;
+use std::os::unix::fs::FileTypeExt;
+use std::os::unix::net::{UnixListener, UnixStream};
+use std::rt::Files;
+use std::sync::{Arc, Wait};
+use std::time::{Clock, Duration};
+use std::{io, thread};
+
+/// For how long one who asks may say nothing, and take nothing of the answer, in milliseconds.
+const PATIENCE_MILLIS: u64 = 1_000;
+
+/// A request comes in so many reads at most, and has so many bytes.
+const MOST_READS: usize = 8;
+
+const LONGEST: usize = 64;
+
+/// How often it is asked whether the host was told all that viewers held, and how long that takes each time, in
+/// milliseconds.
+const MOST_LOOKS: usize = 400;
+
+const LOOK_MILLIS: u64 = 5;
+
+/// For how long one who has stopped the run is kept until it has ended, in milliseconds.
+const END_MILLIS: u64 = 10_000;
+
+/// For how long nobody is heard after the system refused a connection, in milliseconds.
+const PAUSE_MILLIS: u64 = 100;
+
+/// What is answered to one who asks for nothing that there is.
+const NO_REQUEST: &[u8] =
+    b"error: no request: state, state json, drain, undrain, end PLACE or stop\n";
+
+/// What a request reaches.
+#[derive(Drop)]
+pub(crate) struct Reach {
+    pub(crate) alloc: Global,
+    pub(crate) desk: Arc<Desk, Global>,
+    /// How many places there are for viewers of each role.
+    pub(crate) full_places: u64,
+    pub(crate) view_places: u64,
+    /// Where whoever tells the host rests.
+    pub(crate) writer: Arc<WriterSeat, Global>,
+    pub(crate) halls: Arc<Halls, Global>,
+    pub(crate) lifeline: Arc<Lifeline, Global>,
+}
+
+/// Whether a socket is left at this path to which nobody listens: one of a run that has ended.
+fn is_stale<R: Files + Net>(rt: &R, path: &str) -> bool {
+    let is_socket = match rt.symlink_metadata(path) {
+        Ok(found) => found.file_type().is_socket(),
+        Err(_) => false,
+    };
+    is_socket
+        && match UnixStream::connect(rt, path) {
+            Ok(_) => false,
+            Err(error) => error.kind() == ErrorKind::ConnectionRefused,
+        }
+}
+
+/// Listens at a path of this machine, in the place of a socket that is stale. A file of another kind stays, and so does
+/// a socket that is listened to: it fails then.
+pub(crate) fn listen<R: Files + Net>(rt: &R, path: &str) -> io::Result<UnixListener> {
+    if is_stale(rt, path) {
+        rt.remove_file(path)?;
+    }
+    UnixListener::bind(rt, path)
+}
+
+/// Reads until a line has come, in so many reads at most, and answers how many bytes there are.
+fn read_line(stream: &UnixStream, bytes: &mut [u8; LONGEST]) -> io::Result<usize> {
+    let mut count: usize = 0;
+    for _ in 0..MOST_READS {
+        let Some(rest) = bytes.get_mut(count..) else {
+            break;
+        };
+        let read = (&mut &*stream).read(rest)?;
+        count = count.saturating_add(read);
+        if read == 0 || bytes.get(..count).unwrap_or(b"").contains(&b'\n') {
+            break;
+        }
+    }
+    Ok(count)
+}
+
+/// The request of the first line of these bytes, if it is one.
+fn request_in(bytes: &[u8]) -> Option<Request> {
+    match std::str::from_utf8(bytes) {
+        Ok(text) => Request::read(text.lines().next()?),
+        Err(_) => None,
+    }
+}
+
+/// What is answered to one whose request came to this.
+fn outcome_text(outcome: Outcome) -> &'static str {
+    match outcome {
+        Outcome::Done => "done\n",
+        Outcome::NoPlace => "error: there is no such place\n",
+        Outcome::Nobody => "error: the place has no viewer\n",
+        Outcome::Ending => "error: the run ends already\n",
+    }
+}
+
+/// Waits until the host was told all that viewers held, though not for long.
+fn await_last_words<R: Wait + Clock>(rt: &R, reach: &Reach) {
+    for _ in 0..MOST_LOOKS {
+        if reach.writer.is_quiet() || !reach.lifeline.holds(rt) {
+            return;
+        }
+        thread::sleep(rt, Duration::from_millis(LOOK_MILLIS));
+    }
+}
+
+/// Ends the run: all viewers leave, and the host is told what they held up to then. After that no host is read. Whoever
+/// asked for it is kept until the run has ended.
+fn stop<R: Net + Wait + Clock>(rt: &R, reach: &Reach, stream: &UnixStream) {
+    reach.halls.close(rt);
+    await_last_words(rt, reach);
+    let _ = (&mut &*stream).write_all(b"done\n");
+    reach.lifeline.cut(rt);
+    reach
+        .lifeline
+        .await_end(rt, Duration::from_millis(END_MILLIS));
+}
+
+/// Answers one request.
+fn answer<R: Net + Wait + Clock>(
+    rt: &R,
+    reach: &Reach,
+    request: Request,
+    stream: &UnixStream,
+) -> io::Result<()> {
+    let mut out = stream;
+    let outcome = reach.desk.ask(rt, request);
+    match request {
+        Request::State(form) => {
+            let text = state(rt, reach, form)?;
+            out.write_all(text.as_bytes())
+        }
+        Request::Stop => {
+            stop(rt, reach, stream);
+            Ok(())
+        }
+        _ => out.write_all(outcome_text(outcome).as_bytes()),
+    }
+}
+
+/// Hears one request, and answers it. It is whether the run is to end.
+fn hear<R: Net + Wait + Clock>(rt: &R, reach: &Reach, stream: &UnixStream) -> io::Result<bool> {
+    let patience = Duration::from_millis(PATIENCE_MILLIS);
+    stream.set_read_timeout(Some(patience))?;
+    stream.set_write_timeout(Some(patience))?;
+    let mut bytes = [0u8; LONGEST];
+    let count = read_line(stream, &mut bytes)?;
+    let Some(request) = request_in(bytes.get(..count).unwrap_or(b"")) else {
+        let mut out = stream;
+        out.write_all(NO_REQUEST)?;
+        return Ok(false);
+    };
+    answer(rt, reach, request, stream)?;
+    Ok(matches!(request, Request::Stop))
+}
+
+/// Hears one request after another, until one ends the run. One who breaks off is let go.
+pub(crate) fn keep_control<R: Net + Wait + Clock>(rt: &R, listener: &UnixListener, reach: &Reach) {
+    for stream in listener.incoming() {
+        let Ok(stream) = stream else {
+            thread::sleep(rt, Duration::from_millis(PAUSE_MILLIS));
+            continue;
+        };
+        if let Ok(true) = hear(rt, reach, &stream) {
+            return;
+        }
+    }
+}

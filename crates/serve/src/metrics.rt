@@ -1,0 +1,207 @@
+//! Where machines read a run's numbers.
+
+ghost use Rattle.std.specs.Prelude.{◌≡◌, IfOk, OnOk};
+ghost use Rattle.plan.specs.Statuses.{HasPlaces};
+ghost use Rattle.plan.specs.Turns.{MayEnd};
+ghost use Rattle.serve.specs.Doors.{AreBoth};
+ghost use Rattle.serve.specs.Ports.{AsksAsPlanned, AsksForMetrics};
+
+use crate::bound::Ports;
+use crate::counters::{counters_of, places_by_role};
+use crate::entries::{Entrances, open_all};
+use crate::run::run;
+use crate::sentry::Sentry;
+use crate::trouble::{Stage, Trouble};
+use fault::Fault;
+use metrics_text::ByRole;
+use plan::{Plan, metrics_address_of};
+use run_control::Entry;
+use serving::{Desk, Log};
+use std::alloc::{AllocGlobal, Global};
+use std::hash::RandomState;
+use std::net::{Net, TcpListener, TcpStream};
+use std::random::RandomSource;
+use std::rt::Files;
+use std::sync::{Arc, Wait};
+use std::thread::{Builder, Threads};
+use std::time::{Clock, Duration, Instant};
+use std::{io, thread};
+use watch_door::{Watched, answer_one};
+
+/// The bytes of the stack of whoever answers machines.
+const STACK: usize = 1_048_576;
+
+/// A machine has so many seconds for its request, and to take the answer. One is answered after another.
+const PATIENCE_SECONDS: u64 = 2;
+
+/// For how long nobody is answered after the system refused a connection, in milliseconds.
+const PAUSE_MILLIS: u64 = 100;
+
+/// Listens for machines that watch the run, if the plan has an address for that.
+#[tactic(auto, using(crate::proofs::Asking::asks_for_metrics))]
+fn open_metrics<R: Net<Stream = TcpStream, Listener = TcpListener>>(
+    rt: &R,
+    plan: &Plan<'_>,
+    ports: &mut Ports,
+) -> Result<Option<TcpListener>, Trouble>
+    ensures { AsksForMetrics plan.now ports.old ports.new }
+{
+    let Some(address) = metrics_address_of(plan) else {
+        return Ok(None);
+    };
+    let Ok(address) = address else {
+        return Err(Trouble::new(Stage::ReadMetrics, Fault::LinkFailed));
+    };
+    match ports.listen(rt, address) {
+        Ok(listener) => Ok(Some(listener)),
+        Err(error) => Err(Trouble::of(Stage::ListenMetrics, error)),
+    }
+}
+
+/// The ports of a run: where people come in, and where machines are answered, if they are.
+#[derive(Drop)]
+pub(crate) struct Opened<'a> {
+    pub(crate) entrances: Entrances<'a>,
+    machines: Option<TcpListener>,
+}
+
+/// Listens for people, and then for machines.
+#[tactic(auto, using(crate::proofs::Asking::people_alone, crate::proofs::Asking::planned))]
+pub(crate) fn open_ports<'a, R, G>(
+    rt: &R,
+    alloc: Global,
+    plan: &Plan<'a>,
+    ports: &mut Ports,
+    log: &G,
+) -> Result<Opened<'a>, Trouble>
+where
+    R: Net<Stream = TcpStream, Listener = TcpListener> + Files + AllocGlobal + Copy + Drop,
+    G: Log,
+    ensures asked { AsksAsPlanned plan.now ports.old ports.new }
+    ensures both { IfOk result (λ opened. AreBoth plan.now opened.entrances.full opened.entrances.view) }
+{
+    let entrances = open_all(rt, alloc, plan, ports, log)?;
+    let machines = open_metrics(rt, plan, ports)?;
+    Ok(Opened {
+        entrances,
+        machines,
+    })
+}
+
+/// What machines are answered from.
+#[derive(Drop)]
+struct Sources<R: Eprint + Clock + Wait + Drop> {
+    alloc: Global,
+    desk: Arc<Desk, Global>,
+    sentry: Sentry<R>,
+    places: ByRole,
+    keys: RandomState,
+}
+
+impl<R: Eprint + Clock + Wait + Drop> Sources<R> {
+    /// The run as it stands now. It fails where memory is refused for that.
+    fn look(&self, rt: &R) -> io::Result<Watched> {
+        let glance = self.desk.look(rt, self.alloc)?;
+        let counters = counters_of(self.alloc, &glance, &self.sentry.tally(), self.places)?;
+        let is_drained = glance.entry != Entry::Open;
+        Ok(Watched::new(self.alloc, counters, is_drained))
+    }
+
+    /// Answers one who has connected.
+    fn attend(&self, rt: &R, stream: &TcpStream) -> io::Result<()> {
+        let patience = Duration::from_secs(PATIENCE_SECONDS);
+        stream.set_read_timeout(Some(patience))?;
+        stream.set_write_timeout(Some(patience))?;
+        let Some(until) = Instant::now(rt)?.checked_add(patience) else {
+            return Ok(());
+        };
+        let watched = self.look(rt)?;
+        answer_one(rt, self.alloc, self.keys, &watched, (stream, stream), until)
+    }
+
+    /// Answers one after another. The names of fields are the peer's, so maps of them take secret keys.
+    fn keep(&self, rt: &R, listener: &TcpListener) {
+        for stream in listener.incoming() {
+            match stream {
+                // Who asks in vain asks again.
+                Ok(stream) => drop(self.attend(rt, &stream)),
+                Err(_) => thread::sleep(rt, Duration::from_millis(PAUSE_MILLIS)),
+            }
+        }
+    }
+}
+
+/// Starts the thread that answers machines, if there is a listener for them.
+fn start_metrics<R>(
+    rt: R,
+    alloc: Global,
+    plan: &Plan<'_>,
+    listener: Option<TcpListener>,
+    desk: &Arc<Desk, Global>,
+    sentry: &Sentry<R>,
+) -> Result<(), Trouble>
+where
+    R: Eprint + Threads + Wait + Clock + RandomSource + Copy + Drop + Send + 'static,
+{
+    let Some(listener) = listener else {
+        return Ok(());
+    };
+    let Ok(desk) = Arc::try_clone(desk) else {
+        return Err(Trouble::new(Stage::Start, Fault::Memory));
+    };
+    let Ok(sentry) = sentry.clone() else {
+        return Err(Trouble::new(Stage::Start, Fault::Memory));
+    };
+    let keys = match RandomState::new(&rt) {
+        Ok(keys) => keys,
+        Err(error) => return Err(Trouble::of(Stage::Start, error)),
+    };
+    let sources = Sources {
+        alloc,
+        desk,
+        sentry,
+        places: places_by_role(plan),
+        keys,
+    };
+    let started = Builder::new()
+        .stack_size(STACK)
+        .spawn(&rt, move || sources.keep(&rt, &listener));
+    match started {
+        Ok(_clerk) => Ok(()),
+        Err(error) => Err(Trouble::of(Stage::Start, error)),
+    }
+}
+
+/// Reflects the hosts of a plan for those who come in by these ports, and answers machines meanwhile, if they are
+/// answered.
+pub(crate) fn run_watched<R>(
+    rt: R,
+    alloc: Global,
+    plan: &Plan<'_>,
+    opened: Opened<'_>,
+    log: &Sentry<R>,
+) -> Result<(), Trouble>
+where
+    R: Net<Stream = TcpStream, Listener = TcpListener>
+        + Eprint
+        + Files
+        + Threads
+        + Wait
+        + Clock
+        + RandomSource
+        + Copy
+        + Drop
+        + Send
+        + 'static,
+    requires places { HasPlaces plan.now }
+    requires entries { AreBoth plan.now opened.entrances.full opened.entrances.view }
+    ensures { OnOk result (MayEnd plan.now) }
+{
+    let Opened {
+        entrances,
+        machines,
+    } = opened;
+    let desk = entrances.view.lobby.desk();
+    start_metrics(rt, alloc, plan, machines, desk, log)?;
+    run(rt, alloc, plan, entrances, log)
+}

@@ -1,0 +1,158 @@
+//! Who is told what happens: the log, systemd, and whoever counts.
+
+use crate::journal::Journal;
+use crate::surroundings::Surroundings;
+use notify::Notifier;
+use plan::{Plan, places_of};
+use roles::Role;
+use run_watch::{Given, Happening, Notice, Ready, Tally, notice_text};
+use serving::{Event, Log};
+use std::alloc::{AllocError, Global};
+use std::net::{Net, SocketAddr};
+use std::sync::{Arc, Mutex, Wait};
+use std::time::Clock;
+
+/// How a run stands, and where systemd hears of it.
+#[derive(Drop)]
+struct Standing {
+    tally: Tally,
+    /// Where the host is, if one is joined and the system tells.
+    host: Option<SocketAddr>,
+    places: u64,
+    /// Whether systemd was told that the run is ready.
+    is_ready: bool,
+    notifier: Option<Notifier>,
+}
+
+/// Who is told what happens in a run.
+#[derive(Clone, Drop)]
+pub(crate) struct Sentry<R: Eprint + Clock + Wait + Drop> {
+    rt: R,
+    alloc: Global,
+    journal: Journal<R>,
+    standing: Arc<Mutex<Standing>, Global>,
+}
+
+/// What is counted of an event, if it is.
+fn happening_of(event: &Event<'_>) -> Option<Happening> {
+    match event {
+        Event::Listening { .. } | Event::HostTried { .. } => None,
+        Event::HostJoined { .. } => Some(Happening::Joined),
+        Event::HostOut { .. } => Some(Happening::HostLeft),
+        Event::ViewerIn { place_id, .. } => Some(Happening::Came(place_id.role)),
+        Event::ViewerOut {
+            place_id,
+            visit,
+            ..
+        } => {
+            let given = Given {
+                answers: visit.answers,
+                bytes: visit.bytes,
+            };
+            Some(Happening::Left(place_id.role, given))
+        }
+        Event::PlacesTaken { role, .. }
+        | Event::NoHost { role, .. }
+        | Event::NoEntry { role, .. } => { Some(Happening::Refused(*role)) }
+    }
+}
+
+impl Standing {
+    /// Nothing has happened in a run of so many places.
+    fn new(places: u64, notifier: Option<Notifier>) -> Standing {
+        Standing {
+            tally: Tally::new(),
+            host: None,
+            places,
+            is_ready: false,
+            notifier,
+        }
+    }
+
+    /// Tells systemd how the run stands. A notice for which memory is refused, or that systemd has no room for, is left
+    /// out: the next one tells the same.
+    fn notify(&mut self, alloc: Global) {
+        let Some(notifier) = &self.notifier else {
+            return;
+        };
+        let host = match self.host {
+            Some(address) => format!(in alloc; "{address}"),
+            None => String::from_str(alloc, "-"),
+        };
+        let Ok(host) = host else {
+            return;
+        };
+        let is_news = self.tally.is_joined && !self.is_ready;
+        let viewers = self.tally.viewers;
+        let notice = Notice {
+            ready: if is_news { Ready::Now } else { Ready::Unsaid },
+            host: if self.tally.is_joined {
+                Some(host.as_str())
+            } else {
+                None
+            },
+            viewers: viewers.full.saturating_add(viewers.view),
+            places: self.places,
+        };
+        if let Ok(text) = notice_text(alloc, &notice) {
+            let told = notifier.tell(text.as_str());
+            self.is_ready = self.is_ready || (is_news && told.is_ok());
+        }
+    }
+
+    /// This has happened.
+    fn note(&mut self, alloc: Global, event: &Event<'_>) {
+        let Some(happening) = happening_of(event) else {
+            return;
+        };
+        self.tally.note(happening);
+        if let Event::HostJoined { address, .. } = event {
+            self.host = *address;
+        }
+        if !matches!(happening, Happening::Refused(_)) {
+            self.notify(alloc);
+        }
+    }
+}
+
+impl<R: Eprint + Clock + Wait + Net + Copy + Drop> Sentry<R> {
+    /// For a run by this plan, in these surroundings. It fails where memory is refused for it.
+    pub(crate) fn new(
+        rt: R,
+        alloc: Global,
+        plan: &Plan<'_>,
+        surroundings: &Surroundings,
+    ) -> Result<Sentry<R>, AllocError> {
+        let notifier = match &surroundings.notify {
+            Some(text) => Notifier::new(&rt, text.as_str()).ok(),
+            None => None,
+        };
+        let places = places_of(plan, Role::Full).saturating_add(places_of(plan, Role::View));
+        let standing = Arc::new(alloc, Mutex::new(Standing::new(places, notifier)))?;
+        Ok(Sentry {
+            rt,
+            alloc,
+            journal: Journal::new(rt, alloc, plan.is_logged, surroundings.is_journal)?,
+            standing,
+        })
+    }
+}
+
+impl<R: Eprint + Clock + Wait + Drop> Sentry<R> {
+    /// Standard error.
+    pub(crate) fn journal(&self) -> &Journal<R> {
+        &self.journal
+    }
+
+    /// What has happened until now.
+    pub(crate) fn tally(&self) -> Tally {
+        self.standing.lock(&self.rt).tally
+    }
+}
+
+impl<R: Eprint + Clock + Wait + Drop> Log for Sentry<R> {
+    fn tell(&self, event: &Event<'_>) {
+        self.journal.tell(event);
+        self.standing.lock(&self.rt).note(self.alloc, event);
+    }
+}

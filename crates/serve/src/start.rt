@@ -1,0 +1,146 @@
+//! Starting the thread that hears an operator.
+
+ghost use Rattle.std.specs.Prelude.{◌≡◌, IfOk, is_some, true};
+
+use crate::control::{Reach, keep_control, listen};
+use crate::halls::Halls;
+use crate::lifeline::Lifeline;
+use crate::trouble::{Stage, Trouble};
+use fault::Fault;
+use plan::{Plan, places_of};
+use roles::Role;
+use serving::{Desk, WriterSeat};
+use std::alloc::{AllocError, Global};
+use std::net::{Net, TcpListener, TcpStream};
+use std::os::unix::net::UnixListener;
+use std::rt::Files;
+use std::sync::{Arc, Wait};
+use std::thread::{Builder, Threads};
+use std::time::Clock;
+
+/// The bytes of the stack of whoever hears an operator.
+const STACK: usize = 262_144;
+
+/// An operator's socket, and what his requests reach.
+#[derive(Drop)]
+pub(crate) struct Control {
+    listener: UnixListener,
+    desk: Arc<Desk, Global>,
+    writer: Arc<WriterSeat, Global>,
+    full_places: u64,
+    view_places: u64,
+    lifeline: Arc<Lifeline, Global>,
+}
+
+/// What the requests reach of an operator who is heard at this listener. He may end the run by a new lifeline.
+fn prepared(
+    alloc: Global,
+    listener: UnixListener,
+    plan: &Plan<'_>,
+    desk: &Arc<Desk, Global>,
+    writer: &Arc<WriterSeat, Global>,
+) -> Result<Control, AllocError> {
+    Ok(Control {
+        listener,
+        desk: Arc::try_clone(desk)?,
+        writer: Arc::try_clone(writer)?,
+        full_places: places_of(plan, Role::Full),
+        view_places: places_of(plan, Role::View),
+        lifeline: Arc::new(alloc, Lifeline::new())?,
+    })
+}
+
+/// Listens for an operator, if the plan has a path for it. These are the desk of the run, and where whoever tells the
+/// host rests.
+pub(crate) fn control_of<R: Files + Net>(
+    rt: &R,
+    alloc: Global,
+    plan: &Plan<'_>,
+    desk: &Arc<Desk, Global>,
+    writer: &Arc<WriterSeat, Global>,
+) -> Result<Option<Control>, Trouble>
+    ensures { IfOk result (λ control. is_some control ≡ is_some plan.now.control) }
+{
+    let Some(path) = plan.control else {
+        return Ok(None);
+    };
+    let listener = match listen(rt, path) {
+        Ok(listener) => listener,
+        Err(error) => return Err(Trouble::of(Stage::Control, error)),
+    };
+    match prepared(alloc, listener, plan, desk, writer) {
+        Ok(control) => Ok(Some(control)),
+        Err(_) => Err(Trouble::new(Stage::Start, Fault::Memory)),
+    }
+}
+
+/// Another end of the lifeline by which an operator may end the run, if one can.
+pub(crate) fn lifeline_of(
+    control: &Option<Control>,
+) -> Result<Option<Arc<Lifeline, Global>>, Trouble>
+    ensures { IfOk result (λ lifeline. is_some lifeline ≡ is_some control.now) }
+{
+    let Some(control) = control else {
+        return Ok(None);
+    };
+    match Arc::try_clone(&control.lifeline) {
+        Ok(lifeline) => Ok(Some(lifeline)),
+        Err(_) => Err(Trouble::new(Stage::Start, Fault::Memory)),
+    }
+}
+
+/// The run has ended, which whoever stopped it waits for. It is whether an operator has.
+pub(crate) fn was_cut<R: Wait>(rt: &R, lifeline: &Option<Arc<Lifeline, Global>>) -> bool
+    ensures { result ≡ true → is_some lifeline.now ≡ true }
+{
+    match lifeline {
+        Some(lifeline) => {
+            lifeline.end(rt);
+            lifeline.is_cut(rt).is_some()
+        }
+        None => false,
+    }
+}
+
+/// Starts the thread that hears the operator, whose requests reach these halls.
+pub(crate) fn start_control<R>(
+    rt: R,
+    alloc: Global,
+    control: Control,
+    halls: Arc<Halls, Global>,
+) -> Result<(), Trouble>
+where
+    R: Net<Stream = TcpStream, Listener = TcpListener>
+        + Threads
+        + Wait
+        + Clock
+        + Copy
+        + Drop
+        + Send
+        + 'static,
+{
+    let Control {
+        listener,
+        desk,
+        writer,
+        full_places,
+        view_places,
+        lifeline,
+    } = control;
+    let reach = Reach {
+        alloc,
+        desk,
+        full_places,
+        view_places,
+        writer,
+        halls,
+        lifeline,
+    };
+    let started = Builder::new()
+        .stack_size(STACK)
+        .spawn(&rt, move || keep_control(&rt, &listener, &reach));
+    match started {
+        Ok(_hearer) => Ok(()),
+        Err(error) => Err(Trouble::of(Stage::Start, error)),
+    }
+}

@@ -1,0 +1,112 @@
+//! How a run stands, for an operator.
+
+ghost use Rattle.std.specs.Prelude.{◌≡◌};
+ghost use Rattle.serve.specs.States.{IsHostReport, IsViewerReport, seconds_from};
+
+use crate::control::Reach;
+use run_control::Form;
+use run_state::{HostReport, Report, ViewerReport, state_json, state_text};
+use serving::{Glance, Guest, HostCard};
+use std::alloc::{AllocError, Global};
+use std::net::SocketAddr;
+use std::sync::Wait;
+use std::time::Clock;
+
+/// The whole seconds from one time to another, both in milliseconds.
+fn seconds_from(since: u64, now: u64) -> u64
+    ensures { result ≡ seconds_from since now }
+{
+    now.saturating_sub(since) / 1_000
+}
+
+/// An address as text, or `-` where the system told none.
+fn address_text(alloc: Global, address: Option<SocketAddr>) -> Result<String, AllocError> {
+    match address {
+        Some(address) => format!(in alloc; "{address}"),
+        None => String::from_str(alloc, "-"),
+    }
+}
+
+/// What is told of a viewer now, when so many updates were put.
+fn viewer_report<'a>(guest: &Guest, address: &'a str, updates: u64, now: u64) -> ViewerReport<'a>
+    ensures { IsViewerReport guest.now address.entry.now updates now result }
+{
+    ViewerReport {
+        place: guest.comer.place,
+        role: guest.comer.role,
+        address,
+        seconds: seconds_from(guest.since, now),
+        updates: guest.updates,
+        bytes: guest.bytes,
+        behind: updates.saturating_sub(guest.shown),
+        is_asked: guest.is_asked,
+    }
+}
+
+/// What is told of the host.
+fn host_report<'a>(card: &'a HostCard, address: &'a str, glance: &Glance) -> HostReport<'a>
+    ensures { IsHostReport card.entry.now address.entry.now glance.entry.now result }
+{
+    HostReport {
+        address,
+        name: card.name.as_str(),
+        width: card.width,
+        height: card.height,
+        seconds: seconds_from(card.since, glance.now),
+        silent: seconds_from(glance.heard, glance.now),
+        updates: glance.updates,
+    }
+}
+
+/// The addresses of all viewers, in their order.
+fn addresses_of(alloc: Global, guests: &[Guest]) -> Result<Vec<String>, AllocError> {
+    let mut addresses = Vec::new(alloc);
+    for guest in guests {
+        addresses.push(address_text(alloc, guest.comer.address)?)?;
+    }
+    Ok(addresses)
+}
+
+/// What is told of each viewer, which have these addresses, in their order.
+fn viewers_of<'a>(
+    alloc: Global,
+    glance: &Glance,
+    addresses: &'a [String],
+) -> Result<Vec<ViewerReport<'a>>, AllocError> {
+    let mut viewers = Vec::new(alloc);
+    for (guest, address) in glance.guests.iter().zip(addresses) {
+        let address = address.as_str();
+        viewers.push(viewer_report(guest, address, glance.updates, glance.now))?;
+    }
+    Ok(viewers)
+}
+
+/// How a run stands, in one of the two forms. Where memory is refused for that it fails.
+pub(crate) fn state<R: Wait + Clock>(
+    rt: &R,
+    reach: &Reach,
+    form: Form,
+) -> Result<String, AllocError> {
+    let alloc = reach.alloc;
+    let glance = reach.desk.look(rt, alloc)?;
+    let addresses = addresses_of(alloc, glance.guests.as_slice())?;
+    let viewers = viewers_of(alloc, &glance, addresses.as_slice())?;
+    let host_address = match &glance.host {
+        Some(card) => address_text(alloc, card.address)?,
+        None => String::new(alloc),
+    };
+    let report = Report {
+        entry: glance.entry,
+        host: match &glance.host {
+            Some(card) => Some(host_report(card, host_address.as_str(), &glance)),
+            None => None,
+        },
+        full_places: reach.full_places,
+        view_places: reach.view_places,
+        viewers: viewers.as_slice(),
+    };
+    match form {
+        Form::Text => state_text(alloc, &report),
+        Form::Json => state_json(alloc, &report),
+    }
+}
