@@ -29,13 +29,6 @@ where_host true drained full = where_joined drained full
 abbrev pub health_for : Counters → Bool → Option Role → Health
 health_for c is_drained role = where_host c.is_joined is_drained (is_full c role)
 
--- RFC 9110, sections 15.3.1 and 15.6.4.
-abbrev pub status_for : Health → ℕ
-status_for Ready = 200
-status_for NoHost = 503
-status_for Drained = 503
-status_for Full = 503
-
 abbrev pub word_for : Health → List ℕ
 word_for Ready = codes "ready\n"
 word_for NoHost = codes "no host\n"

@@ -1,7 +1,7 @@
 //! What a balancer is told.
 
 ghost use Rattle.std.specs.Prelude.{◌≡◌};
-ghost use Rattle.run_watch.specs.Healths.{health_for, is_full, is_taken, status_for, word_for};
+ghost use Rattle.run_watch.specs.Healths.{health_for, is_full, is_taken, word_for};
 
 use metrics_text::Counters;
 use roles::Role;
@@ -52,16 +52,6 @@ pub fn health_of(counters: &Counters, is_drained: bool, role: Option<Role>) -> H
         Health::Full
     } else {
         Health::Ready
-    }
-}
-
-/// The status of HTTP that says so: 200, or 503 where no viewer would be served (RFC 9110, sections 15.3.1 and 15.6.4).
-pub fn health_status(health: Health) -> u16
-    ensures { result ≡ status_for health }
-{
-    match health {
-        Health::Ready => 200,
-        Health::NoHost | Health::Drained | Health::Full => 503,
     }
 }
 

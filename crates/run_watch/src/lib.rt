@@ -10,7 +10,7 @@ mod notice;
 mod tally;
 
 pub use gravity::{Gravity, prefix_of};
-pub use health::{Health, health_of, health_status, health_word};
+pub use health::{Health, health_of, health_word};
 pub use ledger::{Ledger, Paper};
 pub use notice::{Notice, Ready, notice_text};
 pub use tally::{Given, Happening, Tally};

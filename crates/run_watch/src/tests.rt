@@ -1,7 +1,7 @@
 //! Texts as sd_notify(3), sd-daemon(3) and the pages of this repository have them, and a log that isn't read.
 
 use crate::gravity::{Gravity, prefix_of};
-use crate::health::{health_of, health_status, health_word};
+use crate::health::{health_of, health_word};
 use crate::ledger::{Ledger, Paper};
 use crate::notice::{Notice, Ready, notice_text};
 use crate::tally::{Given, Happening, Tally};
@@ -66,33 +66,20 @@ fn counters(is_joined: bool, full: u64, view: u64) -> Counters {
 
 #[test]
 fn a_balancer_is_told_who_would_be_served(rt: HostRuntime) {
-    for (counters, is_drained, role, status, word) in [
-        (counters(true, 0, 0), false, None, 200, "ready\n"),
-        (counters(true, 2, 2), false, None, 200, "ready\n"),
-        (counters(true, 1, 3), false, None, 200, "ready\n"),
-        (counters(true, 2, 3), false, None, 503, "full\n"),
-        (counters(true, 2, 2), false, Some(Role::Full), 503, "full\n"),
-        (
-            counters(true, 2, 2),
-            false,
-            Some(Role::View),
-            200,
-            "ready\n",
-        ),
-        (counters(true, 1, 3), false, Some(Role::View), 503, "full\n"),
-        (
-            counters(true, 1, 3),
-            false,
-            Some(Role::Full),
-            200,
-            "ready\n",
-        ),
-        (counters(true, 0, 0), true, None, 503, "drained\n"),
-        (counters(false, 2, 3), false, None, 503, "no host\n"),
-        (counters(false, 0, 0), true, None, 503, "no host\n"),
+    for (counters, is_drained, role, word) in [
+        (counters(true, 0, 0), false, None, "ready\n"),
+        (counters(true, 2, 2), false, None, "ready\n"),
+        (counters(true, 1, 3), false, None, "ready\n"),
+        (counters(true, 2, 3), false, None, "full\n"),
+        (counters(true, 2, 2), false, Some(Role::Full), "full\n"),
+        (counters(true, 2, 2), false, Some(Role::View), "ready\n"),
+        (counters(true, 1, 3), false, Some(Role::View), "full\n"),
+        (counters(true, 1, 3), false, Some(Role::Full), "ready\n"),
+        (counters(true, 0, 0), true, None, "drained\n"),
+        (counters(false, 2, 3), false, None, "no host\n"),
+        (counters(false, 0, 0), true, None, "no host\n"),
     ] {
         let health = health_of(&counters, is_drained, role);
-        assert_eq!(rt; health_status(health), status);
         assert_eq!(rt; health_word(health), word);
     }
 }

@@ -8,7 +8,9 @@ use Rattle.http_server.specs.declared.response.Response.{Response}
 use Rattle.metrics_text.specs.Metrics.{metrics_of}
 use Rattle.roles.specs.declared.role.Role.{Role}
 use Rattle.roles.specs.declared.role.Role.TheVariants.{Full, View}
-use Rattle.run_watch.specs.Healths.{health_for, status_for, word_for}
+use Rattle.run_watch.specs.Healths.{health_for, word_for}
+use Rattle.run_watch.specs.declared.health.Health.{Health}
+use Rattle.run_watch.specs.declared.health.Health.TheVariants as health
 use Rattle.watch_door.specs.declared.watched.Watched.{Watched}
 
 -- A status, the fields beside those of every answer, and a body.
@@ -32,6 +34,13 @@ metrics_reply w = record {
   own = (codes "content-type", codes "text/plain; version=0.0.4; charset=utf-8") ∷ [];
   body = metrics_of w.counters;
 }
+
+-- 200, or 503 where no viewer would be served (RFC 9110, sections 15.3.1 and 15.6.4).
+abbrev pub status_for : Health → ℕ
+status_for health.Ready = 200
+status_for health.NoHost = 503
+status_for health.Drained = 503
+status_for health.Full = 503
 
 -- Whether a viewer of this role, or of either, would be served: by the status, and in a word.
 abbrev pub health_reply : Watched → Option Role → Reply

@@ -4,8 +4,7 @@ ghost use Rattle.std.specs.Prelude.{◌≡◌, ◌∷◌, [], ◌++◌, OnOk, Is
 ghost use Rattle.http.specs.FieldValue.{is_visible_text};
 ghost use Rattle.http.specs.Request.{head_of};
 ghost use Rattle.http_server.specs.Response.{IsBlank, IsResponse, fields_of};
-ghost use Rattle.run_watch.specs.Healths.{status_for};
-ghost use Rattle.watch_door.specs.Replies.{Replies, always, health_reply, metrics_reply, reply_for};
+ghost use Rattle.watch_door.specs.Replies.{Replies, always, health_reply, metrics_reply, reply_for, status_for};
 
 use bytes::Bytes;
 use http::{HeaderName, HeaderValue, Request, StatusCode, header};
@@ -43,7 +42,7 @@ fn begin(response: &mut Response, status: StatusCode) -> Result<(), AllocError>
     add(response, header::CONNECTION, "close")
 }
 
-/// The status of a health.
+/// The status of a health: 200, or 503 where no viewer would be served (RFC 9110, sections 15.3.1 and 15.6.4).
 fn status_of(health: Health) -> StatusCode
     ensures { result ≡ status_for health }
 {
