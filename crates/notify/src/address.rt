@@ -1,6 +1,6 @@
 //! Where systemd hears of a service.
 
-ghost use Rattle.std.specs.Prelude.{◌≡◌, ◌+◌, ◌≤◌, ◌∷◌, IfSome, length};
+ghost use Rattle.std.specs.Prelude.{◌≡◌, ◌+◌, ◌≤◌, ◌<◌, ◌∷◌, ℕ, List, IfSome, IsNone, length};
 ghost use Rattle.mio.specs.SockAddr as spec;
 ghost use Rattle.notify.specs.Addresses.{IsAddressOf};
 
@@ -20,6 +20,7 @@ fn put(raw: &mut [u8; c::_SS_SIZE], at: usize, bytes: &[u8])
 fn encode(name: &[u8], is_abstract: bool) -> Option<([u8; c::_SS_SIZE], u32)>
     ensures bytes { IfSome result (λ r. r ≡ spec.sockaddr_un name.now is_abstract) }
     ensures len { IfSome result (λ r. r.1 ≤ 110) }
+    ensures none { IsNone result → 107 < length name.now }
 {
     if name.len() > LONGEST {
         return None;
@@ -35,6 +36,7 @@ fn encode(name: &[u8], is_abstract: bool) -> Option<([u8; c::_SS_SIZE], u32)>
 pub fn address_of(text: &str) -> Option<([u8; c::_SS_SIZE], u32)>
     ensures address { IfSome result (λ r. IsAddressOf text.now r) }
     ensures len { IfSome result (λ r. r.1 ≤ 110) }
+    ensures none { IsNone result → (address : List ℕ × ℕ) → IsAddressOf text.now address → 110 < address.1 }
 {
     let bytes = text.as_bytes();
     let (first, rest) = bytes.split_first()?;
