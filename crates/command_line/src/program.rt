@@ -10,18 +10,13 @@ ghost use Rattle.plan.specs.declared.plan.Plan.{Plan as Told};
 use crate::asking::ask;
 use crate::task::{Task, task_of};
 use plan::{Plan, WebPlan};
-use serve::{Ports, serve};
+use serve::{Ports, Runtime, serve};
 use settings::{BadLine, Settings};
 use std::alloc::{AllocGlobal, Global};
 use std::env::Env;
 use std::io::{ErrorKind, Read, Write};
-use std::net::{Net, TcpListener, TcpStream};
 use std::process::ExitCode;
-use std::random::RandomSource;
 use std::rt::Files;
-use std::sync::Wait;
-use std::thread::Threads;
-use std::time::Clock;
 use std::{env, io};
 
 /// The exit status of a command line that can't be read.
@@ -117,20 +112,7 @@ where
 /// error; 2 where the line is no command, with what is wrong with it on standard error; 4 where memory is refused.
 pub fn run_words<R, I, O>(rt: R, alloc: Global, words: &[String], reader: I, writer: O) -> u8
 where
-    R: Net<Stream = TcpStream, Listener = TcpListener>
-        + Threads
-        + Wait
-        + Clock
-        + Files
-        + AllocGlobal
-        + RandomSource
-        + Env
-        + Print
-        + Eprint
-        + Copy
-        + Drop
-        + Send
-        + 'static,
+    R: Runtime + Files + AllocGlobal + Env + Print + Eprint,
     I: Read + Drop,
     O: Write + Drop,
     ensures { IsAnswered (map string_bytes words.now) result }
@@ -159,20 +141,7 @@ where
 /// 4 where memory is refused for them.
 pub fn run<R, I, O>(rt: R, reader: I, writer: O) -> ExitCode
 where
-    R: Net<Stream = TcpStream, Listener = TcpListener>
-        + Threads
-        + Wait
-        + Clock
-        + Env
-        + Files
-        + AllocGlobal
-        + RandomSource
-        + Print
-        + Eprint
-        + Copy
-        + Drop
-        + Send
-        + 'static,
+    R: Runtime + Env + Files + AllocGlobal + Print + Eprint,
     I: Read + Drop,
     O: Write + Drop,
 {

@@ -2,8 +2,41 @@
 //! from standard input.
 #![tactic(auto)]
 
+use std::alloc::AllocGlobal;
+use std::env::Env;
+use std::io::{Read, Write};
+use std::net::{Net, TcpListener, TcpStream};
 use std::process::ExitCode;
+use std::random::RandomSource;
+use std::rt::Files;
+use std::sync::Wait;
+use std::thread::Threads;
+use std::time::Clock;
+
+/// Does what the words after the program's name say. The bounds stand in full here, and not as those of a run of
+/// `serve`: the proof of `main` needs the types of the sockets by name.
+fn run<R, I, O>(rt: R, reader: I, writer: O) -> ExitCode
+where
+    R: Net<Stream = TcpStream, Listener = TcpListener>
+        + Threads
+        + Wait
+        + Clock
+        + RandomSource
+        + Env
+        + Files
+        + AllocGlobal
+        + Print
+        + Eprint
+        + Copy
+        + Drop
+        + Send
+        + 'static,
+    I: Read + Drop,
+    O: Write + Drop,
+{
+    command_line::run(rt, reader, writer)
+}
 
 fn main(rt: HostRuntime) -> ExitCode {
-    command_line::run(rt, rt.stdin(), rt.stdout())
+    run(rt, rt.stdin(), rt.stdout())
 }

@@ -3,7 +3,6 @@ use Rattle.std.specs.Prelude.{ℕ, ◌+◌, ◌-◌, ◌^◌, min, true, false}
 use Rattle.metrics_text.specs.declared.counters.ByRole.{ByRole}
 use Rattle.roles.specs.declared.role.Role.{Role}
 use Rattle.roles.specs.declared.role.Role.TheVariants.{Full, View}
-use Rattle.run_watch.specs.declared.tally.Given.{Given}
 use Rattle.run_watch.specs.declared.tally.Happening.{Happening}
 use Rattle.run_watch.specs.declared.tally.Happening.TheVariants.{Joined, HostLeft, Came, Left, Refused}
 use Rattle.run_watch.specs.declared.tally.Tally.{Tally}
@@ -30,16 +29,12 @@ nothing = record {
   viewers = none;
   came = none;
   refused = none;
-  given = record { answers = 0; bytes = 0 };
 }
-
-abbrev pub given_too : Given → Given → Given
-given_too a b = record { answers = summed a.answers b.answers; bytes = summed a.bytes b.bytes }
 
 -- What is counted once this has happened.
 abbrev pub after : Tally → Happening → Tally
 after t Joined = record t { is_joined = true; joins = summed t.joins 1 }
 after t HostLeft = record t { is_joined = false }
 after t (Came role) = record t { viewers = more t.viewers role; came = more t.came role }
-after t (Left role given) = record t { viewers = fewer t.viewers role; given = given_too t.given given }
+after t (Left role) = record t { viewers = fewer t.viewers role }
 after t (Refused role) = record t { refused = more t.refused role }

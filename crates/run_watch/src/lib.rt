@@ -13,7 +13,7 @@ pub use gravity::{Gravity, prefix_of};
 pub use health::{Health, health_of, health_word};
 pub use ledger::{Ledger, Paper};
 pub use notice::{Notice, Ready, notice_text};
-pub use tally::{Given, Happening, Tally};
+pub use tally::{Happening, Tally};
 
 #[cfg(test)]
 mod tests;

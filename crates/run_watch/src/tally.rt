@@ -1,19 +1,10 @@
 //! What is counted of a run.
 
 ghost use Rattle.std.specs.Prelude.{◌≡◌};
-ghost use Rattle.run_watch.specs.Tallies.{after, fewer, given_too, more, nothing};
+ghost use Rattle.run_watch.specs.Tallies.{after, fewer, more, nothing};
 
 use metrics_text::ByRole;
 use roles::Role;
-
-/// What viewers were given.
-#[derive(Clone, Copy, Debug, PartialEq, Eq)]
-pub struct Given {
-    /// How many updates were begun for them.
-    pub answers: u64,
-    /// How many bytes the system took for them.
-    pub bytes: u64,
-}
 
 /// What happens at the doors and at the host, as far as it is counted.
 #[derive(Clone, Copy, Debug, PartialEq, Eq)]
@@ -24,8 +15,8 @@ pub enum Happening {
     HostLeft,
     /// A viewer of this role has a place.
     Came(Role),
-    /// A viewer of this role has left, to whom so much was given.
-    Left(Role, Given),
+    /// A viewer of this role has left its place.
+    Left(Role),
     /// One who came by this role's port was refused.
     Refused(Role),
 }
@@ -43,8 +34,6 @@ pub struct Tally {
     pub came: ByRole,
     /// How many were refused.
     pub refused: ByRole,
-    /// What those were given who have left.
-    pub given: Given,
 }
 
 const NONE: ByRole = ByRole { full: 0, view: 0 };
@@ -81,16 +70,6 @@ fn fewer(numbers: ByRole, role: Role) -> ByRole
     }
 }
 
-/// What both were given.
-fn given_too(a: Given, b: Given) -> Given
-    ensures { result ≡ given_too a b }
-{
-    Given {
-        answers: a.answers.saturating_add(b.answers),
-        bytes: a.bytes.saturating_add(b.bytes),
-    }
-}
-
 impl Tally {
     /// Nothing has happened.
     pub fn new() -> Tally
@@ -102,10 +81,6 @@ impl Tally {
             viewers: NONE,
             came: NONE,
             refused: NONE,
-            given: Given {
-                answers: 0,
-                bytes: 0,
-            },
         }
     }
 
@@ -123,10 +98,7 @@ impl Tally {
                 self.viewers = more(self.viewers, role);
                 self.came = more(self.came, role);
             }
-            Happening::Left(role, given) => {
-                self.viewers = fewer(self.viewers, role);
-                self.given = given_too(self.given, given);
-            }
+            Happening::Left(role) => self.viewers = fewer(self.viewers, role),
             Happening::Refused(role) => self.refused = more(self.refused, role),
         }
     }

@@ -4,7 +4,7 @@ use crate::gravity::{Gravity, prefix_of};
 use crate::health::{health_of, health_word};
 use crate::ledger::{Ledger, Paper};
 use crate::notice::{Notice, Ready, notice_text};
-use crate::tally::{Given, Happening, Tally};
+use crate::tally::{Happening, Tally};
 use metrics_text::{ByRole, Counters, Lag};
 use roles::Role;
 use std::alloc::Global;
@@ -143,13 +143,7 @@ fn an_evening_is_counted(rt: HostRuntime) {
         Happening::Came(Role::Full),
         Happening::Came(Role::View),
         Happening::Refused(Role::Full),
-        Happening::Left(
-            Role::View,
-            Given {
-                answers: 7,
-                bytes: 1_000,
-            },
-        ),
+        Happening::Left(Role::View),
     ] {
         tally.note(happening);
     }
@@ -158,7 +152,6 @@ fn an_evening_is_counted(rt: HostRuntime) {
     assert_eq!(rt; (tally.viewers.full, tally.viewers.view), (1, 1));
     assert_eq!(rt; (tally.came.full, tally.came.view), (1, 2));
     assert_eq!(rt; (tally.refused.full, tally.refused.view), (1, 0));
-    assert_eq!(rt; (tally.given.answers, tally.given.bytes), (7, 1_000));
     tally.note(Happening::HostLeft);
     assert!(rt; !tally.is_joined);
 }

@@ -11,6 +11,7 @@ use crate::advice::Advice;
 use crate::bound::Ports;
 use crate::journal::Journal;
 use crate::metrics::{open_ports, run_watched};
+use crate::runtime::Runtime;
 use crate::sentry::Sentry;
 use crate::surroundings::Surroundings;
 use crate::trouble::Trouble;
@@ -19,11 +20,8 @@ use plan::{Plan, status_of};
 use run_watch::Gravity;
 use std::alloc::{AllocGlobal, Global};
 use std::env::Env;
-use std::net::{Net, TcpListener, TcpStream};
-use std::random::RandomSource;
 use std::rt::Files;
 use std::sync::Wait;
-use std::thread::Threads;
 use std::time::Clock;
 
 /// Says what went wrong: its number, and then what it means. Where standard error takes no text the exit status alone
@@ -66,19 +64,7 @@ where
 #[tactic(auto, using(crate::proofs::Asking::nobody))]
 pub fn serve<R>(rt: R, alloc: Global, plan: &Plan<'_>, ports: &mut Ports) -> u8
 where
-    R: Net<Stream = TcpStream, Listener = TcpListener>
-        + Threads
-        + Wait
-        + Clock
-        + Files
-        + AllocGlobal
-        + RandomSource
-        + Env
-        + Eprint
-        + Copy
-        + Drop
-        + Send
-        + 'static,
+    R: Runtime + Files + AllocGlobal + Env + Eprint,
     requires { HasPlaces plan.now }
     ensures ports { AsksAsPlanned plan.now ports.old ports.new }
     ensures status { IsStatus result }

@@ -39,18 +39,25 @@ const PAUSE_MILLIS: u64 = 100;
 const NO_REQUEST: &[u8] =
     b"error: no request: state, state json, drain, undrain, end PLACE or stop\n";
 
+/// An operator's socket, and what his requests reach before there are halls.
+#[derive(Drop)]
+pub(crate) struct Control {
+    pub(crate) listener: UnixListener,
+    pub(crate) desk: Arc<Desk, Global>,
+    /// Where whoever tells the host rests.
+    pub(crate) writer: Arc<WriterSeat, Global>,
+    /// How many places there are for viewers of each role.
+    pub(crate) full_places: u64,
+    pub(crate) view_places: u64,
+    pub(crate) lifeline: Arc<Lifeline, Global>,
+}
+
 /// What a request reaches.
 #[derive(Drop)]
 pub(crate) struct Reach {
     pub(crate) alloc: Global,
-    pub(crate) desk: Arc<Desk, Global>,
-    /// How many places there are for viewers of each role.
-    pub(crate) full_places: u64,
-    pub(crate) view_places: u64,
-    /// Where whoever tells the host rests.
-    pub(crate) writer: Arc<WriterSeat, Global>,
+    pub(crate) control: Control,
     pub(crate) halls: Arc<Halls, Global>,
-    pub(crate) lifeline: Arc<Lifeline, Global>,
 }
 
 /// Whether a socket is left at this path to which nobody listens: one of a run that has ended.
@@ -75,20 +82,22 @@ pub(crate) fn listen<R: Files + Net>(rt: &R, path: &str) -> io::Result<UnixListe
     UnixListener::bind(rt, path)
 }
 
-/// Reads until a line has come, in so many reads at most, and answers how many bytes there are.
-fn read_line(stream: &UnixStream, bytes: &mut [u8; LONGEST]) -> io::Result<usize> {
+/// Reads until a line has come, or whoever asks says no more, and answers how many bytes there are. `None` where that
+/// takes more reads, or more bytes, than a request has.
+fn read_line(stream: &UnixStream, bytes: &mut [u8; LONGEST]) -> io::Result<Option<usize>> {
     let mut count: usize = 0;
     for _ in 0..MOST_READS {
-        let Some(rest) = bytes.get_mut(count..) else {
+        let rest = bytes.get_mut(count..).unwrap_or(&mut []);
+        if rest.is_empty() {
             break;
-        };
+        }
         let read = (&mut &*stream).read(rest)?;
         count = count.saturating_add(read);
         if read == 0 || bytes.get(..count).unwrap_or(b"").contains(&b'\n') {
-            break;
+            return Ok(Some(count));
         }
     }
-    Ok(count)
+    Ok(None)
 }
 
 /// The request of the first line of these bytes, if it is one.
@@ -112,7 +121,7 @@ fn outcome_text(outcome: Outcome) -> &'static str {
 /// Waits until the host was told all that viewers held, though not for long.
 fn await_last_words<R: Wait + Clock>(rt: &R, reach: &Reach) {
     for _ in 0..MOST_LOOKS {
-        if reach.writer.is_quiet() || !reach.lifeline.holds(rt) {
+        if reach.control.writer.is_quiet() || !reach.control.lifeline.holds(rt) {
             return;
         }
         thread::sleep(rt, Duration::from_millis(LOOK_MILLIS));
@@ -125,10 +134,9 @@ fn stop<R: Net + Wait + Clock>(rt: &R, reach: &Reach, stream: &UnixStream) {
     reach.halls.close(rt);
     await_last_words(rt, reach);
     let _ = (&mut &*stream).write_all(b"done\n");
-    reach.lifeline.cut(rt);
-    reach
-        .lifeline
-        .await_end(rt, Duration::from_millis(END_MILLIS));
+    let lifeline = &reach.control.lifeline;
+    lifeline.cut(rt);
+    lifeline.await_end(rt, Duration::from_millis(END_MILLIS));
 }
 
 /// Answers one request.
@@ -139,7 +147,7 @@ fn answer<R: Net + Wait + Clock>(
     stream: &UnixStream,
 ) -> io::Result<()> {
     let mut out = stream;
-    let outcome = reach.desk.ask(rt, request);
+    let outcome = reach.control.desk.ask(rt, request);
     match request {
         Request::State(form) => {
             let text = state(rt, reach, form)?;
@@ -159,8 +167,11 @@ fn hear<R: Net + Wait + Clock>(rt: &R, reach: &Reach, stream: &UnixStream) -> io
     stream.set_read_timeout(Some(patience))?;
     stream.set_write_timeout(Some(patience))?;
     let mut bytes = [0u8; LONGEST];
-    let count = read_line(stream, &mut bytes)?;
-    let Some(request) = request_in(bytes.get(..count).unwrap_or(b"")) else {
+    let asked = match read_line(stream, &mut bytes)? {
+        Some(count) => request_in(bytes.get(..count).unwrap_or(b"")),
+        None => None,
+    };
+    let Some(request) = asked else {
         let mut out = stream;
         out.write_all(NO_REQUEST)?;
         return Ok(false);
@@ -170,8 +181,8 @@ fn hear<R: Net + Wait + Clock>(rt: &R, reach: &Reach, stream: &UnixStream) -> io
 }
 
 /// Hears one request after another, until one ends the run. One who breaks off is let go.
-pub(crate) fn keep_control<R: Net + Wait + Clock>(rt: &R, listener: &UnixListener, reach: &Reach) {
-    for stream in listener.incoming() {
+pub(crate) fn keep_control<R: Net + Wait + Clock>(rt: &R, reach: &Reach) {
+    for stream in reach.control.listener.incoming() {
         let Ok(stream) = stream else {
             thread::sleep(rt, Duration::from_millis(PAUSE_MILLIS));
             continue;

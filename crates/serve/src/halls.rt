@@ -3,20 +3,20 @@
 ghost use Rattle.std.specs.Prelude.{◌≡◌, IfOk, false};
 ghost use Rattle.raster.specs.Size.{IsScreenSize};
 
+use crate::control::Control;
 use crate::entries::Entrances;
 use crate::meet::Met;
 use crate::rooms::{Hall, start_porter};
-use crate::start::{Control, start_control};
+use crate::runtime::Runtime;
+use crate::start::start_control;
 use crate::supply::Supply;
 use crate::trouble::{Stage, Trouble};
 use crate::web::start_web_porter;
 use fault::Fault;
 use serving::{Log, Seat};
 use std::alloc::Global;
-use std::net::{Net, TcpListener, TcpStream};
-use std::random::RandomSource;
+use std::net::Net;
 use std::sync::{Arc, Wait};
-use std::thread::Threads;
 use std::time::Clock;
 
 /// Where the viewers of each role come in, while their doors are kept.
@@ -37,15 +37,7 @@ impl Halls {
         log: &G,
     ) -> Result<Halls, Trouble>
     where
-        R: Net<Stream = TcpStream, Listener = TcpListener>
-            + Threads
-            + Wait
-            + Clock
-            + RandomSource
-            + Copy
-            + Drop
-            + Send
-            + 'static,
+        R: Runtime,
         G: Log + Clone + Drop + Send + 'static,
     {
         let Entrances { full, view, web } = entrances;
@@ -93,15 +85,7 @@ fn start_all<R, G>(
     log: &G,
 ) -> Result<Arc<Halls, Global>, Trouble>
 where
-    R: Net<Stream = TcpStream, Listener = TcpListener>
-        + Threads
-        + Wait
-        + Clock
-        + RandomSource
-        + Copy
-        + Drop
-        + Send
-        + 'static,
+    R: Runtime,
     G: Log + Clone + Drop + Send + 'static,
 {
     let halls = Halls::start(rt, alloc, entrances, seats, log)?;
@@ -129,15 +113,7 @@ pub(crate) fn welcome<R, G>(
     log: &G,
 ) -> Result<(Met<R>, Arc<Halls, Global>), Trouble>
 where
-    R: Net<Stream = TcpStream, Listener = TcpListener>
-        + Threads
-        + Wait
-        + Clock
-        + RandomSource
-        + Copy
-        + Drop
-        + Send
-        + 'static,
+    R: Runtime,
     G: Log + Clone + Drop + Send + 'static,
     ensures size { IfOk result (λ both. IsScreenSize both.0.joined.w both.0.joined.h) }
     ensures untimed { IfOk result (λ both. (both.0.reader.has_deadline ≡ false) × (both.0.writer.has_deadline ≡ false)) }

@@ -23,6 +23,7 @@ mod origins;
 mod quoted;
 mod rooms;
 mod run;
+mod runtime;
 mod sentry;
 mod start;
 mod state;
@@ -34,3 +35,4 @@ mod web;
 
 pub use answer::serve;
 pub use bound::Ports;
+pub use runtime::Runtime;

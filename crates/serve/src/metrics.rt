@@ -1,6 +1,6 @@
 //! Where machines read a run's numbers.
 
-ghost use Rattle.std.specs.Prelude.{◌≡◌, IfOk, OnOk};
+ghost use Rattle.std.specs.Prelude.{◌≡◌, IfOk, OnOk, is_some};
 ghost use Rattle.plan.specs.Statuses.{HasPlaces};
 ghost use Rattle.plan.specs.Turns.{MayEnd};
 ghost use Rattle.serve.specs.Doors.{AreBoth};
@@ -10,6 +10,7 @@ use crate::bound::Ports;
 use crate::counters::{counters_of, places_by_role};
 use crate::entries::{Entrances, open_all};
 use crate::run::run;
+use crate::runtime::Runtime;
 use crate::sentry::Sentry;
 use crate::trouble::{Stage, Trouble};
 use fault::Fault;
@@ -44,7 +45,8 @@ fn open_metrics<R: Net<Stream = TcpStream, Listener = TcpListener>>(
     plan: &Plan<'_>,
     ports: &mut Ports,
 ) -> Result<Option<TcpListener>, Trouble>
-    ensures { AsksForMetrics plan.now ports.old ports.new }
+    ensures asked { AsksForMetrics plan.now ports.old ports.new }
+    ensures heard { IfOk result (λ listener. is_some listener ≡ is_some plan.now.metrics) }
 {
     let Some(address) = metrics_address_of(plan) else {
         return Ok(None);
@@ -79,6 +81,7 @@ where
     G: Log,
     ensures asked { AsksAsPlanned plan.now ports.old ports.new }
     ensures both { IfOk result (λ opened. AreBoth plan.now opened.entrances.full opened.entrances.view) }
+    ensures machines { IfOk result (λ opened. is_some opened.machines ≡ is_some plan.now.metrics) }
 {
     let entrances = open_all(rt, alloc, plan, ports, log)?;
     let machines = open_metrics(rt, plan, ports)?;
@@ -182,17 +185,7 @@ pub(crate) fn run_watched<R>(
     log: &Sentry<R>,
 ) -> Result<(), Trouble>
 where
-    R: Net<Stream = TcpStream, Listener = TcpListener>
-        + Eprint
-        + Files
-        + Threads
-        + Wait
-        + Clock
-        + RandomSource
-        + Copy
-        + Drop
-        + Send
-        + 'static,
+    R: Runtime + Eprint + Files,
     requires places { HasPlaces plan.now }
     requires entries { AreBoth plan.now opened.entrances.full opened.entrances.view }
     ensures { OnOk result (MayEnd plan.now) }

@@ -7,12 +7,14 @@ ghost use Rattle.plan.specs.Statuses.{HasPlaces};
 ghost use Rattle.plan.specs.Turns.{MayEnd, endless};
 ghost use Rattle.serve.specs.Doors.{AreAsPlanned, AreBoth};
 
+use crate::control::Control;
 use crate::entries::Entrances;
 use crate::halls::welcome;
 use crate::host_text::texts_of;
 use crate::meet::Met;
 use crate::rooms::{Rooms, everyone_of, rooms_of};
-use crate::start::{Control, control_of, lifeline_of, was_cut};
+use crate::runtime::Runtime;
+use crate::start::{control_of, lifeline_of, was_cut};
 use crate::supply::Supply;
 use crate::trouble::{Stage, Trouble};
 use crate::web::shared;
@@ -28,8 +30,6 @@ use screen_pair::Publishes;
 use serving::{Alarm, Desk, Door, Log, WriterSeat};
 use std::alloc::{AllocError, Global};
 use std::marker::Brand;
-use std::net::{Net, TcpListener, TcpStream};
-use std::random::RandomSource;
 use std::rt::Files;
 use std::sync::{Arc, Wait};
 use std::thread::Threads;
@@ -93,14 +93,7 @@ fn reflect<G, R>(
 ) -> Result<(), Fault>
 where
     G: Log + Drop + Send + 'static,
-    R: Net<Stream = TcpStream, Listener = TcpListener>
-        + Threads
-        + Wait
-        + Clock
-        + Copy
-        + Drop
-        + Send
-        + 'static,
+    R: Runtime,
     requires size { IsScreenSize met.joined.w met.joined.h }
     requires untimed { (met.reader.has_deadline ≡ false) × (met.writer.has_deadline ≡ false) }
     requires places { HasPlaces plan.now }
@@ -139,15 +132,7 @@ fn reflect_all<G, R>(
 ) -> Result<(), Trouble>
 where
     G: Log + Clone + Drop + Send + 'static,
-    R: Net<Stream = TcpStream, Listener = TcpListener>
-        + Threads
-        + Wait
-        + Clock
-        + RandomSource
-        + Copy
-        + Drop
-        + Send
-        + 'static,
+    R: Runtime,
     requires places { HasPlaces plan.now }
     requires doors { AreAsPlanned plan.now rooms.doors.items }
     requires again { endless (is_some supply.lifeline) supply.turns.again ≡ endless (is_some plan.now.control) plan.now.again }
@@ -198,16 +183,7 @@ pub(crate) fn run<G, R>(
 ) -> Result<(), Trouble>
 where
     G: Log + Clone + Drop + Send + 'static,
-    R: Net<Stream = TcpStream, Listener = TcpListener>
-        + Files
-        + Threads
-        + Wait
-        + Clock
-        + RandomSource
-        + Copy
-        + Drop
-        + Send
-        + 'static,
+    R: Runtime + Files,
     requires places { HasPlaces plan.now }
     requires entries { AreBoth plan.now entrances.full entrances.view }
     ensures { OnOk result (MayEnd plan.now) }

@@ -5,7 +5,7 @@ use crate::surroundings::Surroundings;
 use notify::Notifier;
 use plan::{Plan, places_of};
 use roles::Role;
-use run_watch::{Given, Happening, Notice, Ready, Tally, notice_text};
+use run_watch::{Happening, Notice, Ready, Tally, notice_text};
 use serving::{Event, Log};
 use std::alloc::{AllocError, Global};
 use std::net::{Net, SocketAddr};
@@ -40,17 +40,7 @@ fn happening_of(event: &Event<'_>) -> Option<Happening> {
         Event::HostJoined { .. } => Some(Happening::Joined),
         Event::HostOut { .. } => Some(Happening::HostLeft),
         Event::ViewerIn { place_id, .. } => Some(Happening::Came(place_id.role)),
-        Event::ViewerOut {
-            place_id,
-            visit,
-            ..
-        } => {
-            let given = Given {
-                answers: visit.answers,
-                bytes: visit.bytes,
-            };
-            Some(Happening::Left(place_id.role, given))
-        }
+        Event::ViewerOut { place_id, .. } => Some(Happening::Left(place_id.role)),
         Event::PlacesTaken { role, .. }
         | Event::NoHost { role, .. }
         | Event::NoEntry { role, .. } => { Some(Happening::Refused(*role)) }

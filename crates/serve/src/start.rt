@@ -2,35 +2,24 @@
 
 ghost use Rattle.std.specs.Prelude.{◌≡◌, IfOk, is_some, true};
 
-use crate::control::{Reach, keep_control, listen};
+use crate::control::{Control, Reach, keep_control, listen};
 use crate::halls::Halls;
 use crate::lifeline::Lifeline;
+use crate::runtime::Runtime;
 use crate::trouble::{Stage, Trouble};
 use fault::Fault;
 use plan::{Plan, places_of};
 use roles::Role;
 use serving::{Desk, WriterSeat};
 use std::alloc::{AllocError, Global};
-use std::net::{Net, TcpListener, TcpStream};
+use std::net::Net;
 use std::os::unix::net::UnixListener;
 use std::rt::Files;
 use std::sync::{Arc, Wait};
-use std::thread::{Builder, Threads};
-use std::time::Clock;
+use std::thread::Builder;
 
 /// The bytes of the stack of whoever hears an operator.
 const STACK: usize = 262_144;
-
-/// An operator's socket, and what his requests reach.
-#[derive(Drop)]
-pub(crate) struct Control {
-    listener: UnixListener,
-    desk: Arc<Desk, Global>,
-    writer: Arc<WriterSeat, Global>,
-    full_places: u64,
-    view_places: u64,
-    lifeline: Arc<Lifeline, Global>,
-}
 
 /// What the requests reach of an operator who is heard at this listener. He may end the run by a new lifeline.
 fn prepared(
@@ -110,35 +99,16 @@ pub(crate) fn start_control<R>(
     halls: Arc<Halls, Global>,
 ) -> Result<(), Trouble>
 where
-    R: Net<Stream = TcpStream, Listener = TcpListener>
-        + Threads
-        + Wait
-        + Clock
-        + Copy
-        + Drop
-        + Send
-        + 'static,
+    R: Runtime,
 {
-    let Control {
-        listener,
-        desk,
-        writer,
-        full_places,
-        view_places,
-        lifeline,
-    } = control;
     let reach = Reach {
         alloc,
-        desk,
-        full_places,
-        view_places,
-        writer,
+        control,
         halls,
-        lifeline,
     };
     let started = Builder::new()
         .stack_size(STACK)
-        .spawn(&rt, move || keep_control(&rt, &listener, &reach));
+        .spawn(&rt, move || keep_control(&rt, &reach));
     match started {
         Ok(_hearer) => Ok(()),
         Err(error) => Err(Trouble::of(Stage::Start, error)),

@@ -88,7 +88,7 @@ pub(crate) fn state<R: Wait + Clock>(
     form: Form,
 ) -> Result<String, AllocError> {
     let alloc = reach.alloc;
-    let glance = reach.desk.look(rt, alloc)?;
+    let glance = reach.control.desk.look(rt, alloc)?;
     let addresses = addresses_of(alloc, glance.guests.as_slice())?;
     let viewers = viewers_of(alloc, &glance, addresses.as_slice())?;
     let host_address = match &glance.host {
@@ -101,8 +101,8 @@ pub(crate) fn state<R: Wait + Clock>(
             Some(card) => Some(host_report(card, host_address.as_str(), &glance)),
             None => None,
         },
-        full_places: reach.full_places,
-        view_places: reach.view_places,
+        full_places: reach.control.full_places,
+        view_places: reach.control.view_places,
         viewers: viewers.as_slice(),
     };
     match form {

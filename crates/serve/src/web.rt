@@ -10,6 +10,7 @@ ghost use Rattle.serve.specs.Ports.{AsksForBrowsers, AsksForWeb};
 use crate::bound::{Bound, Ports};
 use crate::open::Entry;
 use crate::origins::{admission_of, first_bad};
+use crate::runtime::Runtime;
 use crate::trouble::{Stage, Trouble};
 use fault::Fault;
 use plan::{Plan, places_of, web_address_of, web_port_of};
@@ -18,11 +19,9 @@ use serving::{Event, Log, Seat, Way, WebEntry, WebPorter};
 use std::alloc::{AllocError, AllocGlobal, Global};
 use std::hash::RandomState;
 use std::net::{Net, SocketAddr, TcpListener, TcpStream};
-use std::random::RandomSource;
 use std::rt::Files;
-use std::sync::{Arc, Wait};
-use std::thread::{Builder, Threads};
-use std::time::Clock;
+use std::sync::Arc;
+use std::thread::Builder;
 use web_door::{FileTable, Site};
 use web_root::{RootFault, SystemDisk, read_all};
 
@@ -217,15 +216,7 @@ pub(crate) fn start_web_porter<R, G>(
     log: &G,
 ) -> Result<(), Trouble>
 where
-    R: Net<Stream = TcpStream, Listener = TcpListener>
-        + Threads
-        + Wait
-        + Clock
-        + RandomSource
-        + Copy
-        + Drop
-        + Send
-        + 'static,
+    R: Runtime,
     G: Log + Clone + Drop + Send + 'static,
 {
     if entries.is_empty() {

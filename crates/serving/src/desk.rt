@@ -7,7 +7,6 @@ use roles::Role;
 use run_control::{Doors, Entry, Outcome, Request};
 use std::alloc::{AllocError, Global};
 use std::net::SocketAddr;
-use std::sync::atomic::{AtomicU64, Ordering};
 use std::sync::{Arc, Mutex, Wait};
 use std::time::Clock;
 
@@ -59,10 +58,6 @@ pub struct HostCard {
 /// What was counted since the run began, of all viewers: those that are there too.
 #[derive(Clone, Copy, Debug)]
 pub struct Totals {
-    /// How many viewers were let in.
-    pub came: u64,
-    /// How many weren't.
-    pub refused: u64,
     /// How many updates were begun for viewers.
     pub updates: u64,
     /// How many bytes the system took for viewers.
@@ -103,7 +98,7 @@ struct Book {
     // By the places.
     present: Vec<Option<Present>>,
     host: Option<HostCard>,
-    // Of those that have left, and how many came.
+    // Of those that have left.
     totals: Totals,
 }
 
@@ -116,7 +111,6 @@ struct Book {
 pub struct Desk {
     book: Mutex<Book>,
     count: Arc<HostCount, Global>,
-    refused: AtomicU64,
 }
 
 /// So many places that nobody has.
@@ -155,7 +149,6 @@ impl Totals {
         Totals {
             updates: self.updates.saturating_add(count.updates()),
             bytes: self.bytes.saturating_add(count.bytes()),
-            ..self
         }
     }
 }
@@ -215,8 +208,6 @@ impl Desk {
             present: vacant(alloc, places)?,
             host: None,
             totals: Totals {
-                came: 0,
-                refused: 0,
                 updates: 0,
                 bytes: 0,
             },
@@ -224,7 +215,6 @@ impl Desk {
         Ok(Desk {
             book: Mutex::new(book),
             count: Arc::new(alloc, HostCount::new())?,
-            refused: AtomicU64::new(0),
         })
     }
 
@@ -257,10 +247,6 @@ impl Desk {
         let guard = self.book.lock(rt);
         let book = &*guard;
         let guests = book.guests(alloc)?;
-        let totals = Totals {
-            refused: self.refused.load(Ordering::SeqCst),
-            ..book.all()
-        };
         Ok(Glance {
             entry: book.doors.entry(),
             host: book.host()?,
@@ -268,7 +254,7 @@ impl Desk {
             heard: self.count.heard(),
             now: clock_millis(rt),
             guests,
-            totals,
+            totals: book.all(),
         })
     }
 
@@ -299,7 +285,6 @@ impl Desk {
             return false;
         }
         seat.welcome();
-        book.totals.came = book.totals.came.saturating_add(1);
         if let Some(slot) = slot(book.present.as_mut_slice(), comer.place) {
             *slot = Some(Present { comer, since, seat });
         }
@@ -318,10 +303,5 @@ impl Desk {
         if let Some(left) = left {
             book.totals = book.totals.with(left.seat.count());
         }
-    }
-
-    /// One more viewer wasn't let in.
-    pub(crate) fn refuse(&self) {
-        self.refused.fetch_add(1, Ordering::SeqCst);
     }
 }

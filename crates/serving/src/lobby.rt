@@ -1,6 +1,6 @@
 //! Who comes in.
 
-ghost use Rattle.std.specs.Prelude.{◌≡◌, IfOk};
+ghost use Rattle.std.specs.Prelude.{◌≡◌, ◌<◌, IfOk, IsNone};
 ghost use Rattle.serving.specs.Doors.{role_behind};
 
 use crate::count::PlaceCount;
@@ -39,7 +39,9 @@ struct Waiting {
 }
 
 /// What there isn't for one who comes, if there is something.
-fn lack(waiting: &Waiting, is_open: bool) -> Option<Lack> {
+fn lack(waiting: &Waiting, is_open: bool) -> Option<Lack>
+    ensures none { IsNone result → 0 < waiting.now.free }
+{
     if !is_open {
         Some(Lack::Entry)
     } else if waiting.is_held {
@@ -162,11 +164,10 @@ impl Lobby {
             return Entrance::Closed;
         }
         if let Some(lack) = lack(waiting, is_open) {
-            self.desk.refuse();
             return Entrance::Refused(arrival, lack);
         }
         if waiting.arrivals.push(arrival).is_ok() {
-            waiting.free = waiting.free.saturating_sub(1);
+            waiting.free -= 1;
             self.came.notify_one();
         }
         Entrance::Placed

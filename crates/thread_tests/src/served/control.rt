@@ -76,16 +76,18 @@ const SCENES: &[Scene] = &[
     },
 ];
 
-/// The answer to this request, up to its end, and how many bytes it has.
-fn ask<R>(ear: &Ear<R>, path: &str, request: &str, answer: &mut [u8; MOST]) -> io::Result<usize>
+/// More bytes than a request has, without the end of a line.
+const LONG: &str = "end 111111111111111111111111111111111111111111111111111111111111";
+
+/// The answer to this text, up to its end, and how many bytes it has.
+fn answer_to<R>(ear: &Ear<R>, path: &str, text: &str, answer: &mut [u8; MOST]) -> io::Result<usize>
 where
     R: Net<Stream = TcpStream, Listener = TcpListener> + Drop,
 {
     let stream = UnixStream::connect(ear, path)?;
     stream.set_read_timeout(Some(Duration::from_secs(20)))?;
     let mut both = &stream;
-    both.write_all(request.as_bytes())?;
-    both.write_all(b"\n")?;
+    both.write_all(text.as_bytes())?;
     let mut count: usize = 0;
     for _ in 0..MOST {
         let Some(rest) = answer.get_mut(count..) else {
@@ -98,6 +100,30 @@ where
         count = count.saturating_add(read);
     }
     Ok(count)
+}
+
+/// The answer to this request, up to its end, and how many bytes it has.
+fn ask<R>(ear: &Ear<R>, path: &str, request: &str, answer: &mut [u8; MOST]) -> io::Result<usize>
+where
+    R: Net<Stream = TcpStream, Listener = TcpListener> + Drop,
+{
+    let line = format!(in ear.alloc; "{request}\n")?;
+    answer_to(ear, path, line.as_str(), answer)
+}
+
+/// Whether one who says too much is told so at once, though his line hasn't ended.
+fn is_told_at_length<R>(ear: &Ear<R>, path: &str) -> io::Result<bool>
+where
+    R: Net<Stream = TcpStream, Listener = TcpListener> + Drop,
+{
+    let mut answer = [0u8; MOST];
+    let count = answer_to(ear, path, LONG, &mut answer)?;
+    Ok(
+        answer
+            .get(..count)
+            .unwrap_or(b"")
+            .starts_with(b"error: no request"),
+    )
 }
 
 /// Whether this request is answered so.
@@ -152,7 +178,8 @@ where
             && is_answered(ear, path, "undrain", DONE)?
             && is_answered(ear, path, "end 2", b"error: the place has no viewer\n")?
             && is_answered(ear, path, "end 3", b"error: there is no such place\n")?
-            && is_told(ear, path, "begin", &["error: no request"])?,
+            && is_told(ear, path, "begin", &["error: no request"])?
+            && is_told_at_length(ear, path)?,
     )
 }
 

@@ -153,9 +153,9 @@ impl Stage {
     }
 }
 
-/// Where an operator of the run that has this port is heard.
+/// Where an operator of the run that has this port is heard: a file of the folder that the test runs in.
 pub(crate) fn control_path(alloc: Global, full: u16) -> Result<String, AllocError> {
-    format!(in alloc; "/tmp/reflectord-test-{full}")
+    format!(in alloc; "control-{full}")
 }
 
 /// The ports of three listeners, and three that nobody has.
