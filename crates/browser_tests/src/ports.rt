@@ -3,9 +3,10 @@
 use crate::browser::{Browser, are_strangers_refused, is_told};
 use crate::loopback::{hears, listen};
 use bytes::Bytes;
+use connections::{Desk, Gate, Lobby, Seat, TcpDoor, WebEntry, WebPorter};
 use link::{Gave, Link, Took};
 use roles::Role;
-use serving::{Desk, Door, Gate, Lobby, NoLog, Seat, TcpDoor, WebEntry, WebPorter};
+use run_traits::{Door, NoLog};
 use std::alloc::Global;
 use std::hash::RandomState;
 use std::io::ErrorKind;

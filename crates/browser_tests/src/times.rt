@@ -3,11 +3,10 @@
 use crate::browser::{frame, head, is_told};
 use crate::loopback::{accept, connect, hears, listen};
 use crate::ports::site;
+use connections::{BrowserLink, Desk, Gate, Lobby, Seat, ViewerTcpLink, WebEntry, WebPorter};
 use link::{Gave, Link, Took};
 use roles::Role;
-use serving::{
-    Alarm, BrowserLink, Desk, Gate, Lobby, NoLog, Parting, Seat, ViewerTcpLink, WebEntry, WebPorter,
-};
+use run_traits::{Alarm, NoLog, Parting};
 use std::alloc::Global;
 use std::hash::RandomState;
 use std::io::{Read, Write};

@@ -1,6 +1,6 @@
 //! Which host is told.
 
-use serving::Alarm;
+use run_traits::Alarm;
 use std::alloc::Global;
 use std::sync::atomic::{AtomicU64, Ordering};
 use std::sync::{Arc, Condvar, Mutex, Wait};

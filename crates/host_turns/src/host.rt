@@ -19,7 +19,7 @@ use link::{Link, join_host};
 use painter::Patch;
 use reflect_core::Puts;
 use rfb_wire::Joined;
-use serving::Alarm;
+use run_traits::Alarm;
 use std::alloc::Global;
 use std::sync::Wait;
 

@@ -14,7 +14,7 @@ use fault::Fault;
 use host_decoder::HostScreen;
 use link::Link;
 use reflect_core::Puts;
-use serving::Alarm;
+use run_traits::Alarm;
 use std::sync::Wait;
 
 /// Whether the next host is taken after this answer of reading or of joining one.

@@ -5,7 +5,7 @@ use crate::bytes::{GREETING_AND_UPDATE, GREETING_LEN, HELLO_AND_ASK, HELLO_LEN};
 use crate::hoard::Hoard;
 use crate::wire::{Peer, Wire};
 use fault::Fault;
-use serving::{Door, PlaceCount};
+use run_traits::{Door, PlaceCount};
 use std::alloc::Global;
 use std::sync::Arc;
 

@@ -1,7 +1,7 @@
 //! A link in memory whose peer waits for others.
 
 ghost use Rattle.std.specs.Prelude.{◌≡◌, IfOk};
-ghost use Rattle.serving.specs.Answers.{unused};
+ghost use Rattle.run_traits.specs.Unused.{unused};
 
 use crate::board::{Board, hold};
 use fault::Fault;

@@ -5,7 +5,7 @@ use Rattle.raster.specs.Update.{Update}
 use Rattle.roles.specs.Allowed.{Input}
 use Rattle.roles.specs.declared.role.Role.{Role}
 use Rattle.link.specs.Links.{LinkState}
-use Rattle.serving.specs.Answers.{unused}
+use Rattle.run_traits.specs.Unused.{unused}
 use Rattle.reflect_core.specs.Sequential.{Begins}
 use Rattle.viewer_session.specs.Viewer.{Setup, new_viewer}
 use Rattle.viewer_server.specs.Serving.{Serves}

@@ -1,7 +1,7 @@
 //! What the threads of a run share.
 
 use joined_runs::Runs;
-use serving::{Alarm, Stop};
+use run_traits::{Alarm, Stop};
 use std::alloc::Global;
 use std::sync::{Arc, Wait};
 

@@ -1,6 +1,6 @@
 //! How far a viewer is, for the counters of its place.
 
-use serving::PlaceCount;
+use run_traits::PlaceCount;
 use viewer_server::Progress;
 
 /// Notes how far a viewer is in the counters of its place.

@@ -10,8 +10,8 @@ ghost use Rattle.reflector.specs.Visits.{HasVisits, at, setup_of};
 ghost use Rattle.tally_word.specs.History.{puts_of};
 
 use crate::place::{Place, PlaceHandle};
+use run_traits::Door;
 use screen_pair::Publishes;
-use serving::Door;
 use shared_screen::{Publisher, Watcher};
 use std::sync::Wait;
 use std::thread::Threads;

@@ -17,7 +17,7 @@ ghost use Rattle.reflector.specs.Visits.{AllBegin, AreVisits, At, HasVisits, IsR
 use link::StopFlag;
 use reflect_core::ScreenSource;
 use roles::InputSink;
-use serving::Door;
+use run_traits::Door;
 
 /// Each visit of a place is of one list: what its source knew before each of them begins what it knows in the end.
 pub fn visits_are_of_one_list<S: ScreenSource, K: InputSink, D: Door, F: StopFlag>()

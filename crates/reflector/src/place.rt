@@ -3,7 +3,7 @@
 ghost use Rattle.std.specs.Prelude.{◌≡◌, ◌⊎◌, ⊤, IfOk, IfErr};
 ghost use Rattle.fault.specs.declared.kinds.Fault.TheVariants.{Memory, NumbersOut, QueueFull};
 ghost use Rattle.input_relay.specs.Ends.{inputs_of, place_of, relay_of};
-ghost use Rattle.serving.specs.Answers.{unused};
+ghost use Rattle.run_traits.specs.Unused.{unused};
 ghost use Rattle.reflector.specs.Promise.{KeepsPromise};
 ghost use Rattle.reflector.specs.Senders.{IsSameSender};
 ghost use Rattle.reflector.specs.Visits.{HasVisits, IsReceived, at, setup_of};
@@ -18,7 +18,7 @@ use joined_runs::Runs;
 use link::{Link, Rest, StopFlag};
 use reflect_core::ScreenSource;
 use roles::{InputSink, Role};
-use serving::{Alarm, Door, PlaceCount, Ringing, Stop};
+use run_traits::{Alarm, Door, PlaceCount, Ringing, Stop};
 use std::alloc::Global;
 use std::marker::Brand;
 use std::snapshot::Snapshot;

@@ -11,7 +11,7 @@ use host_decoder::HostScreen;
 use host_turns::{Handover, Hosts, RunScreen, read_all};
 use link::Link;
 use reflect_core::Puts;
-use serving::{Alarm, Ringing};
+use run_traits::{Alarm, Ringing};
 use std::alloc::Global;
 use std::snapshot::Snapshot;
 use std::sync::{Arc, Wait};

@@ -7,7 +7,7 @@ ghost use Rattle.reflector.specs.Written.{links_in};
 use crate::written::Written;
 use host_turns::{Handover, NumberedLink};
 use link::{Link, StopFlag};
-use serving::Alarm;
+use run_traits::Alarm;
 use std::alloc::Global;
 use std::sync::{Arc, Wait};
 

@@ -17,7 +17,7 @@ use input_relay::Taker;
 use link::{Link, Rest};
 use reflect_core::ScreenSource;
 use roles::Strokes;
-use serving::Alarm;
+use run_traits::Alarm;
 use std::alloc::Global;
 use std::snapshot::Snapshot;
 use std::sync::{Arc, Wait};

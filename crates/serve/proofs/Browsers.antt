@@ -6,7 +6,7 @@ use Rattle.roles.specs.declared.role.Role.{Role}
 use Rattle.roles.specs.declared.role.Role.TheVariants.{Full, View}
 use Rattle.web_door.specs.declared.table.WebFile.{WebFile}
 use Rattle.plan.specs.declared.plan.Plan.{Plan}
-use Rattle.serving.specs.declared.caller.WebEntry.{WebEntry}
+use Rattle.connections.specs.declared.caller.WebEntry.{WebEntry}
 use Rattle.serve.specs.Browsers.{AreWebEntries, IsWebEntryFor}
 
 -- What holds of each of them.

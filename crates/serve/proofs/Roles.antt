@@ -4,8 +4,8 @@ use Rattle.std.specs.Prelude.{if◌then◌else◌}
 use Rattle.std.specs.List.{All}
 use Rattle.std.proofs.lemmas.List.Elements.{All-append, All-cons, All-nil}
 use Rattle.roles.specs.declared.role.Role.{Role}
-use Rattle.serving.specs.Doors.{role_behind}
-use Rattle.serving.specs.declared.lobby.TcpDoor.{TcpDoor}
+use Rattle.connections.specs.Doors.{role_behind}
+use Rattle.connections.specs.declared.lobby.TcpDoor.{TcpDoor}
 use Rattle.serve.specs.Doors.{HaveTheirRoles}
 
 -- One more is added, or refused for want of memory.

@@ -8,7 +8,7 @@ use Rattle.web_door.specs.Landings.{LeadsToStart}
 use Rattle.web_door.specs.declared.site.Site.{Site}
 use Rattle.web_door.specs.declared.table.WebFile.{WebFile}
 use Rattle.plan.specs.declared.plan.Plan.{Plan}
-use Rattle.serving.specs.declared.caller.WebEntry.{WebEntry}
+use Rattle.connections.specs.declared.caller.WebEntry.{WebEntry}
 
 -- Viewers of this role only look on.
 abbrev pub looks_only : Role → Bool

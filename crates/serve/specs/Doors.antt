@@ -6,8 +6,8 @@ use Rattle.roles.specs.declared.role.Role.{Role}
 use Rattle.roles.specs.declared.role.Role.TheVariants.{Full, View}
 use Rattle.plan.specs.Statuses.{places_for}
 use Rattle.plan.specs.declared.plan.Plan.{Plan}
-use Rattle.serving.specs.Doors.{role_behind}
-use Rattle.serving.specs.declared.lobby.TcpDoor.{TcpDoor}
+use Rattle.connections.specs.Doors.{role_behind}
+use Rattle.connections.specs.declared.lobby.TcpDoor.{TcpDoor}
 use Rattle.serve.specs.declared.open.Entry.{Entry}
 
 -- The entry is of this plan, and for viewers of this role.

@@ -3,9 +3,9 @@ use Rattle.std.specs.Prelude.{◌≡◌, ◌-◌, ◌/◌, List, ℕ}
 use Rattle.std.specs.String.{string_bytes}
 use Rattle.run_state.specs.declared.report.HostReport.{HostReport}
 use Rattle.run_state.specs.declared.report.ViewerReport.{ViewerReport}
-use Rattle.serving.specs.declared.desk.Glance.{Glance}
-use Rattle.serving.specs.declared.desk.Guest.{Guest}
-use Rattle.serving.specs.declared.desk.HostCard.{HostCard}
+use Rattle.connections.specs.declared.desk.Glance.{Glance}
+use Rattle.connections.specs.declared.desk.Guest.{Guest}
+use Rattle.connections.specs.declared.desk.HostCard.{HostCard}
 
 abbrev pub seconds_from : ℕ → ℕ → ℕ
 seconds_from since now = (now - since) / 1000

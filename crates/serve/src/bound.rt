@@ -3,8 +3,8 @@
 ghost use Rattle.std.specs.Prelude.{◌≡◌, ◌++◌, ◌∷◌, [], IfOk, OnOk};
 ghost use Rattle.serve.specs.Ports.{IsAskedAtMost};
 
+use connections::Gate;
 use roles::Role;
-use serving::Gate;
 use std::alloc::Global;
 use std::io;
 use std::marker::Model;

@@ -3,8 +3,8 @@
 use crate::halls::Halls;
 use crate::lifeline::Lifeline;
 use crate::state::state;
+use connections::{Desk, WriterSeat};
 use run_control::{Outcome, Request};
-use serving::{Desk, WriterSeat};
 use std::alloc::Global;
 use std::io::{ErrorKind, Read, Write};
 use std::net::Net;

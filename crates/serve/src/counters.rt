@@ -1,10 +1,10 @@
 //! A run's numbers, from where they are counted.
 
+use connections::Glance;
 use metrics_text::{ByRole, Counters, Lag};
 use plan::{Plan, places_of};
 use roles::Role;
 use run_watch::Tally;
-use serving::Glance;
 use std::alloc::{AllocError, Global};
 
 /// How many places a plan has for each role.

@@ -4,9 +4,9 @@ ghost use Rattle.std.specs.Prelude.{◌≡◌, IfOk, false};
 ghost use Rattle.raster.specs.Size.{IsScreenSize};
 
 use crate::trouble::{Stage, Trouble};
+use connections::{HostLink, JoiningLink};
 use link::join_host;
 use rfb_wire::Joined;
-use serving::{HostLink, JoiningLink};
 use std::io;
 use std::io::ErrorKind;
 use std::net::{Net, SocketAddr, TcpStream, ToSocketAddrs};

@@ -9,10 +9,11 @@ ghost use Rattle.serve.specs.Ports.{AsksFor};
 
 use crate::bound::{Bound, Ports};
 use crate::trouble::{Stage, Trouble};
+use connections::{Desk, Lobby};
 use fault::Fault;
 use plan::{Plan, address_of, places_of};
 use roles::Role;
-use serving::{Desk, Event, Lobby, Log, Way};
+use run_traits::{Event, Log, Way};
 use std::alloc::Global;
 use std::net::{Net, TcpListener, TcpStream};
 use std::sync::Arc;

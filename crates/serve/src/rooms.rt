@@ -9,10 +9,11 @@ ghost use Rattle.serve.specs.Doors.{AreAsPlanned, AreBoth, HaveTheirRoles, IsFul
 
 use crate::open::Entry;
 use crate::trouble::{Stage, Trouble};
+use connections::{Everyone, Lobby, Seat, TcpDoor, WriterSeat, keep_door};
 use fault::Fault;
 use plan::{Plan, places_of};
 use roles::Role;
-use serving::{Everyone, HostCount, Lobby, Log, Seat, TcpDoor, WriterSeat, keep_door};
+use run_traits::{HostCount, Log};
 use std::alloc::Global;
 use std::io;
 use std::net::{Net, SocketAddr, TcpStream};

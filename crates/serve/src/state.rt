@@ -4,9 +4,9 @@ ghost use Rattle.std.specs.Prelude.{◌≡◌};
 ghost use Rattle.serve.specs.States.{IsHostReport, IsViewerReport, seconds_from};
 
 use crate::control::Reach;
+use connections::{Glance, Guest, HostCard};
 use run_control::Form;
 use run_state::{HostReport, Report, ViewerReport, state_json, state_text};
-use serving::{Glance, Guest, HostCard};
 use std::alloc::{AllocError, Global};
 use std::net::SocketAddr;
 use std::sync::Wait;

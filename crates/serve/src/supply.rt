@@ -9,11 +9,12 @@ use crate::meet::{Met, Missed, Reached, connect_by_text, join};
 use crate::quoted::Quoted;
 use crate::telling::Telling;
 use crate::trouble::Trouble;
+use connections::{Desk, HostCard, JoiningLink};
 use fault::Fault;
 use host_turns::Hosts;
 use plan::{Rested, Turns};
 use rfb_wire::Joined;
-use serving::{Desk, Event, HostCard, JoiningLink, Log, clock_millis};
+use run_traits::{Event, Log, clock_millis};
 use std::alloc::Global;
 use std::net::{Net, SocketAddr, TcpListener, TcpStream};
 use std::sync::{Arc, Wait};
@@ -301,7 +302,7 @@ impl<
     G: Log + Drop,
 > Hosts<JoiningLink<R>> for Supply<R, G> {
     ghost use Rattle.std.specs.Prelude.{◌≡◌, ◌⊎◌, ◌≤◌, ⊤, None, false};
-    ghost use Rattle.serving.specs.Wires.{joining_state};
+    ghost use Rattle.connections.specs.Wires.{joining_state};
 
     ghost came = { λ _. ⊤ };
 

@@ -1,8 +1,9 @@
 //! Rings, and waits that they end. A ring that is lost is seen after ten seconds, since the viewer's handshake is late
 //! by then.
 
+use connections::{Everyone, Seat, WriterSeat};
 use link::{Link, Rest, StopFlag, Took};
-use serving::{Alarm, Everyone, HostCount, Seat, Stop, WriterSeat};
+use run_traits::{Alarm, HostCount, Stop};
 use std::alloc::Global;
 use std::sync::atomic::{AtomicU64, Ordering};
 use std::sync::{Arc, Wait};

@@ -3,9 +3,10 @@
 ghost use Rattle.std.specs.Prelude.{◌≡◌};
 
 use crate::connections::sockets::{connect, listen, make_seat};
+use connections::{Desk, Gate, Lobby, TcpDoor, keep_door};
 use link::{Gave, Link, Took};
 use roles::Role;
-use serving::{Desk, Door, Gate, Lobby, NoLog, TcpDoor, keep_door};
+use run_traits::{Door, NoLog};
 use std::io::Read;
 use std::net::{TcpListener, TcpStream};
 use std::sync::{Arc, Wait};

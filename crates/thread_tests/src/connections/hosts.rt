@@ -1,8 +1,8 @@
 //! The two ends of the host's connection.
 
 use crate::connections::sockets::pair;
+use connections::HostLink;
 use link::{Gave, Link, Took};
-use serving::HostLink;
 use std::io;
 use std::io::{Read, Write};
 use std::net::TcpStream;

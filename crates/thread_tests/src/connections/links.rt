@@ -5,8 +5,8 @@ use crate::connections::sockets::{make_seat, pair};
 use crate::connections::viewers::{
     gives_a_long_answer, keeps_small_slices, passes_both_ways, sees_the_end, waits_for_a_viewer,
 };
+use connections::{Seat, ViewerTcpLink};
 use link::Link;
-use serving::{Seat, ViewerTcpLink};
 use std::alloc::Global;
 use std::io;
 use std::net::TcpStream;

@@ -4,8 +4,9 @@ ghost use Rattle.std.specs.Prelude.{◌≡◌, [], IfOk};
 
 use crate::connections::memory_socket::{MemorySocket, Turn};
 use crate::connections::sockets::make_seat;
+use connections::{HostLink, JoiningLink, ViewerTcpLink};
 use link::{Gave, Link, Took};
-use serving::{Alarm, HostLink, JoiningLink, Parting, ViewerTcpLink};
+use run_traits::{Alarm, Parting};
 use std::alloc::Global;
 use std::io;
 use std::io::ErrorKind;

@@ -2,7 +2,7 @@
 
 ghost use Rattle.std.specs.Prelude.{◌≡◌};
 
-use serving::{HostSocket, Socket};
+use connections::{HostSocket, Socket};
 use std::alloc::Global;
 use std::io;
 use std::io::ErrorKind;

@@ -3,10 +3,11 @@
 ghost use Rattle.std.specs.Prelude.{◌≡◌};
 
 use crate::connections::sockets::{connect, listen, make_seat};
+use connections::{Desk, Gate, Lobby, TcpDoor, keep_door};
 use link::{Gave, Link, Took};
 use roles::Role;
 use run_control::{Entry, Outcome, Request};
-use serving::{Desk, Door, Gate, Lobby, NoLog, TcpDoor, keep_door};
+use run_traits::{Door, NoLog};
 use std::io::Read;
 use std::sync::{Arc, Wait};
 use std::test::*;

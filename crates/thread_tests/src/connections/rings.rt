@@ -3,13 +3,14 @@
 ghost use Rattle.std.specs.Prelude.{◌≡◌, [], IfOk};
 ghost use Rattle.fault.specs.declared.kinds.Fault.TheVariants.{QueueFull};
 
+use connections::WriterSeat;
 use fault::Fault;
 use input_relay::{Sender, Taker, relay};
 use link::Rest;
 use painter::Patch;
 use reflect_core::{PlainScreen, Puts};
 use roles::{Input, InputSink};
-use serving::{Alarm, Ringing, WriterSeat};
+use run_traits::{Alarm, Ringing};
 use std::alloc::Global;
 use std::sync::atomic::{AtomicU64, Ordering};
 use std::sync::{Arc, Wait};

@@ -1,6 +1,6 @@
 //! Connections over loopback, and a seat.
 
-use serving::Seat;
+use connections::Seat;
 use std::alloc::Global;
 use std::io;
 use std::net::{Ipv4Addr, SocketAddr, TcpListener, TcpStream};

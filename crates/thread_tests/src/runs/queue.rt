@@ -7,7 +7,7 @@ use crate::runs::wire::Wire;
 use fault::Fault;
 use host_turns::Hosts;
 use rfb_wire::Joined;
-use serving::{Door, PlaceCount};
+use run_traits::{Door, PlaceCount};
 use std::alloc::Global;
 use std::sync::Arc;
 
@@ -26,7 +26,7 @@ pub(crate) struct Queue {
 
 impl Queue {
     ghost use Rattle.std.specs.Prelude.{◌≡◌, IfSome};
-    ghost use Rattle.serving.specs.Answers.{unused};
+    ghost use Rattle.run_traits.specs.Unused.{unused};
 
     /// A link to the next peer.
     fn wire(&mut self) -> Option<Wire>
@@ -101,7 +101,7 @@ impl Door for Queue {
 
 impl Hosts<Wire> for Queue {
     ghost use Rattle.std.specs.Prelude.{◌≡◌, ⊤, None};
-    ghost use Rattle.serving.specs.Answers.{unused};
+    ghost use Rattle.run_traits.specs.Unused.{unused};
 
     // It has done nothing.
     ghost came = { λ wire. wire ≡ unused };

@@ -1,7 +1,7 @@
 //! A link in memory whose peer may wait for others.
 
 ghost use Rattle.std.specs.Prelude.{◌≡◌};
-ghost use Rattle.serving.specs.Answers.{unused};
+ghost use Rattle.run_traits.specs.Unused.{unused};
 
 use crate::runs::peer::Peer;
 use fault::LIMIT;

@@ -1,0 +1,44 @@
+//! What `serve` waits with over TCP: seats, links and doors, and who is there.
+//!
+//! A place's thread waits in one `epoll` for its viewer's socket and for an alarm; the host's writer rests until it is
+//! rung. No contract says that a wait ends, that a ring wakes, or how long anything lasts. Memory: a viewer's link
+//! keeps up to 65,536 bytes. Handles: Wait where a call may wait, Net where a seat is made.
+#![tactic(auto)]
+
+mod account;
+mod caller;
+mod desk;
+mod everyone;
+mod gate;
+mod hello;
+mod host;
+mod joining;
+mod kept;
+mod lobby;
+mod noted;
+mod options;
+mod porter;
+mod refusal;
+mod refused;
+mod seat;
+mod socket;
+mod tcp;
+mod web;
+mod writer_seat;
+
+pub use caller::WebEntry;
+pub use desk::{Comer, Desk, Glance, Guest, HostCard, Totals};
+pub use everyone::Everyone;
+pub use gate::{Arrival, Gate};
+pub use host::HostLink;
+pub use joining::JoiningLink;
+pub use lobby::{Lobby, TcpDoor, ViewerLink, keep_door};
+pub use noted::{Closing, Gathering, Noted};
+pub use options::{outlast, outlast_host};
+pub use porter::{MOST_GUESTS, WebPorter};
+pub use refusal::{no_entry_bytes, no_host_bytes, refusal_bytes};
+pub use seat::Seat;
+pub use socket::{HostSocket, Socket};
+pub use tcp::ViewerTcpLink;
+pub use web::BrowserLink;
+pub use writer_seat::WriterSeat;

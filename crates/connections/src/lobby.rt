@@ -1,0 +1,415 @@
+//! Who comes in.
+
+ghost use Rattle.std.specs.Prelude.{◌≡◌, ◌<◌, IfOk, IsNone};
+ghost use Rattle.connections.specs.Doors.{role_behind};
+
+use crate::desk::{Comer, Desk};
+use crate::gate::{Arrival, Gate};
+use crate::refused::{Lack, Refused};
+use crate::seat::Seat;
+use crate::tcp::ViewerTcpLink;
+use crate::web::BrowserLink;
+use fault::Fault;
+use link::Link;
+use roles::Role;
+use run_control::Entry;
+use run_traits::{Door, Event, Log, Parting, PlaceCount, PlaceId, Visit, Way};
+use std::alloc::{AllocError, Global};
+use std::net::SocketAddr;
+use std::sync::{Arc, Condvar, Mutex, Wait};
+use std::time::{Clock, Duration};
+use std::{io, thread};
+use web_link::AnyLink;
+
+/// For how long nobody is let in after the system refused to, in milliseconds: it may have no descriptor left.
+const PAUSE_MILLIS: u64 = 100;
+
+#[derive(Drop)]
+struct Waiting {
+    arrivals: Vec<Arrival>,
+    // How many places have no viewer, and none on the way.
+    free: u64,
+    // How many places there are.
+    places: u64,
+    // Nobody is let in yet, since there is no host.
+    is_held: bool,
+    is_closed: bool,
+}
+
+/// What there isn't for one who comes, if there is something.
+fn lack(waiting: &Waiting, is_open: bool) -> Option<Lack>
+    ensures none { IsNone result → 0 < waiting.now.free }
+{
+    if !is_open {
+        Some(Lack::Entry)
+    } else if waiting.is_held {
+        Some(Lack::Host)
+    } else if waiting.free == 0 {
+        Some(Lack::Place)
+    } else {
+        None
+    }
+}
+
+/// What became of one who came.
+#[derive(Drop)]
+pub(crate) enum Entrance {
+    Placed,
+    Refused(Arrival, Lack),
+    Closed,
+}
+
+/// What the places of one role share: who came in, and how many places are free.
+#[derive(Drop)]
+pub struct Lobby {
+    role: Role,
+    // For how many seconds one of its viewers may take nothing.
+    stalled: u64,
+    desk: Arc<Desk, Global>,
+    waiting: Mutex<Waiting>,
+    came: Condvar,
+    freed: Condvar,
+}
+
+impl Lobby {
+    /// A lobby for the viewers of a role, whose places are all free, and who may take nothing for so many seconds. It
+    /// fails where memory is refused for the streams on their way.
+    pub fn new(
+        alloc: Global,
+        role: Role,
+        places: u64,
+        stalled: u64,
+        desk: Arc<Desk, Global>,
+    ) -> Result<Lobby, AllocError>
+        ensures { IfOk result (λ lobby. (lobby.role ≡ role) × (lobby.stalled ≡ stalled)) }
+    {
+        Ok(Lobby {
+            role,
+            stalled,
+            desk,
+            waiting: Mutex::new(Waiting {
+                arrivals: Vec::with_capacity(alloc, places as usize)?,
+                free: places,
+                places,
+                is_held: false,
+                is_closed: false,
+            }),
+            came: Condvar::new(),
+            freed: Condvar::new(),
+        })
+    }
+
+    /// The role of its viewers.
+    pub fn role(&self) -> Role
+        ensures { result ≡ self.now.role }
+    {
+        self.role
+    }
+
+    /// The doors of its places, among others.
+    pub fn desk(&self) -> &Arc<Desk, Global> {
+        &self.desk
+    }
+
+    /// From now on each viewer that comes is told that there is no host yet, or no longer is.
+    pub fn hold<R: Wait>(&self, rt: &R, is_held: bool) {
+        self.waiting.lock(rt).is_held = is_held;
+    }
+
+    /// No more viewers come: each door that waits here, or will, has no next one. Those on their way to a place are let
+    /// go.
+    pub fn close<R: Wait>(&self, rt: &R) {
+        let mut guard = self.waiting.lock(rt);
+        let waiting = &mut *guard;
+        waiting.is_closed = true;
+        let on_their_way = waiting.arrivals.len() as u64;
+        waiting.arrivals.clear();
+        waiting.free = waiting.free.saturating_add(on_their_way);
+        self.came.notify_all();
+        self.freed.notify_all();
+    }
+
+    /// Waits until no place has a viewer, but no longer than this.
+    pub fn await_empty<R: Wait + Clock>(&self, rt: &R, patience: Duration) {
+        let guard = self.waiting.lock(rt);
+        let (guard, _) = self.freed.wait_timeout_while(
+            rt,
+            guard,
+            patience,
+            |waiting| waiting.free < waiting.places,
+        );
+        drop(guard);
+    }
+
+    /// Hands one who came by a gate of its role to a place that is free, or becomes so in this time, or gives him back.
+    pub(crate) fn enter<R: Wait + Clock>(
+        &self,
+        rt: &R,
+        arrival: Arrival,
+        patience: Duration,
+    ) -> Entrance
+        requires { arrival.role ≡ self.now.role }
+    {
+        let is_open = self.desk.entry(rt) == Entry::Open;
+        let guard = self.waiting.lock(rt);
+        let (mut guard, _) = self
+            .freed
+            .wait_timeout_while(rt, guard, patience, |waiting| {
+                waiting.free == 0 && is_open && !waiting.is_closed && !waiting.is_held
+            });
+        let waiting = &mut *guard;
+        if waiting.is_closed {
+            return Entrance::Closed;
+        }
+        if let Some(lack) = lack(waiting, is_open) {
+            return Entrance::Refused(arrival, lack);
+        }
+        if waiting.arrivals.push(arrival).is_ok() {
+            waiting.free -= 1;
+            self.came.notify_one();
+        }
+        Entrance::Placed
+    }
+
+    /// One more place is free.
+    fn free<R: Wait>(&self, rt: &R) {
+        let mut guard = self.waiting.lock(rt);
+        guard.free = guard.free.saturating_add(1);
+        self.freed.notify_all();
+    }
+
+    /// Waits for a viewer, whoever came first. None where no more come.
+    fn next_arrival<R: Wait>(&self, rt: &R) -> Option<Arrival> {
+        let guard = self.waiting.lock(rt);
+        let mut guard = self.came.wait_while(rt, guard, |waiting| {
+            waiting.arrivals.is_empty() && !waiting.is_closed
+        });
+        let waiting = &mut *guard;
+        if waiting.is_closed || waiting.arrivals.is_empty() {
+            return None;
+        }
+        Some(waiting.arrivals.remove(0))
+    }
+
+    pub(crate) fn is_closed<R: Wait>(&self, rt: &R) -> bool {
+        self.waiting.lock(rt).is_closed
+    }
+}
+
+/// The door of one place: its viewers come from a lobby and have its role, it waits for them at a seat, and a log is
+/// told who comes and who leaves.
+#[derive(Drop)]
+pub struct TcpDoor<R: Wait + Clock + Drop, G: Log + Drop> {
+    rt: R,
+    alloc: Global,
+    lobby: Arc<Lobby, Global>,
+    seat: Arc<Seat, Global>,
+    // The number of the place.
+    place: u64,
+    log: G,
+    // A viewer was let in of whom the lobby hasn't been told that he is gone.
+    has_served: bool,
+    // Where he came from, if the system told, and how his bytes travel.
+    address: Option<SocketAddr>,
+    way: Way,
+}
+
+impl<R: Wait + Clock + Drop, G: Log + Drop> TcpDoor<R, G> {
+    /// The door of the place of this number, which has let nobody in.
+    pub fn new(
+        rt: R,
+        alloc: Global,
+        lobby: Arc<Lobby, Global>,
+        seat: Arc<Seat, Global>,
+        place: u64,
+        log: G,
+    ) -> TcpDoor<R, G>
+        ensures { (result.lobby ≡ lobby) × (result.place ≡ place) }
+    {
+        TcpDoor {
+            rt,
+            alloc,
+            lobby,
+            seat,
+            place,
+            log,
+            has_served: false,
+            address: None,
+            way: Way::Tcp,
+        }
+    }
+
+    /// The place is free again, if a viewer had it or was on the way to it.
+    fn vacate(&mut self)
+        ensures lobby { self.new.lobby ≡ self.old.lobby }
+        ensures place { self.new.place ≡ self.old.place }
+    {
+        if self.has_served {
+            self.lobby.desk.leave(&self.rt, self.place);
+            self.lobby.free(&self.rt);
+            self.has_served = false;
+        }
+    }
+
+    /// What a log is told of the place: its number, and the role of the lobby.
+    fn place_id(&self) -> PlaceId
+        ensures { (result.place ≡ self.now.place) × (result.role ≡ role_behind self.now) }
+    {
+        PlaceId {
+            place: self.place,
+            role: self.lobby.role(),
+        }
+    }
+}
+
+/// A viewer's link: over TCP as it is, or a browser's.
+pub type ViewerLink<R> = AnyLink<ViewerTcpLink<R>, BrowserLink<R>>;
+
+/// The connection below a viewer's link.
+fn connection_of<R: Wait + Clock + Drop>(viewer: &ViewerLink<R>) -> &ViewerTcpLink<R> {
+    match viewer {
+        AnyLink::Plain(link) => link,
+        AnyLink::Web(link) => link.connection(),
+    }
+}
+
+/// How a viewer's connection stands.
+fn parting_of<R: Wait + Clock + Drop>(viewer: &ViewerLink<R>) -> Parting {
+    match viewer {
+        AnyLink::Plain(link) => link.parting(),
+        AnyLink::Web(link) => link.parting(),
+    }
+}
+
+impl<R: Wait + Clock + Drop + Copy, G: Log + Drop> TcpDoor<R, G> {
+    ghost use Rattle.std.specs.Prelude.{◌≡◌, IfOk, IfSome};
+    ghost use Rattle.run_traits.specs.Unused.{unused};
+    ghost use Rattle.connections.specs.Browsers.{viewer_state};
+    ghost use Rattle.connections.specs.Doors.{role_behind};
+
+    /// The link of one who came by a gate of the door's role.
+    fn link(&self, arrival: Arrival) -> io::Result<ViewerLink<R>>
+        requires { arrival.role ≡ role_behind self.now }
+        ensures { IfOk result (λ link. viewer_state link ≡ unused) }
+    {
+        let way = arrival.way();
+        let link = ViewerTcpLink::new(
+            self.rt,
+            self.alloc,
+            arrival.into_stream(),
+            &self.seat,
+            self.lobby.stalled,
+        )?;
+        match way {
+            Way::Tcp => Ok(AnyLink::Plain(link)),
+            Way::Web => Ok(AnyLink::Web(BrowserLink::new(self.rt, self.alloc, link)?)),
+        }
+    }
+
+    /// Receives one who comes: his link, unless it can't be made, nobody is let in any more, or he came by another
+    /// role's gate. The lobby takes in no such one, but its lock can't keep that for the proof.
+    fn receive(&mut self, arrival: Arrival) -> Option<ViewerLink<R>>
+        ensures { IfSome result (λ link. viewer_state link ≡ unused) }
+    {
+        let place_id = self.place_id();
+        self.has_served = true;
+        self.address = arrival.address();
+        self.way = arrival.way();
+        if arrival.role() != place_id.role {
+            return None;
+        }
+        let comer = Comer {
+            place: place_id.place,
+            role: place_id.role,
+            address: self.address,
+            way: self.way,
+        };
+        if !self.lobby.desk.enter(&self.rt, comer, &self.seat) {
+            return None;
+        }
+        let link = self.link(arrival).ok()?;
+        self.log.tell(&Event::ViewerIn {
+            place_id,
+            address: self.address,
+            way: self.way,
+        });
+        Some(link)
+    }
+}
+
+impl<R: Wait + Clock + Drop + Copy + Send, G: Log + Drop + Send> Door for TcpDoor<R, G> {
+    ghost use Rattle.std.specs.Prelude.{◌≡◌, ⊤};
+    ghost use Rattle.connections.specs.Doors.{role_behind};
+
+    type Viewer = ViewerLink<R>;
+
+    ghost is_for = { λ door role. role ≡ role_behind door };
+
+    // No clause says who comes, or what becomes of who has left.
+    ghost lets_in = { λ _ _ _. ⊤ };
+
+    ghost sees_off = { λ _ _ _ _. ⊤ };
+
+    /// A viewer whose link can't be made is let go, and the next one waited for.
+    fn next(&mut self) -> Option<ViewerLink<R>> {
+        let rt = self.rt;
+        for _ in rt.forever() {
+            self.vacate();
+            let arrival = self.lobby.next_arrival(&rt)?;
+            if let Some(link) = self.receive(arrival) {
+                return Some(link);
+            }
+        }
+        unreachable!()
+    }
+
+    fn count(&self) -> &PlaceCount {
+        self.seat.count()
+    }
+
+    /// The connection is closed before the place is free.
+    fn left(&mut self, mut viewer: ViewerLink<R>, answers: u64, why: Result<(), Fault>) {
+        // A browser's close frame is answered.
+        viewer.flush();
+        let connection = connection_of(&viewer);
+        let visit = Visit {
+            why,
+            parting: parting_of(&viewer),
+            served: connection.age(),
+            answers,
+            bytes: connection.sent(),
+        };
+        drop(viewer);
+        let place_id = self.place_id();
+        self.log.tell(&Event::ViewerOut {
+            place_id,
+            address: self.address,
+            way: self.way,
+            visit,
+        });
+        self.vacate();
+    }
+}
+
+/// Lets viewers in while places are free and there is a host, and tells the others, and the log, why not. It ends with
+/// the first who comes once the lobby is closed.
+pub fn keep_door<R: Wait + Clock, G: Log>(rt: &R, gate: &Gate, lobby: &Lobby, log: &G)
+    requires { gate.now.role ≡ lobby.now.role }
+{
+    let mut refused = Refused::new();
+    for _ in rt.forever() {
+        let Ok(arrival) = gate.accept() else {
+            if lobby.is_closed(rt) {
+                break;
+            }
+            thread::sleep(rt, Duration::from_millis(PAUSE_MILLIS));
+            continue;
+        };
+        let patience = refused.patience(rt);
+        match lobby.enter(rt, arrival, patience) {
+            Entrance::Placed => {}
+            Entrance::Refused(arrival, lack) => refused.refuse(rt, arrival, lack, patience, log),
+            Entrance::Closed => break,
+        }
+    }
+}

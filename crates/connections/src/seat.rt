@@ -1,0 +1,105 @@
+//! Where the thread of a place waits.
+use mio::net::TcpStream;
+use mio::{Events, Interest, Poll, Token, Waker};
+use run_traits::{Alarm, PlaceCount};
+use std::alloc::Global;
+use std::io;
+use std::net::Net;
+use std::sync::atomic::{AtomicBool, Ordering};
+use std::sync::{Mutex, Wait};
+use std::time::Duration;
+
+const ALARM: Token = Token(0);
+
+const SOCKET: Token = Token(1);
+
+#[derive(Drop)]
+struct Ears {
+    poll: Poll,
+    events: Events,
+}
+
+/// Where the thread of a place waits for its viewer's socket and for the alarm, both at once. The place's thread alone
+/// locks the ears, so it never waits for the lock.
+///
+/// `rung` is set from a ring until the thread answers, and while it is set a ring costs one exchange. The thread
+/// answers before it looks for news, so a ring that comes too late for an answer comes early enough for the look.
+#[derive(Drop)]
+pub struct Seat {
+    rung: AtomicBool,
+    /// Its viewer is to leave.
+    is_dismissed: AtomicBool,
+    count: PlaceCount,
+    waker: Waker,
+    ears: Mutex<Ears>,
+}
+
+impl Seat {
+    pub fn new(net: &impl Net, alloc: Global) -> io::Result<Seat> {
+        let poll = Poll::new(net)?;
+        let events = Events::with_capacity(alloc, 4)?;
+        let waker = Waker::new(poll.registry(), ALARM)?;
+        Ok(Seat {
+            rung: AtomicBool::new(false),
+            is_dismissed: AtomicBool::new(false),
+            count: PlaceCount::new(),
+            waker,
+            ears: Mutex::new(Ears { poll, events }),
+        })
+    }
+
+    /// Whether it was rung since the last answer.
+    pub fn answer(&self) -> bool {
+        self.rung.swap(false, Ordering::SeqCst)
+    }
+
+    /// From now on a wait ends at this socket too, until it is dropped.
+    pub fn hear<R: Wait>(&self, rt: &R, socket: &mut TcpStream) -> io::Result<()> {
+        let guard = self.ears.lock(rt);
+        let both = Interest::READABLE | Interest::WRITABLE;
+        guard.poll.registry().register(socket, SOCKET, both)
+    }
+
+    /// The viewer of the place is to leave: its link ends.
+    pub(crate) fn dismiss(&self) {
+        self.is_dismissed.store(true, Ordering::SeqCst);
+        self.rouse();
+    }
+
+    /// Whether the viewer of the place is to leave.
+    pub(crate) fn is_dismissed(&self) -> bool {
+        self.is_dismissed.load(Ordering::SeqCst)
+    }
+
+    /// What is counted of the viewer of the place.
+    pub fn count(&self) -> &PlaceCount {
+        &self.count
+    }
+
+    /// The place has another viewer, of which nothing was counted.
+    pub(crate) fn welcome(&self) {
+        self.is_dismissed.store(false, Ordering::SeqCst);
+        self.count.begin();
+    }
+
+    /// Waits for the alarm, or for the socket to become readable or writable, at most so long. It may end for no
+    /// reason.
+    pub fn wait<R: Wait>(&self, rt: &R, most: Option<Duration>) -> io::Result<()> {
+        let mut guard = self.ears.lock(rt);
+        let Ears { poll, events } = &mut *guard;
+        poll.poll(events, most)
+    }
+}
+
+impl Alarm for Seat {
+    fn ring(&self) {
+        if !self.rung.swap(true, Ordering::SeqCst) {
+            self.rouse();
+        }
+    }
+
+    fn rouse(&self) {
+        // Where it fails there is nothing else to try.
+        let _ = self.waker.wake();
+    }
+}

@@ -1,0 +1,149 @@
+//! A browser's link.
+
+ghost use Rattle.std.specs.Prelude.{◌≡◌};
+
+use crate::hello::{HELLO_LEN, Patience, longest_wait};
+use crate::tcp::ViewerTcpLink;
+use link::{Gave, Link, Took};
+use run_traits::Parting;
+use std::alloc::Global;
+use std::io;
+use std::marker::Model;
+use std::sync::Wait;
+use std::time::{Clock, Duration, Instant};
+use web_link::{GatheringLink, WebLink};
+
+/// After this many seconds without a byte given a browser is sent a ping, so that no proxy takes the connection for
+/// dead.
+const SILENCE_SECONDS: u64 = 30;
+
+/// A browser's connection: the bytes of binary messages over a `ViewerTcpLink`, which go out as large as they can be.
+/// It takes as that does, but the time for its hello counts the bytes of messages alone: neither headers nor pings are
+/// a part of it. Where it is woken after a long silence it says a ping; who wakes it is the porter.
+#[derive(Drop)]
+pub struct BrowserLink<R: Wait + Clock + Drop> {
+    rt: R,
+    link: GatheringLink<WebLink<ViewerTcpLink<R>>>,
+    // This many bytes of the hello are missing, and whether some were when its time was over.
+    missing: usize,
+    is_late: bool,
+    // When a byte was given or a ping said last, and whether a byte was given since then.
+    said: Instant,
+    has_given: bool,
+}
+
+impl<R: Wait + Clock + Drop> Model for BrowserLink<R> {
+    ghost use Rattle.std.specs.Prelude.{◌≡◌, ◌-◌, length};
+    ghost use Rattle.connections.specs.Hello.{hello_len};
+    ghost use Rattle.web_link.specs.Gathering.{Gathered};
+
+    ghost Value = { Gathered };
+
+    ghost view = { λ b. b.link };
+
+    // What is missing of the hello are the bytes that weren't taken from messages.
+    ghost invariant = { λ b. b.missing ≡ hello_len - length b.link.own.taken };
+}
+
+impl<R: Wait + Clock + Drop> BrowserLink<R> {
+    ghost use Rattle.std.specs.Prelude.{◌≡◌, ◌-◌, IfOk, length};
+    ghost use Rattle.std.specs.Duration.{as_nanos};
+    ghost use Rattle.link.specs.Links.{with_failure};
+    ghost use Rattle.run_traits.specs.Unused.{unused};
+    ghost use Rattle.connections.specs.Hello.{IsPatience, hello_len};
+
+    /// Over a link that has taken and given nothing. It fails where memory is refused, or the clock by the system.
+    pub fn new(rt: R, alloc: Global, below: ViewerTcpLink<R>) -> io::Result<BrowserLink<R>>
+        requires { below.own ≡ unused }
+        ensures { IfOk result (λ link. link.own ≡ unused) }
+    {
+        let said = Instant::now(&rt)?;
+        let link = GatheringLink::new(alloc, WebLink::new(below))?;
+        Ok(BrowserLink {
+            rt,
+            link,
+            missing: HELLO_LEN,
+            is_late: false,
+            said,
+            has_given: false,
+        })
+    }
+
+    /// The connection below.
+    pub fn connection(&self) -> &ViewerTcpLink<R> {
+        self.link.below().below()
+    }
+
+    /// How the connection stands. No clause says so.
+    pub fn parting(&self) -> Parting {
+        if self.is_late {
+            Parting::Late
+        } else {
+            self.connection().parting()
+        }
+    }
+
+    /// How long a wait for it may last, this long after it came.
+    fn patience(&self, passed: Duration) -> Patience
+        ensures { IsPatience result (hello_len - length self.now.own.taken) (as_nanos passed) }
+    {
+        longest_wait(self.missing, passed)
+    }
+
+    /// It is given up, since its hello is late.
+    fn give_up(&mut self)
+        ensures { self.new ≡ record self.old { own = with_failure self.old.own } }
+    {
+        self.is_late = true;
+        self.link.fail();
+    }
+
+    /// Says a ping after a long silence. A clock that can't be read says none.
+    fn keep_alive(&mut self)
+        ensures { self.new ≡ self.old }
+    {
+        let Ok(now) = Instant::now(&self.rt) else {
+            return;
+        };
+        if self.has_given {
+            self.has_given = false;
+            self.said = now;
+            return;
+        }
+        let silent = now.checked_duration_since(self.said);
+        if silent.is_some_and(|silent| silent >= Duration::from_secs(SILENCE_SECONDS)) {
+            self.said = now;
+            self.link.ping();
+        }
+    }
+}
+
+impl<R: Wait + Clock + Drop> Link for BrowserLink<R> {
+    ghost state = { λ b. b.own };
+
+    fn take(&mut self, into: &mut [u8]) -> Took {
+        self.keep_alive();
+        if let Patience::Over = self.patience(self.connection().age()) {
+            self.give_up();
+            return Took::Failed;
+        }
+        let took = self.link.take(into);
+        if let Took::Bytes(count) = took {
+            self.missing = self.missing.saturating_sub(count);
+        }
+        took
+    }
+
+    fn give(&mut self, bytes: &[u8]) -> Gave {
+        self.has_given = true;
+        self.link.give(bytes)
+    }
+
+    fn flush(&mut self) {
+        self.link.flush();
+    }
+
+    fn failures(&self) -> u64 {
+        self.link.failures()
+    }
+}

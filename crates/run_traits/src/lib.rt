@@ -1,0 +1,19 @@
+//! By what a run meets the system around it: who wakes its threads, where its viewers come from, who is told what happens,
+//! and what is counted meanwhile.
+//!
+//! No contract says that a ring wakes, or how long anything lasts. Memory: none. Handles: Wait where a call may wait.
+#![tactic(auto)]
+
+mod alarm;
+mod count;
+mod door;
+mod event;
+mod ringing;
+mod stop;
+
+pub use alarm::{Alarm, NoAlarm};
+pub use count::{HostCount, PlaceCount, clock_millis};
+pub use door::Door;
+pub use event::{Event, Log, NoLog, Parting, PlaceId, Visit, Way};
+pub use ringing::Ringing;
+pub use stop::Stop;
