@@ -4,12 +4,12 @@ ghost use Rattle.std.specs.Prelude.{◌≡◌};
 ghost use Rattle.std.specs.IoError.{error_kind};
 ghost use Rattle.connections.specs.Answers.{gave_for, is_passing, took_for};
 
+use byte_record::Record;
 use fault::LIMIT;
 use link::{Gave, Took};
 use std::io;
 use std::io::ErrorKind;
 use std::marker::Model;
-use told::Record;
 
 /// Whether nothing could be done now, and may be later. A peer that the system has given up, `TimedOut`, is none of
 /// these.

@@ -128,7 +128,7 @@ impl Caller {
     }
 
     /// Writes once of what is to be told. Who has taken all of it, or a part, isn't late yet.
-    fn tell<R: Clock>(&mut self, rt: &R) -> io::Result<()> {
+    fn write<R: Clock>(&mut self, rt: &R) -> io::Result<()> {
         let count = self.guest.write_to(&mut self.arrival.stream())?;
         self.taken = self.taken.saturating_add(count);
         if self.taken >= PART || !self.guest.wants_write() {
@@ -142,7 +142,7 @@ impl Caller {
     fn step<R: Clock>(&mut self, rt: &R) -> io::Result<bool> {
         let mut stream = self.arrival.stream();
         if self.guest.wants_write() {
-            self.tell(rt)?;
+            self.write(rt)?;
         } else if self.guest.wants_read() {
             self.guest.read_from(&mut stream)?;
         } else {

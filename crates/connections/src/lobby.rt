@@ -328,7 +328,7 @@ impl<R: Wait + Clock + Drop + Copy, G: Log + Drop> TcpDoor<R, G> {
             return None;
         }
         let link = self.link(arrival).ok()?;
-        self.log.tell(&Event::ViewerIn {
+        self.log.note(&Event::ViewerIn {
             place_id,
             address: self.address,
             way: self.way,
@@ -381,7 +381,7 @@ impl<R: Wait + Clock + Drop + Copy + Send, G: Log + Drop + Send> Door for TcpDoo
         };
         drop(viewer);
         let place_id = self.place_id();
-        self.log.tell(&Event::ViewerOut {
+        self.log.note(&Event::ViewerOut {
             place_id,
             address: self.address,
             way: self.way,

@@ -5,11 +5,11 @@ ghost use Rattle.std.specs.Io.{WritesAtMost};
 ghost use Rattle.std.specs.Io.KnownBytes.{WriteAppends};
 
 use crate::socket::{HostSocket, Socket};
+use byte_record::Record;
 use std::io;
 use std::io::{ErrorKind, IoSlice, Read, Write};
 use std::net::{Shutdown, TcpStream};
 use std::time::Duration;
-use told::Record;
 
 /// A stream that writes two slices at once.
 pub trait Gathering: Read + Write + Drop {

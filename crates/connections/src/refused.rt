@@ -55,22 +55,22 @@ fn say(refused: &Arrival, bytes: &[u8])
 }
 
 /// Tells one who isn't let in, and the log, why.
-fn tell<G: Log>(refused: &Arrival, lack: Lack, log: &G) {
+fn note_refusal<G: Log>(refused: &Arrival, lack: Lack, log: &G) {
     let role = refused.role();
     let address = refused.address();
     let way = refused.way();
     match lack {
         Lack::Place => {
             say(refused, &refusal_bytes());
-            log.tell(&Event::PlacesTaken { role, address, way });
+            log.note(&Event::PlacesTaken { role, address, way });
         }
         Lack::Host => {
             say(refused, &no_host_bytes());
-            log.tell(&Event::NoHost { role, address, way });
+            log.note(&Event::NoHost { role, address, way });
         }
         Lack::Entry => {
             say(refused, &no_entry_bytes());
-            log.tell(&Event::NoEntry { role, address, way });
+            log.note(&Event::NoEntry { role, address, way });
         }
     }
 }
@@ -108,7 +108,7 @@ impl Refused {
         if lack == Lack::Place && !patience.is_zero() {
             self.in_vain = Instant::now(rt).ok();
         }
-        tell(&refused, lack, log);
+        note_refusal(&refused, lack, log);
         self.last = Some(refused);
     }
 }

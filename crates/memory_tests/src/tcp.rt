@@ -41,7 +41,7 @@ impl<R: Wait + Drop> Keeper<R> {
 }
 
 impl<R: Wait + Drop> Log for Keeper<R> {
-    fn tell(&self, event: &Event<'_>) {
+    fn note(&self, event: &Event<'_>) {
         let mut hoard = self.hoard.lock(&self.rt);
         match event {
             Event::ViewerIn { .. } => {

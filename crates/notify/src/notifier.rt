@@ -45,7 +45,7 @@ impl Notifier {
     }
 
     /// Tells a notice in one datagram, without a wait. It fails where nobody hears, or there is no room.
-    pub fn tell(&self, notice: &str) -> io::Result<()> {
+    pub fn send(&self, notice: &str) -> io::Result<()> {
         let flags = c::MSG_NOSIGNAL | c::MSG_DONTWAIT;
         let fd = self.socket.as_raw_fd();
         let sent = unsafe { c::sendto(fd, notice.as_bytes(), flags, &self.address, self.len) };

@@ -40,7 +40,7 @@ fn a_notice_is_heard_in_one_datagram(rt: HostRuntime) -> Result<(), Fail> {
     let systemd = unsafe { OwnedFd::from_raw_fd(fd) };
     assert_eq!(rt; unsafe { c::bind(systemd.as_raw_fd(), &raw, len) }, 0);
     let notifier = Notifier::new(&rt, text.as_str())?;
-    notifier.tell("READY=1\nSTATUS=no host; 0 of 8 viewers\n")?;
+    notifier.send("READY=1\nSTATUS=no host; 0 of 8 viewers\n")?;
     let mut heard = [0u8; 64];
     let count = unsafe { c::recv(systemd.as_raw_fd(), &mut heard, 0) };
     let heard = heard.get(..usize::try_from(count).unwrap_or(0));
@@ -49,6 +49,6 @@ fn a_notice_is_heard_in_one_datagram(rt: HostRuntime) -> Result<(), Fail> {
         Some(b"READY=1\nSTATUS=no host; 0 of 8 viewers\n".as_slice())
     );
     drop(systemd);
-    assert!(rt; notifier.tell("STATUS=no host; 0 of 8 viewers\n").is_err());
+    assert!(rt; notifier.send("STATUS=no host; 0 of 8 viewers\n").is_err());
     Ok(())
 }

@@ -10,7 +10,7 @@ pub(crate) struct Counted<'a> {
 }
 
 impl Progress for Counted<'_> {
-    fn tell(&self, answers: u64, shown: u64) {
+    fn count(&self, answers: u64, shown: u64) {
         self.count.note_answer(answers, shown);
     }
 }

@@ -123,7 +123,7 @@ pub enum Event<'a> {
 /// Who is told what happens. No clause says what becomes of it.
 pub trait Log {
     /// This has happened.
-    fn tell(&self, event: &Event<'_>);
+    fn note(&self, event: &Event<'_>);
 }
 
 /// A log that nobody keeps.
@@ -131,11 +131,11 @@ pub trait Log {
 pub struct NoLog;
 
 impl Log for NoLog {
-    fn tell(&self, _event: &Event<'_>) {}
+    fn note(&self, _event: &Event<'_>) {}
 }
 
 impl<G: Log> Log for Arc<G, Global> {
-    fn tell(&self, event: &Event<'_>) {
-        (**self).tell(event);
+    fn note(&self, event: &Event<'_>) {
+        (**self).note(event);
     }
 }

@@ -85,7 +85,7 @@ impl<J: Naming> Eye<J> {
         ensures mine { Begins self.old self.new }
         ensures told { Begins writer.now self.new }
     {
-        self.learn(&writer.tell());
+        self.learn(&writer.news());
     }
 
     /// The same with the first `number` updates of a beginning of the history.

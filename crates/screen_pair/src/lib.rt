@@ -21,7 +21,7 @@ pub use eye::Eye;
 pub use news::PairNews;
 pub use published::Published;
 pub use publishes::Publishes;
-pub use publishing::{opened, publish, tell};
+pub use publishing::{news_of, opened, publish};
 pub use spares::Spares;
 pub use stamped::Stamped;
 pub use writer::PairWriter;

@@ -14,10 +14,10 @@ use tally_word::{Naming, Publicity};
 /// no others, since this call alone says it of any.
 pub trait Publishes: Publicity {
     /// What this pair has published is published. Nothing is done.
-    fn told_by<J: Naming, R: Wait + Drop>(handle: &WriteHandle<Published<J>, Stamped<J>, R>)
+    fn known_by<J: Naming, R: Wait + Drop>(handle: &WriteHandle<Published<J>, Stamped<J>, R>)
         ensures { Self.published (puts_of (published handle.now)) };
 }
 
 impl Publishes for Brand {
-    fn told_by<J: Naming, R: Wait + Drop>(_handle: &WriteHandle<Published<J>, Stamped<J>, R>) {}
+    fn known_by<J: Naming, R: Wait + Drop>(_handle: &WriteHandle<Published<J>, Stamped<J>, R>) {}
 }

@@ -62,14 +62,14 @@ pub fn publish<J: Naming, R: Wait + Drop>(
 }
 
 /// News of what is published.
-pub fn tell<J: Naming + Publishes, R: Wait + Drop>(
+pub fn news_of<J: Naming + Publishes, R: Wait + Drop>(
     handle: &WriteHandle<Published<J>, Stamped<J>, R>,
 ) -> PairNews<J>
     ensures news { result ≡ puts_of (published handle.now) }
     ensures published { J.published result }
     ensures few { length result ≤ 2 ^ 62 }
 {
-    J::told_by(handle);
+    J::known_by(handle);
     let copy = handle.published();
     PairNews {
         front: copy.front(),

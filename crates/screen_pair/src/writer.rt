@@ -10,7 +10,7 @@ ghost use Rattle.tally_word.specs.History.{puts_of};
 use crate::news::PairNews;
 use crate::published::Published;
 use crate::publishes::Publishes;
-use crate::publishing::{publish, tell};
+use crate::publishing::{news_of, publish};
 use crate::spares::Spares;
 use crate::stamped::Stamped;
 use fault::{Fault, LIMIT};
@@ -89,12 +89,12 @@ impl<J: Naming, R: Wait + Drop> PairWriter<J, R> {
     }
 
     /// News of what is published.
-    pub fn tell(&self) -> PairNews<J>
+    pub fn news(&self) -> PairNews<J>
     where
         J: Publishes,
         ensures { result ≡ self.now }
     {
-        tell(&self.handle)
+        news_of(&self.handle)
     }
 
     /// Ends the publisher: no copy can be entered from now on. It may wait for an eye that is inside one.
@@ -122,7 +122,7 @@ impl<J: Naming + Publishes, R: Wait + Drop> Puts for PairWriter<J, R> {
             return Err((Fault::NumbersOut, patch));
         }
         let front = copy.front();
-        J::told_by(&self.handle);
+        J::known_by(&self.handle);
         // An update that was refused its publish stays the last of the history.
         if !catch_up(&mut self.raiser, &front, number) {
             return Err((Fault::Memory, patch));

@@ -1,6 +1,7 @@
 //! The log: a line an event, on standard error.
 
 use crate::quoted::Quoted;
+use byte_record::Record;
 use fault::Fault;
 use jiff::Timestamp;
 use notify::standard_error_has_room;
@@ -14,7 +15,6 @@ use std::io::ErrorKind;
 use std::net::SocketAddr;
 use std::sync::{Arc, Mutex, Wait};
 use std::time::Clock;
-use told::Record;
 
 /// Standard error, of which clauses know what was written to it.
 #[derive(Drop)]
@@ -93,7 +93,7 @@ fn gravity_of(event: &Event<'_>) -> Gravity {
 }
 
 impl<R: Eprint + Clock + Wait + Drop> Log for Journal<R> {
-    fn tell(&self, event: &Event<'_>) {
+    fn note(&self, event: &Event<'_>) {
         if !self.is_kept {
             return;
         }

@@ -18,6 +18,7 @@ mod journal;
 mod lifeline;
 mod meet;
 mod metrics;
+mod noted_tries;
 mod open;
 mod origins;
 mod quoted;
@@ -29,7 +30,6 @@ mod start;
 mod state;
 mod supply;
 mod surroundings;
-mod telling;
 mod trouble;
 mod web;
 

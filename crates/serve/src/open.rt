@@ -63,7 +63,7 @@ pub(crate) fn open<'a, R: Net<Stream = TcpStream, Listener = TcpListener>, G: Lo
     let Ok(lobby) = Arc::new(alloc, lobby) else {
         return Err(Trouble::new(Stage::Start, Fault::Memory));
     };
-    log.tell(&Event::Listening {
+    log.note(&Event::Listening {
         role,
         address,
         places,

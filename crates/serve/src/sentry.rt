@@ -85,7 +85,7 @@ impl Standing {
             places: self.places,
         };
         if let Ok(text) = notice_text(alloc, &notice) {
-            let told = notifier.tell(text.as_str());
+            let told = notifier.send(text.as_str());
             self.is_ready = self.is_ready || (is_news && told.is_ok());
         }
     }
@@ -141,8 +141,8 @@ impl<R: Eprint + Clock + Wait + Drop> Sentry<R> {
 }
 
 impl<R: Eprint + Clock + Wait + Drop> Log for Sentry<R> {
-    fn tell(&self, event: &Event<'_>) {
-        self.journal.tell(event);
+    fn note(&self, event: &Event<'_>) {
+        self.journal.note(event);
         self.standing.lock(&self.rt).note(self.alloc, event);
     }
 }

@@ -6,8 +6,8 @@ ghost use Rattle.serve.specs.Stops.{IsOut};
 
 use crate::lifeline::{Cut, Lifeline, Recall};
 use crate::meet::{Met, Missed, Reached, connect_by_text, join};
+use crate::noted_tries::NotedTries;
 use crate::quoted::Quoted;
-use crate::telling::Telling;
 use crate::trouble::Trouble;
 use connections::{Desk, HostCard, JoiningLink};
 use fault::Fault;
@@ -21,7 +21,7 @@ use std::sync::{Arc, Wait};
 use std::time::Clock;
 
 /// The hosts over TCP, in their order. One that can't be reached is passed over. The log is told of the tries of a
-/// round as `Telling` says.
+/// round as `NotedTries` says.
 #[derive(Drop)]
 pub(crate) struct Supply<
     R: Net<Stream = TcpStream, Listener = TcpListener> + Wait + Clock + Copy + Drop,
@@ -35,7 +35,7 @@ pub(crate) struct Supply<
     /// The texts that say where the hosts are, by their numbers.
     texts: Vec<String>,
     turns: Turns,
-    telling: Telling,
+    noted_tries: NotedTries,
     /// Where the host whose turn it is was reached, if it was.
     present: Option<SocketAddr>,
     /// Whether that host was joined.
@@ -76,7 +76,7 @@ impl<
             desk,
             texts,
             turns: Turns::new(further, again),
-            telling: Telling::new(),
+            noted_tries: NotedTries::new(),
             present: None,
             is_joined: false,
             lifeline,
@@ -134,7 +134,7 @@ impl<
                 Ok(met)
             }
             Err(trouble) => {
-                self.tell_out(Err(trouble.fault));
+                self.note_out(Err(trouble.fault));
                 Err(trouble)
             }
         }
@@ -189,8 +189,8 @@ impl<
                 Some(missed.error.kind())
             }
         };
-        if self.telling.is_told() {
-            self.log.tell(&Event::HostTried {
+        if self.noted_tries.is_noted() {
+            self.log.note(&Event::HostTried {
                 host,
                 address: self.present,
                 refused,
@@ -199,7 +199,7 @@ impl<
         match tried {
             Ok(reached) => Ok(self.take_up(reached)),
             Err(missed) => {
-                self.telling.fail(&self.rt);
+                self.noted_tries.fail(&self.rt);
                 Err(missed)
             }
         }
@@ -207,7 +207,7 @@ impl<
 
     /// Tells the desk that a host is joined, and has it counted when bytes come over this link. Where memory is refused
     /// for its name it is told without one.
-    fn tell_joined(&self, reader: &mut JoiningLink<R>, host: &Joined)
+    fn note_joined(&self, reader: &mut JoiningLink<R>, host: &Joined)
         ensures { reader.new ≡ reader.old }
     {
         let name = Quoted {
@@ -234,7 +234,7 @@ impl<
     }
 
     /// Tells the log why a host was left, unless it is one that wasn't joined in a round that isn't told.
-    fn tell_out(&mut self, why: Result<(), Fault>)
+    fn note_out(&mut self, why: Result<(), Fault>)
         ensures turns { self.new.turns ≡ self.old.turns }
         ensures texts { self.new.texts ≡ self.old.texts }
         ensures lifeline { self.new.lifeline ≡ self.old.lifeline }
@@ -244,10 +244,10 @@ impl<
         }
         self.desk.host_left(&self.rt);
         if !self.is_joined {
-            self.telling.fail(&self.rt);
+            self.noted_tries.fail(&self.rt);
         }
-        if self.is_joined || self.telling.is_told() {
-            self.log.tell(&Event::HostOut {
+        if self.is_joined || self.noted_tries.is_noted() {
+            self.log.note(&Event::HostOut {
                 address: self.present,
                 why,
             });
@@ -292,7 +292,7 @@ impl<
         }
         let seconds = self.turns.again()?;
         let rested = self.pause(seconds)?;
-        self.telling.begin(&self.rt);
+        self.noted_tries.begin(&self.rt);
         Some(self.turns.begin_anew(rested))
     }
 }
@@ -340,9 +340,9 @@ impl<
             reader.close();
         }
         self.is_joined = true;
-        self.telling = Telling::new();
-        self.tell_joined(reader, host);
-        self.log.tell(&Event::HostJoined {
+        self.noted_tries = NotedTries::new();
+        self.note_joined(reader, host);
+        self.log.note(&Event::HostJoined {
             address: self.present,
             name: host.name.as_slice(),
             width: host.w,
@@ -352,6 +352,6 @@ impl<
 
     fn left(&mut self, reader: &mut JoiningLink<R>, why: Result<(), Fault>) {
         reader.close();
-        self.tell_out(why);
+        self.note_out(why);
     }
 }

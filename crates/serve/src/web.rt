@@ -127,7 +127,7 @@ fn open_web<R: Net<Stream = TcpStream, Listener = TcpListener>, G: Log>(
     match WebEntry::new(bound.into_gate(), site, lobby) {
         Ok(web) => {
             let places = places_of(plan, role);
-            log.tell(&Event::Listening {
+            log.note(&Event::Listening {
                 role,
                 address,
                 places,

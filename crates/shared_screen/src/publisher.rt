@@ -10,7 +10,7 @@ use fault::{Fault, LIMIT};
 use left_right::{Absorb, WriteHandle};
 use painter::Patch;
 use reflect_core::Puts;
-use screen_pair::{Published, Publishes, Spares, Stamped, publish, tell};
+use screen_pair::{Published, Publishes, Spares, Stamped, news_of, publish};
 use std::marker::Model;
 use std::sync::Wait;
 use tally_word::{Change, HistoryFront, Naming, Raiser};
@@ -64,14 +64,14 @@ impl<J: Naming, R: Wait + Drop> Publisher<J, R> {
     }
 
     /// News of all that was put; the tally is raised to it.
-    pub fn tell(&self) -> News<J>
+    pub fn news(&self) -> News<J>
     where
         J: Publishes,
         ensures { result ≡ record { updates = puts_of self.now; tally = length (puts_of self.now) } }
     {
         News {
-            pair: tell(&self.handle),
-            tally: self.front.tell(),
+            pair: news_of(&self.handle),
+            tally: self.front.news(),
         }
     }
 
@@ -96,7 +96,7 @@ impl<J: Naming + Publishes, R: Wait + Drop> Puts for Publisher<J, R> {
         ensures ok { IfOk result (λ n. (length (puts_of self.old) < 2 ^ 62) × (puts_of self.new ≡ puts_of self.old ++ patch.update ∷ []) × (n ≡ length (puts_of self.new))) }
         ensures err { IfErr result (λ refused. IsPutRefusal (length (puts_of self.old)) refused.0 × (refused.1 ≡ patch) × (self.new ≡ self.old)) }
     {
-        let number = tell(&self.handle).number();
+        let number = news_of(&self.handle).number();
         if number >= LIMIT {
             return Err((Fault::NumbersOut, patch));
         }
@@ -116,7 +116,7 @@ impl<J: Naming + Publishes, R: Wait + Drop> Puts for Publisher<J, R> {
         if let Err(_) = publish(&mut self.handle, next) {
             return Err((Fault::Memory, patch));
         }
-        J::told_by(&self.handle);
+        J::known_by(&self.handle);
         self.raiser.raise(number + 1);
         self.front = self.raiser.front();
         Ok(number + 1)

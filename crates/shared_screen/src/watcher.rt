@@ -86,7 +86,7 @@ impl<J: Naming> Watcher<J> {
         ensures rises { (self.old.tally ≤ self.new.tally) × (length (puts_of publisher.now) ≤ self.new.tally) }
         ensures history { Reaches self.old [] self.new }
     {
-        self.learn(&publisher.tell());
+        self.learn(&publisher.news());
     }
 }
 

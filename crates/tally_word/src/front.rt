@@ -67,7 +67,7 @@ impl<J: Naming> HistoryFront<J> {
     }
 
     /// News of what is known.
-    pub fn tell(&self) -> TallyNews<J>
+    pub fn news(&self) -> TallyNews<J>
         ensures { result ≡ self.now }
     {
         TallyNews {

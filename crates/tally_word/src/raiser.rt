@@ -95,9 +95,9 @@ impl<J: Naming> Raiser<J> {
     }
 
     /// News of what it knows.
-    pub fn tell(&self) -> TallyNews<J>
+    pub fn news(&self) -> TallyNews<J>
         ensures { result ≡ self.now }
     {
-        self.author.front().tell()
+        self.author.front().news()
     }
 }

@@ -3,7 +3,7 @@
 /// Who is told how far a viewer is. No clause says what becomes of it.
 pub trait Progress {
     /// So many updates were begun for the viewer by now, and its screen was looked at last after so many of the source.
-    fn tell(&self, answers: u64, shown: u64);
+    fn count(&self, answers: u64, shown: u64);
 }
 
 /// Nobody is told.
@@ -11,5 +11,5 @@ pub trait Progress {
 pub struct NoProgress;
 
 impl Progress for NoProgress {
-    fn tell(&self, _answers: u64, _shown: u64) {}
+    fn count(&self, _answers: u64, _shown: u64) {}
 }

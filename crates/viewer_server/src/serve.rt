@@ -33,7 +33,7 @@ fn offer<S: ScreenSource, P: Progress>(
         return Ok(false);
     }
     session.turn(source)?;
-    progress.tell(session.answers(), session.shown());
+    progress.count(session.answers(), session.shown());
     Ok(true)
 }
 

@@ -2,11 +2,11 @@
 
 use crate::kept::Kept;
 use crate::web::WebLink;
+use byte_record::Record;
 use fault::LIMIT;
 use link::{Gave, Link, Took};
 use std::alloc::{AllocError, Global};
 use std::marker::Model;
-use told::Record;
 
 /// How the link below was lost while kept bytes were given to it.
 #[derive(Clone, Copy)]

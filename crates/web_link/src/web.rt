@@ -3,10 +3,10 @@
 use crate::code::{NORMAL, code_of};
 use crate::saying::Saying;
 use crate::unsent::Unsent;
+use byte_record::Record;
 use fault::LIMIT;
 use link::{Gave, Link, Took};
 use std::marker::Model;
-use told::Record;
 use web_frames::{FrameReader, Place, binary_head, control_frame};
 use websocket::protocol::frame::coding::Control;
 

@@ -4,10 +4,10 @@ ghost use Rattle.std.specs.Prelude.{◌≡◌};
 ghost use Rattle.run_traits.specs.Unused.{unused};
 
 use crate::runs::peer::Peer;
+use byte_record::Record;
 use fault::LIMIT;
 use link::{Gave, Link, Took};
 use std::marker::Model;
-use told::Record;
 
 /// A link to a peer in memory.
 #[derive(Drop)]

@@ -47,7 +47,7 @@ fn tells_three<J: Naming + Publishes, R: Wait + Drop>(
     let mut right = true;
     for n in 1..4u64 {
         let put = puts_one(alloc, publisher, n, false);
-        told.learn(&publisher.tell());
+        told.learn(&publisher.news());
         let looked = told.look();
         let cut = told.cut(&ALL, &room.have, &mut room.cut);
         let is_cut = matches!(cut, Ok(number) if number == n) && room.shows(n);
