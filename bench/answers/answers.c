@@ -12,7 +12,7 @@
 #include <string.h>
 #include <time.h>
 
-/* The proved encoder, of out/libc_calls.a. A slice is a pointer and a length. */
+/* The proved encoder, of out/libc_trial.a. A slice is a pointer and a length. */
 uint64_t bench_answers(const uint8_t *format, uint32_t kind, bool joined, uint32_t width, uint32_t height, const uint32_t *colours,
                        size_t count, bool all, bool copies, uint32_t times, uint8_t *sent, size_t room);
 

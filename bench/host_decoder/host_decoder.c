@@ -16,7 +16,7 @@
 #include <string.h>
 #include <time.h>
 
-/* The proved decoder and painter, of out/libc_calls.a. A slice is a pointer and a length. */
+/* The proved decoder and painter, of out/libc_trial.a. A slice is a pointer and a length. */
 bool bench_host_message(uint32_t width, uint32_t height, const uint8_t *message, size_t length, uint32_t step, uint32_t times,
                         uint32_t *shown, size_t count);
 

@@ -9,7 +9,7 @@
 #include <string.h>
 #include <sys/mman.h>
 
-/* The proved session and its screen, of out/libc_calls.a. */
+/* The proved session and its screen, of out/libc_trial.a. */
 bool bench_screen(uint16_t width, uint16_t height);
 uint64_t bench_session(uint8_t encoding, uint16_t width, uint16_t height);
 

@@ -10,7 +10,7 @@
 #include <string.h>
 #include <time.h>
 
-/* The proved kernel, of out/libc_calls.a. A slice is a pointer and a length. */
+/* The proved kernel, of out/libc_trial.a. A slice is a pointer and a length. */
 bool bench_tint_rows(const uint8_t *format, const uint32_t *colours, size_t count, uint32_t width, uint8_t *out, size_t size);
 
 typedef struct {

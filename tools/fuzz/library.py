@@ -1,4 +1,4 @@
-"""The proved readers, as `crates/c_calls` gives them to C, behind calls that take and answer bytes."""
+"""The proved readers, as `crates/c_trial` gives them to C, behind calls that take and answer bytes."""
 
 import contextlib
 import ctypes
@@ -13,12 +13,12 @@ ROOM = 1 << 22
 
 def build(folder, archive=None):
     """Links the static library, which is proved and built first unless it is named, as a shared one."""
-    crate = TOP / "crates" / "c_calls"
+    crate = TOP / "crates" / "c_trial"
     if not archive:
         subprocess.run(["rt", "lib"], cwd=crate, check=True, stdout=subprocess.DEVNULL)
-        archive = crate / "out" / "libc_calls.a"
+        archive = crate / "out" / "libc_trial.a"
     kit = pathlib.Path(shutil.which("rt")).resolve().parents[1]
-    shared = pathlib.Path(folder) / "c_calls.so"
+    shared = pathlib.Path(folder) / "c_trial.so"
     names = ["viewer_hello", "host_hello", "client", "host", "rectangle", "encode"]
     keep = [f"-Wl,-u,fuzz_{name}" for name in names]
     parts = [archive, kit / "c" / "liblibc_c.a"]

@@ -10,8 +10,8 @@ use std::time::Duration;
 /// 7.3.1).
 pub(crate) const HELLO_LEN: usize = 14;
 
-/// The seconds that they may take.
-const HELLO_SECONDS: u64 = 10;
+/// The seconds that either side of a handshake may take: a viewer's, and a host's whole one.
+pub(crate) const HELLO_SECONDS: u64 = 10;
 
 /// How long a wait for a viewer may last.
 #[derive(Clone, Copy, Drop)]

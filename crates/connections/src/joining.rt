@@ -1,5 +1,6 @@
 //! The host's link while it is joined.
 
+use crate::hello::HELLO_SECONDS;
 use crate::host::HostLink;
 use crate::noted::Noted;
 use crate::socket::HostSocket;
@@ -12,9 +13,6 @@ use std::marker::Model;
 use std::net::TcpStream;
 use std::sync::Arc;
 use std::time::{Clock, Duration, Instant};
-
-/// The seconds that a host's side of the handshake may take.
-const HELLO_SECONDS: u64 = 10;
 
 /// The seconds for which one `take` waits where there is a deadline.
 const PATIENCE_SECONDS: u64 = 1;

@@ -10,7 +10,7 @@ use crate::bound::Ports;
 use crate::counters::{counters_of, places_by_role};
 use crate::entries::{Entrances, open_all};
 use crate::run::run;
-use crate::runtime::Runtime;
+use crate::runtime::{REQUEST_STACK, Runtime};
 use crate::sentry::Sentry;
 use crate::trouble::{Stage, Trouble};
 use connections::Desk;
@@ -29,9 +29,6 @@ use std::thread::{Builder, Threads};
 use std::time::{Clock, Duration, Instant};
 use std::{io, thread};
 use watch_door::{Watched, answer_one};
-
-/// The bytes of the stack of whoever answers machines.
-const STACK: usize = 1_048_576;
 
 /// A machine has so many seconds for its request, and to take the answer. One is answered after another.
 const PATIENCE_SECONDS: u64 = 2;
@@ -168,7 +165,7 @@ where
         keys,
     };
     let started = Builder::new()
-        .stack_size(STACK)
+        .stack_size(REQUEST_STACK)
         .spawn(&rt, move || sources.keep(&rt, &listener));
     match started {
         Ok(_clerk) => Ok(()),

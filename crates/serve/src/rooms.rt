@@ -8,6 +8,7 @@ ghost use Rattle.roles.specs.declared.role.Role.TheVariants.{Full};
 ghost use Rattle.serve.specs.Doors.{AreAsPlanned, AreBoth, HaveTheirRoles, IsFullEntry, roles_in};
 
 use crate::open::Entry;
+use crate::runtime::STACK;
 use crate::trouble::{Stage, Trouble};
 use connections::{Everyone, Lobby, Seat, TcpDoor, WriterSeat, keep_door};
 use fault::Fault;
@@ -20,9 +21,6 @@ use std::net::{Net, SocketAddr, TcpStream};
 use std::sync::{Arc, Wait};
 use std::thread::{Builder, Threads};
 use std::time::{Clock, Duration};
-
-/// The bytes of the stack of whoever keeps a door.
-const STACK: usize = 262_144;
 
 /// For how long viewers are waited for once the host has ended, in milliseconds.
 const GOODBYE_MILLIS: u64 = 1_000;

@@ -6,6 +6,12 @@ use std::sync::Wait;
 use std::thread::Threads;
 use std::time::Clock;
 
+/// The bytes of the stack of a thread that keeps a door or hears an operator.
+pub(crate) const STACK: usize = 262_144;
+
+/// The bytes of the stack of a thread that answers requests of HTTP.
+pub(crate) const REQUEST_STACK: usize = 1_048_576;
+
 /// What the threads of a run need of the system: sockets, other threads, a clock and random bytes. Whatever has these is
 /// one.
 pub trait Runtime: Net<Stream = TcpStream, Listener = TcpListener>

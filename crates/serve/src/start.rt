@@ -5,7 +5,7 @@ ghost use Rattle.std.specs.Prelude.{◌≡◌, IfOk, is_some, true};
 use crate::control::{Control, Reach, keep_control, listen};
 use crate::halls::Halls;
 use crate::lifeline::Lifeline;
-use crate::runtime::Runtime;
+use crate::runtime::{Runtime, STACK};
 use crate::trouble::{Stage, Trouble};
 use connections::{Desk, WriterSeat};
 use fault::Fault;
@@ -17,9 +17,6 @@ use std::os::unix::net::UnixListener;
 use std::rt::Files;
 use std::sync::{Arc, Wait};
 use std::thread::Builder;
-
-/// The bytes of the stack of whoever hears an operator.
-const STACK: usize = 262_144;
 
 /// What the requests reach of an operator who is heard at this listener. He may end the run by a new lifeline.
 fn prepared(

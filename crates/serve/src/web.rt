@@ -10,7 +10,7 @@ ghost use Rattle.serve.specs.Ports.{AsksForBrowsers, AsksForWeb};
 use crate::bound::{Bound, Ports};
 use crate::open::Entry;
 use crate::origins::{admission_of, first_bad};
-use crate::runtime::Runtime;
+use crate::runtime::{REQUEST_STACK, Runtime};
 use crate::trouble::{Stage, Trouble};
 use connections::{Seat, WebEntry, WebPorter};
 use fault::Fault;
@@ -25,9 +25,6 @@ use std::sync::Arc;
 use std::thread::Builder;
 use web_door::{FileTable, Site};
 use web_root::{RootFault, SystemDisk, read_all};
-
-/// The bytes of the stack of whoever keeps the web ports.
-const STACK: usize = 1_048_576;
 
 /// The files of the plan's folder, if it names one.
 fn read_files<R: Files + AllocGlobal + Copy + Drop>(
@@ -235,7 +232,7 @@ where
         return Err(Trouble::new(Stage::Start, Fault::Memory));
     };
     let started = Builder::new()
-        .stack_size(STACK)
+        .stack_size(REQUEST_STACK)
         .spawn(&rt, move || porter.keep(&rt, seats.as_slice(), &log));
     match started {
         Ok(_porter) => Ok(()),

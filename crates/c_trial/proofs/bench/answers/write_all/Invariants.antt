@@ -1,6 +1,6 @@
 use Rattle.std.proofs.Common.{◌≡◌, length}
 use Rattle.update_encoder.specs.Coming.{AnswerStands}
-use Rattle.c_calls.proofs.bench.answers.write_all.Given as goal
+use Rattle.c_trial.proofs.bench.answers.write_all.Given as goal
 
 abbrev pub invariant-loop-turn : goal.invariant-loop-turn
 invariant-loop-turn l =

@@ -1,5 +1,5 @@
 use Rattle.host_decoder.specs.Decoder.{IsFor}
-use Rattle.c_calls.proofs.fuzz.host.read_piece.Given as goal
+use Rattle.c_trial.proofs.bench.host.read_messages.Given as goal
 
 abbrev pub invariant-loop : goal.invariant-loop
 invariant-loop l = IsFor l.screen.decoder l.screen.painter

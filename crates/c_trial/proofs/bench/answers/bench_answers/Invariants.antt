@@ -1,5 +1,5 @@
 use Rattle.std.proofs.Common.{◌≡◌, ◌+◌, ◌*◌, ◌≤◌, length}
-use Rattle.c_calls.proofs.bench.answers.bench_answers.Given as goal
+use Rattle.c_trial.proofs.bench.answers.bench_answers.Given as goal
 
 abbrev pub invariant-loop-time : goal.invariant-loop-time
 invariant-loop-time l =
