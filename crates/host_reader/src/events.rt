@@ -1,4 +1,4 @@
-//! Putting what a host's messages bring.
+//! Puts the updates that a host's messages bring.
 
 ghost use Rattle.std.specs.Prelude.{◌≡◌, ℕ, [], ◌∷◌, ◌++◌, Bool, List, length, IfErr, MatchResult, OnOk};
 ghost use Rattle.raster.specs.Screen.{Canvas};

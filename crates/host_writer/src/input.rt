@@ -35,7 +35,7 @@ fn give_text<L: Link, F: StopFlag, R: Wait>(
     }
 }
 
-/// Gives the spelling of an input.
+/// Gives the host's link the bytes that spell an input.
 fn give_input<L: Link, F: StopFlag, R: Wait>(
     rt: &R,
     link: &mut L,

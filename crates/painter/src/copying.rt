@@ -5,18 +5,8 @@ ghost use Rattle.painter.specs.Newer.{TookTiles};
 ghost use Rattle.tiles.specs.Grid.{is_lacked};
 ghost use Rattle.raster.specs.Screen.{IsWithin, LooksLike, lay, part_of, value_at};
 
-use raster::Rect;
+use raster::{Rect, lay_part};
 use tiles::{Grid, LackedSince, Walk};
-
-/// Writes a row into a part of the values.
-fn lay_part(values: &mut [u32], from: usize, row: &[u32])
-    requires { from + length row.now ≤ length values.old }
-    ensures inside { (k : ℕ) → k < length row.now → slice_index values.new (from + k) ≡ slice_index row.now k }
-    ensures before { (k : ℕ) → k < from → slice_index values.new k ≡ slice_index values.old k }
-    ensures behind { (k : ℕ) → from + length row.now ≤ k → slice_index values.new k ≡ slice_index values.old k }
-{
-    values[from..from + row.len()].copy_from_slice(row);
-}
 
 /// Copies a rectangle of a screen of `width` by `height` to its place on another of that size, row by row.
 pub fn copy_area(from: &[u32], into: &mut [u32], width: usize, height: usize, area: &Rect)

@@ -154,14 +154,6 @@ impl Raster {
         );
     }
 
-    /// Its colours, row after row.
-    pub fn into_colours(self) -> Vec<u32>
-        ensures colours { result.items ≡ self.colours }
-        ensures count { length result.items ≡ self.width * self.height }
-    {
-        self.colours
-    }
-
     /// Paints all of these, in order. It takes no memory, and always succeeds.
     pub fn paint_all(&mut self, paints: &[Paint])
         requires { All (λ p. Fits self.old.width self.old.height (paint_of p)) paints.now }

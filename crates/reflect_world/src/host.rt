@@ -1,4 +1,4 @@
-//! The host of a world.
+//! The host of a world: its bytes, and the updates that they bring.
 
 ghost use Rattle.std.specs.Prelude.{◌≡◌, ℕ, ◌<◌, [], ◌∷◌, ◌++◌, List, length, Option, Some, None, Ok, Err, IfOk, IfErr, IfSome, OnOk};
 ghost use Rattle.fault.specs.declared.kinds.Fault.TheVariants.{Memory};
@@ -16,7 +16,7 @@ use std::marker::Model;
 
 /// The bytes of a host, which are read update by update; and an update that was read and couldn't be put.
 #[derive(Drop)]
-pub struct Host {
+pub(crate) struct Host {
     screen: HostScreen,
     unread: Unread,
     waiting: Option<Patch>,
@@ -34,7 +34,7 @@ impl Model for Host {
 
 impl Host {
     /// A host over a black screen that has sent nothing. It fails where memory is refused (`Memory`).
-    pub fn new(alloc: Global, width: u64, height: u64) -> Result<Self, Fault>
+    pub(crate) fn new(alloc: Global, width: u64, height: u64) -> Result<Self, Fault>
         requires { IsScreenSize width height }
         ensures size { IfOk result (λ host. (host.decoder.width ≡ width) × (host.decoder.height ≡ height)) }
         ensures stands { IfOk result (λ host. HostStands [] [] [] host) }
@@ -48,7 +48,7 @@ impl Host {
     }
 
     /// Bytes of it come, and are kept. Where memory is refused (`Memory`) nothing has changed.
-    pub fn add(&mut self, bytes: &[u8]) -> Result<(), Fault>
+    pub(crate) fn add(&mut self, bytes: &[u8]) -> Result<(), Fault>
         ensures same { IsSameHost self.old self.new }
         ensures ok { OnOk result ((past : List Update) (all : List ℕ) (us : List Update) → HostStands past all us self.old → HostStands past (all ++ bytes.now) us self.new) }
         ensures err { IfErr result (λ fault. (fault ≡ Memory) × (self.new ≡ self.old)) }
@@ -58,7 +58,7 @@ impl Host {
 
     /// The next update, where it has come whole. It fails at the fault at which the bytes stand; or where memory is
     /// refused (`Memory`), which is final.
-    pub fn next_patch(&mut self) -> Result<Option<Patch>, Fault>
+    pub(crate) fn next_patch(&mut self) -> Result<Option<Patch>, Fault>
         requires { CanRead self.old }
         ensures same { IsSameHost self.old self.new }
         ensures none { self.new.waiting ≡ None }
@@ -82,7 +82,7 @@ impl Host {
     }
 
     /// An update that was read and couldn't be put waits, and is the next again.
-    pub fn keep(&mut self, patch: Patch)
+    pub(crate) fn keep(&mut self, patch: Patch)
         requires none { self.old.waiting ≡ None }
         requires size { (patch.width ≡ self.old.decoder.width) × (patch.height ≡ self.old.decoder.height) }
         ensures same { IsSameHost self.old self.new }
@@ -93,7 +93,7 @@ impl Host {
 
     /// The next host begins: its bytes are read from their first on, and the screen turns black by an update that waits
     /// to be put. It fails where memory is refused (`Memory`), and then nothing has changed.
-    pub fn next_host(&mut self) -> Result<(), Fault>
+    pub(crate) fn next_host(&mut self) -> Result<(), Fault>
         requires none { self.old.waiting ≡ None }
         ensures same { IsSameHost self.old self.new }
         ensures ok { OnOk result (BeginsNext self.old self.new) }

@@ -1,4 +1,4 @@
-//! A viewer of a world.
+//! A viewer of a world: its session, and the bytes that were written to it.
 
 ghost use Rattle.std.specs.Prelude.{◌≡◌, ℕ, ◌+◌, ◌≤◌, ◌<◌, [], ◌++◌, true, false, is_some, option_map, vec_capacity, vec_len, min, length, take, None, Some, IfOk, IfErr, MatchOption, OnOk, ◌∷◌};
 ghost use Rattle.fault.specs.declared.kinds.Fault.TheVariants.{Memory};
@@ -20,7 +20,7 @@ use viewer_session::Session;
 /// A viewer's session, the reply of its last step where that was a look, all bytes that were written to it, and those
 /// of it that wait to be read since an input of it waits.
 #[derive(Drop)]
-pub struct Place {
+pub(crate) struct Place {
     session: Session,
     looked: Option<u64>,
     written: Vec<u8>,
@@ -38,7 +38,7 @@ impl Model for Place {
 impl Place {
     /// A viewer that has sent nothing, of a screen with a name of 1 to 255 bytes, and is answered in this form. It
     /// begins with its hello where `greet` says so. It fails where memory is refused (`Memory`).
-    pub fn new(
+    pub(crate) fn new(
         alloc: Global,
         width: u64,
         height: u64,
@@ -68,14 +68,14 @@ impl Place {
     }
 
     /// The bytes that were written to it.
-    pub fn written(&self) -> &[u8]
+    pub(crate) fn written(&self) -> &[u8]
         ensures { result.now ≡ self.now.written }
     {
         self.written.as_slice()
     }
 
     /// The fault of its bytes, if there is one.
-    pub fn fault(&self) -> Option<Fault>
+    pub(crate) fn fault(&self) -> Option<Fault>
         ensures { result ≡ fault_in self.now.session }
     {
         self.session.fault()
@@ -84,7 +84,7 @@ impl Place {
     /// Its bytes come, and are read after those that wait, as far as no input waits. For each text that becomes whole
     /// `lost` gets a mark: whether it found no memory. Where memory is refused (`Memory`), which comes first, nothing
     /// has changed.
-    pub fn feed(&mut self, bytes: &[u8], lost: &mut Vec<bool>) -> Result<(), Fault>
+    pub(crate) fn feed(&mut self, bytes: &[u8], lost: &mut Vec<bool>) -> Result<(), Fault>
         requires { lost.old.items ≡ [] }
         ensures ok { OnOk result (IsFed self.old self.new bytes.now lost.new.items) }
         ensures err { IfErr result (λ fault. (fault ≡ Memory) × (self.new ≡ self.old)) }
@@ -123,22 +123,22 @@ impl Place {
         }
     }
 
-    /// Whether an input of it waits.
-    pub fn is_waiting(&self) -> bool
+    /// Whether an input of the viewer waits for room in the queue.
+    pub(crate) fn is_waiting(&self) -> bool
         ensures { result ≡ is_some self.now.session.waiting }
     {
         self.session.has_input()
     }
 
     /// No look is its last step any more.
-    pub fn forget_look(&mut self)
+    pub(crate) fn forget_look(&mut self)
         ensures { self.new ≡ record self.old { looked = None } }
     {
         self.looked = None;
     }
 
     /// Takes the input that waits, if there is one.
-    pub fn send(&mut self) -> Option<Input>
+    pub(crate) fn send(&mut self) -> Option<Input>
         ensures value { option_map input_in result ≡ self.old.session.waiting }
         ensures sent { HasSent self.old self.new }
     {
@@ -147,7 +147,7 @@ impl Place {
     }
 
     /// How many inputs go to the host where it leaves: the one that waits, and the releases.
-    pub fn inputs_left(&self) -> usize
+    pub(crate) fn inputs_left(&self) -> usize
         ensures { result ≡ length (left_by self.now) }
     {
         let releases = self.session.releases();
@@ -159,7 +159,7 @@ impl Place {
     }
 
     /// The next of these, and `None` once there is none left.
-    pub fn leave(&mut self) -> Option<Input>
+    pub(crate) fn leave(&mut self) -> Option<Input>
         ensures next { MatchOption result (left_by self.old ≡ []) (λ input. left_by self.old ≡ input_in input ∷ left_by self.new) }
     {
         match self.session.take_input() {
@@ -169,7 +169,7 @@ impl Place {
     }
 
     /// It looks at the tally, if it may.
-    pub fn look(&mut self, tally: u64)
+    pub(crate) fn look(&mut self, tally: u64)
         ensures { HasLooked self.old self.new tally }
     {
         self.looked = if self.session.is_ready() {
@@ -180,7 +180,7 @@ impl Place {
     }
 
     /// It goes on after its look. It takes no memory, and always succeeds, since such a screen doesn't end.
-    pub fn cut(&mut self, screen: &mut PlainScreen)
+    pub(crate) fn cut(&mut self, screen: &mut PlainScreen)
         requires ready { is_some self.old.looked ≡ true → is_ready self.old.session ≡ true }
         requires size { (self.old.session.width ≡ screen.old.width) × (self.old.session.height ≡ screen.old.height) }
         ensures goes_on { GoesOn self.old.looked self.old self.new screen.old.updates }
@@ -197,7 +197,7 @@ impl Place {
 
     /// This many of its unsent bytes are written, piece by piece, at most those there are. Where memory is refused
     /// (`Memory`) what was written before stands, and no more can be made of the session.
-    pub fn write(&mut self, count: u64) -> Result<(), Fault>
+    pub(crate) fn write(&mut self, count: u64) -> Result<(), Fault>
         ensures ok { OnOk result (IsWritten self.old self.new (min count (length self.old.session.unsent))) }
         ensures err { IfErr result (λ fault. (fault ≡ Memory) × IsBrokenOff self.old self.new) }
     {

@@ -19,7 +19,7 @@ use std::marker::Model;
 
 /// An input, and the number of the viewer that it came from.
 #[derive(Drop)]
-pub struct Entry {
+pub(crate) struct Entry {
     viewer: u64,
     input: Input,
 }
@@ -27,7 +27,7 @@ pub struct Entry {
 /// The inputs of all viewers, in the order in which they came; how many of them were taken for the host; which of these
 /// pass to it; and the bytes that it was sent.
 #[derive(Drop)]
-pub struct Relay {
+pub(crate) struct Relay {
     entries: Vec<Entry>,
     taken: usize,
     strokes: Strokes,
@@ -51,7 +51,7 @@ impl Model for Relay {
 
 impl Relay {
     /// No input is on its way, and none was sent. It fails where memory is refused (`Memory`).
-    pub fn new(alloc: Global) -> Result<Self, Fault>
+    pub(crate) fn new(alloc: Global) -> Result<Self, Fault>
         ensures ok { IfOk result (λ relay. (relay.queue ≡ []) × (relay.taken ≡ [])) }
         ensures err { IfErr result (λ fault. fault ≡ Memory) }
     {
@@ -65,21 +65,21 @@ impl Relay {
     }
 
     /// How many inputs are in the queue.
-    pub fn len(&self) -> u64
+    pub(crate) fn len(&self) -> u64
         ensures { result ≡ length self.now.queue }
     {
         (self.entries.len() - self.taken) as u64
     }
 
     /// All that the host was sent: the spellings of the inputs taken that pass, in order.
-    pub fn sent(&self) -> &[u8]
+    pub(crate) fn sent(&self) -> &[u8]
         ensures { result.now ≡ spelled (inputs_told self.now.taken) }
     {
         self.sent.as_slice()
     }
 
     /// How many inputs that were taken of a viewer didn't pass to the host.
-    pub fn dropped(&self, viewer: u64) -> u64
+    pub(crate) fn dropped(&self, viewer: u64) -> u64
         requires { viewer < 65 }
         ensures { result ≡ dropped viewer (map taken_from self.now.taken) }
     {
@@ -87,7 +87,7 @@ impl Relay {
     }
 
     /// Makes room for this many more inputs. Where memory is refused (`Memory`) nothing has changed.
-    pub fn reserve(&mut self, more: usize) -> Result<(), Fault>
+    pub(crate) fn reserve(&mut self, more: usize) -> Result<(), Fault>
         ensures others { self.new ≡ record self.old { spare = self.new.spare } }
         ensures ok { OnOk result (more ≤ self.new.spare) }
         ensures err { IfErr result (λ fault. (fault ≡ Memory) × (self.new ≡ self.old)) }
@@ -99,7 +99,7 @@ impl Relay {
     }
 
     /// An input of a viewer goes into the queue, for which there is room.
-    pub fn push(&mut self, viewer: u64, input: Input)
+    pub(crate) fn push(&mut self, viewer: u64, input: Input)
         requires { 0 < self.old.spare }
         ensures queue { self.new.queue ≡ self.old.queue ++ record { viewer = viewer; input = input_in input } ∷ [] }
         ensures taken { self.new.taken ≡ self.old.taken }
@@ -112,7 +112,7 @@ impl Relay {
 
     /// The input that waited longest is taken, if there is one, and goes to the host where it passes after those taken
     /// before. Where memory is refused (`Memory`) nothing has changed.
-    pub fn take(&mut self) -> Result<(), Fault>
+    pub(crate) fn take(&mut self) -> Result<(), Fault>
         ensures ok { OnOk result (TakesFirst self.old self.new) }
         ensures err { IfErr result (λ fault. (fault ≡ Memory) × (self.new ≡ self.old)) }
     {

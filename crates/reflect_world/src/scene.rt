@@ -24,12 +24,12 @@ use std::alloc::{AllocError, Global};
 use std::marker::Model;
 
 /// Places are numbered below this. That of number 0 stays free.
-pub const PLACES: u64 = 65;
+pub(crate) const PLACES: u64 = 65;
 
 /// The screen, the host, the fault that its bytes showed, the viewers by number, the room for inputs, and those on
 /// their way to the host.
 #[derive(Drop)]
-pub struct Scene {
+pub(crate) struct Scene {
     alloc: Global,
     screen: PlainScreen,
     host: Host,
@@ -49,7 +49,7 @@ impl Model for Scene {
 
 impl Scene {
     /// Before any step. It fails where memory is refused (`Memory`).
-    pub fn new(alloc: Global, width: u64, height: u64, room: u64) -> Result<Self, Fault>
+    pub(crate) fn new(alloc: Global, width: u64, height: u64, room: u64) -> Result<Self, Fault>
         requires { IsScreenSize width height }
         ensures ok { IfOk result (λ scene. (s : Setup) → s.w ≡ width → s.h ≡ height → s.room ≡ room → Reached s scene beginning) }
         ensures err { IfErr result (λ fault. fault ≡ Memory) }
@@ -69,21 +69,21 @@ impl Scene {
     }
 
     /// The fault that the host's bytes showed, if there is one.
-    pub fn host_fault(&self) -> Option<Fault>
+    pub(crate) fn host_fault(&self) -> Option<Fault>
         ensures { result ≡ self.now.host_fault }
     {
         self.host_fault
     }
 
     /// How many updates were put.
-    pub fn updates(&self) -> u64
+    pub(crate) fn updates(&self) -> u64
         ensures { result ≡ length self.now.screen.updates }
     {
         self.screen.updates()
     }
 
     /// The viewer of this number, if it is there.
-    pub fn place(&self, viewer: u64) -> Option<&Place>
+    pub(crate) fn place(&self, viewer: u64) -> Option<&Place>
         ensures { option_copied result ≡ place_at self.now.places viewer }
     {
         match self.places.get(viewer as usize) {
@@ -94,7 +94,7 @@ impl Scene {
 
     /// A viewer begins anew, of a screen with a name of 1 to 255 bytes, and is answered in this form. Where memory is
     /// refused (`Memory`) nothing has changed.
-    pub fn join(
+    pub(crate) fn join(
         &mut self,
         viewer: u64,
         role: Role,
@@ -117,7 +117,7 @@ impl Scene {
 
     /// A viewer leaves, if it is there: its waiting input and the releases of what it holds down go into the queue, as
     /// far as there is room. Where memory is refused (`Memory`) nothing has changed.
-    pub fn part(&mut self, viewer: u64) -> Result<(), Fault>
+    pub(crate) fn part(&mut self, viewer: u64) -> Result<(), Fault>
         requires seen { IsSeen self.old }
         ensures ok { OnOk result (TakesStep (Part viewer) self.old self.new) }
         ensures shows { OnOk result (ShowsStep (Part viewer) self.old self.new) }
@@ -137,7 +137,7 @@ impl Scene {
     }
 
     /// Whether an input of a viewer waits.
-    pub fn is_waiting(&self, viewer: u64) -> bool
+    pub(crate) fn is_waiting(&self, viewer: u64) -> bool
         ensures { result ≡ waits_at (place_at self.now.places viewer) }
     {
         match self.place(viewer) {
@@ -147,28 +147,28 @@ impl Scene {
     }
 
     /// Whether there is room for a further input in the queue to the host.
-    pub fn has_room(&self) -> bool
+    pub(crate) fn has_room(&self) -> bool
         ensures { result ≡ nat_lt (length self.now.relay.queue) self.now.room }
     {
         self.relay.len() < self.room
     }
 
     /// How many inputs are in the queue to the host.
-    pub fn queued(&self) -> u64
+    pub(crate) fn queued(&self) -> u64
         ensures { result ≡ length self.now.relay.queue }
     {
         self.relay.len()
     }
 
     /// All that the host was sent of the viewers' input.
-    pub fn host_sent(&self) -> &[u8]
+    pub(crate) fn host_sent(&self) -> &[u8]
         ensures { result.now ≡ spelled (inputs_told self.now.relay.taken) }
     {
         self.relay.sent()
     }
 
     /// How many inputs that were taken of a viewer didn't pass to the host.
-    pub fn dropped(&self, viewer: u64) -> u64
+    pub(crate) fn dropped(&self, viewer: u64) -> u64
         requires { viewer < 65 }
         ensures { result ≡ dropped viewer (map taken_from self.now.relay.taken) }
     {
@@ -179,7 +179,7 @@ impl Scene {
     /// Where memory is refused (`Memory`), or there are no more numbers of updates (`NumbersOut`), it isn't taken: what
     /// is seen is that of the steps before, and after `NumbersOut` further steps may be taken. `Raise`, `Look` and
     /// `Cut` are always taken.
-    pub fn take(&mut self, step: &Step, lost: &mut Vec<bool>) -> Result<(), Fault>
+    pub(crate) fn take(&mut self, step: &Step, lost: &mut Vec<bool>) -> Result<(), Fault>
         requires reachable { IsReachable self.old }
         requires unmarked { lost.old.items ≡ [] }
         ensures ok { OnOk result (TakesStep (step_with step.now lost.new.items) self.old self.new) }
@@ -380,7 +380,7 @@ fn relay_left(viewer: u64, place: &mut Place, room: u64, relay: &mut Relay)
     }
 }
 
-/// All places, free.
+/// A place for each number of a viewer, with no viewer in any. It fails where memory is refused.
 fn free_places(alloc: Global) -> Result<Vec<Option<Place>>, AllocError>
     ensures count { IfOk result (λ places. length places.items ≡ 65) }
     ensures free { IfOk result (λ places. (v : ℕ) → place_at places.items v ≡ None) }

@@ -1,4 +1,4 @@
-//! Steps of a schedule.
+//! The steps of a schedule, and what a world keeps of them.
 
 ghost use Rattle.std.specs.Prelude.{◌≡◌, IfOk, List, Bool};
 ghost use Rattle.reflect_world.specs.World.{step_of, step_with};
@@ -39,7 +39,7 @@ pub enum Step {
 /// What a world keeps: a viewer joined or left, or a step was played, with marks for the texts of a viewer that became
 /// whole by it.
 #[derive(Drop)]
-pub enum Entry {
+pub(crate) enum Entry {
     /// A viewer of this number and role joined; with its hello where the last says so, else after it.
     Joined(u64, Role, bool),
     /// The viewer of this number left.

@@ -9,7 +9,7 @@ use std::marker::Model;
 
 /// A stream of bytes that is read from its front. Contracts see those that weren't read yet.
 #[derive(Drop)]
-pub struct Unread {
+pub(crate) struct Unread {
     bytes: Vec<u8>,
     read: usize,
 }
@@ -26,7 +26,7 @@ impl Model for Unread {
 
 impl Unread {
     /// Nothing has come, so nothing is left to read.
-    pub fn new(alloc: Global) -> Self
+    pub(crate) fn new(alloc: Global) -> Self
         ensures { result ≡ [] }
     {
         Unread {
@@ -36,7 +36,7 @@ impl Unread {
     }
 
     /// Adds bytes at the end. Where memory is refused (`Memory`) nothing has changed.
-    pub fn add(&mut self, bytes: &[u8]) -> Result<(), Fault>
+    pub(crate) fn add(&mut self, bytes: &[u8]) -> Result<(), Fault>
         ensures ok { OnOk result (self.new ≡ self.old ++ bytes.now) }
         ensures err { IfErr result (λ fault. (fault ≡ Memory) × (self.new ≡ self.old)) }
     {
@@ -47,14 +47,14 @@ impl Unread {
     }
 
     /// The bytes that have come and were not read yet.
-    pub fn bytes(&self) -> &[u8]
+    pub(crate) fn bytes(&self) -> &[u8]
         ensures { result.now ≡ self.now }
     {
         &self.bytes.as_slice()[self.read..]
     }
 
-    /// This many of them were read.
-    pub fn take(&mut self, count: usize)
+    /// The first of the unread bytes, this many, were read.
+    pub(crate) fn take(&mut self, count: usize)
         requires { count ≤ length self.old }
         ensures { self.new ≡ drop count self.old }
     {
@@ -65,8 +65,8 @@ impl Unread {
         }
     }
 
-    /// The last of them, this many, weren't added.
-    pub fn take_back(&mut self, count: usize)
+    /// Takes back the last of the unread bytes, this many, as if they hadn't been added.
+    pub(crate) fn take_back(&mut self, count: usize)
         requires { count ≤ length self.old }
         ensures { self.new ≡ take (length self.old - count) self.old }
     {
@@ -74,8 +74,8 @@ impl Unread {
         self.bytes.truncate(left);
     }
 
-    /// None of them is read any more.
-    pub fn clear(&mut self)
+    /// Drops all unread bytes.
+    pub(crate) fn clear(&mut self)
         ensures { self.new ≡ [] }
     {
         self.bytes.clear();

@@ -31,7 +31,7 @@ const LARGEST: u64 = 4096;
 /// Room for inputs on their way to the host.
 const ROOM: u64 = 1 << 62;
 
-/// More bytes than are ever unsent.
+/// A number of bytes that is greater than that of any unsent bytes, so that all of them are written.
 const ALL: u64 = u64::MAX;
 
 /// Why a script isn't played to its end.
@@ -42,7 +42,7 @@ enum Stop {
     /// The reader or the writer failed, the script or one of its lines has no end, or the numbers of updates have run
     /// out.
     Failed,
-    /// Memory was refused.
+    /// Memory was refused while the script was played.
     Memory,
 }
 

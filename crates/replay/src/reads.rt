@@ -5,15 +5,15 @@ use std::io::{ErrorKind, Read};
 
 /// Reads from another reader, and fails once that was asked as often as it may be.
 #[derive(Drop)]
-pub struct FewReads<R> {
+pub(crate) struct FewReads<R> {
     reader: R,
-    /// How often it may be asked.
+    /// How many more times the reader may be asked.
     left: u64,
 }
 
 impl<R> FewReads<R> {
     /// A reader that is asked at most `count` times.
-    pub fn new(reader: R, count: u64) -> Self {
+    pub(crate) fn new(reader: R, count: u64) -> Self {
         FewReads {
             reader,
             left: count,

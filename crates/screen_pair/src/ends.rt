@@ -1,4 +1,4 @@
-//! How a pair begins.
+//! How a pair begins: all its ends, made at once.
 
 ghost use Rattle.std.specs.Prelude.{◌≡◌, ◌⊎◌, ◌^◌, ◌<◌, ◌≤◌, [], length, vec_len, All, IfOk, IfErr};
 ghost use Rattle.left_right.specs.Handles.{published, pending};

@@ -41,7 +41,7 @@ impl<J: Naming> Model for Eye<J> {
 }
 
 impl<J: Naming> Eye<J> {
-    /// It knows no update.
+    /// A reader's end that knows no update yet.
     pub(crate) fn new(reader: ReadHandle<Published<J>>, front: &HistoryFront<J>) -> Self
         ensures { result ≡ [] }
     {

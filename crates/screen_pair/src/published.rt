@@ -1,4 +1,4 @@
-//! A copy of the screen.
+//! A copy of the screen, as the two copies of a pair hold it.
 
 ghost use Rattle.std.specs.Prelude.{◌≡◌, ◌+◌, ◌^◌, ◌≤◌, [], length, IfOk, IfErr};
 ghost use Rattle.fault.specs.declared.kinds.Fault.TheVariants.{Memory};

@@ -1,4 +1,4 @@
-//! How a shared screen begins.
+//! How a shared screen begins: its publisher and its watchers, made at once.
 
 ghost use Rattle.std.specs.Prelude.{◌≡◌, ◌⊎◌, ◌≤◌, [], length, vec_len, All, IfOk, IfErr};
 ghost use Rattle.fault.specs.declared.kinds.Fault.TheVariants.{Memory, NoPlace};
@@ -12,7 +12,7 @@ use std::alloc::Global;
 use std::sync::{Arc, Wait};
 use tally_word::{Glance, Naming, Opened, tally};
 
-/// A watcher of each eye.
+/// Makes a watcher of each eye.
 fn watchers<J: Naming>(
     alloc: Global,
     width: u64,

@@ -1,4 +1,4 @@
-//! What the publisher tells.
+//! The news of a publisher: what it had put when it told.
 
 use screen_pair::PairNews;
 use std::marker::Model;

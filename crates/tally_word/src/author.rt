@@ -45,7 +45,7 @@ impl<J: Naming> Author<J> {
         }
     }
 
-    /// How many they are.
+    /// How many changes there are.
     pub fn changes(&self) -> u64
         ensures { result ≡ length self.now }
     {

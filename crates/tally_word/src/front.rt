@@ -42,7 +42,7 @@ impl<J: Naming> HistoryFront<J> {
         }
     }
 
-    /// What the longer of both knows is known from now on.
+    /// From now on it knows what the longer of the two knows.
     pub fn learn(&mut self, other: &HistoryFront<J>)
         ensures mine { Begins self.old self.new }
         ensures told { Begins other.now self.new }
@@ -50,7 +50,7 @@ impl<J: Naming> HistoryFront<J> {
         self.seen.learn(&other.seen);
     }
 
-    /// Its changes are legal.
+    /// It does nothing. Its clause says that the changes are legal, for proofs of callers.
     pub fn is_legal(&self)
         ensures { IsLegal self.now }
     {
@@ -58,7 +58,7 @@ impl<J: Naming> HistoryFront<J> {
         let _ = &self.seen;
     }
 
-    /// Its updates up to the tally are published.
+    /// It does nothing. Its clause says that the updates up to the tally are published, for proofs of callers.
     pub fn is_backed(&self)
         ensures { IsBacked J.published self.now }
     {

@@ -1,4 +1,4 @@
-//! Which history it is.
+//! The name of a history, which all its ends share.
 
 use std::marker::Brand;
 

@@ -60,7 +60,7 @@ impl<J: Naming> Raiser<J> {
         self.author.front()
     }
 
-    /// Its changes are legal.
+    /// It does nothing. Its clause says that the changes are legal, for proofs of callers.
     pub fn is_legal(&self)
         ensures { IsLegal self.now }
     {

@@ -1,4 +1,4 @@
-//! Answers.
+//! An answer to a request: a FramebufferUpdate that is written one rectangle at a time (RFC 6143, 7.6.1).
 
 ghost use Rattle.std.specs.Prelude.{◌≡◌, ◌+◌, ◌*◌, ◌<◌, ◌≤◌, ◌^◌, ◌++◌, [], ◌&&◌, length, take, IfNone, IfSome};
 ghost use Rattle.raster.specs.Screen.{IsWithin};
@@ -24,9 +24,9 @@ use tiles::Walk;
 pub struct Answer {
     walk: Walk,
     style: Style,
-    /// Whether CopyRect may be used.
+    /// Whether a rectangle may be written by CopyRect (RFC 6143, 7.7.2).
     may_copy: bool,
-    /// The rectangle written last.
+    /// The rectangle that was written last, or none before the first.
     before: Option<Rect>,
     /// How many rectangles there are in all.
     count: u64,
@@ -51,7 +51,7 @@ impl Model for Answer {
     ghost invariant = { λ a. (a.count < 2 ^ 16) × LiesOn a.walk.width a.walk.height a.before };
 }
 
-/// How many runs are left.
+/// How many runs of due tiles a walk has left.
 fn count_runs(cut: &Cut, mut walk: Walk) -> u64
     requires size { (walk.width ≡ cut.now.width) × (walk.height ≡ cut.now.height) }
     requires few { length (runs_left walk (marked cut.now)) < 2 ^ 16 }

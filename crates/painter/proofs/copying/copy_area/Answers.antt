@@ -29,6 +29,6 @@ loop-row-preserved c =
           (part_row c.args.from.now start n) c.requires.within.across down c.loop-row.invariant.shows
           (λ k lt. c.lay_part.ensures.inside k (omega (arith, len, lt)) ∙ ap (λ (l : List ℕ). get_or l k 0) is)
           (λ k lt. part_at c.args.from.now c.args.width x row n k lt)
-          c.lay_part.ensures.before
-          (λ k le. c.lay_part.ensures.behind k (omega (arith, len, le)));
+          c.lay_part.ensures.outside
+          (λ k le. c.lay_part.ensures.past k (omega (arith, len, le)));
     }
