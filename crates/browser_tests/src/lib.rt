@@ -1,4 +1,4 @@
-//! Tests of what browsers are told: of the web ports of `serving`, and of `serve` behind them, over loopback alone.
+//! Tests of what browsers are told: of the web ports of `connections`, and of `serve` behind them, over loopback alone.
 //! They stand in a crate of their own so that what they try is proved once.
 #![tactic(auto)]
 
