@@ -1,8 +1,8 @@
 //! A colour's pixel value, and a row of colours as pixel bytes.
 
-ghost use Rattle.std.specs.Prelude.{◌≡◌, ◌*◌, ◌^◌, ◌<◌, length, map, IsTrue, [], ◌∷◌};
+ghost use Rattle.std.specs.Prelude.{◌≡◌, ◌*◌, ◌^◌, ◌<◌, ◌↔◌, length, map, IsTrue, [], ◌∷◌};
 ghost use Rattle.std.specs.List.{flat_map};
-ghost use Rattle.pixel_format.specs.PixelFormat.{HasByteChannels, IsNarrow, tint, pixel_len, row_bytes, host_format};
+ghost use Rattle.pixel_format.specs.PixelFormat.{HasByteChannels, IsNarrow, KeepsApart, tint, pixel_len, row_bytes, host_format};
 
 use crate::format::Format;
 use crate::scaling::{Division, Multiplication, Scaling, Shifts};
@@ -48,6 +48,16 @@ impl Format {
         } else {
             self.tint_values_by::<Division>(colours, values);
         }
+    }
+
+    /// Whether no two colours, of 24 bits each, have one pixel value (RFC 6143, section 7.4). That is so where each
+    /// channel has 8 bits or more, in whatever order they lie, and nowhere else: in fewer bits the components 0 and 1
+    /// fall together.
+    pub fn keeps_apart(&self) -> bool
+        ensures { IsTrue result ↔ KeepsApart self.now }
+    {
+        let least = self.red.max.min(self.green.max).min(self.blue.max);
+        least >= 255
     }
 
     /// Whether pixel values are the colours themselves, in the host's order of bytes.
