@@ -209,6 +209,25 @@ fn values_of_colours(rt: HostRuntime) -> Result<(), Fail> {
     Ok(())
 }
 
+/// Formats, and whether no two colours have one pixel value in them.
+const APART: [([u8; 16], bool); 6] = [
+    (HOST, true),
+    (BIG_HOST, true),
+    (TURNED_HOST, true),
+    (RGB30, true),
+    (RGB565, false),
+    (BGR233, false),
+];
+
+#[test]
+fn colours_are_kept_apart(rt: HostRuntime) -> Result<(), Fail> {
+    for (i, (bytes, wanted)) in APART.iter().enumerate() {
+        let format = Format::read(bytes)?;
+        assert!(rt; format.keeps_apart() == *wanted, "format {i}");
+    }
+    Ok(())
+}
+
 /// A format, a pixel value, and the bytes after it is put over those before, of which the last stay.
 const PIXELS: [([u8; 16], u32, [u8; 5]); 4] = [
     (HOST, 0x0403_0201, [1, 2, 3, 4, 0xEE]),
