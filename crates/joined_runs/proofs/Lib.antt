@@ -6,3 +6,4 @@ pub mod Shorter
 pub mod RowHas
 pub mod WrittenParts
 pub mod SameTiles
+pub mod Recoloured

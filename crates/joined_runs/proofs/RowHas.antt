@@ -22,7 +22,7 @@ run_at row y x lx =
 
 -- ---- two canvases with the same row
 
-same_front : (p q : ℕ → Bool) (a n : ℕ) → ((k : ℕ) → a ≤ k → k < a + n → p k ≡ q k) → length (take_while p (range_with_len a n)) ≡ length (take_while q (range_with_len a n))
+pub same_front : (p q : ℕ → Bool) (a n : ℕ) → ((k : ℕ) → a ≤ k → k < a + n → p k ≡ q k) → length (take_while p (range_with_len a n)) ≡ length (take_while q (range_with_len a n))
 same_front p q a n f =
     let up : length (take_while p (range_with_len a n)) ≤ length (take_while q (range_with_len a n)) =
     front_reaches q a n (length (take_while p (range_with_len a n))) (front_within p a n) (λ k lo hi. sym (f k lo (omega (arith, hi, front_within p a n))) ∙ front_passes p a n k lo hi) in

@@ -1,13 +1,15 @@
-//! What is written in either form is read back.
+//! What is written in either form is read back, and what it has of the colours of its rectangle.
 
-ghost use Rattle.std.specs.Prelude.{◌≡◌, ℕ, ◌≤◌, List, length};
-ghost use Rattle.pixel_format.specs.PixelFormat.{PixelFormat};
+ghost use Rattle.std.specs.Prelude.{◌≡◌, ℕ, ◌≤◌, List, length, map};
+ghost use Rattle.pixel_format.specs.PixelFormat.{PixelFormat, tint};
 ghost use Rattle.raster.specs.declared.encoding.Encoding.{Encoding};
 ghost use Rattle.raster.specs.Encoding.{form};
+ghost use Rattle.raster.specs.Screen.{Canvas};
 ghost use Rattle.joined_runs.specs.declared.runs.Runs.{Runs};
 ghost use Rattle.joined_runs.specs.declared.runs.Runs.TheVariants.{Joined};
-ghost use Rattle.joined_runs.specs.Joined.{form_of};
+ghost use Rattle.joined_runs.specs.Joined.{background_of, form_of, subrects_of};
 ghost use Rattle.joined_runs.specs.Laws.{IsReadBack, FormDetermines};
+ghost use Rattle.joined_runs.specs.Tinted.{ShowsApart, tinted_subrect};
 
 /// Whatever the encoding, either form of a rectangle of pixel values spells these values.
 pub fn form_is_read()
@@ -22,4 +24,11 @@ pub fn forms_differ()
 /// The joined form never has more bytes than the form of the runs of rows.
 pub fn joined_is_shorter()
     ensures { (encoding : Encoding) (format : PixelFormat) (w h : ℕ) (values : List ℕ) → length (form_of Joined encoding format w h values) ≤ length (form encoding format w h values) }
+{}
+
+/// In a format that keeps colours apart, either form of a tile's pixel values is that of its colours, each as its pixel
+/// value: the background, and one subrectangle for each, in the same place.
+pub fn form_is_tinted()
+    ensures background { (runs : Runs) (format : PixelFormat) (w h : ℕ) (colours shown : Canvas) → ShowsApart format w h colours shown → background_of runs w h shown ≡ tint format (background_of runs w h colours) }
+    ensures subrects { (runs : Runs) (format : PixelFormat) (w h : ℕ) (colours shown : Canvas) → ShowsApart format w h colours shown → subrects_of runs w h shown ≡ map (tinted_subrect format) (subrects_of runs w h colours) }
 {}

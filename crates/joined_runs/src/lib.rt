@@ -9,5 +9,5 @@ mod law;
 mod runs;
 
 pub use joining::{RowRun, height};
-pub use law::{form_is_read, forms_differ, joined_is_shorter};
+pub use law::{form_is_read, form_is_tinted, forms_differ, joined_is_shorter};
 pub use runs::Runs;
