@@ -34,3 +34,4 @@ pub mod Buckets
 pub mod Heights
 pub mod Unbroken
 pub mod BreakBits
+pub mod Tinted

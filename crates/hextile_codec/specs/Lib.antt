@@ -7,3 +7,4 @@ pub mod Crowded
 pub mod Buckets
 pub mod TileMarks
 pub mod Breaks
+pub mod Apart

@@ -15,6 +15,7 @@ mod frequent;
 mod head;
 mod joining;
 mod kind;
+mod law;
 mod marking;
 mod mask;
 mod pixels;
@@ -27,5 +28,6 @@ mod subrects;
 mod tile_marks;
 mod writing;
 
+pub use law::kind_is_tinted;
 pub use reading::Reader;
 pub use writing::{encode, encode_as};

@@ -1,0 +1,11 @@
+-- A tile's kind by its colours, and by their pixel values in a format that keeps them apart.
+use Rattle.pixel_format.specs.PixelFormat.{PixelFormat, tint}
+use Rattle.hextile_codec.specs.declared.kind.Kind.{Kind}
+use Rattle.hextile_codec.specs.declared.kind.Kind.TheVariants.{Raw, Plain, TwoColours, Coloured}
+
+-- A kind with its colour as a pixel value.
+abbrev pub tinted_kind : PixelFormat → Kind → Kind
+tinted_kind format Raw = Raw
+tinted_kind format Plain = Plain
+tinted_kind format (TwoColours foreground) = TwoColours (tint format foreground)
+tinted_kind format Coloured = Coloured
