@@ -158,6 +158,21 @@ forks pass v may items views h at =
           )) (at_snoc vs r u j e),
     )
 
+-- one comes that neither sends nor gets
+pub watches : (pass : ℕ) (v : View) → Forks Delivers pass v v spent
+watches pass v items views h at =
+    let Fits : ℕ → View → Type 0 = λ j u. FitsSender h.1 h.2 j u × FitsTaker h.0 h.1 h.2 h.3 j u in
+    let old : All Fits (set views pass v) = all_set Fits views pass v (h.5 pass v at) (λ j u other e. h.5 j u e) in (
+      h.0,
+      h.1,
+      h.2,
+      h.3,
+      h.4,
+      λ j u e. ⊎_elim (λ x. old j u x)
+          (λ (is : spent ≡ u). ((λ no. absurd (true≢false (sym (ap (λ (y : View). y.sends) is ∙ no)))), (λ no. absurd (true≢false (sym (ap (λ (y : View). y.gets) is ∙ no))))))
+          (at_snoc (set views pass v) spent u j e),
+    )
+
 -- a sender comes back to the taker's pass
 pub merges : (pass : ℕ) (v : View) (other : ℕ) (u : View) → v.gets ≡ true → u.sends ≡ true → Merges Delivers pass v other u (taker v.from v.got (v.known ++ strand u.from u.put ∷ [])) spent
 merges pass v other u a b items views h at two at' =

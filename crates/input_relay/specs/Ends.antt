@@ -12,6 +12,7 @@ use Rattle.input_relay.specs.declared.queue.Strand.{Strand}
 use Rattle.input_relay.specs.Relay.{strand}
 use Rattle.input_relay.specs.declared.queue.Sender.{Sender}
 use Rattle.input_relay.specs.declared.queue.Taker.{Taker}
+use Rattle.input_relay.specs.declared.queue.Gauge.{Gauge}
 use Rattle.input_relay.specs.declared.queue.Settled.{Settled}
 
 module _ {R : Type 0} where
@@ -54,6 +55,10 @@ module _ {R : Type 0} where
   -- which relay it was
   abbrev pub relay_at_end : Settled R → TableId
   relay_at_end t = t.pass.table_id
+
+-- the relay that a gauge looks at
+abbrev pub seen_by : Gauge → TableId
+seen_by g = g.pass.table_id
 
 -- Why an input is refused: the queue was full, or that place had sent 2^55.
 abbrev pub IsRefusal : Fault → (count : ℕ) → Type 0

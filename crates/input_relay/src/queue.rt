@@ -2,7 +2,7 @@
 
 ghost use Rattle.std.specs.Prelude.{◌≡◌, [], length};
 ghost use Rattle.std.specs.Arc.{arc_value};
-ghost use Rattle.crossbeam_queue.specs.Passes.{view, IsPassOf};
+ghost use Rattle.crossbeam_queue.specs.Passes.{view, IsPassOf, ruled_capacity};
 ghost use Rattle.input_relay.specs.Relay.{sender, taker};
 
 use crossbeam_queue::protocol::{Join, Lesson, Outcome, Protocol, Split};
@@ -86,6 +86,21 @@ impl Join<View> for Back {
     ghost spent = { spent };
 }
 
+/// How a gauge is made of the taker's pass, which stays as it is. A gauge neither sends nor gets.
+struct Watched;
+
+impl Split<View> for Watched {
+    ghost use Rattle.input_relay.specs.Relay.{spent};
+
+    ghost left = { λ v. v };
+
+    ghost right = { λ v. spent };
+}
+
+impl Lesson<Message, View> for Watched {
+    ghost fact = { λ v items. Unit {0} };
+}
+
 /// What a push does: the sender has sent one more.
 struct Sent;
 
@@ -147,6 +162,16 @@ pub struct Taker<R: Wait + Drop> {
     rt: R,
     ghost seated: { IsPassOf (arc_value line) pass },
     ghost role: { view pass ≡ taker (view pass).from (view pass).got [] },
+    ghost room: { ruled_capacity (arc_value line) ≡ 256 },
+}
+
+/// The end of the relay of whoever looks how many inputs wait.
+#[derive(Drop)]
+pub struct Gauge {
+    line: Arc<Line, Global>,
+    pass: Pass<Message, View>,
+    ghost seated: { IsPassOf (arc_value line) pass },
+    ghost room: { ruled_capacity (arc_value line) ≡ 256 },
 }
 
 /// A relay whose ends all came back, with the inputs that nobody has taken.

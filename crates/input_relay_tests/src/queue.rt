@@ -4,7 +4,7 @@ ghost use Rattle.std.specs.Prelude.{◌≡◌, ◌<◌, IfSome};
 ghost use Rattle.input_relay.specs.Ends.{relay_of, host_of};
 
 use fault::Fault;
-use input_relay::{Sender, Settled, Taker, relay, settle};
+use input_relay::{Gauge, Sender, Settled, Taker, relay, settle};
 use roles::{Input, InputSink};
 use std::alloc::Global;
 use std::process::Abort;
@@ -89,6 +89,31 @@ fn full_and_empty(rt: HostRuntime) -> Result<(), Fail> {
     let mut sender = senders.pop().ok_or("a sender")?;
     check_full(&rt, &mut sender);
     check_empties(&rt, &mut taker);
+    Ok(())
+}
+
+fn check_waiting<R: Wait + Abort>(rt: &R, gauge: &mut Gauge, count: usize) {
+    assert_eq!(rt; gauge.waiting(rt), count);
+}
+
+/// A gauge counts the inputs of all places that wait, up to 256, and takes none.
+#[test]
+fn a_gauge_counts_what_waits(rt: HostRuntime) -> Result<(), Fail> {
+    let (mut senders, mut taker) = relay(rt, rt.alloc(), 2)?;
+    let mut gauge = taker.gauge()?;
+    check_waiting(&rt, &mut gauge, 0);
+    let mut last = senders.pop().ok_or("a sender")?;
+    let mut first = senders.pop().ok_or("a sender")?;
+    assert!(rt; fits(&mut first, 0));
+    check_waiting(&rt, &mut gauge, 1);
+    for key in 1..ROOM {
+        assert!(rt; fits(&mut last, key));
+    }
+    check_waiting(&rt, &mut gauge, 256);
+    assert!(rt; is_refused(&mut last, ROOM));
+    check_waiting(&rt, &mut gauge, 256);
+    assert!(rt; takes(&mut taker, 0));
+    check_waiting(&rt, &mut gauge, 255);
     Ok(())
 }
 

@@ -3,12 +3,15 @@
 ghost use Rattle.std.specs.Prelude.{◌≡◌, ◌+◌, ◌<◌, ◌≤◌, [], ◌∷◌, ◌++◌, map, length, vec_len, List, IfOk, OnOk, IfErr, IfSome, IfNone, All};
 ghost use Rattle.fault.specs.declared.kinds.Fault.TheVariants.{Memory};
 ghost use Rattle.std.specs.Arc.{arc_value};
-ghost use Rattle.crossbeam_queue.specs.Passes.{view, IsPassOf};
+ghost use Rattle.crossbeam_queue.specs.Passes.{view, IsPassOf, ruled_capacity};
 ghost use Rattle.input_relay.specs.Relay.{message, strand, taker, Accounted};
 ghost use Rattle.input_relay.specs.declared.queue.Message.{Message};
-ghost use Rattle.input_relay.specs.Ends.{place_of, sent_of, relay_of, taken_of, host_of, IsRefusal, strand_of, fresh, taken_at_end, known_at_end, relay_at_end};
+ghost use Rattle.input_relay.specs.Ends.{place_of, sent_of, relay_of, taken_of, host_of, IsRefusal, seen_by, strand_of, fresh, taken_at_end, known_at_end, relay_at_end};
 
-use super::{Back, Line, MOST, Message, ROOM, Seats, Sender, Sent, Settled, Taken, Taker, View};
+use super::{
+    Back, Gauge, Line, MOST, Message, ROOM, Seats, Sender, Sent, Settled, Taken, Taker, View,
+    Watched,
+};
 use crossbeam_queue::Pass;
 use fault::Fault;
 use roles::Input;
@@ -69,6 +72,29 @@ impl<R: Wait + Drop> Taker<R> {
             }
             None => None,
         }
+    }
+
+    /// A gauge of this relay. It fails where memory is refused (`Memory`). Either way nothing is taken.
+    pub fn gauge(&mut self) -> Result<Gauge, Fault>
+        ensures own { IfOk result (λ gauge. seen_by gauge ≡ host_of self.old) }
+        ensures taken { taken_of self.new ≡ taken_of self.old }
+        ensures same { host_of self.new ≡ host_of self.old }
+        ensures err { IfErr result (λ fault. fault ≡ Memory) }
+    {
+        let line = Arc::try_clone(&self.line)?;
+        let pass = self.line.another::<Watched>(&mut self.pass);
+        Ok(Gauge { line, pass })
+    }
+}
+
+impl Gauge {
+    /// How many inputs waited at one moment of the call, of all places: at most 256. It takes none of them. It may wait
+    /// where another thread stands still inside a call.
+    pub fn waiting<R: Wait>(&mut self, rt: &R) -> usize
+        ensures most { result ≤ 256 }
+        ensures same { seen_by self.new ≡ seen_by self.old }
+    {
+        self.line.len_as::<Watched, R>(rt, &mut self.pass)
     }
 }
 
