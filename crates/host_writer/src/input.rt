@@ -6,9 +6,11 @@ ghost use Rattle.rfb_wire.specs.Writing.{client_text_bytes};
 ghost use Rattle.roles.specs.Held.{input_in};
 ghost use Rattle.input_relay.specs.Ends.{host_of, taken_of};
 ghost use Rattle.link.specs.Halting.{HaltsAt};
+ghost use Rattle.host_writer.specs.Dropping.{IsCounted};
 ghost use Rattle.host_writer.specs.Writing.{HaltsTelling, Tells};
 ghost use Rattle.roles.specs.Spelling.{input_bytes};
 
+use crate::dropped::{DropCount, passes};
 use input_relay::Taker;
 use link::{Halt, Link, StopFlag, give_all};
 use rfb_wire::{TEXT_HEAD_LEN, write_client_text_head, write_key, write_pointer};
@@ -61,22 +63,24 @@ fn give_input<L: Link, F: StopFlag, R: Wait>(
 }
 
 /// Takes the next input of the relay, and gives its spelling where it passes after all that was taken before. It
-/// answers whether there was one.
-pub(crate) fn tell_input<L: Link, T: Wait + Drop, F: StopFlag, R: Wait>(
+/// answers whether there was one. One that doesn't pass is counted.
+pub(crate) fn tell_input<L: Link, T: Wait + Drop, D: DropCount, F: StopFlag, R: Wait>(
     rt: &R,
     link: &mut L,
     taker: &mut Taker<T>,
     strokes: &mut Strokes,
+    drops: &mut D,
     stop: &F,
 ) -> Result<bool, Halt>
     ensures relay { host_of taker.new ≡ host_of taker.old }
     ensures places { length strokes.new.counts ≡ length strokes.old.counts }
+    ensures counted { IsCounted (taken_of taker.old) strokes.old (D.dropped drops.old) → IsCounted (taken_of taker.new) strokes.new (D.dropped drops.new) }
     ensures ok { IfOk result (λ was_taken. Tells was_taken (taken_of taker.old) (taken_of taker.new) strokes.old strokes.new (L.state link.old) (L.state link.new)) }
     ensures err { IfErr result (λ halt. HaltsTelling (F.was_set stop.now) halt (taken_of taker.old) (taken_of taker.new) strokes.old strokes.new (L.state link.old) (L.state link.new)) }
 {
     match taker.take() {
         Some((place, input)) => {
-            if strokes.passes(place, &input) {
+            if passes(strokes, drops, place, &input) {
                 give_input(rt, link, stop, &input)?;
             }
             Ok(true)

@@ -4,9 +4,11 @@
 //! so it takes a handle that may wait.
 #![tactic(auto)]
 
+mod dropped;
 mod input;
 mod law;
 mod run;
 
+pub use dropped::DropCount;
 pub use law::told_input_is_unbroken;
 pub use run::run_writer;

@@ -3,8 +3,10 @@
 ghost use Rattle.std.specs.Prelude.{◌≡◌, ℕ, length};
 ghost use Rattle.raster.specs.Size.{IsScreenSize};
 ghost use Rattle.input_relay.specs.Ends.{host_of, taken_of};
+ghost use Rattle.host_writer.specs.Dropping.{IsCounted};
 ghost use Rattle.host_writer.specs.Writing.{Writes, answer_at, whole_request};
 
+use crate::dropped::DropCount;
 use crate::input::tell_input;
 use fault::Fault;
 use input_relay::Taker;
@@ -47,22 +49,32 @@ fn answer_at(halt: Halt) -> Result<(), Fault>
 /// look hasn't risen.
 ///
 /// Of the input that was taken the host is told what `strokes` lets pass: nothing of a place while another has a key or
-/// a button down. What doesn't pass is counted there.
+/// a button down. What doesn't pass is counted there for its place, and in `drops` for all of them.
 ///
 /// It is `Ok` where the flag is set, and where the link ends before the first byte of a spelling. `LinkEnded` where it
 /// ends inside one, and `LinkFailed` where it fails. Of what was said last the link may then lack the end.
-pub fn run_writer<L: Link, S: ScreenSource, T: Wait + Drop, F: StopFlag, Z: Rest, R: Wait>(
+pub fn run_writer<
+    L: Link,
+    S: ScreenSource,
+    T: Wait + Drop,
+    D: DropCount,
+    F: StopFlag,
+    Z: Rest,
+    R: Wait,
+>(
     rt: &R,
     link: &mut L,
     source: &mut S,
     taker: &mut Taker<T>,
     strokes: &mut Strokes,
+    drops: &mut D,
     stop: &F,
     rest: &Z,
 ) -> Result<(), Fault>
     requires { IsScreenSize (S.width source.old) (S.height source.old) }
     ensures relay { host_of taker.new ≡ host_of taker.old }
     ensures places { length strokes.new.counts ≡ length strokes.old.counts }
+    ensures counted { IsCounted (taken_of taker.old) strokes.old (D.dropped drops.old) → IsCounted (taken_of taker.new) strokes.new (D.dropped drops.new) }
     ensures writes { Writes S.looks (F.was_set stop.now) source.old source.new (taken_of taker.old) (taken_of taker.new) strokes.old strokes.new (S.width source.old) (S.height source.old) result (L.state link.old) (L.state link.new) }
 {
     let (width, height) = source.size();
@@ -72,7 +84,7 @@ pub fn run_writer<L: Link, S: ScreenSource, T: Wait + Drop, F: StopFlag, Z: Rest
         if stop.is_set() {
             return Ok(());
         }
-        let was_taken = match tell_input(rt, link, taker, strokes, stop) {
+        let was_taken = match tell_input(rt, link, taker, strokes, drops, stop) {
             Ok(was_taken) => was_taken,
             Err(halt) => return answer_at(halt),
         };

@@ -9,7 +9,7 @@ use crate::wire::{Peer, Wire};
 use arrayvec::ArrayVec;
 use host_turns::NoHosts;
 use joined_runs::Runs;
-use reflector::{Running, run_all};
+use reflector::{InputWatch, Running, run_all};
 use rfb_wire::Joined;
 use roles::Role;
 use run_traits::{Door, NoAlarm};
@@ -60,6 +60,7 @@ where
         Runs::Joined,
         everyone,
         alarm,
+        Arc::new(alloc, InputWatch::new())?,
     )?;
     let Running {
         result,
@@ -69,6 +70,7 @@ where
         written: _,
         taker: _,
         strokes: _,
+        dropped: _,
         places,
     } = running;
     for place in places {

@@ -55,6 +55,11 @@ after_sent before c =
     let b = after_one a (codes "answers_total") (codes "counter") (codes "Updates begun for viewers.") c.answers in
     after_one b (codes "sent_bytes_total") (codes "counter") (codes "Bytes sent to viewers.") c.bytes
 
+abbrev pub after_input : List ℕ → Counters → List ℕ
+after_input before c =
+    let a = after_one before (codes "input_waiting") (codes "gauge") (codes "Inputs of viewers that wait for the host.") c.waiting in
+    after_one a (codes "input_dropped_total") (codes "counter") (codes "Inputs of viewers that were dropped, since another held a key or a button down.") c.dropped
+
 abbrev pub after_lag : List ℕ → Lag → List ℕ
 after_lag before lag =
     let head = after_comments before (codes "viewer_lag_updates") (codes "gauge") (codes "By how many updates this share of the viewers is behind at most.") in
@@ -63,4 +68,4 @@ after_lag before lag =
     after_sample most (codes "viewer_lag_updates") (codes "{share=\"1\"}") lag.all
 
 abbrev pub metrics_of : Counters → List ℕ
-metrics_of c = after_lag (after_sent (after_places (after_host [] c) c) c) c.lag
+metrics_of c = after_lag (after_input (after_sent (after_places (after_host [] c) c) c) c) c.lag

@@ -40,6 +40,10 @@ pub struct Counters {
     pub answers: u64,
     /// How many bytes were sent to viewers.
     pub bytes: u64,
+    /// How many inputs of viewers wait for the host now.
+    pub waiting: u64,
+    /// How many were dropped on their way to a host.
+    pub dropped: u64,
     /// By how many updates the viewers are behind now.
     pub lag: Lag,
 }

@@ -38,6 +38,12 @@ reflectord_answers_total 8
 # HELP reflectord_sent_bytes_total Bytes sent to viewers.
 # TYPE reflectord_sent_bytes_total counter
 reflectord_sent_bytes_total 9
+# HELP reflectord_input_waiting Inputs of viewers that wait for the host.
+# TYPE reflectord_input_waiting gauge
+reflectord_input_waiting 256
+# HELP reflectord_input_dropped_total Inputs of viewers that were dropped, since another held a key or a button down.
+# TYPE reflectord_input_dropped_total counter
+reflectord_input_dropped_total 10
 # HELP reflectord_viewer_lag_updates By how many updates this share of the viewers is behind at most.
 # TYPE reflectord_viewer_lag_updates gauge
 reflectord_viewer_lag_updates{share=\"0.5\"} 0
@@ -57,6 +63,8 @@ fn counters() -> Counters {
         updates: u64::MAX,
         answers: 8,
         bytes: 9,
+        waiting: 256,
+        dropped: 10,
         lag: Lag {
             half: 0,
             nine_tenths: 1,

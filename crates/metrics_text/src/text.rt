@@ -2,7 +2,7 @@
 
 ghost use Rattle.std.specs.Prelude.{◌≡◌, [], IfOk, OnOk};
 ghost use Rattle.std.specs.String.{string_bytes};
-ghost use Rattle.metrics_text.specs.Metrics.{after_host, after_lag, after_places, after_sent, metrics_of};
+ghost use Rattle.metrics_text.specs.Metrics.{after_host, after_input, after_lag, after_places, after_sent, metrics_of};
 
 use crate::counters::{Counters, Lag};
 use crate::families::{Family, put_by_role, put_head, put_sample, put_single};
@@ -68,6 +68,18 @@ const BYTES: Family<'static> = Family {
     help: "Bytes sent to viewers.",
 };
 
+const WAITING: Family<'static> = Family {
+    name: "input_waiting",
+    kind: "gauge",
+    help: "Inputs of viewers that wait for the host.",
+};
+
+const DROPPED: Family<'static> = Family {
+    name: "input_dropped_total",
+    kind: "counter",
+    help: "Inputs of viewers that were dropped, since another held a key or a button down.",
+};
+
 const LAG: Family<'static> = Family {
     name: "viewer_lag_updates",
     kind: "gauge",
@@ -102,6 +114,14 @@ fn put_sent(text: &mut String, counters: &Counters) -> Result<(), AllocError>
     put_single(text, BYTES, counters.bytes)
 }
 
+/// Of the viewers' input.
+fn put_input(text: &mut String, counters: &Counters) -> Result<(), AllocError>
+    ensures { OnOk result (string_bytes text.new ≡ after_input (string_bytes text.old) counters.now) }
+{
+    put_single(text, WAITING, counters.waiting)?;
+    put_single(text, DROPPED, counters.dropped)
+}
+
 /// By how many updates viewers are behind.
 fn put_lag(text: &mut String, lag: &Lag) -> Result<(), AllocError>
     ensures { OnOk result (string_bytes text.new ≡ after_lag (string_bytes text.old) lag.now) }
@@ -120,6 +140,7 @@ pub fn metrics_text(alloc: Global, counters: &Counters) -> Result<String, AllocE
     put_host(&mut text, counters)?;
     put_places(&mut text, counters)?;
     put_sent(&mut text, counters)?;
+    put_input(&mut text, counters)?;
     put_lag(&mut text, &counters.lag)?;
     Ok(text)
 }

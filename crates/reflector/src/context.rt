@@ -1,5 +1,6 @@
 //! What the threads of a run share.
 
+use crate::input_watch::InputWatch;
 use joined_runs::Runs;
 use run_traits::{Alarm, Stop};
 use std::alloc::Global;
@@ -16,5 +17,7 @@ pub(crate) struct RunContext<R: Wait + Drop, B: Alarm + Drop, W: Alarm + Drop> {
     pub(crate) everyone: Arc<B, Global>,
     /// Rung after each input that was sent: the host's writer.
     pub(crate) writer: Arc<W, Global>,
+    /// Where it is read how much input waits, and how much was dropped.
+    pub(crate) input: Arc<InputWatch, Global>,
     pub(crate) stop: Arc<Stop<Arc<B, Global>>, Global>,
 }

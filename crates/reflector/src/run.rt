@@ -1,6 +1,6 @@
 //! A run: one host after another, and their viewers' places.
 
-ghost use Rattle.std.specs.Prelude.{◌≡◌, ◌⊎◌, ◌+◌, ◌≤◌, ℕ, true, None, [], ◌∷◌, All, drop, map, length, slice_index_or, vec_len, IfOk, IfErr};
+ghost use Rattle.std.specs.Prelude.{◌≡◌, ◌⊎◌, ◌+◌, ◌≤◌, ◌<◌, ℕ, true, None, [], ◌∷◌, All, drop, map, length, slice_index_or, vec_len, IfOk, IfErr};
 ghost use Rattle.reflect_core.specs.Sequential.{nothing_put};
 ghost use Rattle.fault.specs.declared.kinds.Fault.TheVariants.{Memory, NoPlace};
 ghost use Rattle.raster.specs.Size.{IsScreenSize};
@@ -8,6 +8,7 @@ ghost use Rattle.input_relay.specs.Ends.{fresh, host_of, relay_of, strand_of, ta
 ghost use Rattle.roles.specs.Strokes.{StrokesStand};
 ghost use Rattle.reflect_core.specs.Sequential as step;
 ghost use Rattle.tally_word.specs.Reaches.{Reaches};
+ghost use Rattle.host_writer.specs.Dropping.{IsCounted, all_dropped};
 ghost use Rattle.host_writer.specs.Writing.{taken_from};
 ghost use Rattle.reflector.specs.Tellings.{AreToldInTurn, HasTold, TellsHosts, desk};
 ghost use Rattle.reflector.specs.Written.{links_in};
@@ -16,6 +17,7 @@ ghost use Rattle.host_turns.specs.Running.{HasRun, IsLinkOf, IsOver, goes_on};
 ghost use Rattle.reflector.specs.Visits.{IsOfScreen};
 
 use crate::context::RunContext;
+use crate::input_watch::InputWatch;
 use crate::place::{PlaceHandle, start_place};
 use crate::reader::{HostsRead, ReaderHandle, start_reader};
 use crate::session_maker::SessionMaker;
@@ -54,6 +56,8 @@ pub struct Running<L, H, P, S: ScreenSource, D: Door, R: Wait + Drop> {
     pub taker: Taker<R>,
     /// Whose key or button is down, of what was taken, and how many inputs of each place weren't told.
     pub strokes: Strokes,
+    /// How many weren't told of all places.
+    pub dropped: u64,
     /// The places, by their numbers, each still to be joined: it gives back its watcher and its sender.
     pub places: Vec<PlaceHandle<S, D, R>>,
 }
@@ -173,6 +177,7 @@ where
     ensures over { IsOver H.are_out result.hosts result.result }
     ensures never { goes_on result.result ≡ true → H.again started.reader.promise.hosts.value ≡ None }
     ensures taker { host_of result.taker ≡ host_of started.writer.promise.taker.value }
+    ensures counted { IsCounted (taken_of started.writer.promise.taker.value) started.writer.promise.strokes.value 0 → IsCounted (taken_of result.taker) result.strokes result.dropped }
     ensures told { HasTold S.looks S.width S.height (desk [] started.writer.promise.source.value (taken_of started.writer.promise.taker.value) started.writer.promise.strokes.value) (links_in L.state result.written) (taken_of result.taker) result.strokes }
     ensures places { result.places ≡ started.places }
 {
@@ -192,6 +197,7 @@ where
         written,
         taker,
         strokes,
+        dropped,
     } = writer.join(&context.rt);
     Running {
         result,
@@ -201,8 +207,31 @@ where
         written,
         taker,
         strokes,
+        dropped,
         places,
     }
+}
+
+/// The relay of a run, of which whoever watches the run has a gauge. It fails where memory is refused (`Memory`).
+fn watched_relay<B, W, R>(
+    context: &RunContext<R, B, W>,
+    places: u64,
+) -> Result<(Vec<Sender<R>>, Taker<R>), Fault>
+where
+    B: Alarm + Drop,
+    W: Alarm + Drop,
+    R: Wait + Drop + Copy,
+    requires { (0 < places) × (places ≤ 64) }
+    ensures count { IfOk result (λ r. vec_len r.0 ≡ places) }
+    ensures places { IfOk result (λ r. map strand_of r.0.items ≡ fresh places) }
+    ensures one { IfOk result (λ r. All (λ s. relay_of s ≡ host_of r.1) r.0.items) }
+    ensures taken { IfOk result (λ r. taken_of r.1 ≡ []) }
+    ensures err { IfErr result (λ fault. fault ≡ Memory) }
+{
+    let (senders, mut taker) = relay(context.rt, context.alloc, places)?;
+    let gauge = taker.gauge()?;
+    context.input.attach(&context.rt, gauge);
+    Ok((senders, taker))
 }
 
 /// A run over any screen: its publisher, and a watcher for each place and one for the hosts' writer.
@@ -233,6 +262,7 @@ where
     ensures never { IfOk result (λ run. goes_on run.result ≡ true → H.again hosts ≡ None) }
     ensures places { IfOk result (λ run. map (λ place. strand_of place.promise.sender.value) run.places.items ≡ fresh (vec_len doors)) }
     ensures relay { IfOk result (λ run. All (λ place. relay_of place.promise.sender.value ≡ host_of run.taker) run.places.items) }
+    ensures counted { IfOk result (λ run. IsCounted (taken_of run.taker) run.strokes run.dropped) }
     ensures told { IfOk result (λ run. (source : S) × (source ≡ slice_index_or watchers.items 0 source) × TellsHosts S.looks S.width S.height source (links_in L.state run.written) (taken_of run.taker) run.strokes) }
     ensures doors { IfOk result (λ run. map (λ place. (place.promise.role, place.promise.door.value)) run.places.items ≡ doors.items) }
     ensures watchers { IfOk result (λ run. map (λ place. place.promise.watcher.value) run.places.items ≡ drop 1 watchers.items) }
@@ -240,7 +270,7 @@ where
     ensures err { IfErr result (λ fault. fault ≡ Memory) }
 {
     let (read, written) = links;
-    let (senders, taker) = relay(context.rt, context.alloc, doors.len() as u64)?;
+    let (senders, taker) = watched_relay(context, doors.len() as u64)?;
     let alarm = Arc::try_clone(&context.writer)?;
     let handover = Arc::new(context.alloc, Handover::new(written, alarm))?;
     match start_all(
@@ -274,7 +304,7 @@ where
 ///
 /// `everyone` is rung after each put: whoever waits for news, the hosts' writer too. `writer_bell` is rung after each
 /// input. The hosts' writer goes on with each host that is read; what was cut short at the end of one isn't written
-/// again.
+/// again. At `input` it is read meanwhile how many inputs wait, and how many weren't told.
 ///
 /// `Memory` where memory is refused or a thread can't be made, `NoPlace` where the shared screen has no place: then
 /// nothing was put, and the threads that were started are told to end and aren't waited for. Once all threads are there
@@ -291,6 +321,7 @@ pub fn run_all<J, L, H, D, B, W, R>(
     runs: Runs,
     everyone: Arc<B, Global>,
     writer_bell: Arc<W, Global>,
+    input: Arc<InputWatch, Global>,
 ) -> Result<Running<L, H, Publisher<J, R>, Watcher<J>, D, R>, Fault>
 where
     J: Naming + Publishes + Send + Sync + 'static,
@@ -312,6 +343,7 @@ where
     ensures told { IfOk result (λ run. TellsHosts (λ old reply new. Reaches old (step.Look reply ∷ []) new) (λ _. J.width) (λ _. J.height) nothing_put (links_in L.state run.written) (taken_of run.taker) run.strokes) }
     ensures in_turn { IfOk result (λ run. AreToldInTurn J.width J.height [] (links_in L.state run.written) (taken_of run.taker)) }
     ensures strokes { IfOk result (λ run. StrokesStand run.strokes (map taken_from (taken_of run.taker))) }
+    ensures dropped { IfOk result (λ run. run.dropped ≡ all_dropped (map taken_from (taken_of run.taker))) }
     ensures doors { IfOk result (λ run. map (λ place. (place.promise.role, place.promise.door.value)) run.places.items ≡ doors.items) }
     ensures watchers { IfOk result (λ run. All (λ place. place.promise.watcher.value ≡ nothing_put) run.places.items) }
     ensures screen { IfOk result (λ run. All (λ place. IsOfScreen joined.w joined.h joined.name runs place.promise.width place.promise.height place.promise.name.value.items place.promise.runs) run.places.items) }
@@ -324,6 +356,7 @@ where
         runs,
         everyone,
         writer: writer_bell,
+        input,
         stop,
     };
     let (publisher, watchers) = shared::<J, R>(

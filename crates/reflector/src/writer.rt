@@ -4,15 +4,17 @@ ghost use Rattle.std.specs.Prelude.{◌≡◌, [], IfOk, IfErr};
 ghost use Rattle.fault.specs.declared.kinds.Fault.TheVariants.{Memory};
 ghost use Rattle.raster.specs.Size.{IsScreenSize};
 ghost use Rattle.input_relay.specs.Ends.{host_of, taken_of};
+ghost use Rattle.host_writer.specs.Dropping.{IsCounted};
 ghost use Rattle.reflector.specs.Tellings.{HasTold, desk};
 ghost use Rattle.reflector.specs.Written.{links_in};
 
 use crate::context::RunContext;
+use crate::input_watch::{InputWatch, Untold};
 use crate::turns::{LinkTurns, Round};
 use crate::written::Written;
 use fault::Fault;
 use host_turns::Handover;
-use host_writer::run_writer;
+use host_writer::{DropCount, run_writer};
 use input_relay::Taker;
 use link::{Link, Rest};
 use reflect_core::ScreenSource;
@@ -24,16 +26,18 @@ use std::sync::{Arc, Wait};
 use std::thread;
 use std::thread::{Promise, PromisedHandle, Threads};
 
-/// What telling the hosts came to: over which links, what took the viewers' input, and whose key or button is down of
-/// what was taken.
+/// What telling the hosts came to: over which links, what took the viewers' input, whose key or button is down of what
+/// was taken, and how many inputs of all places weren't told.
 #[derive(Drop)]
 pub(crate) struct HostsTold<L, R: Wait + Drop> {
     pub(crate) written: Written<L>,
     pub(crate) taker: Taker<R>,
     pub(crate) strokes: Strokes,
+    pub(crate) dropped: u64,
 }
 
-/// That the taker comes back that the thread began with, after hosts were told one after another what it took.
+/// That the taker comes back that the thread began with, after hosts were told one after another what it took, and that
+/// what wasn't told was counted from the first on.
 #[derive(Drop)]
 pub(crate) struct OfTaker<S, R: Wait + Drop> {
     pub(crate) source: Snapshot<S>,
@@ -44,10 +48,11 @@ pub(crate) struct OfTaker<S, R: Wait + Drop> {
 impl<L: Link, S: ScreenSource, R: Wait + Drop> Promise<HostsTold<L, R>> for OfTaker<S, R> {
     ghost use Rattle.std.specs.Prelude.{◌≡◌, []};
     ghost use Rattle.input_relay.specs.Ends.{host_of, taken_of};
+    ghost use Rattle.host_writer.specs.Dropping.{IsCounted};
     ghost use Rattle.reflector.specs.Tellings.{HasTold, desk};
     ghost use Rattle.reflector.specs.Written.{links_in};
 
-    ghost kept_by = { λ promise told. (host_of told.taker ≡ host_of promise.taker.value) × HasTold S.looks S.width S.height (desk [] promise.source.value (taken_of promise.taker.value) promise.strokes.value) (links_in L.state told.written) (taken_of told.taker) told.strokes };
+    ghost kept_by = { λ promise told. (host_of told.taker ≡ host_of promise.taker.value) × (IsCounted (taken_of promise.taker.value) promise.strokes.value 0 → IsCounted (taken_of told.taker) told.strokes told.dropped) × HasTold S.looks S.width S.height (desk [] promise.source.value (taken_of promise.taker.value) promise.strokes.value) (links_in L.state told.written) (taken_of told.taker) told.strokes };
 }
 
 /// The thread that tells the hosts.
@@ -55,23 +60,34 @@ pub(crate) type WriterHandle<L, S, R> = PromisedHandle<HostsTold<L, R>, OfTaker<
 
 /// Tells one host after another, each until it is left or its link ends, and the rest of the input goes on to the next.
 /// A fault of a link isn't told: the reader's tells it.
-fn write<L: Link, E: LinkTurns<L>, S: ScreenSource + Drop, Z: Rest, R: Wait + Drop>(
+fn write<L: Link, E: LinkTurns<L>, S: ScreenSource + Drop, D: DropCount, Z: Rest, R: Wait + Drop>(
     rt: &R,
     turns: &mut E,
     mut source: S,
     taker: &mut Taker<R>,
     strokes: &mut Strokes,
+    drops: &mut D,
     rest: &Z,
 )
     requires { (s : S) → IsScreenSize (S.width s) (S.height s) }
     ensures relay { host_of taker.new ≡ host_of taker.old }
+    ensures counted { IsCounted (taken_of taker.old) strokes.old (D.dropped drops.old) → IsCounted (taken_of taker.new) strokes.new (D.dropped drops.new) }
     ensures told { HasTold S.looks S.width S.height (desk (E.links turns.old) source (taken_of taker.old) strokes.old) (E.links turns.new) (taken_of taker.new) strokes.new }
 {
     for _ in rt.forever() {
         let Some(mut link) = turns.next(rt) else {
             return;
         };
-        let _ = run_writer(rt, &mut link, &mut source, taker, strokes, &*turns, rest);
+        let _ = run_writer(
+            rt,
+            &mut link,
+            &mut source,
+            taker,
+            strokes,
+            drops,
+            &*turns,
+            rest,
+        );
         turns.told(link);
     }
     unreachable!()
@@ -84,18 +100,30 @@ fn tell<L: Link, W: Alarm + Drop, S: ScreenSource + Drop, Z: Rest, R: Wait + Dro
     source: S,
     mut taker: Taker<R>,
     mut strokes: Strokes,
+    input: Arc<InputWatch, Global>,
     rest: &Z,
 ) -> HostsTold<L, R>
     requires { (s : S) → IsScreenSize (S.width s) (S.height s) }
     ensures relay { host_of result.taker ≡ host_of taker }
+    ensures counted { IsCounted (taken_of taker) strokes 0 → IsCounted (taken_of result.taker) result.strokes result.dropped }
     ensures told { HasTold S.looks S.width S.height (desk [] source (taken_of taker) strokes) (links_in L.state result.written) (taken_of result.taker) result.strokes }
 {
     let mut turns = Round::new(handover);
-    write(rt, &mut turns, source, &mut taker, &mut strokes, rest);
+    let mut untold = Untold::new(input);
+    write(
+        rt,
+        &mut turns,
+        source,
+        &mut taker,
+        &mut strokes,
+        &mut untold,
+        rest,
+    );
     HostsTold {
         written: turns.into_written(),
         taker,
         strokes,
+        dropped: untold.count,
     }
 }
 
@@ -107,6 +135,7 @@ fn tell_beside<L, S, Z, W, R>(
     source: S,
     taker: Taker<R>,
     strokes: Strokes,
+    input: Arc<InputWatch, Global>,
 ) -> Result<WriterHandle<L, S, R>, Fault>
 where
     L: Link + Send + 'static,
@@ -129,8 +158,9 @@ where
         move || -> HostsTold<L, R>
             requires { (s : S) → IsScreenSize (S.width s) (S.height s) }
             ensures relay { host_of result.taker ≡ host_of taker }
+            ensures counted { IsCounted (taken_of taker) strokes 0 → IsCounted (taken_of result.taker) result.strokes result.dropped }
             ensures told { HasTold S.looks S.width S.height (desk [] source (taken_of taker) strokes) (links_in L.state result.written) (taken_of result.taker) result.strokes }
-        { tell(&rt, handover, source, taker, strokes, &*rest) },
+        { tell(&rt, handover, source, taker, strokes, input, &*rest) },
     );
     match started {
         Ok(handle) => Ok(handle),
@@ -157,5 +187,6 @@ where
     ensures err { IfErr result (λ fault. fault ≡ Memory) }
 {
     let rest = Arc::try_clone(&context.writer)?;
-    tell_beside(context.rt, rest, handover, source, taker, strokes)
+    let input = Arc::try_clone(&context.input)?;
+    tell_beside(context.rt, rest, handover, source, taker, strokes, input)
 }

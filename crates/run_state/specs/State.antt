@@ -27,6 +27,9 @@ after_places before r =
     before ++ codes "entry " ++ entry_word r.entry ++ codes "\nplaces role=full places=" ++ decimal r.full_places
     ++ codes "\nplaces role=view places=" ++ decimal r.view_places ++ codes "\n"
 
+abbrev pub after_input : List ℕ → Report → List ℕ
+after_input before r = before ++ codes "input waiting=" ++ decimal r.waiting ++ codes " dropped=" ++ decimal r.dropped ++ codes "\n"
+
 abbrev pub after_host : List ℕ → HostReport → List ℕ
 after_host before h =
     before ++ codes "host address=" ++ h.address.now ++ codes " width=" ++ decimal h.width ++ codes " height=" ++ decimal h.height
@@ -54,4 +57,4 @@ after_viewers before [] = before
 after_viewers before (v ∷ vs) = after_viewers (after_viewer before v) vs
 
 abbrev pub state_lines : Report → List ℕ
-state_lines r = after_viewers (after_whoever (after_places [] r) r.host) r.viewers.now
+state_lines r = after_viewers (after_whoever (after_input (after_places [] r) r) r.host) r.viewers.now

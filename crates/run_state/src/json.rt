@@ -48,6 +48,8 @@ pub fn state_json(alloc: Global, report: &Report<'_>) -> Result<String, AllocErr
         "entry": entry,
         "full_places": report.full_places,
         "view_places": report.view_places,
+        "waiting": report.waiting,
+        "dropped": report.dropped,
         "host": host,
         "viewers": viewers
     })?;

@@ -54,6 +54,10 @@ pub struct Report<'a> {
     pub full_places: u64,
     /// How many for viewers that only look on.
     pub view_places: u64,
+    /// How many inputs of viewers wait for the host.
+    pub waiting: u64,
+    /// How many were dropped on their way to a host.
+    pub dropped: u64,
     /// Who has a place, in the order of the places.
     pub viewers: &'a [ViewerReport<'a>],
 }

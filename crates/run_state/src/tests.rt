@@ -11,6 +11,7 @@ use std::test::Fail;
 const EXPECTED: &str = "entry drained
 places role=full places=4
 places role=view places=32
+input waiting=256 dropped=3
 host address=127.0.0.1:5907 width=1280 height=800 seconds=3600 silent=2 updates=77 name=\"desk of \\\"x\\\"\"
 viewer place=1 role=full address=192.0.2.9:50000 seconds=12 updates=34 bytes=5678 behind=0 asked=no
 viewer place=7 role=view address=- seconds=0 updates=0 bytes=0 behind=77 asked=yes
@@ -53,6 +54,8 @@ fn report<'a>(viewers: &'a [ViewerReport<'a>]) -> Report<'a> {
         }),
         full_places: 4,
         view_places: 32,
+        waiting: 256,
+        dropped: 3,
         viewers,
     }
 }
@@ -67,7 +70,7 @@ fn each_viewer_has_its_line(rt: HostRuntime) -> Result<(), Fail> {
     let text = state_text(rt.alloc(), &empty)?;
     assert_eq!(rt;
         text.as_str(),
-        "entry open\nplaces role=full places=4\nplaces role=view places=32\nhost none\n"
+        "entry open\nplaces role=full places=4\nplaces role=view places=32\ninput waiting=256 dropped=3\nhost none\n"
     );
     Ok(())
 }
@@ -79,6 +82,8 @@ fn the_same_stands_in_json(rt: HostRuntime) -> Result<(), Fail> {
     for (path, number) in [
         ("/full_places", 4),
         ("/view_places", 32),
+        ("/waiting", 256),
+        ("/dropped", 3),
         ("/host/width", 1280),
         ("/host/height", 800),
         ("/host/seconds", 3600),

@@ -2,7 +2,7 @@
 
 ghost use Rattle.std.specs.Prelude.{◌≡◌, IfOk, OnOk};
 ghost use Rattle.std.specs.String.{string_bytes};
-ghost use Rattle.run_state.specs.State.{after_counts, after_host, after_place, after_places, after_viewer, after_viewers, after_whoever, state_lines};
+ghost use Rattle.run_state.specs.State.{after_counts, after_host, after_input, after_place, after_places, after_viewer, after_viewers, after_whoever, state_lines};
 
 use crate::lines::{entry_word, put_number, put_word, role_word, yes_word};
 use crate::report::{HostReport, Report, ViewerReport};
@@ -72,6 +72,15 @@ fn put_places(text: &mut String, report: &Report<'_>) -> Result<(), AllocError>
     text.push_str("\n")
 }
 
+/// Puts the line of the viewers' input.
+fn put_input(text: &mut String, report: &Report<'_>) -> Result<(), AllocError>
+    ensures { OnOk result (string_bytes text.new ≡ after_input (string_bytes text.old) report.now) }
+{
+    put_number(text, "input waiting=", report.waiting)?;
+    put_number(text, " dropped=", report.dropped)?;
+    text.push_str("\n")
+}
+
 /// Puts the line of the host, if one is joined.
 fn put_whoever(text: &mut String, host: &Option<HostReport<'_>>) -> Result<(), AllocError>
     ensures { OnOk result (string_bytes text.new ≡ after_whoever (string_bytes text.old) host.now) }
@@ -88,6 +97,7 @@ pub fn state_text(alloc: Global, report: &Report<'_>) -> Result<String, AllocErr
 {
     let mut text = String::new(alloc);
     put_places(&mut text, report)?;
+    put_input(&mut text, report)?;
     put_whoever(&mut text, &report.host)?;
     put_viewers(&mut text, report.viewers)?;
     Ok(text)

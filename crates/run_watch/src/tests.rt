@@ -56,6 +56,8 @@ fn counters(is_joined: bool, full: u64, view: u64) -> Counters {
         updates: 0,
         answers: 0,
         bytes: 0,
+        waiting: 0,
+        dropped: 0,
         lag: Lag {
             half: 0,
             nine_tenths: 0,

@@ -3,7 +3,8 @@
 use crate::halls::Halls;
 use crate::lifeline::Lifeline;
 use crate::state::state;
-use connections::{Desk, WriterSeat};
+use crate::writer_reach::WriterReach;
+use connections::Desk;
 use run_control::{Outcome, Request};
 use std::alloc::Global;
 use std::io::{ErrorKind, Read, Write};
@@ -44,8 +45,8 @@ const NO_REQUEST: &[u8] =
 pub(crate) struct Control {
     pub(crate) listener: UnixListener,
     pub(crate) desk: Arc<Desk, Global>,
-    /// Where whoever tells the host rests.
-    pub(crate) writer: Arc<WriterSeat, Global>,
+    /// Whoever tells the host.
+    pub(crate) writer: WriterReach,
     /// How many places there are for viewers of each role.
     pub(crate) full_places: u64,
     pub(crate) view_places: u64,
@@ -121,7 +122,7 @@ fn outcome_text(outcome: Outcome) -> &'static str {
 /// Waits until the host was told all that viewers held, though not for long.
 fn await_last_words<R: Wait + Clock>(rt: &R, reach: &Reach) {
     for _ in 0..MOST_LOOKS {
-        if reach.control.writer.is_quiet() || !reach.control.lifeline.holds(rt) {
+        if reach.control.writer.seat.is_quiet() || !reach.control.lifeline.holds(rt) {
             return;
         }
         thread::sleep(rt, Duration::from_millis(LOOK_MILLIS));

@@ -3,9 +3,11 @@
 use connections::Glance;
 use metrics_text::{ByRole, Counters, Lag};
 use plan::{Plan, places_of};
+use reflector::InputWatch;
 use roles::Role;
 use run_watch::Tally;
 use std::alloc::{AllocError, Global};
+use std::sync::Wait;
 
 /// How many places a plan has for each role.
 pub(crate) fn places_by_role(plan: &Plan<'_>) -> ByRole {
@@ -51,12 +53,15 @@ fn viewers_of(glance: &Glance) -> ByRole {
     viewers
 }
 
-/// The numbers of a run with these places. It fails where memory is refused for them.
-pub(crate) fn counters_of(
+/// The numbers of a run with these places, whose viewers' input is watched so. It fails where memory is refused for
+/// them.
+pub(crate) fn counters_of<R: Wait>(
+    rt: &R,
     alloc: Global,
     glance: &Glance,
     tally: &Tally,
     places: ByRole,
+    input: &InputWatch,
 ) -> Result<Counters, AllocError> {
     Ok(Counters {
         is_joined: glance.host.is_some(),
@@ -69,6 +74,8 @@ pub(crate) fn counters_of(
         updates: glance.updates,
         answers: glance.totals.updates,
         bytes: glance.totals.bytes,
+        waiting: input.waiting(rt) as u64,
+        dropped: input.dropped(),
         lag: lag_of(alloc, glance)?,
     })
 }

@@ -32,6 +32,7 @@ mod supply;
 mod surroundings;
 mod trouble;
 mod web;
+mod writer_reach;
 
 pub use answer::serve;
 pub use bound::Ports;

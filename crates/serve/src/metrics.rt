@@ -17,6 +17,7 @@ use connections::Desk;
 use fault::Fault;
 use metrics_text::ByRole;
 use plan::{Plan, metrics_address_of};
+use reflector::InputWatch;
 use run_control::Entry;
 use run_traits::Log;
 use std::alloc::{AllocGlobal, Global};
@@ -95,6 +96,7 @@ struct Sources<R: Eprint + Clock + Wait + Drop> {
     alloc: Global,
     desk: Arc<Desk, Global>,
     sentry: Sentry<R>,
+    input: Arc<InputWatch, Global>,
     places: ByRole,
     keys: RandomState,
 }
@@ -103,7 +105,8 @@ impl<R: Eprint + Clock + Wait + Drop> Sources<R> {
     /// The run as it stands now. It fails where memory is refused for that.
     fn look(&self, rt: &R) -> io::Result<Watched> {
         let glance = self.desk.look(rt, self.alloc)?;
-        let counters = counters_of(self.alloc, &glance, &self.sentry.tally(), self.places)?;
+        let tally = self.sentry.tally();
+        let counters = counters_of(rt, self.alloc, &glance, &tally, self.places, &self.input)?;
         let is_drained = glance.entry != Entry::Open;
         Ok(Watched::new(self.alloc, counters, is_drained))
     }
@@ -140,6 +143,7 @@ fn start_metrics<R>(
     listener: Option<TcpListener>,
     desk: &Arc<Desk, Global>,
     sentry: &Sentry<R>,
+    input: &Arc<InputWatch, Global>,
 ) -> Result<(), Trouble>
 where
     R: Eprint + Threads + Wait + Clock + RandomSource + Copy + Drop + Send + 'static,
@@ -148,6 +152,9 @@ where
         return Ok(());
     };
     let Ok(desk) = Arc::try_clone(desk) else {
+        return Err(Trouble::new(Stage::Start, Fault::Memory));
+    };
+    let Ok(input) = Arc::try_clone(input) else {
         return Err(Trouble::new(Stage::Start, Fault::Memory));
     };
     let Ok(sentry) = sentry.clone() else {
@@ -161,6 +168,7 @@ where
         alloc,
         desk,
         sentry,
+        input,
         places: places_by_role(plan),
         keys,
     };
@@ -192,7 +200,10 @@ where
         entrances,
         machines,
     } = opened;
+    let Ok(input) = Arc::new(alloc, InputWatch::new()) else {
+        return Err(Trouble::new(Stage::Start, Fault::Memory));
+    };
     let desk = entrances.view.lobby.desk();
-    start_metrics(rt, alloc, plan, machines, desk, log)?;
-    run(rt, alloc, plan, entrances, log)
+    start_metrics(rt, alloc, plan, machines, desk, log, &input)?;
+    run(rt, alloc, plan, entrances, input, log)
 }

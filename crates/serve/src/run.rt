@@ -18,13 +18,14 @@ use crate::start::{control_of, lifeline_of, was_cut};
 use crate::supply::Supply;
 use crate::trouble::{Stage, Trouble};
 use crate::web::shared;
+use crate::writer_reach::WriterReach;
 use connections::{Desk, WriterSeat};
 use fault::Fault;
 use host_turns::Hosts;
 use joined_runs::Runs;
 use link::{Link, Rest};
 use plan::{Plan, runs_of};
-use reflector::{Running, run_all};
+use reflector::{InputWatch, Running, run_all};
 use rfb_wire::Joined;
 use roles::Role;
 use run_traits::{Alarm, Door, Log};
@@ -49,6 +50,7 @@ fn over<J, L, H, D, B, W, R>(
     runs: Runs,
     everyone: Arc<B, Global>,
     writer: Arc<W, Global>,
+    input: Arc<InputWatch, Global>,
 ) -> Result<(), Fault>
 where
     J: Naming + Publishes + Send + Sync + 'static,
@@ -72,10 +74,11 @@ where
         publisher: _publisher,
         taker: _taker,
         strokes: _strokes,
+        dropped: _dropped,
         written: _written,
         places: _places,
     } = run_all::<J, L, H, D, B, W, R>(
-        rt, alloc, history, reader, writer_end, joined, hosts, doors, runs, everyone, writer,
+        rt, alloc, history, reader, writer_end, joined, hosts, doors, runs, everyone, writer, input,
     )?;
     result
 }
@@ -90,7 +93,7 @@ fn reflect<G, R>(
     supply: Supply<R, G>,
     met: Met<R>,
     rooms: Rooms<R, G>,
-    writer: Arc<WriterSeat, Global>,
+    writer: WriterReach,
 ) -> Result<(), Fault>
 where
     G: Log + Drop + Send + 'static,
@@ -103,7 +106,8 @@ where
     ensures { goes_on result ≡ true → MayEnd plan.now }
 {
     let Rooms { doors, seats } = rooms;
-    let everyone = everyone_of(alloc, &writer, seats, supply.desk.count())?;
+    let WriterReach { seat, input } = writer;
+    let everyone = everyone_of(alloc, &seat, seats, supply.desk.count())?;
     over::<Brand, _, _, _, _, _, _>(
         rt,
         alloc,
@@ -114,12 +118,13 @@ where
         doors,
         runs_of(plan),
         everyone,
-        writer,
+        seat,
+        input,
     )
 }
 
 /// Joins the first host, and reflects it and those that follow on it until the last ends, in these rooms. Then the
-/// places are waited for, though not for long. The hosts' writer rests at this seat.
+/// places are waited for, though not for long.
 fn reflect_all<G, R>(
     rt: R,
     alloc: Global,
@@ -128,7 +133,7 @@ fn reflect_all<G, R>(
     entrances: Entrances<'_>,
     rooms: Rooms<R, G>,
     control: Option<Control>,
-    writer: Arc<WriterSeat, Global>,
+    writer: WriterReach,
     log: &G,
 ) -> Result<(), Trouble>
 where
@@ -156,30 +161,36 @@ where
 struct Common<G: Drop> {
     /// The doors of all places.
     desk: Arc<Desk, Global>,
-    /// Where the hosts' writer rests.
-    writer: Arc<WriterSeat, Global>,
+    writer: WriterReach,
     log: G,
 }
 
 impl<G: Log + Clone + Drop> Common<G> {
-    /// For a run into which viewers come by these entries.
-    fn new(alloc: Global, entrances: &Entrances<'_>, log: &G) -> Result<Common<G>, AllocError> {
+    /// For a run into which viewers come by these entries, and whose input is watched there.
+    fn new(
+        alloc: Global,
+        entrances: &Entrances<'_>,
+        input: Arc<InputWatch, Global>,
+        log: &G,
+    ) -> Result<Common<G>, AllocError> {
+        let seat = Arc::new(alloc, WriterSeat::new())?;
         Ok(Common {
             desk: Arc::try_clone(entrances.view.lobby.desk())?,
-            writer: Arc::new(alloc, WriterSeat::new())?,
+            writer: WriterReach { seat, input },
             log: log.clone()?,
         })
     }
 }
 
 /// Reflects the hosts of a plan, for viewers who come in by these entries, one for each role that is served, until the
-/// last host ends or an operator stops the run, if one can.
+/// last host ends or an operator stops the run, if one can. It is read at `input` how much of theirs waits.
 #[tactic(auto, using(crate::proofs::Stopping::stopped))]
 pub(crate) fn run<G, R>(
     rt: R,
     alloc: Global,
     plan: &Plan<'_>,
     entrances: Entrances<'_>,
+    input: Arc<InputWatch, Global>,
     log: &G,
 ) -> Result<(), Trouble>
 where
@@ -197,7 +208,7 @@ where
             writer,
             log: theirs,
         },
-    ) = Common::new(alloc, &entrances, log)
+    ) = Common::new(alloc, &entrances, input, log)
     else {
         return Err(Trouble::new(Stage::Start, Fault::Memory));
     };

@@ -7,7 +7,8 @@ use crate::halls::Halls;
 use crate::lifeline::Lifeline;
 use crate::runtime::{Runtime, STACK};
 use crate::trouble::{Stage, Trouble};
-use connections::{Desk, WriterSeat};
+use crate::writer_reach::WriterReach;
+use connections::Desk;
 use fault::Fault;
 use plan::{Plan, places_of};
 use roles::Role;
@@ -24,26 +25,25 @@ fn prepared(
     listener: UnixListener,
     plan: &Plan<'_>,
     desk: &Arc<Desk, Global>,
-    writer: &Arc<WriterSeat, Global>,
+    writer: &WriterReach,
 ) -> Result<Control, AllocError> {
     Ok(Control {
         listener,
         desk: Arc::try_clone(desk)?,
-        writer: Arc::try_clone(writer)?,
+        writer: writer.another()?,
         full_places: places_of(plan, Role::Full),
         view_places: places_of(plan, Role::View),
         lifeline: Arc::new(alloc, Lifeline::new())?,
     })
 }
 
-/// Listens for an operator, if the plan has a path for it. These are the desk of the run, and where whoever tells the
-/// host rests.
+/// Listens for an operator, if the plan has a path for it. These are the desk of the run, and whoever tells the host.
 pub(crate) fn control_of<R: Files + Net>(
     rt: &R,
     alloc: Global,
     plan: &Plan<'_>,
     desk: &Arc<Desk, Global>,
-    writer: &Arc<WriterSeat, Global>,
+    writer: &WriterReach,
 ) -> Result<Option<Control>, Trouble>
     ensures { IfOk result (λ control. is_some control ≡ is_some plan.now.control) }
 {

@@ -103,6 +103,8 @@ pub(crate) fn state<R: Wait + Clock>(
         },
         full_places: reach.control.full_places,
         view_places: reach.control.view_places,
+        waiting: reach.control.writer.input.waiting(rt) as u64,
+        dropped: reach.control.writer.input.dropped(),
         viewers: viewers.as_slice(),
     };
     match form {

@@ -19,6 +19,8 @@ fn counters(is_joined: bool, view: u64) -> Counters {
         updates: 11,
         answers: 8,
         bytes: 9,
+        waiting: 3,
+        dropped: 14,
         lag: Lag {
             half: 0,
             nine_tenths: 1,
@@ -97,6 +99,8 @@ fn prometheus_reads_the_numbers(rt: HostRuntime) -> Result<(), Fail> {
     let text = std::str::from_utf8(body).or(Err("no text"))?;
     assert!(rt; text.contains("\nreflectord_viewers{role=\"view\"} 1\n"));
     assert!(rt; text.contains("\nreflectord_host_joined 1\n"));
+    assert!(rt; text.contains("\nreflectord_input_waiting 3\n"));
+    assert!(rt; text.contains("\nreflectord_input_dropped_total 14\n"));
     Ok(())
 }
 

@@ -3,8 +3,8 @@
 ghost use Rattle.std.specs.Prelude.{◌≡◌, length};
 
 use crate::loops::watch::{ALWAYS, Watch, link_of, make_watch, number, red_and_blue};
-use fault::Fault;
-use host_writer::run_writer;
+use fault::{Fault, LIMIT};
+use host_writer::{DropCount, run_writer};
 use input_relay::{Sender, Taker, relay};
 use link::{Gave, MemoryLink};
 use raster::Rect;
@@ -125,7 +125,22 @@ fn relay_with<R: Wait + Drop + Copy>(
     }
 }
 
-/// Tells the host what was relayed. Whether the answer, the rests and what doesn't pass are as told.
+/// How many inputs weren't told.
+#[derive(Drop)]
+struct Untold {
+    count: u64,
+}
+
+impl DropCount for Untold {
+    ghost dropped = { λ untold. untold.count };
+
+    fn count_one(&mut self) {
+        self.count = LIMIT.min(self.count.saturating_add(1));
+    }
+}
+
+/// Tells the host what was relayed. Whether the answer, the rests and what doesn't pass are as told, of each place and
+/// of both.
 fn tells<R: Wait + Drop>(
     rt: &R,
     alloc: Global,
@@ -140,11 +155,22 @@ fn tells<R: Wait + Drop>(
         looks: 0,
         flag: &watch,
     };
-    let answer = run_writer(rt, link, &mut source, taker, &mut strokes, &watch, &watch);
+    let mut untold = Untold { count: 0 };
+    let answer = run_writer(
+        rt,
+        link,
+        &mut source,
+        taker,
+        &mut strokes,
+        &mut untold,
+        &watch,
+        &watch,
+    );
     let rests = watch.rests.load(Ordering::SeqCst);
     let is_rested = case.rests.0 <= rests && rests <= case.rests.1;
     let dropped = (strokes.dropped(0), strokes.dropped(1));
-    Ok(number(answer) == case.answer && is_rested && dropped == case.dropped)
+    let are_counted = dropped == case.dropped && untold.count == case.dropped.0 + case.dropped.1;
+    Ok(number(answer) == case.answer && is_rested && are_counted)
 }
 
 /// Whether the host is told as the case says.

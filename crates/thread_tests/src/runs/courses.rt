@@ -19,9 +19,12 @@ const MANY_KEYS: [[Key; 2]; 150] = [[[4, 1, 0, 0, 0, 0, 0, 65], [4, 0, 0, 0, 0, 
 
 /// Keys 97 and 98 are pressed and released.
 const TWO_KEYS: [[Key; 2]; 2] = [
-    [[4, 1, 0, 0, 0, 0, 0, 97], [4, 0, 0, 0, 0, 0, 0, 97]],
+    KEY_97,
     [[4, 1, 0, 0, 0, 0, 0, 98], [4, 0, 0, 0, 0, 0, 0, 98]],
 ];
+
+/// Key 97 alone.
+const KEY_97: [Key; 2] = [[4, 1, 0, 0, 0, 0, 0, 97], [4, 0, 0, 0, 0, 0, 0, 97]];
 
 /// The number of the update that turns the screen black, where another host comes.
 const BLACK: u64 = 2;
@@ -125,6 +128,8 @@ const HELD_VIEWER: Course = Course {
         fault: 0,
         links: 1,
         last: 3,
+        dropped: 0,
+        left: 0,
     },
 };
 
@@ -140,6 +145,8 @@ const STALLED_VIEWERS: Course = Course {
         fault: 0,
         links: 1,
         last: 3,
+        dropped: 0,
+        left: 0,
     },
 };
 
@@ -180,6 +187,8 @@ const FULL_RELAY: Course = Course {
         fault: 0,
         links: 1,
         last: 2,
+        dropped: 0,
+        left: 0,
     },
 };
 
@@ -214,6 +223,60 @@ const PLACE_AGAIN: Course = Course {
         fault: 0,
         links: 1,
         last: 1,
+        dropped: 0,
+        left: 0,
+    },
+};
+
+/// The first place holds key 97 down. Meanwhile the second one's first viewer presses key 98 and leaves, so that it is
+/// released: neither is told. Once that place's second viewer was shown the update, key 97 is released.
+const STROKE_IS_KEPT: Course = Course {
+    name: "what_breaks_into_a_stroke_is_dropped",
+    view: &SMALL,
+    black: 0,
+    places: &[
+        &[Script {
+            acts: &[
+                Act::Says(HELLO),
+                Act::Says(PRESS_97),
+                Act::Waits(Gate::Shown(1, 1)),
+                Act::Ends,
+            ],
+            taking: Taking::AtOnce,
+        }],
+        &[
+            Script {
+                acts: &[
+                    Act::Says(HELLO),
+                    Act::Waits(Gate::Told(1)),
+                    Act::Says(PRESS_98),
+                    Act::Ends,
+                ],
+                taking: Taking::AtOnce,
+            },
+            Script {
+                acts: &[Act::Says(HELLO), Act::AsksFor(1)],
+                taking: Taking::AtOnce,
+            },
+        ],
+    ],
+    hosts: &[
+        Script {
+            acts: &[Act::Says(ONE), Act::Waits(Gate::Told(2)), Act::Ends],
+            taking: Taking::Told(Gate::Open, &[]),
+        },
+        Script {
+            acts: &[Act::Ends],
+            taking: Taking::Told(Gate::Open, &[KEY_97]),
+        },
+    ],
+    may_end: true,
+    end: End {
+        fault: 0,
+        links: 1,
+        last: 1,
+        dropped: 2,
+        left: 0,
     },
 };
 
@@ -260,6 +323,8 @@ const WIDER_THIRD: Course = Course {
         fault: 5,
         links: 2,
         last: 3,
+        dropped: 0,
+        left: 0,
     },
 };
 
@@ -292,6 +357,8 @@ const HOST_AT_FAULT: Course = Course {
         fault: 8,
         links: 1,
         last: 1,
+        dropped: 0,
+        left: 0,
     },
 };
 
@@ -308,15 +375,18 @@ const NO_HOST_LEFT: Course = Course {
         fault: 22,
         links: 1,
         last: 1,
+        dropped: 0,
+        left: 0,
     },
 };
 
 /// Each of the runs.
-static COURSES: [Course; 8] = [
+static COURSES: [Course; 9] = [
     HELD_VIEWER,
     STALLED_VIEWERS,
     FULL_RELAY,
     PLACE_AGAIN,
+    STROKE_IS_KEPT,
     WIDER_THIRD,
     HOST_AT_FAULT,
     NO_HOST_LEFT,

@@ -61,14 +61,47 @@ static GOES_ON: Course = Course {
         fault: 0,
         links: 2,
         last: 3,
+        dropped: 0,
+        left: 0,
+    },
+};
+
+/// The only host's link fails as the press of key 97 is told, and the host ends. The key is released as its viewer is
+/// left, which nobody takes any more.
+static IS_LEFT: Course = Course {
+    name: "input is left at the end",
+    view: &SMALL,
+    black: 0,
+    places: &[&[Script {
+        acts: &[Act::Says(HELLO), Act::AsksFor(1), Act::Says(PRESS_97)],
+        taking: Taking::AtOnce,
+    }]],
+    hosts: &[
+        Script {
+            acts: &[Act::Says(ONE), Act::Waits(Gate::Told(1)), Act::Ends],
+            taking: Taking::Told(Gate::Open, &[]),
+        },
+        Script {
+            acts: &[Act::Ends],
+            taking: Taking::FailsAt(&KEYS),
+        },
+    ],
+    may_end: true,
+    end: End {
+        fault: 0,
+        links: 1,
+        last: 1,
+        dropped: 0,
+        left: 1,
     },
 };
 
 #[test]
 fn input_goes_on_after_a_dead_link(rt: HostRuntime) -> Result<(), Fail> {
-    if goes_right(rt, rt.alloc(), &GOES_ON)? {
-        Ok(())
-    } else {
-        Err(Fail::new(GOES_ON.name))
+    for course in [&GOES_ON, &IS_LEFT] {
+        if !goes_right(rt, rt.alloc(), course)? {
+            return Err(Fail::new(course.name));
+        }
     }
+    Ok(())
 }

@@ -12,12 +12,12 @@ use crate::runs::wire::Wire;
 use arrayvec::ArrayVec;
 use fault::Fault;
 use host_turns::Hosts;
-use input_relay::settle;
+use input_relay::{Settled, settle};
 use joined_runs::Runs;
 use link::Link;
 use raster::Rect;
 use reflect_core::{Cut, ScreenSource};
-use reflector::{Place, Running, join_place, run_all};
+use reflector::{InputWatch, Place, Running, join_place, run_all};
 use rfb_wire::Joined;
 use roles::Role;
 use run_traits::{Door, NoAlarm, PlaceCount};
@@ -33,12 +33,14 @@ use std::time::Clock;
 use tally_word::{Naming, Opened};
 use tiles::Have;
 
-/// How a run is to end: with a fault of this number, or with none, 0; with this many links handed back; and with this
-/// update, its last.
+/// How a run is to end: with a fault of this number, or with none, 0; with this many links handed back; with this
+/// update, its last; with this many inputs that were dropped, and this many that nobody has taken.
 pub(crate) struct End {
     pub(crate) fault: u64,
     pub(crate) links: usize,
     pub(crate) last: u64,
+    pub(crate) dropped: u64,
+    pub(crate) left: usize,
 }
 
 /// A run: its screen, which update turns that black, the viewers of each place, the two ends of each host, and how it
@@ -75,11 +77,23 @@ fn shows<J: Naming>(
     Ok(number == last && view.is_held(cut.colours.as_slice(), last))
 }
 
-/// Whether the run ended as it is to, each place shows the last update, and nothing is left of the input.
+/// How many inputs nobody has taken.
+fn left_in<R: Wait + Drop>(settled: &mut Settled<R>) -> usize {
+    for count in 0..256 {
+        if settled.next().is_none() {
+            return count;
+        }
+    }
+    256
+}
+
+/// Whether the run ended as it is to, each place shows the last update, and who watches the input reads what became of
+/// it.
 fn ends<J, L, H, D, R>(
     rt: R,
     alloc: Global,
     running: Running<L, H, Publisher<J, R>, Watcher<J>, D, R>,
+    input: &InputWatch,
     view: &View,
     end: &End,
 ) -> Result<bool, Fail>
@@ -99,6 +113,7 @@ where
         taker,
         hosts: _hosts,
         strokes: _,
+        dropped,
         written: _,
         places,
     } = running;
@@ -106,7 +121,8 @@ where
         Ok(()) => 0,
         Err(fault) => fault.number(),
     };
-    let mut is_right = fault == end.fault && links.len() == end.links;
+    let are_dropped = dropped == end.dropped && input.dropped() == end.dropped;
+    let mut is_right = fault == end.fault && links.len() == end.links && are_dropped;
     let mut senders = Vec::new(alloc);
     for place in places {
         let Place {
@@ -118,8 +134,9 @@ where
         is_right = matches!(shown, Ok(true)) && is_right;
         senders.push(sender)?;
     }
+    let waiting = input.waiting(&rt);
     let mut settled = settle(senders, taker);
-    Ok(is_right && settled.next().is_none())
+    Ok(is_right && waiting == end.left && left_in(&mut settled) == end.left)
 }
 
 /// The doors of the places, no fewer than one and no more than 64.
@@ -166,6 +183,7 @@ where
     name.push(b'T');
     let everyone = Arc::new(alloc, NoAlarm)?;
     let alarm = Arc::new(alloc, NoAlarm)?;
+    let input = Arc::new(alloc, InputWatch::new())?;
     let mut hosts = Queue {
         alloc,
         board: Arc::try_clone(board)?,
@@ -194,8 +212,9 @@ where
         Runs::Joined,
         everyone,
         alarm,
+        Arc::try_clone(&input)?,
     )?;
-    ends(rt, alloc, running, course.view, &course.end)
+    ends(rt, alloc, running, &input, course.view, &course.end)
 }
 
 /// Whether a run goes as it has to.

@@ -85,6 +85,8 @@ static EACH_LEAVES: Course = Course {
         fault: 0,
         links: 1,
         last: 2,
+        dropped: 0,
+        left: 0,
     },
 };
 

@@ -204,5 +204,7 @@ pub(crate) const PAINTED: Course = Course {
         fault: 0,
         links: 1,
         last: 7,
+        dropped: 0,
+        left: 0,
     },
 };

@@ -157,7 +157,7 @@ where
     let viewer = format!(in ear.alloc; "viewer place=1 role=full address={address} seconds=")?;
     let in_json = format!(in ear.alloc; "\"address\":\"{address}\"")?;
     let lines = [
-        "entry drained\nplaces role=full places=1\nplaces role=view places=1\nhost address=127.0.0.1:",
+        "entry drained\nplaces role=full places=1\nplaces role=view places=1\ninput waiting=0 dropped=0\nhost address=127.0.0.1:",
         " width=2 height=1 seconds=",
         " updates=0 name=\"T\"\n",
         viewer.as_str(),

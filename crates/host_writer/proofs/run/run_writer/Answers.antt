@@ -4,7 +4,7 @@ use Rattle.host_writer.proofs.Writers.{writing_begins, writing_ends, writing_tol
 use Rattle.host_writer.proofs.run.run_writer.Goals as goal
 
 pub loop-init : goal.loop-init
-loop-init g c = (tt, tt, record { request = c.request_of-request.ensures ∙ (ap (λ w. whole_request w c.size-width.result.1) c.size-width.ensures.0 ∙ ap (whole_request (g.S.ScreenSource.width c.args.source.now)) c.size-width.ensures.1); relay = refl; places = refl; writing = writing_begins _ _ _ _ _ _ _ })
+loop-init g c = (tt, tt, record { request = c.request_of-request.ensures ∙ (ap (λ w. whole_request w c.size-width.result.1) c.size-width.ensures.0 ∙ ap (whole_request (g.S.ScreenSource.width c.args.source.now)) c.size-width.ensures.1); relay = refl; places = refl; counted = λ k. k; writing = writing_begins _ _ _ _ _ _ _ })
 
 pub returns-then-is_set-clause-writes : goal.returns-then-is_set-clause-writes
 returns-then-is_set-clause-writes g c = writing_ends _ _ _ _ _ _ _ _ _ _ _ _ (c.is_set.ensures c.if-is_set.true) c.loop.invariant.2.writing
@@ -27,6 +27,7 @@ loop-preserved-in-Ok-give_all g c =
         request = c.loop.invariant.2.request;
         relay = c.tell_input.ensures.relay ∙ c.loop.invariant.2.relay;
         places = c.tell_input.ensures.places ∙ c.loop.invariant.2.places;
+        counted = λ k. c.tell_input.ensures.counted (c.loop.invariant.2.counted k);
         writing = writing_asked g.S.ScreenSource.looks _ _ _ _ _ _ _ _ _ _ _ _ _ _ _ told c.look-looked.ensures.looks c.if-asked-looked.true c.loop.invariant.2.request c.in-Ok-give_all.ensures.ok;
       },
     )
@@ -36,7 +37,7 @@ loop-preserved-then-not-was_taken g c =
     let told = writing_told g.S.ScreenSource.looks _ _ _ _ _ _ _ _ _ _ _ c.in-Ok.was_taken _ _ _ c.loop.invariant.2.writing c.in-Ok.ensures.ok in (
       tt,
       tt,
-      record { request = c.loop.invariant.2.request; relay = c.tell_input.ensures.relay ∙ c.loop.invariant.2.relay; places = c.tell_input.ensures.places ∙ c.loop.invariant.2.places; writing = writing_saw g.S.ScreenSource.looks _ _ _ _ _ _ _ _ _ _ _ _ _ told c.look-looked.ensures.looks c.if-asked-looked.false },
+      record { request = c.loop.invariant.2.request; relay = c.tell_input.ensures.relay ∙ c.loop.invariant.2.relay; places = c.tell_input.ensures.places ∙ c.loop.invariant.2.places; counted = λ k. c.tell_input.ensures.counted (c.loop.invariant.2.counted k); writing = writing_saw g.S.ScreenSource.looks _ _ _ _ _ _ _ _ _ _ _ _ _ told c.look-looked.ensures.looks c.if-asked-looked.false },
     )
 
 pub loop-preserved : goal.loop-preserved
@@ -44,5 +45,5 @@ loop-preserved g c =
     let told = writing_told g.S.ScreenSource.looks _ _ _ _ _ _ _ _ _ _ _ c.in-Ok.was_taken _ _ _ c.loop.invariant.2.writing c.in-Ok.ensures.ok in (
       tt,
       tt,
-      record { request = c.loop.invariant.2.request; relay = c.tell_input.ensures.relay ∙ c.loop.invariant.2.relay; places = c.tell_input.ensures.places ∙ c.loop.invariant.2.places; writing = writing_saw g.S.ScreenSource.looks _ _ _ _ _ _ _ _ _ _ _ _ _ told c.look-looked.ensures.looks c.if-asked-looked.false },
+      record { request = c.loop.invariant.2.request; relay = c.tell_input.ensures.relay ∙ c.loop.invariant.2.relay; places = c.tell_input.ensures.places ∙ c.loop.invariant.2.places; counted = λ k. c.tell_input.ensures.counted (c.loop.invariant.2.counted k); writing = writing_saw g.S.ScreenSource.looks _ _ _ _ _ _ _ _ _ _ _ _ _ told c.look-looked.ensures.looks c.if-asked-looked.false },
     )

@@ -12,7 +12,7 @@ use Rattle.roles.proofs.strokes.Strokes.TheSendSync as strokes
 use Rattle.reflector.proofs.writer.tell_beside.Goals as goal
 
 pub spawn_with-started-requires-clause-keeps : goal.spawn_with-started-requires-clause-keeps
-spawn_with-started-requires-clause-keeps g c κs within = λ r ens. rw (c.of.ensures, c.of-2.ensures, c.of-3.ensures) (ens.0, ens.1)
+spawn_with-started-requires-clause-keeps g c κs within = λ r ens. rw (c.of.ensures, c.of-2.ensures, c.of-3.ensures) (ens.0, ens.1.0, ens.1.1)
 
 -- A snapshot owns nothing.
 snapshot_send : (X : RattleType) → IsSend (snapshot.the_row X)
@@ -22,7 +22,7 @@ written_send : (L : RattleType) → IsSend (written.the_row L)
 written_send L = declared_send (written.the_type L) (snapshot_send (trail.the_row L), tt)
 
 told_send : (L R : RattleType) → IsSend R → IsSend (told.the_row L R)
-told_send L R r = declared_send (told.the_type L R) (written_send L, (as_row_send (taken.the_field R) (taker.the_field_send R r), (search (strokes.the_send), tt)))
+told_send L R r = declared_send (told.the_type L R) (written_send L, (as_row_send (taken.the_field R) (taker.the_field_send R r), (search (strokes.the_send), (search sendable, tt))))
 
 pub spawn_with-started-requires-send-T : goal.spawn_with-started-requires-send-T
 spawn_with-started-requires-send-T g c κs within = let r = c.type_bounds.send-R in search (sendable, told_send)
