@@ -1,24 +1,18 @@
 -- The runs of a tile, joined one after another. `join` goes through them once.
-use Rattle.std.proofs.Common.{◌≡◌, ℕ, Bool, true, false, not, ◌&&◌, ◌||◌, ◌-◌, List, [], ◌∷◌, ◌++◌, length, map, take, get_or, refl, sym, ap, ◌∙◌, ◌+◌, ◌<◌}
-use Rattle.std.specs.Prelude.{◌==◌}
+use Rattle.std.proofs.Common.{◌≡◌, ℕ, List, [], ◌∷◌, ◌++◌, length, map, take, get_or, refl, sym, ap, ◌∙◌, ◌+◌, ◌<◌}
 use Rattle.std.specs.List.{All}
-use Rattle.std.proofs.lemmas.Bool.{and_parts, eq-eqb}
 use Rattle.std.proofs.lemmas.List.{take_more, map_push}
 use Rattle.std.proofs.lemmas.List.Elements.{All-nil, All-cons}
 use Rattle.raster.specs.Screen.{Canvas}
-use Rattle.raster.specs.Encoding.{Subrect, begins_run, run_from}
+use Rattle.raster.specs.Encoding.{Subrect}
 use Rattle.raster.proofs.Spellings.{Each}
 use Rattle.joined_runs.specs.declared.runs.Runs.TheVariants.{Joined}
-use Rattle.joined_runs.specs.Joined.{runs_over, stands_in, written}
+use Rattle.joined_runs.specs.Joined.{runs_over, written}
 use Rattle.joined_runs.specs.Found as whole
 use Rattle.raster.proofs.Runs.{each_run_over}
 use Rattle.joined_runs.proofs.WrittenParts.{written_append}
 use Rattle.hextile_codec.specs.declared.runs.Run.{Run}
 use Rattle.hextile_codec.specs.Kinds.{IsRowRun, subrect_of}
-use Rattle.hextile_codec.specs.declared.breaks.Breaks.{Breaks}
-use Rattle.hextile_codec.specs.declared.tile_marks.TileMarks.{TileMarks}
-use Rattle.hextile_codec.specs.Breaks.{AreBreaks, StandsAmong}
-use Rattle.hextile_codec.specs.TileMarks.{AreTileMarks}
 
 -- A run is the same in both crates.
 pub same_run : (run : Run) (x y len : ℕ) → x ≡ run.x → y ≡ run.y → len ≡ run.len → run.high ≡ 1 → whole.subrect_of (record { value = run.value; x = x; y = y; len = len }) ≡ subrect_of run
@@ -48,29 +42,3 @@ module _ (canvas : Canvas) (w h : ℕ) where
 
   pub row_runs : (background : ℕ) (rs : List Run) → map subrect_of rs ≡ runs_over canvas background w h → All (IsRowRun w h) rs
   row_runs background rs e = all_rows rs (rw e (each_run_over canvas background w h is_row (λ x y lx ly b. (lx, ly, refl))))
-
--- A run that begins in a row stands there.
-its_row : (canvas : Canvas) (background y x : ℕ) → begins_run canvas background y x ≡ true → stands_in canvas 16 (run_from canvas 16 y x) y ≡ true
-its_row canvas background y x b =
-    let v : ℕ = canvas x y in
-    let value : (v == v) ≡ true = eq-eqb v v refl in
-    let len : ((run_from canvas 16 y x).area.w == (run_from canvas 16 y x).area.w) ≡ true = eq-eqb (run_from canvas 16 y x).area.w (run_from canvas 16 y x).area.w refl in
-    let left = (and_parts (not (v == background)) ((x == 0) || not (canvas (x - 1) y == v)) b).1 in
-    three (v == v) ((x == 0) || not (canvas (x - 1) y == v)) ((run_from canvas 16 y x).area.w == (run_from canvas 16 y x).area.w) value left len
-  where
-    three : (a b c : Bool) → a ≡ true → b ≡ true → c ≡ true → (a && (b && c)) ≡ true
-    three a b c p q r = rw (p, q, r) refl
-
-module _ (canvas : Canvas) (breaks : Breaks) (marks : TileMarks) (are : AreTileMarks canvas marks.background marks) (its : AreBreaks canvas marks breaks) where
-  abbrev stands_there : Subrect → Type 0
-  stands_there s = (s.value ≡ marks.background → ⊥) × (stands_in canvas 16 s s.area.y ≡ true)
-
-  each_among : (rs : List Run) → Each stands_there (map subrect_of rs) → All (StandsAmong canvas breaks) rs
-  each_among [] e = All-nil (StandsAmong canvas breaks)
-  each_among (r ∷ rs) e = All-cons (StandsAmong canvas breaks) r rs (record { marks = marks; are = are; its = its; other = e.0.0; stands = e.0.1 }) (each_among rs e.1)
-
-  -- All runs of a whole tile stand in their rows.
-  pub all_among : (rs : List Run) → map subrect_of rs ≡ runs_over canvas marks.background 16 16 → All (StandsAmong canvas breaks) rs
-  all_among rs e =
-      each_among rs
-      (rw e (each_run_over canvas marks.background 16 16 stands_there (λ x y lx ly b. ((λ same. let apart : false ≡ true = sym (ap not (eq-eqb (canvas x y) marks.background same)) ∙ (and_parts (not (canvas x y == marks.background)) ((x == 0) || not (canvas (x - 1) y == canvas x y)) b).0 in cc), its_row canvas marks.background y x b))))

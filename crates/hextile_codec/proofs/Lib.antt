@@ -35,3 +35,11 @@ pub mod Heights
 pub mod Unbroken
 pub mod BreakBits
 pub mod Tinted
+pub mod Sight
+pub mod FourWords
+pub mod LeftBits
+pub mod JoinBits
+pub mod Joins
+pub mod Heads
+pub mod MostMarked
+pub mod KindBeside

@@ -3,32 +3,22 @@ use Rattle.std.proofs.Common.{◌≡◌, ℕ, zero, suc, Bool, true, false, not,
 use Rattle.std.specs.Prelude.{filter, ◌==◌}
 use Rattle.std.specs.List.{range_with_len}
 use Rattle.std.specs.Int.{bit_at, trailing_zeros}
-use Rattle.std.specs.Int.Bits.{bit_and}
 use Rattle.std.proofs.lemmas.Bool.{cases_lt, eq-eqb, eqb-true}
 use Rattle.std.proofs.lemmas.List.{map-append}
 use Rattle.std.proofs.lemmas.List.Elements.{filter-append}
-use Rattle.std.proofs.lemmas.Nat.{and_le_l, div-mul-add, mod-mul-add}
+use Rattle.std.proofs.lemmas.Nat.{div-mul-add, mod-mul-add}
 use Rattle.std.proofs.lemmas.Nat.Bits.{bit_at-trailing_zeros, bit_at-zero}
 use Rattle.std.proofs.Math.Nat.{div-le_self, mod-lt, mod-add-div'}
 use Rattle.raster.specs.Screen.{Canvas}
 use Rattle.raster.specs.Encoding.{Subrect, begins_run, run_from, runs_of_row}
-use Rattle.raster.proofs.RowScan.{filter_skips}
 use Rattle.raster.proofs.Runs.{run_within, front_passes, front_stops}
 use Rattle.hextile_codec.specs.declared.runs.Run.{Run}
 use Rattle.hextile_codec.specs.declared.marking.Marks.{Marks}
 use Rattle.hextile_codec.specs.Bits.{bit_of}
 use Rattle.hextile_codec.specs.Kinds.{subrect_of}
 use Rattle.hextile_codec.specs.Marks.{AreMarks, runs_of_rows}
-use Rattle.hextile_codec.proofs.RowRuns.{none_pass}
-use Rattle.hextile_codec.proofs.LowestBit.{bit_shift, cleared_same, cleared_other}
-
-bit_true : (b : Bool) → bit_of b ≡ 1 → b ≡ true
-bit_true true e = refl
-bit_true false e = absurd cc
-
-bit_false : (b : Bool) → bit_of b ≡ 0 → b ≡ false
-bit_false true e = absurd cc
-bit_false false e = refl
+use Rattle.hextile_codec.proofs.LeftBits.{AreLeft, IsNext, listed_behind, next_listed, bit_true, bit_false}
+use Rattle.hextile_codec.proofs.LowestBit.{bit_shift}
 
 -- ---- positions, counted through the four rows
 
@@ -42,92 +32,19 @@ run_at canvas y p = run_from canvas 16 (y + p / 16) (p % 16)
 
 -- The runs from position p on.
 abbrev pub runs_behind : Canvas → ℕ → ℕ → ℕ → List Subrect
-runs_behind canvas background y p = map (run_at canvas y) (filter (begins_at canvas background y) (range_with_len p (64 - p)))
+runs_behind canvas background y = listed_behind (begins_at canvas background y) (run_at canvas y)
 
 split : (p : ℕ) → 16 * (p / 16) + p % 16 ≡ p
 split p = let e = mod-add-div' p 16 in omega (arith, e)
 
-begin_marked : (canvas : Canvas) (background : ℕ) (y : ℕ) (marks : Marks) → AreMarks canvas background y marks → (p : ℕ) → p < 64 → bit_at marks.begins p ≡ bit_of (begins_at canvas background y p)
+pub begin_marked : (canvas : Canvas) (background : ℕ) (y : ℕ) (marks : Marks) → AreMarks canvas background y marks → (p : ℕ) → p < 64 → bit_at marks.begins p ≡ bit_of (begins_at canvas background y p)
 begin_marked canvas background y marks are p lt =
     let whole = split p in
     let low : p % 16 < 16 = mod-lt p (omega arith) in
     ap (bit_at marks.begins) (sym whole) ∙ are.begins (p / 16) (p % 16) (omega (arith, whole, lt)) low
 
--- ---- where the next run begins
-
-pub record IsNextBegin (canvas : Canvas) (background : ℕ) (y p first : ℕ) : Type 0 where
-  pub inside : first < 64
-  pub from : p ≤ first
-  pub begins : begins_at canvas background y first ≡ true
-  pub none : (k : ℕ) → p ≤ k → k < first → begins_at canvas background y k ≡ false
-
--- Of the bits of positions at which runs begin, those from p on.
-pub record AreLeft (canvas : Canvas) (background : ℕ) (y p begins : ℕ) : Type 0 where
-  pub above : (k : ℕ) → p ≤ k → k < 64 → bit_at begins k ≡ bit_of (begins_at canvas background y k)
-  pub below : (k : ℕ) → k < p → bit_at begins k ≡ 0
-  pub few : begins < 2 ^ 64
-
-pub all_left : (canvas : Canvas) (background : ℕ) (y : ℕ) (marks : Marks) → AreMarks canvas background y marks → AreLeft canvas background y 0 marks.begins
+pub all_left : (canvas : Canvas) (background : ℕ) (y : ℕ) (marks : Marks) → AreMarks canvas background y marks → AreLeft (begins_at canvas background y) 0 marks.begins
 all_left canvas background y marks are = record { above = λ k lo hi. begin_marked canvas background y marks are k hi; below = λ k lt. absurd (omega (arith, lt)); few = are.few }
-
-pub next_begin : (canvas : Canvas) (background : ℕ) (y p begins : ℕ) → AreLeft canvas background y p begins → 0 < begins → IsNextBegin canvas background y p (trailing_zeros w64 begins)
-next_begin canvas background y p begins are some =
-    let t : ℕ = trailing_zeros w64 begins in
-    let b = bit_at-trailing_zeros w64 begins some are.few in
-    let from : p ≤ t = elim (cases_lt t p) [
-      | inl lt ↦ let zero_bit = are.below t lt in absurd (omega (arith, b.1, zero_bit))
-      | inr le ↦ le
-    ] in
-    record {
-      inside = b.0;
-      from = from;
-      begins = bit_true _ (sym (are.above t from b.0) ∙ b.1);
-      none = λ k lo hi. bit_false _ (sym (are.above k lo (omega (arith, hi, b.0))) ∙ b.2 k hi);
-    }
-
--- The lowest is cleared.
-pub one_cleared : (canvas : Canvas) (background : ℕ) (y p begins : ℕ) → AreLeft canvas background y p begins → 0 < begins → AreLeft canvas background y (trailing_zeros w64 begins + 1) (bit_and begins (begins - 1))
-one_cleared canvas background y p begins are some =
-    let first : ℕ = trailing_zeros w64 begins in
-    let n = next_begin canvas background y p begins are some in
-    let b = bit_at-trailing_zeros w64 begins some are.few in
-    record {
-      above = λ k lo hi. cleared_other begins some are.few k (λ e. absurd (omega (arith, e, lo))) ∙ are.above k (omega (arith, lo, n.from)) hi;
-      below = λ k lt. elim (cases_lt k first) [
-        | inl less ↦ cleared_other begins some are.few k (λ e. absurd (omega (arith, e, less))) ∙ b.2 k less
-        | inr le ↦ let same : k ≡ first = omega (arith, le, lt) in ap (bit_at (bit_and begins (begins - 1))) same ∙ cleared_same begins some are.few
-      ];
-      few = let le = and_le_l begins (begins - 1) in omega (arith, le, are.few);
-    }
-
--- Then there are fewer.
-pub fewer_left : (canvas : Canvas) (background : ℕ) (y p begins : ℕ) → AreLeft canvas background y p begins → 0 < begins → bit_and begins (begins - 1) < begins
-fewer_left canvas background y p begins are some =
-    let t : ℕ = trailing_zeros w64 begins in
-    let left : ℕ = bit_and begins (begins - 1) in
-    let b = bit_at-trailing_zeros w64 begins some are.few in
-    let le : left ≤ begins = and_le_l begins (begins - 1) in
-    let gone : bit_at left t ≡ 0 = cleared_same begins some are.few in
-    elim (cases_lt left begins) [
-      | inl lt ↦ lt
-      | inr same ↦ let e : left ≡ begins = omega (arith, le, same) in let both : bit_at left t ≡ bit_at begins t = ap (λ n. bit_at n t) e in absurd (omega (arith, both, gone, b.1))
-    ]
-
-pub next_run : (canvas : Canvas) (background : ℕ) (y p first : ℕ) → IsNextBegin canvas background y p first → runs_behind canvas background y p ≡ run_at canvas y first ∷ runs_behind canvas background y (first + 1)
-next_run canvas background y p first n =
-    let q : ℕ → Bool = begins_at canvas background y in
-    let f : ℕ → Subrect = run_at canvas y in
-    let m : ℕ = 64 - (first + 1) in
-    let count : 64 - p ≡ (first - p) + suc m = omega (arith, n.inside, n.from) in
-    let place : p + (first - p) ≡ first = omega (arith, n.from) in
-    ap (λ k. map f (filter q (range_with_len p k))) count
-    ∙ (ap (map f) (filter_skips q p (first - p) (suc m) (λ k lo hi. n.none k lo (omega (arith, hi, n.from))))
-    ∙ (ap (λ k. map f (filter q (range_with_len k (suc m)))) place ∙ ap (λ b. map f (cond b (first ∷ filter q (range_with_len (first + 1) m)) (filter q (range_with_len (first + 1) m)))) n.begins))
-
--- There is none.
-pub no_run : (canvas : Canvas) (background : ℕ) (y p begins : ℕ) → AreLeft canvas background y p begins → begins ≡ 0 → runs_behind canvas background y p ≡ []
-no_run canvas background y p begins are none =
-    ap (map (run_at canvas y)) (none_pass (begins_at canvas background y) p (64 - p) (λ k lo hi. bit_false _ (sym (are.above k lo (omega (arith, hi, lo))) ∙ (ap (λ m. bit_at m k) none ∙ bit_at-zero k))))
 
 -- With the runs from position p on those so far are all of the four rows.
 abbrev pub AreSoFar : List Run → List Run → Canvas → ℕ → ℕ → ℕ → Type 0
@@ -138,7 +55,7 @@ pub record AreMarked (before now : List Run) (canvas : Canvas) (background : ℕ
   pub p : ℕ
   pub inside : p ≤ 64
   pub few : length now ≤ length before + p
-  pub left : AreLeft canvas background y p begins
+  pub left : AreLeft (begins_at canvas background y) p begins
   pub so_far : AreSoFar before now canvas background y p
 
 -- ---- where it ends
@@ -225,14 +142,14 @@ subrect_same : (canvas : Canvas) (w y x v len : ℕ) → v ≡ canvas x y → le
 subrect_same canvas w y x v len a b = rw (a, b) refl
 
 -- It is added.
-pub run_marked : (before now : List Run) (canvas : Canvas) (background : ℕ) (y p first value len : ℕ) → IsNextBegin canvas background y p first → value ≡ canvas (first % 16) (y + first / 16) → len ≡ (run_at canvas y first).area.w
+pub run_marked : (before now : List Run) (canvas : Canvas) (background : ℕ) (y p first value len : ℕ) → IsNext (begins_at canvas background y) p first → value ≡ canvas (first % 16) (y + first / 16) → len ≡ (run_at canvas y first).area.w
     → AreSoFar before now canvas background y p → AreSoFar before (now ++ record { value = value; x = first % 16; y = y + first / 16; len = len; high = 1 } ∷ []) canvas background y (first + 1)
 run_marked before now canvas background y p first value len n is long so =
     let run : Run = record { value = value; x = first % 16; y = y + first / 16; len = len; high = 1 } in
     let same : subrect_of run ≡ run_at canvas y first = subrect_same canvas 16 (y + first / 16) (first % 16) value len is long in
     ap (λ t. t ++ runs_behind canvas background y (first + 1)) (map-append subrect_of now (run ∷ []))
     ∙ (append_assoc (map subrect_of now) (subrect_of run ∷ []) (runs_behind canvas background y (first + 1))
-    ∙ (ap (λ s. map subrect_of now ++ s ∷ runs_behind canvas background y (first + 1)) same ∙ (ap (λ t. map subrect_of now ++ t) (sym (next_run canvas background y p first n)) ∙ so)))
+    ∙ (ap (λ s. map subrect_of now ++ s ∷ runs_behind canvas background y (first + 1)) same ∙ (ap (λ t. map subrect_of now ++ t) (sym (next_listed (begins_at canvas background y) (run_at canvas y) p first n)) ∙ so)))
 
 -- ---- the positions of four rows, row after row
 

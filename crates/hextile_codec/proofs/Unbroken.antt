@@ -1,25 +1,19 @@
--- A run of a whole tile, in two rows of which one is above the other. `Breaks::height` tells by a word's lowest bit
--- whether both have it.
-use Rattle.std.proofs.Common.{◌≡◌, ℕ, zero, suc, Bool, true, false, ◌&&◌, ◌||◌, not, get_or, refl, sym, ap, ◌∙◌, ◌+◌, ◌-◌, ◌*◌, ◌/◌, ◌%◌, ◌^◌, ◌<◌, ◌≤◌, w64, inl, inr, arith}
-use Rattle.std.specs.Prelude.{◌==◌, nat_le}
-use Rattle.std.specs.Int.{bit_at, trailing_zeros}
-use Rattle.std.specs.Int.Count.{trailing_of_zero}
-use Rattle.std.proofs.lemmas.Bool.{cases_lt, and_parts, eqb-true, eq-eqb, ne_eqb, leb-true, le-leb}
-use Rattle.std.proofs.lemmas.Nat.Bits.{bit_at-trailing_zeros, bit_at-zero}
-use Rattle.std.proofs.Math.Nat.{div-le_self, mod-lt, mod-add-div'}
+-- A run of a whole tile, in two rows of which one is above the other. Where none of its positions is broken, both have it.
+use Rattle.std.proofs.Common.{◌≡◌, ℕ, zero, suc, Bool, true, false, ◌&&◌, ◌||◌, not, get_or, refl, sym, ap, ◌∙◌, ◌+◌, ◌-◌, ◌*◌, ◌/◌, ◌%◌, ◌<◌, ◌≤◌, inl, inr, arith}
+use Rattle.std.specs.Prelude.{◌==◌}
+use Rattle.std.specs.Int.{bit_at}
+use Rattle.std.proofs.lemmas.Bool.{cases_lt, and_parts, eqb-true, eq-eqb, ne_eqb}
+use Rattle.std.proofs.Math.Nat.{mod-lt, mod-add-div'}
 use Rattle.raster.specs.Screen.{Canvas}
 use Rattle.raster.specs.Encoding.{begins_run, run_from}
 use Rattle.raster.proofs.Runs.{run_within, run_some, front_passes, front_stops}
 use Rattle.joined_runs.specs.Joined.{stands_in}
 use Rattle.hextile_codec.specs.declared.breaks.Breaks.{Breaks}
-use Rattle.hextile_codec.specs.declared.runs.Run.{Run}
 use Rattle.hextile_codec.specs.declared.tile_marks.TileMarks.{TileMarks}
 use Rattle.hextile_codec.specs.Bits.{bit_of}
-use Rattle.hextile_codec.specs.Breaks.{StandsAmong, mark_at}
-use Rattle.hextile_codec.specs.Kinds.{subrect_of}
+use Rattle.hextile_codec.specs.Breaks.{AreBreaks, mark_at}
 use Rattle.hextile_codec.specs.TileMarks.{AreTileMarks}
 use Rattle.hextile_codec.proofs.Heights.{stands_by}
-use Rattle.hextile_codec.proofs.LowestBit.{bit_shift}
 
 bit_same : (a b : Bool) → bit_of a ≡ bit_of b → a ≡ b
 bit_same true true e = refl
@@ -61,7 +55,7 @@ module _ (canvas : Canvas) (marks : TileMarks) (are : AreTileMarks canvas marks.
   along y x i lt = eqb-true (canvas (x + i) y) (canvas x y) (front_passes (λ k. canvas k y == canvas x y) x (16 - x) (x + i) (omega arith) (omega (arith, lt)))
 
   -- None ends inside it, and it ends at its last position.
-  no_end : (y x i : ℕ) → y < 16 → x < 16 → i + 1 < len_at y x → mark_at marks.ends y (x + i) ≡ 0
+  pub no_end : (y x i : ℕ) → y < 16 → x < 16 → i + 1 < len_at y x → mark_at marks.ends y (x + i) ≡ 0
   no_end y x i ly lx lt =
       let within = run_within canvas 16 y x lx in
       let next : x + i + 1 ≡ x + (i + 1) = omega arith in
@@ -69,7 +63,7 @@ module _ (canvas : Canvas) (marks : TileMarks) (are : AreTileMarks canvas marks.
       let there : canvas (x + i + 1) y ≡ canvas x y = ap (λ k. canvas k y) next ∙ along y x (i + 1) lt in
       end_at y (x + i) ly (omega (arith, lt, within)) ∙ ap (λ b. bit_of (not b)) (eq-eqb (canvas (x + i) y) (canvas (x + i + 1) y) (here ∙ sym there))
 
-  its_end : (y x i : ℕ) → y < 16 → x < 16 → i + 1 ≡ len_at y x → mark_at marks.ends y (x + i) ≡ 1
+  pub its_end : (y x i : ℕ) → y < 16 → x < 16 → i + 1 ≡ len_at y x → mark_at marks.ends y (x + i) ≡ 1
   its_end y x i ly lx e =
       let within = run_within canvas 16 y x lx in
       elim (cases_lt (x + i + 1) 16) [
@@ -178,94 +172,38 @@ module _ (canvas : Canvas) (marks : TileMarks) (are : AreTileMarks canvas marks.
         ] in
         together z (record { value = value; begins = begins; long = long })
 
--- ---- the lowest bit of a word
+-- ---- breaks
 
-none_set : trailing_zeros w64 0 ≡ 64
-none_set = trailing_of_zero 64
+-- A run that begins in a row stands there.
+pub its_row : (canvas : Canvas) (background y x : ℕ) → begins_run canvas background y x ≡ true → stands_in canvas 16 (run_from canvas 16 y x) y ≡ true
+its_row canvas background y x b =
+    let v : ℕ = canvas x y in
+    let value : (v == v) ≡ true = eq-eqb v v refl in
+    let len : ((run_from canvas 16 y x).area.w == (run_from canvas 16 y x).area.w) ≡ true = eq-eqb (run_from canvas 16 y x).area.w (run_from canvas 16 y x).area.w refl in
+    let left = (and_parts (not (v == background)) ((x == 0) || not (canvas (x - 1) y == v)) b).1 in
+    three (v == v) ((x == 0) || not (canvas (x - 1) y == v)) ((run_from canvas 16 y x).area.w == (run_from canvas 16 y x).area.w) value left len
+  where
+    three : (a b c : Bool) → a ≡ true → b ≡ true → c ≡ true → (a && (b && c)) ≡ true
+    three a b c p q r = rw (p, q, r) refl
 
-pub zeros_below : (n len : ℕ) → n < 2 ^ 64 → len ≤ trailing_zeros w64 n → (i : ℕ) → i < len → bit_at n i ≡ 0
-zeros_below n len fits le i lt = elim (cases_lt 0 n) [
-  | inl some ↦ (bit_at-trailing_zeros w64 n some fits).2 i (omega (arith, lt, le))
-  | inr empty ↦ let zero : n ≡ 0 = omega (arith, empty) in ap (λ m. bit_at m i) zero ∙ bit_at-zero i
-]
+module _ (canvas : Canvas) (marks : TileMarks) (are : AreTileMarks canvas marks.background marks) (breaks : Breaks) (its : AreBreaks canvas marks breaks) (y x : ℕ) (some : 0 < y) (row : y < 16) (column : x < 16) (begins : begins_run canvas marks.background y x ≡ true) where
+  abbrev len : ℕ
+  len = (run_from canvas 16 y x).area.w
 
-pub below_zeros : (n len : ℕ) → n < 2 ^ 64 → len ≤ 64 → ((i : ℕ) → i < len → bit_at n i ≡ 0) → len ≤ trailing_zeros w64 n
-below_zeros n len fits most all = elim (cases_lt 0 n) [
-  | inl some ↦
-      let b = bit_at-trailing_zeros w64 n some fits in
-      elim (cases_lt (trailing_zeros w64 n) len) [
-        | inl lt ↦ let zero = all (trailing_zeros w64 n) lt in absurd (omega (arith, b.1, zero))
-        | inr le ↦ le
-      ]
-  | inr empty ↦
-      let zero : n ≡ 0 = omega (arith, empty) in
-      let top : trailing_zeros w64 n ≡ 64 = ap (trailing_zeros w64) zero ∙ none_set in
-      omega (arith, top, most)
-]
+  other : canvas x y ≡ marks.background → ⊥
+  other same = let apart : false ≡ true = sym (ap not (eq-eqb (canvas x y) marks.background same)) ∙ (and_parts (not (canvas x y == marks.background)) ((x == 0) || not (canvas (x - 1) y == canvas x y)) begins).0 in cc
 
-same_truth : (a b : Bool) → (a ≡ true → b ≡ true) → (b ≡ true → a ≡ true) → a ≡ b
-same_truth true true f g = refl
-same_truth false false f g = refl
-same_truth true false f g = sym (f refl)
-same_truth false true f g = g refl
-
-module _ (canvas : Canvas) (breaks : Breaks) (run : Run) (among : StandsAmong canvas breaks run) (y : ℕ) (some : 0 < y) (row : y < 16) (column : run.x < 16) (own : run.y < 16) where
-  abbrev marks : TileMarks
-  marks = among.marks
-
-  abbrev rest : ℕ
-  rest = get_or breaks.words (y / 4) 0 / 2 ^ (y % 4 * 16 + run.x)
-
-  abbrev test : Bool
-  test = nat_le run.len (trailing_zeros w64 rest)
-
-  abbrev has_it : ℕ → Bool
-  has_it z = stands_in canvas 16 (subrect_of run) z
-
-  fits : rest < 2 ^ 64
-  fits =
-      let le = div-le_self (get_or breaks.words (y / 4) 0) (2 ^ (y % 4 * 16 + run.x)) in
-      let few = among.its.few (y / 4) (omega (arith, row)) in
-      omega (arith, le, few)
-
-  rest_bit : (i : ℕ) → bit_at rest i ≡ mark_at breaks.words y (run.x + i)
-  rest_bit i =
-      let place : y % 4 * 16 + run.x + i ≡ y % 4 * 16 + (run.x + i) = omega arith in
-      bit_shift (get_or breaks.words (y / 4) 0) (y % 4 * 16 + run.x) i ∙ ap (bit_at (get_or breaks.words (y / 4) 0)) place
-
-  its_len : (run_from canvas 16 run.y run.x).area.w ≡ run.len
-  its_len = (parts canvas marks among.are run.value run.x run.len among.other column run.y among.stands).long
-
-  inside : run.x + run.len ≤ 16
-  inside = let w = run_within canvas 16 run.y run.x column in omega (arith, w, its_len)
-
-  not_empty : 0 < run.len
-  not_empty = let s = run_some canvas 16 run.y run.x column in omega (arith, s, its_len)
-
-  abbrev Alike : ℕ → ℕ → Type 0
-  Alike a b = AreAlike canvas marks among.are run.value run.x run.len among.other column a b
-
-  unbroken : test ≡ true → Alike y (y - 1)
-  unbroken e i lt = among.its.none y (run.x + i) some row (omega (arith, lt, inside)) (sym (rest_bit i) ∙ zeros_below rest run.len fits (leb-true run.len (trailing_zeros w64 rest) e) i lt)
-
-  tested : Alike y (y - 1) → test ≡ true
-  tested alike =
-      le-leb run.len (trailing_zeros w64 rest)
-      (below_zeros rest run.len fits (omega (arith, inside)) (λ i lt. rest_bit i ∙ among.its.only y (run.x + i) some row (omega (arith, lt, inside)) (alike i lt)))
-
-  turned : (a b : ℕ) → Alike a b → Alike b a
-  turned a b f i lt = let e = f i lt in (sym e.0, sym e.1, sym e.2)
+  inside : x + len ≤ 16
+  inside = run_within canvas 16 y x column
 
   before : y - 1 < 16
   before = omega (arith, row)
 
-  -- Where row y has the run, the row above has it, too, if there is no break; and the other way round.
-  pub has_above : has_it y ≡ true → test ≡ has_it (y - 1)
-  has_above here =
-      same_truth test (has_it (y - 1)) (λ e. alike_both canvas marks among.are run.value run.x run.len among.other column y (y - 1) row before not_empty here (unbroken e))
-      (λ there. tested (both_alike canvas marks among.are run.value run.x run.len among.other column y (y - 1) row before here there))
+  -- The row above has a run, too, if none of its positions is broken; and the other way round.
+  pub unbroken_joins : ((i : ℕ) → i < len → mark_at breaks.words y (x + i) ≡ 0) → stands_in canvas 16 (run_from canvas 16 y x) (y - 1) ≡ true
+  unbroken_joins none =
+      alike_both canvas marks are (canvas x y) x len other column y (y - 1) row before (run_some canvas 16 y x column) (its_row canvas marks.background y x begins) (λ i lt. its.none y (x + i) some row (omega (arith, lt, inside)) (none i lt))
 
-  pub has_below : has_it (y - 1) ≡ true → test ≡ has_it y
-  has_below there =
-      same_truth test (has_it y) (λ e. alike_both canvas marks among.are run.value run.x run.len among.other column (y - 1) y before row not_empty there (turned y (y - 1) (unbroken e)))
-      (λ here. tested (both_alike canvas marks among.are run.value run.x run.len among.other column y (y - 1) row before here there))
+  pub joins_unbroken : stands_in canvas 16 (run_from canvas 16 y x) (y - 1) ≡ true → (i : ℕ) → i < len → mark_at breaks.words y (x + i) ≡ 0
+  joins_unbroken there i lt =
+      its.only y (x + i) some row (omega (arith, lt, inside)) (both_alike canvas marks are (canvas x y) x len other column y (y - 1) row before (its_row canvas marks.background y x begins) there i lt)

@@ -1,13 +1,9 @@
 -- Where a row of a whole tile differs from the one above it, as bits of their positions.
-use Rattle.std.specs.Prelude.{◌≡◌, ℕ, ◌+◌, ◌-◌, ◌*◌, ◌/◌, ◌%◌, ◌^◌, ◌<◌, true, List, slice_index}
+use Rattle.std.specs.Prelude.{◌≡◌, ℕ, ◌+◌, ◌-◌, ◌*◌, ◌/◌, ◌%◌, ◌^◌, ◌<◌, List, slice_index}
 use Rattle.std.specs.Int.{bit_at}
 use Rattle.raster.specs.Screen.{Canvas}
-use Rattle.joined_runs.specs.Joined.{stands_in}
 use Rattle.hextile_codec.specs.declared.breaks.Breaks.{Breaks}
-use Rattle.hextile_codec.specs.declared.runs.Run.{Run}
 use Rattle.hextile_codec.specs.declared.tile_marks.TileMarks.{TileMarks}
-use Rattle.hextile_codec.specs.Kinds.{subrect_of}
-use Rattle.hextile_codec.specs.TileMarks.{AreTileMarks, IsOther}
 
 -- The bit of position x of row y, of words that have four rows each.
 abbrev pub mark_at : List ℕ → ℕ → ℕ → ℕ
@@ -22,11 +18,3 @@ pub record AreBreaks (canvas : Canvas) (marks : TileMarks) (breaks : Breaks) : T
   pub none : (y x : ℕ) → 0 < y → y < 16 → x < 16 → mark_at breaks.words y x ≡ 0 → IsUnbroken canvas marks y x
   pub only : (y x : ℕ) → 0 < y → y < 16 → x < 16 → IsUnbroken canvas marks y x → mark_at breaks.words y x ≡ 0
   pub few : (k : ℕ) → k < 4 → slice_index breaks.words k < 2 ^ 64
-
--- A run stands in its row of a whole tile, of which these are the breaks.
-pub record StandsAmong (canvas : Canvas) (breaks : Breaks) (run : Run) : Type 0 where
-  pub marks : TileMarks
-  pub are : AreTileMarks canvas marks.background marks
-  pub its : AreBreaks canvas marks breaks
-  pub other : IsOther marks.background run
-  pub stands : stands_in canvas 16 (subrect_of run) run.y ≡ true

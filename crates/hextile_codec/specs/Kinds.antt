@@ -5,8 +5,7 @@ use Rattle.pixel_format.specs.PixelFormat.{PixelFormat, pixel_len}
 use Rattle.raster.specs.Screen.{Canvas, values_of}
 use Rattle.raster.specs.Encoding.{Subrect, Carried, nothing_carried, raw_bytes, unless_said, drawn_bytes}
 use Rattle.joined_runs.specs.declared.runs.Runs.{Runs}
-use Rattle.joined_runs.specs.declared.runs.Runs.TheVariants.{OfRows}
-use Rattle.joined_runs.specs.Joined.{background_of, runs_over, subrects_of, tile_bytes_as}
+use Rattle.joined_runs.specs.Joined.{background_of, subrects_of, tile_bytes_as}
 use Rattle.hextile_codec.specs.declared.runs.Run.{Run}
 use Rattle.hextile_codec.specs.declared.kind.Kind.{Kind}
 use Rattle.hextile_codec.specs.declared.kind.Kind.TheVariants.{Raw, Plain, TwoColours, Coloured}
@@ -72,10 +71,6 @@ pub record HasMany (form : Runs) (w h : ℕ) (canvas : Canvas) (enough : ℕ) : 
 -- What a search answers: that there are too many of them, or the background, where they were found.
 abbrev pub IsSearched : Runs → ℕ → ℕ → Canvas → ℕ → List Subrect → Option ℕ → Type 0
 IsSearched form w h canvas enough found answer = MatchOption answer (HasMany form w h canvas enough) (IsFoundAs form w h canvas found)
-
--- Beside it, that there are too many runs of rows, too, or the runs of rows over that background.
-abbrev pub AreBeside : ℕ → ℕ → Canvas → ℕ → List Subrect → Option ℕ → Type 0
-AreBeside w h canvas enough runs answer = MatchOption answer (HasMany OfRows w h canvas enough) (λ background. runs ≡ runs_over canvas background w h)
 
 -- This many subrectangles of more values than one have more bytes than the pixels.
 abbrev pub enough_of : PixelFormat → ℕ → ℕ → ℕ

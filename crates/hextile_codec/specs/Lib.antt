@@ -8,3 +8,6 @@ pub mod Buckets
 pub mod TileMarks
 pub mod Breaks
 pub mod Apart
+pub mod Places
+pub mod Reach
+pub mod Heads

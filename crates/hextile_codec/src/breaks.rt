@@ -1,22 +1,19 @@
 //! Where a row of a whole tile differs from the one above it, in a pixel or in where a run begins or ends.
 
-ghost use Rattle.std.specs.Prelude.{◌≡◌, ℕ, ◌+◌, ◌-◌, ◌*◌, ◌/◌, ◌%◌, ◌<◌, ◌≤◌, ◌^◌, ◌==◌, [], ◌∷◌, MatchOption, IfSome, not, nat_le, slice_index};
-ghost use Rattle.std.specs.Int.{bit_at, w64, trailing_zeros};
+ghost use Rattle.std.specs.Prelude.{◌≡◌, ℕ, ◌+◌, ◌-◌, ◌*◌, ◌<◌, ◌≤◌, ◌^◌, ◌==◌, not};
+ghost use Rattle.std.specs.Int.{bit_at};
 ghost use Rattle.raster.specs.Screen.{Canvas, value_at, part_of};
-ghost use Rattle.joined_runs.specs.declared.runs.Runs.TheVariants.{Joined};
-ghost use Rattle.joined_runs.specs.Joined.{written};
-ghost use Rattle.joined_runs.specs.Found.{rows_below};
 ghost use Rattle.hextile_codec.specs.Bits.{bit_of};
-ghost use Rattle.hextile_codec.specs.Breaks.{AreBreaks, IsUnbroken, StandsAmong};
-ghost use Rattle.hextile_codec.specs.Kinds.{subrect_of, subrect_as_high};
+ghost use Rattle.hextile_codec.specs.Breaks.{AreBreaks, IsUnbroken};
 ghost use Rattle.hextile_codec.specs.Marks.{LiesAmong};
+ghost use Rattle.hextile_codec.specs.Places.{joins_at, AreJoins};
 ghost use Rattle.hextile_codec.specs.TileMarks.{AreTileMarks};
 
 use crate::marking::{differences, join_bits};
+use crate::reaching::reaching;
 use crate::rows::row_of;
-use crate::runs::Run;
 use crate::tile_marks::TileMarks;
-use raster::{Rect, TILE_SIDE};
+use raster::Rect;
 use std::simd::u32x16;
 
 /// How many values the bits of a row tell apart.
@@ -33,6 +30,7 @@ pub struct Breaks {
 }
 
 /// A bit for each position of row `y` with another value than the row above has there; none in the first row.
+#[inline]
 fn row_apart(values: &[u32], w: usize, tile: &Rect, y: usize) -> u64
     requires lies { LiesAmong values.now w tile.now }
     requires wide { tile.now.w ≡ 16 }
@@ -49,6 +47,7 @@ fn row_apart(values: &[u32], w: usize, tile: &Rect, y: usize) -> u64
 }
 
 /// The same of four rows, from row `y` on.
+#[inline]
 fn rows_apart(values: &[u32], w: usize, tile: &Rect, y: usize) -> u64
     requires lies { LiesAmong values.now w tile.now }
     requires wide { tile.now.w ≡ 16 }
@@ -65,6 +64,7 @@ fn rows_apart(values: &[u32], w: usize, tile: &Rect, y: usize) -> u64
 }
 
 /// The bits of four rows, each moved to the row below it. The last of those above them comes first.
+#[inline]
 fn moved_down(above: u64, here: u64) -> u64
     ensures first { (x : ℕ) → x < 16 → bit_at result x ≡ bit_at above (48 + x) }
     ensures others { (p : ℕ) → 16 ≤ p → p < 64 → bit_at result p ≡ bit_at here (p - 16) }
@@ -73,8 +73,19 @@ fn moved_down(above: u64, here: u64) -> u64
     here % THREE_ROWS * ROW + above / THREE_ROWS
 }
 
+/// The positions of the first row among those of four rows from row `4 * k` on. None is above them to which a run could be
+/// joined.
+#[inline]
+fn top_row(k: usize) -> u64
+    ensures first { k ≡ 0 → result ≡ 65535 }
+    ensures others { 0 < k → result ≡ 0 }
+{
+    if k == 0 { ROW - 1 } else { 0 }
+}
+
 impl TileMarks {
     /// The breaks of four rows, from row `4 * k` on.
+    #[inline]
     fn four_breaks(&self, values: &[u32], w: usize, tile: &Rect, k: usize) -> u64
         requires lies { LiesAmong values.now w tile.now }
         requires wide { tile.now.w ≡ 16 }
@@ -93,6 +104,7 @@ impl TileMarks {
     }
 
     /// Where the rows of a whole tile differ from those above them.
+    #[inline]
     pub fn breaks(&self, values: &[u32], w: usize, tile: &Rect) -> Breaks
         requires lies { LiesAmong values.now w tile.now }
         requires wide { tile.now.w ≡ 16 }
@@ -109,44 +121,28 @@ impl TileMarks {
             ],
         }
     }
-}
 
-impl Breaks {
-    /// Whether row `y` has no break at the positions of a run.
-    fn has_none(&self, run: &Run, y: usize) -> bool
-        requires column { run.now.x < 16 }
-        requires row { y < 16 }
-        ensures { result ≡ nat_le run.now.len (trailing_zeros w64 (slice_index self.now.words (y / 4) / 2 ^ (y % 4 * 16 + run.now.x))) }
+    /// Where runs begin that are joined to one above them, in four rows from row `4 * k` on.
+    #[inline]
+    fn four_joins(&self, breaks: &Breaks, k: usize) -> u64
+        requires word { k < 4 }
+        ensures bits { (canvas : Canvas) → AreTileMarks canvas self.now.background self.now → AreBreaks canvas self.now breaks.now → (r x : ℕ) → r < 4 → x < 16 → bit_at result (16 * r + x) ≡ bit_of (joins_at canvas self.now.background (4 * k + r) x) }
+        ensures few { result < 2 ^ 64 }
     {
-        let bit = y % 4 * 16 + run.x as usize;
-        (self.words[y / 4] >> bit).trailing_zeros() >= run.len as u32
+        let broken = breaks.words[k] | top_row(k);
+        self.begins[k] & reaching(broken, self.ends[k])
     }
 
-    /// How many rows directly below a run have one that is joined to it.
-    fn rows_below(&self, run: &Run) -> usize
-        requires column { run.now.x < 16 }
-        requires row { run.now.y < 16 }
-        ensures value { (canvas : Canvas) → StandsAmong canvas self.now run.now → result ≡ rows_below canvas 16 16 (subrect_of run.now) }
-        ensures within { run.now.y + 1 + result ≤ 16 }
+    /// A bit for each position of a whole tile at which a run begins that is joined to one above it.
+    #[inline]
+    pub fn joins(&self, breaks: &Breaks) -> [u64; 4]
+        ensures { (canvas : Canvas) → AreTileMarks canvas self.now.background self.now → AreBreaks canvas self.now breaks.now → AreJoins canvas self.now.background result }
     {
-        let mut y = run.y as usize + 1;
-        while y < TILE_SIDE as usize && self.has_none(run, y) {
-            y += 1;
-        }
-        y - run.y as usize - 1
-    }
-
-    /// How high the subrectangle is that is written for a run; `None` where none is, since the run is joined to one above
-    /// it.
-    pub fn height(&self, run: &Run) -> Option<usize>
-        requires column { run.now.x < 16 }
-        requires row { run.now.y < 16 }
-        ensures value { (canvas : Canvas) → StandsAmong canvas self.now run.now → let one = written Joined canvas 16 16 (subrect_of run.now ∷ []) in MatchOption result (one ≡ []) (λ high. one ≡ subrect_as_high run.now high ∷ []) }
-        ensures within { IfSome result (λ high. run.now.y + high ≤ 16) }
-    {
-        if run.y > 0 && self.has_none(run, run.y as usize) {
-            return None;
-        }
-        Some(1 + self.rows_below(run))
+        [
+            self.four_joins(breaks, 0),
+            self.four_joins(breaks, 1),
+            self.four_joins(breaks, 2),
+            self.four_joins(breaks, 3),
+        ]
     }
 }

@@ -1,14 +1,17 @@
 //! The most frequent value of a tile.
 
-ghost use Rattle.std.specs.Prelude.{◌≡◌, ℕ, ◌<◌, ◌≤◌, length, slice_index, IsTrue};
+ghost use Rattle.std.specs.Prelude.{◌≡◌, ℕ, ◌+◌, ◌<◌, ◌≤◌, ◌^◌, [], ◌∷◌, length, slice_index, count_ones, IsTrue};
+ghost use Rattle.std.specs.Int.Bits.{bit_and};
 ghost use Rattle.raster.specs.Screen.{part_of, value_at, values_of};
 ghost use Rattle.joined_runs.specs.Joined.{count_of, most_frequent};
 ghost use Rattle.hextile_codec.specs.Buckets.{bucket_of};
 ghost use Rattle.hextile_codec.specs.Marks.{LiesAmong};
+ghost use Rattle.hextile_codec.specs.Places.{AreOthers, IsFirst};
 
 use crate::marking::differences;
 use crate::rows::row_of;
 use crate::runs::TILE_AREA;
+use crate::tile_marks::{count_bits, find_others};
 use arrayvec::ArrayVec;
 use raster::{Rect, TILE_SIDE};
 use std::simd::u32x16;
@@ -135,4 +138,74 @@ pub fn find_most(values: &[u32], w: usize, tile: &Rect, pixels: &mut Pixels) -> 
     }
     take_pixels(values, w, tile, pixels);
     most_frequent(pixels.as_slice())
+}
+
+/// The most frequent value of a whole tile, and a bit for each position that has another.
+#[derive(Clone, Copy)]
+pub struct Most {
+    pub value: u32,
+    pub others: [u64; 4],
+}
+
+/// The words that have the bits of both.
+fn in_both(words: &[u64; 4], others: &[u64; 4]) -> [u64; 4]
+    ensures { result ≡ bit_and (slice_index words.now 0) (slice_index others.now 0) ∷ bit_and (slice_index words.now 1) (slice_index others.now 1) ∷ bit_and (slice_index words.now 2) (slice_index others.now 2) ∷ bit_and (slice_index words.now 3) (slice_index others.now 3) ∷ [] }
+{
+    [
+        words[0] & others[0],
+        words[1] & others[1],
+        words[2] & others[2],
+        words[3] & others[3],
+    ]
+}
+
+/// The first position that has a bit.
+fn first_of(words: &[u64; 4]) -> usize
+    requires some { 0 < count_ones (slice_index words.now 0) + count_ones (slice_index words.now 1) + count_ones (slice_index words.now 2) + count_ones (slice_index words.now 3) }
+    requires fits { (k : ℕ) → k < 4 → slice_index words.now k < 2 ^ 64 }
+    ensures { IsFirst words.now result }
+{
+    let mut k = 0;
+    while k < 3 && words[k] == 0 {
+        k += 1;
+    }
+    64 * k + words[k].trailing_zeros() as usize
+}
+
+/// The most frequent value of a whole tile, of several the one that comes first, and where others are; `first` is its
+/// first pixel's value, and `others` has a bit for each position with another.
+pub fn find_most_marked(
+    values: &[u32],
+    w: usize,
+    tile: &Rect,
+    first: u32,
+    others: &[u64; 4],
+) -> Most
+    requires lies { LiesAmong values.now w tile.now }
+    requires wide { tile.now.w ≡ 16 }
+    requires high { tile.now.h ≡ 16 }
+    requires first { first ≡ part_of tile.now (value_at w values.now) 0 0 }
+    requires others { AreOthers (part_of tile.now (value_at w values.now)) first others.now }
+    ensures value { result.value ≡ most_frequent (values_of 16 16 (part_of tile.now (value_at w values.now))) }
+    ensures others { AreOthers (part_of tile.now (value_at w values.now)) result.value result.others }
+{
+    let mut best = Most {
+        value: first,
+        others: *others,
+    };
+    let mut most = TILE_AREA - count_bits(others);
+    let mut left = *others;
+    // Values that first come later are no more frequent than there are positions left.
+    while most < count_bits(&left) {
+        let at = first_of(&left);
+        let value = row_of(values, w, tile, at / 16)[at % 16];
+        let others = find_others(values, w, tile, value);
+        let shown = TILE_AREA - count_bits(&others);
+        if shown > most {
+            best = Most { value, others };
+            most = shown;
+        }
+        left = in_both(&left, &others);
+    }
+    best
 }

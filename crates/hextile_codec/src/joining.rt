@@ -4,16 +4,16 @@ ghost use Rattle.std.specs.Prelude.{◌≡◌, ◌+◌, ◌*◌, ◌<◌, ◌≤
 ghost use Rattle.std.specs.List.{All};
 ghost use Rattle.raster.specs.Screen.{Canvas, value_at, part_of};
 ghost use Rattle.joined_runs.specs.declared.runs.Runs.TheVariants.{OfRows, Joined};
-ghost use Rattle.joined_runs.specs.Joined.{joined_runs, runs_over, written};
-ghost use Rattle.hextile_codec.specs.Breaks.{StandsAmong};
-ghost use Rattle.hextile_codec.specs.Kinds.{IsRowRun, IsFoundAs, IsSearched, AreBeside, subrect_of};
+ghost use Rattle.joined_runs.specs.Joined.{written};
+ghost use Rattle.hextile_codec.specs.Heads.{AreFound, AreSearched};
+ghost use Rattle.hextile_codec.specs.Kinds.{IsRowRun, IsSearched, subrect_of};
 ghost use Rattle.hextile_codec.specs.Marks.{LiesAmong};
 
-use crate::breaks::Breaks;
 use crate::crowded::is_crowded;
-use crate::frequent::{Pixels, find_most};
+use crate::frequent::{Pixels, find_most, find_most_marked};
+use crate::listing::list_joined;
 use crate::runs::{Found, Run, find_each_row, find_runs, is_plain};
-use crate::tile_marks::find_whole;
+use crate::tile_marks::{TileMarks, find_changes, find_others};
 use joined_runs::{RowRun, Runs, height};
 use raster::{Rect, TILE_SIDE};
 
@@ -61,88 +61,105 @@ fn join(values: &[u32], w: usize, tile: &Rect, runs: &[Run], joined: &mut Found)
     }
 }
 
-/// Joins all runs of a whole tile with those below them, by its breaks.
-fn join_marked(breaks: &Breaks, runs: &[Run], joined: &mut Found)
-    requires rows { All (IsRowRun 16 16) runs.now }
-    requires few { length runs.now ≤ 256 }
-    ensures { (canvas : Canvas) → All (StandsAmong canvas breaks.now) runs.now → map subrect_of joined.new.items ≡ written Joined canvas 16 16 (map subrect_of runs.now) }
-{
-    joined.clear();
-    for run in runs {
-        if let Some(high) = breaks.height(run) {
-            joined.push(Run {
-                high: high as u8,
-                ..*run
-            });
-        }
-    }
+/// The backgrounds of a tile in both forms, and how many runs its rows have.
+#[derive(Clone, Copy)]
+pub struct Backgrounds {
+    pub joined: u32,
+    pub rows: u32,
+    pub count: usize,
 }
 
-/// Finds the runs of rows of a tile over a background, and joins them.
-fn search_over(values: &[u32], w: usize, tile: &Rect, background: u32, room: &mut Room)
+/// Finds the joined runs of a whole tile over its most frequent value, and counts the runs of its rows.
+fn search_whole(values: &[u32], w: usize, tile: &Rect, first: u32, room: &mut Room) -> Backgrounds
     requires lies { LiesAmong values.now w tile.now }
-    requires w_some { 0 < tile.now.w }
-    requires w_most { tile.now.w ≤ TILE_SIDE }
-    requires h_most { tile.now.h ≤ TILE_SIDE }
-    ensures joined { map subrect_of room.new.subrects.items ≡ joined_runs (part_of tile.now (value_at w values.now)) background tile.now.w tile.now.h }
-    ensures rows { map subrect_of room.new.runs.items ≡ runs_over (part_of tile.now (value_at w values.now)) background tile.now.w tile.now.h }
+    requires wide { tile.now.w ≡ 16 }
+    requires high { tile.now.h ≡ 16 }
+    requires first { first ≡ part_of tile.now (value_at w values.now) 0 0 }
+    ensures { AreFound 16 16 (part_of tile.now (value_at w values.now)) (map subrect_of room.new.subrects.items) result }
 {
-    if tile.w == TILE_SIDE && tile.h == TILE_SIDE {
-        let marks = find_whole(values, w, tile, background, &mut room.runs);
-        let runs = room.runs.as_slice();
-        let breaks = marks.breaks(values, w, tile);
-        join_marked(&breaks, runs, &mut room.subrects);
-    } else {
-        find_each_row(values, w, tile, background, &mut room.runs);
-        join(values, w, tile, room.runs.as_slice(), &mut room.subrects);
+    let changes = find_changes(values, w, tile);
+    let others = find_others(values, w, tile, first);
+    let most = find_most_marked(values, w, tile, first, &others);
+    let marks = TileMarks::over(most.value, &changes, &most.others);
+    let joins = marks.joins(&marks.breaks(values, w, tile));
+    list_joined(values, w, tile, &marks, &joins, &mut room.subrects);
+    Backgrounds {
+        joined: most.value,
+        rows: first,
+        count: TileMarks::over(first, &changes, &others).count(),
     }
 }
 
-/// Finds the joined runs of a tile over its most frequent value, which it answers, and its runs of rows over that.
-fn search_joined(values: &[u32], w: usize, tile: &Rect, room: &mut Room) -> u32
+/// Finds the joined runs of a tile at an edge over its most frequent value, and counts the runs of its rows.
+fn search_part(values: &[u32], w: usize, tile: &Rect, first: u32, room: &mut Room) -> Backgrounds
     requires lies { LiesAmong values.now w tile.now }
     requires w_some { 0 < tile.now.w }
     requires w_most { tile.now.w ≤ TILE_SIDE }
     requires h_some { 0 < tile.now.h }
     requires h_most { tile.now.h ≤ TILE_SIDE }
-    ensures joined { IsFoundAs Joined tile.now.w tile.now.h (part_of tile.now (value_at w values.now)) (map subrect_of room.new.subrects.items) result }
-    ensures rows { map subrect_of room.new.runs.items ≡ runs_over (part_of tile.now (value_at w values.now)) result tile.now.w tile.now.h }
+    requires first { first ≡ part_of tile.now (value_at w values.now) 0 0 }
+    ensures { AreFound tile.now.w tile.now.h (part_of tile.now (value_at w values.now)) (map subrect_of room.new.subrects.items) result }
 {
-    let background = find_most(values, w, tile, &mut room.pixels);
-    search_over(values, w, tile, background, room);
-    background
+    let most = find_most(values, w, tile, &mut room.pixels);
+    find_each_row(values, w, tile, most, &mut room.runs);
+    join(values, w, tile, room.runs.as_slice(), &mut room.subrects);
+    find_each_row(values, w, tile, first, &mut room.runs);
+    Backgrounds {
+        joined: most,
+        rows: first,
+        count: room.runs.len(),
+    }
 }
 
-/// Finds the joined runs of a tile over its most frequent value, which it answers, and its runs of rows over that. A tile
-/// of one value is answered at once, and one that will be Raw in both forms is left as soon as that shows.
+/// Finds the joined runs of a tile over its most frequent value, and counts the runs of its rows.
+fn search(values: &[u32], w: usize, tile: &Rect, first: u32, room: &mut Room) -> Backgrounds
+    requires lies { LiesAmong values.now w tile.now }
+    requires w_some { 0 < tile.now.w }
+    requires w_most { tile.now.w ≤ TILE_SIDE }
+    requires h_some { 0 < tile.now.h }
+    requires h_most { tile.now.h ≤ TILE_SIDE }
+    requires first { first ≡ part_of tile.now (value_at w values.now) 0 0 }
+    ensures { AreFound tile.now.w tile.now.h (part_of tile.now (value_at w values.now)) (map subrect_of room.new.subrects.items) result }
+{
+    if tile.w == TILE_SIDE && tile.h == TILE_SIDE {
+        search_whole(values, w, tile, first, room)
+    } else {
+        search_part(values, w, tile, first, room)
+    }
+}
+
+/// Finds the joined runs of a tile over its most frequent value, and counts the runs of its rows over its first pixel's
+/// value. A tile of one value is answered at once, and one that will be Raw in both forms is left as soon as that shows.
 ///
 /// `None` only where there are `enough` subrectangles in both forms, of more values than one.
-pub fn find_joined(
+pub fn find_both(
     values: &[u32],
     w: usize,
     tile: &Rect,
     enough: usize,
     room: &mut Room,
-) -> Option<u32>
+) -> Option<Backgrounds>
     requires lies { LiesAmong values.now w tile.now }
     requires w_some { 0 < tile.now.w }
     requires w_most { tile.now.w ≤ TILE_SIDE }
     requires h_some { 0 < tile.now.h }
     requires h_most { tile.now.h ≤ TILE_SIDE }
     requires some { 0 < enough }
-    ensures joined { IsSearched Joined tile.now.w tile.now.h (part_of tile.now (value_at w values.now)) enough (map subrect_of room.new.subrects.items) result }
-    ensures rows { AreBeside tile.now.w tile.now.h (part_of tile.now (value_at w values.now)) enough (map subrect_of room.new.runs.items) result }
+    ensures { AreSearched tile.now.w tile.now.h (part_of tile.now (value_at w values.now)) enough (map subrect_of room.new.subrects.items) result }
 {
     let first = values[tile.y as usize * w + tile.x as usize];
     if is_plain(values, w, tile, first) {
         room.subrects.clear();
-        room.runs.clear();
-        return Some(first);
+        return Some(Backgrounds {
+            joined: first,
+            rows: first,
+            count: 0,
+        });
     }
     if tile.w == TILE_SIDE && is_crowded(values, w, tile, enough) {
         return None;
     }
-    Some(search_joined(values, w, tile, room))
+    Some(search(values, w, tile, first, room))
 }
 
 /// Finds the runs of the rows of a tile over its first pixel's value, which it answers.
@@ -164,30 +181,4 @@ pub fn find_rows(
 {
     let first = values[tile.y as usize * w + tile.x as usize];
     find_runs(values, w, tile, first, enough, runs).then_some(first)
-}
-
-/// The same, where those over the background of the joined runs are in `runs`, and often are the same.
-pub fn rows_beside(
-    values: &[u32],
-    w: usize,
-    tile: &Rect,
-    enough: usize,
-    background: Option<u32>,
-    runs: &mut Found,
-) -> Option<u32>
-    requires lies { LiesAmong values.now w tile.now }
-    requires w_some { 0 < tile.now.w }
-    requires w_most { tile.now.w ≤ TILE_SIDE }
-    requires h_some { 0 < tile.now.h }
-    requires h_most { tile.now.h ≤ TILE_SIDE }
-    requires beside { AreBeside tile.now.w tile.now.h (part_of tile.now (value_at w values.now)) enough (map subrect_of runs.old.items) background }
-    ensures { IsSearched OfRows tile.now.w tile.now.h (part_of tile.now (value_at w values.now)) enough (map subrect_of runs.new.items) result }
-{
-    let Some(background) = background else {
-        return None;
-    };
-    if values[tile.y as usize * w + tile.x as usize] == background {
-        return Some(background);
-    }
-    find_rows(values, w, tile, enough, runs)
 }

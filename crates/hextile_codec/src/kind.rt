@@ -1,16 +1,19 @@
 //! The kinds of a tile as it is written, and which of them one has.
 
-ghost use Rattle.std.specs.Prelude.{◌≡◌, ◌<◌, ◌≤◌, length, map};
+ghost use Rattle.std.specs.Prelude.{◌≡◌, ℕ, ◌+◌, ◌*◌, ◌<◌, ◌≤◌, List, length, map};
+ghost use Rattle.pixel_format.specs.PixelFormat.{pixel_len};
 ghost use Rattle.raster.specs.Screen.{Canvas, value_at, part_of};
-ghost use Rattle.raster.specs.Encoding.{unless_said};
+ghost use Rattle.raster.specs.Encoding.{Carried, Subrect, drawn_bytes, unless_said};
 ghost use Rattle.joined_runs.specs.declared.runs.Runs.{Runs};
 ghost use Rattle.joined_runs.specs.declared.runs.Runs.TheVariants.{OfRows, Joined};
+ghost use Rattle.joined_runs.specs.Joined.{background_of, subrects_of};
 ghost use Rattle.hextile_codec.specs.Carried.{carried_by};
-ghost use Rattle.hextile_codec.specs.Kinds.{subrect_of, kind_of, leaves_of, drawn_len, enough_of, IsSearched, IsChosen};
+ghost use Rattle.hextile_codec.specs.Heads.{AreFound, IsHeadOf};
+ghost use Rattle.hextile_codec.specs.Kinds.{subrect_of, kind_of, leaves_of, drawn_len, enough_of, HasMany, IsChosen};
 ghost use Rattle.hextile_codec.specs.Marks.{LiesAmong};
 
 use crate::colours::{Colours, is_said};
-use crate::joining::{Room, find_joined, find_rows, rows_beside};
+use crate::joining::{Backgrounds, Room, find_both, find_rows};
 use crate::runs::{Run, TILE_AREA, has_one_value};
 use pixel_format::Format;
 use raster::{Rect, TILE_SIDE};
@@ -106,38 +109,50 @@ fn enough_for(format: &Format, tile: &Rect) -> usize
     (1 + pixel * (tile.w * tile.h) as usize) / (pixel + 2) + 1
 }
 
-/// What a tile is written as whose subrectangles were found over a background, or of which there are enough to leave it
-/// as Raw: Raw also where that has no more bytes than its drawing.
-fn chosen(
-    format: &Format,
-    tile: &Rect,
-    said: &Colours,
-    background: Option<u32>,
-    found: &[Run],
-) -> TileChoice
+/// One of the two spellings of a tile before masks and the colours that are left off: its background, its kind and how
+/// many subrectangles it has.
+#[derive(Clone, Copy)]
+pub struct Head {
+    pub background: u32,
+    pub kind: Kind,
+    pub count: usize,
+}
+
+impl Head {
+    /// What a tile of this head is written as: Raw where that has no more bytes than its drawing.
+    fn choose(&self, format: &Format, tile: &Rect, said: &Colours) -> TileChoice
+        requires w_most { tile.now.w ≤ TILE_SIDE }
+        requires h_most { tile.now.h ≤ TILE_SIDE }
+        requires few { self.now.count ≤ TILE_AREA }
+        ensures choice { (form : Runs) (canvas : Canvas) (found : List Subrect) → IsHeadOf form tile.now.w tile.now.h canvas self.now → found ≡ subrects_of form tile.now.w tile.now.h canvas → IsChosen form format.now (carried_by said.now) tile.now.w tile.now.h canvas found result }
+        ensures few { result.len ≤ 1025 }
+    {
+        let raw = raw_choice(format, tile);
+        let len = drawn_len(format, said, self.background, self.kind, self.count);
+        if raw.len <= len {
+            return raw;
+        }
+        TileChoice {
+            kind: self.kind,
+            background: self.background,
+            len,
+        }
+    }
+}
+
+/// A tile written as its pixels, as it is where it has too many subrectangles.
+fn raw_choice(format: &Format, tile: &Rect) -> TileChoice
     requires w_most { tile.now.w ≤ TILE_SIDE }
     requires h_most { tile.now.h ≤ TILE_SIDE }
-    requires few { length found.now ≤ TILE_AREA }
-    ensures choice { (form : Runs) (canvas : Canvas) → IsSearched form tile.now.w tile.now.h canvas (enough_of format.now tile.now.w tile.now.h) (map subrect_of found.now) background → IsChosen form format.now (carried_by said.now) tile.now.w tile.now.h canvas (map subrect_of found.now) result }
+    ensures len { result.len ≡ 1 + pixel_len format.now * (tile.now.w * tile.now.h) }
     ensures few { result.len ≤ 1025 }
+    ensures least { (form : Runs) (canvas : Canvas) (found : List Subrect) (before : Carried) → 1 + pixel_len format.now * (tile.now.w * tile.now.h) ≤ length (drawn_bytes format.now before (background_of form tile.now.w tile.now.h canvas) (subrects_of form tile.now.w tile.now.h canvas)) → IsChosen form format.now before tile.now.w tile.now.h canvas found result }
+    ensures many { (form : Runs) (canvas : Canvas) (found : List Subrect) (before : Carried) → HasMany form tile.now.w tile.now.h canvas (enough_of format.now tile.now.w tile.now.h) → IsChosen form format.now before tile.now.w tile.now.h canvas found result }
 {
-    let raw = TileChoice {
+    TileChoice {
         kind: Kind::Raw,
         background: 0,
         len: 1 + format.bytes() * (tile.w * tile.h) as usize,
-    };
-    let Some(background) = background else {
-        return raw;
-    };
-    let kind = kind_of(found);
-    let len = drawn_len(format, said, background, kind, found.len());
-    if raw.len <= len {
-        return raw;
-    }
-    TileChoice {
-        kind,
-        background,
-        len,
     }
 }
 
@@ -158,12 +173,35 @@ pub fn choose(
     requires h_most { tile.now.h ≤ TILE_SIDE }
     ensures { IsChosen OfRows format.now (carried_by said.now) tile.now.w tile.now.h (part_of tile.now (value_at w values.now)) (map subrect_of room.new.runs.items) result }
 {
-    let first = find_rows(values, w, tile, enough_for(format, tile), &mut room.runs);
-    chosen(format, tile, said, first, room.runs.as_slice())
+    let enough = enough_for(format, tile);
+    let Some(background) = find_rows(values, w, tile, enough, &mut room.runs) else {
+        return raw_choice(format, tile);
+    };
+    let runs = room.runs.as_slice();
+    let head = Head {
+        background,
+        kind: kind_of(runs),
+        count: runs.len(),
+    };
+    head.choose(format, tile, said)
 }
 
-/// Chooses what a tile is written as in both forms, from one look at it. Its subrectangles in each are then in `room`, if
-/// it isn't Raw.
+/// The kind of a tile of the runs of its rows, by that of its joined runs. In both forms it is told by the tile's values
+/// other than its background.
+fn kind_of_rows(joined: Kind, backgrounds: &Backgrounds) -> Kind
+    ensures { (w h : ℕ) (canvas : Canvas) (found : List Subrect) → 0 < w → 0 < h → AreFound w h canvas found backgrounds.now → joined ≡ kind_of found → result ≡ kind_of (subrects_of OfRows w h canvas) }
+{
+    if backgrounds.rows == backgrounds.joined {
+        return joined;
+    }
+    match joined {
+        Kind::TwoColours(_) => Kind::TwoColours(backgrounds.joined),
+        _ => joined,
+    }
+}
+
+/// Chooses what a tile is written as in both forms, from one look at it. Its joined runs are then in `room`, if it isn't
+/// Raw as these. The runs of its rows are counted, and not listed.
 pub fn choose_both(
     format: &Format,
     values: &[u32],
@@ -178,21 +216,32 @@ pub fn choose_both(
     requires h_some { 0 < tile.now.h }
     requires h_most { tile.now.h ≤ TILE_SIDE }
     ensures joined { IsChosen Joined format.now (carried_by said.now.joined) tile.now.w tile.now.h (part_of tile.now (value_at w values.now)) (map subrect_of room.new.subrects.items) result.joined }
-    ensures rows { IsChosen OfRows format.now (carried_by said.now.rows) tile.now.w tile.now.h (part_of tile.now (value_at w values.now)) (map subrect_of room.new.runs.items) result.rows }
+    ensures rows { let canvas = part_of tile.now (value_at w values.now) in IsChosen OfRows format.now (carried_by said.now.rows) tile.now.w tile.now.h canvas (subrects_of OfRows tile.now.w tile.now.h canvas) result.rows }
     ensures few { result.rows.len ≤ 1025 }
 {
     let enough = enough_for(format, tile);
-    let background = find_joined(values, w, tile, enough, room);
-    let joined = chosen(
-        format,
-        tile,
-        &said.joined,
-        background,
-        room.subrects.as_slice(),
-    );
-    let first = rows_beside(values, w, tile, enough, background, &mut room.runs);
-    let rows = chosen(format, tile, &said.rows, first, room.runs.as_slice());
-    Choices { joined, rows }
+    let Some(found) = find_both(values, w, tile, enough, room) else {
+        let raw = raw_choice(format, tile);
+        return Choices {
+            joined: raw,
+            rows: raw,
+        };
+    };
+    let subrects = room.subrects.as_slice();
+    let joined = Head {
+        background: found.joined,
+        kind: kind_of(subrects),
+        count: subrects.len(),
+    };
+    let rows = Head {
+        background: found.rows,
+        kind: kind_of_rows(joined.kind, &found),
+        count: found.count,
+    };
+    Choices {
+        joined: joined.choose(format, tile, &said.joined),
+        rows: rows.choose(format, tile, &said.rows),
+    }
 }
 
 impl Choices {
