@@ -150,6 +150,7 @@ where
         },
         control: None,
         metrics: None,
+        proxy_from: None,
         is_logged: false,
     };
     Ok(serve(rt, alloc, &plan, &mut Ports::new(alloc)))

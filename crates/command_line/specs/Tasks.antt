@@ -29,6 +29,7 @@ pub record IsPlanOf (s : Settings) (plan : Plan) : Type 0 where
   pub stalled : plan.stalled ≡ s.stalled
   pub joined_runs : plan.has_joined_runs ≡ s.joined_runs
   pub metrics : option_map (λ text. text.now) plan.metrics ≡ option_map string_bytes s.metrics
+  pub proxy_from : option_map (λ text. text.now) plan.proxy_from ≡ option_map string_bytes s.proxy_from
   pub control : option_map (λ text. text.now) plan.control ≡ option_map string_bytes s.control
   pub log : plan.is_logged ≡ s.log
 

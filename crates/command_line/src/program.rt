@@ -68,6 +68,7 @@ fn plan_of(settings: &Settings) -> Plan<'_>
             origins: settings.web_origins.as_slice(),
         },
         metrics: shown(&settings.metrics),
+        proxy_from: shown(&settings.proxy_from),
         control: shown(&settings.control),
         is_logged: settings.log,
     }

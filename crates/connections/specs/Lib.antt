@@ -4,3 +4,4 @@ pub mod Keeping
 pub mod Hello
 pub mod Wires
 pub mod Browsers
+pub mod Greetings

@@ -1,14 +1,19 @@
 //! Who asks at a web port, and the port.
 
-ghost use Rattle.std.specs.Prelude.{◌≡◌, IfOk};
+ghost use Rattle.std.specs.Prelude.{◌≡◌, IfOk, true};
 ghost use Rattle.std.specs.Arc.{arc_value};
+ghost use Rattle.connections.specs.Greetings.{IsFromProxy};
 
 use crate::gate::{Arrival, Gate};
 use crate::lobby::{Entrance, Lobby};
+use crate::options::outlast;
+use crate::port::{MOST_STEPS, Newcomer, Port, Progress, header_complaint};
+use mio::{Interest, Registry, Token};
+use run_traits::{Event, Way};
 use std::alloc::Global;
 use std::hash::RandomState;
 use std::io;
-use std::io::ErrorKind;
+use std::io::{ErrorKind, Read};
 use std::sync::{Arc, Wait};
 use std::time::{Clock, Duration, Instant};
 use web_door::{Guest, Site};
@@ -18,9 +23,6 @@ const GUEST_SECONDS: u64 = 10;
 
 /// A part of an answer has so many bytes, so that who takes a byte now and then is late all the same.
 const PART: usize = 65_536;
-
-/// So many reads and writes follow one another at most. Whoever keeps the porter busy for longer is let go.
-const MOST_STEPS: usize = 4_096;
 
 /// A web port: its gate, what it answers, and the lobby, of the gate's role, to which those are let who are let in.
 #[derive(Drop)]
@@ -45,17 +47,6 @@ pub(crate) struct Caller {
     ghost role: { arrival.role ≡ (arc_value lobby).role },
 }
 
-/// How far one who asks has come.
-#[derive(Clone, Copy, Debug, PartialEq, Eq)]
-pub(crate) enum Progress {
-    /// He waits, or is waited for.
-    Waits,
-    /// Nothing more is asked or answered.
-    Done,
-    /// His connection is broken, or he keeps the porter busy.
-    Gone,
-}
-
 impl WebEntry {
     /// A port of this gate. It fails where the system refuses an option.
     pub fn new(
@@ -64,7 +55,7 @@ impl WebEntry {
         lobby: Arc<Lobby, Global>,
     ) -> io::Result<WebEntry>
         requires { gate.role ≡ (arc_value lobby).role }
-        ensures role { IfOk result (λ entry. entry.gate.role ≡ gate.role) }
+        ensures gate { IfOk result (λ entry. entry.gate ≡ gate) }
         ensures site { IfOk result (λ entry. arc_value entry.site ≡ arc_value site) }
         ensures lobby { IfOk result (λ entry. arc_value entry.lobby ≡ arc_value lobby) }
     {
@@ -77,37 +68,39 @@ impl WebEntry {
             lobby,
         })
     }
+}
 
-    /// What a poll hears.
-    pub(crate) fn heard(&mut self) -> &mut mio::net::TcpListener {
+impl Port for WebEntry {
+    type Comer = Caller;
+
+    // The peer chooses the names of fields, so maps of them take secret keys.
+    type Means = RandomState;
+
+    fn heard(&mut self) -> &mut mio::net::TcpListener {
         &mut self.heard
     }
 
-    /// Whether nobody is let to its lobby any more.
-    pub(crate) fn is_closed<R: Wait>(&self, rt: &R) -> bool {
+    fn is_closed<R: Wait>(&self, rt: &R) -> bool {
         self.lobby.is_closed(rt)
     }
 
     /// The next who came, as one who asks its site and may be let to its lobby.
-    pub(crate) fn accept<R: Clock>(
-        &self,
-        rt: &R,
-        alloc: Global,
-        keys: RandomState,
-    ) -> io::Result<Caller>
+    fn accept<R: Clock>(&self, rt: &R, alloc: Global, means: &RandomState) -> io::Result<Caller>
         ensures role { IfOk result (λ caller. caller.arrival.role ≡ self.now.gate.role) }
+        ensures proxied { IfOk result (λ caller. caller.arrival.whence.is_proxied ≡ true → IsFromProxy self.now.gate.proxy caller.arrival.whence.peer) }
         ensures site { IfOk result (λ caller. caller.guest.site ≡ arc_value self.now.site) }
         ensures lobby { IfOk result (λ caller. arc_value caller.lobby ≡ arc_value self.now.lobby) }
     {
         let arrival = self.gate.accept()?;
         arrival.stream().set_nonblocking(true)?;
+        outlast(arrival.stream(), self.lobby.stalled())?;
         let heard = mio::net::TcpStream::from_std(arrival.stream().try_clone()?);
         let site = Arc::try_clone(&self.site)?;
         let lobby = Arc::try_clone(&self.lobby)?;
         Ok(Caller {
             arrival,
             heard,
-            guest: Guest::new(alloc, keys, site),
+            guest: Guest::new(alloc, *means, site),
             since: Instant::now(rt)?,
             taken: 0,
             lobby,
@@ -116,15 +109,15 @@ impl WebEntry {
 }
 
 impl Caller {
-    /// What a poll hears.
-    pub(crate) fn heard(&mut self) -> &mut mio::net::TcpStream {
-        &mut self.heard
-    }
-
-    /// Whether he has asked for too long, or taken too little of an answer.
-    pub(crate) fn is_late(&self, now: Instant) -> bool {
-        now.checked_duration_since(self.since)
-            .is_some_and(|passed| passed >= Duration::from_secs(GUEST_SECONDS))
+    /// Reads a byte of the header of a proxy.
+    fn read_header(&mut self) -> io::Result<()> {
+        let mut byte = [0u8; 1];
+        let mut stream = self.arrival.stream();
+        if stream.read(&mut byte)? == 0 {
+            return Err(io::Error::from(ErrorKind::UnexpectedEof));
+        }
+        self.arrival.feed(byte[0]);
+        Ok(())
     }
 
     /// Writes once of what is to be told. Who has taken all of it, or a part, isn't late yet.
@@ -139,7 +132,7 @@ impl Caller {
     }
 
     /// Writes once of what is to be told, or else reads once. False where neither is wanted.
-    fn step<R: Clock>(&mut self, rt: &R) -> io::Result<bool> {
+    fn talk<R: Clock>(&mut self, rt: &R) -> io::Result<bool> {
         let mut stream = self.arrival.stream();
         if self.guest.wants_write() {
             self.write(rt)?;
@@ -152,8 +145,38 @@ impl Caller {
         Ok(true)
     }
 
+    /// Reads of the header of a proxy, if he comes from one that is believed and it hasn't come yet, or goes on to talk.
+    /// False where nothing is wanted.
+    fn step<R: Clock>(&mut self, rt: &R) -> io::Result<bool> {
+        match self.arrival.whence().known() {
+            None => {
+                self.read_header()?;
+                Ok(true)
+            }
+            Some(Err(_)) => Ok(false),
+            Some(Ok(_)) => self.talk(rt),
+        }
+    }
+}
+
+impl Newcomer for Caller {
+    fn hear(&mut self, registry: &Registry, number: usize) -> io::Result<()> {
+        let both = Interest::READABLE | Interest::WRITABLE;
+        registry.register(&mut self.heard, Token(number), both)
+    }
+
+    fn leave(&mut self, registry: &Registry) -> io::Result<()> {
+        registry.deregister(&mut self.heard)
+    }
+
+    /// Whether he has asked for too long, or taken too little of an answer. An answer takes its time in a crowd, too.
+    fn is_late(&self, now: Instant, _is_crowded: bool) -> bool {
+        now.checked_duration_since(self.since)
+            .is_some_and(|passed| passed >= Duration::from_secs(GUEST_SECONDS))
+    }
+
     /// Reads, answers and writes, as far as it goes now.
-    pub(crate) fn go_on<R: Clock>(&mut self, rt: &R) -> Progress {
+    fn go_on<R: Clock>(&mut self, rt: &R) -> Progress {
         for _ in 0..MOST_STEPS {
             if self.guest.is_done() {
                 return Progress::Done;
@@ -171,8 +194,17 @@ impl Caller {
         Progress::Gone
     }
 
+    fn complaint(&self, is_late: bool) -> Option<Event<'static>> {
+        header_complaint(
+            self.arrival.whence(),
+            self.arrival.role(),
+            Way::Web,
+            is_late,
+        )
+    }
+
     /// Lets him to the lobby of the port that he came by, if he was let in. None where he wasn't.
-    pub(crate) fn enter<R: Wait + Clock>(self, rt: &R, patience: Duration) -> Option<Entrance> {
+    fn enter<R: Wait + Clock>(self, rt: &R, patience: Duration) -> Option<Entrance> {
         let Caller {
             arrival,
             heard,
@@ -182,7 +214,7 @@ impl Caller {
             lobby,
         } = self;
         drop(heard);
-        let arrival = arrival.let_in(guest)?;
-        Some(lobby.enter(rt, arrival, patience))
+        let entrant = arrival.let_in(guest)?;
+        Some(lobby.enter(rt, entrant, patience))
     }
 }

@@ -1,36 +1,66 @@
 //! Listeners of a role, and who comes by them.
 
-ghost use Rattle.std.specs.Prelude.{◌≡◌, IfOk, IfSome};
+ghost use Rattle.std.specs.Prelude.{◌≡◌, IfOk, IfSome, None, Ok, Some, [], true};
 ghost use Rattle.run_traits.specs.declared.event.Way.TheVariants.{Tcp, Web};
+ghost use Rattle.connections.specs.Greetings.{IsFromProxy, IsGreeted, IsKnown, IsSameComer, untouched};
 ghost use Rattle.web_door.specs.Guests.{IsLetIn};
 
+use crate::greeted::GreetedSocket;
+use crate::greeting::Greeting;
+use crate::noted::Noted;
+use crate::whence::Whence;
 use roles::Role;
 use run_traits::Way;
 use std::io;
-use std::net::{SocketAddr, TcpListener, TcpStream};
+use std::net::{IpAddr, SocketAddr, TcpListener, TcpStream};
 use web_door::Guest;
 
-/// A listener for the viewers of one role.
+/// A listener for the viewers of one role, and the proxy whose headers are believed, if one is.
 #[derive(Drop)]
 pub struct Gate {
     listener: TcpListener,
     role: Role,
+    proxy: Option<IpAddr>,
 }
 
-/// One who came by a gate: his stream, the role of that gate, and how his bytes travel. Only a gate makes one.
+/// One who came by a gate: his stream, the role of that gate, and from where he comes. Only a gate makes one.
 #[derive(Drop)]
 pub struct Arrival {
     stream: TcpStream,
     role: Role,
+    whence: Whence,
+}
+
+/// One who may be let to a lobby: by which socket, in which role, how his bytes travel, and his address, if anyone told
+/// it. Over TCP he has said a version, and was told one. Only one who came by a gate becomes one.
+#[derive(Drop)]
+pub struct Entrant {
+    socket: GreetedSocket<Noted<mio::net::TcpStream>>,
+    role: Role,
     way: Way,
+    address: Option<SocketAddr>,
+    ghost unsent: { socket.sent ≡ [] },
+    ghost unreceived: { socket.received ≡ [] },
+    ghost greeted: { way ≡ Tcp → IsGreeted socket },
 }
 
 impl Gate {
-    /// A gate of this listener, for the viewers of this role.
+    /// A gate of this listener, for the viewers of this role. No proxy is believed.
     pub fn new(listener: TcpListener, role: Role) -> Gate
-        ensures { (result.listener ≡ listener) × (result.role ≡ role) }
+        ensures { (result.listener ≡ listener) × (result.role ≡ role) × (result.proxy ≡ None) }
     {
-        Gate { listener, role }
+        Gate {
+            listener,
+            role,
+            proxy: None,
+        }
+    }
+
+    /// The same gate, where the headers of this proxy are believed, if there is one.
+    pub fn behind(self, proxy: Option<IpAddr>) -> Gate
+        ensures { result ≡ record self { proxy = proxy } }
+    {
+        Gate { proxy, ..self }
     }
 
     /// The listener.
@@ -47,20 +77,105 @@ impl Gate {
         self.role
     }
 
-    /// Who comes next, over TCP as yet. It waits for him, unless the listener is one that doesn't wait.
+    /// Who comes next, over TCP as yet. It waits for him, unless the listener is one that doesn't wait. A header is
+    /// believed of him only if he comes from the proxy.
     pub fn accept(&self) -> io::Result<Arrival>
-        ensures { IfOk result (λ arrival. (arrival.role ≡ self.now.role) × (arrival.way ≡ Tcp)) }
+        ensures role { IfOk result (λ arrival. arrival.role ≡ self.now.role) }
+        ensures proxied { IfOk result (λ arrival. arrival.whence.is_proxied ≡ true → IsFromProxy self.now.proxy arrival.whence.peer) }
+        ensures front { IfOk result (λ arrival. arrival.whence.front ≡ []) }
     {
-        let (stream, _) = self.listener.accept()?;
+        let (stream, peer) = self.listener.accept()?;
         Ok(Arrival {
             stream,
             role: self.role(),
-            way: Way::Tcp,
+            whence: Whence::new(Some(peer), &self.proxy),
         })
     }
 }
 
 impl Arrival {
+    /// The role of the gate that he came by.
+    pub fn role(&self) -> Role
+        ensures { result ≡ self.now.role }
+    {
+        self.role
+    }
+
+    /// His stream.
+    pub fn stream(&self) -> &TcpStream
+        ensures { result.now ≡ self.now.stream }
+    {
+        &self.stream
+    }
+
+    /// From where he comes.
+    pub fn whence(&self) -> &Whence
+        ensures { result.now ≡ self.now.whence }
+    {
+        &self.whence
+    }
+
+    /// The next byte of a proxy's header has come of him.
+    pub(crate) fn feed(&mut self, byte: u8)
+        ensures role { self.new.role ≡ self.old.role }
+        ensures same { IsSameComer self.old.whence self.new.whence }
+    {
+        self.whence.feed(byte);
+    }
+
+    /// His greeting, over TCP. His stream is to be one that doesn't wait.
+    pub(crate) fn into_greeting(self) -> Greeting<Noted<mio::net::TcpStream>>
+        requires { self.whence.front ≡ [] }
+        ensures { result.whence ≡ self.whence }
+    {
+        let stream = mio::net::TcpStream::from_std(self.stream);
+        Greeting::new(Noted::new(stream), self.whence)
+    }
+
+    /// He may be let in, and his bytes travel in messages from now on, if he was let in by this guest's handshake. None
+    /// where he wasn't, or his address isn't known yet.
+    pub fn let_in(self, guest: Guest) -> Option<Entrant>
+        ensures role { IfSome result (λ entrant. entrant.role ≡ self.role) }
+        ensures way { IfSome result (λ entrant. entrant.way ≡ Web) }
+        ensures handshake { IfSome result (λ _. ∥ IsLetIn guest ∥₁) }
+        ensures address { IfSome result (λ entrant. IsKnown self.whence (Some (Ok entrant.address))) }
+        ensures socket { IfSome result (λ entrant. entrant.socket ≡ untouched) }
+    {
+        if !guest.is_let_in() {
+            return None;
+        }
+        let Some(Ok(address)) = self.whence.known() else {
+            return None;
+        };
+        let stream = mio::net::TcpStream::from_std(self.stream);
+        Some(Entrant {
+            socket: GreetedSocket::new(Noted::new(stream)),
+            role: self.role,
+            way: Way::Web,
+            address,
+        })
+    }
+}
+
+impl Entrant {
+    /// One whose own version has come over TCP, in a greeting by a gate of this role. None where it hasn't.
+    pub(crate) fn greeted(
+        role: Role,
+        greeting: Greeting<Noted<mio::net::TcpStream>>,
+    ) -> Option<Entrant>
+        ensures role { IfSome result (λ entrant. entrant.role ≡ role) }
+        ensures way { IfSome result (λ entrant. entrant.way ≡ Tcp) }
+        ensures address { IfSome result (λ entrant. IsKnown greeting.whence (Some (Ok entrant.address))) }
+    {
+        let (socket, address) = greeting.done()?;
+        Some(Entrant {
+            socket,
+            role,
+            way: Way::Tcp,
+            address,
+        })
+    }
+
     /// The role of the gate that he came by.
     pub fn role(&self) -> Role
         ensures { result ≡ self.now.role }
@@ -75,38 +190,17 @@ impl Arrival {
         self.way
     }
 
-    /// His stream.
-    pub fn stream(&self) -> &TcpStream
-        ensures { result.now ≡ self.now.stream }
+    /// His address, if anyone told it.
+    pub fn address(&self) -> Option<SocketAddr>
+        ensures { result ≡ self.now.address }
     {
-        &self.stream
+        self.address
     }
 
-    /// Where he came from, if the system tells.
-    pub fn address(&self) -> Option<SocketAddr> {
-        self.stream.peer_addr().ok()
-    }
-
-    /// His stream, for a link of his.
-    pub(crate) fn into_stream(self) -> TcpStream
-        ensures { result ≡ self.stream }
+    /// His socket, for a link of his.
+    pub(crate) fn into_socket(self) -> GreetedSocket<Noted<mio::net::TcpStream>>
+        ensures { result ≡ self.socket }
     {
-        self.stream
-    }
-
-    /// The same one, whose bytes travel in messages from now on, if he was let in by this guest's handshake.
-    pub fn let_in(self, guest: Guest) -> Option<Arrival>
-        ensures role { IfSome result (λ arrival. arrival.role ≡ self.role) }
-        ensures way { IfSome result (λ arrival. arrival.way ≡ Web) }
-        ensures handshake { IfSome result (λ _. ∥ IsLetIn guest ∥₁) }
-    {
-        if !guest.is_let_in() {
-            return None;
-        }
-        Some(Arrival {
-            stream: self.stream,
-            role: self.role,
-            way: Way::Web,
-        })
+        self.socket
     }
 }

@@ -4,8 +4,8 @@ ghost use Rattle.std.specs.Prelude.{◌≡◌, ◌<◌, IfOk, IsNone};
 ghost use Rattle.connections.specs.Doors.{role_behind};
 
 use crate::desk::{Comer, Desk};
-use crate::gate::{Arrival, Gate};
-use crate::refused::{Lack, Refused};
+use crate::gate::Entrant;
+use crate::refused::Lack;
 use crate::seat::Seat;
 use crate::tcp::ViewerTcpLink;
 use crate::web::BrowserLink;
@@ -15,18 +15,15 @@ use roles::Role;
 use run_control::Entry;
 use run_traits::{Door, Event, Log, Parting, PlaceCount, PlaceId, Visit, Way};
 use std::alloc::{AllocError, Global};
+use std::io;
 use std::net::SocketAddr;
 use std::sync::{Arc, Condvar, Mutex, Wait};
 use std::time::{Clock, Duration};
-use std::{io, thread};
 use web_link::AnyLink;
-
-/// For how long nobody is let in after the system refused to, in milliseconds: it may have no descriptor left.
-const PAUSE_MILLIS: u64 = 100;
 
 #[derive(Drop)]
 struct Waiting {
-    arrivals: Vec<Arrival>,
+    entrants: Vec<Entrant>,
     // How many places have no viewer, and none on the way.
     free: u64,
     // How many places there are.
@@ -55,7 +52,7 @@ fn lack(waiting: &Waiting, is_open: bool) -> Option<Lack>
 #[derive(Drop)]
 pub(crate) enum Entrance {
     Placed,
-    Refused(Arrival, Lack),
+    Refused(Entrant, Lack),
     Closed,
 }
 
@@ -88,7 +85,7 @@ impl Lobby {
             stalled,
             desk,
             waiting: Mutex::new(Waiting {
-                arrivals: Vec::with_capacity(alloc, places as usize)?,
+                entrants: Vec::with_capacity(alloc, places as usize)?,
                 free: places,
                 places,
                 is_held: false,
@@ -104,6 +101,13 @@ impl Lobby {
         ensures { result ≡ self.now.role }
     {
         self.role
+    }
+
+    /// For how many seconds one of its viewers may take nothing.
+    pub(crate) fn stalled(&self) -> u64
+        ensures { result ≡ self.now.stalled }
+    {
+        self.stalled
     }
 
     /// The doors of its places, among others.
@@ -122,8 +126,8 @@ impl Lobby {
         let mut guard = self.waiting.lock(rt);
         let waiting = &mut *guard;
         waiting.is_closed = true;
-        let on_their_way = waiting.arrivals.len() as u64;
-        waiting.arrivals.clear();
+        let on_their_way = waiting.entrants.len() as u64;
+        waiting.entrants.clear();
         waiting.free = waiting.free.saturating_add(on_their_way);
         self.came.notify_all();
         self.freed.notify_all();
@@ -145,10 +149,10 @@ impl Lobby {
     pub(crate) fn enter<R: Wait + Clock>(
         &self,
         rt: &R,
-        arrival: Arrival,
+        entrant: Entrant,
         patience: Duration,
     ) -> Entrance
-        requires { arrival.role ≡ self.now.role }
+        requires { entrant.role ≡ self.now.role }
     {
         let is_open = self.desk.entry(rt) == Entry::Open;
         let guard = self.waiting.lock(rt);
@@ -162,9 +166,9 @@ impl Lobby {
             return Entrance::Closed;
         }
         if let Some(lack) = lack(waiting, is_open) {
-            return Entrance::Refused(arrival, lack);
+            return Entrance::Refused(entrant, lack);
         }
-        if waiting.arrivals.push(arrival).is_ok() {
+        if waiting.entrants.push(entrant).is_ok() {
             waiting.free -= 1;
             self.came.notify_one();
         }
@@ -179,16 +183,16 @@ impl Lobby {
     }
 
     /// Waits for a viewer, whoever came first. None where no more come.
-    fn next_arrival<R: Wait>(&self, rt: &R) -> Option<Arrival> {
+    fn next_entrant<R: Wait>(&self, rt: &R) -> Option<Entrant> {
         let guard = self.waiting.lock(rt);
         let mut guard = self.came.wait_while(rt, guard, |waiting| {
-            waiting.arrivals.is_empty() && !waiting.is_closed
+            waiting.entrants.is_empty() && !waiting.is_closed
         });
         let waiting = &mut *guard;
-        if waiting.is_closed || waiting.arrivals.is_empty() {
+        if waiting.is_closed || waiting.entrants.is_empty() {
             return None;
         }
-        Some(waiting.arrivals.remove(0))
+        Some(waiting.entrants.remove(0))
     }
 
     pub(crate) fn is_closed<R: Wait>(&self, rt: &R) -> bool {
@@ -288,18 +292,12 @@ impl<R: Wait + Clock + Drop + Copy, G: Log + Drop> TcpDoor<R, G> {
     ghost use Rattle.connections.specs.Doors.{role_behind};
 
     /// The link of one who came by a gate of the door's role.
-    fn link(&self, arrival: Arrival) -> io::Result<ViewerLink<R>>
-        requires { arrival.role ≡ role_behind self.now }
+    fn link(&self, entrant: Entrant) -> io::Result<ViewerLink<R>>
+        requires { entrant.role ≡ role_behind self.now }
         ensures { IfOk result (λ link. viewer_state link ≡ unused) }
     {
-        let way = arrival.way();
-        let link = ViewerTcpLink::new(
-            self.rt,
-            self.alloc,
-            arrival.into_stream(),
-            &self.seat,
-            self.lobby.stalled,
-        )?;
+        let way = entrant.way();
+        let link = ViewerTcpLink::at(self.rt, self.alloc, entrant.into_socket(), &self.seat)?;
         match way {
             Way::Tcp => Ok(AnyLink::Plain(link)),
             Way::Web => Ok(AnyLink::Web(BrowserLink::new(self.rt, self.alloc, link)?)),
@@ -308,14 +306,14 @@ impl<R: Wait + Clock + Drop + Copy, G: Log + Drop> TcpDoor<R, G> {
 
     /// Receives one who comes: his link, unless it can't be made, nobody is let in any more, or he came by another
     /// role's gate. The lobby takes in no such one, but its lock can't keep that for the proof.
-    fn receive(&mut self, arrival: Arrival) -> Option<ViewerLink<R>>
+    fn receive(&mut self, entrant: Entrant) -> Option<ViewerLink<R>>
         ensures { IfSome result (λ link. viewer_state link ≡ unused) }
     {
         let place_id = self.place_id();
         self.has_served = true;
-        self.address = arrival.address();
-        self.way = arrival.way();
-        if arrival.role() != place_id.role {
+        self.address = entrant.address();
+        self.way = entrant.way();
+        if entrant.role() != place_id.role {
             return None;
         }
         let comer = Comer {
@@ -327,7 +325,7 @@ impl<R: Wait + Clock + Drop + Copy, G: Log + Drop> TcpDoor<R, G> {
         if !self.lobby.desk.enter(&self.rt, comer, &self.seat) {
             return None;
         }
-        let link = self.link(arrival).ok()?;
+        let link = self.link(entrant).ok()?;
         self.log.note(&Event::ViewerIn {
             place_id,
             address: self.address,
@@ -355,8 +353,8 @@ impl<R: Wait + Clock + Drop + Copy + Send, G: Log + Drop + Send> Door for TcpDoo
         let rt = self.rt;
         for _ in rt.forever() {
             self.vacate();
-            let arrival = self.lobby.next_arrival(&rt)?;
-            if let Some(link) = self.receive(arrival) {
+            let entrant = self.lobby.next_entrant(&rt)?;
+            if let Some(link) = self.receive(entrant) {
                 return Some(link);
             }
         }
@@ -388,28 +386,5 @@ impl<R: Wait + Clock + Drop + Copy + Send, G: Log + Drop + Send> Door for TcpDoo
             visit,
         });
         self.vacate();
-    }
-}
-
-/// Lets viewers in while places are free and there is a host, and tells the others, and the log, why not. It ends with
-/// the first who comes once the lobby is closed.
-pub fn keep_door<R: Wait + Clock, G: Log>(rt: &R, gate: &Gate, lobby: &Lobby, log: &G)
-    requires { gate.now.role ≡ lobby.now.role }
-{
-    let mut refused = Refused::new();
-    for _ in rt.forever() {
-        let Ok(arrival) = gate.accept() else {
-            if lobby.is_closed(rt) {
-                break;
-            }
-            thread::sleep(rt, Duration::from_millis(PAUSE_MILLIS));
-            continue;
-        };
-        let patience = refused.patience(rt);
-        match lobby.enter(rt, arrival, patience) {
-            Entrance::Placed => {}
-            Entrance::Refused(arrival, lack) => refused.refuse(rt, arrival, lack, patience, log),
-            Entrance::Closed => break,
-        }
     }
 }

@@ -1,11 +1,13 @@
 //! Streams of the system as sockets.
 
-ghost use Rattle.std.specs.Prelude.{◌≡◌, ◌++◌};
+ghost use Rattle.std.specs.Prelude.{◌≡◌, ◌≤◌, ◌++◌, length, take};
 ghost use Rattle.std.specs.Io.{WritesAtMost};
 ghost use Rattle.std.specs.Io.KnownBytes.{WriteAppends};
 
 use crate::socket::{HostSocket, Socket};
 use byte_record::Record;
+use mio::event::Source;
+use mio::{Interest, Registry, Token};
 use std::io;
 use std::io::{ErrorKind, IoSlice, Read, Write};
 use std::net::{Shutdown, TcpStream};
@@ -50,6 +52,17 @@ impl Closing for TcpStream {
         // Where the peer has gone before, there is nothing to be told.
         let _ = self.shutdown(Shutdown::Both);
     }
+}
+
+/// Notes so many of the first bytes of both slices, those of `first` before those of `second`.
+pub(crate) fn note_both(notes: &mut Record, first: &[u8], second: &[u8], count: usize)
+    requires { count ≤ length (first.now ++ second.now) }
+    ensures { notes.new.bytes ≡ notes.old.bytes ++ take count (first.now ++ second.now) }
+{
+    let (of_first, _) = first.split_at(count.min(first.len()));
+    let (of_second, _) = second.split_at(count.saturating_sub(first.len()));
+    notes.note(of_first);
+    notes.note(of_second);
 }
 
 /// A stream until it is closed, and what has gone over it, which only clauses read: contracts know nothing of what a
@@ -112,10 +125,7 @@ impl<T: Gathering> Socket for Noted<T> {
             return Err(io::Error::from(ErrorKind::NotConnected));
         };
         let count = stream.write_both(first, second)?;
-        let (of_first, _) = first.split_at(count.min(first.len()));
-        let (of_second, _) = second.split_at(count.saturating_sub(first.len()));
-        self.sent.note(of_first);
-        self.sent.note(of_second);
+        note_both(&mut self.sent, first, second, count);
         Ok(count)
     }
 
@@ -132,6 +142,43 @@ impl<T: Gathering> Socket for Noted<T> {
         let (first, _) = into.split_at(count);
         self.received.note(first);
         Ok(count)
+    }
+}
+
+impl Source for Noted<mio::net::TcpStream> {
+    ghost use Rattle.std.specs.Prelude.{◌≡◌};
+
+    ghost keeps = { λ old new. (new.sent.bytes ≡ old.sent.bytes) × (new.received.bytes ≡ old.received.bytes) };
+
+    fn register(
+        &mut self,
+        registry: &Registry,
+        token: Token,
+        interests: Interest,
+    ) -> io::Result<()> {
+        match &mut self.stream {
+            Some(stream) => stream.register(registry, token, interests),
+            None => Err(io::Error::from(ErrorKind::NotConnected)),
+        }
+    }
+
+    fn reregister(
+        &mut self,
+        registry: &Registry,
+        token: Token,
+        interests: Interest,
+    ) -> io::Result<()> {
+        match &mut self.stream {
+            Some(stream) => stream.reregister(registry, token, interests),
+            None => Err(io::Error::from(ErrorKind::NotConnected)),
+        }
+    }
+
+    fn deregister(&mut self, registry: &Registry) -> io::Result<()> {
+        match &mut self.stream {
+            Some(stream) => stream.deregister(registry),
+            None => Err(io::Error::from(ErrorKind::NotConnected)),
+        }
     }
 }
 

@@ -1,7 +1,9 @@
-//! The porter of all web ports: one thread for all that comes before a link.
+//! Porters: one thread for all that comes before a link, at the web ports of a run or at a port over TCP.
 
-use crate::caller::{Caller, Progress, WebEntry};
+use crate::caller::WebEntry;
 use crate::lobby::Entrance;
+use crate::newcomer::TcpEntry;
+use crate::port::{Newcomer, Port, Progress};
 use crate::refused::Refused;
 use crate::seat::Seat;
 use mio::{Events, Interest, Poll, Token};
@@ -13,7 +15,7 @@ use std::net::Net;
 use std::sync::{Arc, Wait};
 use std::time::{Clock, Duration, Instant};
 
-/// So many connections are asking at once, at most. The others wait in the system's queue.
+/// So many connections that aren't viewers yet are kept by one porter at most. The others wait in the system's queue.
 pub const MOST_GUESTS: usize = 64;
 
 /// So many of those whom a poll heard are told at once.
@@ -25,14 +27,14 @@ const LOOK_MILLIS: u64 = 500;
 /// The seconds after which all places are woken, so that those of browsers that are silent for long say a ping.
 const WAKE_SECONDS: u64 = 5;
 
-/// Those who ask, each at a place of his own.
+/// Those who have come, each at a place of his own.
 #[derive(Drop)]
-struct Guests {
-    places: Vec<Option<Caller>>,
+struct Guests<C: Newcomer> {
+    places: Vec<Option<C>>,
 }
 
-impl Guests {
-    fn new(alloc: Global) -> io::Result<Guests> {
+impl<C: Newcomer> Guests<C> {
+    fn new(alloc: Global) -> io::Result<Guests<C>> {
         let mut places = Vec::with_capacity(alloc, MOST_GUESTS)?;
         for _ in 0..MOST_GUESTS {
             places.push(None)?;
@@ -45,60 +47,52 @@ impl Guests {
         self.places.iter().position(|place| place.is_none())
     }
 
-    fn put(&mut self, place: usize, caller: Caller) {
+    fn put(&mut self, place: usize, comer: C) {
         if let Some(there) = self.places.get_mut(place) {
-            *there = Some(caller);
+            *there = Some(comer);
         }
     }
 
-    fn take(&mut self, place: usize) -> Option<Caller> {
+    fn take(&mut self, place: usize) -> Option<C> {
         self.places.get_mut(place)?.take()
     }
 
     /// Goes on with the one at this place.
     fn go_on<R: Clock>(&mut self, rt: &R, place: usize) -> Progress {
         match self.places.get_mut(place) {
-            Some(Some(caller)) => caller.go_on(rt),
+            Some(Some(comer)) => comer.go_on(rt),
             _ => Progress::Waits,
         }
     }
 
     /// Whether the one at this place, if there is one, has asked for too long.
-    fn is_late(&self, place: usize, now: Instant) -> bool {
+    fn is_late(&self, place: usize, now: Instant, is_crowded: bool) -> bool {
         match self.places.get(place) {
-            Some(Some(caller)) => caller.is_late(now),
+            Some(Some(comer)) => comer.is_late(now, is_crowded),
             _ => false,
         }
     }
 }
 
-/// Hears one who asks, under this number.
-fn hear(poll: &Poll, caller: &mut Caller, number: usize) -> bool {
-    let both = Interest::READABLE | Interest::WRITABLE;
-    poll.registry()
-        .register(caller.heard(), Token(number), both)
-        .is_ok()
-}
-
-/// The web ports of a run, and those who ask at them. A poll hears a port under its number, and one who asks under that
-/// of his place, behind those of the ports. The peer chooses the names of fields, so maps of them take secret keys.
+/// The ports of a porter, and those who came by them. A poll hears a port under its number, and one who has come under
+/// that of his place, behind those of the ports.
 #[derive(Drop)]
-struct Porch {
+struct Porch<P: Port> {
     alloc: Global,
     poll: Poll,
-    entries: Vec<WebEntry>,
-    guests: Guests,
+    entries: Vec<P>,
+    guests: Guests<P::Comer>,
     refused: Refused,
-    keys: RandomState,
+    means: P::Means,
 }
 
-impl Porch {
+impl<P: Port> Porch<P> {
     fn new(
         net: &impl Net,
         alloc: Global,
-        mut entries: Vec<WebEntry>,
-        keys: RandomState,
-    ) -> io::Result<Porch> {
+        mut entries: Vec<P>,
+        means: P::Means,
+    ) -> io::Result<Porch<P>> {
         let poll = Poll::new(net)?;
         for (number, entry) in entries.iter_mut().enumerate() {
             let heard = entry.heard();
@@ -111,21 +105,21 @@ impl Porch {
             entries,
             guests: Guests::new(alloc)?,
             refused: Refused::new(),
-            keys,
+            means,
         })
     }
 
     /// The next who came by a port.
-    fn accept<R: Clock>(&self, rt: &R, port: usize) -> Option<Caller> {
+    fn accept<R: Clock>(&self, rt: &R, port: usize) -> Option<P::Comer> {
         let entry = self.entries.get(port)?;
-        entry.accept(rt, self.alloc, self.keys).ok()
+        entry.accept(rt, self.alloc, &self.means).ok()
     }
 
-    /// Lets one ask at this place, who is heard from now on. One who can't be heard is let go.
-    fn admit(&mut self, mut caller: Caller, place: usize) {
+    /// Gives one this place, who is heard from now on. One who can't be heard is let go.
+    fn admit(&mut self, mut comer: P::Comer, place: usize) {
         let number = self.entries.len().saturating_add(place);
-        if hear(&self.poll, &mut caller, number) {
-            self.guests.put(place, caller);
+        if comer.hear(self.poll.registry(), number).is_ok() {
+            self.guests.put(place, comer);
         }
     }
 
@@ -135,8 +129,8 @@ impl Porch {
             return false;
         };
         match self.accept(rt, port) {
-            Some(caller) => {
-                self.admit(caller, place);
+            Some(comer) => {
+                self.admit(comer, place);
                 true
             }
             None => false,
@@ -154,13 +148,22 @@ impl Porch {
 
     /// One who is done leaves his place, and is let to his lobby if he was let in.
     fn see_in<R: Wait + Clock, G: Log>(&mut self, rt: &R, place: usize, log: &G) {
-        let Some(mut caller) = self.guests.take(place) else {
+        let Some(mut comer) = self.guests.take(place) else {
             return;
         };
-        let _ = self.poll.registry().deregister(caller.heard());
+        let _ = comer.leave(self.poll.registry());
         let patience = self.refused.patience(rt);
-        if let Some(Entrance::Refused(arrival, lack)) = caller.enter(rt, patience) {
-            self.refused.refuse(rt, arrival, lack, patience, log);
+        if let Some(Entrance::Refused(entrant, lack)) = comer.enter(rt, patience) {
+            self.refused.refuse(rt, entrant, lack, patience, log);
+        }
+    }
+
+    /// Lets the one at this place go, who is late or isn't.
+    fn see_off<G: Log>(&mut self, place: usize, is_late: bool, log: &G) {
+        if let Some(comer) = self.guests.take(place) {
+            if let Some(event) = comer.complaint(is_late) {
+                log.note(&event);
+            }
         }
     }
 
@@ -168,7 +171,7 @@ impl Porch {
     fn go_on<R: Wait + Clock, G: Log>(&mut self, rt: &R, place: usize, log: &G) {
         match self.guests.go_on(rt, place) {
             Progress::Waits => {}
-            Progress::Gone => drop(self.guests.take(place)),
+            Progress::Gone => self.see_off(place, false, log),
             Progress::Done => self.see_in(rt, place, log),
         }
     }
@@ -185,10 +188,11 @@ impl Porch {
     }
 
     /// Lets go of those who are late.
-    fn let_go(&mut self, now: Instant) {
+    fn let_go<G: Log>(&mut self, now: Instant, log: &G) {
+        let is_crowded = self.guests.free().is_none();
         for place in 0..MOST_GUESTS {
-            if self.guests.is_late(place, now) {
-                drop(self.guests.take(place));
+            if self.guests.is_late(place, now, is_crowded) {
+                self.see_off(place, true, log);
             }
         }
     }
@@ -209,7 +213,7 @@ impl Porch {
         }
         self.answer(rt, events, log);
         if let Ok(now) = Instant::now(rt) {
-            self.let_go(now);
+            self.let_go(now, log);
         }
         self.let_all_ask(rt);
     }
@@ -242,7 +246,7 @@ fn is_due<R: Clock>(rt: &R, woken: &Option<Instant>) -> bool {
 /// is told where that fails.
 #[derive(Drop)]
 pub struct WebPorter {
-    porch: Porch,
+    porch: Porch<WebEntry>,
     events: Events,
 }
 
@@ -273,6 +277,37 @@ impl WebPorter {
             if is_due(rt, &woken) {
                 woken = Instant::now(rt).ok();
                 wake(seats);
+            }
+        }
+    }
+}
+
+/// The porter of a port over TCP: it says the version to whoever comes, and lets those to the port's lobby whose own
+/// version has come. All that it waits with is made before its thread is, so that whoever starts it is told where that
+/// fails.
+#[derive(Drop)]
+pub struct TcpPorter {
+    porch: Porch<TcpEntry>,
+    events: Events,
+}
+
+impl TcpPorter {
+    /// The porter of this port. It fails where memory is refused, or a poll by the system.
+    pub fn new(net: &impl Net, alloc: Global, entry: TcpEntry) -> io::Result<TcpPorter> {
+        let mut entries = Vec::new(alloc);
+        entries.push(entry)?;
+        Ok(TcpPorter {
+            porch: Porch::new(net, alloc, entries, ())?,
+            events: Events::with_capacity(alloc, MOST_EVENTS)?,
+        })
+    }
+
+    /// Keeps the port. Those who aren't let in, and the log, are told why not. It ends soon after the lobby is closed.
+    pub fn keep<R: Wait + Clock, G: Log>(mut self, rt: &R, log: &G) {
+        for _ in rt.forever() {
+            self.porch.turn(rt, &mut self.events, log);
+            if self.porch.is_closed(rt) {
+                break;
             }
         }
     }

@@ -2,10 +2,14 @@
 
 ghost use Rattle.std.specs.Prelude.{◌<◌, ◌≤◌, length};
 
-use crate::gate::Arrival;
+use crate::gate::Entrant;
+use crate::greeted::GreetedSocket;
+use crate::greeting::VERSION_LEN;
+use crate::noted::Noted;
 use crate::refusal::{no_entry_bytes, no_host_bytes, refusal_bytes};
+use crate::socket::Socket;
+use mio::net::TcpStream;
 use run_traits::{Event, Log, Way};
-use std::io::Write;
 use std::time::{Clock, Duration, Instant};
 use web_link::refusal_frames;
 
@@ -13,9 +17,6 @@ use web_link::refusal_frames;
 /// left is free by then. Those who come within as long of one who was kept in vain are told at once: they came while he
 /// was kept, or nearly so.
 const PATIENCE_MILLIS: u64 = 50;
-
-/// The bytes of the version, with which a refusal begins (RFC 6143, section 7.1.1).
-const VERSION_LEN: usize = 12;
 
 /// Why one isn't let in: what there isn't.
 #[derive(Clone, Copy, Debug, PartialEq, Eq)]
@@ -28,50 +29,50 @@ pub(crate) enum Lack {
     Entry,
 }
 
-/// Those who weren't let in at a door: the last of them, who stays until the next is refused, so that his text isn't
-/// lost, and until when one was kept in vain.
+/// Those who weren't let in at a door: the socket of the last of them, who stays until the next is refused, so that his
+/// text isn't lost, and until when one was kept in vain.
 #[derive(Drop)]
 pub(crate) struct Refused {
-    last: Option<Arrival>,
+    last: Option<GreetedSocket<Noted<TcpStream>>>,
     in_vain: Option<Instant>,
 }
 
-/// Says these bytes to one who isn't let in: in messages where his own travel so. A peer that is gone already needs no
-/// reason.
-fn say(refused: &Arrival, bytes: &[u8])
+/// Says these bytes to one who isn't let in: in messages where his own travel so. What of them was said before isn't
+/// said again, and is sent by itself. A peer that is gone already needs no reason.
+fn say<S: Socket>(socket: &mut S, way: Way, bytes: &[u8])
     requires long { 12 < length bytes.now }
     requires short { length bytes.now ≤ 116 }
 {
-    let mut stream = refused.stream();
-    match refused.way() {
+    let (version, reason) = bytes.split_at(VERSION_LEN);
+    match way {
         Way::Tcp => {
-            let _ = stream.write(bytes);
+            let _ = socket.send(version);
+            let _ = socket.send(reason);
         }
         Way::Web => {
-            let (version, reason) = bytes.split_at(VERSION_LEN);
-            let _ = stream.write(refusal_frames(version, reason).as_slice());
+            let _ = socket.send(refusal_frames(version, reason).as_slice());
         }
     }
 }
 
-/// Tells one who isn't let in, and the log, why.
-fn note_refusal<G: Log>(refused: &Arrival, lack: Lack, log: &G) {
+/// Tells one who isn't let in why.
+fn answer<S: Socket>(socket: &mut S, way: Way, lack: Lack) {
+    match lack {
+        Lack::Place => say(socket, way, &refusal_bytes()),
+        Lack::Host => say(socket, way, &no_host_bytes()),
+        Lack::Entry => say(socket, way, &no_entry_bytes()),
+    }
+}
+
+/// What a log is told of one who isn't let in.
+fn event_of(refused: &Entrant, lack: Lack) -> Event<'static> {
     let role = refused.role();
     let address = refused.address();
     let way = refused.way();
     match lack {
-        Lack::Place => {
-            say(refused, &refusal_bytes());
-            log.note(&Event::PlacesTaken { role, address, way });
-        }
-        Lack::Host => {
-            say(refused, &no_host_bytes());
-            log.note(&Event::NoHost { role, address, way });
-        }
-        Lack::Entry => {
-            say(refused, &no_entry_bytes());
-            log.note(&Event::NoEntry { role, address, way });
-        }
+        Lack::Place => Event::PlacesTaken { role, address, way },
+        Lack::Host => Event::NoHost { role, address, way },
+        Lack::Entry => Event::NoEntry { role, address, way },
     }
 }
 
@@ -100,7 +101,7 @@ impl Refused {
     pub(crate) fn refuse<R: Clock, G: Log>(
         &mut self,
         rt: &R,
-        refused: Arrival,
+        refused: Entrant,
         lack: Lack,
         patience: Duration,
         log: &G,
@@ -108,7 +109,10 @@ impl Refused {
         if lack == Lack::Place && !patience.is_zero() {
             self.in_vain = Instant::now(rt).ok();
         }
-        note_refusal(&refused, lack, log);
-        self.last = Some(refused);
+        log.note(&event_of(&refused, lack));
+        let way = refused.way();
+        let mut socket = refused.into_socket();
+        answer(&mut socket, way, lack);
+        self.last = Some(socket);
     }
 }

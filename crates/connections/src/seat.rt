@@ -1,5 +1,5 @@
 //! Where the thread of a place waits.
-use mio::net::TcpStream;
+use mio::event::Source;
 use mio::{Events, Interest, Poll, Token, Waker};
 use run_traits::{Alarm, PlaceCount};
 use std::alloc::Global;
@@ -54,7 +54,9 @@ impl Seat {
     }
 
     /// From now on a wait ends at this socket too, until it is dropped.
-    pub fn hear<R: Wait>(&self, rt: &R, socket: &mut TcpStream) -> io::Result<()> {
+    pub fn hear<R: Wait, S: Source>(&self, rt: &R, socket: &mut S) -> io::Result<()>
+        ensures { S.keeps socket.old socket.new }
+    {
         let guard = self.ears.lock(rt);
         let both = Interest::READABLE | Interest::WRITABLE;
         guard.poll.registry().register(socket, SOCKET, both)

@@ -3,6 +3,7 @@
 ghost use Rattle.std.specs.Prelude.{◌≡◌};
 
 use crate::account::{Account, gave_of};
+use crate::greeted::GreetedSocket;
 use crate::hello::{HELLO_LEN, Patience, longest_wait};
 use crate::kept::{Kept, MOST_KEPT};
 use crate::noted::Noted;
@@ -54,7 +55,7 @@ fn counted(seat: &Seat, sent: u64, more: usize) -> u64 {
 ///
 /// It is proved over every socket; a viewer's is a stream over TCP.
 #[derive(Drop)]
-pub struct ViewerTcpLink<R: Wait + Clock + Drop, S: Socket = Noted<TcpStream>> {
+pub struct ViewerTcpLink<R: Wait + Clock + Drop, S: Socket = GreetedSocket<Noted<TcpStream>>> {
     rt: R,
     socket: S,
     seat: Arc<Seat, Global>,
@@ -88,7 +89,7 @@ impl<R: Wait + Clock + Drop, S: Socket> Model for ViewerTcpLink<R, S> {
 }
 
 impl<R: Wait + Clock + Drop> ViewerTcpLink<R> {
-    ghost use Rattle.std.specs.Prelude.{◌≡◌, IfOk};
+    ghost use Rattle.std.specs.Prelude.{◌≡◌, [], IfOk};
     ghost use Rattle.connections.specs.Wires.{fresh};
 
     /// A link that has taken and given nothing, to a viewer that may take nothing for so many seconds. It fails where
@@ -104,9 +105,24 @@ impl<R: Wait + Clock + Drop> ViewerTcpLink<R> {
     {
         outlast(&stream, stalled)?;
         stream.set_nonblocking(true)?;
-        let mut stream = TcpStream::from_std(stream);
-        seat.hear(&rt, &mut stream)?;
-        ViewerTcpLink::over(rt, alloc, Noted::new(stream), seat)
+        let socket = GreetedSocket::new(Noted::new(TcpStream::from_std(stream)));
+        ViewerTcpLink::at(rt, alloc, socket, seat)
+    }
+
+    /// A link that has taken and given nothing, by a socket by which, perhaps, the viewer was greeted, and which this
+    /// seat hears from now on. It fails where memory is refused, or the clock by the system.
+    pub fn at(
+        rt: R,
+        alloc: Global,
+        mut socket: GreetedSocket<Noted<TcpStream>>,
+        seat: &Arc<Seat, Global>,
+    ) -> io::Result<ViewerTcpLink<R>>
+        requires sent { socket.sent ≡ [] }
+        requires received { socket.received ≡ [] }
+        ensures { IfOk result (λ link. link ≡ fresh) }
+    {
+        seat.hear(&rt, &mut socket)?;
+        ViewerTcpLink::over(rt, alloc, socket, seat)
     }
 }
 
@@ -269,27 +285,35 @@ impl<R: Wait + Clock + Drop, S: Socket> ViewerTcpLink<R, S> {
         took
     }
 
-    /// Waits. False where it can't, or the hello is late. A clock that can't be read is late.
+    /// How long a wait may last now: so long, or without an end. None where the hello is late. A clock that can't be read
+    /// is late.
+    fn patience(&mut self) -> Option<Option<Duration>>
+        ensures { self.new.own ≡ self.old.own }
+    {
+        let passed = self.opened.elapsed(&self.rt).ok()?;
+        match longest_wait(self.missing, passed) {
+            Patience::Endless => Some(None),
+            Patience::AtMost(left) => Some(Some(left)),
+            Patience::Over => {
+                self.parting = Parting::Late;
+                None
+            }
+        }
+    }
+
+    /// Waits. False where it can't, or the hello is late, also where it is once the wait has ended.
     fn wait(&mut self) -> bool
         ensures { self.new.own ≡ self.old.own }
     {
-        let Ok(passed) = self.opened.elapsed(&self.rt) else {
+        let Some(most) = self.patience() else {
             return false;
-        };
-        let most = match longest_wait(self.missing, passed) {
-            Patience::Endless => None,
-            Patience::AtMost(left) => Some(left),
-            Patience::Over => {
-                self.parting = Parting::Late;
-                return false;
-            }
         };
         let waited = self.seat.wait(&self.rt, most);
         if !self.holds_back() {
             self.seat.answer();
         }
         self.is_blocked = false;
-        waited.is_ok()
+        waited.is_ok() && (self.missing == 0 || self.patience().is_some())
     }
 }
 

@@ -1,6 +1,5 @@
 //! One viewer finds no memory, over links in memory and over TCP.
 
-ghost use Rattle.std.specs.Prelude.{◌≡◌};
 ghost use Rattle.roles.specs.declared.role.Role.TheVariants.{Full};
 
 use crate::board::Board;
@@ -8,7 +7,7 @@ use crate::run::ends_well;
 use crate::tcp::{Keeper, come};
 use crate::viewers::Viewers;
 use crate::wire::VIEWERS;
-use connections::{Desk, Gate, Lobby, Seat, TcpDoor, keep_door};
+use connections::{Desk, Gate, Lobby, Seat, TcpDoor, TcpEntry, TcpPorter};
 use roles::Role;
 use run_traits::{Door, NoLog, PlaceCount};
 use std::alloc::Global;
@@ -44,54 +43,50 @@ fn viewer_without_memory_is_let_go(rt: HostRuntime) -> Result<(), Fail> {
     Ok(())
 }
 
-/// Whether a run with this door ends well, while the gate's viewers are let into the lobby.
+/// Whether a run with this door ends well, while the port is kept.
 fn runs<D, R>(
     rt: R,
     net: &HostRuntime,
-    gate: &Gate,
-    lobby: &Lobby,
+    porter: TcpPorter,
     door: D,
     board: &Arc<Board, Global>,
 ) -> Result<bool, Fail>
 where
     D: Door + Send + 'static,
     R: Threads + Wait + Clock + Copy + Drop + Send + Sync + 'static,
-    requires gate { gate.now.role ≡ lobby.now.role }
-    requires door { D.is_for door Full }
+    requires { D.is_for door Full }
 {
     let (ended, ()) = thread::join(
         &rt,
         ||
             requires { D.is_for door Full }
         { ends_well(rt, net.alloc(), door, board) },
-        ||
-            requires { gate.now.role ≡ lobby.now.role }
-        { keep_door(&rt, gate, lobby, &NoLog) },
+        || porter.keep(&rt, &NoLog),
     );
     ended
 }
 
-/// Whether a run with this door ends well, and each viewer that comes in by the gate is given what it is to be given.
+/// Whether a run with this door ends well, and each viewer that comes to this port is given what it is to be given.
 fn serves<D, R>(
     rt: R,
     net: &HostRuntime,
-    gate: &Gate,
-    lobby: &Lobby,
+    porter: TcpPorter,
+    place: (SocketAddr, &Lobby),
     door: D,
     board: &Arc<Board, Global>,
 ) -> Result<bool, Fail>
 where
     D: Door + Send + 'static,
     R: Threads + Wait + Clock + Copy + Drop + Send + Sync + 'static,
-    requires gate { gate.now.role ≡ lobby.now.role }
-    requires door { D.is_for door Full }
+    requires { D.is_for door Full }
 {
+    let (address, lobby) = place;
     let (came, ended) = thread::join(
         &rt,
-        || come(&rt, net, gate.listener(), lobby, board),
+        || come(&rt, net, address, lobby, board),
         ||
-            requires { (gate.now.role ≡ lobby.now.role) × D.is_for door Full }
-        { runs(rt, net, gate, lobby, door, board) },
+            requires { D.is_for door Full }
+        { runs(rt, net, porter, door, board) },
     );
     Ok(ended? && came?)
 }
@@ -101,6 +96,7 @@ fn viewer_without_memory_is_let_go_over_tcp(rt: HostRuntime) -> Result<(), Fail>
     expect_loose_counting(&rt)?;
     let board = Board::new(rt.alloc())?;
     let listener = TcpListener::bind(&rt, SocketAddr::from((Ipv4Addr::LOCALHOST, 0)))?;
+    let address = listener.local_addr()?;
     let gate = Gate::new(listener, Role::Full);
     let desk = Arc::new(rt.alloc(), Desk::new(rt.alloc(), 1)?)?;
     let lobby = Lobby::new(rt.alloc(), Role::Full, 1, 60, desk)?;
@@ -108,7 +104,9 @@ fn viewer_without_memory_is_let_go_over_tcp(rt: HostRuntime) -> Result<(), Fail>
     let seat = Arc::new(rt.alloc(), Seat::new(&rt, rt.alloc())?)?;
     let log = Keeper::new(rt, rt.alloc(), Arc::try_clone(&board)?);
     let door = TcpDoor::new(rt, rt.alloc(), Arc::try_clone(&lobby)?, seat, 1, log);
-    let is_right = serves(rt, &rt, &gate, &lobby, door, &board)?;
+    let entry = TcpEntry::new(gate, Arc::try_clone(&lobby)?)?;
+    let porter = TcpPorter::new(&rt, rt.alloc(), entry)?;
+    let is_right = serves(rt, &rt, porter, (address, &lobby), door, &board)?;
     assert!(rt; is_right);
     assert_eq!(rt; board.left.load(Ordering::SeqCst), VIEWERS);
     Ok(())

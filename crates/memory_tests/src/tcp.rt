@@ -9,12 +9,15 @@ use run_traits::{Event, Log};
 use std::alloc::Global;
 use std::io;
 use std::io::{Read, Write};
-use std::net::{TcpListener, TcpStream};
+use std::net::{SocketAddr, TcpStream};
 use std::sync::{Arc, Mutex, Wait};
 use std::time::{Clock, Duration};
 
 /// Nobody waits longer than this many seconds.
 const LONG: u64 = 20;
+
+/// The version of both sides (RFC 6143, 7.1.1).
+const VERSION: &[u8] = b"RFB 003.008\n";
 
 /// More bytes than a viewer is given.
 const MOST: usize = 128;
@@ -60,15 +63,19 @@ impl<R: Wait + Drop> Log for Keeper<R> {
     }
 }
 
-/// Whether a viewer is given what it is to be given. One that is let go is given nothing, and the others leave.
-fn visits(net: &HostRuntime, listener: &TcpListener, viewer: u64) -> io::Result<bool> {
-    let mut stream = TcpStream::connect(net, listener.local_addr()?)?;
+/// Whether a viewer is given what it is to be given. One that is let go has said its version and was told one, and
+/// nothing more, and the others leave.
+fn visits(net: &HostRuntime, address: SocketAddr, viewer: u64) -> io::Result<bool> {
+    let mut stream = TcpStream::connect(net, address)?;
     stream.set_read_timeout(Some(Duration::from_secs(LONG)))?;
-    stream.write_all(sent_by(viewer))?;
     let wanted = given_to(viewer);
     if wanted.is_empty() {
-        return Ok(stream.read(&mut [0])? == 0);
+        stream.write_all(VERSION)?;
+        let mut version = [0u8; 12];
+        stream.read_exact(&mut version)?;
+        return Ok(version.as_slice() == VERSION && stream.read(&mut [0])? == 0);
     }
+    stream.write_all(sent_by(viewer))?;
     let mut given = [0u8; MOST];
     let Some(room) = given.get_mut(..wanted.len()) else {
         return Ok(false);
@@ -78,21 +85,20 @@ fn visits(net: &HostRuntime, listener: &TcpListener, viewer: u64) -> io::Result<
 }
 
 /// The viewers come once the host was asked for more, and each once the place is free. Then the lobby is closed, which
-/// whoever keeps the door sees as one more comes.
+/// whoever keeps the port sees soon.
 pub(crate) fn come<R: Wait + Clock>(
     rt: &R,
     net: &HostRuntime,
-    listener: &TcpListener,
+    address: SocketAddr,
     lobby: &Lobby,
     board: &Board,
 ) -> io::Result<bool> {
     hold(&board.told, 1);
     let mut is_right = true;
     for number in 0..VIEWERS {
-        is_right = visits(net, listener, number + 1).unwrap_or(false) && is_right;
+        is_right = visits(net, address, number + 1).unwrap_or(false) && is_right;
         lobby.await_empty(rt, Duration::from_secs(LONG));
     }
     lobby.close(rt);
-    let _last = TcpStream::connect(net, listener.local_addr()?)?;
     Ok(is_right)
 }

@@ -1,5 +1,5 @@
 -- Where viewers are waited for, and where the hosts are.
-use Rattle.std.specs.Prelude.{◌≡◌, ◌++◌, ◌⊎◌, codes, ℕ, List, IsSomeAnd}
+use Rattle.std.specs.Prelude.{◌≡◌, ◌++◌, ◌⊎◌, codes, ℕ, List, IsSomeAnd, MatchOption, None, Option}
 use Rattle.std.specs.Net.Grammar.{IsIpText, IsSocketText}
 use Rattle.std.specs.declared.net.ip_addr.IpAddr.{IpAddr}
 use Rattle.std.specs.Net.Socket.{IsPlainSocket, socket_ip}
@@ -26,6 +26,10 @@ pub record IsAddressFor (role : Role) (plan : Plan) (address : SocketAddr) : Typ
 pub record IsWebAddressFor (role : Role) (plan : Plan) (address : SocketAddr) : Type 0 where
   pub ip : IsBindText (bind_for role plan) (socket_ip address)
   pub web_port : IsSomeAnd (web_port_for role plan) (λ port. IsPlainSocket address port)
+
+-- The proxy that is believed: the one whose address the plan's text writes, or none where it has none.
+abbrev pub IsProxyFor : Plan → Option IpAddr → Type 0
+IsProxyFor plan proxy = MatchOption plan.proxy_from (proxy ≡ None) (λ text. IsSomeAnd proxy (λ ip. IsBindText text.now ip))
 
 -- The address at which machines read the run's numbers: the plan's text writes it.
 abbrev pub IsMetricsAddressFor : Plan → SocketAddr → Type 0

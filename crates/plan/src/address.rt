@@ -2,7 +2,7 @@
 
 ghost use Rattle.std.specs.Prelude.{◌≡◌, ℕ, List, IfOk, IfErr, IfSome, MatchOption, Some, is_some};
 ghost use Rattle.std.specs.declared.net.ip_addr.IpAddr.{IpAddr as Ip};
-ghost use Rattle.plan.specs.Addresses.{IsAddressFor, IsBindText, IsBracketed, IsMetricsAddressFor, IsWebAddressFor};
+ghost use Rattle.plan.specs.Addresses.{IsAddressFor, IsBindText, IsBracketed, IsMetricsAddressFor, IsProxyFor, IsWebAddressFor};
 ghost use Rattle.plan.specs.Statuses.{bind_for, web_port_for};
 
 use crate::plan::{Plan, bind_of, port_of};
@@ -55,6 +55,20 @@ pub fn web_address_of(plan: &Plan<'_>, role: Role, port: u16) -> Result<SocketAd
     match ip_of(bind) {
         Ok(ip) => Ok(SocketAddr::new(ip, port)),
         Err(error) => Err(error),
+    }
+}
+
+/// The address of the proxy that is believed, if the plan has a text for one. It fails where that is no IP address.
+pub fn proxy_of(plan: &Plan<'_>) -> Result<Option<IpAddr>, AddrParseError>
+    ensures ok { IfOk result (λ proxy. IsProxyFor plan.now proxy) }
+    ensures err { IfErr result (λ _. (ip : Ip) → ¬ (IsProxyFor plan.now (Some ip))) }
+{
+    match plan.proxy_from {
+        Some(text) => match ip_of(text) {
+            Ok(ip) => Ok(Some(ip)),
+            Err(error) => Err(error),
+        },
+        None => Ok(None),
     }
 }
 

@@ -8,7 +8,7 @@ mod rested;
 mod status;
 mod turns;
 
-pub use address::{address_of, metrics_address_of, web_address_of};
+pub use address::{address_of, metrics_address_of, proxy_of, web_address_of};
 pub use plan::{Plan, WebPlan, bind_of, places_of, port_of, runs_of, web_port_of};
 pub use rested::{CallsOff, Rested};
 pub use status::status_of;

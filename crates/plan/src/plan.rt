@@ -37,6 +37,8 @@ pub struct Plan<'a> {
     pub web: WebPlan<'a>,
     /// The address at which machines read the run's numbers, `IP:PORT`, or `None` where they can't.
     pub metrics: Option<&'a str>,
+    /// The address of the proxy that is believed from where viewers come, or `None` where none is.
+    pub proxy_from: Option<&'a str>,
     /// The path of the socket at which an operator may ask something of the run, or `None` where there is none.
     pub control: Option<&'a str>,
     /// Whether a log is kept on standard error.

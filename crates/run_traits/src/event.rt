@@ -113,6 +113,12 @@ pub enum Event<'a> {
         address: Option<SocketAddr>,
         way: Way,
     },
+    /// One was refused who came from the proxy: what he sent is no header, or none came in time.
+    NoHeader {
+        role: Role,
+        address: Option<SocketAddr>,
+        way: Way,
+    },
     /// The host has ended, or is at fault, or wasn't joined.
     HostOut {
         address: Option<SocketAddr>,

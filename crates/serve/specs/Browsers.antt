@@ -7,6 +7,7 @@ use Rattle.roles.specs.declared.role.Role.TheVariants.{Full, View}
 use Rattle.web_door.specs.Landings.{LeadsToStart}
 use Rattle.web_door.specs.declared.site.Site.{Site}
 use Rattle.web_door.specs.declared.table.WebFile.{WebFile}
+use Rattle.plan.specs.Addresses.{IsProxyFor}
 use Rattle.plan.specs.declared.plan.Plan.{Plan}
 use Rattle.connections.specs.declared.caller.WebEntry.{WebEntry}
 
@@ -22,9 +23,11 @@ pub record IsSiteFor (role : Role) (plan : Plan) (files : List WebFile) (site : 
   pub start : LeadsToStart (looks_only role) site.landing
   pub origins : 0 < length plan.web.origins.now → map string_bytes site.admission.origins.items ≡ map string_bytes plan.web.origins.now
 
--- Who comes by the port has this role, and asks such a site.
+-- Who comes by the port has this role, asks such a site, and is believed to come from elsewhere only by the plan's
+-- proxy.
 pub record IsWebEntryFor (role : Role) (plan : Plan) (files : List WebFile) (entry : WebEntry) : Type 0 where
   pub comes_as : entry.gate.role ≡ role
+  pub believes : IsProxyFor plan entry.gate.proxy
   pub asks : IsSiteFor role plan files (arc_value entry.site)
 
 -- Each of the ports is one for its own role.

@@ -179,6 +179,11 @@ impl Display for Advice<'_> {
                 bind_option(&plan, role),
                 bind_of(&plan, role)
             ),
+            Stage::ReadProxy => write!(
+                f,
+                "--proxy-from {} is no IP address, such as 127.0.0.1",
+                plan.proxy_from.unwrap_or("")
+            ),
             Stage::ReadHost => write!(
                 f,
                 "--host {} is no IP:PORT and no NAME:PORT, such as 192.0.2.7:5900 or localhost:5907",

@@ -8,7 +8,7 @@ use roles::Role;
 use std::alloc::Global;
 use std::io;
 use std::marker::Model;
-use std::net::{Net, SocketAddr, TcpListener, TcpStream};
+use std::net::{IpAddr, Net, SocketAddr, TcpListener, TcpStream};
 
 /// The addresses at which the system was asked for a port, in order.
 #[derive(Drop)]
@@ -58,37 +58,32 @@ pub(crate) struct Bound {
 }
 
 impl Bound {
-    /// Listens at this address for the viewers of this role. It fails where the system refuses that, or memory for the
-    /// list of what was asked.
+    /// Listens at this address for the viewers of this role, where the headers of this proxy are believed, if there is
+    /// one. It fails where the system refuses that, or memory for the list of what was asked.
     pub(crate) fn at<R: Net<Stream = TcpStream, Listener = TcpListener>>(
         rt: &R,
         ports: &mut Ports,
         address: SocketAddr,
         role: Role,
+        proxy: Option<IpAddr>,
     ) -> io::Result<Bound>
         ensures address { IfOk result (λ bound. bound.address ≡ address) }
         ensures role { IfOk result (λ bound. bound.gate.role ≡ role) }
+        ensures proxy { IfOk result (λ bound. bound.gate.proxy ≡ proxy) }
         ensures ok { OnOk result (ports.new ≡ ports.old ++ address ∷ []) }
         ensures asked { IsAskedAtMost address ports.old ports.new }
     {
         let listener = ports.listen(rt, address)?;
         Ok(Bound {
-            gate: Gate::new(listener, role),
+            gate: Gate::new(listener, role).behind(proxy),
             address,
         })
     }
 
-    /// The listener, with the role, for whoever owns it from now on.
+    /// The listener, with the role and the proxy, for whoever owns it from now on.
     pub(crate) fn into_gate(self) -> Gate
         ensures { result ≡ self.gate }
     {
         self.gate
-    }
-
-    /// The listener, with the role.
-    pub(crate) fn gate(&self) -> &Gate
-        ensures { result.now ≡ self.now.gate }
-    {
-        &self.gate
     }
 }

@@ -16,7 +16,6 @@ use connections::Seat;
 use fault::Fault;
 use run_traits::Log;
 use std::alloc::Global;
-use std::net::Net;
 use std::sync::{Arc, Wait};
 use std::time::Clock;
 
@@ -60,7 +59,7 @@ impl Halls {
     }
 
     /// No more viewers come, and those that are there are waited for, though not for long.
-    pub(crate) fn close<R: Net + Wait + Clock>(&self, rt: &R) {
+    pub(crate) fn close<R: Wait + Clock>(&self, rt: &R) {
         if let Some(full) = &self.full {
             full.close(rt);
         }

@@ -291,6 +291,13 @@ impl Display for Line<'_> {
                 AddressOrDash { address: *address },
                 By { way: *way }
             ),
+            Event::NoHeader { role, address, way } => write!(
+                f,
+                "no-header role={} address={}{}",
+                RoleName { role: *role },
+                AddressOrDash { address: *address },
+                By { way: *way }
+            ),
             Event::HostOut { address, why } => {
                 let why = Why {
                     why: *why,

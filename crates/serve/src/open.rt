@@ -3,7 +3,7 @@
 ghost use Rattle.std.specs.Prelude.{◌≡◌, ◌++◌, ◌∷◌, [], IfOk};
 ghost use Rattle.std.specs.Arc.{arc_value};
 ghost use Rattle.std.specs.Net.Socket.{socket_port};
-ghost use Rattle.plan.specs.Addresses.{IsAddressFor};
+ghost use Rattle.plan.specs.Addresses.{IsAddressFor, IsProxyFor};
 ghost use Rattle.plan.specs.Statuses.{port_for};
 ghost use Rattle.serve.specs.Ports.{AsksFor};
 
@@ -11,7 +11,7 @@ use crate::bound::{Bound, Ports};
 use crate::trouble::{Stage, Trouble};
 use connections::{Desk, Lobby};
 use fault::Fault;
-use plan::{Plan, address_of, places_of};
+use plan::{Plan, address_of, places_of, proxy_of};
 use roles::Role;
 use run_traits::{Event, Log, Way};
 use std::alloc::Global;
@@ -26,6 +26,7 @@ pub(crate) struct Entry<'a> {
     pub(crate) bound: Bound,
     pub(crate) lobby: Arc<Lobby, Global>,
     pub(crate) ghost port: { socket_port bound.address ≡ port_for (arc_value lobby).role plan },
+    pub(crate) ghost proxy: { ∥ IsProxyFor plan bound.gate.proxy ∥₁ },
     pub(crate) ghost role: { bound.gate.role ≡ (arc_value lobby).role },
 }
 
@@ -44,13 +45,17 @@ pub(crate) fn open<'a, R: Net<Stream = TcpStream, Listener = TcpListener>, G: Lo
     ensures plan { IfOk result (λ entry. entry.plan ≡ plan.now) }
     ensures address { IfOk result (λ entry. IsAddressFor role plan.now entry.bound.address) }
     ensures role { IfOk result (λ entry. (arc_value entry.lobby).role ≡ role) }
+    ensures proxy { IfOk result (λ entry. IsProxyFor plan.now entry.bound.gate.proxy) }
     ensures stalled { IfOk result (λ entry. (arc_value entry.lobby).stalled ≡ plan.now.stalled) }
 {
     let places = places_of(plan, role);
     let Ok(address) = address_of(plan, role) else {
         return Err(Trouble::new(Stage::ReadBind(role), Fault::LinkFailed));
     };
-    let bound = match Bound::at(rt, ports, address, role) {
+    let Ok(proxy) = proxy_of(plan) else {
+        return Err(Trouble::new(Stage::ReadProxy, Fault::LinkFailed));
+    };
+    let bound = match Bound::at(rt, ports, address, role, proxy) {
         Ok(bound) => bound,
         Err(error) => return Err(Trouble::of(Stage::Listen(role), error)),
     };

@@ -8,25 +8,22 @@ ghost use Rattle.roles.specs.declared.role.Role.TheVariants.{Full};
 ghost use Rattle.serve.specs.Doors.{AreAsPlanned, AreBoth, HaveTheirRoles, IsFullEntry, roles_in};
 
 use crate::open::Entry;
-use crate::runtime::STACK;
+use crate::runtime::{Runtime, STACK};
 use crate::trouble::{Stage, Trouble};
-use connections::{Everyone, Lobby, Seat, TcpDoor, WriterSeat, keep_door};
+use connections::{Everyone, Lobby, Seat, TcpDoor, TcpEntry, TcpPorter, WriterSeat};
 use fault::Fault;
 use plan::{Plan, places_of};
 use roles::Role;
 use run_traits::{HostCount, Log};
 use std::alloc::Global;
 use std::io;
-use std::net::{Net, SocketAddr, TcpStream};
+use std::net::Net;
 use std::sync::{Arc, Wait};
-use std::thread::{Builder, Threads};
+use std::thread::Builder;
 use std::time::{Clock, Duration};
 
 /// For how long viewers are waited for once the host has ended, in milliseconds.
 const GOODBYE_MILLIS: u64 = 1_000;
-
-/// How long a knock at the own door may take, in milliseconds.
-const KNOCK_MILLIS: u64 = 200;
 
 /// The doors of all places with their roles, and where each place's thread waits.
 #[derive(Drop)]
@@ -157,44 +154,47 @@ pub(crate) fn everyone_of(
     Ok(Arc::new(alloc, everyone)?)
 }
 
-/// What is left to do with a role's viewers while its door is kept: to send them away.
+/// What is left to do with a role's viewers while its port is kept: to send them away.
 #[derive(Drop)]
 pub(crate) struct Hall {
     lobby: Arc<Lobby, Global>,
-    address: io::Result<SocketAddr>,
+}
+
+/// The porter of the port of a role, whose viewers are let to the entry's lobby.
+fn porter_of(rt: &impl Net, alloc: Global, entry: Entry<'_>) -> io::Result<TcpPorter> {
+    let Entry {
+        plan: _,
+        bound,
+        lobby,
+    } = entry;
+    TcpPorter::new(rt, alloc, TcpEntry::new(bound.into_gate(), lobby)?)
 }
 
 /// Starts the thread that lets the viewers of a role in.
-pub(crate) fn start_porter<R, G>(
+pub(crate) fn start_porter<R: Runtime, G>(
     rt: R,
     alloc: Global,
     entry: Entry<'_>,
     log: &G,
 ) -> Result<Hall, Trouble>
 where
-    R: Threads + Wait + Clock + Copy + Drop + Send + 'static,
     G: Log + Clone + Drop + Send + 'static,
 {
-    let Entry {
-        plan: _,
-        bound,
-        lobby,
-    } = entry;
-    let address = bound.gate().listener().local_addr();
-    let Ok(theirs) = Arc::try_clone(&lobby) else {
+    let Ok(lobby) = Arc::try_clone(&entry.lobby) else {
         return Err(Trouble::new(Stage::Start, Fault::Memory));
+    };
+    let porter = match porter_of(&rt, alloc, entry) {
+        Ok(porter) => porter,
+        Err(error) => return Err(Trouble::of(Stage::Start, error)),
     };
     let Ok(log) = log.clone() else {
         return Err(Trouble::new(Stage::Start, Fault::Memory));
     };
-    let started = Builder::new().stack_size(STACK).spawn(
-        &rt,
-        move ||
-            requires { bound.gate.role ≡ (arc_value theirs).role }
-        { keep_door(&rt, bound.gate(), &theirs, &log) },
-    );
+    let started = Builder::new()
+        .stack_size(STACK)
+        .spawn(&rt, move || porter.keep(&rt, &log));
     match started {
-        Ok(_porter) => Ok(Hall { lobby, address }),
+        Ok(_porter) => Ok(Hall { lobby }),
         Err(error) => Err(Trouble::of(Stage::Start, error)),
     }
 }
@@ -205,18 +205,10 @@ impl Hall {
         self.lobby.hold(rt, false);
     }
 
-    /// No more viewers come, and those that are there are waited for, though not for long. Whoever keeps the door is
-    /// knocked at, so that he sees it.
-    pub(crate) fn close<R: Net + Wait + Clock>(&self, rt: &R) {
+    /// No more viewers come, and those that are there are waited for, though not for long. Whoever keeps the port sees
+    /// that soon.
+    pub(crate) fn close<R: Wait + Clock>(&self, rt: &R) {
         self.lobby.close(rt);
-        if let Ok(address) = &self.address {
-            let knock = TcpStream::connect_timeout(
-                rt,
-                address,
-                Duration::from_millis(KNOCK_MILLIS),
-            );
-            drop(knock);
-        }
         self.lobby
             .await_empty(rt, Duration::from_millis(GOODBYE_MILLIS));
     }

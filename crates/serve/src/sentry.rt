@@ -43,7 +43,8 @@ fn happening_of(event: &Event<'_>) -> Option<Happening> {
         Event::ViewerOut { place_id, .. } => Some(Happening::Left(place_id.role)),
         Event::PlacesTaken { role, .. }
         | Event::NoHost { role, .. }
-        | Event::NoEntry { role, .. } => { Some(Happening::Refused(*role)) }
+        | Event::NoEntry { role, .. }
+        | Event::NoHeader { role, .. } => { Some(Happening::Refused(*role)) }
     }
 }
 

@@ -11,6 +11,8 @@ use web_root::RootFault;
 pub(crate) enum Stage {
     /// Reading the address to listen on for viewers of a role.
     ReadBind(Role),
+    /// Reading the address of the proxy that is believed.
+    ReadProxy,
     /// Listening for viewers of a role.
     Listen(Role),
     /// Reading this one of the origins.

@@ -14,7 +14,7 @@ use crate::runtime::{REQUEST_STACK, Runtime};
 use crate::trouble::{Stage, Trouble};
 use connections::{Seat, WebEntry, WebPorter};
 use fault::Fault;
-use plan::{Plan, places_of, web_address_of, web_port_of};
+use plan::{Plan, places_of, proxy_of, web_address_of, web_port_of};
 use roles::Role;
 use run_traits::{Event, Log, Way};
 use std::alloc::{AllocError, AllocGlobal, Global};
@@ -117,7 +117,10 @@ fn open_web<R: Net<Stream = TcpStream, Listener = TcpListener>, G: Log>(
     let Ok(lobby) = Arc::try_clone(&entry.lobby) else {
         return Err(Trouble::new(Stage::Start, Fault::Memory));
     };
-    let bound = match Bound::at(rt, ports, address, role) {
+    let Ok(proxy) = proxy_of(plan) else {
+        return Err(Trouble::new(Stage::ReadProxy, Fault::LinkFailed));
+    };
+    let bound = match Bound::at(rt, ports, address, role, proxy) {
         Ok(bound) => bound,
         Err(error) => return Err(Trouble::of(Stage::ListenWeb(role), error)),
     };

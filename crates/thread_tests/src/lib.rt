@@ -3,9 +3,9 @@
 #![tactic(auto)]
 
 #[cfg(test)]
-mod connections;
-#[cfg(test)]
 mod loops;
+#[cfg(test)]
+mod over_tcp;
 #[cfg(test)]
 mod runs;
 #[cfg(test)]

@@ -13,6 +13,7 @@ mod loopback;
 mod meeting;
 mod names;
 mod options;
+mod proxied;
 mod room;
 mod scene;
 mod surroundings;

@@ -2,7 +2,7 @@
 
 use crate::served::host::{Ending, Host, INIT, KEY_DOWN};
 use crate::served::lines::words_of;
-use crate::served::loopback::connect;
+use crate::served::loopback::come;
 use crate::served::room::Ear;
 use crate::served::scene::{FIRST, FULL, Line, Scene, Told, VIEW, control_path, play_all};
 use crate::served::system::SocketFiles;
@@ -202,7 +202,7 @@ fn is_refused<R>(ear: &Ear<R>, port: u16) -> io::Result<bool>
 where
     R: Net<Stream = TcpStream, Listener = TcpListener> + Wait + Clock + Drop,
 {
-    let mut stream = connect(ear, port)?;
+    let mut stream = come(ear, port)?;
     let address = stream.local_addr()?;
     ear.want(format!(in ear.alloc; "no-entry role=full address={address}")?)?;
     let mut told = [0u8; 36];
@@ -233,7 +233,7 @@ where
     R: Net<Stream = TcpStream, Listener = TcpListener> + Wait + Clock + Drop,
 {
     for _ in 0..TRIES {
-        let mut stream = connect(ear, port)?;
+        let mut stream = come(ear, port)?;
         let address = stream.local_addr()?;
         let greeting = greeting(&mut stream)?;
         if greeting.as_slice() == GREETING {

@@ -1,7 +1,7 @@
 //! A viewer that comes before there is a host.
 
 use crate::served::host::INIT;
-use crate::served::loopback::connect;
+use crate::served::loopback::come;
 use crate::served::room::Ear;
 use crate::served::viewer::{NO_HOST, TRIES, is_greeted};
 use std::io;
@@ -20,7 +20,7 @@ pub(crate) fn is_early_one_right<R>(ear: &Ear<R>, port: u16) -> io::Result<bool>
 where
     R: Net<Stream = TcpStream, Listener = TcpListener> + Wait + Clock + Drop,
 {
-    let mut early = connect(ear, port)?;
+    let mut early = come(ear, port)?;
     if !is_told_early(ear, &mut early)? || !fails_silently(ear) {
         return Ok(false);
     }
@@ -66,7 +66,7 @@ where
     R: Net<Stream = TcpStream, Listener = TcpListener> + Wait + Clock + Drop,
 {
     for _ in 0..TRIES {
-        let mut stream = connect(ear, port)?;
+        let mut stream = come(ear, port)?;
         let address = stream.local_addr()?;
         let told = format!(in ear.alloc; " address={address}\n")?;
         let is_told = ear.hears(told.as_str());

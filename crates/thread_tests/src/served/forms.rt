@@ -2,7 +2,7 @@
 //! runs.
 
 use crate::served::lines::words_of;
-use crate::served::loopback::{accept, connect, free_port, listen};
+use crate::served::loopback::{accept, come, free_port, listen};
 use crate::served::room::{Ear, Room};
 use crate::served::system::SocketFiles;
 use crate::served::viewer::is_greeted;
@@ -106,7 +106,7 @@ fn is_viewer_right<R>(ear: &Ear<R>, port: u16, form: &Form) -> io::Result<bool>
 where
     R: Net<Stream = TcpStream, Listener = TcpListener> + Wait + Clock + Drop,
 {
-    let mut stream = connect(ear, port)?;
+    let mut stream = come(ear, port)?;
     let is_greeted = is_greeted(&mut stream, INIT)?;
     stream.write_all(LIST)?;
     Ok(is_shown(ear, &mut stream, form)? && is_greeted)

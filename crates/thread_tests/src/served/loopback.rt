@@ -1,6 +1,6 @@
 //! Sockets of loopback, and what is sent through them.
 
-use std::io::ErrorKind;
+use std::io::{ErrorKind, Write};
 use std::net::{Ipv4Addr, Net, SocketAddr, TcpListener, TcpStream};
 use std::time::{Clock, Duration};
 use std::{io, thread};
@@ -68,6 +68,13 @@ pub(crate) fn connect<R: Net<Stream = TcpStream> + Clock>(
         thread::sleep(rt, Duration::from_millis(10));
     }
     TcpStream::connect(rt, address)
+}
+
+/// A viewer that has connected, as soon as somebody listens, and has said its version (RFC 6143, 7.1.1).
+pub(crate) fn come<R: Net<Stream = TcpStream> + Clock>(rt: &R, port: u16) -> io::Result<TcpStream> {
+    let mut stream = connect(rt, port)?;
+    stream.write_all(b"RFB 003.008\n")?;
+    Ok(stream)
 }
 
 /// Whether nobody listens at this port on another address of this machine.

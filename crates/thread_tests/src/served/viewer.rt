@@ -4,7 +4,8 @@ use crate::served::control::is_sent_away;
 use crate::served::early::is_early_one_right;
 use crate::served::host::INIT;
 use crate::served::input::{types, types_in_vain};
-use crate::served::loopback::{RED_AND_BLUE, connect, is_closed_beside, update};
+use crate::served::loopback::{RED_AND_BLUE, come, is_closed_beside, update};
+use crate::served::proxied::is_proxied_one_right;
 use crate::served::room::Ear;
 use crate::served::system::SocketFiles;
 use crate::served::visits::{Leaving, are_visits_right};
@@ -16,8 +17,8 @@ use std::sync::Wait;
 use std::sync::atomic::Ordering;
 use std::time::Clock;
 
-/// A viewer's side of the handshake: version 3.8, None, and shared (RFC 6143, 7.1.1, 7.1.2 and 7.3.1).
-pub(crate) const HELLO: &[u8] = b"RFB 003.008\n\x01\x01";
+/// What follows a viewer's version: None, and shared (RFC 6143, 7.1.2 and 7.3.1).
+const CHOICE_AND_SHARED: &[u8] = b"\x01\x01";
 
 /// The server's side up to its screen: the version, one type of security, and that it went well (RFC 6143, 7.1.1 to
 /// 7.1.3).
@@ -62,6 +63,8 @@ pub(crate) enum Viewer {
     Visits(&'static [Leaving]),
     /// Comes before there is a host, and is told so; once there is one it comes again, and leaves.
     ComesEarly,
+    /// Comes through a proxy, is greeted, and leaves.
+    ComesThrough,
     /// Holds a key until it is sent away by the first of these requests. The others are done then.
     IsSentAway(&'static [&'static str]),
 }
@@ -81,6 +84,7 @@ where
         Viewer::Nobody => Ok(true),
         Viewer::Visits(leavings) => are_visits_right(ear, role, port, leavings),
         Viewer::ComesEarly => is_early_one_right(ear, port),
+        Viewer::ComesThrough => is_proxied_one_right(ear, port),
         Viewer::IsSentAway(requests) => is_sent_away(ear, port, requests),
         _ => match comes_in(ear, port)? {
             Some(mut stream) => {
@@ -98,7 +102,7 @@ where
     R: Net<Stream = TcpStream, Listener = TcpListener> + Wait + Clock + Drop,
 {
     for _ in 0..TRIES {
-        let mut stream = connect(ear, port)?;
+        let mut stream = come(ear, port)?;
         let greeting = greeting(&mut stream)?;
         if greeting.as_slice() == GREETING {
             return Ok(Some(stream));
@@ -110,10 +114,10 @@ where
     Ok(None)
 }
 
-/// What a viewer is told up to its screen.
+/// What a viewer that has said its version is told up to its screen.
 pub(crate) fn greeting(stream: &mut TcpStream) -> io::Result<[u8; 18]> {
     let mut greeting = [0u8; 18];
-    stream.write_all(HELLO)?;
+    stream.write_all(CHOICE_AND_SHARED)?;
     stream.read_exact(&mut greeting)?;
     Ok(greeting)
 }
@@ -141,9 +145,11 @@ fn is_served<R: Wait + Clock + Drop>(
     viewer: &Viewer,
 ) -> io::Result<bool> {
     match viewer {
-        Viewer::Nobody | Viewer::Visits(_) | Viewer::ComesEarly | Viewer::IsSentAway(_) => {
-            Ok(true)
-        }
+        Viewer::Nobody
+        | Viewer::Visits(_)
+        | Viewer::ComesEarly
+        | Viewer::IsSentAway(_)
+        | Viewer::ComesThrough => { Ok(true) }
         Viewer::AsksForAll => is_shown_all(ear, stream),
         Viewer::IsLetGo => is_let_go(ear, stream),
         Viewer::Follows(last)

@@ -1,7 +1,7 @@
 //! Viewers that come one after another at a port whose role has one place, and leave in each way.
 
 use crate::served::host::FORGED;
-use crate::served::loopback::connect;
+use crate::served::loopback::come;
 use crate::served::room::Ear;
 use crate::served::viewer::{ASK, is_greeted, is_let_go};
 use roles::Role;
@@ -30,7 +30,7 @@ pub(crate) enum Leaving {
     BreaksRules,
     /// It closes with bytes unread, so that the system calls the connection broken.
     BreaksOff,
-    /// It has said half of its side of the handshake when its time is over, by the clock of the scene. That waits until
+    /// It has said its version and nothing more when its time is over, by the clock of the scene. That waits until
     /// a viewer at the other port waits for news.
     IsLate,
     /// It waits for news until it is let go.
@@ -44,7 +44,7 @@ fn ending_of(leaving: &Leaving) -> &'static str {
         Leaving::Closes => "answers=0 bytes=60 why=\"ended\"",
         Leaving::BreaksRules => "answers=0 bytes=60 why=\"fault 6: unknown message type 255\"",
         Leaving::BreaksOff => "answers=1 bytes=84 why=\"fault 21: the link failed\"",
-        Leaving::IsLate => "answers=0 bytes=12 why=\"late handshake\"",
+        Leaving::IsLate => "answers=0 bytes=14 why=\"late handshake\"",
         Leaving::IsLetGo => "answers=1 bytes=84 why=\"host gone\"",
     }
 }
@@ -72,7 +72,7 @@ where
         let Some(mut stream) = enters(ear, role, port, leaving)? else {
             return Ok(false);
         };
-        let mut other = connect(ear, port)?;
+        let mut other = come(ear, port)?;
         let finds_none = is_refused(ear, role, &mut other)? && is_told_so(&mut other)?;
         if !finds_none || !leaves(ear, &mut stream, leaving)? {
             return Ok(false);
@@ -102,7 +102,7 @@ where
     R: Net<Stream = TcpStream, Listener = TcpListener> + Wait + Clock + Drop,
 {
     for _ in 0..TRIES {
-        let mut stream = connect(ear, port)?;
+        let mut stream = come(ear, port)?;
         if !is_refused(ear, role, &mut stream)? {
             wants_visit(ear, role, &stream, leaving)?;
             return Ok(Some(stream));
@@ -180,20 +180,19 @@ fn leaves<R: Wait + Clock + Drop>(
     }
 }
 
-/// Whether a viewer is let go whose time is over in the middle of its version.
+/// Whether a viewer is let go whose time is over behind its version.
 fn is_late<R: Wait + Clock + Drop>(ear: &Ear<R>, stream: &mut TcpStream) -> io::Result<bool> {
-    let mut version = [0u8; 12];
-    stream.write_all(b"RFB ")?;
-    stream.read_exact(&mut version)?;
+    let mut told = [0u8; 14];
+    stream.read_exact(&mut told)?;
     if !ear.reaches(&ear.room.shown, 1) {
         return Ok(false);
     }
     ear.put_forward(TOO_LONG);
     // A byte more ends the wait that began before. Whoever had seen the time before has broken the connection by then.
-    let _ = stream.write_all(b"0");
+    let _ = stream.write_all(b"\x01");
     let is_over = match stream.read(&mut [0]) {
         Ok(count) => count == 0,
         Err(error) => error.kind() == ErrorKind::ConnectionReset,
     };
-    Ok(is_over && version == *b"RFB 003.008\n")
+    Ok(is_over && told == *b"RFB 003.008\n\x01\x01")
 }

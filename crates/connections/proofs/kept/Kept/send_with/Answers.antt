@@ -1,4 +1,4 @@
-use Rattle.std.proofs.Common.{◌≡◌, ◌++◌, ℕ, ◌-◌, length, take, drop, List, arith}
+use Rattle.std.proofs.Common.{◌≡◌, ◌++◌, ℕ, length, take, drop, List, arith}
 use Rattle.std.specs.Prelude.{min}
 use Rattle.std.proofs.lemmas.Grind.{common_steps}
 use Rattle.connections.proofs.Behind.{sent_behind}

@@ -3,9 +3,13 @@
 use connections::Seat;
 use std::alloc::Global;
 use std::io;
+use std::io::Write;
 use std::net::{Ipv4Addr, SocketAddr, TcpListener, TcpStream};
 use std::sync::Arc;
 use std::time::Duration;
+
+/// The version of both sides (RFC 6143, 7.1.1).
+pub(crate) const VERSION: &[u8] = b"RFB 003.008\n";
 
 /// A read that waits for this many seconds has failed.
 const LONG: u64 = 20;
@@ -14,16 +18,23 @@ pub(crate) fn listen(rt: &HostRuntime) -> io::Result<TcpListener> {
     TcpListener::bind(rt, SocketAddr::from((Ipv4Addr::LOCALHOST, 0)))
 }
 
-pub(crate) fn connect(rt: &HostRuntime, listener: &TcpListener) -> io::Result<TcpStream> {
-    let stream = TcpStream::connect(rt, listener.local_addr()?)?;
+pub(crate) fn connect(rt: &HostRuntime, address: SocketAddr) -> io::Result<TcpStream> {
+    let stream = TcpStream::connect(rt, address)?;
     stream.set_read_timeout(Some(Duration::from_secs(LONG)))?;
+    Ok(stream)
+}
+
+/// One who connects and says his version.
+pub(crate) fn come(rt: &HostRuntime, address: SocketAddr) -> io::Result<TcpStream> {
+    let mut stream = connect(rt, address)?;
+    stream.write_all(VERSION)?;
     Ok(stream)
 }
 
 /// The two ends of a connection: the one that connected, and the one that was accepted.
 pub(crate) fn pair(rt: &HostRuntime) -> io::Result<(TcpStream, TcpStream)> {
     let listener = listen(rt)?;
-    let far = connect(rt, &listener)?;
+    let far = connect(rt, listener.local_addr()?)?;
     let (near, _) = listener.accept()?;
     Ok((far, near))
 }

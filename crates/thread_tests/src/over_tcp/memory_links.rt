@@ -2,8 +2,8 @@
 
 ghost use Rattle.std.specs.Prelude.{◌≡◌, [], IfOk};
 
-use crate::connections::memory_socket::{MemorySocket, Turn};
-use crate::connections::sockets::make_seat;
+use crate::over_tcp::memory_socket::{MemorySocket, Turn};
+use crate::over_tcp::sockets::make_seat;
 use connections::{HostLink, JoiningLink, ViewerTcpLink};
 use link::{Gave, Link, Took};
 use run_traits::{Alarm, Parting};

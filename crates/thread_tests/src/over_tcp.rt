@@ -6,6 +6,7 @@ mod hosts;
 mod links;
 mod memory_links;
 mod memory_socket;
+mod newcomers;
 mod orders;
 mod pauses;
 mod rings;

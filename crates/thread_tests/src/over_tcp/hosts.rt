@@ -1,6 +1,6 @@
 //! The two ends of the host's connection.
 
-use crate::connections::sockets::pair;
+use crate::over_tcp::sockets::pair;
 use connections::HostLink;
 use link::{Gave, Link, Took};
 use std::io;

@@ -1,8 +1,8 @@
 //! A viewer's link, and what is tried over it. One function owns the link, and lends it to each trial.
 
-use crate::connections::alarms::{ends_each_wait, keeps_early_rings};
-use crate::connections::sockets::{make_seat, pair};
-use crate::connections::viewers::{
+use crate::over_tcp::alarms::{ends_each_wait, keeps_early_rings};
+use crate::over_tcp::sockets::{make_seat, pair};
+use crate::over_tcp::viewers::{
     gives_a_long_answer, keeps_small_slices, passes_both_ways, sees_the_end, waits_for_a_viewer,
 };
 use connections::{Seat, ViewerTcpLink};

@@ -1,14 +1,13 @@
 //! What an operator asks while viewers come: nobody is let in, one is sent away, and all are.
 
-ghost use Rattle.std.specs.Prelude.{◌≡◌};
-
-use crate::connections::sockets::{connect, listen, make_seat};
-use connections::{Desk, Gate, Lobby, TcpDoor, keep_door};
+use crate::over_tcp::sockets::{VERSION, come, listen, make_seat};
+use connections::{Desk, Gate, Lobby, TcpDoor, TcpEntry, TcpPorter};
 use link::{Gave, Link, Took};
 use roles::Role;
 use run_control::{Entry, Outcome, Request};
 use run_traits::{Door, NoLog};
 use std::io::Read;
+use std::net::SocketAddr;
 use std::sync::{Arc, Wait};
 use std::test::*;
 use std::thread::Threads;
@@ -23,12 +22,12 @@ const NO_ENTRY: &[u8] = b"RFB 003.008\n\0\0\0\0\x13no viewer is let in";
 #[derive(Drop)]
 struct House<'a> {
     net: &'a HostRuntime,
-    gate: &'a Gate,
+    address: SocketAddr,
     lobby: &'a Lobby,
     desk: &'a Desk,
 }
 
-/// Greets each viewer with a byte and then serves it until it ends. It answers how many came, and how many of their links
+/// Greets each viewer with its version and a byte, and then serves it until it ends. It answers how many came, and how many of their links
 /// ended.
 fn greets<D: Door>(door: &mut D) -> (u64, u64) {
     let mut into = [0u8; 64];
@@ -37,7 +36,9 @@ fn greets<D: Door>(door: &mut D) -> (u64, u64) {
         let Some(mut link) = door.next() else {
             return (count, ended);
         };
-        let _ = link.give(b"R") == Gave::Bytes(1);
+        if link.give(VERSION) != Gave::Bytes(12) || link.give(b"R") != Gave::Bytes(1) {
+            return (u64::MAX, ended);
+        }
         for _ in 0..1_000 {
             match link.take(&mut into) {
                 Took::Nothing | Took::Bytes(_) => {}
@@ -55,7 +56,7 @@ fn greets<D: Door>(door: &mut D) -> (u64, u64) {
 
 /// Whether one who comes is refused, since nobody is let in.
 fn is_refused(house: &House<'_>) -> io::Result<bool> {
-    let mut viewer = connect(house.net, house.gate.listener())?;
+    let mut viewer = come(house.net, house.address)?;
     let mut told = [0u8; 36];
     viewer.read_exact(&mut told)?;
     Ok(told.as_slice() == NO_ENTRY)
@@ -63,13 +64,13 @@ fn is_refused(house: &House<'_>) -> io::Result<bool> {
 
 /// Whether one who comes is greeted, and let go once this is asked.
 fn stays_until<R: Wait>(rt: &R, house: &House<'_>, request: Request) -> io::Result<bool> {
-    let mut viewer = connect(house.net, house.gate.listener())?;
-    let mut told = [0u8; 1];
+    let mut viewer = come(house.net, house.address)?;
+    let mut told = [0u8; 13];
     viewer.read_exact(&mut told)?;
     let is_there = house.desk.free(rt) == 0;
     let outcome = house.desk.ask(rt, request);
     let is_gone = viewer.read(&mut [0])? == 0;
-    Ok(told == *b"R" && is_there && outcome == Outcome::Done && is_gone)
+    Ok(told == *b"RFB 003.008\nR" && is_there && outcome == Outcome::Done && is_gone)
 }
 
 /// Nobody is let in while the doors are drained. Then one is sent away, and the next, and there is a place for him too.
@@ -89,29 +90,20 @@ fn evening<R: Wait>(rt: &R, house: &House<'_>) -> io::Result<bool> {
     Ok(is_closed && are_sent && is_over && outcomes)
 }
 
-/// Whether the evening is right. Then the lobby is closed, which whoever keeps the door sees as the next one comes.
+/// Whether the evening is right. Then the lobby is closed, which whoever keeps the port sees soon.
 fn asks_and_closes<R: Wait>(rt: &R, house: &House<'_>) -> bool {
     let is_right = evening(rt, house).unwrap_or(false);
     house.lobby.close(rt);
-    let last = connect(house.net, house.gate.listener());
-    is_right && last.is_ok()
+    is_right
 }
 
-/// How many came in while the door was kept, and how many were sent away.
+/// How many came in while the port was kept, and how many were sent away.
 fn keeps<R: Threads + Wait + Clock + Send + Sync, D: Door + Send>(
     rt: &R,
-    house: &House<'_>,
+    porter: TcpPorter,
     door: &mut D,
-) -> (u64, u64)
-    requires { house.now.gate.now.role ≡ house.now.lobby.now.role }
-{
-    let (came, ()) = thread::join(
-        rt,
-        || greets(door),
-        ||
-            requires { house.now.gate.now.role ≡ house.now.lobby.now.role }
-        { keep_door(rt, house.gate, house.lobby, &NoLog) },
-    );
+) -> (u64, u64) {
+    let (came, ()) = thread::join(rt, || greets(door), || porter.keep(rt, &NoLog));
     came
 }
 
@@ -119,16 +111,13 @@ fn keeps<R: Threads + Wait + Clock + Send + Sync, D: Door + Send>(
 fn serves<R: Threads + Wait + Clock + Send + Sync, D: Door + Send>(
     rt: &R,
     house: &House<'_>,
+    porter: TcpPorter,
     door: &mut D,
-) -> ((u64, u64), bool)
-    requires { house.now.gate.now.role ≡ house.now.lobby.now.role }
-{
+) -> ((u64, u64), bool) {
     let (is_right, came) = thread::join(
         rt,
         || asks_and_closes(rt, house),
-        ||
-            requires { house.now.gate.now.role ≡ house.now.lobby.now.role }
-        { keeps(rt, house, door) },
+        || keeps(rt, porter, door),
     );
     (came, is_right)
 }
@@ -140,19 +129,20 @@ fn opens<R: Threads + Wait + Clock + Copy + Drop + Send + Sync>(
 ) -> io::Result<((u64, u64), bool)> {
     let alloc = net.alloc();
     let gate = Gate::new(listen(net)?, Role::Full);
+    let address = gate.listener().local_addr()?;
     let seat = make_seat(net)?;
     let desk = Arc::new(alloc, Desk::new(alloc, 1)?)?;
     let lobby = Lobby::new(alloc, Role::Full, 1, 60, Arc::try_clone(&desk)?)?;
     let lobby = Arc::new(alloc, lobby)?;
-    let shared = Arc::try_clone(&lobby)?;
-    let mut door = TcpDoor::new(rt, alloc, shared, seat, 1, NoLog);
+    let porter = TcpPorter::new(net, alloc, TcpEntry::new(gate, Arc::try_clone(&lobby)?)?)?;
+    let mut door = TcpDoor::new(rt, alloc, Arc::try_clone(&lobby)?, seat, 1, NoLog);
     let house = House {
         net,
-        gate: &gate,
+        address,
         lobby: &lobby,
         desk: &desk,
     };
-    Ok(serves(&rt, &house, &mut door))
+    Ok(serves(&rt, &house, porter, &mut door))
 }
 
 #[test]

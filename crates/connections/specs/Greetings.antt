@@ -1,0 +1,99 @@
+-- From where one comes, and what is said and heard before he is a viewer.
+use Rattle.std.specs.Prelude.{◌≡◌, ◌≤◌, ◌<◌, ℕ, Bool, true, false, List, [], ◌++◌, length, take, Option, Some, None, Result, Ok, Err, IsSomeAnd}
+use Rattle.std.specs.Net.Addr.{IsV4And, IsV6And, IsCanonicalOf, MatchIp, ipv4_octets, ipv6_segments, segments_of}
+use Rattle.std.specs.Net.Socket.{IsPlainSocket, socket_ip}
+use Rattle.std.specs.declared.net.ip_addr.IpAddr.{IpAddr}
+use Rattle.std.specs.declared.net.socket_addr.SocketAddr.{SocketAddr}
+use Rattle.byte_reading.specs.Reading.{after, whole_of}
+use Rattle.proxy_header.specs.Header.{Answer, header}
+use Rattle.proxy_header.specs.declared.origin.Origin.{Origin}
+use Rattle.proxy_header.specs.declared.origin.Origin.TheVariants.{Peer, Ipv4, Ipv6}
+use Rattle.proxy_header.specs.declared.origin.Refusal.{Refusal}
+use Rattle.rfb_wire.specs.Handshake.{version}
+
+-- The address that the system tells is the proxy's, also where an IPv6 address has its IPv4 address inside.
+abbrev pub IsOf : IpAddr → SocketAddr → Type 0
+IsOf proxy address = MatchIp (socket_ip address) (λ ip. proxy ≡ socket_ip address) (λ ip. IsCanonicalOf ip proxy)
+
+-- He comes from the proxy that is believed.
+abbrev pub IsFromProxy : Option IpAddr → Option SocketAddr → Type 0
+IsFromProxy proxy peer = IsSomeAnd proxy (λ ip. IsSomeAnd peer (λ address. IsOf ip address))
+
+-- Where one comes from: what the system tells, whether a proxy's header is read first, and the bytes of it that came.
+pub record Whence : Type 0 where
+  pub peer : Option SocketAddr
+  pub is_proxied : Bool
+  pub front : List ℕ
+
+-- The same one, of whose header more may have come.
+pub record IsSameComer (old new : Whence) : Type 0 where
+  pub peer : new.peer ≡ old.peer
+  pub proxied : new.is_proxied ≡ old.is_proxied
+
+-- The address that a header tells, of a connection whose peer has this one.
+abbrev pub IsTold : Option SocketAddr → Origin → Option SocketAddr → Type 0
+IsTold peer Peer address = address ≡ peer
+IsTold peer (Ipv4 octets port) address =
+    IsSomeAnd address (λ a. IsPlainSocket a port × IsV4And (socket_ip a) (λ ip. ipv4_octets ip ≡ octets))
+IsTold peer (Ipv6 octets port) address =
+    IsSomeAnd address (λ a. IsPlainSocket a port × IsV6And (socket_ip a) (λ ip. ipv6_segments ip ≡ segments_of octets))
+
+-- What is known of an address once so much of a header has come: nothing yet, or why the header is refused, or the
+-- address that it tells.
+abbrev pub IsKnownBy : Option SocketAddr → Option Answer → Option (Result (Option SocketAddr) Refusal) → Type 0
+IsKnownBy peer None known = known ≡ None
+IsKnownBy peer (Some (Err why)) known = known ≡ Some (Err why)
+IsKnownBy peer (Some (Ok origin)) known =
+    (address : Option SocketAddr) × (known ≡ Some (Ok address)) × IsTold peer origin address
+
+-- Of one who doesn't come from a proxy the system tells it at once.
+abbrev pub IsKnown : Whence → Option (Result (Option SocketAddr) Refusal) → Type 0
+IsKnown whence known = by whence.is_proxied
+  where
+    by : Bool → Type 0
+    by true = IsKnownBy whence.peer (whole_of (after header whence.front)) known
+    by false = known ≡ Some (Ok whence.peer)
+
+-- How far the greeting of one who comes has gone: from where he comes, how many bytes of the version were said to him,
+-- the bytes of his own version that have come, and what the socket has sent and received.
+pub record Begun : Type 0 where
+  pub whence : Whence
+  pub said : ℕ
+  pub own : List ℕ
+  pub sent : List ℕ
+  pub received : List ℕ
+
+-- The version is said from its first byte on, and nothing else; what has come is the header of a proxy, where one is
+-- believed, and behind it the version of his own, of which nothing is heard before the whole version was said.
+pub record IsGreeting (b : Begun) : Type 0 where
+  pub said : b.sent ≡ take b.said version
+  pub heard : b.received ≡ b.whence.front ++ b.own
+  pub most : b.said ≤ 12
+  pub in_turn : 0 < length b.own → b.said ≡ 12
+
+-- What contracts see of a socket by which one was greeted: what its owner has sent and received by it; what the socket
+-- below has; what was said before that the owner hasn't sent yet, and what was heard that he hasn't received yet; and
+-- the header of a proxy that came before.
+pub record Greeted : Type 0 where
+  pub sent : List ℕ
+  pub received : List ℕ
+  pub below_sent : List ℕ
+  pub below_received : List ℕ
+  pub owed : List ℕ
+  pub ahead : List ℕ
+  pub front : List ℕ
+
+-- What the owner has sent, and what he owes, is what the socket below has sent; what he has received, and what is ahead
+-- of him, is what it has received behind the header.
+pub record Matches (g : Greeted) : Type 0 where
+  pub said : g.below_sent ≡ g.sent ++ g.owed
+  pub heard : g.below_received ≡ g.front ++ (g.received ++ g.ahead)
+
+-- Nothing was said or heard before.
+abbrev pub untouched : Greeted
+untouched = record { sent = []; received = []; below_sent = []; below_received = []; owed = []; ahead = []; front = [] }
+
+-- The whole version was said, and twelve bytes of his own were heard, all of which are before the owner.
+pub record IsGreeted (g : Greeted) : Type 0 where
+  pub said : g.owed ≡ version
+  pub heard : length g.ahead ≡ 12

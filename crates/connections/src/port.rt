@@ -1,0 +1,84 @@
+//! What a porter keeps: ports, and those who came by them and aren't viewers yet.
+
+use crate::lobby::Entrance;
+use crate::whence::Whence;
+use mio::Registry;
+use mio::net::TcpListener;
+use roles::Role;
+use run_traits::{Event, Way};
+use std::alloc::Global;
+use std::io;
+use std::sync::Wait;
+use std::time::{Clock, Duration, Instant};
+
+/// So many reads and writes of one follow one another at most. Whoever keeps the porter busy for longer is let go.
+pub(crate) const MOST_STEPS: usize = 4_096;
+
+/// How far one who has come has gone.
+#[derive(Clone, Copy, Debug, PartialEq, Eq)]
+pub(crate) enum Progress {
+    /// He waits, or is waited for.
+    Waits,
+    /// Nothing more is asked or answered.
+    Done,
+    /// His connection is broken, or he keeps the porter busy.
+    Gone,
+}
+
+/// What a log is told of one who goes now, late or not, if he lacked a header.
+pub(crate) fn header_complaint(
+    whence: &Whence,
+    role: Role,
+    way: Way,
+    is_late: bool,
+) -> Option<Event<'static>> {
+    if !whence.lacks_header(is_late) {
+        return None;
+    }
+    let address = whence.peer();
+    Some(Event::NoHeader { role, address, way })
+}
+
+/// A port.
+pub(crate) trait Port: Drop {
+    /// Who comes by it.
+    type Comer: Newcomer;
+
+    /// What is lent to each who comes.
+    type Means: Drop;
+
+    /// What a poll hears.
+    fn heard(&mut self) -> &mut TcpListener;
+
+    /// Whether nobody is let to its lobby any more.
+    fn is_closed<R: Wait>(&self, rt: &R) -> bool;
+
+    /// The next who came. It doesn't wait for him.
+    fn accept<R: Clock>(
+        &self,
+        rt: &R,
+        alloc: Global,
+        means: &Self::Means,
+    ) -> io::Result<Self::Comer>;
+}
+
+/// One who came by a port and isn't a viewer yet.
+pub(crate) trait Newcomer: Drop {
+    /// From now on he is heard under this number.
+    fn hear(&mut self, registry: &Registry, number: usize) -> io::Result<()>;
+
+    /// He isn't heard any more.
+    fn leave(&mut self, registry: &Registry) -> io::Result<()>;
+
+    /// Whether he has taken too long. Where no place is left for another he may take less.
+    fn is_late(&self, now: Instant, is_crowded: bool) -> bool;
+
+    /// Reads and writes, as far as it goes now.
+    fn go_on<R: Clock>(&mut self, rt: &R) -> Progress;
+
+    /// What a log is told of him if he goes now, late or not.
+    fn complaint(&self, is_late: bool) -> Option<Event<'static>>;
+
+    /// Lets him to the lobby of the port that he came by, if he may be. None where he may not.
+    fn enter<R: Wait + Clock>(self, rt: &R, patience: Duration) -> Option<Entrance>;
+}

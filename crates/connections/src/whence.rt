@@ -1,0 +1,127 @@
+//! From where one comes.
+
+ghost use Rattle.std.specs.Prelude.{◌≡◌, true};
+ghost use Rattle.connections.specs.Greetings.{IsFromProxy, IsTold};
+
+use byte_record::Record;
+use proxy_header::{HeaderReader, Origin, Refusal};
+use std::marker::Model;
+use std::net::{IpAddr, SocketAddr};
+
+/// Whether the peer of this address is the proxy that is believed, if one is. An IPv4 address inside one of IPv6 is
+/// that of IPv4.
+fn is_from(proxy: &Option<IpAddr>, peer: &Option<SocketAddr>) -> bool
+    ensures { result ≡ true → IsFromProxy proxy.now peer.now }
+{
+    match (proxy, peer) {
+        (Some(proxy), Some(peer)) => peer.ip().to_canonical() == *proxy,
+        _ => false,
+    }
+}
+
+/// The address that a header tells, of a connection whose peer has this one.
+fn told(peer: Option<SocketAddr>, origin: Origin) -> Option<SocketAddr>
+    ensures { IsTold peer origin result }
+{
+    match origin {
+        Origin::Peer => peer,
+        Origin::Ipv4 { address, port } => Some(SocketAddr::new(IpAddr::from(address), port)),
+        Origin::Ipv6 { address, port } => Some(SocketAddr::new(IpAddr::from(address), port)),
+    }
+}
+
+/// From where one comes: as the system tells it or, if he comes from the proxy that is believed, as the header of the
+/// PROXY protocol tells it that comes first.
+#[derive(Drop)]
+pub struct Whence {
+    peer: Option<SocketAddr>,
+    reader: Option<HeaderReader>,
+    // The bytes of the header that came, which only clauses read.
+    front: Record,
+}
+
+impl Model for Whence {
+    ghost use Rattle.std.specs.Prelude.{◌≡◌, [], MatchOption, is_some};
+    ghost use Rattle.byte_reading.specs.Reading.{after};
+    ghost use Rattle.proxy_header.specs.Header.{header};
+    ghost use Rattle.proxy_header.specs.State.{ahead};
+    ghost use Rattle.connections.specs.Greetings.{Whence as Seen};
+
+    ghost Value = { Seen };
+
+    ghost view = { λ w. record { peer = w.peer; is_proxied = is_some w.reader; front = w.front.bytes } };
+
+    ghost invariant = { λ w. MatchOption w.reader (w.front.bytes ≡ []) (λ reader. ahead reader ≡ after header w.front.bytes) };
+}
+
+impl Whence {
+    ghost use Rattle.std.specs.Prelude.{◌≡◌, ◌∷◌, ◌++◌, [], true};
+    ghost use Rattle.connections.specs.Greetings.{IsFromProxy, IsKnown, IsSameComer};
+
+    /// Of one whose peer has this address, where the header of this proxy is believed, if of one.
+    pub(crate) fn new(peer: Option<SocketAddr>, proxy: &Option<IpAddr>) -> Whence
+        ensures peer { result.peer ≡ peer }
+        ensures proxied { result.is_proxied ≡ true → IsFromProxy proxy.now peer }
+        ensures front { result.front ≡ [] }
+    {
+        let reader = if is_from(proxy, &peer) {
+            Some(HeaderReader::new())
+        } else {
+            None
+        };
+        Whence {
+            peer,
+            reader,
+            front: Record::new(),
+        }
+    }
+
+    /// His address, if anyone tells it, or why the header is refused, once that is known. Until then another byte of the
+    /// header is wanted.
+    pub fn known(&self) -> Option<Result<Option<SocketAddr>, Refusal>>
+        ensures { IsKnown self.now result }
+    {
+        let Some(reader) = &self.reader else {
+            return Some(Ok(self.peer));
+        };
+        match reader.done()? {
+            Ok(origin) => Some(Ok(told(self.peer, origin))),
+            Err(refusal) => Some(Err(refusal)),
+        }
+    }
+
+    /// The address that the system tells, if it does.
+    pub fn peer(&self) -> Option<SocketAddr>
+        ensures { result ≡ self.now.peer }
+    {
+        self.peer
+    }
+
+    /// Whether one who goes now lacked a header: what he sent is none or, where he is late, a part of it hasn't come.
+    pub(crate) fn lacks_header(&self, is_late: bool) -> bool {
+        match self.known() {
+            Some(Ok(_)) => false,
+            Some(Err(_)) => true,
+            None => is_late,
+        }
+    }
+
+    /// The bytes of the header that came, which only clauses read.
+    pub(crate) fn into_front(self) -> Record
+        ensures { result.bytes ≡ self.front }
+    {
+        self.front
+    }
+
+    /// Takes the next byte of the header, if there is to be one.
+    #[tactic(auto, using(crate::proofs::Heard::fed))]
+    pub(crate) fn feed(&mut self, byte: u8)
+        ensures same { IsSameComer self.old self.new }
+        ensures front { self.old.is_proxied ≡ true → self.new.front ≡ self.old.front ++ byte ∷ [] }
+    {
+        if let Some(reader) = &mut self.reader {
+            reader.feed(&[byte]);
+            self.front.note(&[byte]);
+        }
+    }
+}
