@@ -169,7 +169,8 @@ fn tells<R: Wait + Drop>(
     let rests = watch.rests.load(Ordering::SeqCst);
     let is_rested = case.rests.0 <= rests && rests <= case.rests.1;
     let dropped = (strokes.dropped(0), strokes.dropped(1));
-    let are_counted = dropped == case.dropped && untold.count == case.dropped.0 + case.dropped.1;
+    let are_counted = dropped == case.dropped
+        && untold.count == case.dropped.0.saturating_add(case.dropped.1);
     Ok(number(answer) == case.answer && is_rested && are_counted)
 }
 
