@@ -1,4 +1,5 @@
-//! What takes its time: a browser's handshake, a silent screen, and one who asks slowly. The clock is put forward by hand.
+//! What takes its time: a browser's handshake, a silent screen, and one who asks slowly. The clock is put forward by
+//! hand.
 
 use crate::browser::{frame, head, is_told};
 use crate::loopback::{accept, connect, hears, listen};
@@ -188,7 +189,7 @@ fn is_other_answered(net: &HostRuntime, port: u16) -> io::Result<bool> {
     is_told(net, port, "/none", NONE, b"")
 }
 
-/// Whether one who asks slowly is let go ten seconds after his last answer, and not before.
+/// Whether a caller that asks slowly is let go ten seconds after its last answer, and not before.
 fn is_let_go<R: Drop>(hand: &ByHand<'_, R>, net: &HostRuntime, port: u16) -> io::Result<bool> {
     let mut slow = connect(net, port)?;
     begin(&mut slow)?;

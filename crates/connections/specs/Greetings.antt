@@ -1,4 +1,4 @@
--- From where one comes, and what is said and heard before he is a viewer.
+-- From where a newcomer comes, and what is said and heard before it is a viewer.
 use Rattle.std.specs.Prelude.{◌≡◌, ◌≤◌, ◌<◌, ℕ, Bool, true, false, List, [], ◌++◌, length, take, Option, Some, None, Result, Ok, Err, IsSomeAnd}
 use Rattle.std.specs.Net.Addr.{IsV4And, IsV6And, IsCanonicalOf, MatchIp, ipv4_octets, ipv6_segments, segments_of}
 use Rattle.std.specs.Net.Socket.{IsPlainSocket, socket_ip}
@@ -15,17 +15,17 @@ use Rattle.rfb_wire.specs.Handshake.{version}
 abbrev pub IsOf : IpAddr → SocketAddr → Type 0
 IsOf proxy address = MatchIp (socket_ip address) (λ ip. proxy ≡ socket_ip address) (λ ip. IsCanonicalOf ip proxy)
 
--- He comes from the proxy that is believed.
+-- The peer is the proxy that is believed.
 abbrev pub IsFromProxy : Option IpAddr → Option SocketAddr → Type 0
 IsFromProxy proxy peer = IsSomeAnd proxy (λ ip. IsSomeAnd peer (λ address. IsOf ip address))
 
--- Where one comes from: what the system tells, whether a proxy's header is read first, and the bytes of it that came.
+-- From where a newcomer comes: what the system tells, whether a proxy's header is read first, and its bytes that came.
 pub record Whence : Type 0 where
   pub peer : Option SocketAddr
   pub is_proxied : Bool
   pub front : List ℕ
 
--- The same one, of whose header more may have come.
+-- The same newcomer, of whose header more may have come.
 pub record IsSameComer (old new : Whence) : Type 0 where
   pub peer : new.peer ≡ old.peer
   pub proxied : new.is_proxied ≡ old.is_proxied
@@ -46,7 +46,7 @@ IsKnownBy peer (Some (Err why)) known = known ≡ Some (Err why)
 IsKnownBy peer (Some (Ok origin)) known =
     (address : Option SocketAddr) × (known ≡ Some (Ok address)) × IsTold peer origin address
 
--- Of one who doesn't come from a proxy the system tells it at once.
+-- Of a newcomer that comes from no proxy the system tells it at once.
 abbrev pub IsKnown : Whence → Option (Result (Option SocketAddr) Refusal) → Type 0
 IsKnown whence known = by whence.is_proxied
   where
@@ -54,8 +54,8 @@ IsKnown whence known = by whence.is_proxied
     by true = IsKnownBy whence.peer (whole_of (after header whence.front)) known
     by false = known ≡ Some (Ok whence.peer)
 
--- How far the greeting of one who comes has gone: from where he comes, how many bytes of the version were said to him,
--- the bytes of his own version that have come, and what the socket has sent and received.
+-- How far the greeting of a newcomer has gone: from where it comes, how many bytes of the version were said to it, the
+-- bytes of its own version that have come, and what the socket has sent and received.
 pub record Begun : Type 0 where
   pub whence : Whence
   pub said : ℕ
@@ -64,16 +64,16 @@ pub record Begun : Type 0 where
   pub received : List ℕ
 
 -- The version is said from its first byte on, and nothing else; what has come is the header of a proxy, where one is
--- believed, and behind it the version of his own, of which nothing is heard before the whole version was said.
+-- believed, and behind it the newcomer's own version, of which nothing is heard before the whole version was said.
 pub record IsGreeting (b : Begun) : Type 0 where
   pub said : b.sent ≡ take b.said version
   pub heard : b.received ≡ b.whence.front ++ b.own
   pub most : b.said ≤ 12
   pub in_turn : 0 < length b.own → b.said ≡ 12
 
--- What contracts see of a socket by which one was greeted: what its owner has sent and received by it; what the socket
--- below has; what was said before that the owner hasn't sent yet, and what was heard that he hasn't received yet; and
--- the header of a proxy that came before.
+-- What contracts see of a socket by which a newcomer was greeted: what its owner has sent and received by it; what the
+-- socket below has; what was said before that the owner hasn't sent yet, and what was heard that it hasn't received
+-- yet; and the header of a proxy that came before.
 pub record Greeted : Type 0 where
   pub sent : List ℕ
   pub received : List ℕ
@@ -83,8 +83,8 @@ pub record Greeted : Type 0 where
   pub ahead : List ℕ
   pub front : List ℕ
 
--- What the owner has sent, and what he owes, is what the socket below has sent; what he has received, and what is ahead
--- of him, is what it has received behind the header.
+-- What the owner has sent, and what it owes, is what the socket below has sent; what the owner has received, and what
+-- is ahead of it, is what the socket below has received behind the header.
 pub record Matches (g : Greeted) : Type 0 where
   pub said : g.below_sent ≡ g.sent ++ g.owed
   pub heard : g.below_received ≡ g.front ++ (g.received ++ g.ahead)
@@ -93,7 +93,7 @@ pub record Matches (g : Greeted) : Type 0 where
 abbrev pub untouched : Greeted
 untouched = record { sent = []; received = []; below_sent = []; below_received = []; owed = []; ahead = []; front = [] }
 
--- The whole version was said, and twelve bytes of his own were heard, all of which are before the owner.
+-- The whole version was said, and twelve bytes were heard, all of which are ahead of the owner.
 pub record IsGreeted (g : Greeted) : Type 0 where
   pub said : g.owed ≡ version
   pub heard : length g.ahead ≡ 12

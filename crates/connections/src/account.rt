@@ -140,8 +140,8 @@ impl Account {
         gave
     }
 
-    /// What the link gave by a send of these bytes, behind so many that were kept, which was answered so: nothing where no
-    /// more went out than was kept.
+    /// What the link gave by a send of these bytes, behind so many that were kept, which was answered so: nothing where
+    /// no more went out than was kept.
     pub(crate) fn give_behind(
         &mut self,
         kept: usize,

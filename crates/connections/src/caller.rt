@@ -1,4 +1,4 @@
-//! Who asks at a web port, and the port.
+//! Newcomers to a web port, and the port.
 
 ghost use Rattle.std.specs.Prelude.{◌≡◌, IfOk, true};
 ghost use Rattle.std.specs.Arc.{arc_value};
@@ -18,10 +18,10 @@ use std::sync::{Arc, Wait};
 use std::time::{Clock, Duration, Instant};
 use web_door::{Guest, Site};
 
-/// So many seconds one has for a request, and then for each part of its answer.
+/// So many seconds a caller has for a request, and then for each part of its answer.
 const GUEST_SECONDS: u64 = 10;
 
-/// A part of an answer has so many bytes, so that who takes a byte now and then is late all the same.
+/// A part of an answer has so many bytes, so that a caller that takes a byte now and then is late all the same.
 const PART: usize = 65_536;
 
 /// A web port: its gate, what it answers, and the lobby, of the gate's role, to which those are let who are let in.
@@ -34,8 +34,8 @@ pub struct WebEntry {
     ghost role: { gate.role ≡ (arc_value lobby).role },
 }
 
-/// One who asks: himself, his stream once more, what he has asked, since when he may be late, how many bytes he has
-/// taken since then, and the lobby of the port that he came by.
+/// A caller: its arrival, its stream once more, what it has asked, since when it may be late, how many bytes it has
+/// taken since then, and the lobby of the port that it came by.
 #[derive(Drop)]
 pub(crate) struct Caller {
     arrival: Arrival,
@@ -84,7 +84,7 @@ impl Port for WebEntry {
         self.lobby.is_closed(rt)
     }
 
-    /// The next who came, as one who asks its site and may be let to its lobby.
+    /// The next newcomer, as a caller that asks this port's site and may be let to its lobby.
     fn accept<R: Clock>(&self, rt: &R, alloc: Global, means: &RandomState) -> io::Result<Caller>
         ensures role { IfOk result (λ caller. caller.arrival.role ≡ self.now.gate.role) }
         ensures proxied { IfOk result (λ caller. caller.arrival.whence.is_proxied ≡ true → IsFromProxy self.now.gate.proxy caller.arrival.whence.peer) }
@@ -120,7 +120,7 @@ impl Caller {
         Ok(())
     }
 
-    /// Writes once of what is to be told. Who has taken all of it, or a part, isn't late yet.
+    /// Writes once of what is to be told. A caller that has taken all of it, or a part, isn't late yet.
     fn write<R: Clock>(&mut self, rt: &R) -> io::Result<()> {
         let count = self.guest.write_to(&mut self.arrival.stream())?;
         self.taken = self.taken.saturating_add(count);
@@ -145,8 +145,8 @@ impl Caller {
         Ok(true)
     }
 
-    /// Reads of the header of a proxy, if he comes from one that is believed and it hasn't come yet, or goes on to talk.
-    /// False where nothing is wanted.
+    /// Reads of the header of a proxy, if the caller comes from one that is believed and the header hasn't come yet, or
+    /// goes on to talk. False where nothing is wanted.
     fn step<R: Clock>(&mut self, rt: &R) -> io::Result<bool> {
         match self.arrival.whence().known() {
             None => {
@@ -169,7 +169,7 @@ impl Newcomer for Caller {
         registry.deregister(&mut self.heard)
     }
 
-    /// Whether he has asked for too long, or taken too little of an answer. An answer takes its time in a crowd, too.
+    /// Whether it has asked for too long, or taken too little of an answer. An answer takes its time in a crowd, too.
     fn is_late(&self, now: Instant, _is_crowded: bool) -> bool {
         now.checked_duration_since(self.since)
             .is_some_and(|passed| passed >= Duration::from_secs(GUEST_SECONDS))
@@ -203,7 +203,7 @@ impl Newcomer for Caller {
         )
     }
 
-    /// Lets him to the lobby of the port that he came by, if he was let in. None where he wasn't.
+    /// Lets it to the lobby of the port that it came by, if it was let in. None where it wasn't.
     fn enter<R: Wait + Clock>(self, rt: &R, patience: Duration) -> Option<Entrance> {
         let Caller {
             arrival,

@@ -23,7 +23,7 @@ pub struct Gate {
     proxy: Option<IpAddr>,
 }
 
-/// One who came by a gate: his stream, the role of that gate, and from where he comes. Only a gate makes one.
+/// A newcomer that came by a gate: its stream, the role of that gate, and from where it comes. Only a gate makes one.
 #[derive(Drop)]
 pub struct Arrival {
     stream: TcpStream,
@@ -31,8 +31,8 @@ pub struct Arrival {
     whence: Whence,
 }
 
-/// One who may be let to a lobby: by which socket, in which role, how his bytes travel, and his address, if anyone told
-/// it. Over TCP he has said a version, and was told one. Only one who came by a gate becomes one.
+/// A newcomer that may be let to a lobby: its socket, its role, how its bytes travel, and its address, if anyone told
+/// it. Over TCP it has said a version, and was told one. Only a newcomer that came by a gate becomes one.
 #[derive(Drop)]
 pub struct Entrant {
     socket: GreetedSocket<Noted<mio::net::TcpStream>>,
@@ -77,8 +77,8 @@ impl Gate {
         self.role
     }
 
-    /// Who comes next, over TCP as yet. It waits for him, unless the listener is one that doesn't wait. A header is
-    /// believed of him only if he comes from the proxy.
+    /// The next newcomer, over TCP as yet. The call waits for it, unless the listener is one that doesn't wait. A
+    /// header is believed only of a newcomer that comes from the proxy.
     pub fn accept(&self) -> io::Result<Arrival>
         ensures role { IfOk result (λ arrival. arrival.role ≡ self.now.role) }
         ensures proxied { IfOk result (λ arrival. arrival.whence.is_proxied ≡ true → IsFromProxy self.now.proxy arrival.whence.peer) }
@@ -94,28 +94,28 @@ impl Gate {
 }
 
 impl Arrival {
-    /// The role of the gate that he came by.
+    /// The role of the gate that it came by.
     pub fn role(&self) -> Role
         ensures { result ≡ self.now.role }
     {
         self.role
     }
 
-    /// His stream.
+    /// Its stream.
     pub fn stream(&self) -> &TcpStream
         ensures { result.now ≡ self.now.stream }
     {
         &self.stream
     }
 
-    /// From where he comes.
+    /// From where it comes.
     pub fn whence(&self) -> &Whence
         ensures { result.now ≡ self.now.whence }
     {
         &self.whence
     }
 
-    /// The next byte of a proxy's header has come of him.
+    /// Takes the next byte of a proxy's header.
     pub(crate) fn feed(&mut self, byte: u8)
         ensures role { self.new.role ≡ self.old.role }
         ensures same { IsSameComer self.old.whence self.new.whence }
@@ -123,7 +123,7 @@ impl Arrival {
         self.whence.feed(byte);
     }
 
-    /// His greeting, over TCP. His stream is to be one that doesn't wait.
+    /// Its greeting, over TCP. Its stream is to be one that doesn't wait.
     pub(crate) fn into_greeting(self) -> Greeting<Noted<mio::net::TcpStream>>
         requires { self.whence.front ≡ [] }
         ensures { result.whence ≡ self.whence }
@@ -132,8 +132,8 @@ impl Arrival {
         Greeting::new(Noted::new(stream), self.whence)
     }
 
-    /// He may be let in, and his bytes travel in messages from now on, if he was let in by this guest's handshake. None
-    /// where he wasn't, or his address isn't known yet.
+    /// The same newcomer as one that may be let to a lobby, whose bytes travel in messages, if this guest's handshake
+    /// let it in. None where it didn't, or where the address isn't known yet.
     pub fn let_in(self, guest: Guest) -> Option<Entrant>
         ensures role { IfSome result (λ entrant. entrant.role ≡ self.role) }
         ensures way { IfSome result (λ entrant. entrant.way ≡ Web) }
@@ -158,7 +158,7 @@ impl Arrival {
 }
 
 impl Entrant {
-    /// One whose own version has come over TCP, in a greeting by a gate of this role. None where it hasn't.
+    /// A newcomer whose own version has come over TCP, in a greeting by a gate of this role. None where it hasn't.
     pub(crate) fn greeted(
         role: Role,
         greeting: Greeting<Noted<mio::net::TcpStream>>,
@@ -176,28 +176,28 @@ impl Entrant {
         })
     }
 
-    /// The role of the gate that he came by.
+    /// The role of the gate that it came by.
     pub fn role(&self) -> Role
         ensures { result ≡ self.now.role }
     {
         self.role
     }
 
-    /// How his bytes travel.
+    /// How its bytes travel.
     pub fn way(&self) -> Way
         ensures { result ≡ self.now.way }
     {
         self.way
     }
 
-    /// His address, if anyone told it.
+    /// Its address, if anyone told it.
     pub fn address(&self) -> Option<SocketAddr>
         ensures { result ≡ self.now.address }
     {
         self.address
     }
 
-    /// His socket, for a link of his.
+    /// Its socket, for a link.
     pub(crate) fn into_socket(self) -> GreetedSocket<Noted<mio::net::TcpStream>>
         ensures { result ≡ self.socket }
     {

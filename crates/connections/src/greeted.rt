@@ -12,9 +12,9 @@ use std::io;
 use std::io::ErrorKind;
 use std::marker::Model;
 
-/// A socket by which, perhaps, the version was said and another was heard before it has an owner. Whoever owns it sends
-/// and receives as if he had said and heard these himself: the bytes that were said aren't sent again, and those that
-/// were heard come first. Where he sends another version his send fails.
+/// A socket by which, perhaps, the version was said and another was heard before it has an owner. Its owner sends and
+/// receives as if nothing had been said or heard yet: the bytes that were said aren't sent again, and those that were
+/// heard come first. A send of another version fails.
 #[derive(Drop)]
 pub struct GreetedSocket<S: Socket> {
     socket: S,
@@ -91,8 +91,8 @@ impl<S: Socket> GreetedSocket<S> {
         }
     }
 
-    /// At every moment what the owner has sent, and what he owes, was sent, and what he has received, and what is ahead
-    /// of him, was received.
+    /// At every moment what the owner has sent, and what it owes, was sent, and what it has received, and what is ahead
+    /// of it, was received.
     pub fn matches(&self)
         ensures { Matches self.now }
     {

@@ -1,4 +1,4 @@
-//! What is said to one who comes over TCP, and heard of him, before he is a viewer.
+//! What is said to a newcomer over TCP, and heard of it, before it is a viewer.
 
 use crate::greeted::GreetedSocket;
 use crate::noted::Noted;
@@ -19,8 +19,8 @@ pub(crate) const VERSION_LEN: usize = 12;
 /// The version that is said to whoever comes.
 pub(crate) const VERSION: [u8; VERSION_LEN] = *b"RFB 003.008\n";
 
-/// The greeting of one who comes over a socket: the header of a proxy is heard first, if he comes from one that is
-/// believed, then the version is said, and then his own is heard. Nothing behind it is taken.
+/// The greeting of a newcomer over a socket: the header of a proxy is heard first, if the newcomer comes from one that
+/// is believed, then the version is said, and then its own is heard. Nothing behind it is taken.
 #[derive(Drop)]
 pub struct Greeting<S: Socket> {
     socket: S,
@@ -49,7 +49,7 @@ impl<S: Socket> Greeting<S> {
     ghost use Rattle.std.specs.Prelude.{◌≡◌, [], IfOk, IfSome, Ok, Some, false, length, true};
     ghost use Rattle.connections.specs.Greetings.{IsGreeted, IsGreeting, IsKnown, IsSameComer};
 
-    /// Of one who comes from there, over a socket by which nothing was sent or received.
+    /// Of a newcomer that comes from there, over a socket by which nothing was sent or received.
     pub fn new(socket: S, whence: Whence) -> Greeting<S>
         requires sent { S.sent socket ≡ [] }
         requires received { S.received socket ≡ [] }
@@ -66,15 +66,15 @@ impl<S: Socket> Greeting<S> {
         }
     }
 
-    /// At every moment what was sent is the beginning of the version, and what was received is a header and the beginning
-    /// of his own.
+    /// At every moment what was sent is the beginning of the version, and what was received is a header and the
+    /// beginning of the newcomer's own version.
     pub fn is_right(&self)
         ensures { IsGreeting self.now }
     {
         let _ = &self.said;
     }
 
-    /// From where he comes.
+    /// From where the newcomer comes.
     pub fn whence(&self) -> &Whence
         ensures { result.now ≡ self.now.whence }
     {
@@ -109,7 +109,7 @@ impl<S: Socket> Greeting<S> {
         Ok(())
     }
 
-    /// Hears what is missing of his own version, as far as it has come.
+    /// Hears what is missing of the newcomer's own version, as far as it has come.
     #[tactic(auto, using(crate::proofs::Heard::more))]
     fn hear(&mut self) -> io::Result<()>
         requires { self.old.said ≡ 12 }
@@ -126,8 +126,8 @@ impl<S: Socket> Greeting<S> {
         Ok(())
     }
 
-    /// Goes on by one read or one write. False where nothing is left to be said or heard. It fails where the system does,
-    /// where the peer has ended, and where what he sent is no header.
+    /// Goes on by one read or one write. False where nothing is left to be said or heard. It fails where the system
+    /// does, where the peer has ended, and where what it sent is no header.
     pub fn step(&mut self) -> io::Result<bool>
         ensures same { IsSameComer self.old.whence self.new.whence }
         ensures over { IfOk result (λ goes_on. goes_on ≡ false → length self.new.own ≡ 12) }
@@ -142,7 +142,7 @@ impl<S: Socket> Greeting<S> {
         Ok(true)
     }
 
-    /// The socket for whoever owns it from now on, and the address from which he comes, if his version has come.
+    /// The socket for its owner from now on, and the newcomer's address, if the newcomer's version has come.
     pub fn done(self) -> Option<(GreetedSocket<S>, Option<SocketAddr>)>
         ensures greeted { IfSome result (λ both. IsGreeted both.0) }
         ensures unsent { IfSome result (λ both. both.0.sent ≡ []) }

@@ -1,4 +1,4 @@
-//! Who comes in.
+//! How newcomers come in.
 
 ghost use Rattle.std.specs.Prelude.{◌≡◌, ◌<◌, IfOk, IsNone};
 ghost use Rattle.connections.specs.Doors.{role_behind};
@@ -33,7 +33,7 @@ struct Waiting {
     is_closed: bool,
 }
 
-/// What there isn't for one who comes, if there is something.
+/// What is missing for a newcomer, if something is.
 fn lack(waiting: &Waiting, is_open: bool) -> Option<Lack>
     ensures none { IsNone result → 0 < waiting.now.free }
 {
@@ -48,7 +48,7 @@ fn lack(waiting: &Waiting, is_open: bool) -> Option<Lack>
     }
 }
 
-/// What became of one who came.
+/// What became of a newcomer.
 #[derive(Drop)]
 pub(crate) enum Entrance {
     Placed,
@@ -145,7 +145,7 @@ impl Lobby {
         drop(guard);
     }
 
-    /// Hands one who came by a gate of its role to a place that is free, or becomes so in this time, or gives him back.
+    /// Hands a newcomer by a gate of its role to a place that is free, or becomes so in this time, or gives it back.
     pub(crate) fn enter<R: Wait + Clock>(
         &self,
         rt: &R,
@@ -211,9 +211,9 @@ pub struct TcpDoor<R: Wait + Clock + Drop, G: Log + Drop> {
     // The number of the place.
     place: u64,
     log: G,
-    // A viewer was let in of whom the lobby hasn't been told that he is gone.
+    // Whether a viewer was let in, and the lobby hasn't been told yet that it is gone.
     has_served: bool,
-    // Where he came from, if the system told, and how his bytes travel.
+    // Where that viewer came from, if the system told, and how its bytes travel.
     address: Option<SocketAddr>,
     way: Way,
 }
@@ -291,7 +291,7 @@ impl<R: Wait + Clock + Drop + Copy, G: Log + Drop> TcpDoor<R, G> {
     ghost use Rattle.connections.specs.Browsers.{viewer_state};
     ghost use Rattle.connections.specs.Doors.{role_behind};
 
-    /// The link of one who came by a gate of the door's role.
+    /// The link of a newcomer that came by a gate of the door's role.
     fn link(&self, entrant: Entrant) -> io::Result<ViewerLink<R>>
         requires { entrant.role ≡ role_behind self.now }
         ensures { IfOk result (λ link. viewer_state link ≡ unused) }
@@ -304,8 +304,8 @@ impl<R: Wait + Clock + Drop + Copy, G: Log + Drop> TcpDoor<R, G> {
         }
     }
 
-    /// Receives one who comes: his link, unless it can't be made, nobody is let in any more, or he came by another
-    /// role's gate. The lobby takes in no such one, but its lock can't keep that for the proof.
+    /// Receives a newcomer: answers its link, unless that can't be made, nobody is let in any more, or the newcomer
+    /// came by another role's gate. The lobby takes in none of these, but its lock can't keep that for the proof.
     fn receive(&mut self, entrant: Entrant) -> Option<ViewerLink<R>>
         ensures { IfSome result (λ link. viewer_state link ≡ unused) }
     {
@@ -343,7 +343,7 @@ impl<R: Wait + Clock + Drop + Copy + Send, G: Log + Drop + Send> Door for TcpDoo
 
     ghost is_for = { λ door role. role ≡ role_behind door };
 
-    // No clause says who comes, or what becomes of who has left.
+    // No clause says which viewers come, or what becomes of those that have left.
     ghost lets_in = { λ _ _ _. ⊤ };
 
     ghost sees_off = { λ _ _ _ _. ⊤ };

@@ -1,4 +1,4 @@
-//! Who comes to a port over TCP, and the port.
+//! Newcomers to a port over TCP, and the port.
 
 ghost use Rattle.std.specs.Prelude.{◌≡◌, IfOk, true};
 ghost use Rattle.std.specs.Arc.{arc_value};
@@ -21,7 +21,7 @@ use std::io::ErrorKind;
 use std::sync::{Arc, Wait};
 use std::time::{Clock, Duration, Instant};
 
-/// The seconds that one may take while no place is left for another.
+/// The seconds that a newcomer may take while no place is left for another.
 const CROWDED_SECONDS: u64 = 1;
 
 /// A port over TCP: its gate, and the lobby, of the gate's role, to which those are let whose own version has come.
@@ -33,7 +33,7 @@ pub struct TcpEntry {
     ghost role: { gate.role ≡ (arc_value lobby).role },
 }
 
-/// One who comes over TCP: his role, his greeting, when he came, and the lobby of the port that he came by.
+/// A newcomer over TCP: its role, its greeting, when it came, and the lobby of the port that it came by.
 #[derive(Drop)]
 pub(crate) struct TcpNewcomer {
     role: Role,

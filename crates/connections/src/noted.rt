@@ -15,8 +15,8 @@ use std::time::Duration;
 
 /// A stream that writes two slices at once.
 pub trait Gathering: Read + Write + Drop {
-    /// Writes the first of the bytes of both slices, those of `first` before those of `second`, and answers how many they
-    /// are.
+    /// Writes the first of the bytes of both slices, those of `first` before those of `second`, and answers how many
+    /// they are.
     fn write_both(&mut self, first: &[u8], second: &[u8]) -> io::Result<usize>
         ensures bound { WritesAtMost result (first.now ++ second.now) }
         ensures bytes { WriteAppends (Self.contents self.old) (Self.contents self.new) result (first.now ++ second.now) };

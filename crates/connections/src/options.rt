@@ -25,8 +25,8 @@ const LEAST_STALLED: u64 = 10;
 
 const MOST_STALLED: u64 = 600;
 
-/// A viewer may have a slow line, or one that is gone for a while: it may take nothing for so many seconds, and is asked
-/// whether it's there once it has sent nothing for as many.
+/// A viewer may have a slow line, or one that is gone for a while: it may take nothing for so many seconds, and is
+/// asked whether it's there once it has sent nothing for as many.
 fn with_viewers(seconds: u64) -> Patience
     ensures stalled { result.stalled ≡ 1000 * min (max seconds 10) 600 }
     ensures idle { result.idle ≡ min (max seconds 10) 600 }
@@ -81,8 +81,8 @@ fn outlast_for(stream: &TcpStream, patience: &Patience) -> io::Result<()> {
     check(unsafe { c::setsockopt(fd, c::IPPROTO_TCP, c::TCP_USER_TIMEOUT, &stalled, 4) })
 }
 
-/// The system fails the connection of a viewer that is gone, or that takes no bytes, after so many seconds: ten at least,
-/// and 600 at most.
+/// The system fails the connection of a viewer that is gone, or that takes no bytes, after so many seconds: ten at
+/// least, and 600 at most.
 pub fn outlast(stream: &TcpStream, stalled: u64) -> io::Result<()> {
     outlast_for(stream, &with_viewers(stalled))
 }

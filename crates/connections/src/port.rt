@@ -11,21 +11,22 @@ use std::io;
 use std::sync::Wait;
 use std::time::{Clock, Duration, Instant};
 
-/// So many reads and writes of one follow one another at most. Whoever keeps the porter busy for longer is let go.
+/// So many reads and writes of one newcomer follow one another at most. One that keeps the porter busy for longer is
+/// let go.
 pub(crate) const MOST_STEPS: usize = 4_096;
 
-/// How far one who has come has gone.
+/// How far a newcomer has gone.
 #[derive(Clone, Copy, Debug, PartialEq, Eq)]
 pub(crate) enum Progress {
-    /// He waits, or is waited for.
+    /// It waits, or is waited for.
     Waits,
     /// Nothing more is asked or answered.
     Done,
-    /// His connection is broken, or he keeps the porter busy.
+    /// Its connection is broken, or it keeps the porter busy.
     Gone,
 }
 
-/// What a log is told of one who goes now, late or not, if he lacked a header.
+/// What a log is told of a newcomer that goes now, late or not, if it lacked a header.
 pub(crate) fn header_complaint(
     whence: &Whence,
     role: Role,
@@ -41,10 +42,10 @@ pub(crate) fn header_complaint(
 
 /// A port.
 pub(crate) trait Port: Drop {
-    /// Who comes by it.
+    /// A newcomer that came by it.
     type Comer: Newcomer;
 
-    /// What is lent to each who comes.
+    /// What is lent to each newcomer.
     type Means: Drop;
 
     /// What a poll hears.
@@ -53,7 +54,7 @@ pub(crate) trait Port: Drop {
     /// Whether nobody is let to its lobby any more.
     fn is_closed<R: Wait>(&self, rt: &R) -> bool;
 
-    /// The next who came. It doesn't wait for him.
+    /// The next newcomer. The call doesn't wait for one.
     fn accept<R: Clock>(
         &self,
         rt: &R,
@@ -62,23 +63,23 @@ pub(crate) trait Port: Drop {
     ) -> io::Result<Self::Comer>;
 }
 
-/// One who came by a port and isn't a viewer yet.
+/// A newcomer: one that came by a port and isn't a viewer yet.
 pub(crate) trait Newcomer: Drop {
-    /// From now on he is heard under this number.
+    /// From now on a poll hears it under this number.
     fn hear(&mut self, registry: &Registry, number: usize) -> io::Result<()>;
 
-    /// He isn't heard any more.
+    /// No poll hears it any more.
     fn leave(&mut self, registry: &Registry) -> io::Result<()>;
 
-    /// Whether he has taken too long. Where no place is left for another he may take less.
+    /// Whether it has taken too long. Where no place is left for another it may take less time.
     fn is_late(&self, now: Instant, is_crowded: bool) -> bool;
 
     /// Reads and writes, as far as it goes now.
     fn go_on<R: Clock>(&mut self, rt: &R) -> Progress;
 
-    /// What a log is told of him if he goes now, late or not.
+    /// What a log is told of it if it goes now, late or not.
     fn complaint(&self, is_late: bool) -> Option<Event<'static>>;
 
-    /// Lets him to the lobby of the port that he came by, if he may be. None where he may not.
+    /// Lets it to the lobby of the port that it came by, if it may be let there. None where it may not.
     fn enter<R: Wait + Clock>(self, rt: &R, patience: Duration) -> Option<Entrance>;
 }

@@ -27,7 +27,7 @@ const LOOK_MILLIS: u64 = 500;
 /// The seconds after which all places are woken, so that those of browsers that are silent for long say a ping.
 const WAKE_SECONDS: u64 = 5;
 
-/// Those who have come, each at a place of his own.
+/// The newcomers of a porter, each at a place of its own.
 #[derive(Drop)]
 struct Guests<C: Newcomer> {
     places: Vec<Option<C>>,
@@ -57,7 +57,7 @@ impl<C: Newcomer> Guests<C> {
         self.places.get_mut(place)?.take()
     }
 
-    /// Goes on with the one at this place.
+    /// Goes on with the newcomer at this place.
     fn go_on<R: Clock>(&mut self, rt: &R, place: usize) -> Progress {
         match self.places.get_mut(place) {
             Some(Some(comer)) => comer.go_on(rt),
@@ -74,8 +74,8 @@ impl<C: Newcomer> Guests<C> {
     }
 }
 
-/// The ports of a porter, and those who came by them. A poll hears a port under its number, and one who has come under
-/// that of his place, behind those of the ports.
+/// The ports of a porter, and the newcomers that came by them. A poll hears a port under its number, and a newcomer
+/// under that of its place, behind those of the ports.
 #[derive(Drop)]
 struct Porch<P: Port> {
     alloc: Global,
@@ -109,13 +109,13 @@ impl<P: Port> Porch<P> {
         })
     }
 
-    /// The next who came by a port.
+    /// The next newcomer of a port.
     fn accept<R: Clock>(&self, rt: &R, port: usize) -> Option<P::Comer> {
         let entry = self.entries.get(port)?;
         entry.accept(rt, self.alloc, &self.means).ok()
     }
 
-    /// Gives one this place, who is heard from now on. One who can't be heard is let go.
+    /// Gives a newcomer this place, and hears it from now on. One that can't be heard is let go.
     fn admit(&mut self, mut comer: P::Comer, place: usize) {
         let number = self.entries.len().saturating_add(place);
         if comer.hear(self.poll.registry(), number).is_ok() {
@@ -123,7 +123,7 @@ impl<P: Port> Porch<P> {
         }
     }
 
-    /// Lets the next who came by a port ask, where there is a place for him. False where there is none, or none came.
+    /// Lets the next newcomer of a port ask, where there is a place for it. False where there is none, or none came.
     fn let_one_ask<R: Clock>(&mut self, rt: &R, port: usize) -> bool {
         let Some(place) = self.guests.free() else {
             return false;
@@ -137,7 +137,7 @@ impl<P: Port> Porch<P> {
         }
     }
 
-    /// Lets all who came by a port ask, while there is room.
+    /// Lets all newcomers of a port ask, while there is room.
     fn let_ask<R: Clock>(&mut self, rt: &R, port: usize) {
         for _ in 0..MOST_GUESTS {
             if !self.let_one_ask(rt, port) {
@@ -146,7 +146,7 @@ impl<P: Port> Porch<P> {
         }
     }
 
-    /// One who is done leaves his place, and is let to his lobby if he was let in.
+    /// A newcomer that is done leaves its place, and is let to its lobby if it was let in.
     fn see_in<R: Wait + Clock, G: Log>(&mut self, rt: &R, place: usize, log: &G) {
         let Some(mut comer) = self.guests.take(place) else {
             return;
@@ -158,7 +158,7 @@ impl<P: Port> Porch<P> {
         }
     }
 
-    /// Lets the one at this place go, who is late or isn't.
+    /// Lets the newcomer at this place go, which is late or isn't.
     fn see_off<G: Log>(&mut self, place: usize, is_late: bool, log: &G) {
         if let Some(comer) = self.guests.take(place) {
             if let Some(event) = comer.complaint(is_late) {
@@ -167,7 +167,7 @@ impl<P: Port> Porch<P> {
         }
     }
 
-    /// Goes on with the one at this place.
+    /// Goes on with the newcomer at this place.
     fn go_on<R: Wait + Clock, G: Log>(&mut self, rt: &R, place: usize, log: &G) {
         match self.guests.go_on(rt, place) {
             Progress::Waits => {}
@@ -251,8 +251,8 @@ pub struct WebPorter {
 }
 
 impl WebPorter {
-    /// The porter of these ports. The peer chooses the names of fields, so maps of them take secret keys. It fails where
-    /// memory is refused, or a poll by the system.
+    /// The porter of these ports. The peer chooses the names of fields, so maps of them take secret keys. It fails
+    /// where memory is refused, or a poll by the system.
     pub fn new(
         net: &impl Net,
         alloc: Global,
@@ -265,8 +265,8 @@ impl WebPorter {
         })
     }
 
-    /// Keeps the ports: answers requests, and lets those to the lobby of their port who open a link. It wakes the places
-    /// of these seats now and then, and ends soon after the lobbies are closed.
+    /// Keeps the ports: answers requests, and lets those to the lobby of their port who open a link. It wakes the
+    /// places of these seats now and then, and ends soon after the lobbies are closed.
     pub fn keep<R: Wait + Clock, G: Log>(mut self, rt: &R, seats: &[Arc<Seat, Global>], log: &G) {
         let mut woken = Instant::now(rt).ok();
         for _ in rt.forever() {

@@ -1,4 +1,4 @@
-//! Those who weren't let in.
+//! Newcomers that weren't let in.
 
 ghost use Rattle.std.specs.Prelude.{◌<◌, ◌≤◌, length};
 
@@ -13,12 +13,12 @@ use run_traits::{Event, Log, Way};
 use std::time::{Clock, Duration, Instant};
 use web_link::refusal_frames;
 
-/// For how long one who finds no place is kept before he is told so, in milliseconds. A place whose viewer has just
-/// left is free by then. Those who come within as long of one who was kept in vain are told at once: they came while he
-/// was kept, or nearly so.
+/// For how long a newcomer that finds no place is kept before it is told so, in milliseconds. A place whose viewer has
+/// just left is free by then. Newcomers that come within as long after one that was kept in vain are told at once: they
+/// came while it was kept, or nearly so.
 const PATIENCE_MILLIS: u64 = 50;
 
-/// Why one isn't let in: what there isn't.
+/// Why a newcomer isn't let in: what is missing.
 #[derive(Clone, Copy, Debug, PartialEq, Eq)]
 pub(crate) enum Lack {
     /// A place that is free.
@@ -29,16 +29,16 @@ pub(crate) enum Lack {
     Entry,
 }
 
-/// Those who weren't let in at a door: the socket of the last of them, who stays until the next is refused, so that his
-/// text isn't lost, and until when one was kept in vain.
+/// The newcomers that weren't let in at a door: the socket of the last of them, which stays open until the next is
+/// refused, so that its text isn't lost, and until when one was kept in vain.
 #[derive(Drop)]
 pub(crate) struct Refused {
     last: Option<GreetedSocket<Noted<TcpStream>>>,
     in_vain: Option<Instant>,
 }
 
-/// Says these bytes to one who isn't let in: in messages where his own travel so. What of them was said before isn't
-/// said again, and is sent by itself. A peer that is gone already needs no reason.
+/// Says these bytes to a newcomer that isn't let in: in messages where its own travel so. What of them was said before
+/// isn't said again, and is sent by itself. A peer that is gone already needs no reason.
 fn say<S: Socket>(socket: &mut S, way: Way, bytes: &[u8])
     requires long { 12 < length bytes.now }
     requires short { length bytes.now ≤ 116 }
@@ -55,7 +55,7 @@ fn say<S: Socket>(socket: &mut S, way: Way, bytes: &[u8])
     }
 }
 
-/// Tells one who isn't let in why.
+/// Tells a newcomer that isn't let in why.
 fn answer<S: Socket>(socket: &mut S, way: Way, lack: Lack) {
     match lack {
         Lack::Place => say(socket, way, &refusal_bytes()),
@@ -64,7 +64,7 @@ fn answer<S: Socket>(socket: &mut S, way: Way, lack: Lack) {
     }
 }
 
-/// What a log is told of one who isn't let in.
+/// What a log is told of a newcomer that isn't let in.
 fn event_of(refused: &Entrant, lack: Lack) -> Event<'static> {
     let role = refused.role();
     let address = refused.address();
@@ -85,7 +85,7 @@ impl Refused {
         }
     }
 
-    /// For how long one who comes now is kept.
+    /// For how long a newcomer is kept now.
     pub(crate) fn patience<R: Clock>(&self, rt: &R) -> Duration {
         let patience = Duration::from_millis(PATIENCE_MILLIS);
         match &self.in_vain {
@@ -97,7 +97,7 @@ impl Refused {
         }
     }
 
-    /// Refuses one who was kept for so long.
+    /// Refuses a newcomer that was kept for so long.
     pub(crate) fn refuse<R: Clock, G: Log>(
         &mut self,
         rt: &R,

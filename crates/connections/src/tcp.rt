@@ -285,8 +285,8 @@ impl<R: Wait + Clock + Drop, S: Socket> ViewerTcpLink<R, S> {
         took
     }
 
-    /// How long a wait may last now: so long, or without an end. None where the hello is late. A clock that can't be read
-    /// is late.
+    /// How long a wait may last now: so long, or without an end. None where the hello is late. A clock that can't be
+    /// read is late.
     fn patience(&mut self) -> Option<Option<Duration>>
         ensures { self.new.own ≡ self.old.own }
     {

@@ -1,4 +1,4 @@
-//! From where one comes.
+//! From where a newcomer comes.
 
 ghost use Rattle.std.specs.Prelude.{◌≡◌, true};
 ghost use Rattle.connections.specs.Greetings.{IsFromProxy, IsTold};
@@ -30,8 +30,8 @@ fn told(peer: Option<SocketAddr>, origin: Origin) -> Option<SocketAddr>
     }
 }
 
-/// From where one comes: as the system tells it or, if he comes from the proxy that is believed, as the header of the
-/// PROXY protocol tells it that comes first.
+/// From where a newcomer comes: as the system tells it or, behind the proxy that is believed, as the header of the
+/// PROXY protocol tells it, which comes first.
 #[derive(Drop)]
 pub struct Whence {
     peer: Option<SocketAddr>,
@@ -58,7 +58,7 @@ impl Whence {
     ghost use Rattle.std.specs.Prelude.{◌≡◌, ◌∷◌, ◌++◌, [], true};
     ghost use Rattle.connections.specs.Greetings.{IsFromProxy, IsKnown, IsSameComer};
 
-    /// Of one whose peer has this address, where the header of this proxy is believed, if of one.
+    /// Of a newcomer whose peer has this address, where the header of this proxy is believed, if of one.
     pub(crate) fn new(peer: Option<SocketAddr>, proxy: &Option<IpAddr>) -> Whence
         ensures peer { result.peer ≡ peer }
         ensures proxied { result.is_proxied ≡ true → IsFromProxy proxy.now peer }
@@ -76,8 +76,8 @@ impl Whence {
         }
     }
 
-    /// His address, if anyone tells it, or why the header is refused, once that is known. Until then another byte of the
-    /// header is wanted.
+    /// The newcomer's address, if anyone tells it, or why the header is refused, once that is known. Until then another
+    /// byte of the header is wanted.
     pub fn known(&self) -> Option<Result<Option<SocketAddr>, Refusal>>
         ensures { IsKnown self.now result }
     {
@@ -97,7 +97,7 @@ impl Whence {
         self.peer
     }
 
-    /// Whether one who goes now lacked a header: what he sent is none or, where he is late, a part of it hasn't come.
+    /// Whether a newcomer that goes now lacked a header: what it sent is none or, where it is late, a part hasn't come.
     pub(crate) fn lacks_header(&self, is_late: bool) -> bool {
         match self.known() {
             Some(Ok(_)) => false,

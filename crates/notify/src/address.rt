@@ -31,8 +31,9 @@ fn encode(name: &[u8], is_abstract: bool) -> Option<([u8; c::_SS_SIZE], u32)>
     Some((raw, name.len() as u32 + 3))
 }
 
-/// The address that systemd's text writes, as the bytes of C's `sockaddr_un` and how many of them count: a path from the
-/// root, or an abstract name behind an `@` (sd_notify(3)). None where it writes none, or a longer one than there is.
+/// The address that systemd's text writes, as the bytes of C's `sockaddr_un` and how many of them count: a path from
+/// the root, or an abstract name behind an `@` (sd_notify(3)). None where it writes none, or a longer one than there
+/// is.
 pub fn address_of(text: &str) -> Option<([u8; c::_SS_SIZE], u32)>
     ensures address { IfSome result (λ r. IsAddressOf text.now r) }
     ensures len { IfSome result (λ r. r.1 ≤ 110) }

@@ -11,7 +11,7 @@ pub enum Place {
     Free,
     /// It has one.
     Taken,
-    /// It has one, of whom `end` has asked that he leaves.
+    /// It has one, which `end` has asked to leave.
     Leaving,
 }
 

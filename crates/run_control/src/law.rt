@@ -12,8 +12,8 @@ pub fn end_asks_one_place()
     ensures { EndAsksOnePlace }
 {}
 
-/// After a `stop`, whatever is asked and whoever comes and leaves then, each viewer that is there is asked to leave, and
-/// a place that has none never has one again.
+/// After a `stop`, whatever is asked and whoever comes and leaves then, each viewer that is there is asked to leave,
+/// and a place that has none never has one again.
 pub fn nobody_comes_in_after_a_stop()
     ensures { NobodyComesInAfterAStop }
 {}

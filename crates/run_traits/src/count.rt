@@ -1,7 +1,7 @@
 //! What is counted while a run goes on, for whoever asks how it stands.
 //!
-//! A thread that counts only stores: it takes no lock and waits for nobody. No clause says what stands in a counter, nor
-//! that two of them belong together.
+//! A thread that counts only stores: it takes no lock and waits for nobody. No clause says what stands in a counter,
+//! nor that two of them belong together.
 
 use std::sync::atomic::{AtomicU64, Ordering};
 use std::time::Clock;

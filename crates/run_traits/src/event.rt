@@ -113,7 +113,7 @@ pub enum Event<'a> {
         address: Option<SocketAddr>,
         way: Way,
     },
-    /// One was refused who came from the proxy: what he sent is no header, or none came in time.
+    /// A newcomer from the proxy was refused: what it sent is no header, or none came in time.
     NoHeader {
         role: Role,
         address: Option<SocketAddr>,

@@ -6,16 +6,16 @@ ghost use Rattle.run_watch.specs.Healths.{health_for, is_full, is_taken, word_fo
 use metrics_text::Counters;
 use roles::Role;
 
-/// Whether a viewer who comes now would be served, and why not.
+/// Whether a viewer that comes now would be served, and why not.
 #[derive(Clone, Copy, Debug, PartialEq, Eq)]
 pub enum Health {
-    /// He would.
+    /// It would.
     Ready,
     /// No host is joined.
     NoHost,
     /// An operator has nobody let in.
     Drained,
-    /// All places that he could have are taken.
+    /// All places that it could have are taken.
     Full,
 }
 
@@ -39,8 +39,8 @@ fn is_full(counters: &Counters, role: Option<Role>) -> bool
     }
 }
 
-/// What a run of these numbers is told to be, at whose doors nobody or anybody is let in: to one who asks for a viewer of
-/// this role, or of either.
+/// What a run of these numbers is told to be, at whose doors nobody or anybody is let in: to one who asks for a viewer
+/// of this role, or of either.
 pub fn health_of(counters: &Counters, is_drained: bool, role: Option<Role>) -> Health
     ensures { result ≡ health_for counters.now is_drained role }
 {

@@ -40,7 +40,7 @@ const PAUSE_MILLIS: u64 = 100;
 const NO_REQUEST: &[u8] =
     b"error: no request: state, state json, drain, undrain, end PLACE or stop\n";
 
-/// An operator's socket, and what his requests reach before there are halls.
+/// An operator's socket, and what requests reach before there are halls.
 #[derive(Drop)]
 pub(crate) struct Control {
     pub(crate) listener: UnixListener,

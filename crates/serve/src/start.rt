@@ -19,7 +19,7 @@ use std::rt::Files;
 use std::sync::{Arc, Wait};
 use std::thread::Builder;
 
-/// What the requests reach of an operator who is heard at this listener. He may end the run by a new lifeline.
+/// What the requests of an operator reach, who is heard at this listener and may end the run by a new lifeline.
 fn prepared(
     alloc: Global,
     listener: UnixListener,

@@ -1,4 +1,5 @@
-//! Tests of `connections` and `run_traits`, over loopback alone, bounded in count and by the ten seconds that a viewer's handshake has.
+//! Tests of `connections` and `run_traits`, over loopback alone, bounded in count and by the ten seconds that a
+//! viewer's handshake has.
 
 mod alarms;
 mod doors;

@@ -31,8 +31,8 @@ fn connection_of(alloc: Global, keys: RandomState) -> Connection {
     Connection::new(alloc, keys, config)
 }
 
-/// Answers one who has connected, whose stream is read and written by these two, as the run stood when he did. It fails
-/// where he isn't done at this moment, and where a read or a write does.
+/// Answers a machine that has connected, whose stream is read and written by these two, as the run stood at that
+/// moment. It fails where the machine isn't done at this moment, and where a read or a write does.
 pub fn answer_one<R: Clock, I: Read + Drop, O: Write + Drop>(
     rt: &R,
     alloc: Global,

@@ -87,8 +87,8 @@ pub record IsOpened (site : Site) (head : Parts) (r : Response) : Type 0 where
   pub stranger : may_open site.admission head.headers ≡ false → Replies site.policy (bare 403) r
   pub bodiless : r.body.items ≡ []
 
--- What a request is answered with, whether it asks for a link or not. So there is a 101 only where it asks, and a body of
--- a file only where it does not.
+-- What a request is answered with, whether it asks for a link or not. So there is a 101 only where it asks, and a body
+-- of a file only where it does not.
 abbrev pub IsAnswerFor : Bool → Site → Parts → Response → Type 0
 IsAnswerFor true site head r = IsOpened site head r
 IsAnswerFor false site head r = Replies site.policy (plain_reply site head) r

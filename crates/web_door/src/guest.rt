@@ -114,8 +114,8 @@ impl Guest {
         self.connection.is_done()
     }
 
-    /// Whether it is let in, once it is done: whoever has the stream makes a link of it. One that has said anything more
-    /// before it was told so isn't.
+    /// Whether it is let in, once it is done: whoever has the stream makes a link of it. One that has said anything
+    /// more before it was told so isn't.
     pub fn is_let_in(self) -> bool
         ensures { IsTrue result → ∥ IsLetIn self ∥₁ }
     {

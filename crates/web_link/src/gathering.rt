@@ -18,7 +18,8 @@ enum Loss {
 }
 
 /// A link that keeps what it is given, and gives it to the link below together: before it takes, when it is flushed,
-/// and where it is full. So an answer of many rectangles is a few messages of a `WebLink` below. Only `new` takes memory.
+/// and where it is full. So an answer of many rectangles is a few messages of a `WebLink` below. Only `new` takes
+/// memory.
 #[derive(Drop)]
 pub struct GatheringLink<L: Link> {
     link: L,
@@ -128,8 +129,8 @@ impl<L: Link> GatheringLink<L> {
 impl<L: Link> GatheringLink<WebLink<L>> {
     ghost use Rattle.std.specs.Prelude.{◌≡◌};
 
-    /// Says a ping by the link below, as `WebLink::ping` does. It takes, gives and keeps nothing; no clause says that the
-    /// ping goes out.
+    /// Says a ping by the link below, as `WebLink::ping` does. It takes, gives and keeps nothing; no clause says that
+    /// the ping goes out.
     pub fn ping(&mut self)
         ensures { self.new ≡ self.old }
     {

@@ -235,8 +235,8 @@ impl<L: Link> WebLink<L> {
         }
     }
 
-    /// Says an empty ping, where it stands between two messages and nothing is unsent; else nothing is said. A proxy cuts
-    /// a connection that is silent for long, so whoever serves a silent screen calls this now and then.
+    /// Says an empty ping, where it stands between two messages and nothing is unsent; else nothing is said. A proxy
+    /// cuts a connection that is silent for long, so whoever serves a silent screen calls this now and then.
     pub fn ping(&mut self)
         ensures same { self.new.carried ≡ self.old.carried }
         ensures reader { self.new.reader ≡ self.old.reader }

@@ -1,5 +1,5 @@
-//! What a link says by itself: a ping, and a refusal. The bytes are spelled by hand after RFC 6455, sections 5.2 and 5.5,
-//! and RFC 6143, sections 7.1.1 and 7.1.2.
+//! What a link says by itself: a ping, and a refusal. The bytes are spelled by hand after RFC 6455, sections 5.2 and
+//! 5.5, and RFC 6143, sections 7.1.1 and 7.1.2.
 
 use crate::client::below;
 use link::{Gave, Link, MemoryLink};

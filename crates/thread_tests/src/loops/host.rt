@@ -135,8 +135,8 @@ fn goes_as_told<R: Wait>(rt: &R, alloc: Global, case: &Case<'_>) -> Result<bool,
     goes_on_as_told(rt, alloc, case, &mut publisher)
 }
 
-/// Links that end where a host may end or inside its message, and bytes at fault: what was whole before stays. Bells and
-/// texts are put, and colour maps aren't. What was put before memory was refused stays.
+/// Links that end where a host may end or inside its message, and bytes at fault: what was whole before stays. Bells
+/// and texts are put, and colour maps aren't. What was put before memory was refused stays.
 const CASES: [Case<'static>; 7] = [
     Case {
         name: "ends inside a message",

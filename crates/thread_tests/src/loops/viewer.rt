@@ -269,8 +269,8 @@ const SILENT_IS_LET_GO: Case<'static> = Case {
     relayed: &NO_INPUT,
 };
 
-/// Where the sink stays full, a viewer that leaves is waited for until the flag is set; then its input is given up. What
-/// it asks for after the input isn't read.
+/// Where the sink stays full, a viewer that leaves is waited for until the flag is set; then its input is given up.
+/// What it asks for after the input isn't read.
 const FULL_SINK_IS_GIVEN_UP: Case<'static> = Case {
     name: "full sink is given up",
     role: Role::Full,

@@ -228,8 +228,8 @@ const EACH_FORM: Case<'static> = Case {
     dropped: (0, 0),
 };
 
-/// While the first place has a button down, nothing of the second passes: the host is told the stroke whole. It rests at
-/// most once a look.
+/// While the first place has a button down, nothing of the second passes: the host is told the stroke whole. It rests
+/// at most once a look.
 const STROKES_ARE_WHOLE: Case<'static> = Case {
     name: "writer keeps strokes whole",
     is_alone: false,

@@ -109,8 +109,8 @@ fn viewer_is_given_each_byte_in_order_once(rt: HostRuntime) -> Result<(), Fail> 
     Ok(())
 }
 
-/// Whether a large slice that is given goes out behind what is kept, in turns: some of what is kept, the rest of it, and
-/// ten bytes of the slice.
+/// Whether a large slice that is given goes out behind what is kept, in turns: some of what is kept, the rest of it,
+/// and ten bytes of the slice.
 fn sends_behind<R: Wait + Clock + Drop>(
     link: &mut ViewerTcpLink<R, MemorySocket>,
     bytes: &[u8; LARGE],

@@ -93,7 +93,7 @@ impl<R: Wait + Drop> House<'_, R> {
         self.log.lacking.load(Ordering::SeqCst) == count
     }
 
-    /// One who comes through the proxy with these bytes before his version.
+    /// A newcomer through the proxy with these bytes before its version.
     fn come_through(&self, header: &[u8]) -> io::Result<TcpStream> {
         let mut viewer = connect(self.net, self.address)?;
         for byte in header {
@@ -144,8 +144,8 @@ fn is_let_go(viewer: &mut TcpStream) -> bool {
     }
 }
 
-/// Whether those who leave before their own version is whole take no place and write no line, and a silent one is let go
-/// once his time is over; then one who says his is greeted.
+/// Whether those who leave before their own version is whole take no place and write no line, and a silent one is let
+/// go once its time is over; then one that says its version is greeted.
 fn checks_leave_nothing<R: Wait + Drop>(house: &House<'_, R>) -> io::Result<bool> {
     let mut told = [0u8; 12];
     let mut check = connect(house.net, house.address)?;
@@ -196,8 +196,8 @@ fn headers_are_believed<R: Wait + Clock + Drop>(house: &House<'_, R>) -> io::Res
     Ok(is_refused && is_greeted_first && is_named && is_seen && is_gone && is_its_own)
 }
 
-/// Whether a header isn't believed of one who isn't the proxy: its first bytes are taken for his version, and he is
-/// named by his own address.
+/// Whether a header isn't believed of a peer that isn't the proxy: its first bytes are taken for a version, and the
+/// newcomer is named by its own address.
 fn header_of_another_is_no_header<R: Wait + Drop>(house: &House<'_, R>) -> io::Result<bool> {
     let mut viewer = connect(house.net, house.address)?;
     viewer.write_all(HEADER)?;

@@ -27,8 +27,8 @@ struct House<'a> {
     desk: &'a Desk,
 }
 
-/// Greets each viewer with its version and a byte, and then serves it until it ends. It answers how many came, and how many of their links
-/// ended.
+/// Greets each viewer with its version and a byte, and then serves it until it ends. It answers how many came, and how
+/// many of their links ended.
 fn greets<D: Door>(door: &mut D) -> (u64, u64) {
     let mut into = [0u8; 64];
     let mut ended: u64 = 0;
@@ -73,7 +73,7 @@ fn stays_until<R: Wait>(rt: &R, house: &House<'_>, request: Request) -> io::Resu
     Ok(told == *b"RFB 003.008\nR" && is_there && outcome == Outcome::Done && is_gone)
 }
 
-/// Nobody is let in while the doors are drained. Then one is sent away, and the next, and there is a place for him too.
+/// Nobody is let in while the doors are drained. Then one is sent away, and the next finds a place too.
 /// After a stop nobody is let in again.
 fn evening<R: Wait>(rt: &R, house: &House<'_>) -> io::Result<bool> {
     let drained = house.desk.ask(rt, Request::Drain);
@@ -107,7 +107,7 @@ fn keeps<R: Threads + Wait + Clock + Send + Sync, D: Door + Send>(
     came
 }
 
-/// How many came in and how many were sent away, and whether each was told what he should be.
+/// How many came in and how many were sent away, and whether each was told what it should be.
 fn serves<R: Threads + Wait + Clock + Send + Sync, D: Door + Send>(
     rt: &R,
     house: &House<'_>,

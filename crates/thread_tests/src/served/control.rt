@@ -111,7 +111,7 @@ where
     answer_to(ear, path, line.as_str(), answer)
 }
 
-/// Whether one who says too much is told so at once, though his line hasn't ended.
+/// Whether an operator whose line is too long is told so at once, though the line hasn't ended.
 fn is_told_at_length<R>(ear: &Ear<R>, path: &str) -> io::Result<bool>
 where
     R: Net<Stream = TcpStream, Listener = TcpListener> + Drop,

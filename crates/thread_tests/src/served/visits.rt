@@ -114,7 +114,7 @@ where
     Ok(None)
 }
 
-/// Whether the log tells of the one who comes here that there is no place for him, or else that there is.
+/// Whether the log tells of a newcomer that there is no place for it, or else that there is.
 fn is_refused<R: Wait + Clock + Drop>(
     ear: &Ear<R>,
     role: Role,

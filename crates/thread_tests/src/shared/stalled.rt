@@ -45,8 +45,8 @@ fn show_their_own(rooms: &[Room]) -> bool {
 }
 
 /// Each of four places holds a cut of an update of its own: then puts go on, and change none of these cuts. Where one
-/// place holds a second cut, there are the seven boards that there may be, those of five cuts and of two copies; so a put
-/// is refused, and changes nothing, until that cut is of a newer update.
+/// place holds a second cut, there are the seven boards that there may be, those of five cuts and of two copies; so a
+/// put is refused, and changes nothing, until that cut is of a newer update.
 fn stalls<J: Naming + Publishes, R: Wait + Drop>(
     alloc: Global,
     publisher: &mut Publisher<J, R>,
