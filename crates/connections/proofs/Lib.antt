@@ -1,3 +1,4 @@
 mod Behind
+mod Canonical
 mod Heard
 mod Owed

@@ -1,6 +1,6 @@
 //! Newcomers to a web port, and the port.
 
-ghost use Rattle.std.specs.Prelude.{◌≡◌, IfOk, true};
+ghost use Rattle.std.specs.Prelude.{◌≡◌, ◌↔◌, IfOk, IsTrue};
 ghost use Rattle.std.specs.Arc.{arc_value};
 ghost use Rattle.connections.specs.Greetings.{IsFromProxy};
 
@@ -87,7 +87,7 @@ impl Port for WebEntry {
     /// The next newcomer, as a caller that asks this port's site and may be let to its lobby.
     fn accept<R: Clock>(&self, rt: &R, alloc: Global, means: &RandomState) -> io::Result<Caller>
         ensures role { IfOk result (λ caller. caller.arrival.role ≡ self.now.gate.role) }
-        ensures proxied { IfOk result (λ caller. caller.arrival.whence.is_proxied ≡ true → IsFromProxy self.now.gate.proxy caller.arrival.whence.peer) }
+        ensures proxied { IfOk result (λ caller. IsTrue caller.arrival.whence.is_proxied ↔ IsFromProxy self.now.gate.proxy caller.arrival.whence.peer) }
         ensures site { IfOk result (λ caller. caller.guest.site ≡ arc_value self.now.site) }
         ensures lobby { IfOk result (λ caller. arc_value caller.lobby ≡ arc_value self.now.lobby) }
     {

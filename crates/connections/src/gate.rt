@@ -1,6 +1,6 @@
 //! Listeners of a role, and who comes by them.
 
-ghost use Rattle.std.specs.Prelude.{◌≡◌, IfOk, IfSome, None, Ok, Some, [], true};
+ghost use Rattle.std.specs.Prelude.{◌≡◌, ◌↔◌, IfOk, IfSome, IsTrue, None, Ok, Some, []};
 ghost use Rattle.run_traits.specs.declared.event.Way.TheVariants.{Tcp, Web};
 ghost use Rattle.connections.specs.Greetings.{IsFromProxy, IsGreeted, IsKnown, IsSameComer, untouched};
 ghost use Rattle.web_door.specs.Guests.{IsLetIn};
@@ -78,10 +78,10 @@ impl Gate {
     }
 
     /// The next newcomer, over TCP as yet. The call waits for it, unless the listener is one that doesn't wait. A
-    /// header is believed only of a newcomer that comes from the proxy.
+    /// header is wanted, and believed, of a newcomer that comes from the proxy, and of no other.
     pub fn accept(&self) -> io::Result<Arrival>
         ensures role { IfOk result (λ arrival. arrival.role ≡ self.now.role) }
-        ensures proxied { IfOk result (λ arrival. arrival.whence.is_proxied ≡ true → IsFromProxy self.now.proxy arrival.whence.peer) }
+        ensures proxied { IfOk result (λ arrival. IsTrue arrival.whence.is_proxied ↔ IsFromProxy self.now.proxy arrival.whence.peer) }
         ensures front { IfOk result (λ arrival. arrival.whence.front ≡ []) }
     {
         let (stream, peer) = self.listener.accept()?;

@@ -1,6 +1,6 @@
 //! Newcomers to a port over TCP, and the port.
 
-ghost use Rattle.std.specs.Prelude.{◌≡◌, IfOk, true};
+ghost use Rattle.std.specs.Prelude.{◌≡◌, ◌↔◌, IfOk, IsTrue};
 ghost use Rattle.std.specs.Arc.{arc_value};
 ghost use Rattle.connections.specs.Greetings.{IsFromProxy};
 
@@ -71,7 +71,7 @@ impl Port for TcpEntry {
 
     fn accept<R: Clock>(&self, rt: &R, _alloc: Global, _means: &()) -> io::Result<TcpNewcomer>
         ensures role { IfOk result (λ comer. comer.role ≡ self.now.gate.role) }
-        ensures proxied { IfOk result (λ comer. comer.greeting.whence.is_proxied ≡ true → IsFromProxy self.now.gate.proxy comer.greeting.whence.peer) }
+        ensures proxied { IfOk result (λ comer. IsTrue comer.greeting.whence.is_proxied ↔ IsFromProxy self.now.gate.proxy comer.greeting.whence.peer) }
         ensures lobby { IfOk result (λ comer. arc_value comer.lobby ≡ arc_value self.now.lobby) }
     {
         let arrival = self.gate.accept()?;

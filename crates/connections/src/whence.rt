@@ -1,6 +1,6 @@
 //! From where a newcomer comes.
 
-ghost use Rattle.std.specs.Prelude.{◌≡◌, true};
+ghost use Rattle.std.specs.Prelude.{◌≡◌, ◌↔◌, IsTrue};
 ghost use Rattle.connections.specs.Greetings.{IsFromProxy, IsTold};
 
 use byte_record::Record;
@@ -10,8 +10,9 @@ use std::net::{IpAddr, SocketAddr};
 
 /// Whether the peer of this address is the proxy that is believed, if one is. An IPv4 address inside one of IPv6 is
 /// that of IPv4.
+#[tactic(auto, using(crate::proofs::Canonical::is_one))]
 fn is_from(proxy: &Option<IpAddr>, peer: &Option<SocketAddr>) -> bool
-    ensures { result ≡ true → IsFromProxy proxy.now peer.now }
+    ensures { IsTrue result ↔ IsFromProxy proxy.now peer.now }
 {
     match (proxy, peer) {
         (Some(proxy), Some(peer)) => peer.ip().to_canonical() == *proxy,
@@ -55,13 +56,13 @@ impl Model for Whence {
 }
 
 impl Whence {
-    ghost use Rattle.std.specs.Prelude.{◌≡◌, ◌∷◌, ◌++◌, [], true};
+    ghost use Rattle.std.specs.Prelude.{◌≡◌, ◌↔◌, ◌∷◌, ◌++◌, [], IsTrue, true};
     ghost use Rattle.connections.specs.Greetings.{IsFromProxy, IsKnown, IsSameComer};
 
     /// Of a newcomer whose peer has this address, where the header of this proxy is believed, if of one.
     pub(crate) fn new(peer: Option<SocketAddr>, proxy: &Option<IpAddr>) -> Whence
         ensures peer { result.peer ≡ peer }
-        ensures proxied { result.is_proxied ≡ true → IsFromProxy proxy.now peer }
+        ensures proxied { IsTrue result.is_proxied ↔ IsFromProxy proxy.now peer }
         ensures front { result.front ≡ [] }
     {
         let reader = if is_from(proxy, &peer) {
