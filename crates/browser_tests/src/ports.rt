@@ -3,7 +3,7 @@
 use crate::browser::{Browser, are_strangers_refused, is_told};
 use crate::loopback::{hears, listen};
 use bytes::Bytes;
-use connections::{Desk, Gate, Lobby, Seat, TcpDoor, WebEntry, WebPorter};
+use connections::{Desk, Lobby, RoleListener, Seat, TcpDoor, WebEntry, WebPorter};
 use link::{Gave, Link, Took};
 use roles::Role;
 use run_traits::{Door, NoLog};
@@ -16,7 +16,7 @@ use std::test::*;
 use std::thread::Threads;
 use std::time::Clock;
 use std::{io, thread};
-use web_door::{Admission, FileTable, Site};
+use web_site::{Admission, FileTable, Site};
 
 /// A file, and its path.
 const FILE: &[u8] = b"let a;";
@@ -165,12 +165,12 @@ where
         + Sync,
 {
     let alloc = net.alloc();
-    let gate = Gate::new(listen(net)?, Role::Full);
-    let address = gate.listener().local_addr()?;
+    let listener = RoleListener::new(listen(net)?, Role::Full);
+    let address = listener.socket().local_addr()?;
     let desk = Arc::new(alloc, Desk::new(alloc, 1)?)?;
     let lobby = Arc::new(alloc, Lobby::new(alloc, Role::Full, 1, 60, desk)?)?;
     lobby.hold(&rt, true);
-    let entry = WebEntry::new(gate, site(alloc, address)?, Arc::try_clone(&lobby)?)?;
+    let entry = WebEntry::new(listener, site(alloc, address)?, Arc::try_clone(&lobby)?)?;
     let seat = Arc::new(alloc, Seat::new(net, alloc)?)?;
     let shared = Arc::try_clone(&lobby)?;
     let mut door = TcpDoor::new(rt, alloc, shared, seat, 1, NoLog);

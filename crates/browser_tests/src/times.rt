@@ -4,7 +4,9 @@
 use crate::browser::{frame, head, is_told};
 use crate::loopback::{accept, connect, hears, listen};
 use crate::ports::site;
-use connections::{BrowserLink, Desk, Gate, Lobby, Seat, ViewerTcpLink, WebEntry, WebPorter};
+use connections::{
+    BrowserLink, Desk, Lobby, RoleListener, Seat, ViewerTcpLink, WebEntry, WebPorter,
+};
 use link::{Gave, Link, Took};
 use roles::Role;
 use run_traits::{Alarm, NoLog, Parting};
@@ -235,11 +237,11 @@ where
     R: Threads + Wait + Clock + Copy + Drop + Send + Sync,
 {
     let alloc = net.alloc();
-    let gate = Gate::new(listen(net)?, Role::View);
-    let address = gate.listener().local_addr()?;
+    let listener = RoleListener::new(listen(net)?, Role::View);
+    let address = listener.socket().local_addr()?;
     let desk = Arc::new(alloc, Desk::new(alloc, 1)?)?;
     let lobby = Arc::new(alloc, Lobby::new(alloc, Role::View, 1, 60, desk)?)?;
-    let entry = WebEntry::new(gate, site(alloc, address)?, Arc::try_clone(&lobby)?)?;
+    let entry = WebEntry::new(listener, site(alloc, address)?, Arc::try_clone(&lobby)?)?;
     let mut entries = Vec::new(alloc);
     entries.push(entry)?;
     let porter = WebPorter::new(net, alloc, entries, RandomState::new(net)?)?;

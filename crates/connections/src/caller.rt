@@ -4,10 +4,10 @@ ghost use Rattle.std.specs.Prelude.{◌≡◌, ◌↔◌, IfOk, IsTrue};
 ghost use Rattle.std.specs.Arc.{arc_value};
 ghost use Rattle.connections.specs.Greetings.{IsFromProxy};
 
-use crate::gate::{Arrival, Gate};
 use crate::lobby::{Entrance, Lobby};
 use crate::options::outlast;
 use crate::port::{MOST_STEPS, Newcomer, Port, Progress, header_complaint};
+use crate::role_listener::{Arrival, RoleListener};
 use mio::{Interest, Registry, Token};
 use run_traits::{Event, Way};
 use std::alloc::Global;
@@ -16,7 +16,7 @@ use std::io;
 use std::io::{ErrorKind, Read};
 use std::sync::{Arc, Wait};
 use std::time::{Clock, Duration, Instant};
-use web_door::{Guest, Site};
+use web_site::{Guest, Site};
 
 /// So many seconds a caller has for a request, and then for each part of its answer.
 const GUEST_SECONDS: u64 = 10;
@@ -24,14 +24,14 @@ const GUEST_SECONDS: u64 = 10;
 /// A part of an answer has so many bytes, so that a caller that takes a byte now and then is late all the same.
 const PART: usize = 65_536;
 
-/// A web port: its gate, what it answers, and the lobby, of the gate's role, to which those are let who are let in.
+/// A web port: its listener, what it answers, and the lobby, of the listener's role, to which those are let who are let in.
 #[derive(Drop)]
 pub struct WebEntry {
-    gate: Gate,
+    listener: RoleListener,
     heard: mio::net::TcpListener,
     site: Arc<Site, Global>,
     lobby: Arc<Lobby, Global>,
-    ghost role: { gate.role ≡ (arc_value lobby).role },
+    ghost role: { listener.role ≡ (arc_value lobby).role },
 }
 
 /// A caller: its arrival, its stream once more, what it has asked, since when it may be late, how many bytes it has
@@ -48,21 +48,21 @@ pub(crate) struct Caller {
 }
 
 impl WebEntry {
-    /// A port of this gate. It fails where the system refuses an option.
+    /// A port of this listener. It fails where the system refuses an option.
     pub fn new(
-        gate: Gate,
+        listener: RoleListener,
         site: Arc<Site, Global>,
         lobby: Arc<Lobby, Global>,
     ) -> io::Result<WebEntry>
-        requires { gate.role ≡ (arc_value lobby).role }
-        ensures gate { IfOk result (λ entry. entry.gate ≡ gate) }
+        requires { listener.role ≡ (arc_value lobby).role }
+        ensures listener { IfOk result (λ entry. entry.listener ≡ listener) }
         ensures site { IfOk result (λ entry. arc_value entry.site ≡ arc_value site) }
         ensures lobby { IfOk result (λ entry. arc_value entry.lobby ≡ arc_value lobby) }
     {
-        gate.listener().set_nonblocking(true)?;
-        let heard = mio::net::TcpListener::from_std(gate.listener().try_clone()?);
+        listener.socket().set_nonblocking(true)?;
+        let heard = mio::net::TcpListener::from_std(listener.socket().try_clone()?);
         Ok(WebEntry {
-            gate,
+            listener,
             heard,
             site,
             lobby,
@@ -86,12 +86,12 @@ impl Port for WebEntry {
 
     /// The next newcomer, as a caller that asks this port's site and may be let to its lobby.
     fn accept<R: Clock>(&self, rt: &R, alloc: Global, means: &RandomState) -> io::Result<Caller>
-        ensures role { IfOk result (λ caller. caller.arrival.role ≡ self.now.gate.role) }
-        ensures proxied { IfOk result (λ caller. IsTrue caller.arrival.whence.is_proxied ↔ IsFromProxy self.now.gate.proxy caller.arrival.whence.peer) }
+        ensures role { IfOk result (λ caller. caller.arrival.role ≡ self.now.listener.role) }
+        ensures proxied { IfOk result (λ caller. IsTrue caller.arrival.whence.is_proxied ↔ IsFromProxy self.now.listener.proxy caller.arrival.whence.peer) }
         ensures site { IfOk result (λ caller. caller.guest.site ≡ arc_value self.now.site) }
         ensures lobby { IfOk result (λ caller. arc_value caller.lobby ≡ arc_value self.now.lobby) }
     {
-        let arrival = self.gate.accept()?;
+        let arrival = self.listener.accept()?;
         arrival.stream().set_nonblocking(true)?;
         outlast(arrival.stream(), self.lobby.stalled())?;
         let heard = mio::net::TcpStream::from_std(arrival.stream().try_clone()?);

@@ -4,8 +4,8 @@ ghost use Rattle.std.specs.Prelude.{◌≡◌, ◌<◌, IfOk, IsNone};
 ghost use Rattle.connections.specs.Doors.{role_behind};
 
 use crate::desk::{Comer, Desk};
-use crate::gate::Entrant;
 use crate::refused::Lack;
+use crate::role_listener::Entrant;
 use crate::seat::Seat;
 use crate::tcp::ViewerTcpLink;
 use crate::web::BrowserLink;
@@ -145,7 +145,7 @@ impl Lobby {
         drop(guard);
     }
 
-    /// Hands a newcomer by a gate of its role to a place that is free, or becomes so in this time, or gives it back.
+    /// Hands a newcomer by a listener of its role to a place that is free, or becomes so in this time, or gives it back.
     pub(crate) fn enter<R: Wait + Clock>(
         &self,
         rt: &R,
@@ -291,7 +291,7 @@ impl<R: Wait + Clock + Drop + Copy, G: Log + Drop> TcpDoor<R, G> {
     ghost use Rattle.connections.specs.Browsers.{viewer_state};
     ghost use Rattle.connections.specs.Doors.{role_behind};
 
-    /// The link of a newcomer that came by a gate of the door's role.
+    /// The link of a newcomer that came by a listener of the door's role.
     fn link(&self, entrant: Entrant) -> io::Result<ViewerLink<R>>
         requires { entrant.role ≡ role_behind self.now }
         ensures { IfOk result (λ link. viewer_state link ≡ unused) }
@@ -305,7 +305,7 @@ impl<R: Wait + Clock + Drop + Copy, G: Log + Drop> TcpDoor<R, G> {
     }
 
     /// Receives a newcomer: answers its link, unless that can't be made, nobody is let in any more, or the newcomer
-    /// came by another role's gate. The lobby takes in none of these, but its lock can't keep that for the proof.
+    /// came by another role's listener. The lobby takes in none of these, but its lock can't keep that for the proof.
     fn receive(&mut self, entrant: Entrant) -> Option<ViewerLink<R>>
         ensures { IfSome result (λ link. viewer_state link ≡ unused) }
     {

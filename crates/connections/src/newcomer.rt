@@ -4,13 +4,13 @@ ghost use Rattle.std.specs.Prelude.{◌≡◌, ◌↔◌, IfOk, IsTrue};
 ghost use Rattle.std.specs.Arc.{arc_value};
 ghost use Rattle.connections.specs.Greetings.{IsFromProxy};
 
-use crate::gate::{Entrant, Gate};
 use crate::greeting::Greeting;
 use crate::hello::HELLO_SECONDS;
 use crate::lobby::{Entrance, Lobby};
 use crate::noted::Noted;
 use crate::options::outlast;
 use crate::port::{MOST_STEPS, Newcomer, Port, Progress, header_complaint};
+use crate::role_listener::{Entrant, RoleListener};
 use mio::net::{TcpListener, TcpStream};
 use mio::{Interest, Registry, Token};
 use roles::Role;
@@ -24,13 +24,13 @@ use std::time::{Clock, Duration, Instant};
 /// The seconds that a newcomer may take while no place is left for another.
 const CROWDED_SECONDS: u64 = 1;
 
-/// A port over TCP: its gate, and the lobby, of the gate's role, to which those are let whose own version has come.
+/// A port over TCP: its listener, and the lobby, of the listener's role, to which those are let whose own version has come.
 #[derive(Drop)]
 pub struct TcpEntry {
-    gate: Gate,
+    listener: RoleListener,
     heard: TcpListener,
     lobby: Arc<Lobby, Global>,
-    ghost role: { gate.role ≡ (arc_value lobby).role },
+    ghost role: { listener.role ≡ (arc_value lobby).role },
 }
 
 /// A newcomer over TCP: its role, its greeting, when it came, and the lobby of the port that it came by.
@@ -44,15 +44,19 @@ pub(crate) struct TcpNewcomer {
 }
 
 impl TcpEntry {
-    /// A port of this gate. It fails where the system refuses an option.
-    pub fn new(gate: Gate, lobby: Arc<Lobby, Global>) -> io::Result<TcpEntry>
-        requires { gate.role ≡ (arc_value lobby).role }
-        ensures gate { IfOk result (λ entry. entry.gate ≡ gate) }
+    /// A port of this listener. It fails where the system refuses an option.
+    pub fn new(listener: RoleListener, lobby: Arc<Lobby, Global>) -> io::Result<TcpEntry>
+        requires { listener.role ≡ (arc_value lobby).role }
+        ensures listener { IfOk result (λ entry. entry.listener ≡ listener) }
         ensures lobby { IfOk result (λ entry. arc_value entry.lobby ≡ arc_value lobby) }
     {
-        gate.listener().set_nonblocking(true)?;
-        let heard = TcpListener::from_std(gate.listener().try_clone()?);
-        Ok(TcpEntry { gate, heard, lobby })
+        listener.socket().set_nonblocking(true)?;
+        let heard = TcpListener::from_std(listener.socket().try_clone()?);
+        Ok(TcpEntry {
+            listener,
+            heard,
+            lobby,
+        })
     }
 }
 
@@ -70,11 +74,11 @@ impl Port for TcpEntry {
     }
 
     fn accept<R: Clock>(&self, rt: &R, _alloc: Global, _means: &()) -> io::Result<TcpNewcomer>
-        ensures role { IfOk result (λ comer. comer.role ≡ self.now.gate.role) }
-        ensures proxied { IfOk result (λ comer. IsTrue comer.greeting.whence.is_proxied ↔ IsFromProxy self.now.gate.proxy comer.greeting.whence.peer) }
+        ensures role { IfOk result (λ comer. comer.role ≡ self.now.listener.role) }
+        ensures proxied { IfOk result (λ comer. IsTrue comer.greeting.whence.is_proxied ↔ IsFromProxy self.now.listener.proxy comer.greeting.whence.peer) }
         ensures lobby { IfOk result (λ comer. arc_value comer.lobby ≡ arc_value self.now.lobby) }
     {
-        let arrival = self.gate.accept()?;
+        let arrival = self.listener.accept()?;
         arrival.stream().set_nonblocking(true)?;
         outlast(arrival.stream(), self.lobby.stalled())?;
         let role = arrival.role();

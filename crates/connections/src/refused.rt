@@ -2,11 +2,11 @@
 
 ghost use Rattle.std.specs.Prelude.{◌<◌, ◌≤◌, length};
 
-use crate::gate::Entrant;
 use crate::greeted::GreetedSocket;
 use crate::greeting::VERSION_LEN;
 use crate::noted::Noted;
 use crate::refusal::{no_entry_bytes, no_host_bytes, refusal_bytes};
+use crate::role_listener::Entrant;
 use crate::socket::Socket;
 use mio::net::TcpStream;
 use run_traits::{Event, Log, Way};

@@ -9,7 +9,7 @@ use crate::wire::{Peer, Wire};
 use arrayvec::ArrayVec;
 use host_turns::NoHosts;
 use joined_runs::Runs;
-use reflector::{InputWatch, Running, run_all};
+use reflector::{InputCounts, Running, run_all};
 use rfb_wire::Joined;
 use roles::Role;
 use run_traits::{Door, NoAlarm};
@@ -60,7 +60,7 @@ where
         Runs::Joined,
         everyone,
         alarm,
-        Arc::new(alloc, InputWatch::new())?,
+        Arc::new(alloc, InputCounts::new())?,
     )?;
     let Running {
         result,

@@ -1,6 +1,6 @@
 //! What the threads of a run share.
 
-use crate::input_watch::InputWatch;
+use crate::input_counts::InputCounts;
 use joined_runs::Runs;
 use run_traits::{Alarm, Stop};
 use std::alloc::Global;
@@ -18,6 +18,6 @@ pub(crate) struct RunContext<R: Wait + Drop, B: Alarm + Drop, W: Alarm + Drop> {
     /// Rung after each input that was sent: the host's writer.
     pub(crate) writer: Arc<W, Global>,
     /// Where it is read how much input waits, and how much was dropped.
-    pub(crate) input: Arc<InputWatch, Global>,
+    pub(crate) input: Arc<InputCounts, Global>,
     pub(crate) stop: Arc<Stop<Arc<B, Global>>, Global>,
 }

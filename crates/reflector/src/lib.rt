@@ -8,7 +8,7 @@
 
 mod context;
 mod counted;
-mod input_watch;
+mod input_counts;
 mod join;
 mod law;
 mod place;
@@ -20,7 +20,7 @@ mod turns;
 mod writer;
 mod written;
 
-pub use input_watch::InputWatch;
+pub use input_counts::InputCounts;
 pub use join::join_place;
 pub use law::{
     looks_and_cuts_are_one_history, viewers_that_look_on_send_nothing, visits_are_of_one_list,

@@ -17,7 +17,7 @@ ghost use Rattle.host_turns.specs.Running.{HasRun, IsLinkOf, IsOver, goes_on};
 ghost use Rattle.reflector.specs.Visits.{IsOfScreen};
 
 use crate::context::RunContext;
-use crate::input_watch::InputWatch;
+use crate::input_counts::InputCounts;
 use crate::place::{PlaceHandle, start_place};
 use crate::reader::{HostsRead, ReaderHandle, start_reader};
 use crate::session_maker::SessionMaker;
@@ -321,7 +321,7 @@ pub fn run_all<J, L, H, D, B, W, R>(
     runs: Runs,
     everyone: Arc<B, Global>,
     writer_bell: Arc<W, Global>,
-    input: Arc<InputWatch, Global>,
+    input: Arc<InputCounts, Global>,
 ) -> Result<Running<L, H, Publisher<J, R>, Watcher<J>, D, R>, Fault>
 where
     J: Naming + Publishes + Send + Sync + 'static,

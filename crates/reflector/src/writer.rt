@@ -9,7 +9,7 @@ ghost use Rattle.reflector.specs.Tellings.{HasTold, desk};
 ghost use Rattle.reflector.specs.Written.{links_in};
 
 use crate::context::RunContext;
-use crate::input_watch::{InputWatch, Untold};
+use crate::input_counts::{InputCounts, Untold};
 use crate::turns::{LinkTurns, Round};
 use crate::written::Written;
 use fault::Fault;
@@ -100,7 +100,7 @@ fn tell<L: Link, W: Alarm + Drop, S: ScreenSource + Drop, Z: Rest, R: Wait + Dro
     source: S,
     mut taker: Taker<R>,
     mut strokes: Strokes,
-    input: Arc<InputWatch, Global>,
+    input: Arc<InputCounts, Global>,
     rest: &Z,
 ) -> HostsTold<L, R>
     requires { (s : S) → IsScreenSize (S.width s) (S.height s) }
@@ -135,7 +135,7 @@ fn tell_beside<L, S, Z, W, R>(
     source: S,
     taker: Taker<R>,
     strokes: Strokes,
-    input: Arc<InputWatch, Global>,
+    input: Arc<InputCounts, Global>,
 ) -> Result<WriterHandle<L, S, R>, Fault>
 where
     L: Link + Send + 'static,

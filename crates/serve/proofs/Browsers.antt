@@ -4,14 +4,14 @@ use Rattle.std.proofs.lemmas.List.Elements.{All-append, All-cons, All-nil}
 use Rattle.std.specs.Prelude.{IfSome, MatchOption}
 use Rattle.roles.specs.declared.role.Role.{Role}
 use Rattle.roles.specs.declared.role.Role.TheVariants.{Full, View}
-use Rattle.web_door.specs.declared.table.WebFile.{WebFile}
+use Rattle.web_site.specs.declared.table.WebFile.{WebFile}
 use Rattle.plan.specs.declared.plan.Plan.{Plan}
 use Rattle.connections.specs.declared.caller.WebEntry.{WebEntry}
 use Rattle.serve.specs.Browsers.{AreWebEntries, IsWebEntryFor}
 
 -- What holds of each of them.
 abbrev Own : Plan → List WebFile → WebEntry → Type 0
-Own plan files entry = IsWebEntryFor entry.gate.role plan files entry
+Own plan files entry = IsWebEntryFor entry.listener.role plan files entry
 
 own : (role : Role) (plan : Plan) (files : List WebFile) (entry : WebEntry) → IsWebEntryFor role plan files entry → Own plan files entry
 own role plan files entry is = subst (λ (r : Role). IsWebEntryFor r plan files entry) (sym is.comes_as) is

@@ -4,9 +4,9 @@ use Rattle.std.specs.Arc.{arc_value}
 use Rattle.std.specs.String.{string_bytes}
 use Rattle.roles.specs.declared.role.Role.{Role}
 use Rattle.roles.specs.declared.role.Role.TheVariants.{Full, View}
-use Rattle.web_door.specs.Landings.{LeadsToStart}
-use Rattle.web_door.specs.declared.site.Site.{Site}
-use Rattle.web_door.specs.declared.table.WebFile.{WebFile}
+use Rattle.web_site.specs.Landings.{LeadsToStart}
+use Rattle.web_site.specs.declared.site.Site.{Site}
+use Rattle.web_site.specs.declared.table.WebFile.{WebFile}
 use Rattle.plan.specs.Addresses.{IsProxyFor}
 use Rattle.plan.specs.declared.plan.Plan.{Plan}
 use Rattle.connections.specs.declared.caller.WebEntry.{WebEntry}
@@ -26,10 +26,10 @@ pub record IsSiteFor (role : Role) (plan : Plan) (files : List WebFile) (site : 
 -- Who comes by the port has this role, asks such a site, and is believed to come from elsewhere only by the plan's
 -- proxy.
 pub record IsWebEntryFor (role : Role) (plan : Plan) (files : List WebFile) (entry : WebEntry) : Type 0 where
-  pub comes_as : entry.gate.role ≡ role
-  pub believes : IsProxyFor plan entry.gate.proxy
+  pub comes_as : entry.listener.role ≡ role
+  pub believes : IsProxyFor plan entry.listener.proxy
   pub asks : IsSiteFor role plan files (arc_value entry.site)
 
 -- Each of the ports is one for its own role.
 abbrev pub AreWebEntries : Plan → List WebFile → List WebEntry → Type 0
-AreWebEntries plan files entries = All (λ entry. IsWebEntryFor entry.gate.role plan files entry) entries
+AreWebEntries plan files entries = All (λ entry. IsWebEntryFor entry.listener.role plan files entry) entries

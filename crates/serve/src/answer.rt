@@ -17,7 +17,7 @@ use crate::surroundings::Surroundings;
 use crate::trouble::Trouble;
 use fault::Fault;
 use plan::{Plan, status_of};
-use run_watch::Gravity;
+use run_reports::Gravity;
 use std::alloc::{AllocGlobal, Global};
 use std::env::Env;
 use std::rt::Files;

@@ -3,7 +3,7 @@
 ghost use Rattle.std.specs.Prelude.{◌≡◌, ◌++◌, ◌∷◌, [], IfOk, OnOk};
 ghost use Rattle.serve.specs.Ports.{IsAskedAtMost};
 
-use connections::Gate;
+use connections::RoleListener;
 use roles::Role;
 use std::alloc::Global;
 use std::io;
@@ -53,7 +53,7 @@ impl Ports {
 /// A listener for the viewers of a role, with the address at which the system was asked for it.
 #[derive(Drop)]
 pub(crate) struct Bound {
-    gate: Gate,
+    listener: RoleListener,
     address: SocketAddr,
 }
 
@@ -68,22 +68,22 @@ impl Bound {
         proxy: Option<IpAddr>,
     ) -> io::Result<Bound>
         ensures address { IfOk result (λ bound. bound.address ≡ address) }
-        ensures role { IfOk result (λ bound. bound.gate.role ≡ role) }
-        ensures proxy { IfOk result (λ bound. bound.gate.proxy ≡ proxy) }
+        ensures role { IfOk result (λ bound. bound.listener.role ≡ role) }
+        ensures proxy { IfOk result (λ bound. bound.listener.proxy ≡ proxy) }
         ensures ok { OnOk result (ports.new ≡ ports.old ++ address ∷ []) }
         ensures asked { IsAskedAtMost address ports.old ports.new }
     {
-        let listener = ports.listen(rt, address)?;
+        let socket = ports.listen(rt, address)?;
         Ok(Bound {
-            gate: Gate::new(listener, role).behind(proxy),
+            listener: RoleListener::new(socket, role).behind(proxy),
             address,
         })
     }
 
     /// The listener, with the role and the proxy, for whoever owns it from now on.
-    pub(crate) fn into_gate(self) -> Gate
-        ensures { result ≡ self.gate }
+    pub(crate) fn into_listener(self) -> RoleListener
+        ensures { result ≡ self.listener }
     {
-        self.gate
+        self.listener
     }
 }

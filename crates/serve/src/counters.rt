@@ -3,9 +3,9 @@
 use connections::Glance;
 use metrics_text::{ByRole, Counters, Lag};
 use plan::{Plan, places_of};
-use reflector::InputWatch;
+use reflector::InputCounts;
 use roles::Role;
-use run_watch::Tally;
+use run_reports::Tally;
 use std::alloc::{AllocError, Global};
 use std::sync::Wait;
 
@@ -61,7 +61,7 @@ pub(crate) fn counters_of<R: Wait>(
     glance: &Glance,
     tally: &Tally,
     places: ByRole,
-    input: &InputWatch,
+    input: &InputCounts,
 ) -> Result<Counters, AllocError> {
     Ok(Counters {
         is_joined: glance.host.is_some(),

@@ -7,7 +7,7 @@ use jiff::Timestamp;
 use notify::standard_error_has_room;
 use roles::Role;
 use run_traits::{Event, Log, Parting, PlaceId, Visit, Way};
-use run_watch::{Gravity, Ledger, Paper, prefix_of};
+use run_reports::{Gravity, Ledger, Paper, prefix_of};
 use std::alloc::{AllocError, Global};
 use std::fmt;
 use std::fmt::{Display, Formatter};

@@ -17,7 +17,7 @@ use connections::Desk;
 use fault::Fault;
 use metrics_text::ByRole;
 use plan::{Plan, metrics_address_of};
-use reflector::InputWatch;
+use reflector::InputCounts;
 use run_control::Entry;
 use run_traits::Log;
 use std::alloc::{AllocGlobal, Global};
@@ -29,7 +29,7 @@ use std::sync::{Arc, Wait};
 use std::thread::{Builder, Threads};
 use std::time::{Clock, Duration, Instant};
 use std::{io, thread};
-use watch_door::{Watched, answer_one};
+use metrics_site::{Watched, answer_one};
 
 /// A machine has so many seconds for its request, and to take the answer. One is answered after another.
 const PATIENCE_SECONDS: u64 = 2;
@@ -96,7 +96,7 @@ struct Sources<R: Eprint + Clock + Wait + Drop> {
     alloc: Global,
     desk: Arc<Desk, Global>,
     sentry: Sentry<R>,
-    input: Arc<InputWatch, Global>,
+    input: Arc<InputCounts, Global>,
     places: ByRole,
     keys: RandomState,
 }
@@ -143,7 +143,7 @@ fn start_metrics<R>(
     listener: Option<TcpListener>,
     desk: &Arc<Desk, Global>,
     sentry: &Sentry<R>,
-    input: &Arc<InputWatch, Global>,
+    input: &Arc<InputCounts, Global>,
 ) -> Result<(), Trouble>
 where
     R: Eprint + Threads + Wait + Clock + RandomSource + Copy + Drop + Send + 'static,
@@ -200,7 +200,7 @@ where
         entrances,
         machines,
     } = opened;
-    let Ok(input) = Arc::new(alloc, InputWatch::new()) else {
+    let Ok(input) = Arc::new(alloc, InputCounts::new()) else {
         return Err(Trouble::new(Stage::Start, Fault::Memory));
     };
     let desk = entrances.view.lobby.desk();

@@ -26,8 +26,8 @@ pub(crate) struct Entry<'a> {
     pub(crate) bound: Bound,
     pub(crate) lobby: Arc<Lobby, Global>,
     pub(crate) ghost port: { socket_port bound.address ≡ port_for (arc_value lobby).role plan },
-    pub(crate) ghost proxy: { ∥ IsProxyFor plan bound.gate.proxy ∥₁ },
-    pub(crate) ghost role: { bound.gate.role ≡ (arc_value lobby).role },
+    pub(crate) ghost proxy: { ∥ IsProxyFor plan bound.listener.proxy ∥₁ },
+    pub(crate) ghost role: { bound.listener.role ≡ (arc_value lobby).role },
 }
 
 /// Listens for the viewers of a role, where the plan says, and tells the log where.
@@ -45,7 +45,7 @@ pub(crate) fn open<'a, R: Net<Stream = TcpStream, Listener = TcpListener>, G: Lo
     ensures plan { IfOk result (λ entry. entry.plan ≡ plan.now) }
     ensures address { IfOk result (λ entry. IsAddressFor role plan.now entry.bound.address) }
     ensures role { IfOk result (λ entry. (arc_value entry.lobby).role ≡ role) }
-    ensures proxy { IfOk result (λ entry. IsProxyFor plan.now entry.bound.gate.proxy) }
+    ensures proxy { IfOk result (λ entry. IsProxyFor plan.now entry.bound.listener.proxy) }
     ensures stalled { IfOk result (λ entry. (arc_value entry.lobby).stalled ≡ plan.now.stalled) }
 {
     let places = places_of(plan, role);

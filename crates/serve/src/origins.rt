@@ -5,7 +5,7 @@ ghost use Rattle.std.specs.String.{string_bytes};
 
 use std::alloc::{AllocError, Global};
 use std::net::SocketAddr;
-use web_door::Admission;
+use web_site::Admission;
 
 /// The port that a browser leaves out of an address of http.
 const HTTP: u16 = 80;

@@ -167,7 +167,7 @@ fn porter_of(rt: &impl Net, alloc: Global, entry: Entry<'_>) -> io::Result<TcpPo
         bound,
         lobby,
     } = entry;
-    TcpPorter::new(rt, alloc, TcpEntry::new(bound.into_gate(), lobby)?)
+    TcpPorter::new(rt, alloc, TcpEntry::new(bound.into_listener(), lobby)?)
 }
 
 /// Starts the thread that lets the viewers of a role in.

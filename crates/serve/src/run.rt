@@ -25,7 +25,7 @@ use host_turns::Hosts;
 use joined_runs::Runs;
 use link::{Link, Rest};
 use plan::{Plan, runs_of};
-use reflector::{InputWatch, Running, run_all};
+use reflector::{InputCounts, Running, run_all};
 use rfb_wire::Joined;
 use roles::Role;
 use run_traits::{Alarm, Door, Log};
@@ -50,7 +50,7 @@ fn over<J, L, H, D, B, W, R>(
     runs: Runs,
     everyone: Arc<B, Global>,
     writer: Arc<W, Global>,
-    input: Arc<InputWatch, Global>,
+    input: Arc<InputCounts, Global>,
 ) -> Result<(), Fault>
 where
     J: Naming + Publishes + Send + Sync + 'static,
@@ -170,7 +170,7 @@ impl<G: Log + Clone + Drop> Common<G> {
     fn new(
         alloc: Global,
         entrances: &Entrances<'_>,
-        input: Arc<InputWatch, Global>,
+        input: Arc<InputCounts, Global>,
         log: &G,
     ) -> Result<Common<G>, AllocError> {
         let seat = Arc::new(alloc, WriterSeat::new())?;
@@ -190,7 +190,7 @@ pub(crate) fn run<G, R>(
     alloc: Global,
     plan: &Plan<'_>,
     entrances: Entrances<'_>,
-    input: Arc<InputWatch, Global>,
+    input: Arc<InputCounts, Global>,
     log: &G,
 ) -> Result<(), Trouble>
 where

@@ -6,7 +6,7 @@ use notify::Notifier;
 use plan::{Plan, places_of};
 use roles::Role;
 use run_traits::{Event, Log};
-use run_watch::{Happening, Notice, Ready, Tally, notice_text};
+use run_reports::{Happening, Notice, Ready, Tally, notice_text};
 use std::alloc::{AllocError, Global};
 use std::net::{Net, SocketAddr};
 use std::sync::{Arc, Mutex, Wait};

@@ -23,7 +23,7 @@ use std::net::{Net, SocketAddr, TcpListener, TcpStream};
 use std::rt::Files;
 use std::sync::Arc;
 use std::thread::Builder;
-use web_door::{FileTable, Site};
+use web_site::{FileTable, Site};
 use web_root::{RootFault, SystemDisk, read_all};
 
 /// The files of the plan's folder, if it names one.
@@ -124,7 +124,7 @@ fn open_web<R: Net<Stream = TcpStream, Listener = TcpListener>, G: Log>(
         Ok(bound) => bound,
         Err(error) => return Err(Trouble::of(Stage::ListenWeb(role), error)),
     };
-    match WebEntry::new(bound.into_gate(), site, lobby) {
+    match WebEntry::new(bound.into_listener(), site, lobby) {
         Ok(web) => {
             let places = places_of(plan, role);
             log.note(&Event::Listening {

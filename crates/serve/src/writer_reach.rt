@@ -1,7 +1,7 @@
 //! The hosts' writer, as the rest of a run reaches it.
 
 use connections::WriterSeat;
-use reflector::InputWatch;
+use reflector::InputCounts;
 use std::alloc::{AllocError, Global};
 use std::sync::Arc;
 
@@ -11,7 +11,7 @@ pub(crate) struct WriterReach {
     /// Where it rests.
     pub(crate) seat: Arc<WriterSeat, Global>,
     /// What is read of the input that it takes.
-    pub(crate) input: Arc<InputWatch, Global>,
+    pub(crate) input: Arc<InputCounts, Global>,
 }
 
 impl WriterReach {

@@ -4,12 +4,12 @@ use Rattle.std.specs.Prelude.{IsSomeAnd, OnOk, Result, Ok, Err, String}
 use Rattle.std.proofs.lemmas.List.Elements.{All-nil, All-cons, All-append}
 use Rattle.std.specs.declared.alloc.Global.{Global}
 use Rattle.std.specs.String.{string_bytes}
-use Rattle.web_door.specs.declared.walk.Found.{Found}
-use Rattle.web_door.specs.declared.walk.Found.TheVariants.{File}
-use Rattle.web_door.specs.declared.table.WebFile.{WebFile}
-use Rattle.web_door.specs.declared.kind.Kind.{Kind}
-use Rattle.web_door.specs.Kinds.{kind_by_name}
-use Rattle.web_door.specs.Tables.{IsAdded}
+use Rattle.web_site.specs.declared.walk.Found.{Found}
+use Rattle.web_site.specs.declared.walk.Found.TheVariants.{File}
+use Rattle.web_site.specs.declared.table.WebFile.{WebFile}
+use Rattle.web_site.specs.declared.kind.Kind.{Kind}
+use Rattle.web_site.specs.Kinds.{kind_by_name}
+use Rattle.web_site.specs.Tables.{IsAdded}
 use Rattle.web_root.specs.Roots.{IsFileOf}
 
 abbrev file_of : String Global → List ℕ → Kind → WebFile

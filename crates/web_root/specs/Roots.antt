@@ -1,9 +1,9 @@
 -- What a table of files was read from.
 use Rattle.std.specs.Prelude.{ℕ, List}
 use Rattle.std.specs.String.{string_bytes}
-use Rattle.web_door.specs.declared.walk.Found.{Found}
-use Rattle.web_door.specs.declared.walk.Found.TheVariants.{File}
-use Rattle.web_door.specs.declared.table.WebFile.{WebFile}
+use Rattle.web_site.specs.declared.walk.Found.{Found}
+use Rattle.web_site.specs.declared.walk.Found.TheVariants.{File}
+use Rattle.web_site.specs.declared.table.WebFile.{WebFile}
 
 -- A disk said that a regular file is under the path of this one, and gave its bytes as that one's.
 abbrev pub IsFileOf : (List ℕ → Found → Type 0) → (List ℕ → List ℕ → Type 0) → WebFile → Type 0

@@ -1,11 +1,11 @@
 //! Where files are read.
 
 ghost use Rattle.std.specs.Prelude.{List, ℕ, IfOk};
-ghost use Rattle.web_door.specs.declared.walk.Found.{Found};
+ghost use Rattle.web_site.specs.declared.walk.Found.{Found};
 
 use std::alloc::Global;
 use std::io;
-use web_door::Found;
+use web_site::Found;
 
 /// Where files are read: the system's disk in a run, what a test has in memory otherwise. Paths are those below a root,
 /// from a slash on; the root's is empty.

@@ -5,7 +5,7 @@ ghost use Rattle.web_root.specs.declared.fault.RootFault.TheVariants.{Memory};
 use std::alloc::{AllocError, AllocFailed};
 use std::io;
 use std::io::ErrorKind;
-use web_door::TableFault;
+use web_site::TableFault;
 
 /// Why the files of a folder weren't read.
 #[derive(Clone, Copy, Debug, PartialEq, Eq, thiserror::Error)]

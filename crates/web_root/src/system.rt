@@ -7,7 +7,7 @@ use std::fs::Metadata;
 use std::io::Read;
 use std::rt::Files;
 use std::{fs, io};
-use web_door::Found;
+use web_site::Found;
 
 /// The system's disk below a folder. No clause says what it has.
 #[derive(Drop)]

@@ -2,14 +2,14 @@
 
 ghost use Rattle.std.specs.Prelude.{◌≡◌, All, IfOk, OnOk, ℕ};
 ghost use Rattle.std.specs.String.{string_bytes};
-ghost use Rattle.web_door.specs.declared.walk.Found.TheVariants.{File};
+ghost use Rattle.web_site.specs.declared.walk.Found.TheVariants.{File};
 ghost use Rattle.web_root.specs.Roots.{IsFileOf};
 
 use crate::disk::Disk;
 use crate::fault::RootFault;
 use bytes::Bytes;
 use std::alloc::{AllocError, Global};
-use web_door::{FileTable, MOST_BYTES, Step};
+use web_site::{FileTable, MOST_BYTES, Step};
 
 /// At most this many folders are entered.
 pub const MOST_FOLDERS: usize = 2_000;

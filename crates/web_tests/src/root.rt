@@ -5,8 +5,8 @@ use std::io::ErrorKind;
 use std::os::unix;
 use std::test::Fail;
 use std::{fs, io};
-use web_door::{Found, TableFault};
 use web_root::{Disk, RootFault, SystemDisk, read_all};
+use web_site::{Found, TableFault};
 
 /// A disk in memory: the path of each thing, what it is, and its bytes.
 #[derive(Drop)]

@@ -2,7 +2,7 @@
 
 use bytes::Bytes;
 use std::test::Fail;
-use web_door::{FileTable, Found, Kind, Step, TableFault};
+use web_site::{FileTable, Found, Kind, Step, TableFault};
 
 #[test]
 fn files_of_known_endings_go_in(rt: HostRuntime) -> Result<(), Fail> {

@@ -5,7 +5,7 @@ use std::alloc::{AllocError, Global};
 use std::hash::RandomState;
 use std::sync::Arc;
 use std::test::Fail;
-use web_door::{Admission, FileTable, Guest, Site};
+use web_site::{Admission, FileTable, Guest, Site};
 
 /// A connection is gone on with at most this many times.
 const MOST_TURNS: usize = 100_000;

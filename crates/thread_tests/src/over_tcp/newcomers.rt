@@ -1,7 +1,7 @@
 //! Who comes to a port and isn't a viewer yet: some leave, some are silent, and some come through a proxy.
 
 use crate::over_tcp::sockets::{VERSION, come, connect, listen, make_seat};
-use connections::{Desk, Gate, Lobby, MOST_GUESTS, TcpDoor, TcpEntry, TcpPorter};
+use connections::{Desk, RoleListener, Lobby, MOST_GUESTS, TcpDoor, TcpEntry, TcpPorter};
 use link::{Gave, Link, Took};
 use roles::Role;
 use run_traits::{Door, Event, Log};
@@ -267,11 +267,11 @@ where
 {
     let alloc = net.alloc();
     let millis = AtomicU64::new(0);
-    let gate = Gate::new(listen(net)?, Role::Full).behind(proxy);
-    let address = gate.listener().local_addr()?;
+    let listener = RoleListener::new(listen(net)?, Role::Full).behind(proxy);
+    let address = listener.socket().local_addr()?;
     let desk = Arc::new(alloc, Desk::new(alloc, 1)?)?;
     let lobby = Arc::new(alloc, Lobby::new(alloc, Role::Full, 1, 60, desk)?)?;
-    let porter = TcpPorter::new(net, alloc, TcpEntry::new(gate, Arc::try_clone(&lobby)?)?)?;
+    let porter = TcpPorter::new(net, alloc, TcpEntry::new(listener, Arc::try_clone(&lobby)?)?)?;
     let log = Notebook {
         rt,
         count: AtomicU64::new(0),

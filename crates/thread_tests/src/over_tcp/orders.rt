@@ -1,7 +1,7 @@
 //! What an operator asks while viewers come: nobody is let in, one is sent away, and all are.
 
 use crate::over_tcp::sockets::{VERSION, come, listen, make_seat};
-use connections::{Desk, Gate, Lobby, TcpDoor, TcpEntry, TcpPorter};
+use connections::{Desk, RoleListener, Lobby, TcpDoor, TcpEntry, TcpPorter};
 use link::{Gave, Link, Took};
 use roles::Role;
 use run_control::{Entry, Outcome, Request};
@@ -128,13 +128,13 @@ fn opens<R: Threads + Wait + Clock + Copy + Drop + Send + Sync>(
     net: &HostRuntime,
 ) -> io::Result<((u64, u64), bool)> {
     let alloc = net.alloc();
-    let gate = Gate::new(listen(net)?, Role::Full);
-    let address = gate.listener().local_addr()?;
+    let listener = RoleListener::new(listen(net)?, Role::Full);
+    let address = listener.socket().local_addr()?;
     let seat = make_seat(net)?;
     let desk = Arc::new(alloc, Desk::new(alloc, 1)?)?;
     let lobby = Lobby::new(alloc, Role::Full, 1, 60, Arc::try_clone(&desk)?)?;
     let lobby = Arc::new(alloc, lobby)?;
-    let porter = TcpPorter::new(net, alloc, TcpEntry::new(gate, Arc::try_clone(&lobby)?)?)?;
+    let porter = TcpPorter::new(net, alloc, TcpEntry::new(listener, Arc::try_clone(&lobby)?)?)?;
     let mut door = TcpDoor::new(rt, alloc, Arc::try_clone(&lobby)?, seat, 1, NoLog);
     let house = House {
         net,

@@ -17,7 +17,7 @@ use joined_runs::Runs;
 use link::Link;
 use raster::Rect;
 use reflect_core::{Cut, ScreenSource};
-use reflector::{InputWatch, Place, Running, join_place, run_all};
+use reflector::{InputCounts, Place, Running, join_place, run_all};
 use rfb_wire::Joined;
 use roles::Role;
 use run_traits::{Door, NoAlarm, PlaceCount};
@@ -93,7 +93,7 @@ fn ends<J, L, H, D, R>(
     rt: R,
     alloc: Global,
     running: Running<L, H, Publisher<J, R>, Watcher<J>, D, R>,
-    input: &InputWatch,
+    input: &InputCounts,
     view: &View,
     end: &End,
 ) -> Result<bool, Fail>
@@ -183,7 +183,7 @@ where
     name.push(b'T');
     let everyone = Arc::new(alloc, NoAlarm)?;
     let alarm = Arc::new(alloc, NoAlarm)?;
-    let input = Arc::new(alloc, InputWatch::new())?;
+    let input = Arc::new(alloc, InputCounts::new())?;
     let mut hosts = Queue {
         alloc,
         board: Arc::try_clone(board)?,

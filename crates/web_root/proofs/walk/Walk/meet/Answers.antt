@@ -1,5 +1,5 @@
 use Rattle.std.proofs.Common.{List, All, sym, subst}
-use Rattle.web_door.specs.declared.table.WebFile.{WebFile}
+use Rattle.web_site.specs.declared.table.WebFile.{WebFile}
 use Rattle.web_root.specs.Roots.{IsFileOf}
 use Rattle.web_root.proofs.Rooting.{anyway}
 use Rattle.web_root.proofs.walk.Walk.meet.Goals as goal

@@ -1,0 +1,206 @@
+//! Listeners of a role, and who comes by them.
+
+ghost use Rattle.std.specs.Prelude.{◌≡◌, ◌↔◌, IfOk, IfSome, IsTrue, None, Ok, Some, []};
+ghost use Rattle.run_traits.specs.declared.event.Way.TheVariants.{Tcp, Web};
+ghost use Rattle.connections.specs.Greetings.{IsFromProxy, IsGreeted, IsKnown, IsSameComer, untouched};
+ghost use Rattle.web_site.specs.Guests.{IsLetIn};
+
+use crate::greeted::GreetedSocket;
+use crate::greeting::Greeting;
+use crate::noted::Noted;
+use crate::whence::Whence;
+use roles::Role;
+use run_traits::Way;
+use std::io;
+use std::net::{IpAddr, SocketAddr, TcpListener, TcpStream};
+use web_site::Guest;
+
+/// A listener for the viewers of one role, and the proxy whose headers are believed, if one is.
+#[derive(Drop)]
+pub struct RoleListener {
+    socket: TcpListener,
+    role: Role,
+    proxy: Option<IpAddr>,
+}
+
+/// A newcomer that came by a listener: its stream, the role of that listener, and from where it comes. Only a listener makes one.
+#[derive(Drop)]
+pub struct Arrival {
+    stream: TcpStream,
+    role: Role,
+    whence: Whence,
+}
+
+/// A newcomer that may be let to a lobby: its socket, its role, how its bytes travel, and its address, if anyone told
+/// it. Over TCP it has said a version, and was told one. Only a newcomer that came by a listener becomes one.
+#[derive(Drop)]
+pub struct Entrant {
+    socket: GreetedSocket<Noted<mio::net::TcpStream>>,
+    role: Role,
+    way: Way,
+    address: Option<SocketAddr>,
+    ghost unsent: { socket.sent ≡ [] },
+    ghost unreceived: { socket.received ≡ [] },
+    ghost greeted: { way ≡ Tcp → IsGreeted socket },
+}
+
+impl RoleListener {
+    /// A listener over this socket, for the viewers of this role. No proxy is believed.
+    pub fn new(socket: TcpListener, role: Role) -> RoleListener
+        ensures { (result.socket ≡ socket) × (result.role ≡ role) × (result.proxy ≡ None) }
+    {
+        RoleListener {
+            socket,
+            role,
+            proxy: None,
+        }
+    }
+
+    /// The same listener, where the headers of this proxy are believed, if there is one.
+    pub fn behind(self, proxy: Option<IpAddr>) -> RoleListener
+        ensures { result ≡ record self { proxy = proxy } }
+    {
+        RoleListener { proxy, ..self }
+    }
+
+    /// Its socket.
+    pub fn socket(&self) -> &TcpListener
+        ensures { result.now ≡ self.now.socket }
+    {
+        &self.socket
+    }
+
+    /// The role of those who come by it.
+    pub fn role(&self) -> Role
+        ensures { result ≡ self.now.role }
+    {
+        self.role
+    }
+
+    /// The next newcomer, over TCP as yet. The call waits for it, unless the socket is one that doesn't wait. A
+    /// header is wanted, and believed, of a newcomer that comes from the proxy, and of no other.
+    pub fn accept(&self) -> io::Result<Arrival>
+        ensures role { IfOk result (λ arrival. arrival.role ≡ self.now.role) }
+        ensures proxied { IfOk result (λ arrival. IsTrue arrival.whence.is_proxied ↔ IsFromProxy self.now.proxy arrival.whence.peer) }
+        ensures front { IfOk result (λ arrival. arrival.whence.front ≡ []) }
+    {
+        let (stream, peer) = self.socket.accept()?;
+        Ok(Arrival {
+            stream,
+            role: self.role(),
+            whence: Whence::new(Some(peer), &self.proxy),
+        })
+    }
+}
+
+impl Arrival {
+    /// The role of the listener that it came by.
+    pub fn role(&self) -> Role
+        ensures { result ≡ self.now.role }
+    {
+        self.role
+    }
+
+    /// Its stream.
+    pub fn stream(&self) -> &TcpStream
+        ensures { result.now ≡ self.now.stream }
+    {
+        &self.stream
+    }
+
+    /// From where it comes.
+    pub fn whence(&self) -> &Whence
+        ensures { result.now ≡ self.now.whence }
+    {
+        &self.whence
+    }
+
+    /// Takes the next byte of a proxy's header.
+    pub(crate) fn feed(&mut self, byte: u8)
+        ensures role { self.new.role ≡ self.old.role }
+        ensures same { IsSameComer self.old.whence self.new.whence }
+    {
+        self.whence.feed(byte);
+    }
+
+    /// Its greeting, over TCP. Its stream is to be one that doesn't wait.
+    pub(crate) fn into_greeting(self) -> Greeting<Noted<mio::net::TcpStream>>
+        requires { self.whence.front ≡ [] }
+        ensures { result.whence ≡ self.whence }
+    {
+        let stream = mio::net::TcpStream::from_std(self.stream);
+        Greeting::new(Noted::new(stream), self.whence)
+    }
+
+    /// The same newcomer as one that may be let to a lobby, whose bytes travel in messages, if this guest's handshake
+    /// let it in. None where it didn't, or where the address isn't known yet.
+    pub fn let_in(self, guest: Guest) -> Option<Entrant>
+        ensures role { IfSome result (λ entrant. entrant.role ≡ self.role) }
+        ensures way { IfSome result (λ entrant. entrant.way ≡ Web) }
+        ensures handshake { IfSome result (λ _. ∥ IsLetIn guest ∥₁) }
+        ensures address { IfSome result (λ entrant. IsKnown self.whence (Some (Ok entrant.address))) }
+        ensures socket { IfSome result (λ entrant. entrant.socket ≡ untouched) }
+    {
+        if !guest.is_let_in() {
+            return None;
+        }
+        let Some(Ok(address)) = self.whence.known() else {
+            return None;
+        };
+        let stream = mio::net::TcpStream::from_std(self.stream);
+        Some(Entrant {
+            socket: GreetedSocket::new(Noted::new(stream)),
+            role: self.role,
+            way: Way::Web,
+            address,
+        })
+    }
+}
+
+impl Entrant {
+    /// A newcomer whose own version has come over TCP, in a greeting by a listener of this role. None where it hasn't.
+    pub(crate) fn greeted(
+        role: Role,
+        greeting: Greeting<Noted<mio::net::TcpStream>>,
+    ) -> Option<Entrant>
+        ensures role { IfSome result (λ entrant. entrant.role ≡ role) }
+        ensures way { IfSome result (λ entrant. entrant.way ≡ Tcp) }
+        ensures address { IfSome result (λ entrant. IsKnown greeting.whence (Some (Ok entrant.address))) }
+    {
+        let (socket, address) = greeting.done()?;
+        Some(Entrant {
+            socket,
+            role,
+            way: Way::Tcp,
+            address,
+        })
+    }
+
+    /// The role of the listener that it came by.
+    pub fn role(&self) -> Role
+        ensures { result ≡ self.now.role }
+    {
+        self.role
+    }
+
+    /// How its bytes travel.
+    pub fn way(&self) -> Way
+        ensures { result ≡ self.now.way }
+    {
+        self.way
+    }
+
+    /// Its address, if anyone told it.
+    pub fn address(&self) -> Option<SocketAddr>
+        ensures { result ≡ self.now.address }
+    {
+        self.address
+    }
+
+    /// Its socket, for a link.
+    pub(crate) fn into_socket(self) -> GreetedSocket<Noted<mio::net::TcpStream>>
+        ensures { result ≡ self.socket }
+    {
+        self.socket
+    }
+}

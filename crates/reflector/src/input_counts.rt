@@ -1,0 +1,76 @@
+//! What is read of the viewers' input while a run goes on.
+
+ghost use Rattle.std.specs.Prelude.{◌≡◌, ◌≤◌};
+
+use fault::LIMIT;
+use host_writer::DropCount;
+use input_relay::Gauge;
+use std::alloc::Global;
+use std::sync::atomic::{AtomicU64, Ordering};
+use std::sync::{Arc, Mutex, Wait};
+
+/// The viewers' input on its way to the hosts, for whoever asks how a run stands. The places' threads never touch it,
+/// and the one that tells the hosts only stores: the lock is for those who ask.
+#[derive(Drop)]
+pub struct InputCounts {
+    gauge: Mutex<Option<Gauge>>,
+    dropped: AtomicU64,
+}
+
+impl InputCounts {
+    /// Of a run that hasn't begun.
+    pub fn new() -> InputCounts {
+        InputCounts {
+            gauge: Mutex::new(None),
+            dropped: AtomicU64::new(0),
+        }
+    }
+
+    /// From now on those inputs are counted that wait in the relay of this gauge.
+    pub(crate) fn attach<R: Wait>(&self, rt: &R, gauge: Gauge) {
+        *self.gauge.lock(rt) = Some(gauge);
+    }
+
+    /// How many inputs wait for a host, of all places: at most 256, and 0 before the run begins.
+    pub fn waiting<R: Wait>(&self, rt: &R) -> usize
+        ensures { result ≤ 256 }
+    {
+        let mut guard = self.gauge.lock(rt);
+        match &mut *guard {
+            Some(gauge) => gauge.waiting(rt),
+            None => 0,
+        }
+    }
+
+    /// How many inputs were taken for the hosts and not told, of all places: those that another's stroke kept out, the
+    /// release of a key that isn't down, and the press of one too many. No clause says that it is up to date; what a
+    /// run hands back is (`Running`).
+    pub fn dropped(&self) -> u64 {
+        self.dropped.load(Ordering::SeqCst)
+    }
+}
+
+/// How many inputs weren't told, as the thread that tells the hosts counts them, and where others read it.
+#[derive(Drop)]
+pub(crate) struct Untold {
+    pub(crate) count: u64,
+    watch: Arc<InputCounts, Global>,
+}
+
+impl Untold {
+    /// None yet. It is read at this watch.
+    pub(crate) fn new(watch: Arc<InputCounts, Global>) -> Untold
+        ensures { result.count ≡ 0 }
+    {
+        Untold { count: 0, watch }
+    }
+}
+
+impl DropCount for Untold {
+    ghost dropped = { λ untold. untold.count };
+
+    fn count_one(&mut self) {
+        self.count = LIMIT.min(self.count.saturating_add(1));
+        self.watch.dropped.store(self.count, Ordering::SeqCst);
+    }
+}

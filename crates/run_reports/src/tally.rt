@@ -1,0 +1,105 @@
+//! What is counted of a run.
+
+ghost use Rattle.std.specs.Prelude.{◌≡◌};
+ghost use Rattle.run_reports.specs.Tallies.{after, fewer, more, nothing};
+
+use metrics_text::ByRole;
+use roles::Role;
+
+/// What happens at the doors and at the host, as far as it is counted.
+#[derive(Clone, Copy, Debug, PartialEq, Eq)]
+pub enum Happening {
+    /// A host was joined.
+    Joined,
+    /// The host has ended, or wasn't joined.
+    HostLeft,
+    /// A viewer of this role has a place.
+    Came(Role),
+    /// A viewer of this role has left its place.
+    Left(Role),
+    /// One who came by this role's port was refused.
+    Refused(Role),
+}
+
+/// What has happened in a run. No number grows past the greatest.
+#[derive(Clone, Copy, Debug)]
+pub struct Tally {
+    /// Whether a host is joined.
+    pub is_joined: bool,
+    /// How many hosts were joined.
+    pub joins: u64,
+    /// How many viewers have a place.
+    pub viewers: ByRole,
+    /// How many viewers came.
+    pub came: ByRole,
+    /// How many were refused.
+    pub refused: ByRole,
+}
+
+const NONE: ByRole = ByRole { full: 0, view: 0 };
+
+/// One more of a role.
+fn more(numbers: ByRole, role: Role) -> ByRole
+    ensures { result ≡ more numbers role }
+{
+    match role {
+        Role::Full => ByRole {
+            full: numbers.full.saturating_add(1),
+            ..numbers
+        },
+        Role::View => ByRole {
+            view: numbers.view.saturating_add(1),
+            ..numbers
+        },
+    }
+}
+
+/// One fewer of a role.
+fn fewer(numbers: ByRole, role: Role) -> ByRole
+    ensures { result ≡ fewer numbers role }
+{
+    match role {
+        Role::Full => ByRole {
+            full: numbers.full.saturating_sub(1),
+            ..numbers
+        },
+        Role::View => ByRole {
+            view: numbers.view.saturating_sub(1),
+            ..numbers
+        },
+    }
+}
+
+impl Tally {
+    /// Nothing has happened.
+    pub fn new() -> Tally
+        ensures { result ≡ nothing }
+    {
+        Tally {
+            is_joined: false,
+            joins: 0,
+            viewers: NONE,
+            came: NONE,
+            refused: NONE,
+        }
+    }
+
+    /// This has happened.
+    pub fn note(&mut self, happening: Happening)
+        ensures { self.new ≡ after self.old happening }
+    {
+        match happening {
+            Happening::Joined => {
+                self.is_joined = true;
+                self.joins = self.joins.saturating_add(1);
+            }
+            Happening::HostLeft => self.is_joined = false,
+            Happening::Came(role) => {
+                self.viewers = more(self.viewers, role);
+                self.came = more(self.came, role);
+            }
+            Happening::Left(role) => self.viewers = fewer(self.viewers, role),
+            Happening::Refused(role) => self.refused = more(self.refused, role),
+        }
+    }
+}
