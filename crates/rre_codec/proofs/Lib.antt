@@ -4,3 +4,4 @@ pub mod Steps
 pub mod Going
 pub mod LedOn
 mod Front
+pub mod Begun

@@ -5,6 +5,7 @@
 //! below them. What is read is any. Nothing here takes memory or a handle.
 #![tactic(auto)]
 
+mod corners;
 mod reading;
 mod run;
 mod stage;

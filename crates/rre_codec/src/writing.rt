@@ -11,6 +11,7 @@ ghost use Rattle.joined_runs.specs.Joined.{IsEncodedAs, written};
 ghost use Rattle.joined_runs.specs.Found.{subrect_of};
 ghost use Rattle.rre_codec.specs.Putting.{Puts};
 
+use crate::corners::has_joined;
 use crate::run::{COUNT_LEN, put_run, run_len};
 use joined_runs::{RowRun, Runs, height};
 use pixel_format::Format;
@@ -121,8 +122,7 @@ fn put_runs(
     Some(used)
 }
 
-/// Whether a rectangle's runs of rows are seen to be this many, which is told faster than they are written. Joined ones
-/// aren't counted.
+/// Whether a rectangle is seen to have this many runs in a form, which is told faster than they are written.
 fn has_many(form: Runs, values: &[u32], w: usize, h: usize, enough: u64) -> bool
     requires w_some { 0 < w }
     requires h_some { 0 < h }
@@ -133,7 +133,7 @@ fn has_many(form: Runs, values: &[u32], w: usize, h: usize, enough: u64) -> bool
 {
     match form {
         Runs::OfRows => has_runs(values, w, &whole(w, h), enough),
-        Runs::Joined => false,
+        Runs::Joined => has_joined(values, w, h, enough),
     }
 }
 

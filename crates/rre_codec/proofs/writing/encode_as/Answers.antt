@@ -3,9 +3,7 @@ use Rattle.std.specs.List.{flat_map}
 use Rattle.std.specs.Int.{w32, to_be_bytes}
 use Rattle.std.proofs.lemmas.List.{length-take}
 use Rattle.pixel_format.specs.PixelFormat.{pixel_len, pixel_bytes}
-use Rattle.raster.specs.Screen.{Canvas, value_at, part_of}
-use Rattle.raster.proofs.Places.{part_whole}
-use Rattle.std.proofs.lemmas.Bool.{leb-true}
+use Rattle.raster.specs.Screen.{Canvas, value_at}
 use Rattle.std.proofs.lemmas.Grind.{div_ceil_times}
 use Rattle.std.proofs.Math.Nat.{mul-le-mul_right}
 use Rattle.raster.specs.Encoding.{runs, rre_subrect_bytes}

@@ -1,15 +1,14 @@
-use Rattle.std.proofs.Common.{◌≡◌, ◌+◌, ◌*◌, ◌<◌, ◌≤◌, ◌∙◌, List, [], ◌∷◌, arith, get_or, take, length, ℕ, ap}
+use Rattle.std.proofs.Common.{◌≡◌, ◌+◌, ◌*◌, ◌<◌, ◌≤◌, ◌∙◌, List, [], ◌∷◌, arith, get_or, take, length, ℕ}
 use Rattle.std.proofs.lemmas.List.{length-take}
 use Rattle.std.proofs.Math.Nat.{mul-le-mul_right}
 use Rattle.pixel_format.specs.PixelFormat.{pixel_len}
 use Rattle.raster.specs.Screen.{Canvas, value_at}
 use Rattle.raster.specs.Encoding.{Subrect, runs_of_row, run_from}
 use Rattle.raster.proofs.Rows.{row_of, row_at}
-use Rattle.raster.proofs.RowScan.{run_in_row, runs_behind, runs_behind_all, fresh_behind, IsFresh}
+use Rattle.raster.proofs.RowScan.{run_in_row, runs_behind_all, fresh_behind, IsFresh}
 use Rattle.joined_runs.specs.Joined.{written}
-use Rattle.joined_runs.specs.Found.{subrect_of}
 use Rattle.joined_runs.proofs.WrittenParts.{written_none}
-use Rattle.rre_codec.proofs.RunsPut.{HasPut, run_fits, row_puts, row_skips, row_too_long, put_all}
+use Rattle.rre_codec.proofs.RunsPut.{run_fits, row_puts, row_skips, row_too_long, put_all}
 use Rattle.rre_codec.proofs.Lengths.{behind_len}
 use Rattle.rre_codec.proofs.writing.put_row.Goals as goal
 use Rattle.rre_codec.proofs.writing.put_row.Goals.{then-value-background+in_ok-end, else-value-background}

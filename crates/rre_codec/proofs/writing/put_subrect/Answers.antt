@@ -1,15 +1,15 @@
-use Rattle.std.proofs.Common.{◌≡◌, ◌∙◌, ◌+◌, ◌*◌, ◌<◌, ◌≤◌, ◌++◌, ℕ, List, [], ◌∷◌, Option, Some, None, length, take, refl, sym, ap, arith}
+use Rattle.std.proofs.Common.{◌≡◌, ◌∙◌, ◌+◌, ◌*◌, ◌++◌, ℕ, List, [], ◌∷◌, Option, Some, None, length, take, refl, sym, ap, arith}
 use Rattle.std.specs.Prelude.{MatchOption}
 use Rattle.std.specs.List.{flat_map}
 use Rattle.std.proofs.lemmas.List.{append-nil, length-take}
-use Rattle.pixel_format.specs.PixelFormat.{PixelFormat, pixel_len}
+use Rattle.pixel_format.specs.PixelFormat.{pixel_len}
 use Rattle.raster.specs.declared.rect.Rect.{Rect}
 use Rattle.raster.specs.Screen.{Canvas, value_at, part_of}
 use Rattle.raster.specs.Encoding.{Subrect, rre_subrect_bytes}
 use Rattle.raster.proofs.Places.{part_whole}
 use Rattle.joined_runs.specs.Joined.{written}
 use Rattle.joined_runs.specs.Found.{subrect_of, subrect_as_high}
-use Rattle.rre_codec.proofs.Lengths.{one_len, behind_len}
+use Rattle.rre_codec.proofs.Lengths.{behind_len}
 use Rattle.rre_codec.proofs.writing.put_subrect.Goals as goal
 
 pub height-requires : goal.height-requires
