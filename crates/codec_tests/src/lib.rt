@@ -10,6 +10,8 @@ mod hextile_fed;
 #[cfg(test)]
 mod hextile_joined;
 #[cfg(test)]
+mod hextile_kept;
+#[cfg(test)]
 mod hextile_reading;
 #[cfg(test)]
 mod hextile_writing;

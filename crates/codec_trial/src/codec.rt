@@ -10,7 +10,7 @@ use raster::Raster;
 use std::alloc::Global;
 
 /// The number of Hextile (RFC 6143, 7.7.4). The others are RRE (7.7.3).
-const HEXTILE: u8 = 5;
+pub const HEXTILE: u8 = 5;
 
 /// The pixel values in Raw.
 pub fn values_of(alloc: Global, format: &Format, pixels: &[u8]) -> Result<Vec<u32>, Fault> {

@@ -2,16 +2,19 @@
 //!
 //! Without words: over the files `rectangles`, `libvncserver` and `joined`, how many there are, how many are read as the other
 //! program told, and of how many the writer answers what it told. With the words `FILE ROUNDS`: how long each rectangle
-//! of a file takes.
+//! of a file takes; with `kept` behind these, how long joined runs take with kept forms.
 #![tactic(auto)]
 
 mod codec;
+mod kept;
 mod record;
 mod timing;
 
-use codec::{is_read, is_written, values_of};
+use codec::{HEXTILE, is_read, is_written, values_of};
 use fault::Fault;
 use joined_runs::Runs;
+use kept::kept_micros;
+use pixel_format::Format;
 use record::{Answer, Record, read_record};
 use std::alloc::Global;
 use std::test::Fail;
@@ -105,11 +108,33 @@ fn time(rt: &HostRuntime, name: &str, rounds: u64) -> Result<(), Fail> {
     Ok(())
 }
 
+/// Prints for each rectangle in Hextile and the host's format of a file the microseconds in which it is written as joined
+/// runs, without forms and with those of its tiles, and the bytes that were written.
+fn time_kept(rt: &HostRuntime, name: &str, rounds: u64) -> Result<(), Fail> {
+    let bytes = fs::read(rt, name)?;
+    let mut rest = bytes.as_slice();
+    for _ in 0..bytes.len() {
+        let Some((record, behind)) = read_record(rest) else {
+            return Ok(());
+        };
+        if record.encoding == HEXTILE && record.format == Format::HOST {
+            let times = kept_micros(rt, &record, rounds)?;
+            println!(rt; "{} {} {}", times.without, times.with, times.bytes)?;
+        }
+        rest = behind;
+    }
+    Ok(())
+}
+
 fn main(rt: HostRuntime) -> Result<(), Fail> {
     let mut words = env::args(&rt)?;
     words.next();
-    match (words.next(), words.next()) {
-        (Some(name), Some(rounds)) => time(&rt, name.as_str(), rounds.parse::<u64>()?),
-        _ => check(&rt),
+    let (Some(name), Some(rounds)) = (words.next(), words.next()) else {
+        return check(&rt);
+    };
+    let rounds = rounds.parse::<u64>()?;
+    match words.next() {
+        Some(_kept) => time_kept(&rt, name.as_str(), rounds),
+        None => time(&rt, name.as_str(), rounds),
     }
 }

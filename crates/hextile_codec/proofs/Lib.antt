@@ -1,3 +1,6 @@
+pub mod KeptForms
+pub mod FormsOf
+pub mod Tinted
 pub mod Behind
 pub mod Goes
 pub mod HeadRead
@@ -34,7 +37,6 @@ pub mod Buckets
 pub mod Heights
 pub mod Unbroken
 pub mod BreakBits
-pub mod Tinted
 pub mod Sight
 pub mod FourWords
 pub mod LeftBits

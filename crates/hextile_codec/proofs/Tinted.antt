@@ -1,8 +1,9 @@
 -- In a format that keeps colours apart, the kind of a tile of pixel values is that of its colours. So what is found
 -- once in a tile's colours serves each such format.
-use Rattle.std.proofs.Common.{◌≡◌, ℕ, Bool, true, false, cond, ◌&&◌, List, [], ◌∷◌, map, refl, ap, ◌∙◌}
+use Rattle.std.proofs.Common.{◌≡◌, ℕ, Bool, true, false, cond, ◌&&◌, List, [], ◌∷◌, length, map, refl, sym, ap, ◌∙◌}
 use Rattle.std.specs.Prelude.{◌==◌}
 use Rattle.std.specs.List.{list_all}
+use Rattle.std.proofs.lemmas.List.{length-map}
 use Rattle.pixel_format.specs.PixelFormat.{PixelFormat, tint}
 use Rattle.raster.specs.Screen.{Canvas}
 use Rattle.raster.specs.Encoding.{Subrect}
@@ -10,9 +11,11 @@ use Rattle.raster.proofs.Spellings.{Each}
 use Rattle.joined_runs.specs.declared.runs.Runs.{Runs}
 use Rattle.joined_runs.specs.Joined.{subrects_of}
 use Rattle.joined_runs.specs.Tinted.{ShowsApart, tinted_subrect}
-use Rattle.joined_runs.proofs.Recoloured.{same_test, subrects_tinted, colours_apart_in}
+use Rattle.joined_runs.proofs.Recoloured.{background_tinted, same_test, subrects_tinted, colours_apart_in}
+use Rattle.hextile_codec.specs.declared.kind.Head.{Head}
 use Rattle.hextile_codec.specs.declared.kind.Kind.TheVariants.{TwoColours, Coloured}
-use Rattle.hextile_codec.specs.Apart.{tinted_kind}
+use Rattle.hextile_codec.specs.Apart.{tinted_head, tinted_kind}
+use Rattle.hextile_codec.specs.Heads.{IsHeadOf}
 use Rattle.hextile_codec.specs.Kinds.{has_one_value, kind_of}
 
 all_same : (format : PixelFormat) (value : ℕ) (ss : List Subrect) → Each (λ t. tint format t.value ≡ tint format value → t.value ≡ value) ss
@@ -37,3 +40,11 @@ kind_same format (s ∷ ss) h =
 
 pub kind_tinted : (form : Runs) (format : PixelFormat) (w h : ℕ) (colours shown : Canvas) → ShowsApart format w h colours shown → kind_of (subrects_of form w h shown) ≡ tinted_kind format (kind_of (subrects_of form w h colours))
 kind_tinted form format w h colours shown is = ap kind_of (subrects_tinted format w h colours shown is form) ∙ kind_same format (subrects_of form w h colours) (colours_apart_in format w h colours shown is form)
+
+pub head_tinted : (form : Runs) (format : PixelFormat) (w h : ℕ) (colours shown : Canvas) (head : Head) → ShowsApart format w h colours shown → IsHeadOf form w h colours head → IsHeadOf form w h shown (tinted_head format head)
+head_tinted form format w h colours shown head is of =
+    record {
+      background = ap (tint format) of.background ∙ sym (background_tinted format w h colours shown is form);
+      kind = ap (tinted_kind format) of.kind ∙ sym (kind_tinted form format w h colours shown is);
+      count = of.count ∙ sym (ap length (subrects_tinted format w h colours shown is form) ∙ length-map (subrects_of form w h colours) (tinted_subrect format));
+    }

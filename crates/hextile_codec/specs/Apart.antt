@@ -1,5 +1,6 @@
--- A tile's kind by its colours, and by their pixel values in a format that keeps them apart.
+-- A tile's kind and its head by its colours, and by their pixel values in a format that keeps them apart.
 use Rattle.pixel_format.specs.PixelFormat.{PixelFormat, tint}
+use Rattle.hextile_codec.specs.declared.kind.Head.{Head}
 use Rattle.hextile_codec.specs.declared.kind.Kind.{Kind}
 use Rattle.hextile_codec.specs.declared.kind.Kind.TheVariants.{Raw, Plain, TwoColours, Coloured}
 
@@ -9,3 +10,7 @@ tinted_kind format Raw = Raw
 tinted_kind format Plain = Plain
 tinted_kind format (TwoColours foreground) = TwoColours (tint format foreground)
 tinted_kind format Coloured = Coloured
+
+-- A head with its colours as pixel values.
+abbrev pub tinted_head : PixelFormat → Head → Head
+tinted_head format head = record { background = tint format head.background; kind = tinted_kind format head.kind; count = head.count }

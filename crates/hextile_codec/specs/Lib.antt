@@ -1,3 +1,5 @@
+pub mod Kept
+pub mod Apart
 pub mod Ahead
 pub mod Carried
 pub mod Kinds
@@ -7,7 +9,6 @@ pub mod Crowded
 pub mod Buckets
 pub mod TileMarks
 pub mod Breaks
-pub mod Apart
 pub mod Places
 pub mod Reach
 pub mod Heads

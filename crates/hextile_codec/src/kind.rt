@@ -62,7 +62,7 @@ impl Said {
 }
 
 /// The kind of a tile of these runs that isn't Raw.
-fn kind_of(runs: &[Run]) -> Kind
+pub fn kind_of(runs: &[Run]) -> Kind
     ensures { result ≡ kind_of (map subrect_of runs.now) }
 {
     match runs.first() {
@@ -120,7 +120,7 @@ pub struct Head {
 
 impl Head {
     /// What a tile of this head is written as: Raw where that has no more bytes than its drawing.
-    fn choose(&self, format: &Format, tile: &Rect, said: &Colours) -> TileChoice
+    pub fn choose(&self, format: &Format, tile: &Rect, said: &Colours) -> TileChoice
         requires w_most { tile.now.w ≤ TILE_SIDE }
         requires h_most { tile.now.h ≤ TILE_SIDE }
         requires few { self.now.count ≤ TILE_AREA }
@@ -188,7 +188,7 @@ pub fn choose(
 
 /// The kind of a tile of the runs of its rows, by that of its joined runs. In both forms it is told by the tile's values
 /// other than its background.
-fn kind_of_rows(joined: Kind, backgrounds: &Backgrounds) -> Kind
+pub fn kind_of_rows(joined: Kind, backgrounds: &Backgrounds) -> Kind
     ensures { (w h : ℕ) (canvas : Canvas) (found : List Subrect) → 0 < w → 0 < h → AreFound w h canvas found backgrounds.now → joined ≡ kind_of found → result ≡ kind_of (subrects_of OfRows w h canvas) }
 {
     if backgrounds.rows == backgrounds.joined {

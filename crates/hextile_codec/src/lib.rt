@@ -14,6 +14,7 @@ mod drawing;
 mod frequent;
 mod head;
 mod joining;
+mod kept;
 mod kind;
 mod law;
 mod listing;
@@ -30,6 +31,8 @@ mod subrects;
 mod tile_marks;
 mod writing;
 
-pub use law::kind_is_tinted;
+pub use joining::Room;
+pub use kept::{TileForm, form_of_tile};
+pub use law::head_is_tinted;
 pub use reading::Reader;
-pub use writing::{encode, encode_as};
+pub use writing::{encode, encode_as, encode_kept};

@@ -9,11 +9,13 @@ ghost use Rattle.joined_runs.specs.declared.runs.Runs.{Runs};
 ghost use Rattle.joined_runs.specs.declared.runs.Runs.TheVariants.{OfRows, Joined};
 ghost use Rattle.joined_runs.specs.Joined.{IsEncodedAs, hextile_bytes_as, tile_bytes_as, shorter};
 ghost use Rattle.hextile_codec.specs.Carried.{carried_by};
+ghost use Rattle.hextile_codec.specs.Kept.{AreKept};
 ghost use Rattle.hextile_codec.specs.Kinds.{subrect_of, IsChosen};
 
 use crate::colours::Colours;
 use crate::joining::Room;
-use crate::kind::{Kind, Said, TileChoice, choose, choose_both};
+use crate::kept::{TileForm, choose_kept, form_at};
+use crate::kind::{Kind, Said, TileChoice, choose};
 use crate::put::{put_drawn, put_raw};
 use crate::runs::Run;
 use joined_runs::Runs;
@@ -80,7 +82,15 @@ fn put_tiles(values: &[u32], w: u64, h: u64, format: &Format, out: &mut [u8]) ->
 
 /// Writes all tiles in the form that has fewer bytes, and answers where they end; `None` where that isn't inside
 /// `out`. The runs of rows are counted as the joined ones are written, and written only where they have fewer bytes.
-fn put_shorter(values: &[u32], w: u64, h: u64, format: &Format, out: &mut [u8]) -> Option<usize>
+fn put_shorter(
+    forms: &[Option<TileForm>],
+    values: &[u32],
+    w: u64,
+    h: u64,
+    format: &Format,
+    out: &mut [u8],
+) -> Option<usize>
+    requires kept { AreKept format.now w h (value_at w values.now) forms.now }
     requires wide { (0 < w) × (w < 2 ^ 16) }
     requires high { h < 2 ^ 16 }
     requires count { length values.now ≡ w * h }
@@ -94,7 +104,8 @@ fn put_shorter(values: &[u32], w: u64, h: u64, format: &Format, out: &mut [u8]) 
     let (mut used, mut rows) = (0, 0);
     for k in 0..tile_count(w, h) {
         let tile = tile_rect(w, h, k);
-        let choices = choose_both(&format, values, wide, &tile, &said, &mut room);
+        let form = form_at(forms, k as usize);
+        let choices = choose_kept(form, &format, values, wide, &tile, &said, &mut room);
         rows += choices.rows.len;
         if out.len() - used <= choices.joined.len {
             if out.len() <= rows {
@@ -148,7 +159,7 @@ pub fn encode_as(
     }
     match form {
         Runs::OfRows => put_tiles(values, w, h, format, &mut out[..raw]),
-        Runs::Joined => put_shorter(values, w, h, format, &mut out[..raw]),
+        Runs::Joined => put_shorter(&[], values, w, h, format, &mut out[..raw]),
     }
 }
 
@@ -161,4 +172,28 @@ pub fn encode(values: &[u32], w: u64, h: u64, format: &Format, out: &mut [u8]) -
     ensures { IsEncoded Hextile format.now w h values.now out.new result }
 {
     encode_as(Runs::OfRows, values, w, h, format, out)
+}
+
+/// Writes the pixel values of a rectangle in Hextile as joined runs, with the kept forms of some of its tiles, which are
+/// those of their colours; as `encode_as` otherwise.
+pub fn encode_kept(
+    forms: &[Option<TileForm>],
+    values: &[u32],
+    w: u64,
+    h: u64,
+    format: &Format,
+    out: &mut [u8],
+) -> Option<usize>
+    requires wide { w < 2 ^ 16 }
+    requires high { h < 2 ^ 16 }
+    requires count { length values.now ≡ w * h }
+    requires room { length values.now * pixel_len format.now ≤ length out.old }
+    requires kept { AreKept format.now w h (value_at w values.now) forms.now }
+    ensures { IsEncodedAs Joined Hextile format.now w h values.now out.new result }
+{
+    let raw = values.len() * format.bytes();
+    if raw == 0 {
+        return None;
+    }
+    put_shorter(forms, values, w, h, format, &mut out[..raw])
 }
