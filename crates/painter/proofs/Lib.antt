@@ -10,3 +10,4 @@ pub mod TileColours
 pub mod Switches
 pub mod NewerLaws
 pub mod CaughtUp
+pub mod FormLaws

@@ -136,7 +136,7 @@ its_tile w h t x y has =
     let row : t / tiles_across w ≡ y / 16 = omega (arith, has.top, has.bottom) in
     sym (div-add-mod' t (tiles_across w)) ∙ (ap (λ k. k * tiles_across w + t % tiles_across w) row ∙ ap (λ k. y / 16 * tiles_across w + k) column)
 
-meet_by : (w h k t : ℕ) (b : Bool) → meets (tile_rect w h k) (tile_rect w h t) ≡ b → (k ≡ t → ⊥) → b ≡ false
+pub meet_by : (w h k t : ℕ) (b : Bool) → meets (tile_rect w h k) (tile_rect w h t) ≡ b → (k ≡ t → ⊥) → b ≡ false
 meet_by w h k t true e other =
     let both = meets_common (tile_rect w h k) (tile_rect w h t) e in
     absurd (other (its_tile w h k _ _ both.0 ∙ sym (its_tile w h t _ _ both.1)))

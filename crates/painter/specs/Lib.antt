@@ -6,3 +6,4 @@ pub mod Board
 pub mod Same
 pub mod Newer
 pub mod Shown
+pub mod Forms

@@ -1,24 +1,28 @@
 //! A board: what a list of updates shows, kept from one update to the next.
 
 ghost use Rattle.std.specs.Prelude.{◌≡◌, ℕ, ◌+◌, ◌*◌, ◌<◌, ◌≤◌, ◌^◌, List, [], ◌∷◌, ◌++◌, length, take, vec_capacity, IfOk, IfErr};
+ghost use Rattle.hextile_codec.specs.Kept.{AreFormsOf};
 ghost use Rattle.painter.specs.Board.{BoardStands, IsSameScreen};
 ghost use Rattle.painter.specs.Patch.{is_bell};
 ghost use Rattle.fault.specs.declared.kinds.Fault.TheVariants.{Memory};
+ghost use Rattle.raster.specs.Screen.{value_at};
 ghost use Rattle.raster.specs.Size.{IsScreenSize};
 ghost use Rattle.raster.specs.Update.{Update};
 ghost use Rattle.std.specs.Int.{from_bool};
 
 use crate::copying::copy_lacked;
+use crate::forms::Forms;
 use crate::patch::Patch;
 use crate::text::LastText;
 use fault::Fault;
+use hextile_codec::TileForm;
 use std::alloc::Global;
 use std::marker::Model;
-use tiles::Grid;
+use tiles::{Grid, LackedSince};
 
 /// What a list of updates shows: the number of the last of them, the screen, the number of the last that touched each
-/// of its tiles, how many Bells there were, and the last text of the host's cut buffer. All its room is taken where it
-/// is made.
+/// of its tiles, how many Bells there were, and the last text of the host's cut buffer; and of each tile the form of its
+/// colours, where that is kept. All its room is taken where it is made.
 #[derive(Drop)]
 pub struct Board {
     width: u64,
@@ -28,16 +32,19 @@ pub struct Board {
     grid: Grid,
     bells: u64,
     text: LastText,
+    forms: Forms,
 }
 
 impl Model for Board {
+    ghost use Rattle.hextile_codec.specs.Kept.{AreFormsOf};
     ghost use Rattle.painter.specs.Board.{IsBoard, Posted};
+    ghost use Rattle.raster.specs.Screen.{value_at};
 
     ghost Value = { Posted };
 
     ghost view = { λ b. record { width = b.width; height = b.height; number = b.number; colours = b.colours.items; grid = b.grid; bells = b.bells; text = b.text } };
 
-    ghost invariant = { λ b. IsBoard (record { width = b.width; height = b.height; number = b.number; colours = b.colours.items; grid = b.grid; bells = b.bells; text = b.text }) };
+    ghost invariant = { λ b. IsBoard (record { width = b.width; height = b.height; number = b.number; colours = b.colours.items; grid = b.grid; bells = b.bells; text = b.text }) × AreFormsOf b.width b.height (value_at b.width b.colours.items) b.forms.list.items };
 }
 
 /// How many updates and how many Bells there are after a patch, where before it there were this many.
@@ -63,6 +70,7 @@ impl Board {
         let text = LastText::new(alloc)?;
         let colours = vec![in alloc; 0u32; (width * height) as usize]?;
         let grid = Grid::new(alloc, width, height)?;
+        let forms = Forms::new(alloc, width, height)?;
         Ok(Board {
             width,
             height,
@@ -71,6 +79,7 @@ impl Board {
             grid,
             bells: 0,
             text,
+            forms,
         })
     }
 
@@ -118,8 +127,16 @@ impl Board {
         &self.grid
     }
 
-    /// Applies the next update. It always succeeds, and takes no memory.
-    pub fn apply(&mut self, patch: &Patch)
+    /// Of some of its tiles, from the first on, the forms of their colours.
+    pub fn forms(&self) -> &[Option<TileForm>]
+        ensures { AreFormsOf self.now.width self.now.height (value_at self.now.width self.now.colours) result.now }
+    {
+        self.forms.list.as_slice()
+    }
+
+    /// Applies the next update. It always succeeds, and takes no memory. Where it `keeps` forms, those of the tiles that
+    /// change are made of their new colours; else they are forgotten.
+    pub fn apply(&mut self, patch: &Patch, keeps: bool)
         requires size { (patch.now.width ≡ self.old.width) × (patch.now.height ≡ self.old.height) }
         requires number { self.old.number < 2 ^ 62 }
         ensures size { IsSameScreen self.old self.new }
@@ -128,6 +145,7 @@ impl Board {
     {
         let (number, bells) = counted(self.number, self.bells, patch);
         patch.paint(self.colours.as_mut_slice());
+        self.forms.renew(patch, self.colours.as_slice(), keeps);
         patch.touch(&mut self.grid, number);
         self.text.follow(patch.text_bytes(), number);
         self.number = number;
@@ -135,9 +153,9 @@ impl Board {
     }
 
     /// Shows what a newer board of its screen does, of whose updates it stands at the first, and then one update more. It
-    /// copies the tiles that were touched since, but for those that the patch brings, always succeeds, and takes no
-    /// memory.
-    pub fn catch_up(&mut self, newer: &Board, patch: &Patch)
+    /// copies the tiles that were touched since, but for those that the patch brings, with their forms, always succeeds,
+    /// and takes no memory. Forms are kept as in `apply`.
+    pub fn catch_up(&mut self, newer: &Board, patch: &Patch, keeps: bool)
         requires same { IsSameScreen self.old newer.now }
         requires size { (patch.now.width ≡ self.old.width) × (patch.now.height ≡ self.old.height) }
         requires number { newer.now.number < 2 ^ 62 }
@@ -156,7 +174,11 @@ impl Board {
             &newer.grid,
             self.number,
         );
+        let lacked = LackedSince::new(&self.grid, &newer.grid, self.number);
+        self.forms
+            .take_lacked(&newer.forms, &lacked, self.width, self.height, keeps);
         patch.paint(self.colours.as_mut_slice());
+        self.forms.renew(patch, self.colours.as_slice(), keeps);
         self.grid.catch_up(&newer.grid, self.number);
         self.text.catch_up(&newer.text, self.number);
         self.text.follow(patch.text_bytes(), number);
@@ -164,7 +186,7 @@ impl Board {
         self.bells = bells;
     }
 
-    /// Becomes what another board of its screen is. It always succeeds, and takes no memory.
+    /// Becomes what another board of its screen is, without forms. It always succeeds, and takes no memory.
     pub fn copy_from(&mut self, other: &Board)
         requires { IsSameScreen self.old other.now }
         ensures { self.new ≡ other.now }
@@ -172,14 +194,21 @@ impl Board {
         self.colours
             .as_mut_slice()
             .copy_from_slice(other.colours.as_slice());
+        self.forms.clear();
         self.grid.copy_from(&other.grid);
         self.text.copy_from(&other.text);
         self.number = other.number;
         self.bells = other.bells;
     }
 
-    /// An equal one, in room for it. It always succeeds, and takes no memory.
-    pub(crate) fn copy_to(&self, colours: Vec<u32>, grid: Grid, text: LastText) -> Board
+    /// An equal one, in room for it, which never keeps forms. It always succeeds, and takes no memory.
+    pub(crate) fn copy_to(
+        &self,
+        alloc: Global,
+        colours: Vec<u32>,
+        grid: Grid,
+        text: LastText,
+    ) -> Board
         requires colours { (colours.items ≡ []) × (self.now.width * self.now.height ≤ vec_capacity colours) }
         requires grid { (grid.width ≡ self.now.width) × (grid.height ≡ self.now.height) }
         ensures { result ≡ self.now }
@@ -199,6 +228,7 @@ impl Board {
             grid,
             bells: self.bells,
             text,
+            forms: Forms::none(alloc),
         }
     }
 }

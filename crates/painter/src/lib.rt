@@ -8,6 +8,7 @@
 mod board;
 mod canvas;
 mod copying;
+mod forms;
 mod law;
 mod painter;
 mod patch;

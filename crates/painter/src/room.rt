@@ -14,6 +14,7 @@ use tiles::Grid;
 /// Room for a copy of a board of one screen size. That for its colours isn't touched before they come.
 #[derive(Drop)]
 pub(crate) struct Room {
+    alloc: Global,
     width: u64,
     height: u64,
     colours: Vec<u32>,
@@ -44,6 +45,7 @@ impl Room {
         let colours = Vec::with_capacity(alloc, (width * height) as usize)?;
         let grid = Grid::new(alloc, width, height)?;
         Ok(Room {
+            alloc,
             width,
             height,
             colours,
@@ -58,12 +60,13 @@ impl Room {
         ensures { result ≡ board.now }
     {
         let Room {
+            alloc,
             width: _,
             height: _,
             colours,
             grid,
             text,
         } = self;
-        board.copy_to(colours, grid, text)
+        board.copy_to(alloc, colours, grid, text)
     }
 }

@@ -2,10 +2,12 @@
 
 ghost use Rattle.std.specs.Prelude.{◌≡◌, ◌*◌, ◌<◌, ◌≤◌, ◌^◌, true, false, IfOk, IfErr, length, vec_capacity};
 ghost use Rattle.fault.specs.declared.kinds.Fault.TheVariants.{Memory};
+ghost use Rattle.hextile_codec.specs.Kept.{AreFormsOf};
 ghost use Rattle.raster.specs.Screen.{IsWithin, LooksLike, lay, part_of, value_at};
 ghost use Rattle.raster.specs.Size.{IsScreenSize};
 
 use fault::Fault;
+use hextile_codec::TileForm;
 use painter::{Board, Shown, copy_area};
 use raster::Rect;
 use std::alloc::Global;
@@ -141,6 +143,18 @@ impl Picture {
         match &self.shared {
             Some(board) => board.colours(),
             None => self.own.as_slice(),
+        }
+    }
+
+    /// On a screen of this size, of some of its tiles, from the first on, the forms of their colours: none where it shares
+    /// no board.
+    pub fn forms(&self, width: u64, height: u64) -> &[Option<TileForm>]
+        ensures { AreFormsOf width height (value_at width self.now.items) result.now }
+    {
+        match &self.shared {
+            // A board of another size isn't shared. That this is looked at spares an invariant.
+            Some(board) if board.size() == (width, height) => board.forms(),
+            _ => &[],
         }
     }
 }

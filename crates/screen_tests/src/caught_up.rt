@@ -10,7 +10,7 @@ use std::alloc::Global;
 use std::test::Fail;
 
 /// The second of two tiles, which is one pixel wide.
-const SECOND: Rect = Rect {
+pub const SECOND: Rect = Rect {
     x: 16,
     y: 0,
     w: 1,
@@ -18,7 +18,7 @@ const SECOND: Rect = Rect {
 };
 
 /// Two of the first tile's pixels.
-const FIRST: Rect = Rect {
+pub const FIRST: Rect = Rect {
     x: 3,
     y: 1,
     w: 2,
@@ -40,7 +40,7 @@ fn told(board: &Board) -> ([u64; 4], Option<u64>, [u32; 2])
 }
 
 /// One update of these colours on a rectangle.
-fn painted(alloc: Global, area: Rect, colours: &[u32; 2]) -> Result<Patch, Fault>
+pub fn painted(alloc: Global, area: Rect, colours: &[u32; 2]) -> Result<Patch, Fault>
     ensures { IfOk result (λ patch. (patch.width ≡ 17) × (patch.height ≡ 2)) }
 {
     let mut painter = Painter::new(alloc, 17, 2)?;
@@ -51,25 +51,25 @@ fn painted(alloc: Global, area: Rect, colours: &[u32; 2]) -> Result<Patch, Fault
 }
 
 /// One of the first nine updates is applied to a board, and the board that is behind goes on to it.
-fn go_on(behind: &mut Board, newest: &Board, next: &Patch)
+pub fn go_on(behind: &mut Board, newest: &Board, next: &Patch, keeps: bool)
     requires behind { (behind.old.width ≡ 17) × (behind.old.height ≡ 2) }
     requires newest { (newest.now.width ≡ 17) × (newest.now.height ≡ 2) }
     requires next { (next.now.width ≡ 17) × (next.now.height ≡ 2) }
     ensures { (behind.new.width ≡ 17) × (behind.new.height ≡ 2) }
 {
     if newest.number() < 9 {
-        behind.catch_up(newest, next);
+        behind.catch_up(newest, next, keeps);
     }
 }
 
 /// One of the first nine updates is applied to a board.
-fn apply(board: &mut Board, next: &Patch)
+pub fn apply(board: &mut Board, next: &Patch, keeps: bool)
     requires board { (board.old.width ≡ 17) × (board.old.height ≡ 2) }
     requires next { (next.now.width ≡ 17) × (next.now.height ≡ 2) }
     ensures { (board.new.width ≡ 17) × (board.new.height ≡ 2) }
 {
     if board.number() < 9 {
-        board.apply(next);
+        board.apply(next, keeps);
     }
 }
 
@@ -82,14 +82,19 @@ fn board_that_is_behind_goes_on(rt: HostRuntime) -> Result<(), Fail> {
     let mut behind = Board::new(alloc, 17, 2)?;
     // The next update paints the second tile; the first has to come from the newest.
     let next = painted(alloc, SECOND, &[4, 5])?;
-    go_on(&mut behind, &newest, &next);
+    go_on(&mut behind, &newest, &next, false);
     assert!(rt; told(&behind) == ([2, 0, 1, 2], None, [7, 5]));
-    apply(&mut newest, &next);
+    apply(&mut newest, &next, false);
     let mut text = Vec::new(alloc);
     text.push(b'a')?;
-    apply(&mut newest, &Patch::text(17, 2, text));
+    apply(&mut newest, &Patch::text(17, 2, text), false);
     // Behind by the text alone, and what comes next paints a part of the first tile.
-    go_on(&mut behind, &newest, &painted(alloc, FIRST, &[1, 2])?);
+    go_on(
+        &mut behind,
+        &newest,
+        &painted(alloc, FIRST, &[1, 2])?,
+        false,
+    );
     assert!(rt; told(&behind) == ([4, 0, 4, 2], Some(3), [1, 5]));
     Ok(())
 }

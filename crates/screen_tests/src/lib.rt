@@ -17,6 +17,8 @@ mod formats;
 #[cfg(test)]
 mod host_faults;
 #[cfg(test)]
+mod kept_forms;
+#[cfg(test)]
 mod lent;
 #[cfg(test)]
 mod marks;

@@ -3,15 +3,31 @@ use Rattle.std.proofs.lemmas.List.{with_items_is}
 use Rattle.std.specs.Int.{from_bool}
 use Rattle.std.specs.Option.{option_copied}
 use Rattle.std.specs.Vec.{with_items}
-use Rattle.raster.specs.Screen.{tile_rect}
+use Rattle.hextile_codec.specs.Kept.{AreFormsOf}
+use Rattle.raster.specs.Screen.{tile_rect, value_at}
 use Rattle.raster.specs.Update.{NumberedText}
 use Rattle.tiles.specs.Grid.{IsTouched}
 use Rattle.tiles.specs.Touched.{touches}
-use Rattle.painter.specs.Board.{BoardStands}
+use Rattle.painter.specs.Board.{BoardStands, Posted}
 use Rattle.painter.specs.Kept.{newer}
-use Rattle.painter.specs.Patch.{ShowsOver, is_bell}
+use Rattle.painter.specs.Patch.{ShowsOver, SizedUpdate, is_bell}
+use Rattle.painter.proofs.FormLaws.{stand_but}
 use Rattle.painter.proofs.ViewLaws.{stands-push}
 use Rattle.painter.proofs.board.Board.apply.Goals as goal
+
+pub renew-requires-clause-others : goal.renew-requires-clause-others
+renew-requires-clause-others c =
+    let old = c.self.inside in
+    let patch : SizedUpdate = c.args.patch.now in
+    let painted : List ℕ = c.paint.new.colours in
+    let rows : (with_items old.colours painted).items ≡ painted = with_items_is old.colours painted (omega (arith, c.paint.auto.colours, c.as_mut_slice.ensures.len)) in
+    let wide : patch.width ≡ old.width = c.requires.size.0 ∙ ap (λ (b : Posted). b.width) (sym c.self.view_is) in
+    let high : patch.height ≡ old.height = c.requires.size.1 ∙ ap (λ (b : Posted). b.height) (sym c.self.view_is) in
+    let shows : ShowsOver patch old.colours.items painted = subst (λ (cs : List ℕ). ShowsOver patch cs painted) c.as_mut_slice.ensures.value c.paint.ensures in
+    let Are : ℕ → ℕ → Type 0 = λ w h. AreFormsOf w h (value_at w old.colours.items) old.forms.list.items in
+    stand_but patch old.colours.items c.as_slice.result.now old.forms.list.items (omega (arith, wide, c.self.invariant.0.size.wide.0))
+    (subst (λ (cs : List ℕ). ShowsOver patch old.colours.items cs) (sym (c.as_slice.ensures.value ∙ rows)) shows)
+    (subst (λ h. Are patch.width h) (sym high) (subst (λ w. Are w old.height) (sym wide) c.self.invariant.1))
 
 pub returns-clause-stands : goal.returns-clause-stands
 returns-clause-stands c us stands =

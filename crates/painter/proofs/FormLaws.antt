@@ -1,0 +1,172 @@
+-- A tile's kept form stays its colours' form for as long as these stay: a form asks of a tile's positions alone, and a
+-- patch paints those of its tiles.
+use Rattle.std.proofs.Common.{◌≡◌, ◌≢◌, ℕ, ◌+◌, ◌*◌, ◌<◌, ◌≤◌, ◌^◌, Bool, false, List, [], ◌∷◌, length, map, Option, None, refl, ap, sym, subst, ◌∙◌, arith, inl, inr}
+use Rattle.std.specs.Prelude.{◌==◌, ◌||◌, if◌then◌else◌, slice_index_or, IfSome}
+use Rattle.std.specs.List.{list_any}
+use Rattle.std.proofs.Math.Nat.{mul_comm, mul-le-mul}
+use Rattle.std.proofs.lemmas.Bool.{both_ways, cases_Bool, cases_eq, cases_lt, eq-eqb, ne_eqb}
+use Rattle.std.proofs.lemmas.List.{get_or_past}
+use Rattle.raster.specs.declared.rect.Rect.{Rect}
+use Rattle.raster.specs.Screen.{Canvas, IsWithin, LooksLike, meets, part_of, tile_count, tile_rect, value_at}
+use Rattle.raster.specs.Encoding.{Subrect}
+use Rattle.raster.specs.Size.{IsScreenSize}
+use Rattle.raster.specs.Update.{Paint, painted, paints_of}
+use Rattle.raster.proofs.Places.{Has, holds_has}
+use Rattle.tiles.proofs.Ranges.{IsTile, tile_is}
+use Rattle.tiles.proofs.Touching.{or_left, or_right, same_after_paints}
+use Rattle.tiles.specs.Touched.{touches}
+use Rattle.joined_runs.specs.declared.runs.Runs.{Runs}
+use Rattle.joined_runs.specs.declared.runs.Runs.TheVariants.{OfRows, Joined}
+use Rattle.joined_runs.specs.Joined.{subrects_of}
+use Rattle.joined_runs.proofs.Recoloured.{background_same, recoloured, subrects_same}
+use Rattle.hextile_codec.specs.declared.kept.TileForm.{TileForm}
+use Rattle.hextile_codec.specs.declared.kind.Head.{Head}
+use Rattle.hextile_codec.specs.Heads.{IsHeadOf}
+use Rattle.hextile_codec.specs.Kept.{AreFormsOf, FormStands}
+use Rattle.hextile_codec.specs.Kinds.{kind_of}
+use Rattle.hextile_codec.specs.Marks.{LiesAmong}
+use Rattle.hextile_codec.proofs.KeptForms.{if_some}
+use Rattle.painter.specs.Forms.{AreFormsBut, TookForms}
+use Rattle.painter.specs.Newer.{TookTiles}
+use Rattle.painter.specs.Patch.{ShowsOver, SizedUpdate, tile_paints}
+use Rattle.painter.proofs.PatchLaws.{meets_tiles, tile_within}
+use Rattle.painter.proofs.TilePuts.{meet_by}
+
+-- ---- what looks alike has one form
+
+abbrev as_it_is : ℕ → ℕ
+as_it_is n = n
+
+recoloured_as_it_is : (ss : List Subrect) → map (recoloured as_it_is) ss ≡ ss
+recoloured_as_it_is [] = refl
+recoloured_as_it_is (s ∷ ss) = ap (λ t. s ∷ t) (recoloured_as_it_is ss)
+
+module _ (w h : ℕ) (a b : Canvas) (lw : 0 < w) (lh : 0 < h) (alike : LooksLike w h b a) where
+  subrects_alike : (runs : Runs) → subrects_of runs w h a ≡ subrects_of runs w h b
+  subrects_alike runs = sym (subrects_same as_it_is w h a b (λ x y u v lx ly lu lv e. e) alike refl lw lh runs ∙ recoloured_as_it_is (subrects_of runs w h a))
+
+  head_alike : (runs : Runs) (head : Head) → IsHeadOf runs w h a head → IsHeadOf runs w h b head
+  head_alike runs head of =
+      record {
+        background = of.background ∙ sym (background_same as_it_is w h a b (λ x y u v lx ly lu lv e. e) alike refl lw lh runs);
+        kind = of.kind ∙ ap kind_of (subrects_alike runs);
+        count = of.count ∙ ap length (subrects_alike runs);
+      }
+
+  stands_alike : (form : TileForm) → FormStands form w h a → FormStands form w h b
+  stands_alike form stands =
+      record {
+        are_colours = λ x y lx ly. subst (λ n. n < 2 ^ 24) (sym (alike x y lx ly)) (stands.are_colours x y lx ly);
+        joined = head_alike Joined form.joined stands.joined;
+        rows = head_alike OfRows form.rows stands.rows;
+        runs = stands.runs ∙ subrects_alike Joined;
+      }
+
+-- ---- one tile's form
+
+-- It is that of the tile's colours, if it is kept.
+abbrev pub Stands : ℕ → ℕ → Canvas → ℕ → Option TileForm → Type 0
+Stands w h colours t form = IfSome form (λ f. FormStands f (tile_rect w h t).w (tile_rect w h t).h (part_of (tile_rect w h t) colours))
+
+tile_some : (w h t : ℕ) → 0 < w → t < tile_count w h → (0 < (tile_rect w h t).w) × (0 < (tile_rect w h t).h)
+tile_some w h t lw lt = let is : IsTile w h t = tile_is w h t lw lt in (omega (arith, is.column), omega (arith, is.row))
+
+-- It stays so where the tile looks the same.
+pub stands_on : (w h t : ℕ) (a b : Canvas) (form : Option TileForm) → 0 < w → t < tile_count w h → ((x y : ℕ) → Has (tile_rect w h t) x y → b x y ≡ a x y) → Stands w h a t form → Stands w h b t form
+stands_on w h t a b form lw lt same stands =
+    let r : Rect = tile_rect w h t in
+    let some = tile_some w h t lw lt in
+    if_some (λ f. FormStands f r.w r.h (part_of r a)) (λ f. FormStands f r.w r.h (part_of r b)) form
+    (stands_alike r.w r.h (part_of r a) (part_of r b) some.0 some.1
+    (λ x y lx ly. same (r.x + x) (r.y + y) (record { left = omega arith; right = omega (arith, lx); top = omega arith; bottom = omega (arith, ly) }))) stands
+
+-- The tile lies among the screen's colours.
+pub tile_lies : (w h t : ℕ) (colours : List ℕ) → IsScreenSize w h → length colours ≡ w * h → t < tile_count w h → LiesAmong colours w (tile_rect w h t)
+tile_lies w h t colours size count lt =
+    let r : Rect = tile_rect w h t in
+    let within : IsWithin r w h = tile_within w h t (omega (arith, size.wide.0)) lt in
+    let rows : (r.y + r.h) * w ≤ h * w = mul-le-mul {n₁ = r.y + r.h} {m₁ = w} {n₂ = h} {m₂ = w} within.down (omega arith) in
+    let turned : h * w ≡ w * h = mul_comm h w in
+    record {
+      across = within.across;
+      down = omega (arith, rows, turned, count);
+      wide = omega (arith, size.wide.1);
+      high = omega (arith, size.high.1, within.down);
+    }
+
+-- ---- where the forms are kept
+
+pub none_stands : (w h t : ℕ) (colours : Canvas) (form : Option TileForm) → form ≡ None → Stands w h colours t form
+none_stands w h t colours form e = rw e tt
+
+-- Further places without a form change nothing.
+pub stands_longer : (w h : ℕ) (colours : Canvas) (forms longer : List (Option TileForm)) (t : ℕ) → slice_index_or longer t None ≡ slice_index_or forms t None
+    → (t < length forms → Stands w h colours t (slice_index_or forms t None)) → Stands w h colours t (slice_index_or longer t None)
+stands_longer w h colours forms longer t same stands = elim (cases_lt t (length forms)) [
+  | inl there ↦ subst (λ (form : Option TileForm). Stands w h colours t form) (sym same) (stands there)
+  | inr past ↦ none_stands w h t colours (slice_index_or longer t None) (same ∙ get_or_past forms t None past)
+]
+
+-- ---- the tiles of a patch
+
+-- Two tiles don't meet.
+tiles_apart : (w h k t : ℕ) → (k == t) ≡ false → meets (tile_rect w h k) (tile_rect w h t) ≡ false
+tiles_apart w h k t ne = meet_by w h k t (meets (tile_rect w h k) (tile_rect w h t)) refl (λ same. both_ways (k == t) ne (eq-eqb k t same))
+
+none_met : (w h t : ℕ) (ts : List ℕ) → list_any (λ k. k == t) ts ≡ false → list_any (λ k. meets (tile_rect w h k) (tile_rect w h t)) ts ≡ false
+none_met w h t [] e = refl
+none_met w h t (k ∷ ts) e =
+    ap (λ b. b || list_any (λ j. meets (tile_rect w h j) (tile_rect w h t)) ts) (tiles_apart w h k t (or_left (k == t) (list_any (λ j. j == t) ts) e))
+    ∙ none_met w h t ts (or_right (k == t) (list_any (λ j. j == t) ts) e)
+
+-- A tile that isn't one of a patch's isn't touched by it.
+pub untouched_but : (patch : SizedUpdate) (t : ℕ) (ts tiles : List ℕ) → tile_paints patch.width patch.height ts tiles ≡ paints_of patch.update → list_any (λ k. k == t) ts ≡ false
+    → touches (tile_rect patch.width patch.height t) patch.update ≡ false
+untouched_but patch t ts tiles are none =
+    let r : Rect = tile_rect patch.width patch.height t in
+    ap (λ (ps : List Paint). list_any (λ p. meets (painted p) r) ps) (sym are) ∙ (meets_tiles patch.width patch.height r ts tiles ∙ none_met patch.width patch.height t ts none)
+
+-- It looks as it did.
+pub unpainted : (patch : SizedUpdate) (t : ℕ) (old new : List ℕ) (x y : ℕ) → ShowsOver patch old new → touches (tile_rect patch.width patch.height t) patch.update ≡ false
+    → Has (tile_rect patch.width patch.height t) x y → value_at patch.width new x y ≡ value_at patch.width old x y
+unpainted patch t old new x y shows out has =
+    shows (value_at patch.width old) (λ i j li lj. refl) x y (omega (arith, has.left, has.right)) (omega (arith, has.top, has.bottom))
+    ∙ same_after_paints (value_at patch.width old) (paints_of patch.update) (tile_rect patch.width patch.height t) x y out has
+
+-- Once a patch was painted, the forms that were kept are still those of all tiles but its own.
+pub stand_but : (patch : SizedUpdate) (old new : List ℕ) (forms : List (Option TileForm)) → 0 < patch.width → ShowsOver patch old new → AreFormsOf patch.width patch.height (value_at patch.width old) forms
+    → (t : ℕ) → t < length forms → t < tile_count patch.width patch.height → touches (tile_rect patch.width patch.height t) patch.update ≡ false → Stands patch.width patch.height (value_at patch.width new) t (slice_index_or forms t None)
+stand_but patch old new forms some shows stand t there lt out =
+    stands_on patch.width patch.height t (value_at patch.width old) (value_at patch.width new) (slice_index_or forms t None) some lt (λ x y has. unpainted patch t old new x y shows out has) (stand t there lt)
+
+-- ---- one tile more
+
+-- Once the first of some tiles has the form of its colours, the others are left.
+pub one_renewed : (w h k : ℕ) (colours : Canvas) (ts : List ℕ) (old new : List (Option TileForm)) → length new ≡ length old
+    → (k < length new → Stands w h colours k (slice_index_or new k None)) → ((t : ℕ) → t ≢ k → slice_index_or new t None ≡ slice_index_or old t None)
+    → AreFormsBut (k ∷ ts) w h colours old → AreFormsBut ts w h colours new
+one_renewed w h k colours ts old new len here others stand t there lt none = elim (cases_eq t k) [
+  | inl same ↦ subst (λ i. Stands w h colours i (slice_index_or new i None)) (sym same) (here (omega (arith, there, same)))
+  | inr ne ↦
+      subst (λ (form : Option TileForm). Stands w h colours t form) (sym (others t ne))
+      (stand t (omega (arith, there, len)) lt (ap (λ b. b || list_any (λ j. j == t) ts) (ne_eqb k t (λ e. ne (sym e))) ∙ none))
+]
+
+-- ---- a board that is behind
+
+-- Where its tiles were taken of a newer one, and their forms as well, the forms are those of the colours.
+pub forms_caught_up : (w h : ℕ) (due : ℕ → Bool) (newer old new : List ℕ) (newer_forms old_forms new_forms : List (Option TileForm)) → 0 < w
+    → TookTiles w h due newer old new → TookForms (tile_count w h) due newer_forms old_forms new_forms
+    → AreFormsOf w h (value_at w newer) newer_forms → AreFormsOf w h (value_at w old) old_forms → AreFormsOf w h (value_at w new) new_forms
+forms_caught_up w h due newer old new newer_forms old_forms new_forms some took taken newer_stand old_stand t there lt = elim (cases_Bool (due t)) [
+  | inl is ↦
+      stands_longer w h (value_at w new) newer_forms new_forms t
+      (taken t there lt ∙ ap (λ (b : Bool). if b then slice_index_or newer_forms t None else slice_index_or old_forms t None) is)
+      (λ kept. stands_on w h t (value_at w newer) (value_at w new) (slice_index_or newer_forms t None) some lt
+      (λ x y has. took t x y lt (holds_has (tile_rect w h t) x y has) ∙ ap (λ (b : Bool). if b then value_at w newer x y else value_at w old x y) is) (newer_stand t kept lt))
+  | inr not ↦
+      stands_longer w h (value_at w new) old_forms new_forms t
+      (taken t there lt ∙ ap (λ (b : Bool). if b then slice_index_or newer_forms t None else slice_index_or old_forms t None) not)
+      (λ kept. stands_on w h t (value_at w old) (value_at w new) (slice_index_or old_forms t None) some lt
+      (λ x y has. took t x y lt (holds_has (tile_rect w h t) x y has) ∙ ap (λ (b : Bool). if b then value_at w newer x y else value_at w old x y) not) (old_stand t kept lt))
+]
