@@ -1,11 +1,12 @@
 //! One rectangle of an answer (RFC 6143, 7.6.1 and 7.7).
 
-ghost use Rattle.std.specs.Prelude.{◌≡◌, ◌+◌, ◌*◌, ◌<◌, ◌≤◌, ◌^◌, ◌&&◌, true, false, length, IfSome, IfNone, Some};
-ghost use Rattle.pixel_format.specs.PixelFormat.{pixel_len};
+ghost use Rattle.std.specs.Prelude.{◌≡◌, ◌+◌, ◌*◌, ◌<◌, ◌≤◌, ◌^◌, ◌&&◌, true, false, length, IfSome, IfNone, IsTrue, Some};
+ghost use Rattle.pixel_format.specs.PixelFormat.{KeepsApart, pixel_len};
 ghost use Rattle.raster.specs.declared.encoding.Encoding.TheVariants.{Raw};
 ghost use Rattle.raster.specs.Encoding.{form};
-ghost use Rattle.raster.specs.Screen.{IsWithin};
+ghost use Rattle.raster.specs.Screen.{IsWithin, value_at};
 ghost use Rattle.joined_runs.specs.Joined.{IsEncodedAs};
+ghost use Rattle.hextile_codec.specs.Kept.{AreKept};
 ghost use Rattle.reflect_core.specs.Asked.{LiesOn};
 ghost use Rattle.rfb_wire.specs.Writing.{rectangle_bytes};
 ghost use Rattle.update_encoder.specs.Answer.{copy_source, pixels_in, repeats_one, spelled};
@@ -14,8 +15,10 @@ ghost use Rattle.update_encoder.specs.Style.{style_in};
 ghost use Rattle.update_encoder.specs.Written.{IsFront, IsSaved};
 
 use crate::copied::repeats;
+use crate::kept::forms_in;
 use crate::rows::{tint_rows, write_rows};
 use crate::style::Style;
+use hextile_codec::TileForm;
 use joined_runs::Runs;
 use pixel_format::Format;
 use raster::{COPY_RECT, Encoding, Rect};
@@ -39,10 +42,32 @@ fn write_copy(area: &Rect, above: &Rect, out: &mut [u8]) -> usize
     RECTANGLE_HEAD_LEN + 4
 }
 
-/// Writes pixel values in an encoding and a form, where that has fewer bytes than Raw.
+/// Whether a style writes with kept forms: Hextile of joined runs, in a format that keeps colours apart.
+fn uses_forms(style: &Style) -> bool
+    ensures { IsTrue result → KeepsApart style.now.format }
+{
+    matches!(style.choice.kind, Encoding::Hextile)
+        && matches!(style.runs, Runs::Joined)
+        && style.format.keeps_apart()
+}
+
+/// The kept forms of an area's tiles with which a style writes their pixel values; none where it has no use for them.
+fn kept_forms<'a>(style: &Style, cut: &'a Cut, area: &Rect) -> &'a [Option<TileForm>]
+    requires { IsWithin area.now cut.now.width cut.now.height }
+    ensures { AreKept style.now.format area.now.w area.now.h (value_at area.now.w (pixels_in style.now.format (shown cut.now) area.now)) result.now }
+{
+    if !uses_forms(style) {
+        return &[];
+    }
+    forms_in(cut.forms(), cut.width, cut.height, area)
+}
+
+/// Writes pixel values in an encoding and a form, with the kept forms of some of their tiles, where that has fewer bytes
+/// than Raw.
 fn encode(
     runs: Runs,
     kind: Encoding,
+    forms: &[Option<TileForm>],
     values: &[u32],
     area: &Rect,
     format: &Format,
@@ -52,12 +77,16 @@ fn encode(
     requires high { area.now.h < 2 ^ 16 }
     requires count { length values.now ≡ area.now.w * area.now.h }
     requires room { length values.now * pixel_len format.now ≤ length out.old }
+    requires kept { AreKept format.now area.now.w area.now.h (value_at area.now.w values.now) forms.now }
     ensures { IsEncodedAs runs kind format.now area.now.w area.now.h values.now out.new result }
 {
     match kind {
         Encoding::Raw => None,
         Encoding::Rre => rre_codec::encode_as(runs, values, area.w, area.h, format, out),
-        Encoding::Hextile => hextile_codec::encode_as(runs, values, area.w, area.h, format, out),
+        Encoding::Hextile => match runs {
+            Runs::OfRows => hextile_codec::encode_as(runs, values, area.w, area.h, format, out),
+            Runs::Joined => hextile_codec::encode_kept(forms, values, area.w, area.h, format, out),
+        },
     }
 }
 
@@ -93,7 +122,8 @@ fn write_encoded(
     );
     let (head, rest) = out.split_at_mut(RECTANGLE_HEAD_LEN);
     let (data, _) = rest.split_at_mut(4 * count);
-    let len = encode(style.runs, kind, pixels, area, &style.format, data)?;
+    let forms = kept_forms(style, cut, area);
+    let len = encode(style.runs, kind, forms, pixels, area, &style.format, data)?;
     write_rectangle_head(area, kind.number(), head);
     Some(RECTANGLE_HEAD_LEN + len)
 }
