@@ -145,12 +145,14 @@ impl<J: Naming> Spares<J> {
         Ok(opening)
     }
 
-    /// A board that nobody else has, of what the newest shows and one update more. It fails where memory is refused
-    /// (`Memory`), as it is where all boards that there may be are read.
+    /// A board that nobody else has, of what the newest shows and one update more, which keeps the forms of the tiles that
+    /// change or not (`painter::Board::catch_up`). It fails where memory is refused (`Memory`), as it is where all boards
+    /// that there may be are read.
     pub fn next(
         &mut self,
         newest: &Published<J>,
         patch: &Patch,
+        keeps: bool,
     ) -> Result<Arc<Board, Global>, Fault>
         requires size { (patch.now.width ≡ J.width) × (patch.now.height ≡ J.height) }
         requires number { length (puts_of newest.now) < 2 ^ 62 }
@@ -159,7 +161,7 @@ impl<J: Naming> Spares<J> {
         ensures err { IfErr result (λ fault. fault ≡ Memory) }
     {
         let spare = self.taken()?;
-        match spare.renewed(newest, patch) {
+        match spare.renewed(newest, patch, keeps) {
             Some(board) => Ok(board),
             None => Err(Fault::Memory),
         }

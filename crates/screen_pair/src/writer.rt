@@ -128,7 +128,7 @@ impl<J: Naming + Publishes, R: Wait + Drop> Puts for PairWriter<J, R> {
             return Err((Fault::Memory, patch));
         }
         // All that may be refused memory comes first, but for the entry of the operation, whose room is kept.
-        let Ok(board) = self.spares.next(self.handle.published(), &patch) else {
+        let Ok(board) = self.spares.next(self.handle.published(), &patch, false) else {
             return Err((Fault::Memory, patch));
         };
         // It does nothing. Its clause says that puts and raises take turns, so that a put may follow.

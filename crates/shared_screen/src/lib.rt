@@ -5,6 +5,7 @@
 //! never waits and takes no memory, and its look is one load, which enters no copy.
 #![tactic(auto)]
 
+mod demand;
 mod making;
 mod news;
 mod publisher;

@@ -4,6 +4,7 @@ ghost use Rattle.std.specs.Prelude.{◌≡◌, ◌⊎◌, ◌≤◌, [], length,
 ghost use Rattle.fault.specs.declared.kinds.Fault.TheVariants.{Memory, NoPlace};
 ghost use Rattle.raster.specs.Size.{IsScreenSize};
 
+use crate::demand::{FormClaim, FormDemand};
 use crate::publisher::Publisher;
 use crate::watcher::Watcher;
 use fault::Fault;
@@ -19,6 +20,7 @@ fn watchers<J: Naming>(
     height: u64,
     eyes: Vec<Eye<J>>,
     glance: &Glance<J>,
+    demand: &Arc<FormDemand, Global>,
 ) -> Result<Vec<Watcher<J>>, Fault>
     requires size { (width ≡ J.width) × (height ≡ J.height) }
     requires empty { All (λ eye. eye ≡ []) eyes.items × (glance.now ≡ []) }
@@ -28,7 +30,8 @@ fn watchers<J: Naming>(
 {
     let mut made = Vec::new(alloc);
     for eye in eyes {
-        made.push(Watcher::new(width, height, eye, glance.another()?))?;
+        let claim = FormClaim::new(Arc::try_clone(demand)?);
+        made.push(Watcher::new(width, height, eye, glance.another()?, claim))?;
     }
     Ok(made)
 }
@@ -58,7 +61,8 @@ pub fn shared<J: Naming, R: Wait + Drop + Copy>(
     let opening = Stamped::opening(alloc, width, height, &front)?;
     let handle = opened(rt, alloc, &opening, places)?;
     let eyes = eyes(alloc, &handle, &front, places)?;
-    let watchers = watchers(alloc, width, height, eyes, &glance)?;
+    let demand = Arc::new(alloc, FormDemand::new())?;
+    let watchers = watchers(alloc, width, height, eyes, &glance, &demand)?;
     let spares = Spares::new(alloc, width, height, opening, places + BESIDE_PLACES)?;
-    Ok((Publisher::new(handle, raiser, spares), watchers))
+    Ok((Publisher::new(handle, raiser, spares, demand), watchers))
 }

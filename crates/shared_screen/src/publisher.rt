@@ -5,14 +5,16 @@ ghost use Rattle.left_right.specs.Handles.{published, pending};
 ghost use Rattle.reflect_core.specs.Plain.{IsPutRefusal};
 ghost use Rattle.tally_word.specs.History.{Put, Raise, puts_of};
 
+use crate::demand::FormDemand;
 use crate::news::News;
 use fault::{Fault, LIMIT};
 use left_right::{Absorb, WriteHandle};
 use painter::Patch;
 use reflect_core::Puts;
 use screen_pair::{Published, Publishes, Spares, Stamped, news_of, publish};
+use std::alloc::Global;
 use std::marker::Model;
-use std::sync::Wait;
+use std::sync::{Arc, Wait};
 use tally_word::{Change, HistoryFront, Naming, Raiser};
 
 /// Puts updates, and raises the tally after each: contracts see its history, all that was put and raised.
@@ -25,6 +27,7 @@ where
     raiser: Raiser<J>,
     front: HistoryFront<J>,
     spares: Spares<J>,
+    demand: Arc<FormDemand, Global>,
 }
 
 impl<J: Naming, R: Wait + Drop> Model for Publisher<J, R>
@@ -50,6 +53,7 @@ impl<J: Naming, R: Wait + Drop> Publisher<J, R> {
         handle: WriteHandle<Published<J>, Stamped<J>, R>,
         raiser: Raiser<J>,
         spares: Spares<J>,
+        demand: Arc<FormDemand, Global>,
     ) -> Self
         requires { (published handle ≡ []) × (pending handle ≡ []) × (raiser ≡ []) }
         ensures { result ≡ [] }
@@ -60,6 +64,7 @@ impl<J: Naming, R: Wait + Drop> Publisher<J, R> {
             raiser,
             front,
             spares,
+            demand,
         }
     }
 
@@ -107,7 +112,8 @@ impl<J: Naming + Publishes, R: Wait + Drop> Puts for Publisher<J, R> {
             return Err((Fault::Memory, patch));
         }
         // All that may be refused memory comes first, but for the entry of the operation, whose room is kept.
-        let Ok(board) = self.spares.next(self.handle.published(), &patch) else {
+        let keeps = self.demand.is_shared();
+        let Ok(board) = self.spares.next(self.handle.published(), &patch, keeps) else {
             return Err((Fault::Memory, patch));
         };
         self.raiser.put(&patch);

@@ -10,6 +10,7 @@ ghost use Rattle.reflect_core.specs.Source.{IsCutOf};
 ghost use Rattle.tally_word.specs.Reaches.{Reaches};
 ghost use Rattle.tally_word.specs.History.{puts_of, ArePublished};
 
+use crate::demand::FormClaim;
 use crate::news::News;
 use crate::publisher::Publisher;
 use fault::Fault;
@@ -32,6 +33,7 @@ pub struct Watcher<J: Naming> {
     // The greatest tally that it looked at or was told, and the number of its last cut.
     told: u64,
     last: u64,
+    claim: FormClaim,
 }
 
 impl<J: Naming> Model for Watcher<J> {
@@ -48,7 +50,13 @@ impl<J: Naming> Model for Watcher<J> {
 
 impl<J: Naming> Watcher<J> {
     /// It knows no update, and its tally is 0.
-    pub(crate) fn new(width: u64, height: u64, eye: Eye<J>, glance: Glance<J>) -> Self
+    pub(crate) fn new(
+        width: u64,
+        height: u64,
+        eye: Eye<J>,
+        glance: Glance<J>,
+        claim: FormClaim,
+    ) -> Self
         requires { (width ≡ J.width) × (height ≡ J.height) × (eye ≡ []) × (glance ≡ []) }
         ensures { result ≡ record { updates = []; tally = 0 } }
     {
@@ -59,6 +67,7 @@ impl<J: Naming> Watcher<J> {
             glance,
             told: 0,
             last: 0,
+            claim,
         }
     }
 
@@ -143,5 +152,10 @@ impl<J: Naming> ScreenSource for Watcher<J> {
         let number = self.eye.cut(area, have, into)?;
         self.last = number;
         Ok(number)
+    }
+
+    /// Where forms are wanted of two watchers or more, the publisher has them made of what changes.
+    fn want_forms(&self, wants: bool) {
+        self.claim.set(wants);
     }
 }

@@ -17,7 +17,8 @@ use roles::InputSink;
 use std::sync::Wait;
 use viewer_session::Session;
 
-/// Has a turn, unless bytes are unsent, and tells how far the viewer is then. It answers whether none were.
+/// Has a turn, unless bytes are unsent, and then tells how far the viewer is, and the source whether it lends forms for
+/// it. It answers whether none were.
 fn offer<S: ScreenSource, P: Progress>(
     source: &mut S,
     session: &mut Session,
@@ -34,6 +35,7 @@ fn offer<S: ScreenSource, P: Progress>(
     }
     session.turn(source)?;
     progress.count(session.answers(), session.shown());
+    source.want_forms(session.wants_forms());
     Ok(true)
 }
 

@@ -269,6 +269,14 @@ impl Session {
         self.asked.last_cut().unwrap_or(0)
     }
 
+    /// Whether forms of tiles that a source lends would be used for its answers: these are in joined runs, in Hextile and
+    /// in a format that keeps colours apart. No clause speaks of it.
+    pub fn wants_forms(&self) -> bool {
+        self.runs == Runs::Joined
+            && self.choice.kind == Encoding::Hextile
+            && self.format.keeps_apart()
+    }
+
     /// Whether the viewer stands between two messages: its hello is done, there is no fault, and no byte was used since
     /// the hello's end or the last whole message.
     pub fn between(&self) -> bool

@@ -91,10 +91,39 @@ fn reads_beside<J: Naming + Publishes + Send + Sync, R: Threads + Wait + Sync + 
     right
 }
 
+/// Puts three patches, for which the first watcher wants forms, both do, and the second does. It says whether a form is
+/// kept of what changed by the second alone.
+fn keeps_for_two<J: Naming + Publishes, R: Wait + Drop>(
+    alloc: Global,
+    publisher: &mut Publisher<J, R>,
+    watchers: &mut [Watcher<J>],
+    room: &mut Room,
+) -> bool
+    requires { (4 ≡ J.width) × (4 ≡ J.height) }
+{
+    let Some((first, others)) = watchers.split_first_mut() else {
+        return false;
+    };
+    let Some(second) = others.first_mut() else {
+        return false;
+    };
+    let mut right = true;
+    for n in 1..4u64 {
+        first.want_forms(n < 3);
+        second.want_forms(n > 1);
+        let put = puts_one(alloc, publisher, n, false);
+        let cut = second.cut(&ALL, &room.have, &mut room.cut);
+        let is_kept = matches!(room.cut.forms().first(), Some(Some(_)));
+        right = right && matches!(put, Ok(true)) && matches!(cut, Ok(_)) && is_kept == (n == 2);
+    }
+    right
+}
+
 /// What is tried of a new shared screen.
 #[derive(Drop)]
 enum Trial {
     Told,
+    Kept,
     Beside,
     /// Whether five puts are answered, where memory may be short.
     Short,
@@ -120,6 +149,7 @@ fn plays<J: Naming + Publishes + Send + Sync, R: Threads + Wait + Sync + Send + 
             publisher.end();
             Ok(right && is_gone(watchers, &mut room))
         }
+        Trial::Kept => Ok(keeps_for_two(alloc, &mut publisher, watchers, &mut room)),
         Trial::Beside => Ok(reads_beside(rt, alloc, &mut publisher, watchers)),
         Trial::Short => puts_many(alloc, &mut publisher, 5, true),
     }
@@ -128,6 +158,13 @@ fn plays<J: Naming + Publishes + Send + Sync, R: Threads + Wait + Sync + Send + 
 #[test]
 fn three_puts_are_told(rt: HostRuntime) -> Result<(), Fail> {
     let right = plays::<Brand, _>(rt, rt.alloc(), Opened::new(), 2, Trial::Told)?;
+    assert!(rt; right);
+    Ok(())
+}
+
+#[test]
+fn forms_are_kept_for_two_watchers(rt: HostRuntime) -> Result<(), Fail> {
+    let right = plays::<Brand, _>(rt, rt.alloc(), Opened::new(), 2, Trial::Kept)?;
     assert!(rt; right);
     Ok(())
 }
