@@ -3,8 +3,8 @@
 use crate::browser::{Browser, are_strangers_refused, is_told};
 use crate::host::{INIT, KEY, UPDATE, is_told_a_key};
 use crate::loopback::{free_port, listen};
-use plan::{Plan, WebPlan};
 use serve::{Ports, serve};
+use settings::Settings;
 use std::alloc::AllocGlobal;
 use std::env::Env;
 use std::net::{Net, TcpListener, TcpStream};
@@ -91,7 +91,8 @@ fn is_shown(browser: &mut Browser) -> io::Result<bool> {
 }
 
 /// Whether a browser at each port is shown the update, and the page of one that asks, while strangers are refused. The
-/// one that only looks on types in vain: its answer shows that this was read. Then the other types, and both are let go.
+/// one that only looks on types in vain: its answer shows that this was read. Then the other types, and both are let
+/// go.
 fn are_served(net: &HostRuntime, ports: PortsOfRun) -> io::Result<bool> {
     let Some(mut view) = greeted(net, ports.web_view)? else {
         return Ok(false);
@@ -128,32 +129,29 @@ where
         + 'static,
 {
     let alloc = rt.alloc();
-    let host = format!(in alloc; "{}", host.local_addr()?)?;
-    let plan = Plan {
-        host: host.as_str(),
-        next: &[],
-        again: None,
-        bind: "127.0.0.1",
+    let settings = Settings {
+        host: format!(in alloc; "{}", host.local_addr()?)?,
+        bind: String::from_str(alloc, "127.0.0.1")?,
         full_bind: None,
         full: ports.full,
         view: ports.view,
-        is_view_only: false,
-        has_joined_runs: false,
+        view_only: false,
         full_places: 1,
         view_places: 1,
-        stalled: 60,
-        web: WebPlan {
-            full: Some(ports.web_full),
-            view: Some(ports.web_view),
-            root: None,
-            origins: &[],
-        },
-        control: None,
+        plain_runs: false,
+        web_full: Some(ports.web_full),
+        web_view: Some(ports.web_view),
+        web_root: None,
+        web_origins: Vec::new(alloc),
         metrics: None,
         proxy_from: None,
-        is_logged: false,
+        log: false,
+        again: None,
+        stalled: 60,
+        control: None,
+        next: Vec::new(alloc),
     };
-    Ok(serve(rt, alloc, &plan, &mut Ports::new(alloc)))
+    Ok(serve(rt, alloc, &settings, &mut Ports::new(alloc)))
 }
 
 /// Whether the host is told what it should be, and each browser, and the status.

@@ -1,37 +1,12 @@
 -- What a line asks for. Its words are those after the program's name.
-use Rattle.std.specs.Prelude.{◌≡◌, ◌≢◌, ◌<◌, ◌≤◌, ◌⊎◌, ◌∷◌, List, [], codes, length, option_map, ℕ}
-use Rattle.std.specs.String.{string_bytes}
+use Rattle.std.specs.Prelude.{◌≡◌, ◌≢◌, ◌<◌, ◌≤◌, ◌⊎◌, ◌∷◌, List, [], codes, length, ℕ}
 use Rattle.clap.specs.Words.{Text, fault_of}
-use Rattle.plan.specs.declared.plan.Plan.{Plan}
-use Rattle.plan.specs.Statuses.{IsStatus}
-use Rattle.settings.specs.Given.{AreSetBy}
-use Rattle.settings.specs.Serve.{IsBad, serve}
+use Rattle.serve.specs.Statuses.{IsStatus}
+use Rattle.serve_options.specs.Given.{AreSetBy}
+use Rattle.serve_options.specs.Serve.{IsBad, serve}
 use Rattle.settings.specs.declared.values.Settings.{Settings}
 use Rattle.command_line.specs.declared.task.Task.{Task}
 use Rattle.command_line.specs.declared.task.Task.TheVariants.{Replay, Serve, Control, Explain}
-
--- `serve` is told what the line sets.
-pub record IsPlanOf (s : Settings) (plan : Plan) : Type 0 where
-  pub host : plan.host.now ≡ string_bytes s.host
-  pub next : plan.next.now ≡ s.next.items
-  pub again : plan.again ≡ s.again
-  pub bind : plan.bind.now ≡ string_bytes s.bind
-  pub full_bind : option_map (λ text. text.now) plan.full_bind ≡ option_map string_bytes s.full_bind
-  pub full : plan.full ≡ s.full
-  pub view : plan.view ≡ s.view
-  pub view_only : plan.is_view_only ≡ s.view_only
-  pub full_places : plan.full_places ≡ s.full_places
-  pub view_places : plan.view_places ≡ s.view_places
-  pub web_full : plan.web.full ≡ s.web_full
-  pub web_view : plan.web.view ≡ s.web_view
-  pub web_root : option_map (λ text. text.now) plan.web.root ≡ option_map string_bytes s.web_root
-  pub web_origins : plan.web.origins.now ≡ s.web_origins.items
-  pub stalled : plan.stalled ≡ s.stalled
-  pub joined_runs : plan.has_joined_runs ≡ s.joined_runs
-  pub metrics : option_map (λ text. text.now) plan.metrics ≡ option_map string_bytes s.metrics
-  pub proxy_from : option_map (λ text. text.now) plan.proxy_from ≡ option_map string_bytes s.proxy_from
-  pub control : option_map (λ text. text.now) plan.control ≡ option_map string_bytes s.control
-  pub log : plan.is_logged ≡ s.log
 
 -- The line of `replay`, which has no further words.
 abbrev pub replay_line : List Text
@@ -41,8 +16,8 @@ replay_line = codes "replay" ∷ []
 abbrev pub IsControlLine : List Text → Type 0
 IsControlLine words = (rest : List Text) × (words ≡ codes "control" ∷ rest) × (1 < length rest)
 
--- Nothing can be done: the line isn't that of `replay` or of `control`, and if it is one of `serve`, then its options are
--- at fault, or memory was refused. The status is 2, or 4 where memory was refused.
+-- Nothing can be done: the line isn't that of `replay` or of `control`, and if it is one of `serve`, then its options
+-- are at fault, or memory was refused. The status is 2, or 4 where memory was refused.
 pub record IsNoTask (words : List Text) (status : ℕ) : Type 0 where
   pub no_replay : words ≢ replay_line
   pub no_control : ¬ IsControlLine words
@@ -57,11 +32,11 @@ IsAsked words (Serve settings) = (rest : List Text) × (words ≡ codes "serve" 
 IsAsked words Control = IsControlLine words
 IsAsked words (Explain bad) = IsNoTask words bad.status
 
--- What was done: a script was played, or a run was asked, or a plan was served that says what the line sets, and ended
--- with this status; what can't be done has its own.
-abbrev pub IsDone : (serves : Plan → ℕ → Type 0) → (plays : ℕ → Type 0) → (asks : ℕ → Type 0) → Task → ℕ → Type 0
+-- What was done: a script was played, or a run was asked, or the settings of the line were served, and that ended with
+-- this status; what can't be done has its own.
+abbrev pub IsDone : (serves : Settings → ℕ → Type 0) → (plays : ℕ → Type 0) → (asks : ℕ → Type 0) → Task → ℕ → Type 0
 IsDone serves plays asks Replay status = plays status
-IsDone serves plays asks (Serve settings) status = (plan : Plan) × IsPlanOf settings plan × serves plan status
+IsDone serves plays asks (Serve settings) status = serves settings status
 IsDone serves plays asks Control status = asks status
 IsDone serves plays asks (Explain bad) status = status ≡ bad.status
 

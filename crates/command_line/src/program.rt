@@ -1,17 +1,18 @@
 //! Doing what the words ask for.
 
-ghost use Rattle.std.specs.Prelude.{◌≡◌, map, option_map};
+ghost use Rattle.std.specs.Prelude.{◌≡◌, map};
 ghost use Rattle.std.specs.String.{string_bytes};
-ghost use Rattle.command_line.specs.Tasks.{IsAnswered, IsAsked, IsDone, IsPlanOf, MayEndAScript, MayEndAnAsking};
+ghost use Rattle.command_line.specs.Tasks.{IsAnswered, IsAsked, IsDone, MayEndAScript, MayEndAnAsking};
 ghost use Rattle.command_line.specs.declared.task.Task.{Task as Asked};
-ghost use Rattle.plan.specs.Statuses.{HasPlaces, IsStatus};
-ghost use Rattle.plan.specs.declared.plan.Plan.{Plan as Told};
+ghost use Rattle.serve.specs.Statuses.{IsStatus};
+ghost use Rattle.settings.specs.ByRole.{HasPlaces};
+ghost use Rattle.settings.specs.declared.values.Settings.{Settings as Told};
 
 use crate::asking::ask;
 use crate::task::{Task, task_of};
-use plan::{Plan, WebPlan};
 use serve::{Ports, Runtime, serve};
-use settings::{BadLine, Settings};
+use serve_options::BadLine;
+use settings::Settings;
 use std::alloc::{AllocGlobal, Global};
 use std::env::Env;
 use std::io::{ErrorKind, Read, Write};
@@ -34,49 +35,9 @@ fn words<R: Env + AllocGlobal>(rt: &R, alloc: Global) -> io::Result<Vec<String>>
     Ok(words)
 }
 
-/// The text of an option that may have none.
-fn shown(text: &Option<String>) -> Option<&str>
-    ensures { option_map (λ t. t.now) result ≡ option_map string_bytes text.now }
-{
-    match text {
-        Some(text) => Some(text.as_str()),
-        None => None,
-    }
-}
-
-/// What `serve` is told.
-fn plan_of(settings: &Settings) -> Plan<'_>
-    ensures { IsPlanOf settings.now result }
-{
-    Plan {
-        host: settings.host.as_str(),
-        next: settings.next.as_slice(),
-        again: settings.again,
-        bind: settings.bind.as_str(),
-        full_bind: shown(&settings.full_bind),
-        full: settings.full,
-        view: settings.view,
-        is_view_only: settings.view_only,
-        full_places: settings.full_places,
-        view_places: settings.view_places,
-        stalled: settings.stalled,
-        has_joined_runs: settings.joined_runs,
-        web: WebPlan {
-            full: settings.web_full,
-            view: settings.web_view,
-            root: shown(&settings.web_root),
-            origins: settings.web_origins.as_slice(),
-        },
-        metrics: shown(&settings.metrics),
-        proxy_from: shown(&settings.proxy_from),
-        control: shown(&settings.control),
-        is_logged: settings.log,
-    }
-}
-
 /// Has done what these words say, which are those after the program's name, and answers the exit status: of `replay`
-/// that of playing a script, of `control` that of asking, of `serve` that of serving a plan, which says of the hosts,
-/// the address, the ports, the places and the rest what the words set, and of any other line its own, 2 or 4.
+/// that of playing a script, of `control` that of asking, of `serve` that of serving by the settings that the words
+/// set, and of any other line its own, 2 or 4.
 #[tactic(auto, using(crate::proofs::Places::has_places))]
 pub fn perform<S, P, A, T>(
     alloc: Global,
@@ -87,20 +48,20 @@ pub fn perform<S, P, A, T>(
     tells: T,
 ) -> u8
 where
-    S: FnOnce(Plan<'_>) -> u8 + Drop,
+    S: FnOnce(Settings) -> u8 + Drop,
     P: FnOnce() -> u8 + Drop,
     A: FnOnce() -> u8 + Drop,
     T: FnOnce(&str) + Drop,
-    requires serves { (plan : Told) → HasPlaces plan → S.pre serves plan }
+    requires serves { (settings : Told) → HasPlaces settings → S.pre serves settings }
     requires plays { P.pre plays }
     requires asks { A.pre asks }
     requires tells { T.IsAlwaysCallable tells }
-    ensures { (task : Asked) × IsAsked (map string_bytes words.now) task × IsDone (λ plan status. S.post serves plan status) (λ status. P.post plays status) (λ status. A.post asks status) task result }
+    ensures { (task : Asked) × IsAsked (map string_bytes words.now) task × IsDone (λ settings status. S.post serves settings status) (λ status. P.post plays status) (λ status. A.post asks status) task result }
 {
     match task_of(alloc, words) {
         Task::Replay => plays(),
         Task::Control => asks(),
-        Task::Serve(settings) => serves(plan_of(&settings)),
+        Task::Serve(settings) => serves(settings),
         Task::Explain(BadLine { status, text }) => {
             tells(text.as_str());
             status
@@ -121,10 +82,10 @@ where
     perform(
         alloc,
         words,
-        move |plan: Plan<'_>| -> u8
-            requires { HasPlaces plan }
+        move |settings: Settings| -> u8
+            requires { HasPlaces settings }
             ensures { IsStatus result }
-        { serve(rt, alloc, &plan, &mut Ports::new(alloc)) },
+        { serve(rt, alloc, &settings, &mut Ports::new(alloc)) },
         move || -> u8
             ensures { MayEndAScript result }
         { replay::replay(alloc, reader, writer) },

@@ -3,7 +3,7 @@ use Rattle.std.proofs.Common.{◌≡◌, ℕ, Result, Ok, Err, sym, ◌∙◌}
 use Rattle.std.specs.Prelude.{MatchResult, OnOk}
 use Rattle.fault.specs.declared.kinds.Fault.{Fault}
 use Rattle.fault.specs.declared.kinds.Fault.TheVariants as fault
-use Rattle.plan.specs.Statuses.{status_for}
+use Rattle.serve.specs.Statuses.{status_for}
 
 isnt_nought : {A : Type 0} (f : Fault) → status_for (Err f) ≡ 0 → A
 isnt_nought fault.BadVersion e = absurd cc

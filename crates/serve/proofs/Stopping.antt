@@ -1,20 +1,20 @@
 -- A run ends well only where its last host may end, or where an operator may stop it.
-use Rattle.std.proofs.Common.{◌≡◌, ℕ, Bool, true, false, Option, Some, None, inl, inr, refl, is_some}
-use Rattle.plan.specs.Turns.{MayEnd, endless}
-use Rattle.plan.specs.declared.turns.Turns.{Turns}
+use Rattle.std.proofs.Common.{◌≡◌, Bool, true, false, Option, None, inl, inr, refl, is_some}
+use Rattle.serve.specs.Turns.{MayEnd, endless}
+use Rattle.serve.specs.declared.turns.Turns.{Turns}
 use Rattle.serve.specs.Stops.{IsOut}
-use Rattle.plan.specs.declared.plan.Plan.{Plan}
+use Rattle.settings.specs.declared.values.Settings.{Settings}
 
 -- The pause that is left where nobody can stop the run says which of the two it is.
-pub may_end : (plan : Plan) → endless (is_some plan.control) plan.again ≡ None → MayEnd plan
-may_end plan ends = go (is_some plan.control) refl ends
+pub may_end : (settings : Settings) → endless (is_some settings.control) settings.again ≡ None → MayEnd settings
+may_end settings ends = go (is_some settings.control) refl ends
   where
-    go : (b : Bool) → is_some plan.control ≡ b → endless b plan.again ≡ None → MayEnd plan
+    go : (b : Bool) → is_some settings.control ≡ b → endless b settings.again ≡ None → MayEnd settings
     go true names ends = inr names
     go false names ends = inl ends
 
-pub stopped : (plan : Plan) → is_some plan.control ≡ true → MayEnd plan
-stopped plan names = inr names
+pub stopped : (settings : Settings) → is_some settings.control ≡ true → MayEnd settings
+stopped settings names = inr names
 
 -- A supply that is out has no pause that is left whatever is asked.
 pub never : {A B : Type 0} (turns : Turns) (stopped : Option A) (lifeline : Option B) → IsOut turns stopped lifeline → endless (is_some lifeline) turns.again ≡ None

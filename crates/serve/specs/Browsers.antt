@@ -7,8 +7,8 @@ use Rattle.roles.specs.declared.role.Role.TheVariants.{Full, View}
 use Rattle.web_site.specs.Landings.{LeadsToStart}
 use Rattle.web_site.specs.declared.site.Site.{Site}
 use Rattle.web_site.specs.declared.table.WebFile.{WebFile}
-use Rattle.plan.specs.Addresses.{IsProxyFor}
-use Rattle.plan.specs.declared.plan.Plan.{Plan}
+use Rattle.settings.specs.Addresses.{IsProxyFor}
+use Rattle.settings.specs.declared.values.Settings.{Settings}
 use Rattle.connections.specs.declared.caller.WebEntry.{WebEntry}
 
 -- Viewers of this role only look on.
@@ -16,20 +16,20 @@ abbrev pub looks_only : Role → Bool
 looks_only Full = false
 looks_only View = true
 
--- The site has these files, its start is the role's, and where the plan names origins those that may open a link are
+-- The site has these files, its start is the role's, and where the settings name origins those that may open a link are
 -- these and no others.
-pub record IsSiteFor (role : Role) (plan : Plan) (files : List WebFile) (site : Site) : Type 0 where
+pub record IsSiteFor (role : Role) (settings : Settings) (files : List WebFile) (site : Site) : Type 0 where
   pub table : arc_value site.files ≡ files
   pub start : LeadsToStart (looks_only role) site.landing
-  pub origins : 0 < length plan.web.origins.now → map string_bytes site.admission.origins.items ≡ map string_bytes plan.web.origins.now
+  pub origins : 0 < length settings.web_origins.items → map string_bytes site.admission.origins.items ≡ map string_bytes settings.web_origins.items
 
--- Who comes by the port has this role, asks such a site, and is believed to come from elsewhere only by the plan's
--- proxy.
-pub record IsWebEntryFor (role : Role) (plan : Plan) (files : List WebFile) (entry : WebEntry) : Type 0 where
+-- Who comes by the port has this role, asks such a site, and is believed to come from elsewhere only by the proxy of
+-- the settings.
+pub record IsWebEntryFor (role : Role) (settings : Settings) (files : List WebFile) (entry : WebEntry) : Type 0 where
   pub comes_as : entry.listener.role ≡ role
-  pub believes : IsProxyFor plan entry.listener.proxy
-  pub asks : IsSiteFor role plan files (arc_value entry.site)
+  pub believes : IsProxyFor settings entry.listener.proxy
+  pub asks : IsSiteFor role settings files (arc_value entry.site)
 
 -- Each of the ports is one for its own role.
-abbrev pub AreWebEntries : Plan → List WebFile → List WebEntry → Type 0
-AreWebEntries plan files entries = All (λ entry. IsWebEntryFor entry.listener.role plan files entry) entries
+abbrev pub AreWebEntries : Settings → List WebFile → List WebEntry → Type 0
+AreWebEntries settings files entries = All (λ entry. IsWebEntryFor entry.listener.role settings files entry) entries

@@ -4,24 +4,24 @@ use Rattle.std.specs.List.{All}
 use Rattle.std.specs.Arc.{arc_value}
 use Rattle.roles.specs.declared.role.Role.{Role}
 use Rattle.roles.specs.declared.role.Role.TheVariants.{Full, View}
-use Rattle.plan.specs.Statuses.{places_for}
-use Rattle.plan.specs.declared.plan.Plan.{Plan}
+use Rattle.settings.specs.ByRole.{places_for}
+use Rattle.settings.specs.declared.values.Settings.{Settings}
 use Rattle.connections.specs.Doors.{role_behind}
 use Rattle.connections.specs.declared.lobby.TcpDoor.{TcpDoor}
 use Rattle.serve.specs.declared.open.Entry.{Entry}
 
--- The entry is of this plan, and for viewers of this role.
-abbrev pub IsEntryFor : Role → Plan → Entry → Type 0
-IsEntryFor role plan entry = (entry.plan ≡ plan) × ((arc_value entry.lobby).role ≡ role)
+-- The entry is of these settings, and for viewers of this role.
+abbrev pub IsEntryFor : Role → Settings → Entry → Type 0
+IsEntryFor role settings entry = (entry.settings.now ≡ settings) × ((arc_value entry.lobby).role ≡ role)
 
--- There is an entry for viewers with full control, unless the plan has only those who look on.
-abbrev pub IsFullEntry : Plan → Option Entry → Type 0
-IsFullEntry plan full = MatchOption full (plan.is_view_only ≡ true) (λ entry. (plan.is_view_only ≡ false) × IsEntryFor Full plan entry)
+-- There is an entry for viewers with full control, unless there are only those who look on.
+abbrev pub IsFullEntry : Settings → Option Entry → Type 0
+IsFullEntry settings full = MatchOption full (settings.view_only ≡ true) (λ entry. (settings.view_only ≡ false) × IsEntryFor Full settings entry)
 
 -- One entry, if there is one, is for viewers with full control, and the other for those who only look on.
-pub record AreBoth (plan : Plan) (full : Option Entry) (view : Entry) : Type 0 where
-  pub lets_type : IsFullEntry plan full
-  pub lets_look : IsEntryFor View plan view
+pub record AreBoth (settings : Settings) (full : Option Entry) (view : Entry) : Type 0 where
+  pub lets_type : IsFullEntry settings full
+  pub lets_look : IsEntryFor View settings view
 
 module _ {R G : Type 0} where
   -- Beside each door stands the role of the lobby that its viewers come from.
@@ -32,6 +32,6 @@ module _ {R G : Type 0} where
   abbrev pub roles_in : List (Role × TcpDoor R G) → List Role
   roles_in doors = map (λ door. door.0) doors
 
-  -- There are as many of each role as the plan says, those with full control first.
-  abbrev pub AreAsPlanned : Plan → List (Role × TcpDoor R G) → Type 0
-  AreAsPlanned plan doors = roles_in doors ≡ replicate (places_for Full plan) Full ++ replicate plan.view_places View
+  -- There are as many of each role as the settings say, those with full control first.
+  abbrev pub AreDoorsFor : Settings → List (Role × TcpDoor R G) → Type 0
+  AreDoorsFor settings doors = roles_in doors ≡ replicate (places_for Full settings) Full ++ replicate settings.view_places View

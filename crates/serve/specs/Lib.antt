@@ -2,4 +2,6 @@ pub mod Browsers
 pub mod Doors
 pub mod Ports
 pub mod States
+pub mod Statuses
 pub mod Stops
+pub mod Turns

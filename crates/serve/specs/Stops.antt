@@ -1,7 +1,7 @@
 -- How a supply of hosts comes to its end (own).
 use Rattle.std.specs.Prelude.{◌≡◌, ◌⊎◌, Option, is_some, true}
-use Rattle.plan.specs.Turns.{HadAllTurns}
-use Rattle.plan.specs.declared.turns.Turns.{Turns}
+use Rattle.serve.specs.Turns.{HadAllTurns}
+use Rattle.serve.specs.declared.turns.Turns.{Turns}
 
 -- No host is left, or the run was seen to be stopped, which only an operator with a lifeline can do.
 abbrev pub IsOut : {A B : Type 0} → Turns → Option A → Option B → Type 0

@@ -3,8 +3,8 @@
 use crate::quoted::Quoted;
 use crate::trouble::{Stage, Trouble};
 use fault::Fault;
-use plan::{Plan, bind_of, port_of};
 use roles::Role;
+use settings::{Settings, bind_of, port_of};
 use std::fmt;
 use std::fmt::{Display, Formatter};
 use std::io::ErrorKind;
@@ -12,7 +12,7 @@ use std::io::ErrorKind;
 /// A trouble in plain words, with the address and the option that it is about.
 #[derive(Drop)]
 pub(crate) struct Advice<'a> {
-    pub(crate) plan: Plan<'a>,
+    pub(crate) settings: &'a Settings,
     pub(crate) trouble: &'a Trouble,
 }
 
@@ -59,8 +59,8 @@ fn options_of(role: Role) -> (&'static str, &'static str) {
 }
 
 /// The option that has the address to listen on for the viewers of a role.
-fn bind_option(plan: &Plan<'_>, role: Role) -> &'static str {
-    match (role, plan.full_bind) {
+fn bind_option(settings: &Settings, role: Role) -> &'static str {
+    match (role, &settings.full_bind) {
         (Role::Full, Some(_)) => "--full-bind",
         _ => "--bind",
     }
@@ -69,7 +69,7 @@ fn bind_option(plan: &Plan<'_>, role: Role) -> &'static str {
 /// What to try where a port can't be listened on.
 #[derive(Drop)]
 struct Way<'a> {
-    plan: Plan<'a>,
+    settings: &'a Settings,
     role: Role,
     option: &'static str,
     trouble: &'a Trouble,
@@ -95,9 +95,9 @@ impl Display for Way<'_> {
             Some(ErrorKind::AddrNotAvailable) => write!(
                 f,
                 "no such address is this machine's; choose another by {}",
-                bind_option(&self.plan, self.role)
+                bind_option(self.settings, self.role)
             ),
-            Some(ErrorKind::AddrInUse) if self.plan.full == self.plan.view => {
+            Some(ErrorKind::AddrInUse) if self.settings.full == self.settings.view => {
                 f.write_str("--full and --view are the same port; choose another for one of them")
             }
             _ => write!(
@@ -108,11 +108,19 @@ impl Display for Way<'_> {
     }
 }
 
+/// The text of an option, which is empty where it has none.
+fn shown(text: &Option<String>) -> &str {
+    match text {
+        Some(text) => text.as_str(),
+        None => "",
+    }
+}
+
 /// The text that says where the host of this number is.
-fn text_of<'a>(plan: &Plan<'a>, number: usize) -> &'a str {
+fn text_of(settings: &Settings, number: usize) -> &str {
     match number.checked_sub(1) {
-        None => plan.host,
-        Some(place) => match plan.next.get(place) {
+        None => settings.host.as_str(),
+        Some(place) => match settings.next.get(place) {
             Some(text) => text.as_str(),
             None => "",
         },
@@ -160,7 +168,7 @@ fn run_advice(fault: &Fault) -> &'static str {
 
 impl Display for Advice<'_> {
     fn fmt<W: fmt::Write>(&self, f: &mut Formatter<W>) -> fmt::Result {
-        let plan = self.plan;
+        let settings = self.settings;
         let said = Said {
             trouble: self.trouble,
         };
@@ -176,20 +184,20 @@ impl Display for Advice<'_> {
             Stage::ReadBind(role) => write!(
                 f,
                 "{} {} is no IP address of this machine, such as 127.0.0.1",
-                bind_option(&plan, role),
-                bind_of(&plan, role)
+                bind_option(settings, role),
+                bind_of(settings, role)
             ),
             Stage::ReadProxy => write!(
                 f,
                 "--proxy-from {} is no IP address, such as 127.0.0.1",
-                plan.proxy_from.unwrap_or("")
+                shown(&settings.proxy_from)
             ),
             Stage::ReadHost => write!(
                 f,
                 "--host {} is no IP:PORT and no NAME:PORT, such as 192.0.2.7:5900 or localhost:5907",
-                plan.host
+                settings.host
             ),
-            Stage::ReadNext(number) => match plan.next.get(number) {
+            Stage::ReadNext(number) => match settings.next.get(number) {
                 Some(host) => write!(
                     f,
                     "{host} is no IP:PORT and no NAME:PORT, such as 192.0.2.7:5900 or localhost:5907"
@@ -198,10 +206,10 @@ impl Display for Advice<'_> {
             },
             Stage::Listen(role) => {
                 let (option, viewers) = options_of(role);
-                let port = port_of(&plan, role);
-                let bind = bind_of(&plan, role);
+                let port = port_of(settings, role);
+                let bind = bind_of(settings, role);
                 let way = Way {
-                    plan,
+                    settings,
                     role,
                     option,
                     trouble: self.trouble,
@@ -214,14 +222,14 @@ impl Display for Advice<'_> {
             Stage::Control => write!(
                 f,
                 "can't listen at {}{said}; is it a file of another kind, or another reflector's?",
-                plan.control.unwrap_or("")
+                shown(&settings.control)
             ),
             Stage::LookUp => write!(
                 f,
                 "there is no address for the host {}{said}; is its name right?",
-                plan.host
+                settings.host
             ),
-            Stage::ReadOrigin(number) => match plan.web.origins.get(number) {
+            Stage::ReadOrigin(number) => match settings.web_origins.get(number) {
                 Some(origin) => write!(
                     f,
                     "--web-origin {origin} is no origin, such as https://lecture.example"
@@ -231,7 +239,7 @@ impl Display for Advice<'_> {
             Stage::ReadRoot(why) => write!(
                 f,
                 "--web-root {}: {why}; name noVNC's folder, such as /usr/share/novnc",
-                plan.web.root.unwrap_or("")
+                shown(&settings.web_root)
             ),
             Stage::ListenWeb(role) => {
                 let (option, browsers) = match role {
@@ -241,39 +249,39 @@ impl Display for Advice<'_> {
                 write!(
                     f,
                     "can't listen on {} for {browsers}{said}; end the program that has the port, or choose another by {option}",
-                    bind_of(&plan, role)
+                    bind_of(settings, role)
                 )
             }
             Stage::ReadMetrics => write!(
                 f,
                 "--metrics {} is no IP:PORT, such as 127.0.0.1:9100",
-                plan.metrics.unwrap_or("")
+                shown(&settings.metrics)
             ),
             Stage::ListenMetrics => write!(
                 f,
                 "can't listen on {} for machines{said}; end the program that has the port, or choose another by --metrics",
-                plan.metrics.unwrap_or("")
+                shown(&settings.metrics)
             ),
             Stage::Connect => write!(
                 f,
                 "can't connect to the host {}{said}; is a VNC server running there, at that port?",
-                plan.host
+                settings.host
             ),
             Stage::Join(number) => write!(
                 f,
                 "the host {}: {fault}: {}{given}",
-                text_of(&plan, number),
+                text_of(settings, number),
                 join_advice(fault)
             ),
             Stage::Start => write!(
                 f,
                 "can't start{said}; the system may be short of threads or descriptors"
             ),
-            Stage::Run if plan.next.is_empty() => {
+            Stage::Run if settings.next.is_empty() => {
                 write!(
                     f,
                     "the host {}: {fault}: {}{given}",
-                    plan.host,
+                    settings.host,
                     run_advice(fault)
                 )
             }

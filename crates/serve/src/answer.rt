@@ -1,10 +1,11 @@
 //! What `serve` says and answers.
 
 ghost use Rattle.std.specs.Prelude.{◌≡◌, Err, IfOk, MatchResult, OnOk, Result};
-ghost use Rattle.plan.specs.Statuses.{HasPlaces, IsStatus, status_for};
-ghost use Rattle.plan.specs.Turns.{MayEnd};
+ghost use Rattle.settings.specs.ByRole.{HasPlaces};
+ghost use Rattle.serve.specs.Statuses.{IsStatus, status_for};
+ghost use Rattle.serve.specs.Turns.{MayEnd};
 ghost use Rattle.serve.specs.Doors.{AreBoth};
-ghost use Rattle.serve.specs.Ports.{AsksAsPlanned};
+ghost use Rattle.serve.specs.Ports.{AsksForAll};
 ghost use Rattle.serve.specs.declared.trouble.Trouble.{Trouble as Failure};
 
 use crate::advice::Advice;
@@ -13,11 +14,12 @@ use crate::journal::Journal;
 use crate::metrics::{open_ports, run_watched};
 use crate::runtime::Runtime;
 use crate::sentry::Sentry;
+use crate::status::status_of;
 use crate::surroundings::Surroundings;
 use crate::trouble::Trouble;
 use fault::Fault;
-use plan::{Plan, status_of};
 use run_reports::Gravity;
+use settings::Settings;
 use std::alloc::{AllocGlobal, Global};
 use std::env::Env;
 use std::rt::Files;
@@ -26,18 +28,19 @@ use std::time::Clock;
 
 /// Says what went wrong: its number, and then what it means. Where standard error takes no text the exit status alone
 /// says it.
-fn say<R: Eprint + Clock + Wait + Drop>(journal: &Journal<R>, plan: &Plan<'_>, trouble: &Trouble) {
-    let advice = Advice {
-        plan: *plan,
-        trouble,
-    };
+fn say<R: Eprint + Clock + Wait + Drop>(
+    journal: &Journal<R>,
+    settings: &Settings,
+    trouble: &Trouble,
+) {
+    let advice = Advice { settings, trouble };
     let number = trouble.fault.number();
     journal.say(Gravity::Fault, format_args!("fault {number}"));
     journal.say(Gravity::Fault, format_args!("reflectord: {advice}"));
 }
 
 /// Runs, says what went wrong, if something did, and answers the exit status for how it ended.
-fn answer<R, F>(journal: &Journal<R>, plan: &Plan<'_>, runs: F) -> u8
+fn answer<R, F>(journal: &Journal<R>, settings: &Settings, runs: F) -> u8
 where
     R: Eprint + Clock + Wait + Drop,
     F: FnOnce() -> Result<(), Trouble>,
@@ -48,7 +51,7 @@ where
     match runs() {
         Ok(()) => status_of(&Ok(())),
         Err(trouble) => {
-            say(journal, plan, &trouble);
+            say(journal, settings, &trouble);
             status_of(&Err(trouble.fault))
         }
     }
@@ -62,28 +65,28 @@ where
 /// The ports that it asks the system for are added to `ports`: that of viewers with full control, that of those who
 /// only look on, then those of browsers, and that of machines.
 #[tactic(auto, using(crate::proofs::Asking::nobody))]
-pub fn serve<R>(rt: R, alloc: Global, plan: &Plan<'_>, ports: &mut Ports) -> u8
+pub fn serve<R>(rt: R, alloc: Global, settings: &Settings, ports: &mut Ports) -> u8
 where
     R: Runtime + Files + AllocGlobal + Env + Eprint,
-    requires { HasPlaces plan.now }
-    ensures ports { AsksAsPlanned plan.now ports.old ports.new }
+    requires { HasPlaces settings.now }
+    ensures ports { AsksForAll settings.now ports.old ports.new }
     ensures status { IsStatus result }
-    ensures ended { result ≡ 0 → MayEnd plan.now }
+    ensures ended { result ≡ 0 → MayEnd settings.now }
 {
     let surroundings = Surroundings::of(&rt, alloc);
-    let Ok(log) = Sentry::new(rt, alloc, plan, &surroundings) else {
+    let Ok(log) = Sentry::new(rt, alloc, settings, &surroundings) else {
         return status_of(&Err(Fault::Memory));
     };
     let Ok(journal) = log.journal().clone() else {
         return status_of(&Err(Fault::Memory));
     };
-    let opened = open_ports(&rt, alloc, plan, ports, &log);
+    let opened = open_ports(&rt, alloc, settings, ports, &log);
     answer(
         &journal,
-        plan,
+        settings,
         move || -> Result<(), Trouble>
-            requires { HasPlaces plan.now × IfOk opened (λ opened. AreBoth plan.now opened.entrances.full opened.entrances.view) }
-            ensures { OnOk result (MayEnd plan.entry.now) }
-        { run_watched(rt, alloc, plan, opened?, &log) },
+            requires { HasPlaces settings.now × IfOk opened (λ opened. AreBoth settings.now opened.entrances.full opened.entrances.view) }
+            ensures { OnOk result (MayEnd settings.entry.now) }
+        { run_watched(rt, alloc, settings, opened?, &log) },
     )
 }

@@ -2,18 +2,18 @@
 
 use connections::Glance;
 use metrics_text::{ByRole, Counters, Lag};
-use plan::{Plan, places_of};
 use reflector::InputCounts;
 use roles::Role;
 use run_reports::Tally;
+use settings::{Settings, places_of};
 use std::alloc::{AllocError, Global};
 use std::sync::Wait;
 
-/// How many places a plan has for each role.
-pub(crate) fn places_by_role(plan: &Plan<'_>) -> ByRole {
+/// How many places there are for each role.
+pub(crate) fn places_by_role(settings: &Settings) -> ByRole {
     ByRole {
-        full: places_of(plan, Role::Full),
-        view: places_of(plan, Role::View),
+        full: places_of(settings, Role::Full),
+        view: places_of(settings, Role::View),
     }
 }
 

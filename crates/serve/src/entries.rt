@@ -11,17 +11,17 @@ use crate::trouble::{Stage, Trouble};
 use crate::web::{files_of, open_webs};
 use connections::{Desk, WebEntry};
 use fault::Fault;
-use plan::{Plan, places_of};
 use roles::Role;
 use run_traits::Log;
+use settings::{Settings, places_of};
 use std::alloc::{AllocGlobal, Global};
 use std::net::{Net, TcpListener, TcpStream};
 use std::rt::Files;
 use std::sync::Arc;
 
-/// The doors of all places of a plan.
-fn desk_of(alloc: Global, plan: &Plan<'_>) -> Result<Arc<Desk, Global>, Trouble> {
-    let places = places_of(plan, Role::Full).saturating_add(places_of(plan, Role::View));
+/// The doors of all places.
+fn desk_of(alloc: Global, settings: &Settings) -> Result<Arc<Desk, Global>, Trouble> {
+    let places = places_of(settings, Role::Full).saturating_add(places_of(settings, Role::View));
     let Ok(desk) = Desk::new(alloc, places as usize) else {
         return Err(Trouble::new(Stage::Start, Fault::Memory));
     };
@@ -31,23 +31,23 @@ fn desk_of(alloc: Global, plan: &Plan<'_>) -> Result<Arc<Desk, Global>, Trouble>
     }
 }
 
-/// Listens for the viewers with full control, unless the plan has only those who look on.
+/// Listens for the viewers with full control, unless there are only those who look on.
 fn open_full<'a, R: Net<Stream = TcpStream, Listener = TcpListener>, G: Log>(
     rt: &R,
     alloc: Global,
-    plan: &Plan<'a>,
+    settings: &'a Settings,
     ports: &mut Ports,
     desk: &Arc<Desk, Global>,
     log: &G,
 ) -> Result<Option<Entry<'a>>, Trouble>
-    ensures asked { AsksFor Full plan.now ports.old ports.new }
-    ensures closed { plan.now.is_view_only ≡ true → ports.new ≡ ports.old }
-    ensures entry { IfOk result (λ full. IsFullEntry plan.now full) }
+    ensures asked { AsksFor Full settings.now ports.old ports.new }
+    ensures closed { settings.now.view_only ≡ true → ports.new ≡ ports.old }
+    ensures entry { IfOk result (λ full. IsFullEntry settings.now full) }
 {
-    if plan.is_view_only {
+    if settings.view_only {
         return Ok(None);
     }
-    let full = open(rt, alloc, plan, ports, Role::Full, desk, log)?;
+    let full = open(rt, alloc, settings, ports, Role::Full, desk, log)?;
     Ok(Some(full))
 }
 
@@ -57,16 +57,16 @@ fn open_full<'a, R: Net<Stream = TcpStream, Listener = TcpListener>, G: Log>(
 pub(crate) fn open_both<'a, R: Net<Stream = TcpStream, Listener = TcpListener>, G: Log>(
     rt: &R,
     alloc: Global,
-    plan: &Plan<'a>,
+    settings: &'a Settings,
     ports: &mut Ports,
     log: &G,
 ) -> Result<(Option<Entry<'a>>, Entry<'a>), Trouble>
-    ensures asked { AsksForViewers plan.now ports.old ports.new }
-    ensures both { IfOk result (λ entries. AreBoth plan.now entries.0 entries.1) }
+    ensures asked { AsksForViewers settings.now ports.old ports.new }
+    ensures both { IfOk result (λ entries. AreBoth settings.now entries.0 entries.1) }
 {
-    let desk = desk_of(alloc, plan)?;
-    let full = open_full(rt, alloc, plan, ports, &desk, log)?;
-    let view = open(rt, alloc, plan, ports, Role::View, &desk, log)?;
+    let desk = desk_of(alloc, settings)?;
+    let full = open_full(rt, alloc, settings, ports, &desk, log)?;
+    let view = open(rt, alloc, settings, ports, Role::View, &desk, log)?;
     Ok((full, view))
 }
 
@@ -83,18 +83,18 @@ pub(crate) struct Entrances<'a> {
 pub(crate) fn open_all<'a, R, G>(
     rt: &R,
     alloc: Global,
-    plan: &Plan<'a>,
+    settings: &'a Settings,
     ports: &mut Ports,
     log: &G,
 ) -> Result<Entrances<'a>, Trouble>
 where
     R: Net<Stream = TcpStream, Listener = TcpListener> + Files + AllocGlobal + Copy + Drop,
     G: Log,
-    ensures asked { AsksForPeople plan.now ports.old ports.new }
-    ensures both { IfOk result (λ entrances. AreBoth plan.now entrances.full entrances.view) }
+    ensures asked { AsksForPeople settings.now ports.old ports.new }
+    ensures both { IfOk result (λ entrances. AreBoth settings.now entrances.full entrances.view) }
 {
-    let files = files_of(*rt, alloc, plan)?;
-    let (full, view) = open_both(rt, alloc, plan, ports, log)?;
-    let web = open_webs(rt, alloc, plan, ports, (&full, &view), &files, log)?;
+    let files = files_of(*rt, alloc, settings)?;
+    let (full, view) = open_both(rt, alloc, settings, ports, log)?;
+    let web = open_webs(rt, alloc, settings, ports, (&full, &view), &files, log)?;
     Ok(Entrances { full, view, web })
 }

@@ -5,7 +5,7 @@ ghost use Rattle.std.specs.String.{string_bytes};
 
 use crate::trouble::{Stage, Trouble};
 use fault::Fault;
-use plan::Plan;
+use settings::Settings;
 use std::alloc::{AllocError, Global};
 use std::net::SocketAddr;
 
@@ -22,7 +22,8 @@ fn is_of_a_name(byte: u8) -> bool {
     byte.is_ascii_alphanumeric() || matches!(byte, b'.' | b'-' | b'_')
 }
 
-/// Whether a text says where a host is: an address with a port, as `192.0.2.7:5900` and `[::1]:5900`, or a name with one.
+/// Whether a text says where a host is: an address with a port, as `192.0.2.7:5900` and `[::1]:5900`, or a name with
+/// one.
 fn says_where(text: &str) -> bool {
     if text.parse::<SocketAddr>().is_ok() {
         return true;
@@ -33,31 +34,31 @@ fn says_where(text: &str) -> bool {
     }
 }
 
-/// The texts of a plan's hosts, by their numbers: the first, and those that follow on it. It fails where one of them
+/// The texts of the hosts, by their numbers: the first, and those that follow on it. It fails where one of them
 /// doesn't say where a host is.
-pub(crate) fn texts_of(alloc: Global, plan: &Plan<'_>) -> Result<Vec<String>, Trouble>
-    ensures { IfOk result (λ texts. map string_bytes texts.items ≡ plan.now.host.now ∷ map string_bytes plan.now.next.now) }
+pub(crate) fn texts_of(alloc: Global, settings: &Settings) -> Result<Vec<String>, Trouble>
+    ensures { IfOk result (λ texts. map string_bytes texts.items ≡ string_bytes settings.now.host ∷ map string_bytes settings.now.next.items) }
 {
-    if !says_where(plan.host) {
+    if !says_where(settings.host.as_str()) {
         return Err(Trouble::new(Stage::ReadHost, Fault::LinkFailed));
     }
-    for (number, host) in plan.next.iter().enumerate() {
+    for (number, host) in settings.next.iter().enumerate() {
         if !says_where(host.as_str()) {
             return Err(Trouble::new(Stage::ReadNext(number), Fault::LinkFailed));
         }
     }
-    match copied(alloc, plan) {
+    match copied(alloc, settings) {
         Ok(texts) => Ok(texts),
         Err(_) => Err(Trouble::new(Stage::Start, Fault::Memory)),
     }
 }
 
-fn copied(alloc: Global, plan: &Plan<'_>) -> Result<Vec<String>, AllocError>
-    ensures { IfOk result (λ texts. map string_bytes texts.items ≡ plan.now.host.now ∷ map string_bytes plan.now.next.now) }
+fn copied(alloc: Global, settings: &Settings) -> Result<Vec<String>, AllocError>
+    ensures { IfOk result (λ texts. map string_bytes texts.items ≡ string_bytes settings.now.host ∷ map string_bytes settings.now.next.items) }
 {
     let mut texts = Vec::new(alloc);
-    texts.push(String::from_str(alloc, plan.host)?)?;
-    for host in plan.next {
+    texts.push(String::from_str(alloc, settings.host.as_str())?)?;
+    for host in &settings.next {
         texts.push(String::from_str(alloc, host.as_str())?)?;
     }
     Ok(texts)

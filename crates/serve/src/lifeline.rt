@@ -1,6 +1,6 @@
 //! What an operator ends a run by.
 
-use plan::CallsOff;
+use crate::rested::CallsOff;
 use std::alloc::Global;
 use std::net::{Shutdown, TcpStream};
 use std::sync::{Arc, Condvar, Mutex, Wait};

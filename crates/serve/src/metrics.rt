@@ -1,10 +1,10 @@
 //! Where machines read a run's numbers.
 
 ghost use Rattle.std.specs.Prelude.{◌≡◌, IfOk, OnOk, is_some};
-ghost use Rattle.plan.specs.Statuses.{HasPlaces};
-ghost use Rattle.plan.specs.Turns.{MayEnd};
+ghost use Rattle.settings.specs.ByRole.{HasPlaces};
+ghost use Rattle.serve.specs.Turns.{MayEnd};
 ghost use Rattle.serve.specs.Doors.{AreBoth};
-ghost use Rattle.serve.specs.Ports.{AsksAsPlanned, AsksForMetrics};
+ghost use Rattle.serve.specs.Ports.{AsksForAll, AsksForMetrics};
 
 use crate::bound::Ports;
 use crate::counters::{counters_of, places_by_role};
@@ -15,11 +15,12 @@ use crate::sentry::Sentry;
 use crate::trouble::{Stage, Trouble};
 use connections::Desk;
 use fault::Fault;
+use metrics_site::{Watched, answer_one};
 use metrics_text::ByRole;
-use plan::{Plan, metrics_address_of};
 use reflector::InputCounts;
 use run_control::Entry;
 use run_traits::Log;
+use settings::{Settings, metrics_address_of};
 use std::alloc::{AllocGlobal, Global};
 use std::hash::RandomState;
 use std::net::{Net, TcpListener, TcpStream};
@@ -29,7 +30,6 @@ use std::sync::{Arc, Wait};
 use std::thread::{Builder, Threads};
 use std::time::{Clock, Duration, Instant};
 use std::{io, thread};
-use metrics_site::{Watched, answer_one};
 
 /// A machine has so many seconds for its request, and to take the answer. One is answered after another.
 const PATIENCE_SECONDS: u64 = 2;
@@ -37,17 +37,17 @@ const PATIENCE_SECONDS: u64 = 2;
 /// For how long nobody is answered after the system refused a connection, in milliseconds.
 const PAUSE_MILLIS: u64 = 100;
 
-/// Listens for machines that watch the run, if the plan has an address for that.
+/// Listens for machines that watch the run, if the settings have an address for that.
 #[tactic(auto, using(crate::proofs::Asking::asks_for_metrics))]
 fn open_metrics<R: Net<Stream = TcpStream, Listener = TcpListener>>(
     rt: &R,
-    plan: &Plan<'_>,
+    settings: &Settings,
     ports: &mut Ports,
 ) -> Result<Option<TcpListener>, Trouble>
-    ensures asked { AsksForMetrics plan.now ports.old ports.new }
-    ensures heard { IfOk result (λ listener. is_some listener ≡ is_some plan.now.metrics) }
+    ensures asked { AsksForMetrics settings.now ports.old ports.new }
+    ensures heard { IfOk result (λ listener. is_some listener ≡ is_some settings.now.metrics) }
 {
-    let Some(address) = metrics_address_of(plan) else {
+    let Some(address) = metrics_address_of(settings) else {
         return Ok(None);
     };
     let Ok(address) = address else {
@@ -67,23 +67,23 @@ pub(crate) struct Opened<'a> {
 }
 
 /// Listens for people, and then for machines.
-#[tactic(auto, using(crate::proofs::Asking::people_alone, crate::proofs::Asking::planned))]
+#[tactic(auto, using(crate::proofs::Asking::people_alone, crate::proofs::Asking::with_machines))]
 pub(crate) fn open_ports<'a, R, G>(
     rt: &R,
     alloc: Global,
-    plan: &Plan<'a>,
+    settings: &'a Settings,
     ports: &mut Ports,
     log: &G,
 ) -> Result<Opened<'a>, Trouble>
 where
     R: Net<Stream = TcpStream, Listener = TcpListener> + Files + AllocGlobal + Copy + Drop,
     G: Log,
-    ensures asked { AsksAsPlanned plan.now ports.old ports.new }
-    ensures both { IfOk result (λ opened. AreBoth plan.now opened.entrances.full opened.entrances.view) }
-    ensures machines { IfOk result (λ opened. is_some opened.machines ≡ is_some plan.now.metrics) }
+    ensures asked { AsksForAll settings.now ports.old ports.new }
+    ensures both { IfOk result (λ opened. AreBoth settings.now opened.entrances.full opened.entrances.view) }
+    ensures machines { IfOk result (λ opened. is_some opened.machines ≡ is_some settings.now.metrics) }
 {
-    let entrances = open_all(rt, alloc, plan, ports, log)?;
-    let machines = open_metrics(rt, plan, ports)?;
+    let entrances = open_all(rt, alloc, settings, ports, log)?;
+    let machines = open_metrics(rt, settings, ports)?;
     Ok(Opened {
         entrances,
         machines,
@@ -139,7 +139,7 @@ impl<R: Eprint + Clock + Wait + Drop> Sources<R> {
 fn start_metrics<R>(
     rt: R,
     alloc: Global,
-    plan: &Plan<'_>,
+    settings: &Settings,
     listener: Option<TcpListener>,
     desk: &Arc<Desk, Global>,
     sentry: &Sentry<R>,
@@ -169,7 +169,7 @@ where
         desk,
         sentry,
         input,
-        places: places_by_role(plan),
+        places: places_by_role(settings),
         keys,
     };
     let started = Builder::new()
@@ -181,20 +181,20 @@ where
     }
 }
 
-/// Reflects the hosts of a plan for those who come in by these ports, and answers machines meanwhile, if they are
+/// Reflects the hosts of the settings for those who come in by these ports, and answers machines meanwhile, if they are
 /// answered.
 pub(crate) fn run_watched<R>(
     rt: R,
     alloc: Global,
-    plan: &Plan<'_>,
+    settings: &Settings,
     opened: Opened<'_>,
     log: &Sentry<R>,
 ) -> Result<(), Trouble>
 where
     R: Runtime + Eprint + Files,
-    requires places { HasPlaces plan.now }
-    requires entries { AreBoth plan.now opened.entrances.full opened.entrances.view }
-    ensures { OnOk result (MayEnd plan.now) }
+    requires places { HasPlaces settings.now }
+    requires entries { AreBoth settings.now opened.entrances.full opened.entrances.view }
+    ensures { OnOk result (MayEnd settings.now) }
 {
     let Opened {
         entrances,
@@ -204,6 +204,6 @@ where
         return Err(Trouble::new(Stage::Start, Fault::Memory));
     };
     let desk = entrances.view.lobby.desk();
-    start_metrics(rt, alloc, plan, machines, desk, log, &input)?;
-    run(rt, alloc, plan, entrances, input, log)
+    start_metrics(rt, alloc, settings, machines, desk, log, &input)?;
+    run(rt, alloc, settings, entrances, input, log)
 }

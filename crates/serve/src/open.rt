@@ -3,56 +3,56 @@
 ghost use Rattle.std.specs.Prelude.{◌≡◌, ◌++◌, ◌∷◌, [], IfOk};
 ghost use Rattle.std.specs.Arc.{arc_value};
 ghost use Rattle.std.specs.Net.Socket.{socket_port};
-ghost use Rattle.plan.specs.Addresses.{IsAddressFor, IsProxyFor};
-ghost use Rattle.plan.specs.Statuses.{port_for};
+ghost use Rattle.settings.specs.Addresses.{IsAddressFor, IsProxyFor};
+ghost use Rattle.settings.specs.ByRole.{port_for};
 ghost use Rattle.serve.specs.Ports.{AsksFor};
 
 use crate::bound::{Bound, Ports};
 use crate::trouble::{Stage, Trouble};
 use connections::{Desk, Lobby};
 use fault::Fault;
-use plan::{Plan, address_of, places_of, proxy_of};
 use roles::Role;
 use run_traits::{Event, Log, Way};
+use settings::{Settings, address_of, places_of, proxy_of};
 use std::alloc::Global;
 use std::net::{Net, TcpListener, TcpStream};
 use std::sync::Arc;
 
-/// Where the viewers of a role come in, and the lobby to which they are let. It listens at the port that the plan has
-/// for the role of that lobby.
+/// Where the viewers of a role come in, and the lobby to which they are let. It listens at the port that the settings
+/// have for the role of that lobby.
 #[derive(Drop)]
 pub(crate) struct Entry<'a> {
-    pub(crate) plan: Plan<'a>,
+    pub(crate) settings: &'a Settings,
     pub(crate) bound: Bound,
     pub(crate) lobby: Arc<Lobby, Global>,
-    pub(crate) ghost port: { socket_port bound.address ≡ port_for (arc_value lobby).role plan },
-    pub(crate) ghost proxy: { ∥ IsProxyFor plan bound.listener.proxy ∥₁ },
+    pub(crate) ghost port: { socket_port bound.address ≡ port_for (arc_value lobby).role settings.now },
+    pub(crate) ghost proxy: { ∥ IsProxyFor settings.now bound.listener.proxy ∥₁ },
     pub(crate) ghost role: { bound.listener.role ≡ (arc_value lobby).role },
 }
 
-/// Listens for the viewers of a role, where the plan says, and tells the log where.
+/// Listens for the viewers of a role, where the settings say, and tells the log where.
 #[tactic(auto, using(crate::proofs::Asking::asks_for))]
 pub(crate) fn open<'a, R: Net<Stream = TcpStream, Listener = TcpListener>, G: Log>(
     rt: &R,
     alloc: Global,
-    plan: &Plan<'a>,
+    settings: &'a Settings,
     ports: &mut Ports,
     role: Role,
     desk: &Arc<Desk, Global>,
     log: &G,
 ) -> Result<Entry<'a>, Trouble>
-    ensures asked { AsksFor role plan.now ports.old ports.new }
-    ensures plan { IfOk result (λ entry. entry.plan ≡ plan.now) }
-    ensures address { IfOk result (λ entry. IsAddressFor role plan.now entry.bound.address) }
+    ensures asked { AsksFor role settings.now ports.old ports.new }
+    ensures settings { IfOk result (λ entry. entry.settings.now ≡ settings.now) }
+    ensures address { IfOk result (λ entry. IsAddressFor role settings.now entry.bound.address) }
     ensures role { IfOk result (λ entry. (arc_value entry.lobby).role ≡ role) }
-    ensures proxy { IfOk result (λ entry. IsProxyFor plan.now entry.bound.listener.proxy) }
-    ensures stalled { IfOk result (λ entry. (arc_value entry.lobby).stalled ≡ plan.now.stalled) }
+    ensures proxy { IfOk result (λ entry. IsProxyFor settings.now entry.bound.listener.proxy) }
+    ensures stalled { IfOk result (λ entry. (arc_value entry.lobby).stalled ≡ settings.now.stalled) }
 {
-    let places = places_of(plan, role);
-    let Ok(address) = address_of(plan, role) else {
+    let places = places_of(settings, role);
+    let Ok(address) = address_of(settings, role) else {
         return Err(Trouble::new(Stage::ReadBind(role), Fault::LinkFailed));
     };
-    let Ok(proxy) = proxy_of(plan) else {
+    let Ok(proxy) = proxy_of(settings) else {
         return Err(Trouble::new(Stage::ReadProxy, Fault::LinkFailed));
     };
     let bound = match Bound::at(rt, ports, address, role, proxy) {
@@ -62,7 +62,7 @@ pub(crate) fn open<'a, R: Net<Stream = TcpStream, Listener = TcpListener>, G: Lo
     let Ok(desk) = Arc::try_clone(desk) else {
         return Err(Trouble::new(Stage::Start, Fault::Memory));
     };
-    let Ok(lobby) = Lobby::new(alloc, role, places, plan.stalled, desk) else {
+    let Ok(lobby) = Lobby::new(alloc, role, places, settings.stalled, desk) else {
         return Err(Trouble::new(Stage::Start, Fault::Memory));
     };
     let Ok(lobby) = Arc::new(alloc, lobby) else {
@@ -75,7 +75,7 @@ pub(crate) fn open<'a, R: Net<Stream = TcpStream, Listener = TcpListener>, G: Lo
         way: Way::Tcp,
     });
     Ok(Entry {
-        plan: *plan,
+        settings,
         bound,
         lobby,
     })

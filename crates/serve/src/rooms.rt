@@ -3,18 +3,18 @@
 ghost use Rattle.std.specs.Prelude.{◌≡◌, ◌+◌, ◌++◌, ◌<◌, ◌∷◌, [], length, replicate, IfErr, IfOk, OnOk};
 ghost use Rattle.std.specs.Arc.{arc_value};
 ghost use Rattle.fault.specs.declared.kinds.Fault.TheVariants.{Memory};
-ghost use Rattle.plan.specs.Statuses.{HasPlaces, places_for};
+ghost use Rattle.settings.specs.ByRole.{HasPlaces, places_for};
 ghost use Rattle.roles.specs.declared.role.Role.TheVariants.{Full};
-ghost use Rattle.serve.specs.Doors.{AreAsPlanned, AreBoth, HaveTheirRoles, IsFullEntry, roles_in};
+ghost use Rattle.serve.specs.Doors.{AreDoorsFor, AreBoth, HaveTheirRoles, IsFullEntry, roles_in};
 
 use crate::open::Entry;
 use crate::runtime::{Runtime, STACK};
 use crate::trouble::{Stage, Trouble};
 use connections::{Everyone, Lobby, Seat, TcpDoor, TcpEntry, TcpPorter, WriterSeat};
 use fault::Fault;
-use plan::{Plan, places_of};
 use roles::Role;
 use run_traits::{HostCount, Log};
+use settings::{Settings, places_of};
 use std::alloc::Global;
 use std::io;
 use std::net::Net;
@@ -68,30 +68,30 @@ impl<R: Wait + Clock + Drop + Copy + Net, G: Log + Clone + Drop> Rooms<R, G> {
         Ok(())
     }
 
-    /// The places of viewers with full control, if the plan has some. They are the first.
+    /// The places of viewers with full control, if there are some. They are the first.
     #[tactic(auto, using(crate::proofs::Counts::entry_places))]
     fn add_full(
         &mut self,
         rt: R,
         alloc: Global,
-        plan: &Plan<'_>,
+        settings: &Settings,
         full: &Option<Entry<'_>>,
         log: &G,
     ) -> Result<(), Trouble>
         requires none { self.old.doors.items ≡ [] }
-        requires entry { IsFullEntry plan.now full.now }
-        requires places { HasPlaces plan.now }
-        ensures count { OnOk result (length self.new.doors.items ≡ places_for Full plan.now) }
-        ensures roles { OnOk result (roles_in self.new.doors.items ≡ replicate (places_for Full plan.now) Full) }
+        requires entry { IsFullEntry settings.now full.now }
+        requires places { HasPlaces settings.now }
+        ensures count { OnOk result (length self.new.doors.items ≡ places_for Full settings.now) }
+        ensures roles { OnOk result (roles_in self.new.doors.items ≡ replicate (places_for Full settings.now) Full) }
     {
-        let _plan = plan;
+        let _settings = settings;
         match full {
             Some(entry) => self.add_all(rt, alloc, entry, log),
             None => Ok(()),
         }
     }
 
-    /// The places of one role more, as many as the entry's plan says.
+    /// The places of one role more, as many as the entry's settings say.
     pub(crate) fn add_all(
         &mut self,
         rt: R,
@@ -99,11 +99,11 @@ impl<R: Wait + Clock + Drop + Copy + Net, G: Log + Clone + Drop> Rooms<R, G> {
         entry: &Entry<'_>,
         log: &G,
     ) -> Result<(), Trouble>
-        requires { length self.old.doors.items + places_for (arc_value entry.now.lobby).role entry.now.plan < 65 }
-        ensures count { OnOk result (length self.new.doors.items ≡ length self.old.doors.items + places_for (arc_value entry.now.lobby).role entry.now.plan) }
-        ensures roles { OnOk result (roles_in self.new.doors.items ≡ roles_in self.old.doors.items ++ replicate (places_for (arc_value entry.now.lobby).role entry.now.plan) (arc_value entry.now.lobby).role) }
+        requires { length self.old.doors.items + places_for (arc_value entry.now.lobby).role entry.now.settings.now < 65 }
+        ensures count { OnOk result (length self.new.doors.items ≡ length self.old.doors.items + places_for (arc_value entry.now.lobby).role entry.now.settings.now) }
+        ensures roles { OnOk result (roles_in self.new.doors.items ≡ roles_in self.old.doors.items ++ replicate (places_for (arc_value entry.now.lobby).role entry.now.settings.now) (arc_value entry.now.lobby).role) }
     {
-        let places = places_of(&entry.plan, entry.lobby.role());
+        let places = places_of(entry.settings, entry.lobby.role());
         for _place in 0..places {
             let seat = match Seat::new(&rt, alloc) {
                 Ok(seat) => seat,
@@ -117,22 +117,22 @@ impl<R: Wait + Clock + Drop + Copy + Net, G: Log + Clone + Drop> Rooms<R, G> {
     }
 }
 
-/// The places of a plan whose viewers come in by these entries.
+/// The places that the settings say, whose viewers come in by these entries.
 #[tactic(auto, using(crate::proofs::Counts::full_most, crate::proofs::Counts::entry_places))]
 pub(crate) fn rooms_of<R: Wait + Clock + Drop + Copy + Net, G: Log + Clone + Drop>(
     rt: R,
     alloc: Global,
-    plan: &Plan<'_>,
+    settings: &Settings,
     full: &Option<Entry<'_>>,
     view: &Entry<'_>,
     log: &G,
 ) -> Result<Rooms<R, G>, Trouble>
-    requires entries { AreBoth plan.now full.now view.now }
-    requires places { HasPlaces plan.now }
-    ensures { IfOk result (λ rooms. AreAsPlanned plan.now rooms.doors.items) }
+    requires entries { AreBoth settings.now full.now view.now }
+    requires places { HasPlaces settings.now }
+    ensures { IfOk result (λ rooms. AreDoorsFor settings.now rooms.doors.items) }
 {
     let mut rooms = Rooms::new(alloc);
-    rooms.add_full(rt, alloc, plan, full, log)?;
+    rooms.add_full(rt, alloc, settings, full, log)?;
     rooms.add_all(rt, alloc, view, log)?;
     Ok(rooms)
 }
@@ -163,7 +163,7 @@ pub(crate) struct Hall {
 /// The porter of the port of a role, whose viewers are let to the entry's lobby.
 fn porter_of(rt: &impl Net, alloc: Global, entry: Entry<'_>) -> io::Result<TcpPorter> {
     let Entry {
-        plan: _,
+        settings: _,
         bound,
         lobby,
     } = entry;

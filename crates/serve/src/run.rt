@@ -3,9 +3,9 @@
 ghost use Rattle.std.specs.Prelude.{◌≡◌, ◌≤◌, true, false, None, All, OnOk, is_some, length};
 ghost use Rattle.raster.specs.Size.{IsScreenSize};
 ghost use Rattle.host_turns.specs.Running.{goes_on};
-ghost use Rattle.plan.specs.Statuses.{HasPlaces};
-ghost use Rattle.plan.specs.Turns.{MayEnd, endless};
-ghost use Rattle.serve.specs.Doors.{AreAsPlanned, AreBoth};
+ghost use Rattle.settings.specs.ByRole.{HasPlaces};
+ghost use Rattle.serve.specs.Turns.{MayEnd, endless};
+ghost use Rattle.serve.specs.Doors.{AreDoorsFor, AreBoth};
 
 use crate::control::Control;
 use crate::entries::Entrances;
@@ -24,12 +24,12 @@ use fault::Fault;
 use host_turns::Hosts;
 use joined_runs::Runs;
 use link::{Link, Rest};
-use plan::{Plan, runs_of};
 use reflector::{InputCounts, Running, run_all};
 use rfb_wire::Joined;
 use roles::Role;
 use run_traits::{Alarm, Door, Log};
 use screen_pair::Publishes;
+use settings::{Settings, runs_of};
 use std::alloc::{AllocError, Global};
 use std::marker::Brand;
 use std::rt::Files;
@@ -83,13 +83,13 @@ where
     result
 }
 
-/// Starts all threads, with the places that the plan says, and waits until the last host has ended. It answers what
+/// Starts all threads, with the places that the settings say, and waits until the last host has ended. It answers what
 /// reading or joining that was answered. Where the first host is to be tried again, no end of a host is the last. The
 /// first host's links have no deadline: a run of them would end ten seconds after it began.
 fn reflect<G, R>(
     rt: R,
     alloc: Global,
-    plan: &Plan<'_>,
+    settings: &Settings,
     supply: Supply<R, G>,
     met: Met<R>,
     rooms: Rooms<R, G>,
@@ -100,10 +100,10 @@ where
     R: Runtime,
     requires size { IsScreenSize met.joined.w met.joined.h }
     requires untimed { (met.reader.has_deadline ≡ false) × (met.writer.has_deadline ≡ false) }
-    requires places { HasPlaces plan.now }
-    requires doors { AreAsPlanned plan.now rooms.doors.items }
-    requires again { endless (is_some supply.lifeline) supply.turns.again ≡ endless (is_some plan.now.control) plan.now.again }
-    ensures { goes_on result ≡ true → MayEnd plan.now }
+    requires places { HasPlaces settings.now }
+    requires doors { AreDoorsFor settings.now rooms.doors.items }
+    requires again { endless (is_some supply.lifeline) supply.turns.again ≡ endless (is_some settings.now.control) settings.now.again }
+    ensures { goes_on result ≡ true → MayEnd settings.now }
 {
     let Rooms { doors, seats } = rooms;
     let WriterReach { seat, input } = writer;
@@ -116,7 +116,7 @@ where
         met.joined,
         supply,
         doors,
-        runs_of(plan),
+        runs_of(settings),
         everyone,
         seat,
         input,
@@ -128,7 +128,7 @@ where
 fn reflect_all<G, R>(
     rt: R,
     alloc: Global,
-    plan: &Plan<'_>,
+    settings: &Settings,
     mut supply: Supply<R, G>,
     entrances: Entrances<'_>,
     rooms: Rooms<R, G>,
@@ -139,16 +139,16 @@ fn reflect_all<G, R>(
 where
     G: Log + Clone + Drop + Send + 'static,
     R: Runtime,
-    requires places { HasPlaces plan.now }
-    requires doors { AreAsPlanned plan.now rooms.doors.items }
-    requires again { endless (is_some supply.lifeline) supply.turns.again ≡ endless (is_some plan.now.control) plan.now.again }
-    ensures { OnOk result (MayEnd plan.now) }
+    requires places { HasPlaces settings.now }
+    requires doors { AreDoorsFor settings.now rooms.doors.items }
+    requires again { endless (is_some supply.lifeline) supply.turns.again ≡ endless (is_some settings.now.control) settings.now.again }
+    ensures { OnOk result (MayEnd settings.now) }
 {
     let Ok(seats) = shared(alloc, rooms.seats.as_slice()) else {
         return Err(Trouble::new(Stage::Start, Fault::Memory));
     };
     let (met, halls) = welcome(rt, alloc, &mut supply, entrances, seats, control, log)?;
-    let why = reflect(rt, alloc, plan, supply, met, rooms, writer);
+    let why = reflect(rt, alloc, settings, supply, met, rooms, writer);
     halls.close(&rt);
     match why {
         Ok(()) => Ok(()),
@@ -182,13 +182,13 @@ impl<G: Log + Clone + Drop> Common<G> {
     }
 }
 
-/// Reflects the hosts of a plan, for viewers who come in by these entries, one for each role that is served, until the
-/// last host ends or an operator stops the run, if one can. It is read at `input` how much of theirs waits.
+/// Reflects the hosts of the settings, for viewers who come in by these entries, one for each role that is served,
+/// until the last host ends or an operator stops the run, if one can. It is read at `input` how much of theirs waits.
 #[tactic(auto, using(crate::proofs::Stopping::stopped))]
 pub(crate) fn run<G, R>(
     rt: R,
     alloc: Global,
-    plan: &Plan<'_>,
+    settings: &Settings,
     entrances: Entrances<'_>,
     input: Arc<InputCounts, Global>,
     log: &G,
@@ -196,12 +196,12 @@ pub(crate) fn run<G, R>(
 where
     G: Log + Clone + Drop + Send + 'static,
     R: Runtime + Files,
-    requires places { HasPlaces plan.now }
-    requires entries { AreBoth plan.now entrances.full entrances.view }
-    ensures { OnOk result (MayEnd plan.now) }
+    requires places { HasPlaces settings.now }
+    requires entries { AreBoth settings.now entrances.full entrances.view }
+    ensures { OnOk result (MayEnd settings.now) }
 {
-    let hosts = texts_of(alloc, plan)?;
-    let rooms = rooms_of(rt, alloc, plan, &entrances.full, &entrances.view, log)?;
+    let hosts = texts_of(alloc, settings)?;
+    let rooms = rooms_of(rt, alloc, settings, &entrances.full, &entrances.view, log)?;
     let Ok(
         Common {
             desk,
@@ -212,12 +212,12 @@ where
     else {
         return Err(Trouble::new(Stage::Start, Fault::Memory));
     };
-    let control = control_of(&rt, alloc, plan, &desk, &writer)?;
+    let control = control_of(&rt, alloc, settings, &desk, &writer)?;
     let lifeline = lifeline_of(&control)?;
     let held = lifeline_of(&control)?;
-    let supply = Supply::new(rt, alloc, theirs, desk, hosts, plan.again, held);
+    let supply = Supply::new(rt, alloc, theirs, desk, hosts, settings.again, held);
     let why = reflect_all(
-        rt, alloc, plan, supply, entrances, rooms, control, writer, log,
+        rt, alloc, settings, supply, entrances, rooms, control, writer, log,
     );
     if was_cut(&rt, &lifeline) {
         return Ok(());

@@ -3,10 +3,10 @@
 use crate::journal::Journal;
 use crate::surroundings::Surroundings;
 use notify::Notifier;
-use plan::{Plan, places_of};
 use roles::Role;
-use run_traits::{Event, Log};
 use run_reports::{Happening, Notice, Ready, Tally, notice_text};
+use run_traits::{Event, Log};
+use settings::{Settings, places_of};
 use std::alloc::{AllocError, Global};
 use std::net::{Net, SocketAddr};
 use std::sync::{Arc, Mutex, Wait};
@@ -107,23 +107,26 @@ impl Standing {
 }
 
 impl<R: Eprint + Clock + Wait + Net + Copy + Drop> Sentry<R> {
-    /// For a run by this plan, in these surroundings. It fails where memory is refused for it.
+    /// For a run by these settings, in these surroundings. It fails where memory is refused for it.
     pub(crate) fn new(
         rt: R,
         alloc: Global,
-        plan: &Plan<'_>,
+        settings: &Settings,
         surroundings: &Surroundings,
     ) -> Result<Sentry<R>, AllocError> {
         let notifier = match &surroundings.notify {
             Some(text) => Notifier::new(&rt, text.as_str()).ok(),
             None => None,
         };
-        let places = places_of(plan, Role::Full).saturating_add(places_of(plan, Role::View));
+        let places = places_of(settings, Role::Full).saturating_add(places_of(
+            settings,
+            Role::View,
+        ));
         let standing = Arc::new(alloc, Mutex::new(Standing::new(places, notifier)))?;
         Ok(Sentry {
             rt,
             alloc,
-            journal: Journal::new(rt, alloc, plan.is_logged, surroundings.is_journal)?,
+            journal: Journal::new(rt, alloc, settings.log, surroundings.is_journal)?,
             standing,
         })
     }

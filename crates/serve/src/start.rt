@@ -10,8 +10,8 @@ use crate::trouble::{Stage, Trouble};
 use crate::writer_reach::WriterReach;
 use connections::Desk;
 use fault::Fault;
-use plan::{Plan, places_of};
 use roles::Role;
+use settings::{Settings, places_of};
 use std::alloc::{AllocError, Global};
 use std::net::Net;
 use std::os::unix::net::UnixListener;
@@ -23,7 +23,7 @@ use std::thread::Builder;
 fn prepared(
     alloc: Global,
     listener: UnixListener,
-    plan: &Plan<'_>,
+    settings: &Settings,
     desk: &Arc<Desk, Global>,
     writer: &WriterReach,
 ) -> Result<Control, AllocError> {
@@ -31,30 +31,31 @@ fn prepared(
         listener,
         desk: Arc::try_clone(desk)?,
         writer: writer.another()?,
-        full_places: places_of(plan, Role::Full),
-        view_places: places_of(plan, Role::View),
+        full_places: places_of(settings, Role::Full),
+        view_places: places_of(settings, Role::View),
         lifeline: Arc::new(alloc, Lifeline::new())?,
     })
 }
 
-/// Listens for an operator, if the plan has a path for it. These are the desk of the run, and whoever tells the host.
+/// Listens for an operator, if the settings have a path for it. These are the desk of the run, and whoever tells the
+/// host.
 pub(crate) fn control_of<R: Files + Net>(
     rt: &R,
     alloc: Global,
-    plan: &Plan<'_>,
+    settings: &Settings,
     desk: &Arc<Desk, Global>,
     writer: &WriterReach,
 ) -> Result<Option<Control>, Trouble>
-    ensures { IfOk result (λ control. is_some control ≡ is_some plan.now.control) }
+    ensures { IfOk result (λ control. is_some control ≡ is_some settings.now.control) }
 {
-    let Some(path) = plan.control else {
+    let Some(path) = &settings.control else {
         return Ok(None);
     };
-    let listener = match listen(rt, path) {
+    let listener = match listen(rt, path.as_str()) {
         Ok(listener) => listener,
         Err(error) => return Err(Trouble::of(Stage::Control, error)),
     };
-    match prepared(alloc, listener, plan, desk, writer) {
+    match prepared(alloc, listener, settings, desk, writer) {
         Ok(control) => Ok(Some(control)),
         Err(_) => Err(Trouble::new(Stage::Start, Fault::Memory)),
     }

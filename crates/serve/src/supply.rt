@@ -1,18 +1,19 @@
 //! The hosts that follow on one that has ended.
 
 ghost use Rattle.std.specs.Prelude.{◌≡◌, ◌⊎◌, ◌-◌, ◌≤◌, ⊤, IfOk, IfSome, IsNone, None, false, is_some, length, true};
-ghost use Rattle.plan.specs.Turns.{endless, turn_of};
+ghost use Rattle.serve.specs.Turns.{endless, turn_of};
 ghost use Rattle.serve.specs.Stops.{IsOut};
 
 use crate::lifeline::{Cut, Lifeline, Recall};
 use crate::meet::{Met, Missed, Reached, connect_by_text, join};
 use crate::noted_tries::NotedTries;
 use crate::quoted::Quoted;
+use crate::rested::Rested;
 use crate::trouble::Trouble;
+use crate::turns::Turns;
 use connections::{Desk, HostCard, JoiningLink};
 use fault::Fault;
 use host_turns::Hosts;
-use plan::{Rested, Turns};
 use rfb_wire::Joined;
 use run_traits::{Event, Log, clock_millis};
 use std::alloc::Global;

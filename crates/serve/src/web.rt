@@ -14,30 +14,30 @@ use crate::runtime::{REQUEST_STACK, Runtime};
 use crate::trouble::{Stage, Trouble};
 use connections::{Seat, WebEntry, WebPorter};
 use fault::Fault;
-use plan::{Plan, places_of, proxy_of, web_address_of, web_port_of};
 use roles::Role;
 use run_traits::{Event, Log, Way};
+use settings::{Settings, places_of, proxy_of, web_address_of, web_port_of};
 use std::alloc::{AllocError, AllocGlobal, Global};
 use std::hash::RandomState;
 use std::net::{Net, SocketAddr, TcpListener, TcpStream};
 use std::rt::Files;
 use std::sync::Arc;
 use std::thread::Builder;
-use web_site::{FileTable, Site};
 use web_root::{RootFault, SystemDisk, read_all};
+use web_site::{FileTable, Site};
 
-/// The files of the plan's folder, if it names one.
+/// The files of the folder for browsers, if one is named.
 fn read_files<R: Files + AllocGlobal + Copy + Drop>(
     rt: R,
     alloc: Global,
-    plan: &Plan<'_>,
+    settings: &Settings,
 ) -> Result<FileTable, Trouble>
-    ensures { plan.now.web.root ≡ None → IfOk result (λ files. files ≡ []) }
+    ensures { settings.now.web_root ≡ None → IfOk result (λ files. files ≡ []) }
 {
-    let Some(root) = plan.web.root else {
+    let Some(root) = &settings.web_root else {
         return Ok(FileTable::new(alloc));
     };
-    match read_all(alloc, &SystemDisk::new(rt, root)) {
+    match read_all(alloc, &SystemDisk::new(rt, root.as_str())) {
         Ok(files) => Ok(files),
         Err(RootFault::Memory) => Err(Trouble::new(Stage::Start, Fault::Memory)),
         Err(fault) => Err(Trouble::new(Stage::ReadRoot(fault), Fault::LinkFailed)),
@@ -49,14 +49,14 @@ fn read_files<R: Files + AllocGlobal + Copy + Drop>(
 pub(crate) fn files_of<R: Files + AllocGlobal + Copy + Drop>(
     rt: R,
     alloc: Global,
-    plan: &Plan<'_>,
+    settings: &Settings,
 ) -> Result<Arc<FileTable, Global>, Trouble>
-    ensures { plan.now.web.root ≡ None → IfOk result (λ files. arc_value files ≡ []) }
+    ensures { settings.now.web_root ≡ None → IfOk result (λ files. arc_value files ≡ []) }
 {
-    if let Some(number) = first_bad(plan.web.origins) {
+    if let Some(number) = first_bad(settings.web_origins.as_slice()) {
         return Err(Trouble::new(Stage::ReadOrigin(number), Fault::LinkFailed));
     }
-    let files = read_files(rt, alloc, plan)?;
+    let files = read_files(rt, alloc, settings)?;
     match Arc::new(alloc, files) {
         Ok(files) => Ok(files),
         Err(_) => Err(Trouble::new(Stage::Start, Fault::Memory)),
@@ -76,48 +76,48 @@ fn looks_only(role: Role) -> bool
 /// What the web port of a role answers at this address.
 fn site_of(
     alloc: Global,
-    plan: &Plan<'_>,
+    settings: &Settings,
     role: Role,
     address: SocketAddr,
     files: &Arc<FileTable, Global>,
 ) -> Result<Arc<Site, Global>, AllocError>
-    ensures { IfOk result (λ site. IsSiteFor role plan.now (arc_value files.now) (arc_value site)) }
+    ensures { IfOk result (λ site. IsSiteFor role settings.now (arc_value files.now) (arc_value site)) }
 {
-    let admission = admission_of(alloc, address, plan.web.origins)?;
+    let admission = admission_of(alloc, address, settings.web_origins.as_slice())?;
     let files = Arc::try_clone(files)?;
     let site = Site::new(alloc, files, admission, looks_only(role))?;
     Ok(Arc::new(alloc, site)?)
 }
 
-/// Listens for the browsers of a role whose entry this is, if the plan has a port for them, and tells the log where.
+/// Listens for the browsers of a role whose entry this is, if there is a port for them, and tells the log where.
 #[tactic(auto, using(crate::proofs::Asking::asks_for_web))]
 fn open_web<R: Net<Stream = TcpStream, Listener = TcpListener>, G: Log>(
     rt: &R,
     alloc: Global,
-    plan: &Plan<'_>,
+    settings: &Settings,
     ports: &mut Ports,
     role: Role,
     entry: &Entry<'_>,
     files: &Arc<FileTable, Global>,
     log: &G,
 ) -> Result<Option<WebEntry>, Trouble>
-    requires { IsEntryFor role plan.now entry.now }
-    ensures asked { AsksForWeb role plan.now ports.old ports.new }
-    ensures entry { IfOk result (λ web. IfSome web (λ entry. IsWebEntryFor role plan.now (arc_value files.now) entry)) }
+    requires { IsEntryFor role settings.now entry.now }
+    ensures asked { AsksForWeb role settings.now ports.old ports.new }
+    ensures entry { IfOk result (λ web. IfSome web (λ entry. IsWebEntryFor role settings.now (arc_value files.now) entry)) }
 {
-    let Some(port) = web_port_of(plan, role) else {
+    let Some(port) = web_port_of(settings, role) else {
         return Ok(None);
     };
-    let Ok(address) = web_address_of(plan, role, port) else {
+    let Ok(address) = web_address_of(settings, role, port) else {
         return Err(Trouble::new(Stage::ReadBind(role), Fault::LinkFailed));
     };
-    let Ok(site) = site_of(alloc, plan, role, address, files) else {
+    let Ok(site) = site_of(alloc, settings, role, address, files) else {
         return Err(Trouble::new(Stage::Start, Fault::Memory));
     };
     let Ok(lobby) = Arc::try_clone(&entry.lobby) else {
         return Err(Trouble::new(Stage::Start, Fault::Memory));
     };
-    let Ok(proxy) = proxy_of(plan) else {
+    let Ok(proxy) = proxy_of(settings) else {
         return Err(Trouble::new(Stage::ReadProxy, Fault::LinkFailed));
     };
     let bound = match Bound::at(rt, ports, address, role, proxy) {
@@ -126,7 +126,7 @@ fn open_web<R: Net<Stream = TcpStream, Listener = TcpListener>, G: Log>(
     };
     match WebEntry::new(bound.into_listener(), site, lobby) {
         Ok(web) => {
-            let places = places_of(plan, role);
+            let places = places_of(settings, role);
             log.note(&Event::Listening {
                 role,
                 address,
@@ -156,42 +156,42 @@ fn add(ports: &mut Vec<WebEntry>, port: Option<WebEntry>) -> Result<(), Trouble>
 fn open_full_web<R: Net<Stream = TcpStream, Listener = TcpListener>, G: Log>(
     rt: &R,
     alloc: Global,
-    plan: &Plan<'_>,
+    settings: &Settings,
     ports: &mut Ports,
     full: &Option<Entry<'_>>,
     files: &Arc<FileTable, Global>,
     log: &G,
 ) -> Result<Option<WebEntry>, Trouble>
-    requires { IsFullEntry plan.now full.now }
-    ensures asked { AsksForWeb Full plan.now ports.old ports.new }
-    ensures entry { IfOk result (λ web. IfSome web (λ entry. IsWebEntryFor Full plan.now (arc_value files.now) entry)) }
+    requires { IsFullEntry settings.now full.now }
+    ensures asked { AsksForWeb Full settings.now ports.old ports.new }
+    ensures entry { IfOk result (λ web. IfSome web (λ entry. IsWebEntryFor Full settings.now (arc_value files.now) entry)) }
 {
     match full {
-        Some(entry) => open_web(rt, alloc, plan, ports, Role::Full, entry, files, log),
+        Some(entry) => open_web(rt, alloc, settings, ports, Role::Full, entry, files, log),
         None => Ok(None),
     }
 }
 
-/// Listens for the browsers with full control, and then for those that only look on, where the plan has ports for them.
+/// Listens for the browsers with full control, and then for those that only look on, where there are ports for them.
 #[tactic(auto, using(crate::proofs::Asking::first_web_alone, crate::proofs::Asking::both_webs, crate::proofs::Browsers::both))]
 pub(crate) fn open_webs<R: Net<Stream = TcpStream, Listener = TcpListener>, G: Log>(
     rt: &R,
     alloc: Global,
-    plan: &Plan<'_>,
+    settings: &Settings,
     ports: &mut Ports,
     entries: (&Option<Entry<'_>>, &Entry<'_>),
     files: &Arc<FileTable, Global>,
     log: &G,
 ) -> Result<Vec<WebEntry>, Trouble>
-    requires { AreBoth plan.now entries.0.now entries.1.now }
-    ensures asked { AsksForBrowsers plan.now ports.old ports.new }
-    ensures entries { IfOk result (λ web. AreWebEntries plan.now (arc_value files.now) web.items) }
+    requires { AreBoth settings.now entries.0.now entries.1.now }
+    ensures asked { AsksForBrowsers settings.now ports.old ports.new }
+    ensures entries { IfOk result (λ web. AreWebEntries settings.now (arc_value files.now) web.items) }
 {
     let (full, view) = entries;
     let mut web = Vec::new(alloc);
-    let entry = open_full_web(rt, alloc, plan, ports, full, files, log)?;
+    let entry = open_full_web(rt, alloc, settings, ports, full, files, log)?;
     add(&mut web, entry)?;
-    let entry = open_web(rt, alloc, plan, ports, Role::View, view, files, log)?;
+    let entry = open_web(rt, alloc, settings, ports, Role::View, view, files, log)?;
     add(&mut web, entry)?;
     Ok(web)
 }

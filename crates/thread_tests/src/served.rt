@@ -1,5 +1,5 @@
 //! Tests of `serve` over loopback alone, a host and a viewer in threads, and `serve` between them, in which each wait
-//! ends; and of the lines that `settings` and `command_line` read.
+//! ends; and of the lines that `serve_options` and `command_line` read.
 
 mod control;
 mod early;

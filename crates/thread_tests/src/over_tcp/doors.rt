@@ -1,7 +1,7 @@
 //! Viewers who come in, are turned away, and leave.
 
 use crate::over_tcp::sockets::{VERSION, come, listen, make_seat};
-use connections::{Desk, RoleListener, Lobby, TcpDoor, TcpEntry, TcpPorter};
+use connections::{Desk, Lobby, RoleListener, TcpDoor, TcpEntry, TcpPorter};
 use link::{Gave, Link, Took};
 use roles::Role;
 use run_traits::{Door, NoLog};
@@ -126,7 +126,11 @@ fn opens<R: Threads + Wait + Clock + Copy + Drop + Send + Sync>(
     let seat = make_seat(net)?;
     let desk = Arc::new(alloc, Desk::new(alloc, 1)?)?;
     let lobby = Arc::new(alloc, Lobby::new(alloc, Role::Full, 1, 60, desk)?)?;
-    let porter = TcpPorter::new(net, alloc, TcpEntry::new(listener, Arc::try_clone(&lobby)?)?)?;
+    let porter = TcpPorter::new(
+        net,
+        alloc,
+        TcpEntry::new(listener, Arc::try_clone(&lobby)?)?,
+    )?;
     let mut door = TcpDoor::new(rt, alloc, Arc::try_clone(&lobby)?, seat, 1, NoLog);
     Ok(serves(&rt, net, porter, (address, &lobby), &mut door))
 }

@@ -1,7 +1,7 @@
 //! Who comes to a port and isn't a viewer yet: some leave, some are silent, and some come through a proxy.
 
 use crate::over_tcp::sockets::{VERSION, come, connect, listen, make_seat};
-use connections::{Desk, RoleListener, Lobby, MOST_GUESTS, TcpDoor, TcpEntry, TcpPorter};
+use connections::{Desk, Lobby, MOST_GUESTS, RoleListener, TcpDoor, TcpEntry, TcpPorter};
 use link::{Gave, Link, Took};
 use roles::Role;
 use run_traits::{Door, Event, Log};
@@ -271,7 +271,11 @@ where
     let address = listener.socket().local_addr()?;
     let desk = Arc::new(alloc, Desk::new(alloc, 1)?)?;
     let lobby = Arc::new(alloc, Lobby::new(alloc, Role::Full, 1, 60, desk)?)?;
-    let porter = TcpPorter::new(net, alloc, TcpEntry::new(listener, Arc::try_clone(&lobby)?)?)?;
+    let porter = TcpPorter::new(
+        net,
+        alloc,
+        TcpEntry::new(listener, Arc::try_clone(&lobby)?)?,
+    )?;
     let log = Notebook {
         rt,
         count: AtomicU64::new(0),

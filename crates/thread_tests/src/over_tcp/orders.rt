@@ -1,7 +1,7 @@
 //! What an operator asks while viewers come: nobody is let in, one is sent away, and all are.
 
 use crate::over_tcp::sockets::{VERSION, come, listen, make_seat};
-use connections::{Desk, RoleListener, Lobby, TcpDoor, TcpEntry, TcpPorter};
+use connections::{Desk, Lobby, RoleListener, TcpDoor, TcpEntry, TcpPorter};
 use link::{Gave, Link, Took};
 use roles::Role;
 use run_control::{Entry, Outcome, Request};
@@ -134,7 +134,11 @@ fn opens<R: Threads + Wait + Clock + Copy + Drop + Send + Sync>(
     let desk = Arc::new(alloc, Desk::new(alloc, 1)?)?;
     let lobby = Lobby::new(alloc, Role::Full, 1, 60, Arc::try_clone(&desk)?)?;
     let lobby = Arc::new(alloc, lobby)?;
-    let porter = TcpPorter::new(net, alloc, TcpEntry::new(listener, Arc::try_clone(&lobby)?)?)?;
+    let porter = TcpPorter::new(
+        net,
+        alloc,
+        TcpEntry::new(listener, Arc::try_clone(&lobby)?)?,
+    )?;
     let mut door = TcpDoor::new(rt, alloc, Arc::try_clone(&lobby)?, seat, 1, NoLog);
     let house = House {
         net,

@@ -1,6 +1,6 @@
 //! A pause is made, and once.
 
-use plan::Rested;
+use serve::Rested;
 use std::io;
 use std::sync::atomic::{AtomicU64, Ordering};
 use std::test::*;

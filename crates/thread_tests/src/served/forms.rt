@@ -1,5 +1,4 @@
-//! The form in which `serve` answers a viewer that takes Hextile: the runs of rows, or with `--joined-runs` joined
-//! runs.
+//! The form in which `serve` answers a viewer that takes Hextile: joined runs, or with `--plain-runs` the runs of rows.
 
 use crate::served::lines::words_of;
 use crate::served::loopback::{accept, come, free_port, listen};
@@ -52,13 +51,13 @@ const FORMS: &[Form] = &[
     // Blue is the background, which most pixels have, and the red pixel a subrectangle.
     Form {
         name: "joined runs",
-        options: "--joined-runs",
+        options: "",
         answer: b"\0\0\0\x01\0\0\0\0\0\x08\0\x03\0\0\0\x05\x0E\xFF\0\0\0\0\0\xFF\0\x01\0\0",
     },
     // Red is the background, since it comes first, and each row has a subrectangle: from 1, of 7, and two of 8.
     Form {
         name: "the runs of rows",
-        options: "",
+        options: "--plain-runs",
         answer: b"\0\0\0\x01\0\0\0\0\0\x08\0\x03\0\0\0\x05\x0E\0\0\xFF\0\xFF\0\0\0\x03\x10\x60\x01\x70\x02\x70",
     },
 ];

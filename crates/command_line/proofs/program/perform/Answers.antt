@@ -1,4 +1,4 @@
--- The task that the words ask for is the one that was done, and the plan that was served is the one of its settings.
+-- The task that the words ask for is the one that was done.
 use Rattle.command_line.specs.declared.task.Task.TheVariants.{Replay, Serve, Control}
 use Rattle.command_line.proofs.program.perform.Goals as goal
 
@@ -9,4 +9,4 @@ pub returns-in-Control : goal.returns-in-Control
 returns-in-Control g c = (Control, c.in-Control.ensures, c.asks.ensures)
 
 pub returns-in-Serve : goal.returns-in-Serve
-returns-in-Serve g c = (Serve c.in-Serve.settings, c.in-Serve.ensures, (c.plan_of.result, c.plan_of.ensures, c.serves.ensures))
+returns-in-Serve g c = (Serve c.in-Serve.settings, c.in-Serve.ensures, c.serves.ensures)

@@ -1,0 +1,49 @@
+//! A pause that was made.
+
+ghost use Rattle.std.specs.Prelude.{◌≡◌, IfOk};
+
+use std::thread;
+use std::time::{Clock, Duration};
+
+/// Who may call a pause off.
+pub(crate) trait CallsOff {
+    /// What shows that a pause was called off.
+    type Order: Drop;
+
+    /// That the pause is called off, if it is.
+    fn order(&self) -> Option<Self::Order>;
+}
+
+/// Whoever has one has let so many seconds pass: only `after` and `after_unless` make it. That the system lets them
+/// pass no clause says.
+#[derive(Debug, Drop)]
+pub struct Rested {
+    seconds: u64,
+}
+
+impl Rested {
+    /// Lets so many seconds pass.
+    pub fn after<R: Clock>(rt: &R, seconds: u64) -> Rested
+        ensures { result.seconds ≡ seconds }
+    {
+        thread::sleep(rt, Duration::from_secs(seconds));
+        Rested { seconds }
+    }
+
+    /// Lets so many seconds pass, unless that is called off, for which it asks before each.
+    pub(crate) fn after_unless<R: Clock, C: CallsOff>(
+        rt: &R,
+        seconds: u64,
+        caller: &C,
+    ) -> Result<Rested, C::Order>
+        ensures { IfOk result (λ rested. rested.seconds ≡ seconds) }
+    {
+        for _second in 0..seconds {
+            if let Some(order) = caller.order() {
+                return Err(order);
+            }
+            thread::sleep(rt, Duration::from_secs(1));
+        }
+        Ok(Rested { seconds })
+    }
+}

@@ -1,0 +1,98 @@
+-- The command `reflectord serve` as clap reads it, and the statuses of lines that set nothing.
+use Rattle.std.specs.Prelude.{◌≢◌, ◌≡◌, ◌⊎◌, ◌∷◌, List, Some, [], codes, pos, true, ℕ}
+use Rattle.clap.specs.Words.{App, Kinds, Rule, Text, new_rule}
+use Rattle.clap.specs.Simple.{new_shape}
+use Rattle.clap.specs.declared.builder.action.ArgAction.TheVariants.{Append, Set, SetTrue}
+use Rattle.clap.specs.declared.builder.value_parser.ValueParser.TheVariants as vp
+
+-- an option that takes one value, under its long name
+abbrev pub option : Text → Rule
+option name =
+    record (new_rule name) { long = Some name; action = Some Set; value_names = 1 }
+
+abbrev pub with_default : Text → Rule → Rule
+with_default text rule = record rule { defaults = text ∷ [] }
+
+-- the port of one role of viewers
+abbrev pub port : Text → Text → Rule
+port name default =
+    with_default default (record (option name) { parser = Some (vp.Signed (pos 1) (pos 65535)) })
+
+-- how many viewers of one role there may be, four where it isn't said
+abbrev pub places : Text → Rule
+places name =
+    with_default (codes "4") (record (option name) { parser = Some (vp.Unsigned 1 32) })
+
+-- how many seconds pass before the first host is tried again, which it isn't where they aren't given
+abbrev pub pause : Text → Rule
+pause name = record (option name) { parser = Some (vp.Unsigned 1 3600) }
+
+-- how many seconds something may last, 60 where it isn't said
+abbrev pub seconds : Text → Rule
+seconds name =
+    with_default (codes "60") (record (option name) { parser = Some (vp.Unsigned 10 600) })
+
+-- the port of browsers of one role, which have none where it isn't given
+abbrev pub web_port : Text → Rule
+web_port name = record (option name) { parser = Some (vp.Signed (pos 1) (pos 65535)) }
+
+-- an option that takes one value each time that it is given
+abbrev pub repeated : Text → Rule
+repeated name = record (new_rule name) { long = Some name; action = Some Append; value_names = 1 }
+
+-- up to this many words that no option takes
+abbrev pub further : Text → ℕ → Rule
+further name most = record (new_rule name) {
+  action = Some Set;
+  range = Some (record { start_inclusive = 0; end_inclusive = most });
+  value_names = 1;
+}
+
+-- an option that takes no value
+abbrev pub flag : Text → Rule
+flag name = record (new_rule name) { long = Some name; action = Some SetTrue }
+
+-- `--host` must be there
+abbrev pub host : Rule
+host = record (option (codes "host")) { required = true }
+
+abbrev pub bind : Rule
+bind = with_default (codes "127.0.0.1") (option (codes "bind"))
+
+abbrev pub full_bind : Rule
+full_bind = option (codes "full-bind")
+
+abbrev pub options : List Rule
+options = host ∷ bind ∷ full_bind
+    ∷ port (codes "full") (codes "5900")
+    ∷ port (codes "view") (codes "5901")
+    ∷ flag (codes "view-only")
+    ∷ places (codes "full-places")
+    ∷ places (codes "view-places")
+    ∷ flag (codes "plain-runs")
+    ∷ web_port (codes "web-full")
+    ∷ web_port (codes "web-view")
+    ∷ option (codes "web-root")
+    ∷ repeated (codes "web-origin")
+    ∷ option (codes "metrics")
+    ∷ option (codes "proxy-from")
+    ∷ flag (codes "log")
+    ∷ pause (codes "again")
+    ∷ seconds (codes "stalled")
+    ∷ option (codes "control")
+    ∷ further (codes "next") 8
+    ∷ []
+
+-- its words are those after `serve`, and it answers `--version`
+abbrev pub serve_alone : App
+serve_alone = record {
+  top = record (new_shape (codes "serve")) { no_binary_name = true; has_version = true };
+  subs = [];
+}
+
+abbrev pub serve : App
+serve = record serve_alone { top = record serve_alone.top { rules = options } }
+
+-- memory was refused, or the line is at one of clap's faults (a call for help and for the version are such)
+abbrev pub IsBad : Kinds → ℕ → Type 0
+IsBad faults status = (status ≡ 4) ⊎ ((status ≡ 2) × (faults ≢ []))
