@@ -49,7 +49,7 @@ impl Channel {
         }
     }
 
-    /// Whether the channel has a size, and its bits lie inside a pixel of this many.
+    /// Whether the channel has a size, and its bits lie inside a pixel of this many bits.
     pub(crate) fn fits(&self, bits_per_pixel: u8) -> bool
         ensures { result ≡ channel_fits bits_per_pixel self.now }
     {
@@ -75,18 +75,18 @@ impl Channel {
         scaled << self.shift
     }
 
-    /// The same for a channel of at most 8 bits, by a multiplication in place of the division.
+    /// The same as `place`, for a channel of at most 8 bits: by a multiplication in place of the division.
     pub(crate) fn place_narrow(&self, component: u8) -> u32
         requires fits { IsTrue (channel_fits 32 self.now) }
         requires narrow { self.now.max ≤ 255 }
         ensures { result ≡ on_channel self.now component }
     {
-        // For x up to 255 * 255, (x + 127) / 255 is (257 * x + 128 * 257) / 65536, whole numbers all.
+        // For x up to 255 * 255, (x + 127) / 255 is (257 * x + 128 * 257) / 65536. Both divisions are of whole numbers.
         let scaled = (u32::from(component) * (257 * u32::from(self.max)) + 128 * 257) >> 16;
         scaled << self.shift
     }
 
-    /// The same for a channel of 8 bits, which holds the component as it is.
+    /// The same as `place`, for a channel of 8 bits, which holds the component as it is.
     pub(crate) fn place_byte(&self, component: u8) -> u32
         requires fits { IsTrue (channel_fits 32 self.now) }
         requires byte { self.now.max ≡ 255 }

@@ -15,7 +15,12 @@ impl Format {
         ensures value { result ≡ tint self.now colour }
         ensures bound { result < 2 ^ self.now.bits_per_pixel }
     {
-        Division::pixel(self, colour)
+        // The most usual formats need no division.
+        if self.has_byte_channels() {
+            Shifts::pixel(self, colour)
+        } else {
+            Division::pixel(self, colour)
+        }
     }
 
     /// Writes the pixel bytes of a row of colours, from left to right.
@@ -50,9 +55,9 @@ impl Format {
         }
     }
 
-    /// Whether no two colours, of 24 bits each, have one pixel value (RFC 6143, section 7.4). That is so where each
-    /// channel has 8 bits or more, in whatever order they lie, and nowhere else: in fewer bits the components 0 and 1
-    /// fall together.
+    /// Whether no two colours, of 24 bits each, have the same pixel value (RFC 6143, section 7.4). That is so exactly
+    /// where each channel has 8 bits or more, in whatever order the channels lie: in fewer bits the components 0 and 1
+    /// get the same value.
     pub fn keeps_apart(&self) -> bool
         ensures { IsTrue result ↔ KeepsApart self.now }
     {

@@ -1,4 +1,4 @@
-//! A colour's pixel value, by three ways to scale its components: the quickest that a format allows is taken.
+//! Three ways to scale the components of a colour for its pixel value. The quickest that a format allows is taken.
 
 ghost use Rattle.std.specs.Prelude.{◌≡◌, ◌^◌, ◌<◌};
 ghost use Rattle.pixel_format.specs.PixelFormat.{PixelFormat, HasByteChannels, IsNarrow, red_of, green_of, blue_of, tint};
@@ -26,7 +26,7 @@ pub(crate) trait Scaling {
         ensures bound { result < 2 ^ format.now.bits_per_pixel };
 }
 
-/// By a division by 255, in every format.
+/// Scales by a division by 255, in every format.
 pub(crate) struct Division;
 
 impl Scaling for Division {
@@ -38,7 +38,7 @@ impl Scaling for Division {
     }
 }
 
-/// By a multiplication, where no channel has more than 8 bits.
+/// Scales by a multiplication, where no channel has more than 8 bits.
 pub(crate) struct Multiplication;
 
 impl Scaling for Multiplication {
@@ -52,7 +52,7 @@ impl Scaling for Multiplication {
     }
 }
 
-/// Not at all, where each channel has 8 bits: components are only shifted.
+/// Doesn't scale, where each channel has 8 bits: components are only shifted.
 pub(crate) struct Shifts;
 
 impl Scaling for Shifts {

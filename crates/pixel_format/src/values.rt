@@ -30,7 +30,7 @@ impl Format {
         self.bits_per_pixel == 32 && !self.big_endian
     }
 
-    /// Any format's pixel bytes, one after another.
+    /// Writes the pixel bytes of any format, value by value.
     fn put_each(&self, values: &[u32], out: &mut [u8])
         requires { length out.old ≡ pixel_len self.now * length values.now }
         ensures { out.new ≡ flat_map (pixel_bytes self.now) values.now }
@@ -43,7 +43,7 @@ impl Format {
     }
 }
 
-/// Four bytes a value, the least significant first.
+/// Writes four bytes for each value, the least significant first.
 fn put_words(values: &[u32], out: &mut [u8])
     requires { length out.old ≡ 4 * length values.now }
     ensures { out.new ≡ flat_map (to_le_bytes w32) values.now }
@@ -53,7 +53,7 @@ fn put_words(values: &[u32], out: &mut [u8])
     }
 }
 
-/// Two bytes a value, the least significant first.
+/// Writes two bytes for each value, the least significant first.
 fn put_halves(values: &[u32], out: &mut [u8])
     requires { length out.old ≡ 2 * length values.now }
     ensures { out.new ≡ flat_map (to_le_bytes w16) values.now }
