@@ -23,3 +23,4 @@ pub mod RunCount
 pub mod Parts
 pub mod WholeRows
 pub mod PieceRead
+pub mod PixelRows

@@ -2,7 +2,7 @@
 use Rattle.std.specs.Prelude.{ℕ, ◌%◌, ◌^◌, List}
 use Rattle.std.specs.Int.{w32, from_le_bytes}
 
--- Of a host's pixel value the lower 24 bits are the colour (own).
+-- The lower 24 bits of a host's pixel value are its colour (own).
 abbrev pub colour_of : ℕ → ℕ
 colour_of value = value % 2 ^ 24
 

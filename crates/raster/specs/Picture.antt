@@ -12,7 +12,7 @@ pub record Picture : Type 0 where
 abbrev pub shown : Picture → Canvas
 shown p = value_at p.width p.colours
 
--- It has as many colours as positions, and no more than a count of them can say.
+-- A picture has as many colours as positions, and no more than a count can hold.
 pub record IsPicture (p : Picture) : Type 0 where
   pub count : length p.colours ≡ p.width * p.height
   pub small : p.width * p.height < 2 ^ 62

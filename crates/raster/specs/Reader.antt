@@ -8,13 +8,13 @@ use Rattle.raster.specs.Screen.{Canvas, values_of}
 abbrev pub values_read : {A : Type 0} → ℕ → ℕ → (A → Canvas) → Reading A → Reading (List ℕ)
 values_read w h picture reading = reading >>= λ read. Done (values_of w h (picture read))
 
--- Bytes are all taken, and lead from one way of reading to another.
+-- All of these bytes are taken, and lead from this reading to the later one.
 pub record Goes {A : Type 0} (form : Reading A) (bytes : List ℕ) (later : Reading A) : Type 0 where
   pub all : taken form bytes ≡ length bytes
   pub leads : after form bytes ≡ later
 
--- A reader took bytes, each of which was wanted, and drew what they say. It went on as ahead says, over what was read
--- so far, and the canvas showed that.
+-- A reader took bytes, each of which was wanted, and drew what they say. It went on as ahead says of what was read so
+-- far, and the canvas shows what is read by now.
 pub record Steps {P S A : Type 0} (ahead : P → S → Reading A) (Stands : P → Canvas → S → Type 0) (old new : P) (now : Canvas) (bytes : List ℕ) (sofar : S) : Type 0 where
   pub drawing : S
   pub goes : Goes (ahead old sofar) bytes (ahead new drawing)

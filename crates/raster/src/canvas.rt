@@ -11,10 +11,10 @@ pub const VALUE_LEN: usize = 4;
 
 /// What pixel values are drawn on: a rectangle of positions, each of which shows what is kept of a value.
 ///
-/// `x` counts columns from the left and `y` rows from the top, both from 0. A codec draws on any canvas of the size
-/// of the rectangle that it reads, so that the values go where they belong with no buffer in between. A canvas may be
-/// a part of something larger, of which the rest stays, and it may keep less than the whole of a value, as a screen
-/// keeps its colour.
+/// `x` counts columns from the left and `y` rows from the top, both from 0. A codec draws on any canvas of the size of
+/// the rectangle that it reads, so that the values go where they belong with no buffer in between. A canvas may be a
+/// part of something larger, the rest of which stays. It may also keep only a part of a value, as a screen keeps only
+/// its colour.
 pub trait Canvas {
     ghost width: { Self → ℕ };
 
@@ -25,7 +25,7 @@ pub trait Canvas {
     // What is kept of a value that is put.
     ghost keeps: { ℕ → ℕ };
 
-    // What the canvas is a part of is the same all around it, before and after.
+    // Around the canvas, whatever it is a part of is the same before and after.
     ghost Stays: { Self → Self → Type 0 };
 
     /// Puts a value on one position.
@@ -60,8 +60,8 @@ pub trait Canvas {
         }
     }
 
-    /// Puts values on a part of row `y`, from column `x` on. Of each value come the four bytes, the least significant
-    /// first.
+    /// Puts values on a part of row `y`, from column `x` on. Each value is given by its four bytes, the least
+    /// significant first.
     fn put_bytes(&mut self, x: u64, y: u64, values: &[[u8; VALUE_LEN]])
         requires across { x + length values.now ≤ width self.old }
         requires small { x + length values.now < 2 ^ 64 }

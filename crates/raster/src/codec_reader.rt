@@ -1,4 +1,4 @@
-//! Readers of one rectangle in an encoding, which draw it on a canvas.
+//! Readers of one rectangle in an encoding, which draw the rectangle on a canvas.
 
 ghost use Rattle.std.specs.Prelude.{◌≡◌, ℕ, ◌<◌, ◌≤◌, true, length, take, is_some, None, IfOk, OnOk};
 ghost use Rattle.pixel_format.specs.PixelFormat.{PixelFormat};
@@ -12,22 +12,22 @@ use crate::canvas::Canvas;
 use fault::Fault;
 use pixel_format::Format;
 
-/// A reader of one rectangle in an encoding, in whatever pieces its bytes come. It draws what they say on a canvas of
+/// A reader of one rectangle in an encoding, whose bytes may come in any pieces. It draws what they say on a canvas of
 /// the rectangle's size, and takes no memory.
 pub trait CodecReader {
-    // It reads this encoding.
+    // The encoding that it reads.
     ghost encoding: { Encoding };
 
-    // What was read so far.
+    // What may have been read so far.
     ghost Sofar: { Type 0 };
 
-    // Nothing was read so far.
+    // Where nothing was read so far.
     ghost nothing: { Sofar };
 
     // What the whole rectangle is read as.
     ghost Read: { Type 0 };
 
-    // What that shows in a rectangle of this width and height.
+    // What a rectangle of this width and height shows, where this was read.
     ghost picture: { ℕ → ℕ → Read → Map ℕ };
 
     ghost format_of: { Self → PixelFormat };
@@ -36,7 +36,7 @@ pub trait CodecReader {
 
     ghost height: { Self → ℕ };
 
-    // How reading goes on, over what was read so far.
+    // How reading goes on after what was read so far.
     ghost ahead: { Self → Sofar → Reading Read };
 
     // A canvas shows what it keeps of what was read so far.
@@ -52,7 +52,7 @@ pub trait CodecReader {
         ensures begins { values_read w h (picture w h) (ahead result nothing) ≡ pixels encoding format w h }
         ensures stands { (keeps : ℕ → ℕ) (canvas : Map ℕ) → Stands keeps result canvas nothing };
 
-    /// Whether the rectangle is read to its end. Then a canvas on which it drew shows it.
+    /// Whether the rectangle is read to its end. Then the canvas on which the reader drew shows the whole rectangle.
     fn whole(&self) -> bool
         ensures whole { (sofar : Sofar) → result ≡ is_some (whole_of (ahead self.now sofar)) }
         ensures shows { (keeps : ℕ → ℕ) (canvas : Map ℕ) (sofar : Sofar) (read : Read) → Stands keeps self.now canvas sofar → ahead self.now sofar ≡ Done read → LooksLike (width self.now) (height self.now) canvas (kept keeps (picture (width self.now) (height self.now) read)) };
@@ -65,7 +65,8 @@ pub trait CodecReader {
     fn fault(&self) -> Option<Fault>
         ensures { (sofar : Sofar) → result ≡ fault_of (ahead self.now sofar) };
 
-    /// Takes the front of some bytes, and answers how many. Only where they end too early, they are kept.
+    /// Takes bytes from the front of these, and answers how many. The reader keeps bytes only where they end too early
+    /// to be drawn.
     fn step<C: Canvas>(&mut self, canvas: &mut C, bytes: &[u8]) -> usize
         requires more { (sofar : Sofar) → wants_more (ahead self.old sofar) ≡ true }
         requires some { 0 < length bytes.now }
@@ -82,8 +83,8 @@ pub trait CodecReader {
         ensures drawn { (sofar : Sofar) → Stands C.keeps self.old (C.shows canvas.old) sofar → Steps ahead (Stands C.keeps) self.old self.new (C.shows canvas.new) (take result bytes.now) sofar };
 }
 
-/// Takes the next piece, up to the end of the rectangle, and draws it on a canvas of the rectangle's size. Answers how
-/// many bytes it used, or the fault, at the byte that shows it, which is final.
+/// Takes the next piece, up to the end of the rectangle, and draws it on a canvas of the rectangle's size. It answers
+/// how many bytes it used. At the byte that shows a fault it answers that fault, which is final.
 pub fn read_piece<R: CodecReader, C: Canvas>(
     reader: &mut R,
     canvas: &mut C,

@@ -7,7 +7,7 @@ ghost use Rattle.raster.specs.Screen.{LooksLike, value_at, lay, kept};
 
 use crate::canvas::VALUE_LEN;
 
-/// How many colours there are: what is left of a host's pixel value, divided by it, is its colour.
+/// How many colours there are. A host's pixel value modulo this number is its colour.
 const COLOURS: u32 = 0x100_0000;
 
 /// The colour of a host's pixel value: its lower 24 bits.
@@ -37,7 +37,7 @@ fn lay_colours(values: &mut [u32], from: usize, pixels: &[[u8; VALUE_LEN]])
     make_colours(pixels, &mut values[from..from + pixels.len()]);
 }
 
-/// Puts the colours of pixels on a part of a row, from `x`, `y` on.
+/// Puts the colours of pixels on a part of row `y`, from column `x` on.
 pub(crate) fn put_colours(
     values: &mut [u32],
     w: usize,

@@ -1,12 +1,13 @@
-//! Values that are moved inside one slice.
+//! Moves values inside one slice.
 
 ghost use Rattle.std.specs.Prelude.{◌+◌, ◌<◌, ◌≤◌, length};
 ghost use Rattle.raster.specs.Moved.{IsMoved};
 
-/// How far values must move at least, so that they are moved in parts: to call for a shorter part costs more.
+/// The least distance at which values are moved in parts: below it, the calls for such short parts cost more than they
+/// save.
 const SHORTEST_PART: usize = 64;
 
-/// Moves values to an earlier place, where the two places have none in common.
+/// Moves values to an earlier place that doesn't overlap theirs.
 fn move_apart_down(values: &mut [u32], from: usize, to: usize, count: usize)
     requires apart { to + count ≤ from }
     requires source { from + count ≤ length values.old }
@@ -16,7 +17,7 @@ fn move_apart_down(values: &mut [u32], from: usize, to: usize, count: usize)
     before[to..to + count].copy_from_slice(&after[..count]);
 }
 
-/// Moves values to a later place, where the two places have none in common.
+/// Moves values to a later place that doesn't overlap theirs.
 fn move_apart_up(values: &mut [u32], from: usize, to: usize, count: usize)
     requires apart { from + count ≤ to }
     requires target { to + count ≤ length values.old }
@@ -26,8 +27,8 @@ fn move_apart_up(values: &mut [u32], from: usize, to: usize, count: usize)
     after[..count].copy_from_slice(&before[from..from + count]);
 }
 
-/// Moves values to an earlier place that may overlap theirs, in parts as long as they move far. The first part is moved
-/// first, so that no value is read once it was written over.
+/// Moves values to an earlier place that may overlap theirs. It moves parts as long as the distance, the first part
+/// first, so that no value is read after it was overwritten.
 fn move_down(values: &mut [u32], from: usize, to: usize, count: usize)
     requires down { to < from }
     requires source { from + count ≤ length values.old }
@@ -41,8 +42,8 @@ fn move_down(values: &mut [u32], from: usize, to: usize, count: usize)
     }
 }
 
-/// Moves values to a later place that may overlap theirs, in parts as long as they move far. The last part is moved
-/// first, so that no value is read once it was written over.
+/// Moves values to a later place that may overlap theirs. It moves parts as long as the distance, the last part first,
+/// so that no value is read after it was overwritten.
 fn move_up(values: &mut [u32], from: usize, to: usize, count: usize)
     requires up { from < to }
     requires target { to + count ≤ length values.old }
@@ -65,8 +66,7 @@ fn move_over(values: &mut [u32], from: usize, to: usize, count: usize)
     values.copy_within(from..from + count, to);
 }
 
-/// Moves `count` values from index `from` on to index `to` on, as they stood before the call. The two places may
-/// overlap.
+/// Moves `count` values from index `from` to index `to`, as they stood before the call. The two places may overlap.
 pub fn move_part(values: &mut [u32], from: usize, to: usize, count: usize)
     requires source { from + count ≤ length values.old }
     requires target { to + count ≤ length values.old }

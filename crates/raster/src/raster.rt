@@ -34,7 +34,7 @@ impl Model for Raster {
 }
 
 impl Raster {
-    /// A raster that is black all over. `Memory` where there is no room for it.
+    /// A raster that is black all over. It fails where memory is refused (`Memory`).
     pub fn new(alloc: Global, w: u64, h: u64) -> Result<Raster, Fault>
         requires { w * h < 2 ^ 62 }
         ensures width { IfOk result (λ r. r.width ≡ w) }
@@ -177,7 +177,7 @@ impl Canvas for Raster {
 
     ghost keeps = { λ value. value };
 
-    // There is nothing around it.
+    // A raster has nothing around it.
     ghost Stays = { λ _ _. ⊤ };
 
     ghost stays_at_once = { λ _. tt };

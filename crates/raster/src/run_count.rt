@@ -1,4 +1,4 @@
-//! How many runs a rectangle has, told before any is written.
+//! Counts the runs of a rectangle before any is written.
 
 ghost use Rattle.std.specs.Prelude.{◌≡◌, ℕ, ◌+◌, ◌*◌, ◌<◌, ◌≤◌, ◌^◌, length, nat_le};
 ghost use Rattle.raster.specs.Screen.{value_at, part_of};
@@ -7,7 +7,7 @@ ghost use Rattle.raster.specs.RowShown.{row_shows};
 
 use crate::rect::Rect;
 
-/// A row this long is counted by the pixels at which no run begins, which tests the last pixels one by one.
+/// From this length on a row is counted by the pixels at which no run begins, which tests the last pixels one by one.
 const LONG: usize = 64;
 
 /// How many runs other than the background a short row has.
@@ -20,8 +20,8 @@ fn count_short_row(row: &[u32], background: u32) -> u32
     let mut count = 0;
     let mut before = background;
     for x in 0..row.len() {
-        // Both tests of each position are made, so that many are made at once; the first behaves as one after the
-        // background.
+        // Both tests are made at each position, so that the processor tests many positions at once. The first pixel
+        // counts as one that follows the background.
         count += u32::from((row[x] != background) & (before != row[x]));
         before = row[x];
     }
@@ -35,7 +35,8 @@ fn count_long_row(row: &[u32], background: u32) -> u32
     ensures value { (y : ℕ) → result ≡ length (runs_of_row (row_shows row.now) background (length row.now) y) }
     ensures few { result ≤ length row.now }
 {
-    // Positions at which none begins are counted, with both tests of each, so that many are tested at once.
+    // This counts the positions at which no run begins, with both tests at each, so that the processor tests many
+    // positions at once.
     let mut others = u32::from(row[0] == background);
     for x in 1..row.len() {
         others += u32::from((row[x] == background) | (row[x - 1] == row[x]));
@@ -58,7 +59,7 @@ fn count_row(row: &[u32], background: u32) -> u32
 }
 
 /// Whether a rectangle of values, which stand in rows of `w`, has at least this many runs other than its background,
-/// the first pixel's value. It ends with the row that shows it.
+/// the first pixel's value. It stops after the row that shows it.
 pub fn has_runs(values: &[u32], w: usize, area: &Rect, enough: u64) -> bool
     requires w_some { 0 < area.now.w }
     requires h_some { 0 < area.now.h }

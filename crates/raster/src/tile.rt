@@ -5,10 +5,11 @@ ghost use Rattle.raster.specs.Screen.{tile_count, tile_rect};
 
 use crate::rect::Rect;
 
-/// How wide and how high a tile is, in pixels, but at the right and at the bottom (RFC 6143, 7.7.4).
+/// The width and height of a tile in pixels. Only tiles at the right and at the bottom may be smaller (RFC 6143,
+/// 7.7.4).
 pub const TILE_SIDE: u64 = 16;
 
-/// How many tiles a rectangle of `w` by `h` pixels has, those that are cut at the right and at the bottom among them
+/// How many tiles a rectangle of `w` by `h` pixels has, including those that are cut off at the right and at the bottom
 /// (RFC 6143, 7.7.4).
 pub fn tile_count(w: u64, h: u64) -> u64
     requires wide { w ≤ 65535 }
