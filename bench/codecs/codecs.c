@@ -2,7 +2,9 @@
  *
  * usage: codecs FILE ROUNDS: writes rectangles of 1920 by 1080 into FILE, as crates/codec_trial reads them, and prints
  * for each a name, the microseconds in which it is read and written, the best of ROUNDS, and the bytes written,
- * 0 where Raw is as short. */
+ * 0 where Raw is as short.
+ * codecs FILE PICTURE rows: writes one picture of the five (0 to 4) into FILE, in the host's format and cut into the
+ * rectangles that serve writes, a row of tiles each, for codec_trial FILE ROUNDS kept. */
 #include <stdint.h>
 #include <stdio.h>
 #include <stdlib.h>
@@ -251,11 +253,28 @@ static void put_record(FILE *file, int encoding, const Format *f, const uint8_t 
     for (int i = 0; i < COUNT; i++) fwrite(values + i, f->size, 1, file);
 }
 
+static void put_rows_of_tiles(FILE *file, const uint32_t *colours) {
+    for (int y = 0; y < HEIGHT; y += 16) {
+        int high = HEIGHT - y < 16 ? HEIGHT - y : 16;
+        uint8_t head[26] = {HEXTILE};
+        memcpy(head + 1, FORMATS[0].bytes, 16);
+        put16(put16(head + 17, WIDTH), high);
+        fwrite(head, 1, sizeof head, file);
+        fwrite(colours + y * WIDTH, 4, (size_t)high * WIDTH, file);
+    }
+}
+
 int main(int argc, char **argv) {
     static const char *const PICTURES[] = {"flat", "text", "noise", "desktop", "photo"};
-    if (argc != 3) return 2;
+    int in_rows = argc == 4 && !strcmp(argv[3], "rows");
+    if (argc != 3 && !in_rows) return 2;
     FILE *file = fopen(argv[1], "wb");
     uint32_t *colours = malloc(COUNT * 4), *values = malloc(COUNT * 4), *shown = malloc(COUNT * 4);
+    if (in_rows) {
+        draw(colours, atoi(argv[2]));
+        put_rows_of_tiles(file, colours);
+        return fclose(file);
+    }
     uint8_t *data = malloc(COUNT * 13), *out = malloc(COUNT * 13);
     for (int picture = 0; picture < 5; picture++) {
         draw(colours, picture);

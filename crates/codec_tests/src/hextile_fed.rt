@@ -34,7 +34,7 @@ pub fn feed(raster: &mut Raster, format: Format, bytes: &[u8], size: usize) -> R
     })
 }
 
-/// Feeds a rectangle in the host's format to a raster of its own.
+/// Feeds a rectangle in the host's format to a new raster.
 pub fn feed_new(alloc: Global, w: u64, h: u64, bytes: &[u8], size: usize) -> Result<Fed, Fault>
     requires wide { w ≤ 4096 }
     requires high { h ≤ 4096 }

@@ -1,16 +1,16 @@
 //! What is written in Hextile with kept forms, against what is written without any, and against bytes worked by hand
 //! from RFC 6143, section 7.7.4.
 
-ghost use Rattle.std.specs.Prelude.{◌≡◌, ◌*◌, ◌<◌, ◌≤◌, length, map, IfOk};
-ghost use Rattle.pixel_format.specs.PixelFormat.{tint};
+ghost use Rattle.std.specs.Prelude.{◌≡◌, ◌*◌, ◌<◌, ◌≤◌, length, IfOk};
+ghost use Rattle.pixel_format.specs.PixelFormat.{KeepsApart};
 ghost use Rattle.raster.specs.Screen.{value_at};
 ghost use Rattle.hextile_codec.specs.Kept.{AreFormsOf};
 
 use crate::colours::{BLUE, GREEN, RED};
-use hextile_codec::{Room, TileForm, encode_as, encode_kept, form_of_tile};
+use hextile_codec::{PixelSource, TileForm, TileRoom, encode_as, encode_from, form_of_tile};
 use joined_runs::Runs;
 use pixel_format::Format;
-use raster::{tile_count, tile_rect};
+use raster::{Rect, tile_count, tile_rect};
 use std::alloc::{AllocError, Global};
 use std::test::Fail;
 
@@ -46,7 +46,7 @@ enum Drawing {
     Steps,
     /// A pixel of each of 256 colours.
     Gradient,
-    /// Each tile another of these.
+    /// Each tile shows another of these.
     Mixed,
 }
 
@@ -130,7 +130,7 @@ fn forms_of(
     requires every { 0 < every }
     ensures { IfOk result (λ forms. AreFormsOf w h (value_at w colours.now) forms.items) }
 {
-    let mut room = Room::new();
+    let mut room = TileRoom::new();
     let mut forms = Vec::new(alloc);
     for k in 0..tile_count(w, h) {
         let tile = tile_rect(w, h, k);
@@ -138,6 +138,32 @@ fn forms_of(
         forms.push(if k % every == 0 { form } else { None })?;
     }
     Ok(forms)
+}
+
+/// Writes what a rectangle of colours shows as joined runs, with forms of these.
+fn write_kept(
+    forms: &[Option<TileForm>],
+    colours: &[u32],
+    w: u64,
+    h: u64,
+    format: &Format,
+    out: &mut [u8],
+) -> Option<usize>
+    requires wide { (0 < w) × (w ≤ 32) }
+    requires high { h ≤ 32 }
+    requires count { length colours.now ≡ w * h }
+    requires forms { AreFormsOf w h (value_at w colours.now) forms.now }
+    requires apart { KeepsApart format.now }
+    requires room { 4 * (w * h) ≤ length out.old }
+{
+    let source = PixelSource {
+        numbers: colours,
+        width: w as usize,
+        height: h as usize,
+        area: Rect { x: 0, y: 0, w, h },
+        are_colours: true,
+    };
+    encode_from(Runs::Joined, &source, forms, format, out)
 }
 
 /// Whether pixel values are written with forms of their colours as they are without.
@@ -152,7 +178,7 @@ fn is_written_the_same(
     requires wide { (0 < w) × (w ≤ 32) }
     requires high { h ≤ 32 }
     requires count { length colours.now ≡ w * h }
-    requires values { values.now ≡ map (tint format.now) colours.now }
+    requires values { length values.now ≡ w * h }
     requires forms { AreFormsOf w h (value_at w colours.now) forms.now }
 {
     if !format.keeps_apart() {
@@ -161,12 +187,12 @@ fn is_written_the_same(
     let mut wanted = [0u8; 4 * MOST_PIXELS];
     let wanted_len = encode_as(Runs::Joined, values, w, h, format, &mut wanted);
     let mut out = [0u8; 4 * MOST_PIXELS];
-    let len = encode_kept(forms, values, w, h, format, &mut out);
+    let len = write_kept(forms, colours, w, h, format, &mut out);
     let count = len.unwrap_or(0);
     len == wanted_len && out.get(..count) == wanted.get(..count)
 }
 
-/// Whether a drawing is written the same with the forms of all of its tiles, of some and of none.
+/// Whether a drawing is written as the same bytes with the forms of all of its tiles, of some and of none.
 fn is_drawn_the_same(
     alloc: Global,
     drawing: Drawing,
@@ -225,7 +251,7 @@ fn kept_forms_are_written_the_same(rt: HostRuntime) -> Result<(), Fail> {
 /// Whether a whole tile of a drawing has a form that is kept.
 fn has_form(alloc: Global, drawing: Drawing) -> Result<bool, AllocError> {
     let colours = draw(alloc, drawing, 16, 16)?;
-    let mut room = Room::new();
+    let mut room = TileRoom::new();
     let tile = tile_rect(16, 16, 0);
     Ok(form_of_tile(colours.as_slice(), 16, &tile, &mut room).is_some())
 }
@@ -252,7 +278,7 @@ fn of_colours(count: usize) -> [u32; 256] {
 /// 80 runs are kept, and 81 aren't. A number of more than 24 bits is no colour.
 #[test]
 fn the_most_runs_of_a_form(rt: HostRuntime) {
-    let mut room = Room::new();
+    let mut room = TileRoom::new();
     let tile = tile_rect(16, 16, 0);
     assert!(rt; form_of_tile(&of_colours(80), 16, &tile, &mut room).is_some());
     assert!(rt; form_of_tile(&of_colours(81), 16, &tile, &mut room).is_none());
@@ -272,10 +298,8 @@ fn is_kept_as(
     if !format.keeps_apart() {
         return Ok(false);
     }
-    let mut values = [0; 25];
-    format.tint_values(colours, &mut values);
     let mut out = [0u8; 100];
-    let len = encode_kept(forms.as_slice(), &values, 5, 5, format, &mut out);
+    let len = write_kept(forms.as_slice(), colours, 5, 5, format, &mut out);
     Ok(out.get(..len.unwrap_or(0)) == Some(wanted))
 }
 
@@ -297,7 +321,7 @@ fn a_kept_cross(rt: HostRuntime) -> Result<(), Fail> {
     Ok(())
 }
 
-/// The same with green above, in three colours: each run has its own.
+/// That cross with green above, in three colours: each run has its own.
 #[test]
 fn a_kept_cross_of_two_colours(rt: HostRuntime) -> Result<(), Fail> {
     let mut colours = [BLUE; 25];

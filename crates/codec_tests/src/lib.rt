@@ -1,4 +1,4 @@
-//! Tests of `rre_codec` and `hextile_codec`, which stand in a crate of their own so that each of those is proved once.
+//! Tests of `rre_codec` and `hextile_codec`, which are in their own crate so that each of those is proved once.
 #![tactic(auto)]
 
 #[cfg(test)]

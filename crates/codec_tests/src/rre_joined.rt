@@ -31,7 +31,8 @@ fn three_columns(rt: HostRuntime) {
     assert!(rt; is_joined_as(&values, 8, 3, &wanted));
 }
 
-/// Eight by four: a run that goes on, one of another end, and one of another colour, in the order of their first rows.
+/// Eight by four: a run that goes on, one with another end, and one of another colour, in the order of their first
+/// rows.
 #[test]
 fn some_are_joined(rt: HostRuntime) {
     let mut values = [RED; 32];

@@ -33,7 +33,7 @@ fn uses(reader: &mut Reader, raster: &mut Raster, piece: &[u8]) -> bool
     }
 }
 
-/// Whether the data, fed in pieces of this many bytes, are whole after the last of them alone, each piece was used, and
+/// Whether the data, fed in pieces of this many bytes, are whole only after the last piece, each piece was used, and
 /// they show red and blue.
 fn is_read(alloc: Global, size: usize) -> Result<bool, Fail> {
     let mut raster = Raster::new(alloc, 3, 1)?;

@@ -1,4 +1,4 @@
-//! One rectangle through its codec.
+//! Runs one rectangle through its codec.
 
 ghost use Rattle.std.specs.Prelude.{◌≡◌};
 

@@ -1,16 +1,16 @@
-//! How long joined runs of Hextile take with kept forms.
+//! Measures how long joined runs of Hextile take with kept forms.
 
-ghost use Rattle.std.specs.Prelude.{◌≡◌, ◌*◌, ◌<◌, ◌≤◌, ◌^◌, length, map, IfOk};
-ghost use Rattle.pixel_format.specs.PixelFormat.{pixel_len, tint};
+ghost use Rattle.std.specs.Prelude.{◌≡◌, ◌*◌, ◌<◌, ◌≤◌, ◌^◌, length, IfOk};
+ghost use Rattle.pixel_format.specs.PixelFormat.{pixel_len};
 ghost use Rattle.raster.specs.Screen.{value_at};
 ghost use Rattle.hextile_codec.specs.Kept.{AreFormsOf};
 
 use crate::codec::values_of;
 use crate::record::Record;
-use hextile_codec::{Room, TileForm, encode_as, encode_kept, form_of_tile};
+use hextile_codec::{PixelSource, TileForm, TileRoom, encode_as, encode_from, form_of_tile};
 use joined_runs::Runs;
 use pixel_format::Format;
-use raster::{tile_count, tile_rect};
+use raster::{Rect, tile_count, tile_rect};
 use std::alloc::{AllocError, Global};
 use std::test::Fail;
 use std::time::Instant;
@@ -27,7 +27,7 @@ fn forms_of(
     requires count { length colours.now ≡ w * h }
     ensures { IfOk result (λ forms. AreFormsOf w h (value_at w colours.now) forms.items) }
 {
-    let mut room = Room::new();
+    let mut room = TileRoom::new();
     let mut forms = Vec::new(alloc);
     for k in 0..tile_count(w, h) {
         let tile = tile_rect(w, h, k);
@@ -37,12 +37,11 @@ fn forms_of(
     Ok(forms)
 }
 
-/// Writes pixel values with the forms of their colours, and answers how many bytes that are; 0 where Raw is as short, or
-/// where the format doesn't keep colours apart.
+/// Writes the pixel values of colours with the forms of these, and answers how many bytes that are; 0 where Raw is as
+/// short, or where the format doesn't keep colours apart.
 fn write_kept(
     forms: &[Option<TileForm>],
     colours: &[u32],
-    values: &[u32],
     w: u64,
     h: u64,
     format: &Format,
@@ -51,18 +50,24 @@ fn write_kept(
     requires wide { (0 < w) × (w < 2 ^ 16) }
     requires high { h < 2 ^ 16 }
     requires count { length colours.now ≡ w * h }
-    requires values { values.now ≡ map (tint format.now) colours.now }
     requires forms { AreFormsOf w h (value_at w colours.now) forms.now }
-    requires room { length colours.now * pixel_len format.now ≤ length out.old }
+    requires room { w * h * pixel_len format.now ≤ length out.old }
 {
     if !format.keeps_apart() {
         return 0;
     }
-    encode_kept(forms, values, w, h, format, out).unwrap_or(0)
+    let source = PixelSource {
+        numbers: colours,
+        width: w as usize,
+        height: h as usize,
+        area: Rect { x: 0, y: 0, w, h },
+        are_colours: true,
+    };
+    encode_from(Runs::Joined, &source, forms, format, out).unwrap_or(0)
 }
 
 /// The least times, of this many rounds, in which colours are written as joined runs in a format, and how many bytes
-/// that are.
+/// are written.
 #[derive(Clone, Copy)]
 pub struct KeptTimes {
     /// Without forms, in microseconds.
@@ -98,15 +103,7 @@ pub fn kept_micros(rt: &HostRuntime, record: &Record<'_>, rounds: u64) -> Result
         let _ = encode_as(Runs::Joined, values, w, h, format, out.as_mut_slice());
         times.without = times.without.min(start.elapsed(rt)?.as_micros());
         let start = Instant::now(rt)?;
-        times.bytes = write_kept(
-            forms.as_slice(),
-            colours,
-            values,
-            w,
-            h,
-            format,
-            out.as_mut_slice(),
-        );
+        times.bytes = write_kept(forms.as_slice(), colours, w, h, format, out.as_mut_slice());
         times.with = times.with.min(start.elapsed(rt)?.as_micros());
     }
     Ok(times)

@@ -1,8 +1,9 @@
 //! Runs the codecs over rectangles that other programs spelled.
 //!
-//! Without words: over the files `rectangles`, `libvncserver` and `joined`, how many there are, how many are read as the other
-//! program told, and of how many the writer answers what it told. With the words `FILE ROUNDS`: how long each rectangle
-//! of a file takes; with `kept` behind these, how long joined runs take with kept forms.
+//! Without words it prints, for the files `rectangles`, `libvncserver` and `joined`, how many rectangles there are, how
+//! many are read as the other program told, and for how many the writer answers what that program told. With the words
+//! `FILE ROUNDS` it prints how long each rectangle of a file takes, and with `kept` after these, how long joined runs
+//! take with kept forms.
 #![tactic(auto)]
 
 mod codec;
@@ -21,7 +22,7 @@ use std::test::Fail;
 use std::{env, fs};
 use timing::{reading_micros, writing_micros};
 
-/// How many rectangles there are, how many are read as told, of how many the writer is asked, and how often it answers
+/// How many rectangles there are, how many are read as told, for how many the writer is asked, and how often it answers
 /// as told.
 #[derive(Clone, Copy)]
 struct Tally {

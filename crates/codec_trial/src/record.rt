@@ -11,7 +11,7 @@ pub enum Answer {
     Unasked,
     /// The data of the record, byte for byte.
     Data,
-    /// Nothing: Raw is as short.
+    /// Nothing, since Raw is as short.
     Nothing,
 }
 

@@ -1,4 +1,4 @@
-//! How long a codec takes for one rectangle.
+//! Measures how long a codec takes for one rectangle.
 
 use crate::codec::{draw, values_of, write};
 use crate::record::Record;
@@ -20,8 +20,8 @@ pub fn reading_micros(rt: &HostRuntime, record: &Record<'_>, rounds: u64) -> Res
     Ok(least)
 }
 
-/// The least time in microseconds, of this many rounds, in which the pixels are written, and how many bytes that are, 0
-/// where Raw is as short.
+/// The least time in microseconds, of this many rounds, in which the pixels are written, and how many bytes are
+/// written: 0 where Raw is as short.
 pub fn writing_micros(
     rt: &HostRuntime,
     record: &Record<'_>,

@@ -1,10 +1,9 @@
 -- What a tile is written as, how long that is, and what it leaves. `encode` chooses a tile's kind before it writes, and
 -- keeps what it carries on.
-use Rattle.std.proofs.Common.{◌≡◌, ℕ, Bool, true, false, cond, List, [], ◌∷◌, ◌++◌, length, map, Some, None, refl, sym, ap, ◌∙◌, ◌+◌, ◌*◌, ◌<◌, ◌≤◌, length-append, arith}
+use Rattle.std.proofs.Common.{◌≡◌, ℕ, Bool, true, false, cond, List, [], ◌∷◌, ◌++◌, length, Some, None, refl, sym, ap, ◌∙◌, ◌+◌, ◌*◌, ◌<◌, ◌≤◌, length-append, arith}
 use Rattle.std.specs.Prelude.{◌==◌, nat_le}
-use Rattle.std.specs.List.{All, flat_map, list_all}
+use Rattle.std.specs.List.{flat_map, list_all}
 use Rattle.std.proofs.lemmas.Bool.{le-leb, lt-leb}
-use Rattle.std.proofs.lemmas.List.Elements.{All-nil, All-cons}
 use Rattle.pixel_format.specs.PixelFormat.{PixelFormat, pixel_len, pixel_bytes}
 use Rattle.pixel_format.proofs.Pixels.{pixel_size}
 use Rattle.raster.specs.Screen.{Canvas, values_of}
@@ -16,10 +15,9 @@ use Rattle.joined_runs.specs.declared.runs.Runs.{Runs}
 use Rattle.joined_runs.specs.declared.runs.Runs.TheVariants.{OfRows, Joined}
 use Rattle.joined_runs.specs.Joined.{background_of, subrects_of, tile_bytes_as}
 use Rattle.joined_runs.proofs.JoinedDrawn.{each_joined, joined_within}
-use Rattle.hextile_codec.specs.declared.runs.Run.{Run}
 use Rattle.hextile_codec.specs.declared.kind.Kind.{Kind}
 use Rattle.hextile_codec.specs.declared.kind.Kind.TheVariants.{Raw, Plain, TwoColours, Coloured}
-use Rattle.hextile_codec.specs.Kinds.{IsSmall, subrect_of, has_one_value, kind_of, drawn_len, leaves_of, IsWrittenAs, IsChosen}
+use Rattle.hextile_codec.specs.Kinds.{has_one_value, kind_of, drawn_len, leaves_of, IsWrittenAs, IsChosen}
 
 -- ---- lengths
 
@@ -187,14 +185,10 @@ module _ (form : Runs) (format : PixelFormat) (before : Carried) (w h : ℕ) (ca
 
 -- ---- the subrectangles are small
 
-abbrev is_small : Subrect → Type 0
+abbrev pub is_small : Subrect → Type 0
 is_small s = (s.area.x < 16) × (s.area.y < 16) × (0 < s.area.w) × (s.area.w ≤ 16) × ((0 < s.area.h) × (s.area.h ≤ 16))
 
-all_small : (rs : List Run) → Each is_small (map subrect_of rs) → All IsSmall rs
-all_small [] e = All-nil IsSmall
-all_small (r ∷ rs) e = All-cons IsSmall r rs (record { x = e.0.0; y = e.0.1; some = e.0.2; most = e.0.3; high = e.0.4 }) (all_small rs e.1)
-
-each_small : (form : Runs) (canvas : Canvas) (w h : ℕ) → w ≤ 16 → h ≤ 16 → Each is_small (subrects_of form w h canvas)
+pub each_small : (form : Runs) (canvas : Canvas) (w h : ℕ) → w ≤ 16 → h ≤ 16 → Each is_small (subrects_of form w h canvas)
 each_small OfRows canvas w h lw lh =
     each_run canvas w h is_small (λ x y lx ly. let a = run_within canvas w y x lx in let b = run_some canvas w y x lx in (omega arith, omega arith, b, omega (arith, a), (omega arith, omega arith)))
 each_small Joined canvas w h lw lh =
@@ -204,6 +198,3 @@ each_small Joined canvas w h lw lh =
     let b = run_some canvas w y x lx in
     let d = joined_within canvas background w h x y ly in
     (omega arith, omega arith, b, omega (arith, a), (omega arith, omega (arith, d))))
-
-pub small_runs : (form : Runs) (canvas : Canvas) (w h : ℕ) (rs : List Run) → w ≤ 16 → h ≤ 16 → map subrect_of rs ≡ subrects_of form w h canvas → All IsSmall rs
-small_runs form canvas w h rs lw lh e = all_small rs (rw e (each_small form canvas w h lw lh))

@@ -1,17 +1,17 @@
 -- Forms of the tiles of some colours: they are listed tile by tile, and serve a canvas that shows the colours in a format
 -- which keeps these apart.
-use Rattle.std.proofs.Common.{◌≡◌, ℕ, zero, suc, ◌+◌, ◌*◌, ◌<◌, ◌≤◌, List, [], ◌∷◌, ◌++◌, length, map, Option, None, below_more, arith, length-append}
+use Rattle.std.proofs.Common.{◌≡◌, ℕ, zero, suc, ◌+◌, ◌<◌, List, [], ◌∷◌, ◌++◌, length, Option, None, below_more, true, cond, ap, ◌∙◌, arith, length-append}
 use Rattle.std.specs.Prelude.{IfSome, slice_index_or}
 use Rattle.std.proofs.Math.ListN.{get_or-append}
 use Rattle.std.proofs.Math.Seq.{get_or-append_seam}
-use Rattle.std.proofs.Math.Nat.{mul-le-mul_right}
-use Rattle.std.proofs.lemmas.List.{get_or-map}
 use Rattle.pixel_format.specs.PixelFormat.{PixelFormat, KeepsApart, tint}
 use Rattle.raster.specs.declared.rect.Rect.{Rect}
 use Rattle.raster.specs.Screen.{Canvas, LooksLike, part_of, tile_count, tile_rect, value_at}
 use Rattle.raster.proofs.HextileSpelled.{IsTile, tile_lies}
 use Rattle.joined_runs.specs.Tinted.{ShowsApart, tinted}
 use Rattle.hextile_codec.specs.declared.kept.TileForm.{TileForm}
+use Rattle.hextile_codec.specs.declared.source.PixelSource.{PixelSource}
+use Rattle.hextile_codec.specs.Sources.{shows}
 use Rattle.hextile_codec.specs.Kept.{AreFormsOf, AreKept, FormStands}
 use Rattle.hextile_codec.proofs.KeptForms.{if_some}
 
@@ -52,8 +52,10 @@ more_forms w h colours forms form are here = λ t known inside.
     let last : length forms < tile_count w h → IsFormOf w h colours (length forms) (slice_index_or all (length forms) None) = λ there. rw (get_or-append_seam forms form [] None) here in
     below_more (λ k. k < tile_count w h → IsFormOf w h colours k (slice_index_or all k None)) (length forms) before last t (omega (arith, known, len)) inside
 
-pub values_show : (format : PixelFormat) (w h : ℕ) (colours : List ℕ) → length colours ≡ w * h → LooksLike w h (value_at w (map (tint format) colours)) (tinted format (value_at w colours))
-values_show format w h colours count = λ x y across down.
-    let rows : (y + 1) * w ≤ h * w = mul-le-mul_right w (omega (arith, down)) in
-    let place : y * w + x < length colours = omega (arith, rows, across, count) in
-    get_or-map (tint format) colours (y * w + x) 0 0 place
+pub source_shows : (format : PixelFormat) (s : PixelSource) (w h : ℕ) → s.area.x ≡ 0 → s.area.y ≡ 0 → s.are_colours ≡ true → LooksLike w h (shows format s) (tinted format (value_at s.width s.numbers.now))
+source_shows format s w h left top colours = λ x y across down.
+    let screen : Canvas = value_at s.width s.numbers.now in
+    let at_x : s.area.x + x ≡ x = omega (arith, left) in
+    let at_y : s.area.y + y ≡ y = omega (arith, top) in
+    ap (λ b. cond b (tint format (screen (s.area.x + x) (s.area.y + y))) (screen (s.area.x + x) (s.area.y + y))) colours
+    ∙ (ap (λ u. tint format (screen u (s.area.y + y))) at_x ∙ ap (λ v. tint format (screen x v)) at_y)

@@ -1,3 +1,4 @@
+pub mod Choices
 pub mod KeptForms
 pub mod FormsOf
 pub mod Tinted
@@ -18,7 +19,6 @@ pub mod Puts
 pub mod RowRuns
 pub mod TileRuns
 pub mod Drawings
-pub mod RawRows
 pub mod Tiles
 pub mod MaskBits
 pub mod MarkedRuns
@@ -45,3 +45,6 @@ pub mod Joins
 pub mod Heads
 pub mod MostMarked
 pub mod KindBeside
+pub mod Alike
+pub mod SubrectsIn
+pub mod RawRows

@@ -66,7 +66,7 @@ run_fits row y x len lx long =
 
 -- ---- a row of the background alone
 
-passes_at : (p : ℕ → Bool) (xs : List ℕ) (k : ℕ) → list_all p xs ≡ true → k < length xs → p (get_or xs k 0) ≡ true
+pub passes_at : (p : ℕ → Bool) (xs : List ℕ) (k : ℕ) → list_all p xs ≡ true → k < length xs → p (get_or xs k 0) ≡ true
 passes_at p [] k e lt = absurd (omega arith)
 passes_at p (x ∷ xs) zero e lt = (and_parts (p x) (list_all p xs) e).0
 passes_at p (x ∷ xs) (suc k) e lt = passes_at p xs k (and_parts (p x) (list_all p xs) e).1 (omega arith)

@@ -1,17 +1,37 @@
 -- A rectangle's bytes, tile after tile. `put_tiles` writes them one by one.
 use Rattle.std.proofs.Common.{◌≡◌, ℕ, suc, List, [], ◌++◌, ◌∷◌, length, take, refl, sym, ap, ◌∙◌, ◌+◌, ◌-◌, ◌*◌, ◌<◌, ◌≤◌, append_assoc, length-append, arith}
 use Rattle.std.proofs.lemmas.List.{length-take, append-nil}
-use Rattle.std.proofs.Math.Nat.{mul-le-mul_right}
+use Rattle.std.proofs.Math.Nat.{mul-le-mul, mul-le-mul_right}
 use Rattle.pixel_format.specs.PixelFormat.{PixelFormat}
 use Rattle.raster.specs.declared.rect.Rect.{Rect}
-use Rattle.raster.specs.Screen.{Canvas, values_of, part_of, tile_count, tile_rect}
+use Rattle.raster.specs.Screen.{Canvas, IsWithin, values_of, part_of, tile_count, tile_rect}
 use Rattle.raster.specs.Encoding.{Subrect, Carried, raw_bytes, drawn_bytes}
 use Rattle.joined_runs.specs.declared.runs.Runs.{Runs}
 use Rattle.joined_runs.specs.Joined.{subrects_of, tile_bytes_as, tiles_from_as}
-use Rattle.raster.proofs.HextileSpelled.{IsTile}
+use Rattle.raster.proofs.HextileSpelled.{IsTile, tile_lies}
 use Rattle.hextile_codec.specs.declared.kind.Kind.{Kind}
 use Rattle.hextile_codec.specs.declared.kind.Kind.TheVariants.{Raw, Plain, TwoColours, Coloured}
-use Rattle.hextile_codec.specs.Kinds.{kind_of, IsWrittenAs}
+use Rattle.hextile_codec.specs.Kinds.{kind_of, IsTileSize, IsWrittenAs}
+
+-- Tile k of a rectangle, which is at most as high and wide as a tile, and lies in it.
+pub record IsTileOf (w h k : ℕ) (tile : Rect) : Type 0 where
+  pub inside : k < tile_count w h
+  pub size : IsTileSize tile.w tile.h
+  pub within : IsWithin tile w h
+
+pub tile_of : (w h k count : ℕ) (tile : Rect) → 0 < w → count ≡ tile_count w h → k < count → tile ≡ tile_rect w h k → IsTileOf w h k tile
+tile_of w h k count tile wide all lt is =
+    let inside : k < tile_count w h = rw all at lt in
+    let lies : IsTile w h tile = rw is (tile_lies w h k wide inside) in
+    record {
+      inside = inside;
+      size = record { w_some = lies.w_some; w_most = lies.w_most; h_some = lies.h_some; h_most = lies.h_most };
+      within = record { across = lies.across; down = lies.down };
+    }
+
+-- It has at most 256 pixels.
+pub tile_area : (w h : ℕ) → IsTileSize w h → w * h ≤ 256
+tile_area w h size = let area : w * h ≤ 16 * 16 = mul-le-mul size.w_most size.h_most in omega (arith, area)
 
 -- A tile lies in the values of all.
 pub tile_inside : (w h len : ℕ) (tile : Rect) → IsTile w h tile → len ≡ w * h → (tile.y + tile.h) * w ≤ len
@@ -49,11 +69,12 @@ module _ (form : Runs) (format : PixelFormat) (w h : ℕ) (canvas : Canvas) wher
       let others : List ℕ = rest_from (tile_written before tile).1 (k + 1) in
       omega (arith, ap length (sym so), length-append (take used out) (rest_from before k), length-take used out, ap length (rest_next before k tile is lt), length-append first others)
 
+  pub none_left : (before : Carried) (k : ℕ) → tile_count w h ≤ k → rest_from before k ≡ []
+  none_left before k le = let none : tile_count w h - k ≡ 0 = omega arith in ap (tiles_from_as form format w h canvas before k) none
+
   pub all_put : (before : Carried) (k used : ℕ) (out whole : List ℕ) → tile_count w h ≤ k → take used out ++ rest_from before k ≡ whole → take used out ≡ whole
   all_put before k used out whole le so =
-      let none : tile_count w h - k ≡ 0 = omega arith in
-      let over : rest_from before k ≡ [] = ap (tiles_from_as form format w h canvas before k) none in
-      sym (append-nil (take used out)) ∙ (ap (λ t. take used out ++ t) (sym over) ∙ so)
+      sym (append-nil (take used out)) ∙ (ap (λ t. take used out ++ t) (sym (none_left before k le)) ∙ so)
 
 -- What a choice that isn't Raw says.
 pub says_drawn : (form : Runs) (format : PixelFormat) (before : Carried) (w h : ℕ) (canvas : Canvas) (found : List Subrect) (background : ℕ) (kind : Kind) (bytes : List ℕ) → (kind ≡ Raw → ⊥) → IsWrittenAs form format before w h canvas found background kind bytes

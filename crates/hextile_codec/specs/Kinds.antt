@@ -27,6 +27,13 @@ pub record IsSmall (run : Run) : Type 0 where
   pub most : run.len ≤ 16
   pub high : (0 < run.high) × (run.high ≤ 16)
 
+-- A tile has at least one column and row, and at most 16.
+pub record IsTileSize (w h : ℕ) : Type 0 where
+  pub w_some : 0 < w
+  pub w_most : w ≤ 16
+  pub h_some : 0 < h
+  pub h_most : h ≤ 16
+
 -- All runs have the value of the first.
 abbrev pub has_one_value : List Subrect → Bool
 has_one_value [] = true

@@ -1,3 +1,4 @@
+pub mod Chosen
 pub mod Kept
 pub mod Apart
 pub mod Ahead
@@ -12,3 +13,5 @@ pub mod Breaks
 pub mod Places
 pub mod Reach
 pub mod Heads
+pub mod Sources
+pub mod Subrects

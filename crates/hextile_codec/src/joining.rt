@@ -19,16 +19,16 @@ use raster::{Rect, TILE_SIDE};
 
 /// What is found of one tile, and the room that this takes.
 #[derive(Drop)]
-pub struct Room {
+pub struct TileRoom {
     pixels: Pixels,
     pub runs: Found,
     pub subrects: Found,
 }
 
-impl Room {
+impl TileRoom {
     /// Room in which nothing is found.
-    pub fn new() -> Room {
-        Room {
+    pub fn new() -> TileRoom {
+        TileRoom {
             pixels: Pixels::new(),
             runs: Found::new(),
             subrects: Found::new(),
@@ -70,7 +70,13 @@ pub struct Backgrounds {
 }
 
 /// Finds the joined runs of a whole tile over its most frequent value, and counts the runs of its rows.
-fn search_whole(values: &[u32], w: usize, tile: &Rect, first: u32, room: &mut Room) -> Backgrounds
+fn search_whole(
+    values: &[u32],
+    w: usize,
+    tile: &Rect,
+    first: u32,
+    room: &mut TileRoom,
+) -> Backgrounds
     requires lies { LiesAmong values.now w tile.now }
     requires wide { tile.now.w ≡ 16 }
     requires high { tile.now.h ≡ 16 }
@@ -91,7 +97,13 @@ fn search_whole(values: &[u32], w: usize, tile: &Rect, first: u32, room: &mut Ro
 }
 
 /// Finds the joined runs of a tile at an edge over its most frequent value, and counts the runs of its rows.
-fn search_part(values: &[u32], w: usize, tile: &Rect, first: u32, room: &mut Room) -> Backgrounds
+fn search_part(
+    values: &[u32],
+    w: usize,
+    tile: &Rect,
+    first: u32,
+    room: &mut TileRoom,
+) -> Backgrounds
     requires lies { LiesAmong values.now w tile.now }
     requires w_some { 0 < tile.now.w }
     requires w_most { tile.now.w ≤ TILE_SIDE }
@@ -112,7 +124,7 @@ fn search_part(values: &[u32], w: usize, tile: &Rect, first: u32, room: &mut Roo
 }
 
 /// Finds the joined runs of a tile over its most frequent value, and counts the runs of its rows.
-fn search(values: &[u32], w: usize, tile: &Rect, first: u32, room: &mut Room) -> Backgrounds
+fn search(values: &[u32], w: usize, tile: &Rect, first: u32, room: &mut TileRoom) -> Backgrounds
     requires lies { LiesAmong values.now w tile.now }
     requires w_some { 0 < tile.now.w }
     requires w_most { tile.now.w ≤ TILE_SIDE }
@@ -137,7 +149,7 @@ pub fn find_both(
     w: usize,
     tile: &Rect,
     enough: usize,
-    room: &mut Room,
+    room: &mut TileRoom,
 ) -> Option<Backgrounds>
     requires lies { LiesAmong values.now w tile.now }
     requires w_some { 0 < tile.now.w }

@@ -1,6 +1,8 @@
 //! The form of a tile by its colours, which is kept for as long as they stay.
 
-ghost use Rattle.std.specs.Prelude.{◌≡◌, ℕ, ◌^◌, ◌<◌, ◌≤◌, ◌↔◌, IfSome, IsTrue, length, map, None, Some, slice_index, slice_index_or};
+ghost use Rattle.std.specs.Prelude.{◌≡◌, ℕ, ◌<◌, ◌≤◌, IfNone, IfSome, nat_lt, length, map, None, Some, slice_index_or};
+ghost use Rattle.std.specs.List.{list_all};
+ghost use Rattle.pixel_format.specs.PixelFormat.{PixelFormat};
 ghost use Rattle.raster.specs.Screen.{Canvas, value_at, part_of};
 ghost use Rattle.joined_runs.specs.declared.runs.Runs.TheVariants.{OfRows, Joined};
 ghost use Rattle.joined_runs.specs.Joined.{subrects_of};
@@ -11,14 +13,18 @@ ghost use Rattle.hextile_codec.specs.Heads.{IsHeadOf};
 ghost use Rattle.hextile_codec.specs.Kept.{AreColours, FormStands};
 ghost use Rattle.hextile_codec.specs.Kinds.{IsChosen, HasMany, subrect_of};
 ghost use Rattle.hextile_codec.specs.Marks.{LiesAmong};
+ghost use Rattle.hextile_codec.specs.Subrects.{subrects_in};
 
-use crate::joining::{Room, find_both};
-use crate::kind::{Choices, Head, Kind, Said, choose_both, kind_of, kind_of_rows};
+use crate::joining::{TileRoom, find_both};
+use crate::kind::{Choices, Head, Heads, Kind, Said, heads_of};
+use crate::put::Subrects;
 use crate::rows::row_of;
-use crate::runs::{Found, Run, TILE_AREA};
+use crate::runs::{Run, TILE_AREA};
 use arrayvec::ArrayVec;
 use pixel_format::Format;
 use raster::{Rect, TILE_SIDE};
+use std::simd::cmp::SimdPartialOrd;
+use std::simd::u32x16;
 
 /// How many joined runs a kept form has at most. Most tiles of smooth letters have fewer, and no photo has.
 pub const MOST_KEPT: usize = 80;
@@ -31,10 +37,14 @@ pub struct TileForm {
     runs: ArrayVec<Run, MOST_KEPT>,
 }
 
-/// Whether each number of a row is a colour.
+/// Whether each number of a row is a colour. A whole row of a tile is compared at once.
 fn are_colours(row: &[u32]) -> bool
-    ensures { IsTrue result ↔ ((x : ℕ) → x < length row.now → slice_index row.now x < 2 ^ 24) }
+    ensures { result ≡ list_all (λ v. nat_lt v 16777216) row.now }
 {
+    if row.len() == TILE_SIDE as usize {
+        let end = u32x16::splat(1 << 24);
+        return u32x16::from_slice(row).simd_lt(end).all();
+    }
     row.iter().all(|colour| *colour < 1 << 24)
 }
 
@@ -78,6 +88,17 @@ impl TileForm {
         }
     }
 
+    /// Becomes equal to another. No more is copied than that one has.
+    pub fn copy_from(&mut self, other: &TileForm)
+        ensures { self.new ≡ other.now }
+    {
+        self.joined = other.joined;
+        self.rows = other.rows;
+        self.runs.clear();
+        // It has room for these.
+        let _ = self.runs.try_extend_from_slice(other.runs.as_slice());
+    }
+
     /// Chooses what a tile of pixel values is written as in both forms, by the kept form of its colours.
     pub fn choose(&self, format: &Format, tile: &Rect, said: &Said) -> Choices
         requires w_most { tile.now.w ≤ TILE_SIDE }
@@ -86,6 +107,7 @@ impl TileForm {
         requires rows_few { self.now.rows.count ≤ TILE_AREA }
         ensures joined { (colours shown : Canvas) → FormStands self.now tile.now.w tile.now.h colours → ShowsApart format.now tile.now.w tile.now.h colours shown → IsChosen Joined format.now (carried_by said.now.joined) tile.now.w tile.now.h shown (map (tinted_subrect format.now) (map subrect_of self.now.runs.items)) result.joined }
         ensures rows { (colours shown : Canvas) → FormStands self.now tile.now.w tile.now.h colours → ShowsApart format.now tile.now.w tile.now.h colours shown → IsChosen OfRows format.now (carried_by said.now.rows) tile.now.w tile.now.h shown (subrects_of OfRows tile.now.w tile.now.h shown) result.rows }
+        ensures joined_few { result.joined.len ≤ 1025 }
         ensures few { result.rows.len ≤ 1025 }
     {
         Choices {
@@ -97,26 +119,16 @@ impl TileForm {
         }
     }
 
-    /// Its joined runs, with the pixel values of their colours.
-    pub fn tint_runs(&self, format: &Format, found: &mut Found)
-        ensures { map subrect_of found.new.items ≡ map (tinted_subrect format.now) (map subrect_of self.now.runs.items) }
+    /// Its joined runs, as they are put.
+    pub fn subrects(&self) -> Subrects
+        ensures { (format : PixelFormat) → subrects_in format result ≡ map (tinted_subrect format) (map subrect_of self.now.runs.items) }
     {
-        found.clear();
-        // Mostly a run has the colour of the one before, and to tint takes longer than to compare.
-        let mut colour = self.joined.background;
-        let mut value = format.tint(colour);
-        for run in self.runs.iter() {
-            if run.value != colour {
-                colour = run.value;
-                value = format.tint(colour);
-            }
-            found.push(Run { value, ..*run });
-        }
+        Subrects::of_colours(self.runs.as_slice())
     }
 }
 
 /// The form of a tile by its colours; `None` where it has more joined runs than are kept, or a number that is no colour.
-pub fn form_of_tile(colours: &[u32], w: usize, tile: &Rect, room: &mut Room) -> Option<TileForm>
+pub fn form_of_tile(colours: &[u32], w: usize, tile: &Rect, room: &mut TileRoom) -> Option<TileForm>
     requires lies { LiesAmong colours.now w tile.now }
     requires w_some { 0 < tile.now.w }
     requires w_most { tile.now.w ≤ TILE_SIDE }
@@ -134,53 +146,17 @@ pub fn form_of_tile(colours: &[u32], w: usize, tile: &Rect, room: &mut Room) -> 
     if subrects.len() > MOST_KEPT {
         return None;
     }
-    let joined = Head {
-        background: found.joined,
-        kind: kind_of(subrects),
-        count: subrects.len(),
-    };
-    let rows = Head {
-        background: found.rows,
-        kind: kind_of_rows(joined.kind, &found),
-        count: found.count,
-    };
+    let Heads { joined, rows } = heads_of(&found, subrects);
     let mut runs = ArrayVec::new();
     // It has room for these.
     let _ = runs.try_extend_from_slice(subrects);
     Some(TileForm { joined, rows, runs })
 }
 
-/// Chooses what a tile of pixel values is written as in both forms: by the kept form of its colours or, where there is
-/// none, by a look at it. Its joined runs are then in `room`, if it isn't Raw as these.
-pub fn choose_kept(
-    form: Option<&TileForm>,
-    format: &Format,
-    values: &[u32],
-    w: usize,
-    tile: &Rect,
-    said: &Said,
-    room: &mut Room,
-) -> Choices
-    requires lies { LiesAmong values.now w tile.now }
-    requires w_some { 0 < tile.now.w }
-    requires w_most { tile.now.w ≤ TILE_SIDE }
-    requires h_some { 0 < tile.now.h }
-    requires h_most { tile.now.h ≤ TILE_SIDE }
-    requires kept { IfSome form (λ f. (colours : Canvas) × FormStands f.now tile.now.w tile.now.h colours × ShowsApart format.now tile.now.w tile.now.h colours (part_of tile.now (value_at w values.now))) }
-    ensures joined { IsChosen Joined format.now (carried_by said.now.joined) tile.now.w tile.now.h (part_of tile.now (value_at w values.now)) (map subrect_of room.new.subrects.items) result.joined }
-    ensures rows { let canvas = part_of tile.now (value_at w values.now) in IsChosen OfRows format.now (carried_by said.now.rows) tile.now.w tile.now.h canvas (subrects_of OfRows tile.now.w tile.now.h canvas) result.rows }
-    ensures few { result.rows.len ≤ 1025 }
-{
-    let Some(form) = form else {
-        return choose_both(format, values, w, tile, said, room);
-    };
-    form.tint_runs(format, &mut room.subrects);
-    form.choose(format, tile, said)
-}
-
 /// The form that is kept of tile `k`, if there is one.
 pub fn form_at(forms: &[Option<TileForm>], k: usize) -> Option<&TileForm>
-    ensures { IfSome result (λ form. (k < length forms.now) × (slice_index_or forms.now k None ≡ Some form.now)) }
+    ensures some { IfSome result (λ form. (k < length forms.now) × (slice_index_or forms.now k None ≡ Some form.now)) }
+    ensures none { IfNone result (slice_index_or forms.now k None ≡ None) }
 {
     forms.get(k)?.as_ref()
 }

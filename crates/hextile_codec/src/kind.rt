@@ -1,6 +1,6 @@
 //! The kinds of a tile as it is written, and which of them one has.
 
-ghost use Rattle.std.specs.Prelude.{◌≡◌, ℕ, ◌+◌, ◌*◌, ◌<◌, ◌≤◌, List, length, map};
+ghost use Rattle.std.specs.Prelude.{◌≡◌, ℕ, ◌+◌, ◌*◌, ◌<◌, ◌≤◌, ◌↔◌, IsTrue, List, length, map};
 ghost use Rattle.pixel_format.specs.PixelFormat.{pixel_len};
 ghost use Rattle.raster.specs.Screen.{Canvas, value_at, part_of};
 ghost use Rattle.raster.specs.Encoding.{Carried, Subrect, drawn_bytes, unless_said};
@@ -13,15 +13,16 @@ ghost use Rattle.hextile_codec.specs.Kinds.{subrect_of, kind_of, leaves_of, draw
 ghost use Rattle.hextile_codec.specs.Marks.{LiesAmong};
 
 use crate::colours::{Colours, is_said};
-use crate::joining::{Backgrounds, Room, find_both, find_rows};
+use crate::joining::{Backgrounds, TileRoom, find_both, find_rows};
 use crate::runs::{Run, TILE_AREA, has_one_value};
 use pixel_format::Format;
 use raster::{Rect, TILE_SIDE};
 
 /// What a tile is written as (RFC 6143, section 7.7.4).
-#[derive(Clone, Copy)]
+#[derive(Clone, Copy, Default)]
 pub enum Kind {
     /// Its pixels.
+    #[default]
     Raw,
     /// Its background alone.
     Plain,
@@ -32,7 +33,7 @@ pub enum Kind {
 }
 
 /// What is known of a tile before it is written: its kind, its first pixel's value, and how many bytes it has.
-#[derive(Clone, Copy)]
+#[derive(Clone, Copy, Default)]
 pub struct TileChoice {
     pub kind: Kind,
     pub background: u32,
@@ -62,7 +63,7 @@ impl Said {
 }
 
 /// The kind of a tile of these runs that isn't Raw.
-pub fn kind_of(runs: &[Run]) -> Kind
+fn kind_of(runs: &[Run]) -> Kind
     ensures { result ≡ kind_of (map subrect_of runs.now) }
 {
     match runs.first() {
@@ -118,6 +119,32 @@ pub struct Head {
     pub count: usize,
 }
 
+/// The heads of a tile in both forms.
+#[derive(Clone, Copy)]
+pub struct Heads {
+    pub joined: Head,
+    pub rows: Head,
+}
+
+/// The heads of a tile of which these backgrounds and joined runs were found.
+pub fn heads_of(found: &Backgrounds, subrects: &[Run]) -> Heads
+    ensures { (w h : ℕ) (canvas : Canvas) → 0 < w → 0 < h → AreFound w h canvas (map subrect_of subrects.now) found.now → IsHeadOf Joined w h canvas result.joined × IsHeadOf OfRows w h canvas result.rows }
+{
+    let kind = kind_of(subrects);
+    Heads {
+        joined: Head {
+            background: found.joined,
+            kind,
+            count: subrects.len(),
+        },
+        rows: Head {
+            background: found.rows,
+            kind: kind_of_rows(kind, found),
+            count: found.count,
+        },
+    }
+}
+
 impl Head {
     /// What a tile of this head is written as: Raw where that has no more bytes than its drawing.
     pub fn choose(&self, format: &Format, tile: &Rect, said: &Colours) -> TileChoice
@@ -164,7 +191,7 @@ pub fn choose(
     w: usize,
     tile: &Rect,
     said: &Colours,
-    room: &mut Room,
+    room: &mut TileRoom,
 ) -> TileChoice
     requires lies { LiesAmong values.now w tile.now }
     requires w_some { 0 < tile.now.w }
@@ -188,7 +215,7 @@ pub fn choose(
 
 /// The kind of a tile of the runs of its rows, by that of its joined runs. In both forms it is told by the tile's values
 /// other than its background.
-pub fn kind_of_rows(joined: Kind, backgrounds: &Backgrounds) -> Kind
+fn kind_of_rows(joined: Kind, backgrounds: &Backgrounds) -> Kind
     ensures { (w h : ℕ) (canvas : Canvas) (found : List Subrect) → 0 < w → 0 < h → AreFound w h canvas found backgrounds.now → joined ≡ kind_of found → result ≡ kind_of (subrects_of OfRows w h canvas) }
 {
     if backgrounds.rows == backgrounds.joined {
@@ -208,7 +235,7 @@ pub fn choose_both(
     w: usize,
     tile: &Rect,
     said: &Said,
-    room: &mut Room,
+    room: &mut TileRoom,
 ) -> Choices
     requires lies { LiesAmong values.now w tile.now }
     requires w_some { 0 < tile.now.w }
@@ -227,20 +254,10 @@ pub fn choose_both(
             rows: raw,
         };
     };
-    let subrects = room.subrects.as_slice();
-    let joined = Head {
-        background: found.joined,
-        kind: kind_of(subrects),
-        count: subrects.len(),
-    };
-    let rows = Head {
-        background: found.rows,
-        kind: kind_of_rows(joined.kind, &found),
-        count: found.count,
-    };
+    let heads = heads_of(&found, room.subrects.as_slice());
     Choices {
-        joined: joined.choose(format, tile, &said.joined),
-        rows: rows.choose(format, tile, &said.rows),
+        joined: heads.joined.choose(format, tile, &said.joined),
+        rows: heads.rows.choose(format, tile, &said.rows),
     }
 }
 
@@ -258,6 +275,13 @@ impl Choices {
 }
 
 impl TileChoice {
+    /// Whether the tile is written as its pixels.
+    pub fn is_raw(&self) -> bool
+        ensures { IsTrue result ↔ self.now.kind ≡ Kind.Raw }
+    {
+        matches!(self.kind, Kind::Raw)
+    }
+
     /// What the next tile may leave off.
     pub fn leaves(&self) -> Colours
         ensures { carried_by result ≡ leaves_of self.now.kind self.now.background }

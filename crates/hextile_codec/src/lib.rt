@@ -8,6 +8,7 @@
 #![tactic(auto)]
 
 mod breaks;
+mod chosen;
 mod colours;
 mod crowded;
 mod drawing;
@@ -26,13 +27,16 @@ mod reaching;
 mod reading;
 mod rows;
 mod runs;
+mod source;
 mod stage;
 mod subrects;
+mod tile;
 mod tile_marks;
 mod writing;
 
-pub use joining::Room;
+pub use joining::TileRoom;
 pub use kept::{TileForm, form_of_tile};
 pub use law::head_is_tinted;
 pub use reading::Reader;
-pub use writing::{encode, encode_as, encode_kept};
+pub use source::PixelSource;
+pub use writing::{encode, encode_as, encode_from};

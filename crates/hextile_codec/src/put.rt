@@ -1,12 +1,14 @@
 //! Putting a tile's bytes.
 
-ghost use Rattle.std.specs.Prelude.{◌≡◌, ◌+◌, ◌*◌, ◌<◌, ◌≤◌, ◌++◌, ◌∷◌, [], if◌then◌else◌, length, map, take};
+ghost use Rattle.std.specs.Prelude.{◌≡◌, ◌+◌, ◌*◌, ◌<◌, ◌≤◌, ◌++◌, ◌∷◌, [], if◌then◌else◌, true, length, map, take};
 ghost use Rattle.std.specs.List.{All, flat_map};
-ghost use Rattle.pixel_format.specs.PixelFormat.{pixel_len};
+ghost use Rattle.pixel_format.specs.PixelFormat.{PixelFormat, pixel_len, tint};
+ghost use Rattle.joined_runs.specs.Tinted.{tinted_subrect};
 ghost use Rattle.raster.specs.Screen.{value_at, part_of, values_of};
 ghost use Rattle.raster.specs.Encoding.{drawn_bytes, unless_said, place_bytes, coloured_bytes, raw_bytes, is_said};
 ghost use Rattle.hextile_codec.specs.Carried.{carried_by};
 ghost use Rattle.hextile_codec.specs.Kinds.{IsSmall, subrect_of, kind_of, drawn_len};
+ghost use Rattle.hextile_codec.specs.Subrects.{subrect_in, subrects_in};
 
 use crate::colours::{Colours, is_said};
 use crate::kind::{Kind, TileChoice};
@@ -19,6 +21,36 @@ use raster::{Rect, TILE_SIDE};
 
 /// How many bytes the place of a run has.
 const PLACE_LEN: usize = 2;
+
+/// The subrectangles of a tile as they are put: runs with their pixel values, or with the colours of which a format
+/// makes these.
+#[derive(Clone, Copy)]
+pub struct Subrects<'a> {
+    pub runs: &'a [Run],
+    pub are_colours: bool,
+}
+
+impl Subrects<'_> {
+    /// Those of runs with their pixel values.
+    pub fn of_values(runs: &[Run]) -> Subrects
+        ensures { (format : PixelFormat) → subrects_in format result ≡ map subrect_of runs.now }
+    {
+        Subrects {
+            runs,
+            are_colours: false,
+        }
+    }
+
+    /// Those of runs with their colours.
+    pub fn of_colours(runs: &[Run]) -> Subrects
+        ensures { (format : PixelFormat) → subrects_in format result ≡ map (tinted_subrect format) (map subrect_of runs.now) }
+    {
+        Subrects {
+            runs,
+            are_colours: true,
+        }
+    }
+}
 
 /// Puts a colour from index `used` of `out` on, unless the tile before has it, and answers where it ends.
 fn put_colour(
@@ -85,6 +117,51 @@ fn put_coloured_runs(format: &Format, runs: &[Run], out: &mut [u8], used: usize)
     }
 }
 
+/// The pixel value of the next colour, after a colour and its pixel value.
+fn tint_next(format: &Format, colour: u32, value: u32, next: u32) -> u32
+    requires { value ≡ tint format.now colour }
+    ensures { result ≡ tint format.now next }
+{
+    // Mostly a run has the colour of the one before, and to tint takes longer than to compare.
+    if next == colour {
+        value
+    } else {
+        format.tint(next)
+    }
+}
+
+/// Puts runs of colours with their pixel values from index `used` of `out` on.
+fn put_tinted_runs(format: &Format, runs: &[Run], out: &mut [u8], used: usize)
+    requires small { All IsSmall runs.now }
+    requires room { used + (pixel_len format.now + 2) * length runs.now ≤ length out.old }
+    ensures { take (used + (pixel_len format.now + 2) * length runs.now) out.new ≡ take used out.old ++ flat_map (coloured_bytes format.now) (map (subrect_in format.now true) runs.now) }
+{
+    let mut at = used;
+    let mut colour = 0;
+    let mut value = format.tint(colour);
+    for run in runs {
+        value = tint_next(format, colour, value, run.value);
+        colour = run.value;
+        format.put_pixel(value, &mut out[at..]);
+        let place = at + format.bytes();
+        out[place..place + PLACE_LEN].copy_from_slice(&place_of(run));
+        at = place + PLACE_LEN;
+    }
+}
+
+/// Puts subrectangles with their pixel values from index `used` of `out` on.
+fn put_runs(format: &Format, subrects: &Subrects, out: &mut [u8], used: usize)
+    requires small { All IsSmall subrects.now.runs.now }
+    requires room { used + (pixel_len format.now + 2) * length subrects.now.runs.now ≤ length out.old }
+    ensures { take (used + (pixel_len format.now + 2) * length subrects.now.runs.now) out.new ≡ take used out.old ++ flat_map (coloured_bytes format.now) (subrects_in format.now subrects.now) }
+{
+    if subrects.are_colours {
+        put_tinted_runs(format, subrects.runs, out, used);
+    } else {
+        put_coloured_runs(format, subrects.runs, out, used);
+    }
+}
+
 /// The bit that says that a background is written, unless the tile before has it.
 fn background_bit(said: &Colours, background: u32) -> u8
     ensures { result ≡ (if is_said said.now.background background then 0 else 2) }
@@ -102,27 +179,27 @@ fn put_two_colours(
     said: &Colours,
     background: u32,
     foreground: u32,
-    runs: &[Run],
+    subrects: &Subrects,
     out: &mut [u8],
     used: usize,
 )
-    requires small { All IsSmall runs.now }
-    requires few { length runs.now ≤ 255 }
-    requires is { kind_of (map subrect_of runs.now) ≡ Kind.TwoColours foreground }
-    requires room { used + drawn_len format.now (carried_by said.now) background (Kind.TwoColours foreground) (length runs.now) ≤ length out.old }
-    ensures { take (used + drawn_len format.now (carried_by said.now) background (Kind.TwoColours foreground) (length runs.now)) out.new ≡ take used out.old ++ drawn_bytes format.now (carried_by said.now) background (map subrect_of runs.now) }
+    requires small { All IsSmall subrects.now.runs.now }
+    requires few { length subrects.now.runs.now ≤ 255 }
+    requires is { kind_of (subrects_in format.now subrects.now) ≡ Kind.TwoColours foreground }
+    requires room { used + drawn_len format.now (carried_by said.now) background (Kind.TwoColours foreground) (length subrects.now.runs.now) ≤ length out.old }
+    ensures { take (used + drawn_len format.now (carried_by said.now) background (Kind.TwoColours foreground) (length subrects.now.runs.now)) out.new ≡ take used out.old ++ drawn_bytes format.now (carried_by said.now) background (subrects_in format.now subrects.now) }
 {
-    let subrects = if is_said(said.foreground, foreground) {
+    let bits = if is_said(said.foreground, foreground) {
         ANY_SUBRECTS
     } else {
         ANY_SUBRECTS + FOREGROUND_SPECIFIED
     };
-    let mask = background_bit(said, background) + subrects;
+    let mask = background_bit(said, background) + bits;
     let at = put_byte(mask, out, used);
     let at = put_colour(format, said.background, background, out, at);
     let at = put_colour(format, said.foreground, foreground, out, at);
-    let at = put_byte(runs.len() as u8, out, at);
-    put_places(runs, out, at);
+    let at = put_byte(subrects.runs.len() as u8, out, at);
+    put_places(subrects.runs, out, at);
 }
 
 /// Puts a tile of runs with their values.
@@ -130,21 +207,21 @@ fn put_coloured(
     format: &Format,
     said: &Colours,
     background: u32,
-    runs: &[Run],
+    subrects: &Subrects,
     out: &mut [u8],
     used: usize,
 )
-    requires small { All IsSmall runs.now }
-    requires few { length runs.now ≤ 255 }
-    requires is { kind_of (map subrect_of runs.now) ≡ Kind.Coloured }
-    requires room { used + drawn_len format.now (carried_by said.now) background Kind.Coloured (length runs.now) ≤ length out.old }
-    ensures { take (used + drawn_len format.now (carried_by said.now) background Kind.Coloured (length runs.now)) out.new ≡ take used out.old ++ drawn_bytes format.now (carried_by said.now) background (map subrect_of runs.now) }
+    requires small { All IsSmall subrects.now.runs.now }
+    requires few { length subrects.now.runs.now ≤ 255 }
+    requires is { kind_of (subrects_in format.now subrects.now) ≡ Kind.Coloured }
+    requires room { used + drawn_len format.now (carried_by said.now) background Kind.Coloured (length subrects.now.runs.now) ≤ length out.old }
+    ensures { take (used + drawn_len format.now (carried_by said.now) background Kind.Coloured (length subrects.now.runs.now)) out.new ≡ take used out.old ++ drawn_bytes format.now (carried_by said.now) background (subrects_in format.now subrects.now) }
 {
     let mask = background_bit(said, background) + ANY_SUBRECTS + SUBRECTS_COLOURED;
     let at = put_byte(mask, out, used);
     let at = put_colour(format, said.background, background, out, at);
-    let at = put_byte(runs.len() as u8, out, at);
-    put_coloured_runs(format, runs, out, at);
+    let at = put_byte(subrects.runs.len() as u8, out, at);
+    put_runs(format, subrects, out, at);
 }
 
 /// Puts a tile that isn't Raw, of a kind that its runs have, from index `used` of `out` on.
@@ -152,22 +229,22 @@ pub fn put_drawn(
     format: &Format,
     said: &Colours,
     choice: &TileChoice,
-    runs: &[Run],
+    subrects: &Subrects,
     out: &mut [u8],
     used: usize,
 )
-    requires small { All IsSmall runs.now }
-    requires few { length runs.now ≤ 255 }
-    requires is { choice.now.kind ≡ kind_of (map subrect_of runs.now) }
-    requires room { used + drawn_len format.now (carried_by said.now) choice.now.background choice.now.kind (length runs.now) ≤ length out.old }
-    ensures { take (used + drawn_len format.now (carried_by said.now) choice.now.background choice.now.kind (length runs.now)) out.new ≡ take used out.old ++ drawn_bytes format.now (carried_by said.now) choice.now.background (map subrect_of runs.now) }
+    requires small { All IsSmall subrects.now.runs.now }
+    requires few { length subrects.now.runs.now ≤ 255 }
+    requires is { choice.now.kind ≡ kind_of (subrects_in format.now subrects.now) }
+    requires room { used + drawn_len format.now (carried_by said.now) choice.now.background choice.now.kind (length subrects.now.runs.now) ≤ length out.old }
+    ensures { take (used + drawn_len format.now (carried_by said.now) choice.now.background choice.now.kind (length subrects.now.runs.now)) out.new ≡ take used out.old ++ drawn_bytes format.now (carried_by said.now) choice.now.background (subrects_in format.now subrects.now) }
 {
     let background = choice.background;
     match choice.kind {
         Kind::TwoColours(foreground) => {
-            put_two_colours(format, said, background, foreground, runs, out, used)
+            put_two_colours(format, said, background, foreground, subrects, out, used)
         }
-        Kind::Coloured => put_coloured(format, said, background, runs, out, used),
+        Kind::Coloured => put_coloured(format, said, background, subrects, out, used),
         _ => {
             let at = put_byte(background_bit(said, background), out, used);
             put_colour(format, said.background, background, out, at);

@@ -1,15 +1,12 @@
-use Rattle.pixel_format.specs.PixelFormat.{KeepsApart, tint}
-use Rattle.std.proofs.Common.{◌≡◌, refl, map, subst, sym, ℕ, List}
-use Rattle.raster.specs.Screen.{LooksLike, value_at}
-use Rattle.joined_runs.specs.Tinted.{tinted}
-use Rattle.hextile_codec.proofs.FormsOf.{forms_kept, values_show}
+use Rattle.std.proofs.Common.{◌≡◌, refl, true}
+use Rattle.raster.specs.Screen.{value_at}
+use Rattle.hextile_codec.specs.declared.source.PixelSource.{PixelSource}
+use Rattle.hextile_codec.specs.Sources.{shows}
+use Rattle.hextile_codec.proofs.FormsOf.{forms_kept, source_shows}
 use Rattle.codec_trial.proofs.kept.write_kept.Goals as goal
 
-pub encode_kept-requires-clause-kept : goal.encode_kept-requires-clause-kept
-encode_kept-requires-clause-kept c =
+pub encode_from-requires-clause-kept : goal.encode_from-requires-clause-kept
+encode_from-requires-clause-kept c =
     let format = c.args.format.now in
-    let colours = c.args.colours.now in
-    let apart : KeepsApart format = c.if-not-keeps_apart.ensures.0 refl in
-    let shows : LooksLike c.args.w c.args.h (value_at c.args.w c.args.values.now) (tinted format (value_at c.args.w colours)) =
-    rw c.requires.values (values_show format c.args.w c.args.h colours c.requires.count) in
-    forms_kept format c.args.w c.args.h (value_at c.args.w colours) (value_at c.args.w c.args.values.now) c.args.forms.now apart shows c.requires.forms
+    let source : PixelSource = record { numbers = c.args.colours; width = c.args.w; height = c.args.h; area = record { x = 0; y = 0; w = c.args.w; h = c.args.h }; are_colours = true } in
+    forms_kept format c.args.w c.args.h (value_at c.args.w c.args.colours.now) (shows format source) c.args.forms.now (c.if-not-keeps_apart.ensures.0 refl) (source_shows format source c.args.w c.args.h refl refl refl) c.requires.forms

@@ -1,5 +1,4 @@
-use Rattle.std.proofs.Common.{◌≡◌, ◌∙◌, ◌*◌, ◌≤◌, ℕ, List, length, map, refl, sym, ap, arith}
-use Rattle.std.proofs.lemmas.List.{length-map}
+use Rattle.std.proofs.Common.{◌≡◌, ◌*◌, ◌≤◌, ℕ, List, length, map, refl, ap, arith}
 use Rattle.std.proofs.Math.Nat.{mul-le-mul}
 use Rattle.raster.specs.declared.rect.Rect.{Rect}
 use Rattle.raster.specs.Screen.{Canvas, value_at, part_of}
@@ -10,7 +9,7 @@ use Rattle.joined_runs.specs.Joined.{subrects_of}
 use Rattle.hextile_codec.specs.declared.runs.Run.{Run}
 use Rattle.hextile_codec.specs.Carried.{carried_by}
 use Rattle.hextile_codec.specs.Heads.{AreFound}
-use Rattle.hextile_codec.specs.Kinds.{HasMany, kind_of, subrect_of}
+use Rattle.hextile_codec.specs.Kinds.{HasMany, subrect_of}
 use Rattle.hextile_codec.proofs.Searched.{many_of, found_of}
 use Rattle.hextile_codec.proofs.kind.choose_both.Goals as goal
 
@@ -44,8 +43,9 @@ choose-requires-2-clause-few c =
     found_of (HasMany Joined tile.w tile.h canvas enough × HasMany OfRows tile.w tile.h canvas enough) (AreFound tile.w tile.h canvas found) c.find_both.result c.in-Some.found c.in-Some.is c.find_both.ensures in
     let most : length (subrects_of OfRows tile.w tile.h canvas) ≤ tile.h * tile.w = rows_count canvas (canvas 0 0) tile.w 0 tile.h in
     let area : tile.h * tile.w ≤ 16 * 16 = mul-le-mul {n₁ = tile.h} {m₁ = tile.w} {n₂ = 16} {m₂ = 16} c.requires.h_most c.requires.w_most in
-    let count = are.count in
-    omega (arith, count, most, area)
+    let listed : map subrect_of c.as_slice.result.now ≡ found = ap (λ (rs : List Run). map subrect_of rs) c.as_slice.ensures.value in
+    let heads = c.heads_of-heads.ensures tile.w tile.h canvas c.requires.w_some c.requires.h_some (rw listed are) in
+    omega (arith, heads.1.count, most, area)
 
 pub returns-clause-joined : goal.returns-clause-joined
 returns-clause-joined c =
@@ -55,13 +55,9 @@ returns-clause-joined c =
     let enough : ℕ = c.enough_for-enough.result in
     let are : AreFound tile.w tile.h canvas found c.in-Some.found =
     found_of (HasMany Joined tile.w tile.h canvas enough × HasMany OfRows tile.w tile.h canvas enough) (AreFound tile.w tile.h canvas found) c.find_both.result c.in-Some.found c.in-Some.is c.find_both.ensures in
-    let same : map subrect_of c.as_slice-subrects.result.now ≡ subrects_of Joined tile.w tile.h canvas = ap (λ (rs : List Run). map subrect_of rs) c.as_slice-subrects.ensures.value ∙ are.joined.all in
-    c.choose.ensures.choice Joined canvas found
-    (record {
-      background = are.joined.background;
-      kind = c.kind_of.ensures ∙ ap kind_of same;
-      count = sym (length-map c.as_slice-subrects.result.now subrect_of) ∙ ap length same;
-    }) are.joined.all
+    let listed : map subrect_of c.as_slice.result.now ≡ found = ap (λ (rs : List Run). map subrect_of rs) c.as_slice.ensures.value in
+    let heads = c.heads_of-heads.ensures tile.w tile.h canvas c.requires.w_some c.requires.h_some (rw listed are) in
+    c.choose.ensures.choice Joined canvas found heads.0 are.joined.all
 
 pub returns-clause-rows : goal.returns-clause-rows
 returns-clause-rows c =
@@ -71,10 +67,6 @@ returns-clause-rows c =
     let enough : ℕ = c.enough_for-enough.result in
     let are : AreFound tile.w tile.h canvas found c.in-Some.found =
     found_of (HasMany Joined tile.w tile.h canvas enough × HasMany OfRows tile.w tile.h canvas enough) (AreFound tile.w tile.h canvas found) c.find_both.result c.in-Some.found c.in-Some.is c.find_both.ensures in
-    let listed : map subrect_of c.as_slice-subrects.result.now ≡ found = ap (λ (rs : List Run). map subrect_of rs) c.as_slice-subrects.ensures.value in
-    c.choose-2.ensures.choice OfRows canvas (subrects_of OfRows tile.w tile.h canvas)
-    (record {
-      background = are.rows;
-      kind = c.kind_of_rows.ensures tile.w tile.h canvas found c.requires.w_some c.requires.h_some are (c.kind_of.ensures ∙ ap kind_of listed);
-      count = are.count;
-    }) refl
+    let listed : map subrect_of c.as_slice.result.now ≡ found = ap (λ (rs : List Run). map subrect_of rs) c.as_slice.ensures.value in
+    let heads = c.heads_of-heads.ensures tile.w tile.h canvas c.requires.w_some c.requires.h_some (rw listed are) in
+    c.choose-2.ensures.choice OfRows canvas (subrects_of OfRows tile.w tile.h canvas) heads.1 refl

@@ -1,24 +1,21 @@
-use Rattle.std.proofs.Common.{◌≡◌, ◌*◌, ℕ, List, length, take, drop, ap, arith}
-use Rattle.std.proofs.lemmas.List.{length-take}
-use Rattle.pixel_format.specs.PixelFormat.{pixel_len}
-use Rattle.joined_runs.specs.declared.runs.Runs.TheVariants.{OfRows, Joined}
-use Rattle.hextile_codec.proofs.Encoded.{encoded, rows_form, joined_form}
+use Rattle.std.proofs.Common.{◌≡◌, ℕ, ◌+◌, false, ap, subst, ◌∙◌, arith}
+use Rattle.raster.specs.declared.encoding.Encoding.TheVariants.{Hextile}
+use Rattle.raster.specs.Screen.{Canvas, value_at, values_of}
+use Rattle.joined_runs.specs.Joined.{IsEncodedAs}
+use Rattle.hextile_codec.specs.declared.source.PixelSource.{PixelSource}
+use Rattle.hextile_codec.specs.Sources.{shows}
+use Rattle.hextile_codec.proofs.Alike.{list_back}
 use Rattle.hextile_codec.proofs.writing.encode_as.Goals as goal
 
-pub returns-in-OfRows : goal.returns-in-OfRows
-returns-in-OfRows c =
-    let raw : ℕ = length c.args.values.now * c.bytes.result in
-    let same : raw ≡ length c.args.values.now * pixel_len c.args.format.now = ap (λ p. length c.args.values.now * p) c.bytes.ensures in
-    let room : List ℕ = take raw c.args.out.now in
-    let size : length room ≡ length c.args.values.now * pixel_len c.args.format.now = omega (arith, length-take raw c.args.out.now, same, c.requires.room) in
-    let said = rw (rows_form c.args.format.now c.args.w c.args.h c.args.values.now) at c.put_tiles.ensures in
-    rw c.in-OfRows.is (encoded OfRows c.args.format.now c.args.w c.args.h c.args.values.now room c.put_tiles.new.out (drop raw c.args.out.now) c.put_tiles.result size c.put_tiles.auto.out said)
-
-pub returns-in-Joined : goal.returns-in-Joined
-returns-in-Joined c =
-    let raw : ℕ = length c.args.values.now * c.bytes.result in
-    let same : raw ≡ length c.args.values.now * pixel_len c.args.format.now = ap (λ p. length c.args.values.now * p) c.bytes.ensures in
-    let room : List ℕ = take raw c.args.out.now in
-    let size : length room ≡ length c.args.values.now * pixel_len c.args.format.now = omega (arith, length-take raw c.args.out.now, same, c.requires.room) in
-    let said = rw (joined_form c.args.format.now c.args.w c.args.h c.args.values.now) at c.put_shorter.ensures in
-    rw c.in-Joined.is (encoded Joined c.args.format.now c.args.w c.args.h c.args.values.now room c.put_shorter.new.out (drop raw c.args.out.now) c.put_shorter.result size c.put_shorter.auto.out said)
+pub returns : goal.returns
+returns c =
+    let w : ℕ = c.args.w in
+    let h : ℕ = c.args.h in
+    let source : PixelSource = record { numbers = c.args.values; width = w; height = h; area = record { x = 0; y = 0; w = w; h = h }; are_colours = false } in
+    let canvas : Canvas = shows c.args.format.now source in
+    let back : values_of w h canvas ≡ c.args.values.now =
+    list_back w h canvas c.args.values.now c.requires.count (λ x y lx ly.
+    let left : 0 + x ≡ x = omega arith in
+    let top : 0 + y ≡ y = omega arith in
+    ap (λ u. value_at w c.args.values.now u (0 + y)) left ∙ ap (λ v. value_at w c.args.values.now x v) top) in
+    subst (λ values. IsEncodedAs c.args.form Hextile c.args.format.now w h values c.encode_from.new.out c.encode_from.result) back c.encode_from.ensures

@@ -1,13 +1,14 @@
 use Rattle.std.proofs.Common.{◌≡◌, ◌-◌, ◌++◌, ◌<◌, take, length}
-use Rattle.raster.specs.Screen.{value_at, tile_count}
+use Rattle.raster.specs.Screen.{tile_count}
 use Rattle.joined_runs.specs.declared.runs.Runs.TheVariants.{OfRows}
 use Rattle.joined_runs.specs.Joined.{tiles_from_as, hextile_bytes_as}
 use Rattle.hextile_codec.specs.Carried.{carried_by}
-use Rattle.hextile_codec.proofs.writing.put_tiles.Given as goal
+use Rattle.hextile_codec.specs.Sources.{shows}
+use Rattle.hextile_codec.proofs.writing.put_rows.Given as goal
 
 abbrev pub invariant-loop-k : goal.invariant-loop-k
 invariant-loop-k l =
     record {
       room : l.used < length l.out;
-      bytes : take l.used l.out ++ tiles_from_as OfRows l.format l.w l.h (value_at l.w l.values) (carried_by l.said) l.k (tile_count l.w l.h - l.k) ≡ hextile_bytes_as OfRows l.format l.w l.h (value_at l.w l.values);
+      bytes : take l.used l.out ++ tiles_from_as OfRows l.format l.w l.h (shows l.format l.source) (carried_by l.said) l.k (tile_count l.w l.h - l.k) ≡ hextile_bytes_as OfRows l.format l.w l.h (shows l.format l.source);
     }

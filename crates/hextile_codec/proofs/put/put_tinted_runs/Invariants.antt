@@ -1,0 +1,14 @@
+use Rattle.std.proofs.Common.{◌≡◌, ◌+◌, ◌*◌, ◌++◌, true, map, take}
+use Rattle.std.specs.List.{flat_map}
+use Rattle.pixel_format.specs.PixelFormat.{pixel_len, tint}
+use Rattle.raster.specs.Encoding.{coloured_bytes}
+use Rattle.hextile_codec.specs.Subrects.{subrect_in}
+use Rattle.hextile_codec.proofs.put.put_tinted_runs.Given as goal
+
+abbrev pub invariant-loop-run : goal.invariant-loop-run
+invariant-loop-run l =
+    record {
+      tinted : l.value ≡ tint l.format l.colour;
+      at : l.at ≡ l.used + (pixel_len l.format + 2) * l.run-index;
+      bytes : take l.at l.out ≡ take l.used l.fn.out ++ flat_map (coloured_bytes l.format) (map (subrect_in l.format true) (take l.run-index l.runs));
+    }

@@ -1,0 +1,135 @@
+use Rattle.std.proofs.Common.{◌≡◌, ◌+◌, ◌*◌, ◌<◌, ◌≤◌, ◌++◌, ◌∙◌, ℕ, List, Some, length, map, take, ap, sym, arith}
+use Rattle.std.specs.Prelude.{slice_index_or}
+use Rattle.std.proofs.lemmas.List.{length-take}
+use Rattle.pixel_format.specs.PixelFormat.{PixelFormat}
+use Rattle.raster.specs.declared.rect.Rect.{Rect}
+use Rattle.raster.specs.Screen.{Canvas, part_of, tile_count}
+use Rattle.raster.specs.Encoding.{Carried}
+use Rattle.joined_runs.specs.declared.runs.Runs.TheVariants.{Joined}
+use Rattle.joined_runs.specs.Joined.{hextile_bytes_as}
+use Rattle.joined_runs.specs.Tinted.{tinted_subrect}
+use Rattle.hextile_codec.specs.declared.kind.Kind.TheVariants.{Raw}
+use Rattle.hextile_codec.specs.declared.kind.TileChoice.{TileChoice}
+use Rattle.hextile_codec.specs.Carried.{carried_by}
+use Rattle.hextile_codec.specs.Chosen.{IsChosenBy}
+use Rattle.hextile_codec.specs.Kinds.{IsChosen, subrect_of}
+use Rattle.hextile_codec.specs.Sources.{shows}
+use Rattle.hextile_codec.proofs.Choices.{carried_on, chosen_by}
+use Rattle.hextile_codec.proofs.Tiles.{IsTileOf, all_put, tile_area, tile_is_put, tile_of, tile_written, too_long}
+use Rattle.hextile_codec.proofs.writing.put_all_chosen.Goals as goal
+
+abbrev nothing_chosen : TileChoice
+nothing_chosen = record { kind = Raw; background = 0; len = 0 }
+
+pub returns-in_err-form : goal.returns-in_err-form
+returns-in_err-form c =
+    let format : PixelFormat = c.args.format.now in
+    let w : ℕ = c.args.source.now.area.w in
+    let h : ℕ = c.args.source.now.area.h in
+    let canvas : Canvas = shows format c.args.source.now in
+    let k : ℕ = c.loop-k.k in
+    let tile : Rect = c.tile_rect-tile.result in
+    let of : IsTileOf w h k tile = tile_of w h k c.tile_count-k-end.result tile c.requires.wide.0 c.tile_count-k-end.ensures.value c.loop-k-test.true c.tile_rect-tile.ensures in
+    let by : IsChosenBy format w h canvas c.args.forms.now k (slice_index_or c.args.chosen.now k nothing_chosen) = c.requires.chosen k nothing_chosen (omega (arith, of.inside, c.requires.all)) in
+    let some = by.kept in
+    let none = c.in_err-form.ensures.none in
+    absurd cc
+
+pub split_at_mut-values-requires : goal.split_at_mut-values-requires
+split_at_mut-values-requires c =
+    let of : IsTileOf c.args.source.now.area.w c.args.source.now.area.h c.loop-k.k c.tile_rect-tile.result = tile_of c.args.source.now.area.w c.args.source.now.area.h c.loop-k.k c.tile_count-k-end.result c.tile_rect-tile.result c.requires.wide.0 c.tile_count-k-end.ensures.value c.loop-k-test.true c.tile_rect-tile.ensures in
+    omega (arith, tile_area c.tile_rect-tile.result.w c.tile_rect-tile.result.h of.size, c.tile_rect-tile.array_long)
+
+pub put_kept-requires-clause-within : goal.put_kept-requires-clause-within
+put_kept-requires-clause-within c =
+    let of : IsTileOf c.args.source.now.area.w c.args.source.now.area.h c.loop-k.k c.tile_rect-tile.result = tile_of c.args.source.now.area.w c.args.source.now.area.h c.loop-k.k c.tile_count-k-end.result c.tile_rect-tile.result c.requires.wide.0 c.tile_count-k-end.ensures.value c.loop-k-test.true c.tile_rect-tile.ensures in
+    of.within
+
+pub put_kept-requires-clause-size : goal.put_kept-requires-clause-size
+put_kept-requires-clause-size c =
+    let of : IsTileOf c.args.source.now.area.w c.args.source.now.area.h c.loop-k.k c.tile_rect-tile.result = tile_of c.args.source.now.area.w c.args.source.now.area.h c.loop-k.k c.tile_count-k-end.result c.tile_rect-tile.result c.requires.wide.0 c.tile_count-k-end.ensures.value c.loop-k-test.true c.tile_rect-tile.ensures in
+    of.size
+
+pub put_kept-requires-clause-chosen : goal.put_kept-requires-clause-chosen
+put_kept-requires-clause-chosen c =
+    let format : PixelFormat = c.args.format.now in
+    let w : ℕ = c.args.source.now.area.w in
+    let h : ℕ = c.args.source.now.area.h in
+    let canvas : Canvas = shows format c.args.source.now in
+    let k : ℕ = c.loop-k.k in
+    let tile : Rect = c.tile_rect-tile.result in
+    let of : IsTileOf w h k tile = tile_of w h k c.tile_count-k-end.result tile c.requires.wide.0 c.tile_count-k-end.ensures.value c.loop-k-test.true c.tile_rect-tile.ensures in
+    let before : Carried = carried_by c.loop-k.said in
+    let by : IsChosenBy format w h canvas c.args.forms.now k (slice_index_or c.args.chosen.now k nothing_chosen) = c.requires.chosen k nothing_chosen (omega (arith, of.inside, c.requires.all)) in
+    let is : IsChosen Joined format before tile.w tile.h (part_of tile canvas) (map (tinted_subrect format) (map subrect_of c.in_ok-form.form.now.runs.items)) (slice_index_or c.args.chosen.now k nothing_chosen) =
+    chosen_by format w h k canvas before tile c.args.forms.now c.in_ok-form.form.now _ c.tile_rect-tile.ensures c.loop-k.invariant.carried c.in_ok-form.ensures.some.1 by in
+    is
+
+pub put_kept-requires-clause-room : goal.put_kept-requires-clause-room
+put_kept-requires-clause-room c =
+    let format : PixelFormat = c.args.format.now in
+    let w : ℕ = c.args.source.now.area.w in
+    let h : ℕ = c.args.source.now.area.h in
+    let canvas : Canvas = shows format c.args.source.now in
+    let k : ℕ = c.loop-k.k in
+    let tile : Rect = c.tile_rect-tile.result in
+    let of : IsTileOf w h k tile = tile_of w h k c.tile_count-k-end.result tile c.requires.wide.0 c.tile_count-k-end.ensures.value c.loop-k-test.true c.tile_rect-tile.ensures in
+    let before : Carried = carried_by c.loop-k.said in
+    let by : IsChosenBy format w h canvas c.args.forms.now k (slice_index_or c.args.chosen.now k nothing_chosen) = c.requires.chosen k nothing_chosen (omega (arith, of.inside, c.requires.all)) in
+    let is : IsChosen Joined format before tile.w tile.h (part_of tile canvas) (map (tinted_subrect format) (map subrect_of c.in_ok-form.form.now.runs.items)) (slice_index_or c.args.chosen.now k nothing_chosen) =
+    chosen_by format w h k canvas before tile c.args.forms.now c.in_ok-form.form.now _ c.tile_rect-tile.ensures c.loop-k.invariant.carried c.in_ok-form.ensures.some.1 by in
+    let whole : List ℕ = hextile_bytes_as Joined format w h canvas in
+    let long = too_long Joined format w h canvas before k tile c.loop-k.used c.loop-k.out whole c.tile_rect-tile.ensures of.inside c.loop-k.invariant.room c.loop-k.invariant.bytes in
+    omega (arith, long, is.len, c.requires.room, c.loop-k.auto.out)
+
+pub overflow_add-used : goal.overflow_add-used
+overflow_add-used c =
+    let format : PixelFormat = c.args.format.now in
+    let w : ℕ = c.args.source.now.area.w in
+    let h : ℕ = c.args.source.now.area.h in
+    let canvas : Canvas = shows format c.args.source.now in
+    let k : ℕ = c.loop-k.k in
+    let tile : Rect = c.tile_rect-tile.result in
+    let of : IsTileOf w h k tile = tile_of w h k c.tile_count-k-end.result tile c.requires.wide.0 c.tile_count-k-end.ensures.value c.loop-k-test.true c.tile_rect-tile.ensures in
+    let before : Carried = carried_by c.loop-k.said in
+    let by : IsChosenBy format w h canvas c.args.forms.now k (slice_index_or c.args.chosen.now k nothing_chosen) = c.requires.chosen k nothing_chosen (omega (arith, of.inside, c.requires.all)) in
+    let is : IsChosen Joined format before tile.w tile.h (part_of tile canvas) (map (tinted_subrect format) (map subrect_of c.in_ok-form.form.now.runs.items)) (slice_index_or c.args.chosen.now k nothing_chosen) =
+    chosen_by format w h k canvas before tile c.args.forms.now c.in_ok-form.form.now _ c.tile_rect-tile.ensures c.loop-k.invariant.carried c.in_ok-form.ensures.some.1 by in
+    let whole : List ℕ = hextile_bytes_as Joined format w h canvas in
+    let long = too_long Joined format w h canvas before k tile c.loop-k.used c.loop-k.out whole c.tile_rect-tile.ensures of.inside c.loop-k.invariant.room c.loop-k.invariant.bytes in
+    omega (arith, long, is.len, c.requires.room, c.loop-k.auto.out)
+
+pub loop-k-preserved : goal.loop-k-preserved
+loop-k-preserved c =
+    let format : PixelFormat = c.args.format.now in
+    let w : ℕ = c.args.source.now.area.w in
+    let h : ℕ = c.args.source.now.area.h in
+    let canvas : Canvas = shows format c.args.source.now in
+    let k : ℕ = c.loop-k.k in
+    let tile : Rect = c.tile_rect-tile.result in
+    let of : IsTileOf w h k tile = tile_of w h k c.tile_count-k-end.result tile c.requires.wide.0 c.tile_count-k-end.ensures.value c.loop-k-test.true c.tile_rect-tile.ensures in
+    let before : Carried = carried_by c.loop-k.said in
+    let by : IsChosenBy format w h canvas c.args.forms.now k (slice_index_or c.args.chosen.now k nothing_chosen) = c.requires.chosen k nothing_chosen (omega (arith, of.inside, c.requires.all)) in
+    let is : IsChosen Joined format before tile.w tile.h (part_of tile canvas) (map (tinted_subrect format) (map subrect_of c.in_ok-form.form.now.runs.items)) (slice_index_or c.args.chosen.now k nothing_chosen) =
+    chosen_by format w h k canvas before tile c.args.forms.now c.in_ok-form.form.now _ c.tile_rect-tile.ensures c.loop-k.invariant.carried c.in_ok-form.ensures.some.1 by in
+    let whole : List ℕ = hextile_bytes_as Joined format w h canvas in
+    let long = too_long Joined format w h canvas before k tile c.loop-k.used c.loop-k.out whole c.tile_rect-tile.ensures of.inside c.loop-k.invariant.room c.loop-k.invariant.bytes in
+    let len : ℕ = (slice_index_or c.args.chosen.now k nothing_chosen).len in
+    let put : take (c.loop-k.used + len) c.put_kept.new.out ≡ take c.loop-k.used c.loop-k.out ++ (tile_written Joined format w h canvas before tile).0 = c.put_kept.ensures in
+    record {
+      room = omega (arith, long, is.len, c.requires.room, c.loop-k.auto.out, c.put_kept.auto.out);
+      carried = c.leaves-said.ensures ∙ (is.leaves ∙ carried_on format w h k canvas before tile c.tile_rect-tile.ensures c.loop-k.invariant.carried);
+      bytes = tile_is_put Joined format w h canvas before (carried_by c.leaves-said.result) k tile c.loop-k.used (c.loop-k.used + len) c.loop-k.out c.put_kept.new.out whole c.tile_rect-tile.ensures of.inside put (c.leaves-said.ensures ∙ is.leaves) c.loop-k.invariant.bytes;
+    }
+
+pub returns : goal.returns
+returns c =
+    let format : PixelFormat = c.args.format.now in
+    let w : ℕ = c.args.source.now.area.w in
+    let h : ℕ = c.args.source.now.area.h in
+    let canvas : Canvas = shows format c.args.source.now in
+    let whole : List ℕ = hextile_bytes_as Joined format w h canvas in
+    let over : tile_count w h ≤ c.loop-k.k = rw c.tile_count-k-end.ensures.value at c.loop-k-test.false in
+    let all : take c.loop-k.used c.loop-k.out ≡ whole = all_put Joined format w h canvas (carried_by c.loop-k.said) c.loop-k.k c.loop-k.used c.loop-k.out whole over c.loop-k.invariant.bytes in
+    let size : c.loop-k.used ≡ length whole = omega (arith, ap length all, length-take c.loop-k.used c.loop-k.out, c.loop-k.invariant.room) in
+    (ap Some size, ap (λ n. take n c.loop-k.out) (sym size) ∙ all)

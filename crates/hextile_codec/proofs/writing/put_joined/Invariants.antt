@@ -1,0 +1,16 @@
+use Rattle.std.proofs.Common.{◌≡◌, ◌+◌, ◌*◌, ◌-◌, ◌++◌, ◌<◌, ◌≤◌, take, length}
+use Rattle.raster.specs.Screen.{tile_count}
+use Rattle.joined_runs.specs.declared.runs.Runs.TheVariants.{OfRows, Joined}
+use Rattle.joined_runs.specs.Joined.{tiles_from_as, hextile_bytes_as}
+use Rattle.hextile_codec.specs.Carried.{carried_by}
+use Rattle.hextile_codec.specs.Sources.{shows}
+use Rattle.hextile_codec.proofs.writing.put_joined.Given as goal
+
+abbrev pub invariant-loop-k : goal.invariant-loop-k
+invariant-loop-k l =
+    record {
+      room : l.used < length l.out;
+      bytes : take l.used l.out ++ tiles_from_as Joined l.format l.w l.h (shows l.format l.source) (carried_by l.said.joined) l.k (tile_count l.w l.h - l.k) ≡ hextile_bytes_as Joined l.format l.w l.h (shows l.format l.source);
+      rows : l.rows + length (tiles_from_as OfRows l.format l.w l.h (shows l.format l.source) (carried_by l.said.rows) l.k (tile_count l.w l.h - l.k)) ≡ length (hextile_bytes_as OfRows l.format l.w l.h (shows l.format l.source));
+      few : l.rows ≤ 1025 * l.k;
+    }
