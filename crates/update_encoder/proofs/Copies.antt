@@ -5,7 +5,7 @@ use Rattle.raster.specs.Screen.{Canvas, values_of, value_at}
 use Rattle.raster.proofs.Places.{values_at}
 use Rattle.update_encoder.specs.Answer.{same_numbers}
 use Rattle.update_encoder.proofs.AnswerLaws.{same_numbers_same}
-use Rattle.update_encoder.proofs.PixelRows.{map_same, row_at, values_more}
+use Rattle.raster.proofs.PixelRows.{map_same, row_at, values_more}
 
 same_itself : (xs : List ℕ) → same_numbers xs xs ≡ true
 same_itself [] = refl

@@ -29,7 +29,7 @@ use Rattle.update_encoder.specs.Answer.{all_spelled, answer_bytes, colours_in, c
 use Rattle.update_encoder.specs.Coming.{shown}
 use Rattle.update_encoder.specs.Style.{Style}
 use Rattle.update_encoder.specs.Written.{CutIsAnswered, is_due_of}
-use Rattle.update_encoder.proofs.PixelRows.{map_same}
+use Rattle.raster.proofs.PixelRows.{map_same}
 use Rattle.raster.specs.declared.tile.TheConstants.{TILE_SIDE}
 
 -- ---- rectangles of two screens that show the same in them

@@ -31,18 +31,18 @@ pub record AnswerStands (answer : Answering) (cut : Cut) : Type 0 where
 abbrev pub left : Answering → Cut → List Rect
 left answer cut = runs_left answer.walk (marked cut)
 
--- Their bytes (RFC 6143, 7.6.1).
+-- The bytes of the rectangles that aren't written yet (RFC 6143, 7.6.1).
 abbrev pub coming : Answering → Cut → List ℕ
 coming answer cut = flat_map (λ r. r) (all_spelled answer.style (shown cut) answer.may_copy answer.before (left answer cut))
 
--- Of the rectangles that weren't written the first was written, as these bytes (own).
+-- The first of the rectangles that were left was written, as these bytes (own).
 pub record WroteNext (before now : Answering) (cut : Cut) (bytes : List ℕ) : Type 0 where
   pub rectangle : Rect
   pub is_first : left before cut ≡ rectangle ∷ left now cut
   pub bytes_are : bytes ≡ spelled before.style (shown cut) before.may_copy before.before rectangle
   pub others : coming before cut ≡ bytes ++ coming now cut
 
--- Both are one answer, which has come to one rectangle or another (own).
+-- Both are the same answer, perhaps at different rectangles (own).
 pub record IsSameAnswer (before now : Answering) : Type 0 where
   pub area : now.walk.area ≡ before.walk.area
   pub style : now.style ≡ before.style

@@ -18,24 +18,24 @@ use Rattle.update_encoder.specs.Answer.{answer_bytes}
 use Rattle.update_encoder.specs.Coming.{shown}
 use Rattle.update_encoder.specs.Style.{Style}
 
--- These bytes stand at the front, and this is how many they are.
+-- These bytes stand at the front, and n is how many they are.
 pub record IsFront (bytes now : List ℕ) (n : ℕ) : Type 0 where
   pub count : n ≡ length bytes
   pub front : take n now ≡ bytes
 
--- A rectangle in an encoding stands at the front, and this is how many bytes it has; or the encoding doesn't save
--- bytes.
+-- A rectangle in an encoding stands at the front, and the number is how many bytes it has; or there is no number, and
+-- the encoding doesn't save bytes.
 abbrev pub IsSaved : Runs → Encoding → PixelFormat → Rect → List ℕ → List ℕ → Option ℕ → Type 0
 IsSaved runs kind format r values now (Some n) =
     (saves_bytes_as runs kind format r.w r.h values ≡ true) × IsFront (rectangle_bytes r (encoding_number kind) (form_of runs kind format r.w r.h values)) now n
 IsSaved runs kind format r values now None = saves_bytes_as runs kind format r.w r.h values ≡ false
 
--- Tile t was touched since it was sent, or never sent.
+-- Tile t was never sent, or was touched after it was last sent.
 abbrev pub is_due_of : SentTiles → List Update → ℕ → Bool
 is_due_of have us t = is_due_since (tile_rect have.width have.height t) (sent_at have t) us
 
--- An answer of what a cut shows in the tiles that it marks is one of the screen that it was cut from, in the tiles that
--- were due there.
+-- An answer of what a cut shows in the tiles that it marks has the same bytes as an answer of the screen that was cut,
+-- in the tiles that were due there.
 abbrev pub CutIsAnswered : Type 0
 CutIsAnswered =
     (us : List Update) (n : ℕ) (area : Rect) (have : SentTiles) (cut : Cut) (style : Style) (sent : Bool)

@@ -66,7 +66,7 @@ fn count_runs(cut: &Cut, mut walk: Walk) -> u64
 
 impl Answer {
     /// An answer of what a cut shows in the due tiles of an area, in a style, none of whose rectangles is written yet.
-    /// CopyRect is used where the viewer takes it and was sent each of the tiles before.
+    /// CopyRect is used where the viewer takes it and each of these tiles was sent to it before.
     pub fn start(cut: &Cut, area: &Rect, style: Style) -> Self
         requires { IsWithin area.now cut.now.width cut.now.height }
         ensures stands { AnswerStands result cut.now }
@@ -81,7 +81,7 @@ impl Answer {
         }
     }
 
-    /// How many rectangles it has, those that are written among them.
+    /// How many rectangles it has in all, written or not.
     pub fn count(&self) -> u64
         ensures value { result ≡ self.now.count }
         ensures few { result < 2 ^ 16 }
@@ -90,7 +90,8 @@ impl Answer {
     }
 
     /// Writes the next rectangle to the front of `out`, and answers how many bytes it has; `None` where all are
-    /// written. The cut has to be the one at which it began. `values` is room for the pixel values of one run.
+    /// written. The cut has to be the one that the answer was started with. `values` is room for the pixel values of
+    /// one run.
     pub fn next(&mut self, cut: &Cut, values: &mut [u32], out: &mut [u8]) -> Option<usize>
         requires stands { AnswerStands self.old cut.now }
         requires values { TILE_SIDE * cut.now.width ≤ length values.old }

@@ -4,10 +4,9 @@ ghost use Rattle.std.specs.Prelude.{◌≡◌, ◌*◌, ◌≤◌, length};
 ghost use Rattle.raster.specs.Screen.{IsWithin, value_at};
 ghost use Rattle.update_encoder.specs.Answer.{colours_in, repeats, same_numbers};
 
-use crate::rows::row_of;
-use raster::Rect;
+use raster::{Rect, row_of};
 
-/// Whether two areas of one size show the same.
+/// Whether two areas of one size show the same colours.
 fn same_colours(colours: &[u32], width: usize, height: usize, above: &Rect, area: &Rect) -> bool
     requires size { length colours.now ≡ width * height }
     requires small { (width ≤ 4096) × (height ≤ 4096) }

@@ -9,7 +9,7 @@ ghost use Rattle.update_encoder.specs.Kept.{HasWholeTiles};
 use hextile_codec::TileForm;
 use raster::{Rect, TILE_SIDE};
 
-/// Whether an area of a screen consists of whole tiles of the screen's: each of its edges stands at a multiple of a
+/// Whether an area of a screen consists of whole tiles of the screen: each of its edges stands at a multiple of a
 /// tile's side, or at the end of the screen.
 fn has_whole_tiles(area: &Rect, width: u64, height: u64) -> bool
     requires size { IsScreenSize width height }
@@ -23,8 +23,8 @@ fn has_whole_tiles(area: &Rect, width: u64, height: u64) -> bool
         && (bottom % TILE_SIDE == 0 || bottom == height)
 }
 
-/// Of the forms that are kept of a screen's tiles, those of the first row of tiles of an area, in their order there; none
-/// where the area has a part of a tile.
+/// The kept forms of the first row of tiles in an area, from the left. There are none where the area cuts a tile, or
+/// where some of these tiles are beyond the list.
 pub(crate) fn forms_in<'a>(
     forms: &'a [Option<TileForm>],
     width: u64,

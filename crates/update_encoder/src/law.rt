@@ -2,7 +2,7 @@
 
 ghost use Rattle.update_encoder.specs.Written.{CutIsAnswered};
 
-/// The bytes of an answer that is written from a cut are those of the screen that was cut, of the same rectangles.
+/// An answer that is written from a cut has the same bytes as one of the screen that was cut, in the same rectangles.
 pub fn cut_is_answered()
     ensures { CutIsAnswered }
 {}

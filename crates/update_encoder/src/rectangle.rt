@@ -1,11 +1,12 @@
 //! One rectangle of an answer (RFC 6143, 7.6.1 and 7.7).
 
-ghost use Rattle.std.specs.Prelude.{◌≡◌, ◌+◌, ◌*◌, ◌<◌, ◌≤◌, ◌^◌, ◌&&◌, true, false, length, IfSome, IfNone, IsTrue, Some};
-ghost use Rattle.pixel_format.specs.PixelFormat.{KeepsApart, pixel_len};
-ghost use Rattle.raster.specs.declared.encoding.Encoding.TheVariants.{Raw};
+ghost use Rattle.std.specs.Prelude.{◌≡◌, ◌+◌, ◌*◌, ◌≤◌, ◌&&◌, true, false, length, IfSome, IfNone, IsTrue, Some};
+ghost use Rattle.pixel_format.specs.PixelFormat.{KeepsApart};
+ghost use Rattle.raster.specs.declared.encoding.Encoding.TheVariants.{Raw, Rre, Hextile};
 ghost use Rattle.raster.specs.Encoding.{form};
-ghost use Rattle.raster.specs.Screen.{IsWithin, value_at};
+ghost use Rattle.raster.specs.Screen.{Canvas, IsWithin, LooksLike, part_of};
 ghost use Rattle.joined_runs.specs.Joined.{IsEncodedAs};
+ghost use Rattle.joined_runs.specs.Tinted.{tinted};
 ghost use Rattle.hextile_codec.specs.Kept.{AreKept};
 ghost use Rattle.reflect_core.specs.Asked.{LiesOn};
 ghost use Rattle.rfb_wire.specs.Writing.{rectangle_bytes};
@@ -16,12 +17,11 @@ ghost use Rattle.update_encoder.specs.Written.{IsFront, IsSaved};
 
 use crate::copied::repeats;
 use crate::kept::forms_in;
-use crate::rows::{tint_rows, write_rows};
 use crate::style::Style;
-use hextile_codec::TileForm;
+use hextile_codec::{PixelSource, TileForm};
 use joined_runs::Runs;
 use pixel_format::Format;
-use raster::{COPY_RECT, Encoding, Rect};
+use raster::{COPY_RECT, Encoding, Rect, tile_count, tint_rows, write_rows};
 use reflect_core::Cut;
 use rfb_wire::{RECTANGLE_HEAD_LEN, write_rectangle_head};
 
@@ -54,7 +54,7 @@ fn uses_forms(style: &Style) -> bool
 /// The kept forms of an area's tiles with which a style writes their pixel values; none where it has no use for them.
 fn kept_forms<'a>(style: &Style, cut: &'a Cut, area: &Rect) -> &'a [Option<TileForm>]
     requires { IsWithin area.now cut.now.width cut.now.height }
-    ensures { AreKept style.now.format area.now.w area.now.h (value_at area.now.w (pixels_in style.now.format (shown cut.now) area.now)) result.now }
+    ensures { (pixels : Canvas) → LooksLike area.now.w area.now.h pixels (tinted style.now.format (part_of area.now (shown cut.now))) → AreKept style.now.format area.now.w area.now.h pixels result.now }
 {
     if !uses_forms(style) {
         return &[];
@@ -62,31 +62,143 @@ fn kept_forms<'a>(style: &Style, cut: &'a Cut, area: &Rect) -> &'a [Option<TileF
     forms_in(cut.forms(), cut.width, cut.height, area)
 }
 
-/// Writes pixel values in an encoding and a form, with the kept forms of some of their tiles, where that has fewer bytes
-/// than Raw.
-fn encode(
-    runs: Runs,
-    kind: Encoding,
-    forms: &[Option<TileForm>],
-    values: &[u32],
+/// Makes the colours of an area the pixel values of a style, row after row.
+fn tint_area(style: &Style, cut: &Cut, area: &Rect, pixels: &mut [u32])
+    requires within { IsWithin area.now cut.now.width cut.now.height }
+    requires room { length pixels.old ≡ area.now.w * area.now.h }
+    ensures { pixels.new ≡ pixels_in style.now.format (shown cut.now) area.now }
+{
+    let (width, height) = (cut.width as usize, cut.height as usize);
+    tint_rows(
+        cut.colours.as_slice(),
+        width,
+        height,
+        area,
+        &style.format,
+        pixels,
+    );
+}
+
+/// Writes the data of a rectangle in RRE in the form of a style, where that has fewer bytes than Raw (RFC 6143, 7.7.3).
+/// `values` is room for its pixel values.
+fn encode_rre(
+    style: &Style,
+    cut: &Cut,
     area: &Rect,
-    format: &Format,
+    values: &mut [u32],
     out: &mut [u8],
 ) -> Option<usize>
-    requires wide { area.now.w < 2 ^ 16 }
-    requires high { area.now.h < 2 ^ 16 }
-    requires count { length values.now ≡ area.now.w * area.now.h }
-    requires room { length values.now * pixel_len format.now ≤ length out.old }
-    requires kept { AreKept format.now area.now.w area.now.h (value_at area.now.w values.now) forms.now }
-    ensures { IsEncodedAs runs kind format.now area.now.w area.now.h values.now out.new result }
+    requires within { IsWithin area.now cut.now.width cut.now.height }
+    requires values { area.now.w * area.now.h ≤ length values.old }
+    requires room { 4 * (area.now.w * area.now.h) ≤ length out.old }
+    ensures { IsEncodedAs style.now.runs Rre style.now.format area.now.w area.now.h (pixels_in style.now.format (shown cut.now) area.now) out.new result }
 {
-    match kind {
-        Encoding::Raw => None,
-        Encoding::Rre => rre_codec::encode_as(runs, values, area.w, area.h, format, out),
-        Encoding::Hextile => match runs {
-            Runs::OfRows => hextile_codec::encode_as(runs, values, area.w, area.h, format, out),
-            Runs::Joined => hextile_codec::encode_kept(forms, values, area.w, area.h, format, out),
+    let (pixels, _) = values.split_at_mut((area.w * area.h) as usize);
+    tint_area(style, cut, area, pixels);
+    rre_codec::encode_as(style.runs, pixels, area.w, area.h, &style.format, out)
+}
+
+/// Whether each tile of an area has a kept form. Nothing rests on the answer but how long it takes to write the area.
+fn have_all(forms: &[Option<TileForm>], area: &Rect) -> bool
+    requires { IsWithin area.now 4096 4096 }
+{
+    forms.len() as u64 == tile_count(area.w, area.h) && forms.iter().all(|form| form.is_some())
+}
+
+/// Writes the data of a rectangle in Hextile from the screen's colours, which are tinted only as they are put.
+fn encode_colours(
+    style: &Style,
+    cut: &Cut,
+    area: &Rect,
+    forms: &[Option<TileForm>],
+    out: &mut [u8],
+) -> Option<usize>
+    requires within { IsWithin area.now cut.now.width cut.now.height }
+    requires kept { AreKept style.now.format area.now.w area.now.h (tinted style.now.format (part_of area.now (shown cut.now))) forms.now }
+    requires room { 4 * (area.now.w * area.now.h) ≤ length out.old }
+    ensures { IsEncodedAs style.now.runs Hextile style.now.format area.now.w area.now.h (pixels_in style.now.format (shown cut.now) area.now) out.new result }
+{
+    let source = PixelSource {
+        numbers: cut.colours.as_slice(),
+        width: cut.width as usize,
+        height: cut.height as usize,
+        area: *area,
+        are_colours: true,
+    };
+    hextile_codec::encode_from(style.runs, &source, forms, &style.format, out)
+}
+
+/// Writes the data of a rectangle in Hextile from its pixel values, for which `values` is room.
+fn encode_values(
+    style: &Style,
+    cut: &Cut,
+    area: &Rect,
+    forms: &[Option<TileForm>],
+    values: &mut [u32],
+    out: &mut [u8],
+) -> Option<usize>
+    requires within { IsWithin area.now cut.now.width cut.now.height }
+    requires kept { (pixels : Canvas) → LooksLike area.now.w area.now.h pixels (tinted style.now.format (part_of area.now (shown cut.now))) → AreKept style.now.format area.now.w area.now.h pixels forms.now }
+    requires values { area.now.w * area.now.h ≤ length values.old }
+    requires room { 4 * (area.now.w * area.now.h) ≤ length out.old }
+    ensures { IsEncodedAs style.now.runs Hextile style.now.format area.now.w area.now.h (pixels_in style.now.format (shown cut.now) area.now) out.new result }
+{
+    let (pixels, _) = values.split_at_mut((area.w * area.h) as usize);
+    tint_area(style, cut, area, pixels);
+    let source = PixelSource {
+        numbers: pixels,
+        width: area.w as usize,
+        height: area.h as usize,
+        area: Rect {
+            x: 0,
+            y: 0,
+            w: area.w,
+            h: area.h,
         },
+        are_colours: false,
+    };
+    hextile_codec::encode_from(style.runs, &source, forms, &style.format, out)
+}
+
+/// Writes the data of a rectangle in Hextile in the form of a style, where that has fewer bytes than Raw (RFC 6143,
+/// 7.7.4): by the kept forms of its tiles where each has one, or from its pixel values, for which `values` is room.
+fn encode_hextile(
+    style: &Style,
+    cut: &Cut,
+    area: &Rect,
+    values: &mut [u32],
+    out: &mut [u8],
+) -> Option<usize>
+    requires within { IsWithin area.now cut.now.width cut.now.height }
+    requires values { area.now.w * area.now.h ≤ length values.old }
+    requires room { 4 * (area.now.w * area.now.h) ≤ length out.old }
+    ensures { IsEncodedAs style.now.runs Hextile style.now.format area.now.w area.now.h (pixels_in style.now.format (shown cut.now) area.now) out.new result }
+{
+    let forms = kept_forms(style, cut, area);
+    if have_all(forms, area) {
+        return encode_colours(style, cut, area, forms, out);
+    }
+    encode_values(style, cut, area, forms, values, out)
+}
+
+/// Writes the data of a rectangle in the encoding and form of a style, where that has fewer bytes than Raw. `values` is
+/// room for its pixel values.
+fn encode(
+    style: &Style,
+    cut: &Cut,
+    area: &Rect,
+    values: &mut [u32],
+    out: &mut [u8],
+) -> Option<usize>
+    requires within { IsWithin area.now cut.now.width cut.now.height }
+    requires values { area.now.w * area.now.h ≤ length values.old }
+    requires room { 4 * (area.now.w * area.now.h) ≤ length out.old }
+    ensures { IsEncodedAs style.now.runs style.now.choice.kind style.now.format area.now.w area.now.h (pixels_in style.now.format (shown cut.now) area.now) out.new result }
+{
+    match style.choice.kind {
+        Encoding::Raw => None,
+        Encoding::Rre => encode_rre(style, cut, area, values, out),
+        Encoding::Hextile => encode_hextile(style, cut, area, values, out),
     }
 }
 
@@ -105,26 +217,10 @@ fn write_encoded(
     ensures written { IsSaved style.now.runs style.now.choice.kind style.now.format area.now (pixels_in style.now.format (shown cut.now) area.now) out.new result }
     ensures room { IfSome result (λ n. n ≤ 12 + 4 * (area.now.w * area.now.h)) }
 {
-    let kind = style.choice.kind;
-    if kind == Encoding::Raw {
-        return None;
-    }
-    let (width, height) = (cut.width as usize, cut.height as usize);
-    let count = (area.w * area.h) as usize;
-    let (pixels, _) = values.split_at_mut(count);
-    tint_rows(
-        cut.colours.as_slice(),
-        width,
-        height,
-        area,
-        &style.format,
-        pixels,
-    );
     let (head, rest) = out.split_at_mut(RECTANGLE_HEAD_LEN);
-    let (data, _) = rest.split_at_mut(4 * count);
-    let forms = kept_forms(style, cut, area);
-    let len = encode(style.runs, kind, forms, pixels, area, &style.format, data)?;
-    write_rectangle_head(area, kind.number(), head);
+    let (data, _) = rest.split_at_mut(4 * (area.w * area.h) as usize);
+    let len = encode(style, cut, area, values, data)?;
+    write_rectangle_head(area, style.choice.kind.number(), head);
     Some(RECTANGLE_HEAD_LEN + len)
 }
 
@@ -144,7 +240,7 @@ fn write_raw(cut: &Cut, area: &Rect, format: &Format, out: &mut [u8]) -> usize
     RECTANGLE_HEAD_LEN + len
 }
 
-/// Writes a CopyRect of the rectangle before, where it may be and there is one which the area repeats.
+/// Writes a CopyRect of the rectangle before, where CopyRect may be used and the area repeats that rectangle.
 fn write_repeated(
     cut: &Cut,
     may_copy: bool,
@@ -166,8 +262,9 @@ fn write_repeated(
     Some(write_copy(area, &above, out))
 }
 
-/// Writes a rectangle of an answer, of which the one before is given, and answers how many bytes it has: a CopyRect of
-/// the one before where it may be and repeats it, else in the chosen encoding where that saves bytes, else Raw.
+/// Writes a rectangle of an answer, given the one before it, and answers how many bytes it has. Where CopyRect may be
+/// used and it repeats the one before, it is a CopyRect of that one. Otherwise it is in the chosen encoding where that
+/// saves bytes, and in Raw where not.
 pub(crate) fn write(
     style: &Style,
     cut: &Cut,

@@ -3,7 +3,7 @@ use Rattle.std.specs.Prelude.{not}
 use Rattle.std.specs.Cmp.Lexicographic.{same_text, other_text}
 use Rattle.raster.specs.Screen.{Canvas, part_of, value_at, values_of}
 use Rattle.update_encoder.proofs.Copies.{are_same, differ, same_more, same_row}
-use Rattle.update_encoder.proofs.PixelRows.{row_at}
+use Rattle.raster.proofs.PixelRows.{row_at}
 use Rattle.update_encoder.proofs.copied.same_colours.Goals as goal
 
 unequal : (b : Bool) → true ≡ not b → false ≡ b

@@ -19,8 +19,7 @@ returns-clause-written c =
     let kind = c.args.style.now.choice.kind in
     let len : ℕ = c.in_ok-len.len in
     let pixels : List ℕ = pixels_in format (shown cut) area in
-    let tinted : c.tint_rows.new.values ≡ pixels = c.tint_rows.ensures ∙ ap (λ (l : List ℕ). pixels_in format (value_at cut.width l) area) c.as_slice.ensures.value in
-    let encoded : IsEncodedAs runs kind format area.w area.h pixels c.encode.new.out (Some len) = subst (λ vs. IsEncodedAs runs kind format area.w area.h vs c.encode.new.out (Some len)) tinted c.in_ok-len.ensures in
+    let encoded : IsEncodedAs runs kind format area.w area.h pixels c.encode.new.out (Some len) = c.in_ok-len.ensures in
     let behind : List ℕ = c.split_at_mut-data.result.1.now in
     let form_is : take len (c.encode.new.out ++ behind) ≡ form_of runs kind format area.w area.h pixels = take-append-le len c.encode.new.out behind (within_front (form_of runs kind format area.w area.h pixels) c.encode.new.out len encoded.1 encoded.2) ∙ encoded.2 in (
       encoded.0,
