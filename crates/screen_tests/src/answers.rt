@@ -55,7 +55,7 @@ fn cut_of(alloc: Global, scene: &Scene) -> Result<Cut, Fault> {
     Ok(cut)
 }
 
-/// What of the bytes that have to come is left, how many came after them, and whether each was right.
+/// The bytes that have still to come, how many came after them, and whether each was right.
 #[derive(Clone, Copy)]
 struct Left {
     bytes: &'static [u8],
@@ -113,7 +113,7 @@ fn is_told(cut: &Cut, scene: &Scene, values: &mut [u32], out: &mut [u8]) -> Resu
     Ok(left.is_same & is_all & (left.more == scene.more))
 }
 
-/// Whether the answer to a scene is what it has to be, in just the room that a rectangle may need.
+/// Whether the answer to a scene is what it should be, in exactly the room that a rectangle may need.
 fn is_answered(alloc: Global, scene: &Scene) -> Result<bool, Fault> {
     let cut = cut_of(alloc, scene)?;
     let mut values = vec![in alloc; 0u32; 16 * cut.width as usize]?;

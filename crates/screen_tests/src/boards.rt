@@ -28,7 +28,7 @@ const CORNER: Rect = Rect {
     h: 2,
 };
 
-/// The third tile's first pixel.
+/// The first pixel of the third tile.
 const EDGE: Rect = Rect {
     x: 32,
     y: 0,
@@ -163,8 +163,8 @@ fn board_is_cut(rt: HostRuntime) -> Result<(), Fail> {
     Ok(())
 }
 
-/// A cut shows the colours of a board as one of its owners, and the same where no owner can be had: of a board that isn't
-/// shared, and of the copy that stands in for an owner.
+/// A cut shows the colours of a board as one of the board's owners, and shows the same colours where it can't become an
+/// owner: of a board that isn't shared, and of the copy that stands in for one.
 #[test]
 fn cut_needs_no_owner(rt: HostRuntime) -> Result<(), Fail> {
     let mut board = Board::new(rt.alloc(), 33, 17)?;

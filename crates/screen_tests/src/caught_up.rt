@@ -25,8 +25,8 @@ pub const FIRST: Rect = Rect {
     h: 1,
 };
 
-/// Which number and Bells a board of 17 by 2 has, when its tiles were touched, the update that brought its text, and a
-/// colour of each tile, of the first one that FIRST holds.
+/// The number and the Bells of a board of 17 by 2, when its tiles were touched, the update that brought its text, and a
+/// colour of each tile; that of the first tile lies in FIRST.
 fn told(board: &Board) -> ([u64; 4], Option<u64>, [u32; 2])
     requires { (board.now.width ≡ 17) × (board.now.height ≡ 2) }
 {
@@ -88,7 +88,7 @@ fn board_that_is_behind_goes_on(rt: HostRuntime) -> Result<(), Fail> {
     let mut text = Vec::new(alloc);
     text.push(b'a')?;
     apply(&mut newest, &Patch::text(17, 2, text), false);
-    // Behind by the text alone, and what comes next paints a part of the first tile.
+    // The board is behind by the text alone, and the next update paints a part of the first tile.
     go_on(
         &mut behind,
         &newest,

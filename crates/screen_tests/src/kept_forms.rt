@@ -3,10 +3,8 @@
 ghost use Rattle.std.specs.Prelude.{◌≡◌};
 
 use crate::caught_up::{FIRST, SECOND, apply, go_on, painted};
-use arrayvec::ArrayVec;
-use hextile_codec::{Room, TileForm, form_of_tile};
+use hextile_codec::{TileForm, TileRoom, form_of_tile};
 use painter::Board;
-use pixel_format::Format;
 use raster::tile_rect;
 use std::test::Fail;
 
@@ -14,37 +12,36 @@ use std::test::Fail;
 type Told = Option<(usize, u32)>;
 
 fn told_of(form: Option<&TileForm>) -> Told {
-    let mut runs = ArrayVec::new();
-    form?.tint_runs(&Format::HOST, &mut runs);
-    let value = match runs.as_slice().first() {
+    let runs = form?.subrects().runs;
+    let value = match runs.first() {
         Some(run) => run.value,
         None => 0,
     };
     Some((runs.len(), value))
 }
 
-/// Of the form that is kept of a tile.
+/// What is told of the form that is kept of a tile.
 fn kept(board: &Board, t: usize) -> Told {
     told_of(board.forms().get(t)?.as_ref())
 }
 
-/// Of both tiles of a board of 17 by 2.
+/// What is told of the kept forms of both tiles of a board of 17 by 2.
 fn both(board: &Board) -> [Told; 2] {
     [kept(board, 0), kept(board, 1)]
 }
 
-/// Of the forms that are made of their colours.
+/// What is told of the forms that are made from the colours of both tiles.
 fn made(board: &Board) -> [Told; 2]
     requires { (board.now.width ≡ 17) × (board.now.height ≡ 2) }
 {
-    let mut room = Room::new();
+    let mut room = TileRoom::new();
     let colours = board.colours();
     let first = form_of_tile(colours, 17, &tile_rect(17, 2, 0), &mut room);
     let second = form_of_tile(colours, 17, &tile_rect(17, 2, 1), &mut room);
     [told_of(first.as_ref()), told_of(second.as_ref())]
 }
 
-/// Forms are kept of the tiles that change, from the first time on that they are to be, and are those of their colours.
+/// Once forms are wanted they are kept of the tiles that change, and they are those of the tiles' colours.
 #[test]
 fn forms_are_those_of_the_colours(rt: HostRuntime) -> Result<(), Fail> {
     let alloc = rt.alloc();

@@ -14,16 +14,16 @@ use std::process::Abort;
 pub enum Told {
     /// No message is whole.
     Nothing,
-    /// An update that touches so many tiles.
+    /// An update that touches this many tiles.
     Tiles(usize),
-    /// An update of these tiles, with these colours of one after the other.
+    /// An update of these tiles, with these colours, tile after tile.
     Colours(&'static [u64], &'static [u32]),
     Map,
     Bell,
     Text(&'static [u8]),
-    /// A text of so many bytes.
+    /// A text of this many bytes.
     LongText(usize),
-    /// A text that was read past.
+    /// A text that was read and not kept.
     LostText,
 }
 

@@ -1,5 +1,5 @@
-//! Tests of `pixel_format`, `raster`, `tiles`, `painter`, `host_decoder`, `reflect_core` and `update_encoder`, which stand
-//! in a crate of their own so that each of those is proved once.
+//! Tests of `pixel_format`, `raster`, `tiles`, `painter`, `host_decoder`, `reflect_core` and `update_encoder`, which
+//! are in their own crate so that each of those is proved once.
 #![tactic(auto)]
 
 #[cfg(test)]

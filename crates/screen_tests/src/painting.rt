@@ -62,7 +62,7 @@ fn are_copied(painter: &Painter, board: &Board, sx: u32, sy: u32) -> bool
     are_copied
 }
 
-/// Whether a copy over its own source shows what it must, as a patch and on a board.
+/// Whether a copy over its own source shows what it should, as a patch and on a board.
 fn copies(painter: &mut Painter, board: &mut Board, sx: u32, sy: u32) -> bool
     requires source { (sx ≤ 2) × (sy ≤ 2) }
     requires size { (painter.old.width ≡ 5) × (painter.old.height ≡ 5) }
@@ -74,7 +74,7 @@ fn copies(painter: &mut Painter, board: &mut Board, sx: u32, sy: u32) -> bool
     applies(painter, board) && is_put && are_copied(painter, board, sx, sy)
 }
 
-/// The same on new screens.
+/// Whether this is so on new screens.
 fn copies_from<R: Abort + AllocGlobal>(rt: &R, sx: u32, sy: u32) -> bool
     requires { (sx ≤ 2) × (sy ≤ 2) }
 {

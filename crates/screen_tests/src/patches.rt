@@ -16,7 +16,7 @@ fn dot(x: u64, y: u64) -> Rect
     Rect { x, y, w: 1, h: 1 }
 }
 
-/// Whether the painter's patch paints these tiles, and these colours of one after the other.
+/// Whether the painter's patch paints these tiles, with these colours, tile after tile.
 fn paints(painter: &mut Painter, numbers: &[u64], colours: &[u32]) -> bool
     ensures { (painter.new.width ≡ painter.old.width) × (painter.new.height ≡ painter.old.height) }
 {

@@ -52,7 +52,8 @@ pub(crate) struct Scene {
     pub(crate) were_sent: bool,
     /// The area that is asked for: the whole screen where there is none.
     pub(crate) part: Option<Rect>,
-    /// Whether pixels have 16 bits, most significant byte first, of 5, 6 and 5 bits. Else they are the host's.
+    /// Whether pixels have 16 bits, most significant byte first, of 5, 6 and 5 bits. Otherwise they have the host's
+    /// format.
     pub(crate) has_16_bits: bool,
     pub(crate) runs: Runs,
     pub(crate) choice: Choice,
@@ -81,7 +82,7 @@ const RED_ROWS: Scene = Scene {
     more: 0,
 };
 
-/// The same two, both in RRE.
+/// Those two rows, both in RRE.
 const BOTH_IN_RRE: &[u8] = &[
     0, 0, 0, 2, 0, 0, 0, 0, 0, 16, 0, 16, 0, 0, 0, 2, 0, 0, 0, 0, 0, 0, 0xFF, 0, 0, 0, 0, 16, 0,
     16, 0, 16, 0, 0, 0, 2, 0, 0, 0, 0, 0, 0, 0xFF, 0,

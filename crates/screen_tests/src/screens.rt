@@ -77,7 +77,8 @@ fn shows_what_was_put(rt: HostRuntime) -> Result<(), Fail> {
     Ok(())
 }
 
-/// Of 4 by 4 two far corners are asked for, so all of it is. A cut leaves the area, an answer doesn't.
+/// Two opposite corners of 4 by 4 are asked for, so all of it is. A cut leaves the area that was asked for, and an
+/// answer clears it.
 #[test]
 fn asked_and_answered(rt: HostRuntime) {
     let none = rect(0, 0, 0, 0);

@@ -1,4 +1,4 @@
-//! The last text of the host's cut buffer (RFC 6143, section 7.6.4), of which 65,536 bytes are kept at most.
+//! The last text of the host's cut buffer (RFC 6143, section 7.6.4), of at most 65,536 bytes.
 
 ghost use Rattle.std.specs.Prelude.{◌≡◌, length};
 
