@@ -16,7 +16,7 @@ pub record Posted : Type 0 where
   pub bells : ℕ
   pub text : Option NumberedText
 
--- It is the view of these updates.
+-- The board is the view of these updates.
 pub record BoardStands (board : Posted) (us : List Update) : Type 0 where
   pub number : board.number ≡ length us
   pub screen : LooksLike board.width board.height (value_at board.width board.colours) (screen us)
@@ -24,7 +24,7 @@ pub record BoardStands (board : Posted) (us : List Update) : Type 0 where
   pub bells : board.bells ≡ bells us
   pub text : board.text ≡ last_text us
 
--- What its fields hold: a colour for each position, the tiles of its screen, and no more Bells than updates.
+-- What its fields hold: a colour for each position, a grid of the screen's size, and no more Bells than updates.
 pub record IsBoard (board : Posted) : Type 0 where
   pub size : IsScreenSize board.width board.height
   pub rows : length board.colours ≡ board.width * board.height

@@ -19,19 +19,19 @@ pub record IsSameAround (old new : Painting) : Type 0 where
   pub area : new.area ≡ old.area
   pub outside : (x y : ℕ) → x < old.width → y < old.height → holds old.area x y ≡ false → worked new x y ≡ worked old x y
 
--- Over the screen at the update's start it shows these paints around a rectangle, and the tiles that were touched are
--- those that one of them touches.
+-- Around a rectangle the screen shows these paints over what it showed at the update's start, and the tiles that were
+-- touched are those that at least one of the paints touches.
 pub record IsPaintedAround (start : Canvas) (paints : List Paint) (area : Rect) (screen : Painting) : Type 0 where
   pub shows : (x y : ℕ) → x < screen.width → y < screen.height → holds area x y ≡ false → worked screen x y ≡ after_paints start paints x y
   pub touched : (t : ℕ) → t < tile_count screen.width screen.height → is_touched screen t ≡ touches (tile_rect screen.width screen.height t) (Paints paints)
 
 -- ---- what a canvas owes
 
--- At once nothing has changed.
+-- From a screen to itself nothing has changed.
 pub around_at_once : (p : Painting) → IsSameAround p p
 around_at_once p = record { width = refl; height = refl; marks = refl; area = refl; outside = λ x y lx ly e. refl }
 
--- And one change after another is one.
+-- Two such changes, one after the other, are one such change.
 pub around_then : (a b c : Painting) → IsSameAround a b → IsSameAround b c → IsSameAround a c
 around_then a b c f g =
     record {

@@ -5,13 +5,14 @@ use Rattle.raster.specs.Screen.{Canvas, part_of, tile_count, tile_rect}
 use Rattle.hextile_codec.specs.declared.kept.TileForm.{TileForm}
 use Rattle.hextile_codec.specs.Kept.{FormStands}
 
--- Of the tiles of a screen of width by height but these, each form that is kept is that of the tile's colours.
+-- On a screen of width by height, each form that is kept of a tile other than these is that of the tile's colours.
 abbrev pub AreFormsBut : List ℕ → ℕ → ℕ → Canvas → List (Option TileForm) → Type 0
 AreFormsBut others width height colours forms =
     (t : ℕ) → t < length forms → t < tile_count width height → list_any (λ k. k == t) others ≡ false
     → IfSome (slice_index_or forms t None) (λ form. FormStands form (tile_rect width height t).w (tile_rect width height t).h (part_of (tile_rect width height t) colours))
 
--- Each of the first count tiles that a test lets through has the newer form, and each other one the form that it had.
+-- Of the first count tiles, each that a test lets through has the newer form, and each other one has the form that it
+-- had.
 abbrev pub TookForms : ℕ → (ℕ → Bool) → List (Option TileForm) → List (Option TileForm) → List (Option TileForm) → Type 0
 TookForms count passes newer old new =
     (t : ℕ) → t < length new → t < count → slice_index_or new t None ≡ (if passes t then slice_index_or newer t None else slice_index_or old t None)

@@ -6,8 +6,8 @@ use Rattle.raster.specs.Screen.{Canvas, LooksLike, part_of, tile_count, tile_rec
 use Rattle.raster.specs.Update.{Paint, Put, Copy, Paints, after_paints}
 use Rattle.tiles.specs.Touched.{touches}
 
--- The size of the screen, its colours row after row, of each tile a 1 where the update that is being read has touched
--- it, and the rectangle that is drawn on.
+-- The size of the screen, its colours row after row, a mark for each tile (1 where the update that is being read has
+-- touched it), and the rectangle that is drawn on.
 pub record Painting : Type 0 where
   pub width : ℕ
   pub height : ℕ
@@ -15,7 +15,7 @@ pub record Painting : Type 0 where
   pub marks : List ℕ
   pub area : Rect
 
--- What it shows.
+-- What the screen shows.
 abbrev pub worked : Painting → Canvas
 worked screen = value_at screen.width screen.colours
 
@@ -27,8 +27,8 @@ is_touched screen t = slice_index screen.marks t == 1
 abbrev pub touched_below : Painting → ℕ → List ℕ
 touched_below screen n = filter (is_touched screen) (range_with_len 0 n)
 
--- Over the screen at the update's start it shows these paints, and the tiles that were touched are those that one of
--- them touches.
+-- The screen shows these paints over what it showed at the update's start, and the tiles that were touched are those
+-- that at least one of the paints touches.
 pub record IsPaintedOver (start : Canvas) (paints : List Paint) (screen : Painting) : Type 0 where
   pub shows : LooksLike screen.width screen.height (worked screen) (after_paints start paints)
   pub touched : (t : ℕ) → t < tile_count screen.width screen.height → is_touched screen t ≡ touches (tile_rect screen.width screen.height t) (Paints paints)
@@ -44,11 +44,11 @@ pub record IsAsLarge (screen other : Painting) : Type 0 where
 abbrev pub colours_in : Canvas → Rect → List ℕ
 colours_in screen r = values_of r.w r.h (part_of r screen)
 
--- A whole tile of a screen of w by h, as it looks.
+-- The paint that puts a whole tile of a screen of w by h, in the colours that the screen shows there.
 abbrev pub tile_put : ℕ → ℕ → Canvas → ℕ → Paint
 tile_put w h screen t = Put (tile_rect w h t) (colours_in screen (tile_rect w h t))
 
--- The tiles that a test lets through, each once, in rising order.
+-- The paints of the tiles that a test lets through, each once, in rising order.
 abbrev pub tile_puts : ℕ → ℕ → Canvas → (ℕ → Bool) → List Paint
 tile_puts w h screen passes = map (tile_put w h screen) (filter passes (range_with_len 0 (tile_count w h)))
 
@@ -57,6 +57,6 @@ abbrev pub colour_count : Paint → ℕ
 colour_count (Put r colours) = length colours
 colour_count (Copy r sx sy) = 0
 
--- How many all of them have.
+-- How many colours these paints have in all.
 abbrev pub colours_of : List Paint → ℕ
 colours_of paints = sum_by colour_count paints

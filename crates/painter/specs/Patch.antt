@@ -23,30 +23,31 @@ abbrev pub tile_paints : ℕ → ℕ → List ℕ → List ℕ → List Paint
 tile_paints w h [] colours = []
 tile_paints w h (t ∷ ts) colours = Put (tile_rect w h t) (take (tile_area w h t) colours) ∷ tile_paints w h ts (drop (tile_area w h t) colours)
 
--- They are tiles of that screen, and there is a colour for each of their positions.
+-- These are numbers of tiles of a screen of w by h, and there is a colour for each position of these tiles.
 pub record AreTiles (w h : ℕ) (numbers colours : List ℕ) : Type 0 where
   pub there : All (λ t. t < tile_count w h) numbers
   pub count : length colours ≡ sum_by (tile_area w h) numbers
 
--- They are each tile at most once, in rising order, with at most one colour for each position of the screen.
+-- These are numbers of tiles, each at most once and in rising order, with at most one colour for each position of the
+-- screen.
 pub record AreTouchedTiles (w h : ℕ) (numbers colours : List ℕ) : Type 0 where
   pub tiles : AreTiles w h numbers colours
   pub rising : IsStrictlyIncreasing numbers
   pub few : length colours ≤ w * h
 
--- The update that one in the code stands for.
+-- The update that a Change in the code stands for.
 abbrev pub update_of : ℕ → ℕ → Change → Update
 update_of w h (code.Tiles numbers colours) = Paints (tile_paints w h numbers.items colours.items)
 update_of w h code.Bell = Bell
 update_of w h (code.Text text) = Cut text.items
 
--- Its tiles are of a screen of w by h, each once; its text has at most 65,536 bytes.
+-- The tiles of a change are tiles of a screen of w by h, each at most once; its text has at most 65,536 bytes.
 abbrev pub IsFor : ℕ → ℕ → Change → Type 0
 IsFor w h (code.Tiles numbers colours) = AreTouchedTiles w h numbers.items colours.items
 IsFor w h code.Bell = Unit {0}
 IsFor w h (code.Text text) = length text.items ≤ LONGEST_TEXT
 
--- Over what the old colours of its screen look like, the new ones show its paints.
+-- The new colours show the paints of the patch over whatever the old colours look like.
 abbrev pub ShowsOver : SizedUpdate → List ℕ → List ℕ → Type 0
 ShowsOver patch old new =
     (before : Canvas) → LooksLike patch.width patch.height (value_at patch.width old) before
@@ -54,13 +55,13 @@ ShowsOver patch old new =
 
 -- ---- what kind of update it is
 
--- It is a Bell.
+-- The update is a Bell.
 abbrev pub is_bell : Update → Bool
 is_bell (Paints paints) = false
 is_bell Bell = true
 is_bell (Cut text) = false
 
--- Its text, where it is one.
+-- The text of an update, where it is a text.
 abbrev pub text_of : Update → Option (List ℕ)
 text_of (Paints paints) = None
 text_of Bell = None

@@ -20,9 +20,9 @@ use std::alloc::Global;
 use std::marker::Model;
 use tiles::{Grid, LackedSince};
 
-/// What a list of updates shows: the number of the last of them, the screen, the number of the last that touched each
-/// of its tiles, how many Bells there were, and the last text of the host's cut buffer; and of each tile the form of its
-/// colours, where that is kept. All its room is taken where it is made.
+/// What a list of updates shows: the number of the last update, the screen, the number of the last update that touched
+/// each tile, how many Bells there were, and the last text of the host's cut buffer. It may keep the form of each
+/// tile's colours, too. All its memory is taken when it is made.
 #[derive(Drop)]
 pub struct Board {
     width: u64,
@@ -47,7 +47,7 @@ impl Model for Board {
     ghost invariant = { λ b. IsBoard (record { width = b.width; height = b.height; number = b.number; colours = b.colours.items; grid = b.grid; bells = b.bells; text = b.text }) × AreFormsOf b.width b.height (value_at b.width b.colours.items) b.forms.list.items };
 }
 
-/// How many updates and how many Bells there are after a patch, where before it there were this many.
+/// How many updates and how many Bells there are after a patch, given how many there were before it.
 fn counted(number: u64, bells: u64, patch: &Patch) -> (u64, u64)
     requires few { bells ≤ number }
     requires number { number < 2 ^ 62 }
@@ -127,15 +127,15 @@ impl Board {
         &self.grid
     }
 
-    /// Of some of its tiles, from the first on, the forms of their colours.
+    /// For each tile, in order, the form of its colours, where one is kept. The list may end before the last tile.
     pub fn forms(&self) -> &[Option<TileForm>]
         ensures { AreFormsOf self.now.width self.now.height (value_at self.now.width self.now.colours) result.now }
     {
         self.forms.list.as_slice()
     }
 
-    /// Applies the next update. It always succeeds, and takes no memory. Where it `keeps` forms, those of the tiles that
-    /// change are made of their new colours; else they are forgotten.
+    /// Applies the next update. It always succeeds, and takes no memory. If it `keeps` forms, the forms of the tiles
+    /// that change are made of their new colours; otherwise they are forgotten.
     pub fn apply(&mut self, patch: &Patch, keeps: bool)
         requires size { (patch.now.width ≡ self.old.width) × (patch.now.height ≡ self.old.height) }
         requires number { self.old.number < 2 ^ 62 }
@@ -152,9 +152,9 @@ impl Board {
         self.bells = bells;
     }
 
-    /// Shows what a newer board of its screen does, of whose updates it stands at the first, and then one update more. It
-    /// copies the tiles that were touched since, but for those that the patch brings, with their forms, always succeeds,
-    /// and takes no memory. Forms are kept as in `apply`.
+    /// Takes over what a newer board of its screen shows, and then applies one update more. This board has to be the
+    /// view of the newer one's first updates. The tiles that were touched since are copied with their forms, except
+    /// those that the patch brings. It always succeeds, and takes no memory. Forms are kept as in `apply`.
     pub fn catch_up(&mut self, newer: &Board, patch: &Patch, keeps: bool)
         requires same { IsSameScreen self.old newer.now }
         requires size { (patch.now.width ≡ self.old.width) × (patch.now.height ≡ self.old.height) }
@@ -164,7 +164,7 @@ impl Board {
         ensures stands { (us : List Update) → BoardStands self.old (take self.old.number us) → BoardStands newer.now us → BoardStands self.new (us ++ patch.now.update ∷ []) }
     {
         let (number, bells) = counted(newer.number, newer.bells, patch);
-        // What a patch paints are whole tiles; so it hides what was there.
+        // A patch paints whole tiles, so nothing of what was there stays.
         let _ = patch.tiles();
         patch.touch(&mut self.grid, number);
         copy_lacked(
@@ -186,7 +186,7 @@ impl Board {
         self.bells = bells;
     }
 
-    /// Becomes what another board of its screen is, without forms. It always succeeds, and takes no memory.
+    /// Becomes equal to another board of its screen, and forgets its forms. It always succeeds, and takes no memory.
     pub fn copy_from(&mut self, other: &Board)
         requires { IsSameScreen self.old other.now }
         ensures { self.new ≡ other.now }
@@ -201,7 +201,8 @@ impl Board {
         self.bells = other.bells;
     }
 
-    /// An equal one, in room for it, which never keeps forms. It always succeeds, and takes no memory.
+    /// An equal board, made in the room that it is given, which never keeps forms. It always succeeds, and takes no
+    /// memory.
     pub(crate) fn copy_to(
         &self,
         alloc: Global,

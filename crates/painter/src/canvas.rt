@@ -6,8 +6,8 @@ ghost use Rattle.painter.specs.Drawing.{IsSameAround, around_at_once, around_the
 use crate::painter::Painter;
 use raster::{Canvas, Rect, VALUE_LEN};
 
-/// What is drawn goes to its place on the screen at once. Of a value its colour is kept, and around the rectangle
-/// nothing changes.
+/// What is drawn shows in its place on the screen at once. Of each value its colour is kept, and nothing outside the
+/// rectangle changes.
 impl Canvas for Painter {
     ghost width = { λ p. p.area.w };
 

@@ -1,4 +1,4 @@
-//! Copies of parts of a screen, on rows of colours.
+//! Copies parts of a screen to another screen. Both are rows of colours.
 
 ghost use Rattle.std.specs.Prelude.{◌≡◌, ℕ, ◌+◌, ◌*◌, ◌<◌, ◌≤◌, ◌^◌, length, slice_index};
 ghost use Rattle.painter.specs.Newer.{TookTiles};
@@ -23,8 +23,8 @@ pub fn copy_area(from: &[u32], into: &mut [u32], width: usize, height: usize, ar
     }
 }
 
-/// Copies the tiles that a newer grid says were touched after update `number`, and a grid that is behind doesn't, run by
-/// run.
+/// Copies, run by run, the tiles that were touched after update `number` according to a newer grid, but not according
+/// to the grid that is behind.
 pub(crate) fn copy_lacked(from: &[u32], into: &mut [u32], grid: &Grid, newer: &Grid, number: u64)
     requires size { (newer.now.width ≡ grid.now.width) × (newer.now.height ≡ grid.now.height) }
     requires from { length from.now ≡ newer.now.width * newer.now.height }

@@ -1,6 +1,6 @@
 //! The forms of a board's tiles, which are kept while their colours stay.
 
-ghost use Rattle.std.specs.Prelude.{◌≡◌, ◌≢◌, ℕ, ◌*◌, ◌<◌, [], false, length, slice_index_or, All, None, IfOk, IfErr, IfSome, IsTrue};
+ghost use Rattle.std.specs.Prelude.{◌≡◌, ◌≢◌, ℕ, ◌*◌, ◌<◌, [], false, length, slice_index_or, All, None, Some, IfOk, IfErr, IfNone, IfSome, IsTrue};
 ghost use Rattle.fault.specs.declared.kinds.Fault.TheVariants.{Memory};
 ghost use Rattle.hextile_codec.specs.Kept.{AreFormsOf, FormStands};
 ghost use Rattle.painter.specs.Forms.{AreFormsBut, TookForms};
@@ -11,20 +11,20 @@ ghost use Rattle.tiles.specs.Touched.{touches};
 
 use crate::patch::Patch;
 use fault::Fault;
-use hextile_codec::{Room, TileForm, form_of_tile};
+use hextile_codec::{TileForm, TileRoom, form_of_tile};
 use raster::{tile_count, tile_rect};
 use std::alloc::Global;
 use tiles::{DueTiles, LackedSince};
 
-/// For each tile of a screen the form of its colours, where one is kept; of no tile as long as none ever was.
+/// For each tile of a screen, the form of its colours, where one is kept. The list is empty until forms are to be kept.
 #[derive(Drop)]
 pub(crate) struct Forms {
     pub list: Vec<Option<TileForm>>,
 }
 
 impl Forms {
-    /// None, and room for one of each tile of a screen, which isn't touched before one is kept. It fails where memory is
-    /// refused (`Memory`).
+    /// No forms, and room for one of each tile of a screen. The room isn't touched before forms are to be kept. It
+    /// fails where memory is refused (`Memory`).
     pub fn new(alloc: Global, width: u64, height: u64) -> Result<Self, Fault>
         requires { IsScreenSize width height }
         ensures ok { IfOk result (λ forms. forms.list.items ≡ []) }
@@ -35,7 +35,7 @@ impl Forms {
         })
     }
 
-    /// None, and no room: none are ever kept.
+    /// No forms, and no room for any: none are ever kept.
     pub fn none(alloc: Global) -> Self
         ensures { result.list.items ≡ [] }
     {
@@ -51,14 +51,14 @@ impl Forms {
         self.list.clear();
     }
 
-    /// Whether a change of some tiles is nothing to them: there are none, and none is to be kept.
+    /// Whether a change of some tiles asks for nothing here: there are no forms, and none are to be kept.
     fn are_unused(&self, keeps: bool) -> bool
         ensures { IsTrue result → self.now.list.items ≡ [] }
     {
         !keeps && self.list.is_empty()
     }
 
-    /// From now on there is a place for each tile of a screen, if there is room for so many.
+    /// Makes a place for each tile of a screen, if there is room for so many.
     fn begin(&mut self, width: u64, height: u64)
         requires { IsScreenSize width height }
         ensures { (t : ℕ) → slice_index_or self.new.list.items t None ≡ slice_index_or self.old.list.items t None }
@@ -73,14 +73,14 @@ impl Forms {
     }
 
     /// The form of tile `t`, if one is kept.
-    fn again(&self, t: usize) -> Option<TileForm>
-        ensures { result ≡ slice_index_or self.now.list.items t None }
+    fn form(&self, t: usize) -> Option<&TileForm>
+        ensures some { IfSome result (λ form. slice_index_or self.now.list.items t None ≡ Some form.now) }
+        ensures none { IfNone result (slice_index_or self.now.list.items t None ≡ None) }
     {
-        let form = self.list.get(t)?.as_ref()?;
-        Some(form.again())
+        self.list.get(t)?.as_ref()
     }
 
-    /// Tile `t` has this form, where there is a place for it.
+    /// Gives tile `t` this form, or none, where there is a place for it.
     fn put(&mut self, t: usize, form: Option<TileForm>)
         ensures len { length self.new.list.items ≡ length self.old.list.items }
         ensures here { t < length self.new.list.items → slice_index_or self.new.list.items t None ≡ form }
@@ -91,8 +91,29 @@ impl Forms {
         }
     }
 
-    /// The tiles of these numbers have other colours now. Where a form `keeps` its place it is made of these, and is
-    /// forgotten otherwise.
+    /// Gives tile `t` the form that a newer board keeps of it, or none, where there is a place for it. A form that is
+    /// kept becomes the newer one where it lies, since a whole form is long.
+    fn put_newer(&mut self, t: usize, newer: &Forms)
+        ensures len { length self.new.list.items ≡ length self.old.list.items }
+        ensures here { t < length self.new.list.items → slice_index_or self.new.list.items t None ≡ slice_index_or newer.now.list.items t None }
+        ensures others { (k : ℕ) → k ≢ t → slice_index_or self.new.list.items k None ≡ slice_index_or self.old.list.items k None }
+    {
+        let Some(form) = newer.form(t) else {
+            self.put(t, None);
+            return;
+        };
+        if t < self.list.len() {
+            let place = &mut self.list[t];
+            if let Some(kept) = place {
+                kept.copy_from(form);
+                return;
+            }
+            self.list[t] = Some(form.again());
+        }
+    }
+
+    /// Renews the forms of the tiles of these numbers, whose colours have changed. If it `keeps` forms, they are made
+    /// of the new colours; otherwise they are forgotten.
     fn renew_tiles(
         &mut self,
         width: u64,
@@ -107,7 +128,7 @@ impl Forms {
         requires others { AreFormsBut numbers.now width height (value_at width colours.now) self.old.list.items }
         ensures { AreFormsOf width height (value_at width colours.now) self.new.list.items }
     {
-        let mut room = Room::new();
+        let mut room = TileRoom::new();
         for number in numbers {
             let tile = tile_rect(width, height, *number);
             let form = if keeps {
@@ -119,7 +140,8 @@ impl Forms {
         }
     }
 
-    /// A patch was painted, and left these colours: its tiles have new forms, if any are kept.
+    /// Renews the forms of a patch's tiles after it was painted, which left these colours. Forms are kept as in
+    /// `Board::apply`.
     pub fn renew(&mut self, patch: &Patch, colours: &[u32], keeps: bool)
         requires size { IsScreenSize patch.now.width patch.now.height }
         requires rows { length colours.now ≡ patch.now.width * patch.now.height }
@@ -135,7 +157,7 @@ impl Forms {
         self.renew_tiles(width, height, numbers, colours, keeps);
     }
 
-    /// The tiles that are lacked on a screen of `width` by `height` have the forms that a newer board keeps of them.
+    /// Gives the tiles that are lacked on a screen of `width` by `height` the forms that a newer board keeps of them.
     pub fn take_lacked(
         &mut self,
         newer: &Forms,
@@ -154,7 +176,7 @@ impl Forms {
         self.begin(width, height);
         for t in 0..tile_count(width, height) {
             if lacked.is_due(t) {
-                self.put(t as usize, newer.again(t as usize));
+                self.put_newer(t as usize, newer);
             }
         }
     }

@@ -159,7 +159,7 @@ impl Painter {
         }
     }
 
-    /// Begins to draw on a rectangle, of which the tiles aren't touched before the end.
+    /// Begins to draw on a rectangle. Its tiles are touched only when the drawing ends.
     pub fn draw_on(&mut self, area: Rect)
         requires { IsWithin area self.old.width self.old.height }
         ensures { self.new ≡ record self.old { area = area } }

@@ -46,7 +46,7 @@ impl Model for Patch {
     ghost invariant = { λ p. IsScreenSize p.width p.height × IsFor p.width p.height p.change };
 }
 
-/// Puts tiles of a screen of `width` by `height` on its colours, row after row.
+/// Puts tiles on the colours of their screen of `width` by `height`, which stand row after row.
 fn put_tiles(screen: &mut [u32], width: u64, height: u64, numbers: &[u64], colours: &[u32])
     requires size { IsScreenSize width height }
     requires rows { length screen.old ≡ width * height }
@@ -62,7 +62,7 @@ fn put_tiles(screen: &mut [u32], width: u64, height: u64, numbers: &[u64], colou
     }
 }
 
-/// Update `n` touched these tiles of a screen of `width` by `height`.
+/// Notes on a grid that update `n` touched these tiles of a screen of `width` by `height`.
 fn touch_tiles(grid: &mut Grid, width: u64, height: u64, numbers: &[u64], n: u64)
     requires size { IsScreenSize width height }
     requires tiles { All (λ t. t < tile_count width height) numbers.now }
@@ -139,7 +139,7 @@ impl Patch {
     }
 
     /// The numbers of the tiles that it paints, rising, and their colours, one whole tile after the other, at most one
-    /// for each position of the screen: none of a Bell or a text.
+    /// for each position of the screen. A Bell or a text has none of either.
     pub fn tiles(&self) -> (&[u64], &[u32])
         ensures paints { tile_paints self.now.width self.now.height result.0.now result.1.now ≡ paints_of self.now.update }
         ensures tiles { AreTouchedTiles self.now.width self.now.height result.0.now result.1.now }
@@ -158,7 +158,7 @@ impl Patch {
         matches!(&self.change, Change::Bell)
     }
 
-    /// Its text, where it is one: at most 65,536 bytes.
+    /// The text, where the update is one: at most 65,536 bytes.
     pub fn text_bytes(&self) -> Option<&[u8]>
         ensures text { option_copied result ≡ text_of self.now.update }
         ensures short { IfSome result (λ text. length text.now ≤ LONGEST_TEXT) }
@@ -179,7 +179,7 @@ impl Patch {
         put_tiles(colours, self.width, self.height, numbers, tiles);
     }
 
-    /// It is update `n`, and touches the tiles of a grid. It always succeeds, and takes no memory.
+    /// Notes on a grid that this patch, as update `n`, touched its tiles. It always succeeds, and takes no memory.
     pub fn touch(&self, grid: &mut Grid, n: u64)
         ensures { IsTouched (λ t. touches (tile_rect grid.old.width grid.old.height t) self.now.update) n grid.old grid.new }
     {

@@ -11,7 +11,7 @@ use std::alloc::Global;
 use std::marker::Model;
 use tiles::Grid;
 
-/// Room for a copy of a board of one screen size. That for its colours isn't touched before they come.
+/// Room for a copy of a board of one screen size. The room for its colours isn't touched before they come.
 #[derive(Drop)]
 pub(crate) struct Room {
     alloc: Global,

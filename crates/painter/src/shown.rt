@@ -12,8 +12,8 @@ use std::alloc::Global;
 use std::marker::Model;
 use std::sync::Arc;
 
-/// A board that is shared with others, or, where one more owner of it was refused, a copy of its own: contracts see the
-/// board that it shows. Room for the copy is taken where it is made, and isn't touched before there is one.
+/// A board that is shared with others, or a copy of its own where one more owner of the board was refused. Contracts
+/// see the board that it shows. Room for the copy is taken at the start, and isn't touched before there is a copy.
 #[derive(Drop)]
 pub struct Shown {
     shared: Option<Arc<Board, Global>>,
@@ -62,7 +62,7 @@ impl Shown {
         }
     }
 
-    /// The same with a copy, which stands in for an owner.
+    /// Shows a copy of another board of its screen from now on, as `show` does where one more owner is refused.
     pub fn copy(&mut self, board: &Board)
         requires { IsSameScreen self.old board.now }
         ensures { self.new ≡ board.now }

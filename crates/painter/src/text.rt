@@ -68,7 +68,7 @@ impl LastText {
         self.number = None;
     }
 
-    /// These bytes are the text now, brought by the update of this number.
+    /// Takes these bytes as the text, brought by the update of this number.
     pub fn set(&mut self, bytes: &[u8], number: u64)
         requires { length bytes.now ≤ LONGEST_TEXT }
         ensures { self.new ≡ Some (record { text = bytes.now; number = number }) }
@@ -79,7 +79,7 @@ impl LastText {
         self.number = Some(number);
     }
 
-    /// The same text as another, or none.
+    /// Becomes the same text as another, or none.
     pub fn copy_from(&mut self, other: &LastText)
         ensures { self.new ≡ other.now }
     {
@@ -89,8 +89,8 @@ impl LastText {
         }
     }
 
-    /// The same text as a newer one, where that was brought after the update of this number. Else it stays, and nothing is
-    /// copied.
+    /// Becomes the same text as a newer one, if an update after the one of this number brought that. Otherwise it
+    /// stays, and nothing is copied.
     pub(crate) fn catch_up(&mut self, newer: &LastText, number: u64)
         ensures { self.new ≡ (if is_later newer.now number then newer.now else self.old) }
     {
@@ -101,7 +101,7 @@ impl LastText {
         }
     }
 
-    /// The update of this number brings these bytes, or no text: then the last one stays.
+    /// Follows the update of this number, which brings these bytes, or no text. Without a text the last one stays.
     pub fn follow(&mut self, bytes: Option<&[u8]>, number: u64)
         requires { IfSome bytes (λ text. length text.now ≤ LONGEST_TEXT) }
         ensures { self.new ≡ newer self.old number (option_copied bytes.entry) }

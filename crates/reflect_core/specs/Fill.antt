@@ -5,7 +5,8 @@ use Rattle.reflect_core.specs.declared.cut.Cut.{Cut}
 use Rattle.tiles.specs.Have.{SentTiles, sent_at}
 use Rattle.tiles.specs.declared.walk.Run.{Run}
 
--- The answer says whether each of the tiles from first on, before end, was sent before: where it is false, one wasn't.
+-- The answer says whether each of the tiles from first up to end, without end, was sent before. Where it is false, one
+-- of them wasn't.
 abbrev pub IsWhetherSent : SentTiles → ℕ → ℕ → Bool → Type 0
 IsWhetherSent have first end true = (t : ℕ) → first ≤ t → t < end → is_some (sent_at have t) ≡ true
 IsWhetherSent have first end false = (t : ℕ) × (first ≤ t) × (t < end) × (is_some (sent_at have t) ≡ false)

@@ -10,12 +10,13 @@ pub record Colours : Type 0 where
   pub items : List ℕ
   pub is_shared : Bool
 
--- Those of a shared board, or else its own.
+-- The colours of a shared board, or else the picture's own.
 abbrev pub colours_of : {A : Type 0} → Option (Arc Posted A) → List ℕ → List ℕ
 colours_of {A} (Some board) own = (arc_value board).colours
 colours_of {A} None own = own
 
--- There is room for as many, where its own stand and where others are to.
+-- There is room for as many colours: where its own stand, and in the room, if there is some, that is to take that one's
+-- place.
 abbrev pub IsPicture : {A B : Type 0} → Option (Arc Posted A) → Vec ℕ B → Option (Vec ℕ B) → Type 0
 IsPicture {A} {B} shared own None = length (colours_of shared own.items) ≤ vec_capacity own
 IsPicture {A} {B} shared own (Some room) = (length (colours_of shared own.items) ≤ vec_capacity own) × (length (colours_of shared own.items) ≤ vec_capacity room)

@@ -22,7 +22,8 @@ updates_of patches = map (λ patch. patch.update) patches
 abbrev pub AreOfSize : ℕ → ℕ → List SizedUpdate → Type 0
 AreOfSize w h patches = All (λ patch. (patch.width ≡ w) × (patch.height ≡ h)) patches
 
--- What its fields hold: patches of its size, the board that they make, and a tally that is at most their number.
+-- What the fields of such a source hold: patches of its size, the board that they make, and a tally that is at most
+-- their number.
 pub record IsPlain (w h : ℕ) (patches : List SizedUpdate) (tally : ℕ) (board : Posted) : Type 0 where
   pub size : IsScreenSize w h
   pub fits : AreOfSize w h patches

@@ -33,7 +33,7 @@ impl Model for Asked {
 }
 
 impl Asked {
-    /// Nothing was asked for of a screen of `width` by `height` pixels.
+    /// A viewer that has asked for nothing yet, on a screen of `width` by `height` pixels.
     pub fn new(width: u64, height: u64) -> Self
         requires { IsScreenSize width height }
         ensures size { (result.width ≡ width) × (result.height ≡ height) }
@@ -49,7 +49,7 @@ impl Asked {
         }
     }
 
-    /// A request was taken, incremental or not, as it was clipped to the screen. An empty one is forgotten.
+    /// A request was taken, whether incremental or not, and was clipped to the screen. An empty one is forgotten.
     pub fn request(&mut self, clipped: &Rect)
         requires { is_empty clipped.now ≡ false → IsWithin clipped.now self.old.width self.old.height }
         ensures size { IsSameScreen self.old self.new }

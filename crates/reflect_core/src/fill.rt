@@ -36,8 +36,8 @@ fn were_sent(have: &Have, first: u64, end: u64) -> bool
 }
 
 impl Cut {
-    /// Takes a run of due tiles: marks them, and copies the colours of their part of the area, but where the cut shares
-    /// these.
+    /// Takes a run of due tiles: marks them, and copies the colours of their part of the area, unless the cut shares
+    /// the board's colours.
     fn take(&mut self, colours: &[u32], have: &Have, run: &Run)
         requires colours { length colours.now ≡ self.old.width * self.old.height }
         requires screen { (have.now.width ≡ self.old.width) × (have.now.height ≡ self.old.height) }
@@ -61,8 +61,8 @@ impl Cut {
         );
     }
 
-    /// Keeps what a board shows of an area to a viewer that has this, where the cut shares the board's colours or has its
-    /// own: then those of the tiles that are due there by the board's grid, and no others, are copied.
+    /// Keeps what a board shows of an area to a viewer that has these tiles: which of them are due there by the board's
+    /// grid. Where the cut has colours of its own, those of the due tiles, and no others, are copied.
     fn keep(&mut self, board: &Board, area: &Rect, have: &Have)
         requires within { IsWithin area.now self.old.width self.old.height }
         requires screen { (have.now.width ≡ self.old.width) × (have.now.height ≡ self.old.height) }
@@ -83,9 +83,9 @@ impl Cut {
         }
     }
 
-    /// Keeps what a board shows of an area to a viewer that has this: which tiles are due there by the board's grid, and
-    /// their colours, as an owner of the board. Where no owner can be had the due tiles are copied. Board, `have` and cut
-    /// are of one screen. It always succeeds, and takes no memory.
+    /// Keeps what a board shows of an area to a viewer that has these tiles: which of them are due there by the board's
+    /// grid, and, as one more owner of the board, their colours. Where no further owner is granted the due tiles are
+    /// copied. Board, `have` and cut have to be of one screen. It always succeeds, and takes no memory.
     pub fn fill(&mut self, board: &Shown, area: &Rect, have: &Have)
         requires within { IsWithin area.now self.old.width self.old.height }
         requires screen { (have.now.width ≡ self.old.width) × (have.now.height ≡ self.old.height) }
@@ -94,13 +94,13 @@ impl Cut {
         ensures cut { (us : List Update) → BoardStands board.now us → IsCutOf us (length us) area.now have.now self.new }
     {
         let shown = board.board();
-        // How many colours a board has is known of those that it lends.
+        // The colours that a board lends tell the proof how many it has.
         let _ = shown.colours();
         self.colours.show(board);
         self.keep(shown, area, have);
     }
 
-    /// The same of a board that isn't shared: the due tiles are copied.
+    /// Fills a cut in the same way from a board that isn't shared: the due tiles are copied.
     pub fn fill_with_copy(&mut self, board: &Board, area: &Rect, have: &Have)
         requires within { IsWithin area.now self.old.width self.old.height }
         requires screen { (have.now.width ≡ self.old.width) × (have.now.height ≡ self.old.height) }

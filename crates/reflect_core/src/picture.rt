@@ -14,16 +14,16 @@ use std::alloc::Global;
 use std::marker::Model;
 use std::sync::Arc;
 
-/// From how many colours on a black screen is too large to be kept by the allocator once it was let go.
+/// From this many colours on, a black screen is too large for the allocator to keep once it was let go.
 const LARGE: usize = 500_000;
 
-/// For how many colours room is taken that is to go back to the system where it is let go: the C library's allocator
-/// maps blocks of more than 32 MiB by themselves.
+/// For how many colours room is taken where that is to go back to the system once it is let go: the C library's
+/// allocator maps each block of more than 32 MiB separately.
 const GIVEN_BACK: usize = 8_400_000;
 
-/// The colours of a screen, row after row: those of a board that is shared with others, or its own. Room for these is
-/// taken where it is made. At first it is black; with the first board that it shares that black screen is given back, and
-/// room that isn't touched yet takes its place.
+/// The colours of a screen, row after row: those of a board that is shared with others, or the picture's own. Room for
+/// its own is taken when it is made. At first it is black. With the first board that it shares, the black screen is
+/// given back, and room that isn't touched yet takes its place.
 #[derive(Drop)]
 pub struct Picture {
     shared: Option<Arc<Board, Global>>,
@@ -42,7 +42,7 @@ impl Model for Picture {
     ghost invariant = { λ p. IsPicture p.shared p.own p.room };
 }
 
-/// For how many colours room is taken for a black screen of so many.
+/// For how many colours room is taken where a black screen has this many.
 fn room_for_black(count: usize) -> usize
     ensures { count ≤ result }
 {
@@ -53,7 +53,7 @@ fn room_for_black(count: usize) -> usize
     }
 }
 
-/// As many values as there are colours: where there are others, the colours.
+/// Makes as many values as there are colours. Where their number differed, they become these colours.
 fn fill_up(own: &mut Vec<u32>, colours: &[u32])
     requires { length colours.now ≤ vec_capacity own.old }
     ensures len { length own.new.items ≡ length colours.now }
@@ -61,7 +61,7 @@ fn fill_up(own: &mut Vec<u32>, colours: &[u32])
 {
     if own.len() != colours.len() {
         own.clear();
-        // Not refused: there is room.
+        // This isn't refused, since there is room.
         let _ = own.extend_from_slice(colours);
     }
 }
@@ -84,14 +84,15 @@ impl Picture {
         })
     }
 
-    /// Shows the colours of a board of its screen from now on, as one of its owners. Where the board isn't shared, or one
-    /// more owner is refused, it has colours of its own, of which nothing is said. It takes no memory.
+    /// Shows the colours of a board of its screen from now on, as one of its owners. Where the board isn't shared, or
+    /// one more owner is refused, the picture has colours of its own, and nothing is promised of these. It takes no
+    /// memory.
     pub(crate) fn show(&mut self, board: &Shown)
         requires { length board.now.colours ≡ length self.old.items }
         ensures len { length self.new.items ≡ length self.old.items }
         ensures shown { self.new.is_shared ≡ true → self.new.items ≡ board.now.colours }
     {
-        // What it had is given back first, so that it never has two boards.
+        // The picture gives back the board that it had first, so it never has two.
         self.shared = None;
         let owner = match board.owner() {
             Some(owner) => Arc::try_clone(owner).ok(),
@@ -108,7 +109,7 @@ impl Picture {
         }
     }
 
-    /// Has colours of its own from now on, as many as these.
+    /// From now on the picture has colours of its own, as many as these.
     pub(crate) fn stand_alone(&mut self, colours: &[u32])
         requires { length colours.now ≡ length self.old.items }
         ensures len { length self.new.items ≡ length self.old.items }
@@ -118,7 +119,7 @@ impl Picture {
         fill_up(&mut self.own, colours);
     }
 
-    /// Lays the rectangle's part of other colours over its own. Where it shares these it shows them already.
+    /// Lays the area's part of these colours over its own. A picture that shares a board shows them already.
     pub(crate) fn lay(&mut self, colours: &[u32], width: usize, height: usize, area: &Rect)
         requires colours { length colours.now ≡ width * height }
         requires all { length self.old.items ≡ width * height }
@@ -146,13 +147,13 @@ impl Picture {
         }
     }
 
-    /// On a screen of this size, of some of its tiles, from the first on, the forms of their colours: none where it shares
-    /// no board.
+    /// The forms of some tiles of a screen of this size, from the first tile on. There are none where the picture
+    /// shares no board.
     pub fn forms(&self, width: u64, height: u64) -> &[Option<TileForm>]
         ensures { AreFormsOf width height (value_at width self.now.items) result.now }
     {
         match &self.shared {
-            // A board of another size isn't shared. That this is looked at spares an invariant.
+            // A board of another size is never shared. Testing the size here spares the type an invariant.
             Some(board) if board.size() == (width, height) => board.forms(),
             _ => &[],
         }

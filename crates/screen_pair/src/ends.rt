@@ -17,11 +17,12 @@ use std::alloc::Global;
 use std::sync::Wait;
 use tally_word::{HistoryFront, Naming, Raiser};
 
-/// How many boards there may be beside one for each place: those of the two copies, and the one that is made.
+/// How many boards there may be besides one for each place: one for each of the two copies, and the one that is being
+/// made.
 pub const BESIDE_PLACES: usize = 3;
 
-/// This many eyes of a pair, which know no update. It fails where memory is refused (`Memory`) or no place is left
-/// (`NoPlace`).
+/// Makes this many eyes of a pair, which know no update yet. It fails where memory is refused (`Memory`) or no place is
+/// left (`NoPlace`).
 pub fn eyes<J: Naming, R: Wait + Drop>(
     alloc: Global,
     handle: &WriteHandle<Published<J>, Stamped<J>, R>,
@@ -34,7 +35,7 @@ pub fn eyes<J: Naming, R: Wait + Drop>(
 {
     let mut eyes = Vec::new(alloc);
     for _ in 0..places {
-        // Nothing tells a place that isn't free from a count of owners that is full.
+        // The two reasons for a refusal look the same here: no place is free, or the count of owners is full.
         let Ok(reader) = handle.handle() else {
             return Err(Fault::NoPlace);
         };

@@ -20,7 +20,7 @@ use std::sync::Wait;
 use tally_word::{HistoryFront, Naming};
 use tiles::Have;
 
-/// Reads what is published: contracts see the list of updates that it knows.
+/// Reads what is published. Contracts see the list of updates that it knows.
 #[derive(Drop)]
 pub struct Eye<J: Naming> {
     reader: ReadHandle<Published<J>>,
@@ -59,16 +59,18 @@ impl<J: Naming> Eye<J> {
         self.number
     }
 
-    /// All that it knows but the last update was raised, and so is published.
+    /// It does nothing. Its clause says that all updates that it knows, but for the last, were raised and so are
+    /// published.
     pub fn is_published(&self)
         ensures { ArePublished J.published (length self.now - 1) self.now }
     {
-        // Both do nothing. Their clauses say what the front's type keeps, which the proof needs here.
+        // Both calls do nothing. Their clauses say what the front's type keeps, which the proof needs here.
         self.front.is_legal();
         self.front.is_backed();
     }
 
-    /// It knows the longer of its list and the one that was told from now on. Each of the two begins that.
+    /// From now on it knows the longer of two lists: its own, and the one that the news tells. Each of the two begins
+    /// that.
     pub fn learn(&mut self, news: &PairNews<J>)
         ensures one { (self.new ≡ self.old) ⊎ (self.new ≡ news.now) }
         ensures mine { Begins self.old self.new }
@@ -77,7 +79,7 @@ impl<J: Naming> Eye<J> {
         self.learn_first(&news.front, news.number);
     }
 
-    /// The same with what the publisher has published.
+    /// Learns what the publisher has published, as `learn` does.
     pub fn meet<R: Wait + Drop>(&mut self, writer: &PairWriter<J, R>)
     where
         J: Publishes,
@@ -88,7 +90,7 @@ impl<J: Naming> Eye<J> {
         self.learn(&writer.news());
     }
 
-    /// The same with the first `number` updates of a beginning of the history.
+    /// Learns the first `number` updates of a beginning of the history, as `learn` does.
     pub fn learn_first(&mut self, front: &HistoryFront<J>, number: u64)
         requires { number ≤ length (puts_of front.now) }
         ensures one { (self.new ≡ self.old) ⊎ (self.new ≡ take number (puts_of front.now)) }
@@ -104,8 +106,8 @@ impl<J: Naming> Eye<J> {
         }
     }
 
-    /// What the published updates show, and how many they are: it knows them from now on. It takes no memory, and fails
-    /// where the publisher has ended (`Gone`); then it is as it was, and so is the cut.
+    /// Fills the cut with what the published updates show, and answers how many they are. From now on it knows them. It
+    /// takes no memory. It fails where the publisher has ended (`Gone`); then eye and cut are as they were.
     pub fn cut(&mut self, area: &Rect, have: &Have, into: &mut Cut) -> Result<u64, Fault>
         requires within { IsWithin area.now J.width J.height }
         requires screen { (have.now.width ≡ J.width) × (have.now.height ≡ J.height) }
@@ -134,7 +136,7 @@ impl<J: Naming> Eye<J> {
         Ok(number)
     }
 
-    /// How many updates are published: it knows them from now on. It fails where the publisher has ended (`Gone`); then
+    /// How many updates are published. From now on it knows them. It fails where the publisher has ended (`Gone`); then
     /// it is as it was.
     pub fn look(&mut self) -> Result<u64, Fault>
         ensures grows { IfOk result (λ n. Begins self.old self.new × (n ≡ length self.new)) }

@@ -1,4 +1,4 @@
-//! A screen that one thread publishes and others read: a pair of boards, of which readers see the one and the publisher
+//! A screen that one thread publishes and others read: a pair of boards. Readers see one of them while the publisher
 //! changes the other.
 //!
 //! `pair` takes memory, and fails where it is refused (`Memory`) or where no place for a reader is left (`NoPlace`).

@@ -19,8 +19,8 @@ use std::sync::Arc;
 use tally_word::{Change, HistoryFront, Naming};
 use tiles::Have;
 
-/// A copy of the screen: contracts see the history that it stands for. That its board is the one of that history's
-/// updates is part of its type, so whoever may enter a copy knows it.
+/// A copy of the screen. Contracts see the history that it stands for. Its type says that its board is the one of that
+/// history's updates, so this is known wherever a copy is entered.
 #[derive(Drop)]
 pub struct Published<J: Naming> {
     board: Shown,
@@ -101,7 +101,7 @@ impl<J: Naming> Published<J> {
         self.front.again()
     }
 
-    /// Keeps what it shows in a cut. It takes no memory.
+    /// Fills a cut with what it shows. It takes no memory.
     pub(crate) fn show(&self, area: &Rect, have: &Have, into: &mut Cut)
         requires within { IsWithin area.now J.width J.height }
         requires size { (have.now.width ≡ J.width) × (have.now.height ≡ J.height) }

@@ -10,10 +10,10 @@ use std::marker::Brand;
 use std::sync::Wait;
 use tally_word::{Naming, Publicity};
 
-/// Knows which updates are published: those that a pair has published. A body that is generic over the name learns so of
-/// no others, since this call alone says it of any.
+/// A name by which updates count as published where a pair has published them. A body that is generic over the name
+/// learns this of no other updates, since only this call says it.
 pub trait Publishes: Publicity {
-    /// What this pair has published is published. Nothing is done.
+    /// It does nothing. Its clause says that what this pair has published is published.
     fn known_by<J: Naming, R: Wait + Drop>(handle: &WriteHandle<Published<J>, Stamped<J>, R>)
         ensures { Self.published (puts_of (published handle.now)) };
 }

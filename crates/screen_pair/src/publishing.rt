@@ -1,5 +1,5 @@
-//! How a publisher changes the copies. One that raises the tally too keeps the pair's handle itself, so these are
-//! functions of the handle.
+//! How a publisher changes the copies. These are functions of the pair's handle, since a publisher that also raises the
+//! tally keeps that handle itself.
 
 ghost use Rattle.std.specs.Prelude.{◌≡◌, ◌^◌, ◌<◌, ◌≤◌, [], length, suc, IfOk, IfErr, MatchResult};
 ghost use Rattle.left_right.specs.Handles.{published, pending};
@@ -32,7 +32,8 @@ pub fn opened<J: Naming, R: Wait + Drop>(
     let first = Published::new(alloc, opening)?;
     let second = Published::new(alloc, opening)?;
     let mut handle = WriteHandle::new(alloc, rt, first, second, places)?;
-    // An operation that no copy follows. Its room stays, so that none is refused after a change of the history.
+    // An operation that changes no copy. Its room stays, so that no operation is refused room once the history has
+    // changed.
     let Some(nothing) = opening.another() else {
         return Err(Fault::Memory);
     };
@@ -43,8 +44,8 @@ pub fn opened<J: Naming, R: Wait + Drop>(
     Ok(handle)
 }
 
-/// Publishes a board, whose history goes one update further. It may wait for a reader that is still inside the copy from
-/// before the last call. Where memory is refused (`Memory`) readers see what they saw.
+/// Publishes a board whose history has one update more. It may wait for a reader that is still inside the copy from
+/// before the last call. Where memory is refused (`Memory`) readers see what they saw before.
 pub fn publish<J: Naming, R: Wait + Drop>(
     handle: &mut WriteHandle<Published<J>, Stamped<J>, R>,
     next: Stamped<J>,
@@ -61,7 +62,7 @@ pub fn publish<J: Naming, R: Wait + Drop>(
     Ok(())
 }
 
-/// News of what is published.
+/// Makes news of what is published.
 pub fn news_of<J: Naming + Publishes, R: Wait + Drop>(
     handle: &WriteHandle<Published<J>, Stamped<J>, R>,
 ) -> PairNews<J>

@@ -1,4 +1,4 @@
-//! Boards of earlier updates, of which one that nobody reads any more becomes the next.
+//! Boards of earlier updates. One that nobody reads any more is used for the next update.
 
 ghost use Rattle.std.specs.Prelude.{◌≡◌, ◌<◌, ◌^◌, [], length, IfOk, IfErr, IfSome};
 ghost use Rattle.std.specs.Arc.{arc_value};
@@ -16,10 +16,10 @@ use std::marker::Model;
 use std::sync::Arc;
 use tally_word::{HistoryFront, Naming};
 
-/// How many boards that nobody else has are kept for later puts.
+/// How many free boards, which nobody else has, are kept for later puts.
 const MOST_FREE: usize = 4;
 
-/// Boards that readers have, or had, and how many more may be made: contracts see how many there may be in all.
+/// Boards that readers have or had, and how many more may be made. Contracts see how many there may be in all.
 #[derive(Drop)]
 pub struct Spares<J: Naming> {
     boards: Vec<Stamped<J>>,
@@ -42,7 +42,7 @@ impl<J: Naming> Model for Spares<J> {
     ghost invariant = { λ s. (vec_len s.boards + s.left ≤ s.most) × IsScreenSize s.width s.height × (s.width ≡ J.width) × (s.height ≡ J.height) × (s.opening ≡ []) };
 }
 
-/// Where the newest of the boards stands that nobody else has: it lacks least of what is published.
+/// The index of the newest board that nobody else has: it lacks the fewest of the published updates.
 fn newest_free<J: Naming>(boards: &[Stamped<J>]) -> Option<usize>
     ensures { IfSome result (λ at. at < length boards.now) }
 {
@@ -57,7 +57,7 @@ fn newest_free<J: Naming>(boards: &[Stamped<J>]) -> Option<usize>
     found
 }
 
-/// Where a board stands that nobody else has, if there are more of them than are kept.
+/// The index of a board that nobody else has, if there are more such boards than are kept.
 fn one_too_many<J: Naming>(boards: &[Stamped<J>]) -> Option<usize>
     ensures { IfSome result (λ at. at < length boards.now) }
 {
@@ -74,8 +74,8 @@ fn one_too_many<J: Naming>(boards: &[Stamped<J>]) -> Option<usize>
 }
 
 impl<J: Naming> Spares<J> {
-    /// The board of an opening screen of `width` by `height` pixels, and at most so many in all. It fails where memory is
-    /// refused (`Memory`).
+    /// Spares with the board of an opening screen of `width` by `height` pixels, for at most this many boards in all.
+    /// It fails where memory is refused (`Memory`).
     pub fn new(
         alloc: Global,
         width: u64,
@@ -103,7 +103,7 @@ impl<J: Naming> Spares<J> {
         })
     }
 
-    /// Lets go of a board that nobody else has, where there are more of them than are kept.
+    /// Lets go of a board that nobody else has, where there are more such boards than are kept.
     fn let_go(&mut self)
         ensures { self.new ≡ self.old }
     {
@@ -114,8 +114,8 @@ impl<J: Naming> Spares<J> {
         }
     }
 
-    /// Keeps a board as one that may become free. Its room was taken where this was made; it is no loss where one more
-    /// owner is refused.
+    /// Keeps a board that may become free later. Room for it was taken when the spares were made. Where one more owner
+    /// of it is refused it isn't kept, which does no harm.
     pub fn keep(&mut self, board: &Stamped<J>)
         ensures { self.new ≡ self.old }
     {
@@ -128,8 +128,8 @@ impl<J: Naming> Spares<J> {
         }
     }
 
-    /// A board that nobody else has: of those that are free the newest, or else an opening screen. It fails where there
-    /// are as many as there may be and none is free, or memory is refused (`Memory`).
+    /// A board that nobody else has: the newest free one, or else an opening screen. It fails (`Memory`) where there
+    /// are as many boards as there may be and none is free, or where memory is refused.
     fn taken(&mut self) -> Result<Stamped<J>, Fault>
         ensures same { self.new ≡ self.old }
         ensures err { IfErr result (λ fault. fault ≡ Memory) }
@@ -145,9 +145,9 @@ impl<J: Naming> Spares<J> {
         Ok(opening)
     }
 
-    /// A board that nobody else has, of what the newest shows and one update more, which keeps the forms of the tiles that
-    /// change or not (`painter::Board::catch_up`). It fails where memory is refused (`Memory`), as it is where all boards
-    /// that there may be are read.
+    /// A board that nobody else has and that shows what the newest shows and one update more. `keeps` says whether it
+    /// keeps forms of the tiles that change (`painter::Board::catch_up`). It fails (`Memory`) where memory is refused,
+    /// or where every board that there may be is being read.
     pub fn next(
         &mut self,
         newest: &Published<J>,

@@ -21,7 +21,7 @@ use std::marker::Model;
 use std::sync::Wait;
 use tally_word::{Change, HistoryFront, Naming, Raiser};
 
-/// Publishes updates: contracts see the list of those that are published.
+/// Publishes updates. Contracts see the list of published updates.
 #[derive(Drop)]
 pub struct PairWriter<J: Naming, R: Wait + Drop>
 where
@@ -49,8 +49,8 @@ where
     ghost invariant = { λ w. (pending w.handle ≡ []) × Begins (published w.handle) w.raiser };
 }
 
-/// Sees that the tally stands at the number of updates that are published: where the last of them isn't raised, it is.
-/// It says whether these are all updates: not where an earlier publish was refused.
+/// Raises the tally to the number of published updates, unless it stands there. It answers whether these are all
+/// updates, which they aren't where an earlier publish was refused.
 fn catch_up<J: Naming>(raiser: &mut Raiser<J>, shown: &HistoryFront<J>, number: u64) -> bool
     requires begins { Begins shown.now raiser.old }
     requires count { (number ≡ length (puts_of shown.now)) × (number < 2 ^ 62) }
@@ -59,7 +59,8 @@ fn catch_up<J: Naming>(raiser: &mut Raiser<J>, shown: &HistoryFront<J>, number: 
     ensures count { IsTrue result → length raiser.new ≡ 2 * number }
 {
     let changes = raiser.changes();
-    // It does nothing. Its clause says that puts and raises take turns, so that their number is that of the updates.
+    // This call does nothing. Its clause says that puts and raises take turns, so the number of changes tells that of
+    // the updates.
     raiser.is_legal();
     if changes == 2 * number {
         return true;
@@ -88,7 +89,7 @@ impl<J: Naming, R: Wait + Drop> PairWriter<J, R> {
         }
     }
 
-    /// News of what is published.
+    /// Makes news of what is published.
     pub fn news(&self) -> PairNews<J>
     where
         J: Publishes,
@@ -110,7 +111,7 @@ impl<J: Naming + Publishes, R: Wait + Drop> Puts for PairWriter<J, R> {
 
     ghost height = { λ w. J.height };
 
-    /// It may wait for an eye that is still inside the copy from before the last put.
+    /// Puts an update and publishes it. It may wait for an eye that is still inside the copy from before the last put.
     fn put(&mut self, patch: Patch) -> Result<u64, (Fault, Patch)>
         requires { (patch.width ≡ J.width) × (patch.height ≡ J.height) }
         ensures ok { IfOk result (λ n. (length self.old < 2 ^ 62) × (self.new ≡ self.old ++ patch.update ∷ []) × (n ≡ length self.new)) }
@@ -123,15 +124,15 @@ impl<J: Naming + Publishes, R: Wait + Drop> Puts for PairWriter<J, R> {
         }
         let front = copy.front();
         J::known_by(&self.handle);
-        // An update that was refused its publish stays the last of the history.
+        // An update whose publish was refused stays the last one of the history.
         if !catch_up(&mut self.raiser, &front, number) {
             return Err((Fault::Memory, patch));
         }
-        // All that may be refused memory comes first, but for the entry of the operation, whose room is kept.
+        // Everything that may be refused memory comes first, except the entry of the operation, whose room is kept.
         let Ok(board) = self.spares.next(self.handle.published(), &patch, false) else {
             return Err((Fault::Memory, patch));
         };
-        // It does nothing. Its clause says that puts and raises take turns, so that a put may follow.
+        // This call does nothing. Its clause says that puts and raises take turns, so a put may follow.
         self.raiser.is_legal();
         self.raiser.put(&patch);
         let next = Stamped::new(board, number + 1, self.raiser.front());

@@ -1,30 +1,30 @@
-//! Whether forms of tiles are worth their making. No clause rests on it.
+//! Whether it is worth making forms of tiles. No clause rests on it.
 
 use std::alloc::Global;
 use std::sync::Arc;
 use std::sync::atomic::{AtomicBool, AtomicUsize, Ordering};
 
-/// Of how many watchers forms of tiles are wanted.
+/// Counts the watchers for which forms of tiles are wanted.
 #[derive(Drop)]
 pub(crate) struct FormDemand {
     watchers: AtomicUsize,
 }
 
 impl FormDemand {
-    /// Of none.
+    /// A demand of no watcher.
     pub(crate) fn new() -> FormDemand {
         FormDemand {
             watchers: AtomicUsize::new(0),
         }
     }
 
-    /// Whether two watchers or more would share a form. One alone makes it as quickly where it writes.
+    /// Whether two watchers or more would share a form. A single one makes the form as quickly itself, as it writes.
     pub(crate) fn is_shared(&self) -> bool {
         self.watchers.load(Ordering::SeqCst) > 1
     }
 }
 
-/// What one watcher adds to the demand: one, or nothing.
+/// What one watcher adds to the demand: one, where forms are wanted for it, or nothing.
 #[derive(Drop)]
 pub(crate) struct FormClaim {
     demand: Arc<FormDemand, Global>,
@@ -32,7 +32,7 @@ pub(crate) struct FormClaim {
 }
 
 impl FormClaim {
-    /// Nothing yet.
+    /// A claim that adds nothing yet.
     pub(crate) fn new(demand: Arc<FormDemand, Global>) -> FormClaim {
         FormClaim {
             demand,
@@ -40,7 +40,7 @@ impl FormClaim {
         }
     }
 
-    /// Forms are wanted of its watcher from now on, or aren't.
+    /// Notes whether forms are wanted for its watcher from now on.
     pub(crate) fn set(&self, wants: bool) {
         if self.is_made.load(Ordering::SeqCst) == wants {
             return;

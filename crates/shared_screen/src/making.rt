@@ -13,7 +13,7 @@ use std::alloc::Global;
 use std::sync::{Arc, Wait};
 use tally_word::{Glance, Naming, Opened, tally};
 
-/// Makes a watcher of each eye.
+/// Makes one watcher from each eye.
 fn watchers<J: Naming>(
     alloc: Global,
     width: u64,
@@ -36,7 +36,7 @@ fn watchers<J: Naming>(
     Ok(made)
 }
 
-/// A publisher and a watcher for each of `places`, over an opening screen of `width` by `height` pixels, of a history
+/// A publisher, and a watcher for each of `places`, over an opening screen of `width` by `height` pixels and a history
 /// without a change. It fails where memory is refused (`Memory`) or no place for a reader is left (`NoPlace`).
 pub fn shared<J: Naming, R: Wait + Drop + Copy>(
     rt: R,

@@ -1,11 +1,11 @@
-//! The news of a publisher: what it had put when it told.
+//! The news of a publisher.
 
 use screen_pair::PairNews;
 use std::marker::Model;
 use tally_word::{Naming, TallyNews};
 
-/// What the publisher had put when it told: contracts see the updates, and the tally, which is raised to their number.
-/// It may be read by many.
+/// What the publisher had put when it made the news. Contracts see the updates, and the tally, which is raised to their
+/// number. Any number of threads may read it.
 #[derive(Drop)]
 pub struct News<J: Naming> {
     pub(crate) pair: PairNews<J>,

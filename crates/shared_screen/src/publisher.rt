@@ -17,7 +17,7 @@ use std::marker::Model;
 use std::sync::{Arc, Wait};
 use tally_word::{Change, HistoryFront, Naming, Raiser};
 
-/// Puts updates, and raises the tally after each: contracts see its history, all that was put and raised.
+/// Puts updates, and raises the tally after each. Contracts see its history: all that was put and raised.
 #[derive(Drop)]
 pub struct Publisher<J: Naming, R: Wait + Drop>
 where
@@ -68,7 +68,7 @@ impl<J: Naming, R: Wait + Drop> Publisher<J, R> {
         }
     }
 
-    /// News of all that was put; the tally is raised to it.
+    /// Makes news of all that was put, to which the tally is raised.
     pub fn news(&self) -> News<J>
     where
         J: Publishes,
@@ -105,13 +105,13 @@ impl<J: Naming + Publishes, R: Wait + Drop> Puts for Publisher<J, R> {
         if number >= LIMIT {
             return Err((Fault::NumbersOut, patch));
         }
-        // It does nothing. Its clause says that puts and raises take turns.
+        // This call does nothing. Its clause says that puts and raises take turns.
         self.front.is_legal();
-        // An update that was refused its publish stays the last of the history.
+        // An update whose publish was refused stays the last one of the history.
         if self.raiser.changes() != 2 * number {
             return Err((Fault::Memory, patch));
         }
-        // All that may be refused memory comes first, but for the entry of the operation, whose room is kept.
+        // Everything that may be refused memory comes first, except the entry of the operation, whose room is kept.
         let keeps = self.demand.is_shared();
         let Ok(board) = self.spares.next(self.handle.published(), &patch, keeps) else {
             return Err((Fault::Memory, patch));

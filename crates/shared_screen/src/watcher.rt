@@ -22,15 +22,15 @@ use std::sync::Wait;
 use tally_word::{Glance, Naming};
 use tiles::Have;
 
-/// Looks at the tally without entering a copy, and cuts: contracts see a state of the sequential screen, the updates
-/// that it knows and the tally.
+/// Looks at the tally without entering a copy, and cuts. Contracts see a state of the sequential screen: the updates
+/// that the watcher knows, and the tally.
 #[derive(Drop)]
 pub struct Watcher<J: Naming> {
     width: u64,
     height: u64,
     eye: Eye<J>,
     glance: Glance<J>,
-    // The greatest tally that it looked at or was told, and the number of its last cut.
+    // The greatest tally that it has seen or was told, and the number of its last cut.
     told: u64,
     last: u64,
     claim: FormClaim,
@@ -49,7 +49,7 @@ impl<J: Naming> Model for Watcher<J> {
 }
 
 impl<J: Naming> Watcher<J> {
-    /// It knows no update, and its tally is 0.
+    /// A watcher that knows no update, and whose tally is 0.
     pub(crate) fn new(
         width: u64,
         height: u64,
@@ -71,8 +71,8 @@ impl<J: Naming> Watcher<J> {
         }
     }
 
-    /// It knows the longer of its list and the one that was told from now on. Each of the two begins that; and each
-    /// later look is at least the tally told.
+    /// From now on it knows the longer of two lists: its own, and the one that the news tells. Each of the two begins
+    /// that. Each later look answers at least the tally that the news tells.
     pub fn learn(&mut self, news: &News<J>)
         ensures one { (self.new.updates ≡ self.old.updates) ⊎ (self.new.updates ≡ news.now.updates) }
         ensures mine { Begins self.old.updates self.new.updates }
@@ -85,7 +85,7 @@ impl<J: Naming> Watcher<J> {
         self.told = self.told.max(news.pair.number());
     }
 
-    /// The same with all that the publisher has put.
+    /// Learns all that the publisher has put, as `learn` does.
     pub fn meet<R: Wait + Drop>(&mut self, publisher: &Publisher<J, R>)
     where
         J: Publishes,
@@ -118,8 +118,8 @@ impl<J: Naming> ScreenSource for Watcher<J> {
         (self.width, self.height)
     }
 
-    /// One load: it enters no copy. It answers the greater of the number raised last and the number of its last cut
-    /// less one. So many updates are published.
+    /// Looks by one load, without entering a copy. It answers the number raised last or the number of its last cut less
+    /// one, whichever is greater. That many updates are published.
     fn look(&mut self) -> u64
         ensures reply { result ≡ self.new.tally }
         ensures rises { self.old.tally ≤ result }
@@ -130,7 +130,7 @@ impl<J: Naming> ScreenSource for Watcher<J> {
     {
         let number = self.glance.look();
         let front = self.glance.front();
-        // This and `is_published` do nothing. Their clauses say what their types keep, which the proof needs here.
+        // This call and `is_published` do nothing. Their clauses say what their types keep, which the proof needs here.
         front.is_legal();
         self.eye.learn_first(&front, number);
         self.eye.is_published();
@@ -154,7 +154,8 @@ impl<J: Naming> ScreenSource for Watcher<J> {
         Ok(number)
     }
 
-    /// Where forms are wanted of two watchers or more, the publisher has them made of what changes.
+    /// Notes whether forms are wanted for this watcher. Where two watchers or more want them, the publisher has forms
+    /// made of the tiles that change.
     fn want_forms(&self, wants: bool) {
         self.claim.set(wants);
     }

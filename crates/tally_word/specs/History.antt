@@ -32,7 +32,7 @@ TakeTurns n t [] = Unit {0}
 TakeTurns n t (Put u ∷ cs) = (t ≡ n) × TakeTurns (suc n) t cs
 TakeTurns n t (Raise m ∷ cs) = (n ≡ suc t) × (m ≡ n) × TakeTurns n m cs
 
--- That, from the beginning (own).
+-- Puts and raises take turns from the beginning on (own).
 abbrev pub IsLegal : List Change → Type 0
 IsLegal cs = TakeTurns 0 0 cs
 

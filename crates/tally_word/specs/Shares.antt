@@ -1,5 +1,5 @@
--- The two shares of the number of changes: the rule has the one, and the only end that changes the history the other.
--- The number moves only where the two come together, so that end knows it.
+-- The two shares of the number of changes. The rule has one, and the author, the only end that changes the history, has
+-- the other. The number changes only where both come together, so the author always knows it.
 use Rattle.std.specs.Prelude.{◌≡◌, ℕ, Bool, true, false, List, [], ◌∷◌, length}
 use base.Fml.{Fml, ftrue, fsep}
 use base.Share.{quarter, three_quarters}
@@ -15,7 +15,7 @@ name_of (n ∷ ns) = n
 abbrev pub kept : List ℕ → List Change → Fml
 kept names log = part (name_of names) 0 quarter (length log)
 
--- The other, where it isn't in an offer.
+-- The author's share, where it isn't in an offer.
 abbrev pub holding : List ℕ → Bool → ℕ → Fml
 holding names true n = part (name_of names) 0 three_quarters n
 holding names false n = ftrue
@@ -24,6 +24,6 @@ holding names false n = ftrue
 abbrev pub IsMove : List Change → List Change → ℕ × ℕ → Type 0
 IsMove before after answer = answer ≡ (length before, length after)
 
--- What comes back: there were as many changes as were known, and the share is of the number now.
+-- What comes back from an offer: there were as many changes as were known, and the share is now one of the new number.
 abbrev pub turned : List ℕ → List Change → ℕ × ℕ → Fml
 turned names known answer = fsep (fact (answer.0 ≡ length known)) (holding names true answer.1)

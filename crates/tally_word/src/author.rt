@@ -13,7 +13,7 @@ use logbook::{Offer, Seen};
 use painter::Patch;
 use std::marker::{Model, PhantomData};
 
-/// The only end that changes a history, so it knows all of it, and no change fails: contracts see the changes.
+/// The only end that changes a history. So it knows the whole history, and no change fails. Contracts see the changes.
 #[derive(Drop)]
 pub struct Author<J: Naming> {
     pub(crate) changes: u64,
@@ -52,7 +52,7 @@ impl<J: Naming> Author<J> {
         self.changes
     }
 
-    /// Adds the change that is asked for, by one exchange.
+    /// Adds this change to the history, by one exchange.
     fn add(
         &mut self,
         change_count: &ChangeCount<J>,
@@ -85,7 +85,7 @@ impl<J: Naming> Author<J> {
         self.add(change_count, &asked);
     }
 
-    /// Raises the tally to the number of the updates, all of which are published, by one exchange.
+    /// Raises the tally to the number of updates, by one exchange. All of them have to be published.
     pub fn raise(&mut self, change_count: &ChangeCount<J>, number: u64)
         requires published { J.published (puts_of self.old) }
         requires few { length self.old < 2 ^ 63 }

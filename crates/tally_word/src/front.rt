@@ -1,4 +1,4 @@
-//! What was seen of the history.
+//! What an end has seen of the history.
 
 ghost use Rattle.std.specs.Prelude.{◌≡◌, length};
 ghost use Rattle.reflect_core.specs.Sequential.{Begins};
@@ -12,7 +12,7 @@ use crate::news::TallyNews;
 use logbook::{Offer, Seen};
 use std::marker::{Model, PhantomData};
 
-/// A beginning of the history, which was seen: contracts see its changes. It has no bytes.
+/// A beginning of the history that somebody has seen. Contracts see its changes. At run time it has no bytes.
 #[derive(Drop)]
 pub struct HistoryFront<J: Naming> {
     pub(crate) seen: Seen<Change, (u64, u64), Law<J>>,
@@ -32,7 +32,7 @@ impl<J: Naming> Model for HistoryFront<J> {
 }
 
 impl<J: Naming> HistoryFront<J> {
-    /// A second one, which knows the same.
+    /// A second front, which knows the same.
     pub fn again(&self) -> HistoryFront<J>
         ensures { result ≡ self.now }
     {
@@ -50,23 +50,24 @@ impl<J: Naming> HistoryFront<J> {
         self.seen.learn(&other.seen);
     }
 
-    /// It does nothing. Its clause says that the changes are legal, for proofs of callers.
+    /// It does nothing. Its clause tells callers' proofs that the changes are legal.
     pub fn is_legal(&self)
         ensures { IsLegal self.now }
     {
-        // Nothing to do: what was seen is legal by the type's invariant. A body that names a field has it at hand.
+        // There is nothing to do: what was seen is legal by the type's invariant, which the proof has once the body
+        // names a field.
         let _ = &self.seen;
     }
 
-    /// It does nothing. Its clause says that the updates up to the tally are published, for proofs of callers.
+    /// It does nothing. Its clause tells callers' proofs that the updates up to the tally are published.
     pub fn is_backed(&self)
         ensures { IsBacked J.published self.now }
     {
-        // As in `is_legal`: the type's invariant is at hand where a field is named.
+        // As in `is_legal`: the proof has the type's invariant once the body names a field.
         let _ = &self.seen;
     }
 
-    /// News of what is known.
+    /// Makes news of what this front knows.
     pub fn news(&self) -> TallyNews<J>
         ensures { result ≡ self.now }
     {
@@ -75,7 +76,7 @@ impl<J: Naming> HistoryFront<J> {
         }
     }
 
-    /// All changes so far are known from now on: one load, which answers how many they are.
+    /// Learns all changes made so far, by one load, and answers how many there are.
     pub fn look(&mut self, change_count: &ChangeCount<J>) -> u64
         ensures grows { Begins self.old self.new }
         ensures count { result ≡ length self.new }

@@ -1,4 +1,4 @@
-//! The share of the number of changes that the end which changes the history has. These functions are proved by hand.
+//! The author's share of the number of changes. The functions here are proved by hand.
 
 ghost use Rattle.std.specs.Prelude.{◌≡◌, ℕ, Bool, true, false, List, None, length, []};
 ghost use Rattle.tally_word.specs.Shares.{holding};
@@ -9,7 +9,7 @@ use crate::naming::Publicity;
 use logbook::{Gained, Offer, Start};
 use std::marker::{Model, PhantomData};
 
-/// The share, or none of it while it is in an offer. It has no bytes.
+/// The share, or nothing while the share is in an offer. At run time it has no bytes.
 pub(crate) struct Half {
     marker: PhantomData<()>,
     pub ghost names: { List ℕ },
@@ -21,7 +21,7 @@ impl Model for Half {
     ghost also_owns = { λ h. holding h.names h.here h.number };
 }
 
-/// The rule's share and the other, of a history without a change.
+/// The rule's share and the author's, of a history without a change.
 pub(crate) fn begin<P: Publicity>() -> (Start<Change, (u64, u64), Law<P>>, Half)
     ensures { (result.0.shown ≡ []) × (result.1.names ≡ result.0.names) × (result.1.here ≡ true) × (result.1.number ≡ 0) }
 {
@@ -36,7 +36,7 @@ pub(crate) fn begin<P: Publicity>() -> (Start<Change, (u64, u64), Law<P>>, Half)
 }
 
 impl Half {
-    /// An offer that trades the share, and asks for the same change.
+    /// The same offer, which now trades the share and asks for the same change.
     pub fn offered<P: Publicity>(
         &mut self,
         asked: &Offer<Change, (u64, u64), Law<P>, Nothing>,
@@ -49,7 +49,7 @@ impl Half {
         }
     }
 
-    /// The share is back. There were as many changes as it told.
+    /// The share comes back from an offer. There were as many changes as the share said.
     pub fn back(&mut self, gained: Gained<Change, (u64, u64), Turn>)
         requires { gained.names ≡ self.old.names }
         ensures { (self.new.names ≡ self.old.names) × (self.new.here ≡ true) × (self.new.number ≡ gained.answer.1) × (gained.answer.0 ≡ length gained.about) }

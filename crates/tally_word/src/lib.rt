@@ -1,8 +1,8 @@
-//! The history of a shared screen, and its tally: a list of changes, which contracts alone see, and one word that
-//! threads share, the number of changes.
+//! The history of a shared screen, and its tally: a list of changes, which only contracts see, and the number of these
+//! changes, which is one word that threads share.
 //!
-//! An end knows a beginning of the history. Looking is one load, putting and raising are one exchange; none of them
-//! waits, and none takes memory. A call that makes an end may be refused it (`Memory`). No handle is needed.
+//! Each end knows a beginning of the history. A look is one load; a put or a raise is one exchange. None of them waits
+//! or takes memory. A call that makes an end may be refused memory (`Memory`). No handle is needed.
 #![tactic(auto)]
 
 mod author;

@@ -7,18 +7,18 @@ pub trait Publicity {
     ghost use Rattle.std.specs.Prelude.{List};
     ghost use Rattle.raster.specs.Update.{Update};
 
-    /// That these updates are published. What that means is up to each name, so a body that is generic over the name
-    /// has such a fact only from who told it.
+    /// The fact that these updates are published. Each name decides what that means, so a body that is generic over the
+    /// name has such a fact only where another call has told it.
     ghost published: { List Update → Type 0 };
 }
 
 impl Publicity for Brand {
-    // Nothing rests on what it is here: what needs such a fact is generic.
+    // Nothing rests on what this fact is here, since each body that needs it is generic.
     ghost published = { λ us. Unit {0} };
 }
 
-/// Names a history and the size of its screen. It is a parameter of all its ends, so that these are known to belong to
-/// one history. No value of it is made; a program picks it once.
+/// Names a history and the size of its screen. It is a type parameter of all ends, which are so known to belong to one
+/// history. No value of it is ever made; a program picks it once.
 pub trait Naming: Publicity {
     ghost use Rattle.std.specs.Prelude.{ℕ};
     ghost use Rattle.logbook.specs.Pages.{Book};

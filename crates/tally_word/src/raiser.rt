@@ -16,7 +16,7 @@ use std::alloc::Global;
 use std::marker::Model;
 use std::sync::Arc;
 
-/// Puts updates, and raises the tally: contracts see all changes. There is one of a history.
+/// Puts updates, and raises the tally. Contracts see all changes. A history has one raiser.
 #[derive(Drop)]
 pub struct Raiser<J: Naming> {
     change_count: Arc<ChangeCount<J>, Global>,
@@ -60,7 +60,7 @@ impl<J: Naming> Raiser<J> {
         self.author.front()
     }
 
-    /// It does nothing. Its clause says that the changes are legal, for proofs of callers.
+    /// It does nothing. Its clause tells callers' proofs that the changes are legal.
     pub fn is_legal(&self)
         ensures { IsLegal self.now }
     {
@@ -74,7 +74,7 @@ impl<J: Naming> Raiser<J> {
         self.author.changes()
     }
 
-    /// Puts a patch's update, where all before it were raised. It always does.
+    /// Puts a patch's update. All updates before it have to be raised. It always succeeds.
     pub fn put(&mut self, patch: &Patch)
         requires few { length self.old < 2 ^ 63 }
         requires raised { tally_of self.old ≡ length (puts_of self.old) }
@@ -83,8 +83,8 @@ impl<J: Naming> Raiser<J> {
         self.author.put(&self.change_count, patch);
     }
 
-    /// Raises the tally to the number of the updates, of which one was put since the last raise, and all of which are
-    /// published. It always does.
+    /// Raises the tally to the number of updates. One of them has to be put since the last raise, and all of them
+    /// published. It always succeeds.
     pub fn raise(&mut self, number: u64)
         requires published { J.published (puts_of self.old) }
         requires few { length self.old < 2 ^ 63 }
@@ -94,7 +94,7 @@ impl<J: Naming> Raiser<J> {
         self.author.raise(&self.change_count, number);
     }
 
-    /// News of what it knows.
+    /// Makes news of what it knows.
     pub fn news(&self) -> TallyNews<J>
         ensures { result ≡ self.now }
     {

@@ -16,21 +16,21 @@ pub record IsPart (w h : ℕ) (r : Rect) : Type 0 where
 abbrev pub some_holds : List Rect → ℕ → ℕ → Bool
 some_holds rs x y = list_any (λ r. holds r x y) rs
 
--- These rectangles hold exactly the positions of an area whose tile is due; each is a part of the screen; and a
--- FramebufferUpdate, which counts its rectangles in 16 bits, can bring them all.
+-- These rectangles hold exactly the positions of an area that lie in due tiles. Each is a part of the screen. There are
+-- few enough for a FramebufferUpdate, which counts its rectangles in 16 bits.
 pub record BringTheDue (w h : ℕ) (area : Rect) (due : ℕ → Bool) (rs : List Rect) : Type 0 where
   pub exactly : (t x y : ℕ) → t < tile_count w h → holds (tile_rect w h t) x y ≡ true → some_holds rs x y ≡ (holds area x y && due t)
   pub parts : All (IsPart w h) rs
   pub few : length rs < 2 ^ 16
 
--- The runs of an area do.
+-- The runs of an area bring exactly what is due.
 abbrev pub RunsBringTheDue : Type 0
 RunsBringTheDue = (w h : ℕ) (area : Rect) (due : ℕ → Bool) → w ≤ 4096 → h ≤ 4096 → IsWithin area w h → BringTheDue w h area due (runs w h area due)
 
--- What no update after the first n touches looks as it did after these.
+-- A rectangle that no update after the first n touches looks as it did after these.
 abbrev pub UntouchedStays : Type 0
 UntouchedStays = (r : Rect) (us : List Update) (n x y : ℕ) → last_touch r us ≤ n → holds r x y ≡ true → screen us x y ≡ screen (take n us) x y
 
--- What was sent at n is due where it was touched after n.
+-- A rectangle that was sent at n is due exactly where it was touched after n.
 abbrev pub DueWhereTouched : Type 0
 DueWhereTouched = (r : Rect) (us : List Update) (n : ℕ) → is_due_since r (Some n) us ≡ nat_lt n (last_touch r us)

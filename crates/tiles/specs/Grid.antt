@@ -15,17 +15,17 @@ pub record Stamps : Type 0 where
 abbrev pub stamp_at : Stamps → ℕ → ℕ
 stamp_at grid t = slice_index grid.stamps t
 
--- It says of each tile what these updates say.
+-- The grid says of each tile what these updates say.
 pub record GridStands (grid : Stamps) (us : List Update) : Type 0 where
   pub each : (t : ℕ) → t < tile_count grid.width grid.height → stamp_at grid t ≡ last_touch (tile_rect grid.width grid.height t) us
 
--- The tiles that a test lets through have this stamp, and all others the one that they had.
+-- The tiles that pass a test have this stamp now, and all others the one that they had.
 pub record IsTouched (passes : ℕ → Bool) (n : ℕ) (old new : Stamps) : Type 0 where
   pub width : new.width ≡ old.width
   pub height : new.height ≡ old.height
   pub each : (t : ℕ) → t < tile_count old.width old.height → stamp_at new t ≡ (if passes t then n else stamp_at old t)
 
--- What was last sent at this number, or never, is due where its stamp is this.
+-- Whether a tile with this stamp is due, where it was last sent at this number, or never.
 abbrev pub is_due_at : Option ℕ → ℕ → Bool
 is_due_at None stamp = true
 is_due_at (Some n) stamp = nat_lt n stamp
@@ -40,11 +40,11 @@ due_at grid have t = is_due_at (sent_at have t) (stamp_at grid t)
 abbrev pub is_newer : Stamps → ℕ → ℕ → Bool
 is_newer grid n t = nat_lt n (stamp_at grid t)
 
--- Tile t was touched after update n by the newer grid, and not by the one that is behind.
+-- By the newer grid tile t was touched after update n, and by the grid that is behind it wasn't.
 abbrev pub is_lacked : Stamps → Stamps → ℕ → ℕ → Bool
 is_lacked grid newer n t = is_newer newer n t && not (is_newer grid n t)
 
--- Each such tile has the newer grid's stamp, and each other tile the one that it had.
+-- Each lacked tile has the newer grid's stamp now, and each other tile the one that it had.
 pub record IsCaughtUp (newer : Stamps) (n : ℕ) (old new : Stamps) : Type 0 where
   pub width : new.width ≡ old.width
   pub height : new.height ≡ old.height

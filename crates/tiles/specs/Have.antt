@@ -9,7 +9,7 @@ pub record SentTiles : Type 0 where
   pub height : ℕ
   pub sent : List (Option ℕ)
 
--- One of several such numbers; past the last there is none.
+-- The number at an index of a list of them, and none past its end.
 abbrev pub entry : List (Option ℕ) → ℕ → Option ℕ
 entry numbers k = unwrap_or (slice_get numbers k) None
 
@@ -17,7 +17,7 @@ entry numbers k = unwrap_or (slice_get numbers k) None
 abbrev pub sent_at : SentTiles → ℕ → Option ℕ
 sent_at have t = entry have.sent t
 
--- It says of each tile what these events say. The latest event stands first.
+-- What is kept says of each tile what these events say. The latest event stands first.
 pub record HaveStands (have : SentTiles) (es : List Event) : Type 0 where
   pub each : (t : ℕ) → t < tile_count have.width have.height → slice_get have.sent t ≡ Some (last_sent (tile_rect have.width have.height t) es)
 
@@ -34,7 +34,7 @@ AtMost None sent = Unit {0}
 AtMost (Some n) None = ⊥
 AtMost (Some n) (Some m) = n ≤ m
 
--- The less of a number that may be none and another: none where it is.
+-- The lesser of two numbers, and none where the first is none.
 abbrev pub lowered : Option ℕ → ℕ → Option ℕ
 lowered None n = None
 lowered (Some m) n = Some (min m n)

@@ -7,7 +7,7 @@ use Rattle.tiles.specs.Brings.{IsPart}
 use Rattle.tiles.specs.declared.walk.Run.{Run}
 use Rattle.raster.specs.declared.tile.TheConstants.{TILE_SIDE}
 
--- The width and height of the screen, the area, and the first tile that the walk hasn't been at (own).
+-- The width and height of the screen, the area, and the first tile that the walk hasn't reached (own).
 pub record Walking : Type 0 where
   pub width : ℕ
   pub height : ℕ
@@ -18,7 +18,7 @@ pub record Walking : Type 0 where
 abbrev pub brings : Walking → (ℕ → Bool) → ℕ → Bool
 brings walk due t = due t && meets walk.area (tile_rect walk.width walk.height t)
 
--- The runs that are left, by which tiles are due: those of the tiles that the walk hasn't been at (own).
+-- The runs that are left where these tiles are due: those of the tiles that the walk hasn't reached (own).
 abbrev pub runs_left : Walking → (ℕ → Bool) → List Rect
 runs_left walk due = runs walk.width walk.height walk.area (λ t. nat_le walk.next t && due t)
 
@@ -26,8 +26,8 @@ runs_left walk due = runs walk.width walk.height walk.area (λ t. nat_le walk.ne
 abbrev pub tiles_rect : ℕ → ℕ → ℕ → Rect
 tiles_rect w t n = record { x = t % tiles_across w * TILE_SIDE; y = t / tiles_across w * TILE_SIDE; w = n * TILE_SIDE; h = TILE_SIDE }
 
--- The first run that is left: tiles of one row, all due; none before them is; and the part of the area that lies in
--- them (own).
+-- The first run that is left: tiles of one row, all of them due, with no due tile left before them; and the part of the
+-- area that lies in them (own).
 pub record IsNextRun (walk : Walking) (due : ℕ → Bool) (run : Run) : Type 0 where
   pub from : walk.next ≤ run.first
   pub some : 0 < run.count
@@ -42,7 +42,7 @@ pub record IsNextRun (walk : Walking) (due : ℕ → Bool) (run : Run) : Type 0 
 abbrev pub IsDone : Walking → (ℕ → Bool) → Type 0
 IsDone walk due = (t : ℕ) → walk.next ≤ t → t < tile_count walk.width walk.height → brings walk due t ≡ false
 
--- The rectangle of a run, and then these; where there is no run, none (own).
+-- The rectangle of a run followed by these rectangles, and none where there is no run (own).
 abbrev pub with_run : Option Run → List Rect → List Rect
 with_run None more = []
 with_run (Some run) more = run.area ∷ more
@@ -55,8 +55,8 @@ pub record IsSameWalk (walk other : Walking) : Type 0 where
 
 -- ---- the search for the next run
 
--- In a row of this many tiles, which begins at the tile first: those from start on, before end, pass, none before them
--- from next on does, and the run goes no further.
+-- In a row of across tiles, which begins at the tile first: the tiles from start on, before end, pass; no tile from
+-- next on before them does; and the run goes no further than end.
 pub record IsRowRun (passes : ℕ → Bool) (first across next start end : ℕ) : Type 0 where
   pub from : next ≤ start
   pub in_row : first ≤ start
@@ -66,7 +66,7 @@ pub record IsRowRun (passes : ℕ → Bool) (first across next start end : ℕ) 
   pub taken : (t : ℕ) → start ≤ t → t < end → passes t ≡ true
   pub stops : (end ≡ first + across) ⊎ ((end < first + across) × (passes end ≡ false))
 
--- The same over several such rows.
+-- The same as IsRowRun over down such rows.
 pub record IsFound (passes : ℕ → Bool) (across down next start end : ℕ) : Type 0 where
   pub row : ℕ
   pub low : row < down
@@ -78,6 +78,6 @@ pub record IsFound (passes : ℕ → Bool) (across down next start end : ℕ) : 
   pub taken : (t : ℕ) → start ≤ t → t < end → passes t ≡ true
   pub stops : (end ≡ row * across + across) ⊎ ((end < row * across + across) × (passes end ≡ false))
 
--- Tile t of rows of this many is due, and its place lies in a rectangle of tiles.
+-- Tile t is due, and lies in this rectangle of tiles, where each row has across tiles.
 abbrev pub is_in : (ℕ → Bool) → Rect → ℕ → ℕ → Bool
 is_in due met across t = due t && holds met (t % across) (t / across)

@@ -13,8 +13,8 @@ use crate::grid::Grid;
 use crate::have::Have;
 use raster::Rect;
 
-/// Whether tile `t` is due for a viewer that has this: it was never sent, or was touched since (RFC 6143, 7.5.3). Both
-/// are of one screen.
+/// Whether tile `t` is due for a viewer that has these tiles: it was never sent, or was touched since it was sent (RFC
+/// 6143, 7.5.3). Grid and `have` have to be of one screen.
 pub fn due(grid: &Grid, have: &Have, t: u64) -> bool
     requires size { (have.now.width ≡ grid.now.width) × (have.now.height ≡ grid.now.height) }
     requires there { t < tile_count grid.now.width grid.now.height }
@@ -27,8 +27,8 @@ pub fn due(grid: &Grid, have: &Have, t: u64) -> bool
     }
 }
 
-/// The rectangles that bring a viewer which has this an area of the screen, in order (RFC 6143, 7.6.1). It takes no
-/// memory.
+/// The rectangles, in order, that bring a viewer an area of the screen, where it has these tiles (RFC 6143, 7.6.1). It
+/// takes no memory.
 pub fn runs<'a>(grid: &'a Grid, area: &Rect, have: &'a Have) -> DueRuns<'a>
     requires size { (have.now.width ≡ grid.now.width) × (have.now.height ≡ grid.now.height) }
     requires within { IsWithin area.now grid.now.width grid.now.height }

@@ -22,7 +22,7 @@ impl<'a> DueRuns<'a> {
     ghost use Rattle.tiles.specs.Runs.{to_come};
     ghost use Rattle.tiles.specs.Touched.{runs};
 
-    /// All runs of an area. Grid and Have are of one screen.
+    /// All runs of an area. Grid and `have` have to be of one screen.
     pub(crate) fn new(grid: &'a Grid, area: &Rect, have: &'a Have) -> Self
         requires size { (have.now.width ≡ grid.now.width) × (have.now.height ≡ grid.now.height) }
         requires within { IsWithin area.now grid.now.width grid.now.height }

@@ -20,7 +20,7 @@ pub struct Grid {
     width: u64,
     height: u64,
     stamps: Vec<u64>,
-    /// Of each row of tiles a number that is at least each of its stamps, so that a row without a due tile is found at
+    /// For each row of tiles a number that is at least each of its stamps, so that a row without a due tile is found at
     /// once.
     greatest: Vec<u64>,
 }
@@ -63,7 +63,7 @@ fn stamp_tiles(stamps: &mut [u64], width: u64, height: u64, tiles: Rect, n: u64)
     }
 }
 
-/// Some rows of tiles now have a tile with this stamp.
+/// Notes that some rows of tiles now have a tile with this stamp.
 fn raise_rows(greatest: &mut [u64], from: usize, to: usize, n: u64)
     requires there { to ≤ length greatest.old }
     requires order { from ≤ to }
@@ -76,7 +76,8 @@ fn raise_rows(greatest: &mut [u64], from: usize, to: usize, n: u64)
     }
 }
 
-/// The stamp of a tile that is caught up: a newer grid's, where that is above `number` and its own isn't.
+/// The stamp of a tile that is caught up: the newer grid's where that is above `number` and the tile's own isn't, and
+/// otherwise its own.
 fn later(own: u64, newer: u64, number: u64) -> u64
     ensures { result ≡ (if nat_lt number newer && not (nat_lt number own) then newer else own) }
 {
@@ -101,7 +102,7 @@ fn take_part(stamps: &mut [u64], newer: &[u64], from: usize, to: usize, number: 
     }
 }
 
-/// Catches up the tiles of a row, and leaves a row out of which no tile is newer.
+/// Catches up the tiles of a row, unless none of them is newer.
 fn take_row(stamps: &mut [u64], newer: &Grid, across: u64, row: u64, number: u64)
     requires across { across ≡ tiles_across newer.now.width }
     requires all { length stamps.old ≡ tile_count newer.now.width newer.now.height }
@@ -133,7 +134,7 @@ fn take_rows(stamps: &mut [u64], newer: &Grid, number: u64)
     }
 }
 
-/// Each row of tiles has the greater of two numbers.
+/// Gives each row of tiles the greater of two numbers.
 fn raise_each(greatest: &mut [u64], newer: &[u64])
     requires { length newer.now ≡ length greatest.old }
     ensures { (k : ℕ) → k < length greatest.old → slice_index greatest.new k ≡ max (slice_index greatest.old k) (slice_index newer.now k) }
@@ -144,7 +145,8 @@ fn raise_each(greatest: &mut [u64], newer: &[u64])
 }
 
 impl Grid {
-    /// No tile of a screen of `width` by `height` pixels was touched. It fails where memory is refused (`Memory`).
+    /// The grid of a screen of `width` by `height` pixels, no tile of which was touched yet. It fails where memory is
+    /// refused (`Memory`).
     pub fn new(alloc: Global, width: u64, height: u64) -> Result<Self, Fault>
         requires { IsScreenSize width height }
         ensures ok { IfOk result (λ grid. (grid.width ≡ width) × (grid.height ≡ height) × GridStands grid []) }
@@ -177,8 +179,8 @@ impl Grid {
         self.stamps[t as usize]
     }
 
-    /// Update `n` touched each tile that meets the rectangle. Touched by each rectangle that the next update paints, at
-    /// its number, it stands for that update too.
+    /// Notes that update `n` touched each tile that meets the rectangle. A grid stands for one update more once it was
+    /// touched, at that update's number, by each rectangle that the update paints.
     pub fn touch(&mut self, area: &Rect, n: u64)
         requires { IsWithin area.now 65536 65536 }
         ensures { IsTouched (λ t. meets area.now (tile_rect self.old.width self.old.height t)) n self.old self.new }
@@ -199,8 +201,8 @@ impl Grid {
         );
     }
 
-    /// Each tile that a newer grid of its screen says was touched after update `number`, and this one doesn't, has the
-    /// newer's stamp from now on. It takes no memory, and looks at no row of tiles of which none is newer.
+    /// Takes over the newer grid's stamp of each tile that, by the newer grid and not by this one, was touched after
+    /// update `number`. Both have to be of one screen. It takes no memory, and skips each row without such a tile.
     pub fn catch_up(&mut self, newer: &Grid, number: u64)
         requires { (newer.now.width ≡ self.old.width) × (newer.now.height ≡ self.old.height) }
         ensures { IsCaughtUp newer.now number self.old self.new }
@@ -209,7 +211,7 @@ impl Grid {
         raise_each(self.greatest.as_mut_slice(), newer.greatest.as_slice());
     }
 
-    /// The same stamps as another grid of its screen. It takes no memory.
+    /// Takes over all stamps of another grid of the same screen. It takes no memory.
     pub fn copy_from(&mut self, other: &Grid)
         requires { (other.now.width ≡ self.old.width) × (other.now.height ≡ self.old.height) }
         ensures { self.new ≡ other.now }

@@ -20,8 +20,8 @@ pub struct Have {
     width: u64,
     height: u64,
     sent: Vec<Option<u64>>,
-    /// Of each row of tiles a number that is at most each of theirs, so that a row without a due tile is found at once:
-    /// none where a tile may never have been sent. It may be too low.
+    /// For each row of tiles a number that is at most each of its tiles' numbers, so that a row without a due tile is
+    /// found at once. It is none where a tile may never have been sent. It may be lower than needed.
     least: Vec<Option<u64>>,
 }
 
@@ -63,7 +63,7 @@ fn mark(sent: &mut [Option<u64>], width: u64, height: u64, tiles: Rect, number: 
     }
 }
 
-/// The less of a number that may be none and another.
+/// The lesser of two numbers, and none where the first is none.
 fn lower(least: Option<u64>, number: u64) -> Option<u64>
     ensures { result ≡ lowered least number }
 {
@@ -73,7 +73,7 @@ fn lower(least: Option<u64>, number: u64) -> Option<u64>
     }
 }
 
-/// In some rows of tiles some tiles were sent at this number, or all of them.
+/// Notes that in these rows of tiles some tiles, or all of them, were sent at this number.
 fn keep_rows(least: &mut [Option<u64>], from: usize, to: usize, number: u64, all: bool)
     requires there { to ≤ length least.old }
     requires order { from ≤ to }
@@ -124,7 +124,7 @@ impl Have {
         self.sent[t as usize]
     }
 
-    /// No tile counts as sent any longer: a pixel format was taken (RFC 6143, 7.5.1).
+    /// From now on no tile counts as sent, since a pixel format was taken (RFC 6143, 7.5.1).
     pub fn forget_all(&mut self)
         ensures size { IsSameSize self.old self.new }
         ensures stands { (es : List Event) → HaveStands self.old es → HaveStands self.new (NewFormat ∷ es) }
@@ -133,8 +133,8 @@ impl Have {
         self.least.as_mut_slice().fill(None);
     }
 
-    /// No tile that meets the area counts as sent any longer: it was asked for, and not incrementally (RFC 6143,
-    /// 7.5.3).
+    /// From now on no tile that meets the area counts as sent, since the area was asked for by a request that isn't
+    /// incremental (RFC 6143, 7.5.3).
     pub fn forget(&mut self, area: &Rect)
         requires { IsWithin area.now 65536 65536 }
         ensures size { IsSameSize self.old self.new }
@@ -156,7 +156,7 @@ impl Have {
         );
     }
 
-    /// Each tile that lies wholly inside the area was sent at this number: an answer was begun.
+    /// From now on each tile that lies wholly inside the area counts as sent at this number, since an answer was begun.
     pub fn keep(&mut self, area: &Rect, number: u64)
         requires { IsWithin area.now 65536 65536 }
         ensures size { IsSameSize self.old self.new }
@@ -179,7 +179,8 @@ impl Have {
         );
     }
 
-    /// A number that is at most each of those of a row of tiles, and none where one of these may never have been sent.
+    /// A number that is at most each number of a row's tiles, and none where one of these tiles may never have been
+    /// sent.
     pub(crate) fn least_of_row(&self, row: u64) -> Option<u64>
         requires { row < tiles_across self.now.height }
         ensures { (t : ℕ) → row * tiles_across self.now.width ≤ t → t < row * tiles_across self.now.width + tiles_across self.now.width → AtMost result (sent_at self.now t) }

@@ -1,11 +1,11 @@
-//! The tiles that a grid lacks of a newer one.
+//! The tiles that were touched since a grid was last caught up.
 
 ghost use Rattle.std.specs.Prelude.{◌≡◌};
 
 use crate::grid::Grid;
 use crate::walk::DueTiles;
 
-/// The tiles that a newer grid says were touched after the update of this number, and a grid that is behind doesn't.
+/// The tiles that were touched after the update of this number by the newer grid, and not by the grid that is behind.
 #[derive(Clone, Copy)]
 pub struct LackedSince<'a> {
     grid: &'a Grid,
@@ -15,7 +15,7 @@ pub struct LackedSince<'a> {
 }
 
 impl<'a> LackedSince<'a> {
-    /// Both have to be of one screen.
+    /// Compares a grid that is behind with a newer one. Both have to be of one screen.
     pub fn new(grid: &'a Grid, newer: &'a Grid, number: u64) -> Self
         requires { (newer.now.width ≡ grid.now.width) × (newer.now.height ≡ grid.now.height) }
         ensures { (result.grid.now ≡ grid.now) × (result.newer.now ≡ newer.now) × (result.number ≡ number) }

@@ -1,4 +1,4 @@
-//! What the runs of due tiles bring, and what stays where no update touches.
+//! Laws about what the runs of due tiles bring, and about what no update touches.
 
 ghost use Rattle.tiles.specs.Brings.{DueWhereTouched, RunsBringTheDue, UntouchedStays};
 
@@ -9,8 +9,8 @@ pub fn runs_bring_the_due()
     ensures { RunsBringTheDue }
 {}
 
-/// A rectangle that no update after the first n touches looks as it did after these; and what was sent at n is due
-/// exactly where the number of the last touch is above n.
+/// A rectangle that no update after the first n touches looks as it did after these n. A rectangle that was sent at n
+/// is due exactly where the number of its last touch is above n.
 pub fn untouched_stays()
     ensures stays { UntouchedStays }
     ensures due { DueWhereTouched }

@@ -1,4 +1,4 @@
-//! The tiles that are due by their stamps.
+//! The tiles that are due for a viewer.
 
 ghost use Rattle.std.specs.Prelude.{◌≡◌};
 
@@ -7,7 +7,7 @@ use crate::grid::Grid;
 use crate::have::Have;
 use crate::walk::DueTiles;
 
-/// The tiles that are due for a viewer, by their stamps and by what it has.
+/// The tiles that are due for a viewer, by their stamps and by what the viewer has.
 #[derive(Clone, Copy)]
 pub struct DueSince<'a> {
     grid: &'a Grid,
@@ -16,7 +16,7 @@ pub struct DueSince<'a> {
 }
 
 impl<'a> DueSince<'a> {
-    /// Both have to be of one screen.
+    /// The due tiles of this grid for a viewer that has these tiles. Grid and `have` have to be of one screen.
     pub fn new(grid: &'a Grid, have: &'a Have) -> Self
         requires { (have.now.width ≡ grid.now.width) × (have.now.height ≡ grid.now.height) }
         ensures { (result.grid.now ≡ grid.now) × (result.have.now ≡ have.now) }

@@ -36,14 +36,14 @@ pub trait DueTiles {
 pub struct Run {
     /// The number of the first tile.
     pub first: u64,
-    /// How many tiles they are.
+    /// How many tiles there are.
     pub count: u64,
     /// The part of the area asked for that lies in them, in pixels.
     pub area: Rect,
 }
 
-/// Where a walk over the runs of an area stands. It takes no memory, and holds no borrow of the tiles, which are lent
-/// to each step.
+/// How far a walk over the runs of an area has come. It takes no memory, and doesn't borrow the tiles, which each step
+/// is lent.
 #[derive(Drop)]
 pub struct Walk {
     width: u64,
@@ -67,7 +67,7 @@ impl Model for Walk {
         × ((t : ℕ) → t < tile_count k.width k.height → holds k.met (t % tiles_across k.width) (t / tiles_across k.width) ≡ meets k.area (tile_rect k.width k.height t)) };
 }
 
-/// The first due tile of some that stand one after the other.
+/// The first due tile from `from` on, before `to`, if there is one.
 fn first_due<T: DueTiles>(tiles: &T, from: u64, to: u64) -> Option<u64>
     requires { to ≤ tile_count (T.width tiles.now) (T.height tiles.now) }
     ensures some { IfSome result (λ t. (from ≤ t) × (t < to) × (T.due tiles.now t ≡ true) × ((k : ℕ) → from ≤ k → k < t → T.due tiles.now k ≡ false)) }
@@ -81,7 +81,7 @@ fn first_due<T: DueTiles>(tiles: &T, from: u64, to: u64) -> Option<u64>
     None
 }
 
-/// Where due tiles end that stand one after the other, at the latest at `to`.
+/// The first tile from `from` on that isn't due, or `to` where all before `to` are due.
 fn end_of_due<T: DueTiles>(tiles: &T, from: u64, to: u64) -> u64
     requires there { to ≤ tile_count (T.width tiles.now) (T.height tiles.now) }
     requires order { from ≤ to }
@@ -124,7 +124,7 @@ fn find_in_row<T: DueTiles>(
     }
 }
 
-/// The same over all rows that `met` has.
+/// The first run of the tiles in `met`, over all of its rows, as `find_in_row` gives it.
 fn find<T: DueTiles>(tiles: &T, met: &Rect, across: u64, next: u64) -> Option<(u64, u64)>
     requires size { IsScreenSize (T.width tiles.now) (T.height tiles.now) }
     requires across { across ≡ tiles_across (T.width tiles.now) }
