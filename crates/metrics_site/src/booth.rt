@@ -1,4 +1,4 @@
-//! One who asks.
+//! Answers one machine that asks.
 
 ghost use Rattle.std.specs.Prelude.{◌≡◌, OnOk};
 
@@ -31,8 +31,9 @@ fn connection_of(alloc: Global, keys: RandomState) -> Connection {
     Connection::new(alloc, keys, config)
 }
 
-/// Answers a machine that has connected, whose stream is read and written by these two, as the run stood at that
-/// moment. It fails where the machine isn't done at this moment, and where a read or a write does.
+/// Answers a machine that has connected, over its stream, which these two read and write, with the run as it stood when
+/// the machine connected. It fails where the machine isn't done by the moment `until`, and where a read or a write
+/// fails.
 pub fn answer_one<R: Clock, I: Read + Drop, O: Write + Drop>(
     rt: &R,
     alloc: Global,

@@ -1,10 +1,10 @@
-//! A stream for which there isn't much time.
+//! A stream with little time.
 
 use std::io;
 use std::io::{ErrorKind, Read, Write};
 use std::time::{Clock, Instant};
 
-/// A stream whose reads and writes fail once its time is over. A clock that can't be read is over.
+/// A stream whose reads and writes fail once its time is over, which also counts as so where the clock can't be read.
 #[derive(Drop)]
 pub struct Hasty<'a, R: Clock, S> {
     rt: &'a R,
@@ -13,7 +13,7 @@ pub struct Hasty<'a, R: Clock, S> {
 }
 
 impl<'a, R: Clock, S> Hasty<'a, R, S> {
-    /// The stream until this moment.
+    /// The stream, with time until this moment.
     pub fn new(rt: &'a R, stream: S, until: Instant) -> Hasty<'a, R, S>
     where
         S: Drop,

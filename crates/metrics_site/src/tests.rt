@@ -1,4 +1,4 @@
-//! Requests and their answers, as RFC 9110 and 9112 and the page on the port have them.
+//! Tests of requests and their answers, as RFC 9110 and 9112 and the page on the port have them.
 
 use crate::booth::answer_one;
 use crate::watched::Watched;
@@ -29,7 +29,7 @@ fn counters(is_joined: bool, view: u64) -> Counters {
     }
 }
 
-/// What one is answered who says this.
+/// The answer to a client that says this.
 fn answered(rt: HostRuntime, watched: &Watched, said: &[u8]) -> Result<Vec<u8>, Fail> {
     let alloc = rt.alloc();
     let mut answer = Vec::new(alloc);
@@ -65,7 +65,7 @@ fn a_balancer_asks_for_the_health(rt: HostRuntime) -> Result<(), Fail> {
     Ok(())
 }
 
-/// The first line of an answer, and what stands behind its head.
+/// The first line of an answer, and its body.
 fn ends_of(answer: &[u8]) -> Option<(&[u8], &[u8])> {
     let line = answer.iter().position(|byte| *byte == b'\r')?;
     let head = answer

@@ -1,4 +1,4 @@
-//! What is answered.
+//! What the port for machines answers.
 
 ghost use Rattle.std.specs.Prelude.{◌≡◌, ◌∷◌, [], ◌++◌, OnOk, IsTrue};
 ghost use Rattle.http.specs.FieldValue.{is_visible_text};
@@ -14,7 +14,7 @@ use roles::Role;
 use run_reports::{Health, health_of, health_word};
 use std::alloc::{AllocError, Global};
 
-/// A run as it stood when somebody connected.
+/// A run as it stood when a reader connected.
 #[derive(Drop)]
 pub struct Watched {
     alloc: Global,
@@ -22,7 +22,7 @@ pub struct Watched {
     is_drained: bool,
 }
 
-/// Adds a field of a text.
+/// Adds a field with a text as its value.
 fn add(response: &mut Response, name: HeaderName, value: &'static str) -> Result<(), AllocError>
     requires { IsTrue (is_visible_text value.now) }
     ensures fields { OnOk result (fields_of response.new ≡ fields_of response.old ++ (name, value.now) ∷ []) }
@@ -58,7 +58,7 @@ impl Watched {
     ghost use Rattle.http_server.specs.Response.{IsBlank};
     ghost use Rattle.metrics_site.specs.Replies.{Replies, health_reply, metrics_reply, reply_for};
 
-    /// A run of these numbers, at whose doors nobody or anybody is let in.
+    /// A run with these numbers, whose doors an operator has drained or hasn't.
     pub fn new(alloc: Global, counters: Counters, is_drained: bool) -> Watched
         ensures { (result.counters ≡ counters) × (result.is_drained ≡ is_drained) }
     {

@@ -1,5 +1,6 @@
 -- The numbers of a reflector in Prometheus' text-based format, version 0.0.4: of each family a HELP line, a TYPE line,
--- and a line for each number, with its labels. Each definition here is a text after another.
+-- and a line for each number, with its labels. Each definition after_... puts more text behind the one that it is
+-- given.
 use Rattle.std.specs.Prelude.{ℕ, Bool, true, false, List, [], ◌++◌, codes}
 use Rattle.std.specs.Fmt.{decimal}
 use Rattle.metrics_text.specs.declared.counters.ByRole.{ByRole}
@@ -31,7 +32,7 @@ after_both before name kind help numbers =
 abbrev pub after_by_role : List ℕ → Family → ByRole → List ℕ
 after_by_role before family numbers = after_both before family.name.now family.kind.now family.help.now numbers
 
--- 1 where it is so.
+-- 1 for true, and 0 for false.
 abbrev pub one_if : Bool → ℕ
 one_if true = 1
 one_if false = 0
@@ -47,7 +48,7 @@ after_places before c =
     let a = after_both before (codes "places") (codes "gauge") (codes "Places of a role.") c.places in
     let b = after_both a (codes "viewers") (codes "gauge") (codes "Viewers that have a place.") c.viewers in
     let d = after_both b (codes "viewers_total") (codes "counter") (codes "Viewers that came.") c.came in
-    after_both d (codes "refused_total") (codes "counter") (codes "Viewers that found no place.") c.refused
+    after_both d (codes "refused_total") (codes "counter") (codes "Viewers that were refused: no free place, no host, nobody let in, or no proxy's header.") c.refused
 
 abbrev pub after_sent : List ℕ → Counters → List ℕ
 after_sent before c =

@@ -1,6 +1,6 @@
 //! What is counted.
 
-/// A number of each role.
+/// A number for each role.
 #[derive(Clone, Copy, Debug)]
 pub struct ByRole {
     /// Of those with full control.
@@ -9,7 +9,7 @@ pub struct ByRole {
     pub view: u64,
 }
 
-/// By how many updates viewers are behind: what half of them, nine in ten and all of them don't exceed.
+/// By how many updates viewers are behind: numbers that half of them, nine in ten and all of them don't exceed.
 #[derive(Clone, Copy, Debug)]
 pub struct Lag {
     pub half: u64,
@@ -32,7 +32,7 @@ pub struct Counters {
     pub viewers: ByRole,
     /// How many viewers came.
     pub came: ByRole,
-    /// How many found no place.
+    /// How many viewers were refused, for whatever reason.
     pub refused: ByRole,
     /// How many updates of hosts were put.
     pub updates: u64,
@@ -42,7 +42,7 @@ pub struct Counters {
     pub bytes: u64,
     /// How many inputs of viewers wait for the host now.
     pub waiting: u64,
-    /// How many were dropped on their way to a host.
+    /// How many inputs were dropped on their way to a host.
     pub dropped: u64,
     /// By how many updates the viewers are behind now.
     pub lag: Lag,

@@ -1,4 +1,4 @@
-//! Families of numbers: what they are, and a line for each number.
+//! Families of numbers: a head that says what each is, and a line for each number.
 
 ghost use Rattle.std.specs.Prelude.{◌≡◌, [], OnOk};
 ghost use Rattle.std.specs.String.{string_bytes};
@@ -17,7 +17,7 @@ pub(crate) struct Family<'a> {
     pub(crate) help: &'a str,
 }
 
-/// Puts what a family is.
+/// Puts the head of a family, which says what it is.
 pub(crate) fn put_head(text: &mut String, family: Family<'_>) -> Result<(), AllocError>
     ensures { OnOk result (string_bytes text.new ≡ after_head (string_bytes text.old) family.entry) }
 {
@@ -32,7 +32,7 @@ pub(crate) fn put_head(text: &mut String, family: Family<'_>) -> Result<(), Allo
     text.push_str("\n")
 }
 
-/// Puts the line of a number under a name, which has these labels.
+/// Puts the line of a number, with this name and these labels.
 pub(crate) fn put_sample(
     text: &mut String,
     name: &str,

@@ -47,7 +47,7 @@ const VIEWERS_TOTAL: Family<'static> = Family {
 const REFUSED: Family<'static> = Family {
     name: "refused_total",
     kind: "counter",
-    help: "Viewers that found no place.",
+    help: "Viewers that were refused: no free place, no host, nobody let in, or no proxy's header.",
 };
 
 const UPDATES: Family<'static> = Family {
@@ -105,7 +105,7 @@ fn put_places(text: &mut String, counters: &Counters) -> Result<(), AllocError>
     put_by_role(text, REFUSED, counters.refused)
 }
 
-/// Of what came and what was sent.
+/// Writes the numbers of what came and what was sent.
 fn put_sent(text: &mut String, counters: &Counters) -> Result<(), AllocError>
     ensures { OnOk result (string_bytes text.new ≡ after_sent (string_bytes text.old) counters.now) }
 {
@@ -114,7 +114,7 @@ fn put_sent(text: &mut String, counters: &Counters) -> Result<(), AllocError>
     put_single(text, BYTES, counters.bytes)
 }
 
-/// Of the viewers' input.
+/// Writes the numbers of the viewers' input.
 fn put_input(text: &mut String, counters: &Counters) -> Result<(), AllocError>
     ensures { OnOk result (string_bytes text.new ≡ after_input (string_bytes text.old) counters.now) }
 {
@@ -122,7 +122,7 @@ fn put_input(text: &mut String, counters: &Counters) -> Result<(), AllocError>
     put_single(text, DROPPED, counters.dropped)
 }
 
-/// By how many updates viewers are behind.
+/// Writes by how many updates viewers are behind.
 fn put_lag(text: &mut String, lag: &Lag) -> Result<(), AllocError>
     ensures { OnOk result (string_bytes text.new ≡ after_lag (string_bytes text.old) lag.now) }
 {

@@ -25,7 +25,7 @@ abbrev pub where_host : Bool → Bool → Bool → Health
 where_host false drained full = NoHost
 where_host true drained full = where_joined drained full
 
--- There is no host, else nobody is let in, else no place is free, else a viewer would be served.
+-- The first that is true of these: there is no host; nobody is let in; no place is free; a viewer would be served.
 abbrev pub health_for : Counters → Bool → Option Role → Health
 health_for c is_drained role = where_host c.is_joined is_drained (is_full c role)
 

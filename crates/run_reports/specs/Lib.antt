@@ -1,4 +1,4 @@
 pub mod Healths
 pub mod Lines
 pub mod Notices
-pub mod Tallies
+pub mod Happenings

@@ -21,6 +21,6 @@ abbrev pub after_line : List ℕ → ℕ → List ℕ
 after_line line zero = line ++ codes "\n"
 after_line line (suc n) = line ++ codes " left-out=" ++ decimal (suc n) ++ codes "\n"
 
--- One more, as far as a number of 64 bits goes.
+-- One more, or the same where that is the greatest number of 64 bits.
 abbrev pub counted : ℕ → ℕ
 counted n = min (n + 1) (2 ^ 64 - 1)

@@ -6,7 +6,7 @@ use Rattle.run_reports.specs.declared.notice.Notice.{Notice}
 use Rattle.run_reports.specs.declared.notice.Ready.{Ready}
 use Rattle.run_reports.specs.declared.notice.Ready.TheVariants.{Now, Unsaid}
 
--- That the run is ready, where it is said.
+-- The line that says that the run is ready, where that is said.
 abbrev pub ready_line : Ready → List ℕ
 ready_line Now = codes "READY=1\n"
 ready_line Unsaid = []

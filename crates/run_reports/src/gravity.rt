@@ -15,7 +15,7 @@ pub enum Gravity {
 }
 
 /// What stands before a line of this gravity: its number in angle brackets where the journal reads it (sd-daemon(3)),
-/// and nothing elsewhere. A plain line has none, since that is what the journal takes it for.
+/// and nothing elsewhere. A plain line has no number, since the journal takes a line without one as plain.
 pub fn prefix_of(gravity: Gravity, is_journal: bool) -> &'static str
     ensures { result.now ≡ prefix_for gravity is_journal }
 {

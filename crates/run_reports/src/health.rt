@@ -9,13 +9,13 @@ use roles::Role;
 /// Whether a viewer that comes now would be served, and why not.
 #[derive(Clone, Copy, Debug, PartialEq, Eq)]
 pub enum Health {
-    /// It would.
+    /// It would be served.
     Ready,
     /// No host is joined.
     NoHost,
-    /// An operator has nobody let in.
+    /// An operator lets nobody in.
     Drained,
-    /// All places that it could have are taken.
+    /// All places that the viewer could have are taken.
     Full,
 }
 
@@ -39,8 +39,8 @@ fn is_full(counters: &Counters, role: Option<Role>) -> bool
     }
 }
 
-/// What a run of these numbers is told to be, at whose doors nobody or anybody is let in: to one who asks for a viewer
-/// of this role, or of either.
+/// The health of a run with these numbers, whose doors an operator has drained or hasn't, for a viewer of this role, or
+/// of either.
 pub fn health_of(counters: &Counters, is_drained: bool, role: Option<Role>) -> Health
     ensures { result ≡ health_for counters.now is_drained role }
 {
@@ -55,7 +55,7 @@ pub fn health_of(counters: &Counters, is_drained: bool, role: Option<Role>) -> H
     }
 }
 
-/// The line that says so.
+/// The line that tells a health.
 pub fn health_word(health: Health) -> &'static str
     ensures { result.now ≡ word_for health }
 {

@@ -15,13 +15,13 @@ pub trait Paper: Drop {
     /// Whether a line would be taken now, without a wait. No clause says when.
     fn has_room(&self) -> bool;
 
-    /// Takes a text, or none of it.
+    /// Takes a whole text, or none of it. It answers whether it took the text.
     fn take(&mut self, written: &str) -> bool
         ensures taken { result ≡ true → text self.new ≡ text self.old ++ written.now }
         ensures left { result ≡ false → text self.new ≡ text self.old };
 }
 
-/// Lines on paper, and how many were left out since the last that is there.
+/// Lines on paper, and how many were left out since the last line that was written.
 #[derive(Drop)]
 pub struct Ledger<P: Paper> {
     alloc: Global,
@@ -29,7 +29,7 @@ pub struct Ledger<P: Paper> {
     lost: u64,
 }
 
-/// Puts a line's end, and before it how many were left out, if some were.
+/// Puts a line's end, and before it how many lines were left out, if some were.
 fn put_end(line: &mut String, lost: u64) -> Result<(), AllocError>
     ensures { OnOk result (string_bytes line.new ≡ after_line (string_bytes line.old) lost) }
 {
@@ -44,7 +44,7 @@ impl<P: Paper> Ledger<P> {
     ghost use Rattle.std.specs.String.{string_bytes};
     ghost use Rattle.run_reports.specs.Lines.{after_line, counted};
 
-    /// No line yet.
+    /// A ledger on this paper, without a line yet.
     pub fn new(alloc: Global, paper: P) -> Ledger<P>
         ensures paper { result.paper ≡ paper }
         ensures none_lost { result.lost ≡ 0 }
@@ -70,8 +70,8 @@ impl<P: Paper> Ledger<P> {
         self.lost
     }
 
-    /// Writes a line, without its end, and behind it how many were left out before it, if some were. A line for which
-    /// there is no room, or no memory, is left out and counted. Whether it was written.
+    /// Writes a line that is given without its end, and after it how many lines were left out before, if some were. A
+    /// line for which there is no room or no memory is left out and counted. It answers whether the line was written.
     pub fn write(&mut self, line: String) -> bool
         ensures written { result ≡ true → (P.text self.new.paper ≡ P.text self.old.paper ++ after_line (string_bytes line) self.old.lost) × (self.new.lost ≡ 0) }
         ensures left_out { result ≡ false → (P.text self.new.paper ≡ P.text self.old.paper) × (self.new.lost ≡ counted self.old.lost) }

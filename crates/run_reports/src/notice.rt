@@ -10,9 +10,9 @@ use std::alloc::{AllocError, Global};
 /// Whether a notice says that a run is ready.
 #[derive(Clone, Copy, Debug, PartialEq, Eq)]
 pub enum Ready {
-    /// It does: a host is joined for the first time.
+    /// The notice says so: a host is joined for the first time.
     Now,
-    /// It says nothing of that.
+    /// The notice doesn't say so.
     Unsaid,
 }
 

@@ -1,10 +1,11 @@
-//! Texts as sd_notify(3), sd-daemon(3) and the pages of this repository have them, and a log that isn't read.
+//! Tests of texts as sd_notify(3), sd-daemon(3) and the pages of this repository have them, and of a log that isn't
+//! read.
 
 use crate::gravity::{Gravity, prefix_of};
+use crate::happenings::{Happening, HappeningCounts};
 use crate::health::{health_of, health_word};
 use crate::ledger::{Ledger, Paper};
 use crate::notice::{Notice, Ready, notice_text};
-use crate::tally::{Happening, Tally};
 use metrics_text::{ByRole, Counters, Lag};
 use roles::Role;
 use std::alloc::Global;
@@ -86,7 +87,7 @@ fn a_balancer_is_told_who_would_be_served(rt: HostRuntime) {
     }
 }
 
-/// Paper that has room for so many lines, and what stands on it.
+/// Paper that has room for this many lines, and what stands on it.
 #[derive(Drop)]
 struct Slip {
     text: String,
@@ -137,7 +138,7 @@ fn lines_without_room_are_left_out_and_counted(rt: HostRuntime) -> Result<(), Fa
 
 #[test]
 fn an_evening_is_counted(rt: HostRuntime) {
-    let mut tally = Tally::new();
+    let mut counts = HappeningCounts::new();
     for happening in [
         Happening::HostLeft,
         Happening::Joined,
@@ -147,13 +148,13 @@ fn an_evening_is_counted(rt: HostRuntime) {
         Happening::Refused(Role::Full),
         Happening::Left(Role::View),
     ] {
-        tally.note(happening);
+        counts.note(happening);
     }
-    assert!(rt; tally.is_joined);
-    assert_eq!(rt; tally.joins, 1);
-    assert_eq!(rt; (tally.viewers.full, tally.viewers.view), (1, 1));
-    assert_eq!(rt; (tally.came.full, tally.came.view), (1, 2));
-    assert_eq!(rt; (tally.refused.full, tally.refused.view), (1, 0));
-    tally.note(Happening::HostLeft);
-    assert!(rt; !tally.is_joined);
+    assert!(rt; counts.is_joined);
+    assert_eq!(rt; counts.joins, 1);
+    assert_eq!(rt; (counts.viewers.full, counts.viewers.view), (1, 1));
+    assert_eq!(rt; (counts.came.full, counts.came.view), (1, 2));
+    assert_eq!(rt; (counts.refused.full, counts.refused.view), (1, 0));
+    counts.note(Happening::HostLeft);
+    assert!(rt; !counts.is_joined);
 }

@@ -1,7 +1,7 @@
 //! What is counted of a run.
 
 ghost use Rattle.std.specs.Prelude.{◌≡◌};
-ghost use Rattle.run_reports.specs.Tallies.{after, fewer, more, nothing};
+ghost use Rattle.run_reports.specs.Happenings.{after, fewer, more, nothing};
 
 use metrics_text::ByRole;
 use roles::Role;
@@ -17,13 +17,13 @@ pub enum Happening {
     Came(Role),
     /// A viewer of this role has left its place.
     Left(Role),
-    /// One who came by this role's port was refused.
+    /// A viewer that came by this role's port was refused.
     Refused(Role),
 }
 
-/// What has happened in a run. No number grows past the greatest.
+/// What has happened in a run. A count that has reached the greatest number of 64 bits stays there.
 #[derive(Clone, Copy, Debug)]
-pub struct Tally {
+pub struct HappeningCounts {
     /// Whether a host is joined.
     pub is_joined: bool,
     /// How many hosts were joined.
@@ -32,13 +32,13 @@ pub struct Tally {
     pub viewers: ByRole,
     /// How many viewers came.
     pub came: ByRole,
-    /// How many were refused.
+    /// How many viewers were refused.
     pub refused: ByRole,
 }
 
 const NONE: ByRole = ByRole { full: 0, view: 0 };
 
-/// One more of a role.
+/// The numbers with one more of a role.
 fn more(numbers: ByRole, role: Role) -> ByRole
     ensures { result ≡ more numbers role }
 {
@@ -54,7 +54,7 @@ fn more(numbers: ByRole, role: Role) -> ByRole
     }
 }
 
-/// One fewer of a role.
+/// The numbers with one fewer of a role.
 fn fewer(numbers: ByRole, role: Role) -> ByRole
     ensures { result ≡ fewer numbers role }
 {
@@ -70,12 +70,12 @@ fn fewer(numbers: ByRole, role: Role) -> ByRole
     }
 }
 
-impl Tally {
-    /// Nothing has happened.
-    pub fn new() -> Tally
+impl HappeningCounts {
+    /// The counts of a run in which nothing has happened.
+    pub fn new() -> HappeningCounts
         ensures { result ≡ nothing }
     {
-        Tally {
+        HappeningCounts {
             is_joined: false,
             joins: 0,
             viewers: NONE,
@@ -84,7 +84,7 @@ impl Tally {
         }
     }
 
-    /// This has happened.
+    /// Counts that this has happened.
     pub fn note(&mut self, happening: Happening)
         ensures { self.new ≡ after self.old happening }
     {
