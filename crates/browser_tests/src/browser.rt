@@ -20,11 +20,11 @@ const MOST_HEAD: usize = 4_096;
 pub(crate) struct Browser {
     alloc: Global,
     stream: TcpStream,
-    // So many bytes are left of the message that is read.
+    // This many bytes are left of the message that is read.
     left: usize,
 }
 
-/// What a page asks that opens a WebSocket at this host, with the standard's key.
+/// What a page that opens a WebSocket at this host asks, with the standard's key.
 fn request(alloc: Global, host: &str, origin: &str) -> io::Result<String> {
     Ok(format!(in alloc;
         "GET /websockify HTTP/1.1\r\nHost: {host}\r\nUpgrade: websocket\r\nConnection: keep-alive, Upgrade\r\nOrigin: {origin}\r\nSec-WebSocket-Key: dGhlIHNhbXBsZSBub25jZQ==\r\nSec-WebSocket-Version: 13\r\n\r\n"
@@ -67,7 +67,7 @@ pub(crate) fn frame(alloc: Global, first: u8, payload: &[u8]) -> io::Result<Vec<
     Ok(frame)
 }
 
-/// The head of the answer to one who asks for a path, and the beginning of the body.
+/// The head of the answer to a request for a path, and the beginning of the body.
 pub(crate) fn is_told(
     net: &HostRuntime,
     port: u16,
@@ -83,7 +83,7 @@ pub(crate) fn is_told(
     Ok(head.as_slice().starts_with(status) && hears(&mut stream, body)?)
 }
 
-/// Whether one who opens a WebSocket at this host, from a page of this origin, is told this status.
+/// Whether a request to open a WebSocket at this host, from a page of this origin, is answered with this status.
 fn is_answered(
     net: &HostRuntime,
     port: u16,
@@ -97,7 +97,7 @@ fn is_answered(
     Ok(head.as_slice().starts_with(status))
 }
 
-/// Whether a page of another site opens no WebSocket at this port, and one of its own none under another host.
+/// Whether a page of another site can't open a WebSocket at this port, nor can the port's own page under another host.
 pub(crate) fn are_strangers_refused(net: &HostRuntime, port: u16) -> io::Result<bool> {
     let alloc = net.alloc();
     let own = format!(in alloc; "127.0.0.1:{port}")?;
@@ -112,7 +112,7 @@ pub(crate) fn are_strangers_refused(net: &HostRuntime, port: u16) -> io::Result<
 }
 
 impl Browser {
-    /// Opens a WebSocket from a page of the port's own. None where the port doesn't answer the key.
+    /// Opens a WebSocket from the port's own page. It answers None where the port doesn't answer the key.
     pub(crate) fn open(net: &HostRuntime, port: u16) -> io::Result<Option<Browser>> {
         let alloc = net.alloc();
         let mut stream = connect(net, port)?;
@@ -142,8 +142,8 @@ impl Browser {
         self.stream.write_all(frame.as_slice())
     }
 
-    /// Reads the head of the next frame. Whether it is that of a whole binary message, without a mask, of at most
-    /// 65,535 bytes.
+    /// Reads the head of the next frame. It answers whether the frame is a whole binary message, without a mask, of at
+    /// most 65,535 bytes.
     fn begin(&mut self) -> io::Result<bool> {
         let mut head = [0u8; 2];
         self.stream.read_exact(&mut head)?;

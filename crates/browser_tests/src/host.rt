@@ -16,16 +16,16 @@ pub(crate) const UPDATE: &[u8] = b"\0\0\0\x01\0\0\0\0\0\x02\0\x01\0\0\0\0\0\0\xF
 /// The key a goes down and up (RFC 6143, 7.5.4).
 pub(crate) const KEY: &[u8] = b"\x04\x01\0\0\0\0\0\x61\x04\0\0\0\0\0\0\x61";
 
-/// What a client gives that joins: its format, its four encodings, and a request of the whole screen (RFC 6143, 7.5.1
-/// to 7.5.3).
+/// What a joining client gives: its format, its four encodings, and a request for the whole screen (RFC 6143, 7.5.1 to
+/// 7.5.3).
 const ASKED: &[u8] = b"\0\0\0\0\x20\x18\0\x01\0\xFF\0\xFF\0\xFF\x10\x08\0\0\0\0\
       \x02\0\0\x04\0\0\0\x01\0\0\0\x05\0\0\0\x02\0\0\0\0\
       \x03\0\0\0\0\0\0\x02\0\x01";
 
-/// What it asks for once an update was put: what is new of the whole screen.
+/// What the client asks for once an update was put: what is new of the whole screen.
 const ASKED_ANEW: &[u8] = b"\x03\x01\0\0\0\0\0\x02\0\x01";
 
-/// Whether the next who connects joins as a client has to, asks anew after the update, and then tells this key and
+/// Whether the next client that connects joins as it should, asks anew after the update, and then tells this key and
 /// nothing before it. The connection ends then.
 pub(crate) fn is_told_a_key(listener: &TcpListener) -> io::Result<bool> {
     let mut stream = accept(listener)?;

@@ -1,5 +1,5 @@
 //! Tests of what browsers are told: of the web ports of `connections`, and of `serve` behind them, over loopback alone.
-//! They stand in a crate of their own so that what they try is proved once.
+//! They are in their own crate so that what they test is proved once.
 #![tactic(auto)]
 
 #[cfg(test)]

@@ -8,15 +8,15 @@ use std::{io, thread};
 /// A read that waits for this many seconds has failed.
 const LONG: u64 = 20;
 
-/// A connection is tried so often, each time after ten milliseconds.
+/// A connection is tried this often, each time after ten milliseconds.
 const TRIES: u64 = 1_000;
 
-/// Listens at a port that nobody has.
+/// Listens at a port that is free.
 pub(crate) fn listen(net: &HostRuntime) -> io::Result<TcpListener> {
     TcpListener::bind(net, SocketAddr::from((Ipv4Addr::LOCALHOST, 0)))
 }
 
-/// A port that nobody has now.
+/// A port that is free now.
 pub(crate) fn free_port(net: &HostRuntime) -> io::Result<u16> {
     Ok(listen(net)?.local_addr()?.port())
 }
@@ -28,7 +28,7 @@ pub(crate) fn accept(listener: &TcpListener) -> io::Result<TcpStream> {
     Ok(stream)
 }
 
-/// Connects as soon as somebody listens.
+/// Connects as soon as a program listens at the port.
 pub(crate) fn connect(net: &HostRuntime, port: u16) -> io::Result<TcpStream> {
     let address = SocketAddr::from((Ipv4Addr::LOCALHOST, port));
     for _ in 0..TRIES {

@@ -1,4 +1,4 @@
-//! A web port before one place: files, strangers, one for whom there is no place, and one who follows on another.
+//! A web port before one place: files, strangers, a browser that finds no place, and one that comes after another.
 
 use crate::browser::{Browser, are_strangers_refused, is_told};
 use crate::loopback::{hears, listen};
@@ -23,19 +23,20 @@ const FILE: &[u8] = b"let a;";
 
 const PATH: &str = "/app/ui.js";
 
-/// What one is told for whom there is no place: a message of 12 bytes, the version; one of 25, no type of security and
-/// a reason of 20 bytes; and a close frame with 1013, try again later (RFC 6143, 7.1.1 and 7.1.2; RFC 6455, 5.2 and
+/// What a browser is told that finds no place: a message of 12 bytes, the version; one of 25, no security type and a
+/// reason of 20 bytes; and a close frame with 1013, try again later (RFC 6143, 7.1.1 and 7.1.2; RFC 6455, 5.2 and
 /// 5.5.1).
 const REFUSAL: &[u8] =
     b"\x82\x0CRFB 003.008\n\x82\x19\0\0\0\0\x14all places are taken\x88\x02\x03\xF5";
 
-/// The same to one who comes before there is a host, a message of 16 bytes.
+/// What a browser is told that comes before there is a host: the version, a message of 16 bytes with that reason, and
+/// the same close frame.
 const EARLY: &[u8] = b"\x82\x0CRFB 003.008\n\x82\x10\0\0\0\0\x0Bno host yet\x88\x02\x03\xF5";
 
-/// So many find the place not yet free that was left.
+/// At most this many find that a place which was left isn't free yet.
 const TRIES: u64 = 1_000;
 
-/// Greets each viewer with a byte and then serves it until it ends. It answers how many came.
+/// Greets each viewer with a byte and then serves it until it ends. It answers how many viewers came.
 fn greets<D: Door>(door: &mut D) -> u64 {
     let mut into = [0u8; 64];
     for count in 0..1_000u64 {
@@ -73,14 +74,14 @@ pub(crate) fn site(alloc: Global, address: SocketAddr) -> io::Result<Arc<Site, G
     Ok(Arc::new(alloc, site)?)
 }
 
-/// Whether a file is given, and nobody else's page is let in, nor one who comes to another host.
+/// Whether a file is given, and neither another site's page nor a request for another host is let in.
 fn asks(net: &HostRuntime, port: u16) -> io::Result<bool> {
     let is_given = is_told(net, port, PATH, b"HTTP/1.1 200 ", FILE)?;
     let is_none = is_told(net, port, "/app/../app/ui.js", b"HTTP/1.1 404 ", b"")?;
     Ok(is_given && is_none && are_strangers_refused(net, port)?)
 }
 
-/// Whether one who comes is told these bytes once a WebSocket is opened.
+/// Whether a browser that comes is told these bytes once a WebSocket is opened.
 fn is_refused(net: &HostRuntime, port: u16, refusal: &[u8]) -> io::Result<bool> {
     match Browser::open(net, port)? {
         Some(mut browser) => hears(browser.stream(), refusal),
@@ -88,7 +89,7 @@ fn is_refused(net: &HostRuntime, port: u16, refusal: &[u8]) -> io::Result<bool> 
     }
 }
 
-/// Whether one who comes finds the place.
+/// Whether a browser that comes finds the place.
 fn is_let_in(net: &HostRuntime, port: u16) -> io::Result<bool> {
     match Browser::open(net, port)? {
         Some(mut browser) => hears(browser.stream(), b"\x82\x01R"),
@@ -96,7 +97,8 @@ fn is_let_in(net: &HostRuntime, port: u16) -> io::Result<bool> {
     }
 }
 
-/// One comes in, a second is told why not, while files are given, and once the first has left there is a place again.
+/// One browser comes in, a second is told why it can't, while files are given, and once the first has left there is a
+/// place again.
 fn visits(net: &HostRuntime, port: u16) -> io::Result<bool> {
     let Some(mut first) = Browser::open(net, port)? else {
         return Ok(false);
@@ -115,7 +117,7 @@ fn visits(net: &HostRuntime, port: u16) -> io::Result<bool> {
     Ok(false)
 }
 
-/// Whether all is right: before there is a host, and then. The lobby is closed at the end.
+/// Whether all is right before there is a host, and once there is one. The lobby is closed at the end.
 fn comes<R: Wait>(rt: &R, net: &HostRuntime, port: u16, lobby: &Lobby) -> bool {
     let is_early = asks(net, port).unwrap_or(false)
         && is_refused(net, port, EARLY).unwrap_or(false);
@@ -125,7 +127,7 @@ fn comes<R: Wait>(rt: &R, net: &HostRuntime, port: u16, lobby: &Lobby) -> bool {
     is_early && is_right
 }
 
-/// How many came to the door while the port was kept, and whether each was told what it should be.
+/// How many viewers came to the door while the port was kept, and whether each was told what it should be.
 fn serves<R, D>(
     rt: &R,
     net: &HostRuntime,
@@ -152,7 +154,7 @@ where
     Ok((came, right))
 }
 
-/// The same of a new lobby of one place, which nobody is let to yet.
+/// What `serves` answers with a new lobby of one place, to which no viewer is let yet.
 fn opens<R>(rt: R, net: &HostRuntime) -> io::Result<(u64, bool)>
 where
     R: Net<Stream = TcpStream, Listener = TcpListener>

@@ -33,11 +33,11 @@ const RED_AND_BLUE: &[u8] = b"\0\0\xFF\0\xFF\0\0\0";
 /// The beginning of the page where there are no files.
 const PAGE: &[u8] = b"<!DOCTYPE html>";
 
-/// What one types who only looks on, of which a host is told nothing: a key and a button that go down and stay there,
-/// and a text (RFC 6143, 7.5.4 to 7.5.6).
+/// What a viewer that only looks on types, of which a host is told nothing: a key and a button that go down and stay
+/// there, and a text (RFC 6143, 7.5.4 to 7.5.6).
 const IN_VAIN: &[u8] = b"\x04\x01\0\0\0\0\0\x76\x05\x01\0\x01\0\0\x06\0\0\0\0\0\0\x02no";
 
-/// So many answers at most are black.
+/// At most this many answers are black.
 const MOST_BLACK: u64 = 100_000;
 
 /// The ports of a run: those of viewers over TCP, and those of browsers.
@@ -49,7 +49,7 @@ struct PortsOfRun {
     web_view: u16,
 }
 
-/// Four ports that nobody has.
+/// Four free ports.
 fn free_ports(net: &HostRuntime) -> io::Result<PortsOfRun> {
     Ok(PortsOfRun {
         full: free_port(net)?,
@@ -90,9 +90,9 @@ fn is_shown(browser: &mut Browser) -> io::Result<bool> {
     Ok(false)
 }
 
-/// Whether a browser at each port is shown the update, and the page of one that asks, while strangers are refused. The
-/// one that only looks on types in vain: its answer shows that this was read. Then the other types, and both are let
-/// go.
+/// Whether a browser at each port is shown the update, and each that asks is given the page, while strangers are
+/// refused. The browser that only looks on types in vain: its answer shows that this was read. Then the other types,
+/// and both are let go.
 fn are_served(net: &HostRuntime, ports: PortsOfRun) -> io::Result<bool> {
     let Some(mut view) = greeted(net, ports.web_view)? else {
         return Ok(false);
@@ -154,7 +154,7 @@ where
     Ok(serve(rt, alloc, &settings, &mut Ports::new(alloc)))
 }
 
-/// Whether the host is told what it should be, and each browser, and the status.
+/// Whether the host is told what it should be, whether each browser is, and the status.
 fn plays<R>(rt: R, net: &HostRuntime) -> io::Result<(bool, bool, u8)>
 where
     R: Net<Stream = TcpStream, Listener = TcpListener>

@@ -1,5 +1,5 @@
-//! What takes its time: a browser's handshake, a silent screen, and one who asks slowly. The clock is put forward by
-//! hand.
+//! What may take too long: a browser's handshake, a silent screen, and a browser that asks slowly. The clock is put
+//! forward by hand.
 
 use crate::browser::{frame, head, is_told};
 use crate::loopback::{accept, connect, hears, listen};
@@ -24,7 +24,7 @@ use std::{io, thread};
 /// A viewer's side of the handshake: its version, its choice and its shared-flag (RFC 6143, 7.1.1, 7.1.2 and 7.3.1).
 const HELLO: &[u8] = b"RFB 003.008\n\x01\x01";
 
-/// A link may answer Nothing so often before bytes come.
+/// A link may answer Nothing this often before bytes come.
 const TRIES: u64 = 1_000;
 
 /// The answers to a path that isn't there begin so.
@@ -37,7 +37,7 @@ struct ByHand<'a, R: Drop> {
     millis: &'a AtomicU64,
 }
 
-/// One that is put forward by adding to these milliseconds.
+/// A runtime whose clock is put forward by adding to these milliseconds.
 fn by_hand<R: Drop>(rt: R, millis: &AtomicU64) -> ByHand<'_, R> {
     ByHand { rt, millis }
 }
@@ -141,8 +141,8 @@ where
     Ok(is_begun && is_early && is_late && scene.link.parting() == Parting::Late)
 }
 
-/// Whether one whose hello came in time is still there, and is said a ping after 30 seconds without a byte given, but
-/// not before.
+/// Whether a browser whose hello came in time is still there, and is sent a ping after 30 seconds without a byte given,
+/// but not before.
 fn is_kept_alive<R>(rt: R, millis: &AtomicU64, net: &HostRuntime) -> io::Result<bool>
 where
     R: Wait + Clock + Copy + Drop,
@@ -158,7 +158,7 @@ where
     Ok(is_greeted && is_quiet && is_told && is_pinged && scene.link.failures() == 0)
 }
 
-/// One whose hello isn't whole in its messages is given up after ten seconds.
+/// A browser whose hello isn't whole in its messages is given up after ten seconds.
 #[test]
 fn handshake_counts_the_bytes_of_messages(rt: HostRuntime) -> Result<(), Fail> {
     let millis = AtomicU64::new(0);
@@ -166,7 +166,7 @@ fn handshake_counts_the_bytes_of_messages(rt: HostRuntime) -> Result<(), Fail> {
     Ok(())
 }
 
-/// Who has greeted is there as long as it likes, and is pinged where the screen is silent.
+/// A browser that has sent its hello may stay as long as it likes, and is pinged while the screen is silent.
 #[test]
 fn ping_is_said_after_a_silence(rt: HostRuntime) -> Result<(), Fail> {
     let millis = AtomicU64::new(0);
@@ -179,14 +179,14 @@ fn begin(stream: &mut TcpStream) -> io::Result<()> {
     stream.write_all(b"GET /none HTTP/1.1\r\n")
 }
 
-/// Asks the rest. Whether it is answered.
+/// Asks the rest. It answers whether the request is answered.
 fn is_answered(alloc: Global, stream: &mut TcpStream) -> io::Result<bool> {
     stream.write_all(b"Host: 127.0.0.1\r\n\r\n")?;
     let head = head(alloc, stream)?;
     Ok(head.as_slice().starts_with(NONE))
 }
 
-/// Whether another is answered. Then the porter is done with all that came before.
+/// Whether another request is answered. If so, the porter is done with all that came before.
 fn is_other_answered(net: &HostRuntime, port: u16) -> io::Result<bool> {
     is_told(net, port, "/none", NONE, b"")
 }
@@ -207,7 +207,7 @@ fn is_let_go<R: Drop>(hand: &ByHand<'_, R>, net: &HostRuntime, port: u16) -> io:
     Ok(has_come && is_looked_at && is_there && has_begun && is_gone)
 }
 
-/// The same while the porter keeps the port. The lobby is closed at the end.
+/// Whether that caller is let go so while the porter keeps the port. The lobby is closed at the end.
 fn is_let_go_meanwhile<R>(
     hand: &ByHand<'_, R>,
     net: &HostRuntime,
@@ -231,7 +231,7 @@ where
     is_right
 }
 
-/// The same at a new port.
+/// Whether it is let go so at a new port.
 fn lets_go<R>(hand: ByHand<'_, R>, net: &HostRuntime) -> io::Result<bool>
 where
     R: Threads + Wait + Clock + Copy + Drop + Send + Sync,
@@ -248,7 +248,7 @@ where
     Ok(is_let_go_meanwhile(&hand, net, porter, address.port(), &lobby))
 }
 
-/// Who asks too slowly is let go.
+/// A browser that asks too slowly is let go.
 #[test]
 fn slow_guest_is_let_go(rt: HostRuntime) -> Result<(), Fail> {
     let millis = AtomicU64::new(0);

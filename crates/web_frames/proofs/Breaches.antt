@@ -13,10 +13,10 @@ use Rattle.websocket.proofs.LengthLemmas.{ByteAtEach}
 use Rattle.websocket.proofs.DecodeLemmas.{eqb_false, ltb_true}
 use Rattle.websocket.proofs.FrameHeaderLemmas.{length-encode_header}
 use Rattle.websocket.proofs.MaskLemmas.{length-mask_from}
-use Rattle.web_frames.specs.declared.place.Breach.{Breach}
-use Rattle.web_frames.specs.declared.place.Place.{Place}
-use Rattle.web_frames.specs.declared.place.Breach.TheVariants.{Protocol, Text}
-use Rattle.web_frames.specs.declared.place.Place.TheVariants.{Ended, Broken}
+use Rattle.web_frames.specs.declared.position.Breach.{Breach}
+use Rattle.web_frames.specs.declared.position.Position.{Position}
+use Rattle.web_frames.specs.declared.position.Breach.TheVariants.{Protocol, Text}
+use Rattle.web_frames.specs.declared.position.Position.TheVariants.{Ended, Broken}
 use Rattle.web_frames.specs.Frames.{Standing, fresh, broken, is_refused, by_opcode, byte_at, after_byte, brought_at, brought, put, after_bytes, data_in}
 use Rattle.web_frames.specs.Clients.{ClientFrame, masked_header, frame_bytes, begun_after, frames_bytes, data_of, carried, IsSent}
 use Rattle.web_frames.specs.Breaches.{begun_after_all, IsOutOfPlace, IsForbidden, NothingIsReadAfterABreach, NothingIsReadAfterAClose}
@@ -103,20 +103,20 @@ judged_broken s b h n masked begun (inr (inr place)) = judged_by_place s h n (is
 -- ---- and nothing is read any more
 
 -- A byte that leaves reading as it is and brings nothing, and then others.
-stays : (s : Standing) (place : Place) (b : ℕ) (bs : List ℕ) → after_byte s b ≡ s → brought s b ≡ None → ((after_bytes s bs).place ≡ place) × (data_in s bs ≡ [])
-    → ((after_bytes s (b ∷ bs)).place ≡ place) × (data_in s (b ∷ bs) ≡ [])
+stays : (s : Standing) (place : Position) (b : ℕ) (bs : List ℕ) → after_byte s b ≡ s → brought s b ≡ None → ((after_bytes s bs).position ≡ place) × (data_in s bs ≡ [])
+    → ((after_bytes s (b ∷ bs)).position ≡ place) × (data_in s (b ∷ bs) ≡ [])
 stays s place b bs same none more = (
-  ap (λ (t : Standing). (after_bytes t bs).place) same ∙ more.0,
+  ap (λ (t : Standing). (after_bytes t bs).position) same ∙ more.0,
   ap (λ o. put o (data_in (after_byte s b) bs)) none ∙ (ap (λ (t : Standing). data_in t bs) same ∙ more.1),
 )
 
-still_broken : (s : Standing) (why : Breach) (bytes : List ℕ) → s.place ≡ Broken why → ((after_bytes s bytes).place ≡ Broken why) × (data_in s bytes ≡ [])
+still_broken : (s : Standing) (why : Breach) (bytes : List ℕ) → s.position ≡ Broken why → ((after_bytes s bytes).position ≡ Broken why) × (data_in s bytes ≡ [])
 still_broken s why [] at = (at, refl)
-still_broken s why (b ∷ bs) at = stays s (Broken why) b bs (ap (λ (p : Place). byte_at p s b) at) (ap (λ (p : Place). brought_at p s b) at) (still_broken s why bs at)
+still_broken s why (b ∷ bs) at = stays s (Broken why) b bs (ap (λ (p : Position). byte_at p s b) at) (ap (λ (p : Position). brought_at p s b) at) (still_broken s why bs at)
 
-still_ended : (s : Standing) (bytes : List ℕ) → s.place ≡ Ended → ((after_bytes s bytes).place ≡ Ended) × (data_in s bytes ≡ [])
+still_ended : (s : Standing) (bytes : List ℕ) → s.position ≡ Ended → ((after_bytes s bytes).position ≡ Ended) × (data_in s bytes ≡ [])
 still_ended s [] at = (at, refl)
-still_ended s (b ∷ bs) at = stays s Ended b bs (ap (λ (p : Place). byte_at p s b) at) (ap (λ (p : Place). brought_at p s b) at) (still_ended s bs at)
+still_ended s (b ∷ bs) at = stays s Ended b bs (ap (λ (p : Position). byte_at p s b) at) (ap (λ (p : Position). brought_at p s b) at) (still_ended s bs at)
 
 -- ---- after the frames of a client
 
@@ -132,7 +132,7 @@ all_frames s b (f ∷ fs) ready sent =
     )
 
 start : IsReady (fresh true) false
-start = record { masked = refl; place = refl; head = refl; begun = refl }
+start = record { masked = refl; position = refl; head = refl; begun = refl }
 
 -- Bytes of which nothing is read add nothing.
 adds_nothing : (s : Standing) (bytes others read : List ℕ) → data_in s bytes ≡ read → data_in (after_bytes s bytes) others ≡ [] → data_in s (bytes ++ others) ≡ read
@@ -141,14 +141,14 @@ adds_nothing s bytes others read reads none =
 
 -- What a ready reader makes of a forbidden header and what follows it.
 breaks : (s : Standing) (b : Bool) (h : FrameHeader) (n : ℕ) (others : List ℕ) → IsReady s b → IsHeader h n → IsForbidden b h n
-    → (why : Breach) × ((after_bytes s (encode_header h n ++ others)).place ≡ Broken why) × (data_in s (encode_header h n ++ others) ≡ [])
+    → (why : Breach) × ((after_bytes s (encode_header h n ++ others)).position ≡ Broken why) × (data_in s (encode_header h n ++ others) ≡ [])
 breaks s b h n others ready valid forbidden =
     let bytes : List ℕ = encode_header h n in
-    let read = whole_head s h n ready.place ready.head valid (any_header h n valid.mask) (any_header_short h n valid.mask) in
+    let read = whole_head s h n ready.position ready.head valid (any_header h n valid.mask) (any_header_short h n valid.mask) in
     let judge = judged_broken (in_head s bytes) b h n ready.masked ready.begun forbidden in
-    let at : (after_bytes s bytes).place ≡ Broken judge.0 = ap (λ (t : Standing). t.place) (read.0 ∙ judge.1) in
+    let at : (after_bytes s bytes).position ≡ Broken judge.0 = ap (λ (t : Standing). t.position) (read.0 ∙ judge.1) in
     let stays = still_broken (after_bytes s bytes) judge.0 others at in
-    (judge.0, ap (λ (t : Standing). t.place) (after-append s bytes others) ∙ stays.0, adds_nothing s bytes others [] read.1 stays.1)
+    (judge.0, ap (λ (t : Standing). t.position) (after-append s bytes others) ∙ stays.0, adds_nothing s bytes others [] read.1 stays.1)
 
 pub nothing_after_a_breach : NothingIsReadAfterABreach
 nothing_after_a_breach fs h size others sent valid forbidden =
@@ -157,13 +157,13 @@ nothing_after_a_breach fs h size others sent valid forbidden =
     record {
       reads = adds_nothing (fresh true) (frames_bytes false fs) (encode_header h size ++ others) (carried fs) before.1 after.2;
       why = after.0;
-      broken = ap (λ (t : Standing). t.place) (after-append (fresh true) (frames_bytes false fs) (encode_header h size ++ others)) ∙ after.1;
+      broken = ap (λ (t : Standing). t.position) (after-append (fresh true) (frames_bytes false fs) (encode_header h size ++ others)) ∙ after.1;
     }
 
 -- ---- a close frame
 
 close_read : (s : Standing) (b : Bool) (key payload : List ℕ) → IsReady s b → IsMask (Some key) → length payload ≤ 125
-    → ((after_bytes s (encode_frame (masked_header true (op.Control control.Close) key) payload)).place ≡ Ended)
+    → ((after_bytes s (encode_frame (masked_header true (op.Control control.Close) key) payload)).position ≡ Ended)
     × (data_in s (encode_frame (masked_header true (op.Control control.Close) key) payload) ≡ [])
 unfolding mask_from
 close_read s b key [] ready valid le =
@@ -185,18 +185,18 @@ close_read s b key (x ∷ xs) ready valid le =
     let close = close_reads (record s { masked = true; head = []; key = key }) 0 [] first rest (omega (arith, size, le)) in
     let stands : after_bytes s (bytes ++ first ∷ rest) ≡ after_bytes (in_close (record s { masked = true; head = []; key = key }) 0 (length (first ∷ rest)) []) (first ∷ rest) =
     after-append s bytes (first ∷ rest) ∙ ap (λ (t : Standing). after_bytes t (first ∷ rest)) inside in (
-      ap (λ (t : Standing). t.place) stands ∙ close.0,
+      ap (λ (t : Standing). t.position) stands ∙ close.0,
       data-append s bytes (first ∷ rest) ∙ (ap (λ (d : List ℕ). d ++ data_in (after_bytes s bytes) (first ∷ rest)) read.1 ∙ (ap (λ (t : Standing). data_in t (first ∷ rest)) inside ∙ close.1)),
     )
 
 ends : (s : Standing) (b : Bool) (key payload others : List ℕ) → IsReady s b → IsMask (Some key) → length payload ≤ 125
-    → ((after_bytes s (encode_frame (masked_header true (op.Control control.Close) key) payload ++ others)).place ≡ Ended)
+    → ((after_bytes s (encode_frame (masked_header true (op.Control control.Close) key) payload ++ others)).position ≡ Ended)
     × (data_in s (encode_frame (masked_header true (op.Control control.Close) key) payload ++ others) ≡ [])
 ends s b key payload others ready valid le =
     let bytes : List ℕ = encode_frame (masked_header true (op.Control control.Close) key) payload in
     let read = close_read s b key payload ready valid le in
     let stays = still_ended (after_bytes s bytes) others read.0 in
-    (ap (λ (t : Standing). t.place) (after-append s bytes others) ∙ stays.0, adds_nothing s bytes others [] read.1 stays.1)
+    (ap (λ (t : Standing). t.position) (after-append s bytes others) ∙ stays.0, adds_nothing s bytes others [] read.1 stays.1)
 
 pub nothing_after_a_close : NothingIsReadAfterAClose
 nothing_after_a_close fs key payload others sent valid le =
@@ -205,5 +205,5 @@ nothing_after_a_close fs key payload others sent valid le =
     let after = ends (after_bytes (fresh true) (frames_bytes false fs)) (begun_after_all false fs) key payload others before.0 valid le in
     record {
       reads = adds_nothing (fresh true) (frames_bytes false fs) (frame ++ others) (carried fs) before.1 after.1;
-      ended = ap (λ (t : Standing). t.place) (after-append (fresh true) (frames_bytes false fs) (frame ++ others)) ∙ after.0;
+      ended = ap (λ (t : Standing). t.position) (after-append (fresh true) (frames_bytes false fs) (frame ++ others)) ∙ after.0;
     }

@@ -15,7 +15,7 @@ use Rattle.websocket.proofs.LengthLemmas.{ByteAtEach}
 use Rattle.websocket.proofs.DecodeLemmas.{eqb_false, ltb_true, ltb_false}
 use Rattle.websocket.proofs.FrameHeaderLemmas.{length-encode_header}
 use Rattle.websocket.proofs.MaskLemmas.{length-mask_from}
-use Rattle.web_frames.specs.declared.place.Place.TheVariants.{Head}
+use Rattle.web_frames.specs.declared.position.Position.TheVariants.{Head}
 use Rattle.web_frames.specs.Frames.{Standing, fresh, at_end, after_bytes, data_in}
 use Rattle.web_frames.specs.Clients.{ClientFrame, Part, Ping, Pong, masked_header, frame_bytes, begun_after, frames_bytes, data_of, carried, IsSent, AllFramesAreRead}
 use Rattle.web_frames.proofs.Reading.{after-append, data-append}
@@ -102,7 +102,7 @@ header_short f what key n valid = omega (arith, length-encode_header (masked_hea
 -- Reading stands between two frames of a client.
 pub record IsReady (s : Standing) (b : Bool) : Type 0 where
   pub masked : s.masked ≡ true
-  pub place : s.place ≡ Head
+  pub position : s.position ≡ Head
   pub head : s.head ≡ []
   pub begun : s.begun ≡ b
 
@@ -110,7 +110,7 @@ pub header_read : (s : Standing) (b f : Bool) (what : OpCode) (key : List ℕ) (
     → (after_bytes s (encode_header (masked_header f what key) n) ≡ judged (in_head s (encode_header (masked_header f what key) n)) (masked_header f what key) n)
     × (data_in s (encode_header (masked_header f what key) n) ≡ [])
 header_read s b f what key n ready valid lt =
-    whole_head s (masked_header f what key) n ready.place ready.head (record { mask = valid; top_bit_clear = lt }) (each_header f what key n valid) (header_short f what key n valid)
+    whole_head s (masked_header f what key) n ready.position ready.head (record { mask = valid; top_bit_clear = lt }) (each_header f what key n valid) (header_short f what key n valid)
 
 -- In the payload of a part.
 abbrev in_part : Standing → Bool → (key : List ℕ) → ℕ → Standing
@@ -136,7 +136,7 @@ part_read s b f key [] ready valid lt =
     let h = masked_header f (op.Data (cond b kind.Continue kind.Binary)) key in
     let bare : frame_bytes b (Part f key []) ≡ encode_header h 0 = append-nil (encode_header h 0) in
     let stands : after_bytes s (frame_bytes b (Part f key [])) ≡ at_end (in_part s f key 0) = ap (after_bytes s) bare ∙ part_begins s b f key 0 ready valid (omega arith) in (
-      subst (λ (t : Standing). IsReady t (not f)) (sym stands) (record { masked = refl; place = refl; head = refl; begun = refl }),
+      subst (λ (t : Standing). IsReady t (not f)) (sym stands) (record { masked = refl; position = refl; head = refl; begun = refl }),
       ap (data_in s) bare ∙ (header_read s b f (op.Data (cond b kind.Continue kind.Binary)) key 0 ready valid (omega arith)).1,
     )
 part_read s b f key (x ∷ xs) ready valid lt =
@@ -149,7 +149,7 @@ part_read s b f key (x ∷ xs) ready valid lt =
     let none : n - n ≡ 0 = omega arith in
     let stands : after_bytes s (bytes ++ rest) ≡ at_end (in_data (record s { masked = true; head = []; begun = not f; control = [] }) key ((0 + n) % 4) 0) =
     after-append s bytes rest ∙ (ap (λ (t : Standing). after_bytes t rest) inside ∙ (read.1 ∙ ap (λ k. at_end (in_data (record s { masked = true; head = []; begun = not f; control = [] }) key ((0 + n) % 4) k)) none)) in (
-      subst (λ (t : Standing). IsReady t (not f)) (sym stands) (record { masked = refl; place = refl; head = refl; begun = refl }),
+      subst (λ (t : Standing). IsReady t (not f)) (sym stands) (record { masked = refl; position = refl; head = refl; begun = refl }),
       data-append s bytes rest
           ∙ (ap (λ (d : List ℕ). d ++ data_in (after_bytes s bytes) rest) (header_read s b f (op.Data (cond b kind.Continue kind.Binary)) key n ready valid lt).1 ∙ (ap (λ (t : Standing). data_in t rest) inside ∙ read.0)),
     )
@@ -158,7 +158,7 @@ pub not_over : (n : ℕ) → n ≤ 125 → nat_lt 125 n ≡ false
 not_over n le = ltb_false 125 n le
 
 behind_ready : (s t : Standing) (b : Bool) (key : List ℕ) → IsReady s b → IsBehind (record s { masked = true; head = []; key = key }) t → IsReady t b
-behind_ready s t b key ready behind = record { masked = behind.masked; place = behind.place; head = behind.head; begun = behind.begun ∙ ready.begun }
+behind_ready s t b key ready behind = record { masked = behind.masked; position = behind.position; head = behind.head; begun = behind.begun ∙ ready.begun }
 
 ping_read : (s : Standing) (b : Bool) (key payload : List ℕ) → IsReady s b → IsMask (Some key) → length payload ≤ 125
     → IsReady (after_bytes s (frame_bytes b (Ping key payload))) b × (data_in s (frame_bytes b (Ping key payload)) ≡ [])
@@ -168,7 +168,7 @@ ping_read s b key [] ready valid le =
     let read = header_read s b true (op.Control control.Ping) key 0 ready valid (omega arith) in
     let m : s.masked ≡ true = ready.masked in
     let bare : frame_bytes b (Ping key []) ≡ encode_header h 0 = append-nil (encode_header h 0) in
-    (rw (bare, read.0, m) (record { masked = refl; place = refl; head = refl; begun = ready.begun }), ap (data_in s) bare ∙ read.1)
+    (rw (bare, read.0, m) (record { masked = refl; position = refl; head = refl; begun = ready.begun }), ap (data_in s) bare ∙ read.1)
 ping_read s b key (x ∷ xs) ready valid le =
     let n = length (x ∷ xs) in
     let bytes = encode_header (masked_header true (op.Control control.Ping) key) n in
@@ -194,7 +194,7 @@ pong_read s b key [] ready valid le =
     let read = header_read s b true (op.Control control.Pong) key 0 ready valid (omega arith) in
     let m : s.masked ≡ true = ready.masked in
     let bare : frame_bytes b (Pong key []) ≡ encode_header h 0 = append-nil (encode_header h 0) in
-    (rw (bare, read.0, m) (record { masked = refl; place = refl; head = refl; begun = ready.begun }), ap (data_in s) bare ∙ read.1)
+    (rw (bare, read.0, m) (record { masked = refl; position = refl; head = refl; begun = ready.begun }), ap (data_in s) bare ∙ read.1)
 pong_read s b key (x ∷ xs) ready valid le =
     let n = length (x ∷ xs) in
     let bytes = encode_header (masked_header true (op.Control control.Pong) key) n in
@@ -227,4 +227,4 @@ frames_read s b (f ∷ fs) ready sent =
     data-append s (frame_bytes b f) (frames_bytes (begun_after b f) fs) ∙ (ap (λ (d : List ℕ). d ++ data_in (after_bytes s (frame_bytes b f)) (frames_bytes (begun_after b f) fs)) one.1 ∙ ap (λ (d : List ℕ). data_of f ++ d) others)
 
 pub all_read : AllFramesAreRead
-all_read fs sent = frames_read (fresh true) false fs (record { masked = refl; place = refl; head = refl; begun = refl }) sent
+all_read fs sent = frames_read (fresh true) false fs (record { masked = refl; position = refl; head = refl; begun = refl }) sent

@@ -8,13 +8,13 @@ use Rattle.websocket.proofs.LengthLemmas.{ByteAtEach, ByteAtEach-take}
 use Rattle.websocket.proofs.DecodeLemmas.{ltb_true}
 use Rattle.websocket.proofs.FrameHeaderLemmas.{decode_header-encode_header}
 use Rattle.websocket.proofs.CutHeaderLemmas.{decode_header_cut}
-use Rattle.web_frames.specs.declared.place.Place.{Place}
-use Rattle.web_frames.specs.declared.place.Place.TheVariants.{Head}
-use Rattle.web_frames.specs.declared.place.Breach.TheVariants.{Protocol}
+use Rattle.web_frames.specs.declared.position.Position.{Position}
+use Rattle.web_frames.specs.declared.position.Position.TheVariants.{Head}
+use Rattle.web_frames.specs.declared.position.Breach.TheVariants.{Protocol}
 use Rattle.web_frames.specs.Frames.{Standing, broken, is_refused, by_opcode, after_byte, after_bytes, data_in}
 
 abbrev pub in_head : Standing → List ℕ → Standing
-in_head s p = record s { place = Head; head = p }
+in_head s p = record s { position = Head; head = p }
 
 -- What follows a header that has come whole.
 abbrev pub judged : Standing → FrameHeader → ℕ → Standing
@@ -50,11 +50,11 @@ head_reads s h n p (c ∷ q) b valid small short e =
     (ap (λ (t : Standing). after_bytes t (c ∷ q)) next ∙ more.0, ap (λ (t : Standing). data_in t (c ∷ q)) next ∙ more.1)
 
 -- A standing before a header.
-pub before_head : (s : Standing) → s.place ≡ Head → s.head ≡ [] → s ≡ in_head s []
-before_head s p h = ap (λ (x : List ℕ). record s { head = x }) h ∙ ap (λ (x : Place). record s { place = x; head = [] }) p
+pub before_head : (s : Standing) → s.position ≡ Head → s.head ≡ [] → s ≡ in_head s []
+before_head s p h = ap (λ (x : List ℕ). record s { head = x }) h ∙ ap (λ (x : Position). record s { position = x; head = [] }) p
 
 -- A whole header is read as that header.
-pub whole_head : (s : Standing) (h : FrameHeader) (n : ℕ) → s.place ≡ Head → s.head ≡ [] → IsHeader h n → ByteAtEach (encode_header h n) → length (encode_header h n) ≤ 14
+pub whole_head : (s : Standing) (h : FrameHeader) (n : ℕ) → s.position ≡ Head → s.head ≡ [] → IsHeader h n → ByteAtEach (encode_header h n) → length (encode_header h n) ≤ 14
     → (after_bytes s (encode_header h n) ≡ judged (in_head s (encode_header h n)) h n) × (data_in s (encode_header h n) ≡ [])
 unfolding encode_header
 whole_head s h n place head valid small short =

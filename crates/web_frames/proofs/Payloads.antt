@@ -4,13 +4,13 @@ use Rattle.std.specs.Prelude.{nat_lt}
 use lib.Bits.{xor_assoc, xor_self, xor_zero_r}
 use Rattle.websocket.specs.Mask.{mask_from}
 use Rattle.websocket.proofs.DecodeLemmas.{eqb_false, ltb_true}
-use Rattle.web_frames.specs.declared.place.Place.TheVariants.{Head, Payload, Ended}
-use Rattle.web_frames.specs.declared.place.Kind.TheVariants.{Data, Ping, Pong, Close}
+use Rattle.web_frames.specs.declared.position.Position.TheVariants.{Head, Payload, Ended}
+use Rattle.web_frames.specs.declared.position.Kind.TheVariants.{Data, Ping, Pong, Close}
 use Rattle.web_frames.specs.Frames.{Standing, at_end, after_byte, after_bytes, data_in}
 
 -- In a payload of data.
 abbrev pub in_data : Standing → (key : List ℕ) → (turn left : ℕ) → Standing
-in_data s key turn left = record s { place = Payload Data; key = key; turn = turn; left = left }
+in_data s key turn left = record s { position = Payload Data; key = key; turn = turn; left = left }
 
 pub goes_on : (s : Standing) (key : List ℕ) (turn left : ℕ) → 1 ≤ left → at_end (in_data s key turn left) ≡ in_data s key turn left
 goes_on s key turn left some = rw (eqb_false left 0 some)
@@ -71,18 +71,18 @@ zero_reads s turn left x (y ∷ ys) short =
 
 -- In the payload of a pong.
 abbrev pub in_pong : Standing → (turn left : ℕ) → (control : List ℕ) → Standing
-in_pong s turn left control = record s { place = Payload Pong; turn = turn; left = left; control = control }
+in_pong s turn left control = record s { position = Payload Pong; turn = turn; left = left; control = control }
 
 abbrev pub in_ping : Standing → (turn left : ℕ) → (control : List ℕ) → Standing
-in_ping s turn left control = record s { place = Payload Ping; turn = turn; left = left; control = control }
+in_ping s turn left control = record s { position = Payload Ping; turn = turn; left = left; control = control }
 
 abbrev pub in_close : Standing → (turn left : ℕ) → (control : List ℕ) → Standing
-in_close s turn left control = record s { place = Payload Close; turn = turn; left = left; control = control }
+in_close s turn left control = record s { position = Payload Close; turn = turn; left = left; control = control }
 
 -- Behind it.
 pub record IsBehind (s t : Standing) : Type 0 where
   pub masked : t.masked ≡ s.masked
-  pub place : t.place ≡ Head
+  pub position : t.position ≡ Head
   pub head : t.head ≡ s.head
   pub begun : t.begun ≡ s.begun
 
@@ -90,7 +90,7 @@ pub pong_reads : (s : Standing) (turn : ℕ) (control : List ℕ) (x : ℕ) (xs 
     → IsBehind s (after_bytes (in_pong s turn (length (x ∷ xs)) control) (x ∷ xs)) × (data_in (in_pong s turn (length (x ∷ xs)) control) (x ∷ xs) ≡ [])
 pong_reads s turn control x [] short =
     let room : nat_lt (length control) 125 ≡ true = ltb_true (length control) 125 (omega arith) in
-    (rw room (record { masked = refl; place = refl; head = refl; begun = refl }), refl)
+    (rw room (record { masked = refl; position = refl; head = refl; begun = refl }), refl)
 pong_reads s turn control x (y ∷ ys) short =
     let room : nat_lt (length control) 125 ≡ true = ltb_true (length control) 125 (omega arith) in
     let grown = control ++ bit_xor x (get_or s.key turn 0) ∷ [] in
@@ -103,7 +103,7 @@ pub ping_reads : (s : Standing) (turn : ℕ) (control : List ℕ) (x : ℕ) (xs 
     → IsBehind s (after_bytes (in_ping s turn (length (x ∷ xs)) control) (x ∷ xs)) × (data_in (in_ping s turn (length (x ∷ xs)) control) (x ∷ xs) ≡ [])
 ping_reads s turn control x [] short =
     let room : nat_lt (length control) 125 ≡ true = ltb_true (length control) 125 (omega arith) in
-    (rw room (record { masked = refl; place = refl; head = refl; begun = refl }), refl)
+    (rw room (record { masked = refl; position = refl; head = refl; begun = refl }), refl)
 ping_reads s turn control x (y ∷ ys) short =
     let room : nat_lt (length control) 125 ≡ true = ltb_true (length control) 125 (omega arith) in
     let grown = control ++ bit_xor x (get_or s.key turn 0) ∷ [] in
@@ -113,7 +113,7 @@ ping_reads s turn control x (y ∷ ys) short =
     (subst (λ (t : Standing). IsBehind s (after_bytes t (y ∷ ys))) (sym next) more.0, ap (λ (t : Standing). data_in t (y ∷ ys)) next ∙ more.1)
 
 pub close_reads : (s : Standing) (turn : ℕ) (control : List ℕ) (x : ℕ) (xs : List ℕ) → length control + length (x ∷ xs) ≤ 125
-    → ((after_bytes (in_close s turn (length (x ∷ xs)) control) (x ∷ xs)).place ≡ Ended) × (data_in (in_close s turn (length (x ∷ xs)) control) (x ∷ xs) ≡ [])
+    → ((after_bytes (in_close s turn (length (x ∷ xs)) control) (x ∷ xs)).position ≡ Ended) × (data_in (in_close s turn (length (x ∷ xs)) control) (x ∷ xs) ≡ [])
 close_reads s turn control x [] short =
     let room : nat_lt (length control) 125 ≡ true = ltb_true (length control) 125 (omega arith) in
     (rw room, refl)
@@ -123,4 +123,4 @@ close_reads s turn control x (y ∷ ys) short =
     let one_less : length (x ∷ y ∷ ys) - 1 ≡ length (y ∷ ys) = omega arith in
     let next : after_byte (in_close s turn (length (x ∷ y ∷ ys)) control) x ≡ in_close s ((turn + 1) % 4) (length (y ∷ ys)) grown = rw (room, one_less, eqb_false (length (y ∷ ys)) 0 (omega arith)) in
     let more = close_reads s ((turn + 1) % 4) grown y ys (omega (arith, short, length-append control (bit_xor x (get_or s.key turn 0) ∷ []))) in
-    (subst (λ (t : Standing). (after_bytes t (y ∷ ys)).place ≡ Ended) (sym next) more.0, ap (λ (t : Standing). data_in t (y ∷ ys)) next ∙ more.1)
+    (subst (λ (t : Standing). (after_bytes t (y ∷ ys)).position ≡ Ended) (sym next) more.0, ap (λ (t : Standing). data_in t (y ∷ ys)) next ∙ more.1)

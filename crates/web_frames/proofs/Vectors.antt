@@ -6,9 +6,9 @@ use Rattle.websocket.specs.declared.protocol.frame.coding.Control.TheVariants as
 use Rattle.websocket.specs.FrameHeader.{encode_header, decode_header}
 use Rattle.websocket.specs.Frame.{encode_frame}
 use Rattle.websocket.specs.Mask.{mask_from}
-use Rattle.web_frames.specs.declared.place.Place.{Place}
-use Rattle.web_frames.specs.declared.place.Place.TheVariants.{Head, Ended, Broken}
-use Rattle.web_frames.specs.declared.place.Breach.TheVariants.{Protocol, Text}
+use Rattle.web_frames.specs.declared.position.Position.{Position}
+use Rattle.web_frames.specs.declared.position.Position.TheVariants.{Head, Ended, Broken}
+use Rattle.web_frames.specs.declared.position.Breach.TheVariants.{Protocol, Text}
 use Rattle.web_frames.specs.Frames.{fresh, after_bytes, data_in, binary_header, control_header}
 use Rattle.web_frames.specs.Clients.{Part, Ping, Pong, frame_bytes}
 
@@ -22,12 +22,12 @@ key = 0x37 ∷ 0xfa ∷ 0x21 ∷ 0x3d ∷ []
 abbrev masked_hello : List ℕ
 masked_hello = 0x85 ∷ 0x37 ∷ 0xfa ∷ 0x21 ∷ 0x3d ∷ 0x7f ∷ 0x9f ∷ 0x4d ∷ 0x51 ∷ 0x58 ∷ []
 
-abbrev place_after : Bool → List ℕ → Place
-place_after masked bytes = (after_bytes (fresh masked) bytes).place
+abbrev position_after : Bool → List ℕ → Position
+position_after masked bytes = (after_bytes (fresh masked) bytes).position
 
 -- ---- the examples, read
 
-pub masked_text : place_after true (0x81 ∷ masked_hello) ≡ Broken Text
+pub masked_text : position_after true (0x81 ∷ masked_hello) ≡ Broken Text
 unfolding decode_header
 masked_text = refl
 
@@ -39,7 +39,7 @@ pub masked_binary : data_in (fresh true) (0x82 ∷ masked_hello) ≡ hello
 unfolding decode_header
 masked_binary = refl
 
-pub unmasked_from_a_client : place_after true (0x82 ∷ 0x05 ∷ hello) ≡ Broken Protocol
+pub unmasked_from_a_client : position_after true (0x82 ∷ 0x05 ∷ hello) ≡ Broken Protocol
 unfolding decode_header
 unmasked_from_a_client = refl
 
@@ -47,7 +47,7 @@ pub unmasked_from_a_server : data_in (fresh false) (0x82 ∷ 0x05 ∷ hello) ≡
 unfolding decode_header
 unmasked_from_a_server = refl
 
-pub masked_from_a_server : place_after false (0x82 ∷ masked_hello) ≡ Broken Protocol
+pub masked_from_a_server : position_after false (0x82 ∷ masked_hello) ≡ Broken Protocol
 unfolding decode_header
 masked_from_a_server = refl
 
@@ -63,7 +63,7 @@ pub masked_pong : data_in (fresh true) (0x8a ∷ masked_hello) ≡ []
 unfolding decode_header
 masked_pong = refl
 
-pub behind_a_pong : place_after true (0x8a ∷ masked_hello) ≡ Head
+pub behind_a_pong : position_after true (0x8a ∷ masked_hello) ≡ Head
 unfolding decode_header
 behind_a_pong = refl
 
@@ -106,36 +106,36 @@ spelled_head_of_256_bytes = refl
 abbrev no_bytes : List ℕ
 no_bytes = 0x80 ∷ 0 ∷ 0 ∷ 0 ∷ 0 ∷ []
 
-pub reserved_bit : place_after true (0xc2 ∷ no_bytes) ≡ Broken Protocol
+pub reserved_bit : position_after true (0xc2 ∷ no_bytes) ≡ Broken Protocol
 unfolding decode_header
 reserved_bit = refl
 
-pub reserved_opcode : place_after true (0x83 ∷ no_bytes) ≡ Broken Protocol
+pub reserved_opcode : position_after true (0x83 ∷ no_bytes) ≡ Broken Protocol
 unfolding decode_header
 reserved_opcode = refl
 
-pub part_of_no_message : place_after true (0x80 ∷ no_bytes) ≡ Broken Protocol
+pub part_of_no_message : position_after true (0x80 ∷ no_bytes) ≡ Broken Protocol
 unfolding decode_header
 part_of_no_message = refl
 
-pub message_in_a_message : place_after true (0x02 ∷ no_bytes ++ 0x82 ∷ no_bytes) ≡ Broken Protocol
+pub message_in_a_message : position_after true (0x02 ∷ no_bytes ++ 0x82 ∷ no_bytes) ≡ Broken Protocol
 unfolding decode_header
 message_in_a_message = refl
 
-pub ping_in_pieces : place_after true (0x09 ∷ no_bytes) ≡ Broken Protocol
+pub ping_in_pieces : position_after true (0x09 ∷ no_bytes) ≡ Broken Protocol
 unfolding decode_header
 ping_in_pieces = refl
 
-pub ping_of_126_bytes : place_after true (0x89 ∷ 0xfe ∷ 0 ∷ 0x7e ∷ 0 ∷ 0 ∷ 0 ∷ 0 ∷ []) ≡ Broken Protocol
+pub ping_of_126_bytes : position_after true (0x89 ∷ 0xfe ∷ 0 ∷ 0x7e ∷ 0 ∷ 0 ∷ 0 ∷ 0 ∷ []) ≡ Broken Protocol
 unfolding decode_header
 ping_of_126_bytes = refl
 
 -- A length that isn't in its shortest form, and one of 2 ^ 63 bytes.
-pub length_of_5_in_two_bytes : place_after true (0x82 ∷ 0xfe ∷ 0 ∷ 5 ∷ 0 ∷ 0 ∷ 0 ∷ 0 ∷ []) ≡ Broken Protocol
+pub length_of_5_in_two_bytes : position_after true (0x82 ∷ 0xfe ∷ 0 ∷ 5 ∷ 0 ∷ 0 ∷ 0 ∷ 0 ∷ []) ≡ Broken Protocol
 unfolding decode_header
 length_of_5_in_two_bytes = refl
 
-pub length_of_2_63 : place_after true (0x82 ∷ 0xff ∷ 0x80 ∷ 0 ∷ 0 ∷ 0 ∷ 0 ∷ 0 ∷ 0 ∷ 0 ∷ []) ≡ Broken Protocol
+pub length_of_2_63 : position_after true (0x82 ∷ 0xff ∷ 0x80 ∷ 0 ∷ 0 ∷ 0 ∷ 0 ∷ 0 ∷ 0 ∷ 0 ∷ []) ≡ Broken Protocol
 unfolding decode_header
 length_of_2_63 = refl
 
@@ -143,6 +143,6 @@ pub behind_a_close_frame : data_in (fresh true) (0x88 ∷ no_bytes ++ 0x82 ∷ m
 unfolding decode_header
 behind_a_close_frame = refl
 
-pub ended : place_after true (0x88 ∷ no_bytes) ≡ Ended
+pub ended : position_after true (0x88 ∷ no_bytes) ≡ Ended
 unfolding decode_header
 ended = refl

@@ -8,18 +8,18 @@ use Rattle.websocket.specs.declared.protocol.frame.coding.Control.{Control}
 use Rattle.websocket.specs.declared.protocol.frame.coding.Control.TheVariants as control
 use Rattle.websocket.specs.declared.protocol.frame.coding.Data.TheVariants as kind
 use Rattle.websocket.specs.Connection.{whole_header}
-use Rattle.web_frames.specs.declared.place.Place.{Place}
-use Rattle.web_frames.specs.declared.place.Place.TheVariants.{Head, Payload, Ended, Broken}
-use Rattle.web_frames.specs.declared.place.Kind.{Kind}
-use Rattle.web_frames.specs.declared.place.Kind.TheVariants.{Data, Ping, Pong, Close}
-use Rattle.web_frames.specs.declared.place.Breach.{Breach}
-use Rattle.web_frames.specs.declared.place.Breach.TheVariants.{Protocol, Text}
+use Rattle.web_frames.specs.declared.position.Position.{Position}
+use Rattle.web_frames.specs.declared.position.Position.TheVariants.{Head, Payload, Ended, Broken}
+use Rattle.web_frames.specs.declared.position.Kind.{Kind}
+use Rattle.web_frames.specs.declared.position.Kind.TheVariants.{Data, Ping, Pong, Close}
+use Rattle.web_frames.specs.declared.position.Breach.{Breach}
+use Rattle.web_frames.specs.declared.position.Breach.TheVariants.{Protocol, Text}
 
 -- Where reading stands.
 pub record Standing : Type 0 where
-  -- Frames must be masked, as a client's are; else they mustn't be.
+  -- Whether frames must be masked, as a client's are; where this is false they must not be.
   pub masked : Bool
-  pub place : Place
+  pub position : Position
   -- What has come of a header.
   pub head : List ℕ
   -- A binary message is begun whose last frame is still to come.
@@ -32,28 +32,28 @@ pub record Standing : Type 0 where
   -- What has come of a ping, a pong or a close.
   pub control : List ℕ
 
--- Nothing has come.
+-- Where reading stands before the first byte.
 abbrev pub fresh : Bool → Standing
-fresh masked = record { masked = masked; place = Head; head = []; begun = false; key = 0 ∷ 0 ∷ 0 ∷ 0 ∷ []; turn = 0; left = 0; control = [] }
+fresh masked = record { masked = masked; position = Head; head = []; begun = false; key = 0 ∷ 0 ∷ 0 ∷ 0 ∷ []; turn = 0; left = 0; control = [] }
 
--- A frame is refused: nothing is read any more.
+-- Where reading stands once a frame was refused: nothing is read any more.
 abbrev pub broken : Standing → Breach → Standing
-broken s why = record s { place = Broken why }
+broken s why = record s { position = Broken why }
 
 -- ---- the end of a frame
 
-abbrev pub ended_at : Place → Standing → Standing
-ended_at (Payload Data) s = record s { place = Head }
-ended_at (Payload Ping) s = record s { place = Head; control = [] }
-ended_at (Payload Pong) s = record s { place = Head }
-ended_at (Payload Close) s = record s { place = Ended }
+abbrev pub ended_at : Position → Standing → Standing
+ended_at (Payload Data) s = record s { position = Head }
+ended_at (Payload Ping) s = record s { position = Head; control = [] }
+ended_at (Payload Pong) s = record s { position = Head }
+ended_at (Payload Close) s = record s { position = Ended }
 ended_at Head s = s
 ended_at Ended s = s
 ended_at (Broken why) s = s
 
--- Where no byte of a payload is missing its frame ends.
+-- A frame ends where no byte of its payload is missing.
 abbrev pub at_end : Standing → Standing
-at_end s = cond (s.left == 0) (ended_at s.place s) s
+at_end s = cond (s.left == 0) (ended_at s.position s) s
 
 -- ---- a header
 
@@ -64,15 +64,15 @@ key_of (Some key) = key
 -- A payload of this kind and size follows, after which a message is begun or not.
 abbrev pub before_payload : Standing → Kind → Bool → FrameHeader → ℕ → Standing
 before_payload s kind begun h size =
-    at_end (record s { place = Payload kind; head = []; begun = begun; key = key_of h.mask; turn = 0; left = size; control = [] })
+    at_end (record s { position = Payload kind; head = []; begun = begun; key = key_of h.mask; turn = 0; left = size; control = [] })
 
 abbrev pub kind_of : Control → Kind
 kind_of control.Close = Close
 kind_of control.Ping = Ping
 kind_of control.Pong = Pong
 
--- A control frame is whole and short (5.5), a message of several frames has its kind in the first (5.4), and no text
--- is taken.
+-- What follows a header, by its opcode. A control frame has to be whole and short (5.5), a message of several frames
+-- has its kind in the first (5.4), and no text is taken.
 abbrev pub by_opcode : Standing → OpCode → FrameHeader → ℕ → Standing
 by_opcode s (op.Control what) h size =
     cond (not h.is_final || nat_lt 125 size) (broken s Protocol) (before_payload s (kind_of what) s.begun h size)
@@ -80,7 +80,8 @@ by_opcode s (op.Data kind.Continue) h size = cond s.begun (before_payload s Data
 by_opcode s (op.Data kind.Binary) h size = cond s.begun (broken s Protocol) (before_payload s Data (not h.is_final) h size)
 by_opcode s (op.Data kind.Text) h size = broken s Text
 
--- A client masks and a server doesn't (5.1), and no extension is in use (5.2).
+-- A header is refused unless a client masks and a server doesn't (5.1). It is also refused with a reserved bit, since
+-- no extension is in use (5.2).
 abbrev pub is_refused : Standing → FrameHeader → Bool
 is_refused s h = h.rsv1 || h.rsv2 || h.rsv3 || cond s.masked (not (is_some h.mask)) (is_some h.mask)
 
@@ -99,7 +100,7 @@ abbrev pub further : Standing → Standing
 further s = at_end (record s { turn = (s.turn + 1) % 4; left = s.left - 1 })
 
 -- A header has at most 14 bytes, and the payload of a control frame at most 125.
-abbrev pub byte_at : Place → Standing → ℕ → Standing
+abbrev pub byte_at : Position → Standing → ℕ → Standing
 byte_at Head s b =
     cond (nat_lt (length s.head) 14) (after_head (record s { head = s.head ++ b ∷ [] }) (decode_header (s.head ++ b ∷ []))) (broken s Protocol)
 byte_at (Payload Data) s b = further s
@@ -110,15 +111,15 @@ byte_at (Broken why) s b = s
 
 -- How reading stands after one more byte.
 abbrev pub after_byte : Standing → ℕ → Standing
-after_byte s b = byte_at s.place s b
+after_byte s b = byte_at s.position s b
 
--- The byte of a binary message that it brings.
-abbrev pub brought_at : Place → Standing → ℕ → Option ℕ
+-- The byte of a binary message that this byte brings, if it brings one.
+abbrev pub brought_at : Position → Standing → ℕ → Option ℕ
 brought_at (Payload Data) s b = Some (unmasked s b)
 brought_at _ s b = None
 
 abbrev pub brought : Standing → ℕ → Option ℕ
-brought s b = brought_at s.place s b
+brought s b = brought_at s.position s b
 
 abbrev pub put : Option ℕ → List ℕ → List ℕ
 put None bytes = bytes
@@ -142,6 +143,6 @@ data_in s (b ∷ bs) = put (brought s b) (data_in (after_byte s b) bs)
 abbrev pub binary_header : FrameHeader
 binary_header = whole_header (op.Data kind.Binary) None
 
--- And of a control frame.
+-- The header of a control frame.
 abbrev pub control_header : Control → FrameHeader
 control_header what = whole_header (op.Control what) None

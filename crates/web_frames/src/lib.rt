@@ -6,11 +6,11 @@
 
 mod control;
 mod law;
-mod place;
+mod position;
 mod reader;
 mod write;
 
 pub use law::{all_frames_are_read, nothing_is_read_after_a_breach, nothing_is_read_after_a_close};
-pub use place::{Breach, Kind, Place};
+pub use position::{Breach, Kind, Position};
 pub use reader::{FrameReader, MOST_CONTROL};
 pub use write::{MOST_FRAME, binary_head, control_frame};

@@ -13,7 +13,7 @@ use Rattle.websocket.specs.Frame.{encode_frame}
 use Rattle.websocket.proofs.LengthLemmas.{ByteAtEach}
 use Rattle.websocket.proofs.DecodeLemmas.{eqb_false, ltb_true, ltb_false}
 use Rattle.websocket.proofs.FrameHeaderLemmas.{length-encode_header}
-use Rattle.web_frames.specs.declared.place.Place.{Place}
+use Rattle.web_frames.specs.declared.position.Position.{Position}
 use Rattle.web_frames.specs.Frames.{Standing, fresh, at_end, after_bytes, data_in, binary_header, control_header}
 use Rattle.web_frames.proofs.Writing.{short_head, long_head, control_head}
 use Rattle.web_frames.proofs.Reading.{after-append, data-append}
@@ -90,7 +90,7 @@ after_all left count le = rw (ltb_false count left le)
 
 in_payload : (c : Standing) (left : ℕ) → StandsAt (Inside left) c → c ≡ in_data c no_key c.turn left
 in_payload c left at =
-    ap (λ (x : ℕ). record c { left = x }) at.5 ∙ (ap (λ (x : List ℕ). record c { key = x; left = left }) at.4 ∙ ap (λ (x : Place). record c { place = x; key = no_key; left = left }) at.1)
+    ap (λ (x : ℕ). record c { left = x }) at.5 ∙ (ap (λ (x : List ℕ). record c { key = x; left = left }) at.4 ∙ ap (λ (x : Position). record c { position = x; key = no_key; left = left }) at.1)
 
 ends_as : (c : Standing) (turn left : ℕ) (is_in : Bool) → c.masked ≡ false → c.head ≡ [] → c.begun ≡ false → nat_lt 0 left ≡ is_in
     → StandsAt (if is_in then Inside left else Between) (at_end (in_data c no_key turn left))
@@ -154,7 +154,7 @@ pong_whole c (x ∷ xs) at le =
     let pong = pong_reads (record c { masked = false; head = []; key = no_key }) 0 [] x xs (omega arith) in
     let all : after_bytes c (encode_frame (control_header control.Pong) (x ∷ xs)) ≡ after_bytes (in_pong (record c { masked = false; head = []; key = no_key }) 0 n []) (x ∷ xs) =
     after-append c (encode_header (control_header control.Pong) n) (x ∷ xs) ∙ ap (λ (t : Standing). after_bytes t (x ∷ xs)) next in (
-      subst (λ (t : Standing). StandsAt Between t) (sym all) (pong.0.masked, pong.0.place, pong.0.head, pong.0.begun ∙ at.3),
+      subst (λ (t : Standing). StandsAt Between t) (sym all) (pong.0.masked, pong.0.position, pong.0.head, pong.0.begun ∙ at.3),
       data-append c (encode_header (control_header control.Pong) n) (x ∷ xs)
           ∙ (ap (λ (d : List ℕ). d ++ data_in (after_bytes c (encode_header (control_header control.Pong) n)) (x ∷ xs)) head.1 ∙ (ap (λ (t : Standing). data_in t (x ∷ xs)) next ∙ pong.1)),
     )
@@ -192,7 +192,7 @@ close_whole c (x ∷ xs) at le =
     let close = close_reads (record c { masked = false; head = []; key = no_key }) 0 [] x xs (omega arith) in
     let all : after_bytes c (encode_frame (control_header control.Close) (x ∷ xs)) ≡ after_bytes (in_close (record c { masked = false; head = []; key = no_key }) 0 n []) (x ∷ xs) =
     after-append c (encode_header (control_header control.Close) n) (x ∷ xs) ∙ ap (λ (t : Standing). after_bytes t (x ∷ xs)) next in (
-      ap (λ (t : Standing). t.place) all ∙ close.0,
+      ap (λ (t : Standing). t.position) all ∙ close.0,
       data-append c (encode_header (control_header control.Close) n) (x ∷ xs)
           ∙ (ap (λ (d : List ℕ). d ++ data_in (after_bytes c (encode_header (control_header control.Close) n)) (x ∷ xs)) head.1 ∙ (ap (λ (t : Standing). data_in t (x ∷ xs)) next ∙ close.1)),
     )

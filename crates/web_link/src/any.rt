@@ -2,13 +2,13 @@
 
 use link::{Gave, Link, Took};
 
-/// A viewer's link: one over a stream as it is, or one in the binary messages of a WebSocket. It is what the one of the
-/// two is that it holds.
+/// A viewer's link: one over a stream as it is, or one in the binary messages of a WebSocket. It behaves as the link
+/// that it holds.
 #[derive(Drop)]
 pub enum AnyLink<A: Link, B: Link> {
-    /// Over a stream as it is.
+    /// A link over a stream as it is.
     Plain(A),
-    /// In the binary messages of a WebSocket.
+    /// A link in the binary messages of a WebSocket.
     Web(B),
 }
 

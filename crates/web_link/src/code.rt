@@ -1,4 +1,4 @@
-//! Close codes.
+//! The codes that close frames carry.
 
 ghost use Rattle.std.specs.Prelude.{◌≡◌};
 ghost use Rattle.web_link.specs.Web.{close_code};
@@ -8,7 +8,7 @@ use web_frames::Breach;
 /// A normal end (RFC 6455, section 7.4.1).
 pub(crate) const NORMAL: u16 = 1000;
 
-/// The code of a breach.
+/// The close code of a breach.
 pub(crate) fn code_of(why: Breach) -> u16
     ensures { result ≡ close_code why }
 {

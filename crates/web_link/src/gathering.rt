@@ -1,4 +1,4 @@
-//! A link that gives bytes on together.
+//! A link that keeps bytes, and gives them on together.
 
 use crate::kept::Kept;
 use crate::web::WebLink;
@@ -18,13 +18,13 @@ enum Loss {
 }
 
 /// A link that keeps what it is given, and gives it to the link below together: before it takes, when it is flushed,
-/// and where it is full. So an answer of many rectangles is a few messages of a `WebLink` below. Only `new` takes
+/// and where it is full. So an answer of many rectangles becomes a few messages of a `WebLink` below. Only `new` takes
 /// memory.
 #[derive(Drop)]
 pub struct GatheringLink<L: Link> {
     link: L,
     kept: Kept,
-    // Kept bytes can't go out any more.
+    // How the link below was lost, so that kept bytes can't go out any more.
     loss: Option<Loss>,
     failures: u64,
     ends: u64,
@@ -57,7 +57,7 @@ impl<L: Link> GatheringLink<L> {
     ghost use Rattle.link.specs.Links.{with_end, with_failure};
     ghost use Rattle.web_link.specs.Gathering.{Gathers};
 
-    /// Over a link that has taken and given nothing yet.
+    /// A gathering link over a link that has taken and given nothing yet.
     pub fn new(alloc: Global, link: L) -> Result<GatheringLink<L>, AllocError>
         requires taken { (L.state link).taken ≡ [] }
         requires given { (L.state link).given ≡ [] }
@@ -84,15 +84,15 @@ impl<L: Link> GatheringLink<L> {
         &self.link
     }
 
-    /// At every moment what was taken is what the link below took, and what was given is what it was given and what is
-    /// kept.
+    /// It does nothing. Its clause says that, at every moment, what was taken is what the link below took, and what was
+    /// given is what the link below was given followed by what is kept.
     pub fn gathers(&self)
         ensures { Gathers self.now }
     {
         let _ = &self.failures;
     }
 
-    /// Counts one more failure: of the link below, or of whoever gives the link up.
+    /// Counts one more failure: one of the link below, or one of the caller that gives the link up.
     pub fn fail(&mut self)
         ensures { self.new ≡ record self.old { own = with_failure self.old.own } }
     {
@@ -129,7 +129,7 @@ impl<L: Link> GatheringLink<L> {
 impl<L: Link> GatheringLink<WebLink<L>> {
     ghost use Rattle.std.specs.Prelude.{◌≡◌};
 
-    /// Says a ping by the link below, as `WebLink::ping` does. It takes, gives and keeps nothing; no clause says that
+    /// Has the link below send a ping, as `WebLink::ping` does. It takes, gives and keeps nothing. No clause says that
     /// the ping goes out.
     pub fn ping(&mut self)
         ensures { self.new ≡ self.old }

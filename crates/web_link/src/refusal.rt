@@ -1,4 +1,4 @@
-//! What a client is told for whom there is no place.
+//! What a client is told where no place is free for it.
 
 ghost use Rattle.std.specs.Prelude.{◌≡◌, ◌+◌, ◌≤◌, ◌++◌, length};
 ghost use Rattle.std.specs.Int.{w16, to_be_bytes};
@@ -12,14 +12,14 @@ use arrayvec::ArrayVec;
 use web_frames::{binary_head, control_frame};
 use websocket::protocol::frame::coding::Control;
 
-/// Try again later (the registry of RFC 6455, section 11.7).
+/// The close code that tells a client to try again later (the registry of RFC 6455, section 11.7).
 const TRY_AGAIN: u16 = 1013;
 
 /// A refusal has at most this many bytes with its frames.
 pub const MOST_REFUSAL: usize = 256;
 
-/// A client is told these bytes in two messages, and then a close frame with 1013. A client for RFB waits for a message
-/// behind that of the version, so one message would never be shown.
+/// The frames that tell a client these bytes in two messages, and then close with 1013. An RFB client waits for a
+/// message after the one with the version, so it would never show a reason that came in one message with the version.
 pub fn refusal_frames(version: &[u8], reason: &[u8]) -> ArrayVec<u8, MOST_REFUSAL>
     requires version { 1 ≤ length version.now }
     requires reason { 1 ≤ length reason.now }

@@ -7,13 +7,13 @@ use byte_record::Record;
 use fault::LIMIT;
 use link::{Gave, Link, Took};
 use std::marker::Model;
-use web_frames::{FrameReader, Place, binary_head, control_frame};
+use web_frames::{FrameReader, Position, binary_head, control_frame};
 use websocket::protocol::frame::coding::Control;
 
 /// A message that is given has at most this many bytes.
 const MOST_MESSAGE: usize = 65_535;
 
-/// How sending what is unsent came out.
+/// What sending the unsent bytes came to.
 #[derive(Clone, Copy)]
 enum Went {
     All,
@@ -22,9 +22,9 @@ enum Went {
     Failed,
 }
 
-/// A link whose bytes travel in binary messages. What is taken are the payloads of those that come; what is given goes
-/// out as messages of its own, each with as much as is given at once. A ping is answered. A text, and what breaks the
-/// protocol, is a failure, and a close frame is the end.
+/// A link whose bytes travel in binary messages. It takes the payloads of the messages that come. What it is given goes
+/// out as messages of its own, one for the bytes that are given at once. A ping is answered. A text or a breach of the
+/// protocol is a failure, and a close frame is the end.
 #[derive(Drop)]
 pub struct WebLink<L: Link> {
     link: L,
@@ -66,7 +66,7 @@ impl<L: Link> WebLink<L> {
     ghost use Rattle.link.specs.Links.{TakesAs, GivesAs, with_end, with_failure};
     ghost use Rattle.web_link.specs.Web.{Carries, SaysClose, SaysPing, SaysNoMore};
 
-    /// Over a link that has taken and given nothing yet.
+    /// A link in binary messages over a link that has taken and given nothing yet.
     pub fn new(link: L) -> WebLink<L>
         requires taken { (L.state link).taken ≡ [] }
         requires given { (L.state link).given ≡ [] }
@@ -93,7 +93,8 @@ impl<L: Link> WebLink<L> {
         &self.link
     }
 
-    /// At every moment what was taken and given are the data of the frames below.
+    /// It does nothing. Its clause says that, at every moment, the bytes taken and given are the data of the frames on
+    /// the link below.
     pub fn carries(&self)
         ensures { Carries self.now }
     {
@@ -132,7 +133,7 @@ impl<L: Link> WebLink<L> {
         Went::All
     }
 
-    /// Begins a message for this many bytes, or as many as one may have.
+    /// Begins a message for this many bytes, or for as many as a message may have.
     fn begin_message(&mut self, size: usize)
         requires between { self.old.saying ≡ Saying.Between }
         requires sent { self.old.unsent ≡ [] }
@@ -190,7 +191,7 @@ impl<L: Link> WebLink<L> {
         }
     }
 
-    /// Answers a ping that waits, where it stands between two messages.
+    /// Answers a ping that waits, where the link stands between two messages.
     fn answer(&mut self)
         ensures same { self.new.carried ≡ self.old.carried }
         ensures reader { self.new.reader ≡ self.old.reader }
@@ -206,7 +207,7 @@ impl<L: Link> WebLink<L> {
         let _ = self.send_unsent();
     }
 
-    /// Takes bytes of the link below, and brings the data in them.
+    /// Takes bytes from the link below, and answers the data in them.
     fn take_data(&mut self, into: &mut [u8]) -> Took
         requires { 0 < length into.old }
         ensures { TakesAs result self.old.carried self.new.carried into.new }
@@ -235,8 +236,8 @@ impl<L: Link> WebLink<L> {
         }
     }
 
-    /// Says an empty ping, where it stands between two messages and nothing is unsent; else nothing is said. A proxy
-    /// cuts a connection that is silent for long, so whoever serves a silent screen calls this now and then.
+    /// Sends an empty ping, where the link stands between two messages and nothing is unsent. Otherwise it does
+    /// nothing. Call it now and then while a screen is silent, since a proxy cuts a connection that is silent for long.
     pub fn ping(&mut self)
         ensures same { self.new.carried ≡ self.old.carried }
         ensures reader { self.new.reader ≡ self.old.reader }
@@ -252,7 +253,7 @@ impl<L: Link> WebLink<L> {
         let _ = self.send_unsent();
     }
 
-    /// Says that it closes, and why, where it stands between two messages.
+    /// Sends a close frame with this code, where the link stands between two messages.
     fn close(&mut self, code: u16)
         ensures same { self.new.carried ≡ self.old.carried }
         ensures closes { SaysClose code self.old self.new }
@@ -271,8 +272,8 @@ impl<L: Link> WebLink<L> {
 impl<L: Link> Link for WebLink<L> {
     ghost use Rattle.std.specs.Prelude.{◌≡◌, ◌<◌, length};
     ghost use Rattle.link.specs.Links.{TakesAs};
-    ghost use Rattle.web_frames.specs.declared.place.Breach.{Breach};
-    ghost use Rattle.web_frames.specs.declared.place.Place.TheVariants.{Ended, Broken};
+    ghost use Rattle.web_frames.specs.declared.position.Breach.{Breach};
+    ghost use Rattle.web_frames.specs.declared.position.Position.TheVariants.{Ended, Broken};
     ghost use Rattle.web_link.specs.Web.{SaysClose, close_code};
 
     ghost state = { λ w. w.carried };
@@ -280,21 +281,21 @@ impl<L: Link> Link for WebLink<L> {
     fn take(&mut self, into: &mut [u8]) -> Took
         requires { 0 < length into.old }
         ensures takes { TakesAs result self.old.carried self.new.carried into.new }
-        ensures refused { (why : Breach) → self.old.reader.place ≡ Broken why → (result ≡ Took.Failed) × SaysClose (close_code why) self.old self.new }
-        ensures closed { self.old.reader.place ≡ Ended → (result ≡ Took.End) × SaysClose 1000 self.old self.new }
+        ensures refused { (why : Breach) → self.old.reader.position ≡ Broken why → (result ≡ Took.Failed) × SaysClose (close_code why) self.old self.new }
+        ensures closed { self.old.reader.position ≡ Ended → (result ≡ Took.End) × SaysClose 1000 self.old self.new }
     {
-        match self.reader.place() {
-            Place::Ended => {
+        match self.reader.position() {
+            Position::Ended => {
                 self.close(NORMAL);
                 self.end();
                 Took::End
             }
-            Place::Broken(why) => {
+            Position::Broken(why) => {
                 self.close(code_of(why));
                 self.fail();
                 Took::Failed
             }
-            Place::Head | Place::Payload(_) => {
+            Position::Head | Position::Payload(_) => {
                 self.answer();
                 self.take_data(into)
             }

@@ -1,4 +1,4 @@
-//! Why a folder wasn't read.
+//! Faults of reading a folder.
 
 ghost use Rattle.web_root.specs.declared.fault.RootFault.TheVariants.{Memory};
 

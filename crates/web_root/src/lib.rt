@@ -1,4 +1,4 @@
-//! Reads the files of a web port, once, at the start. What goes into the table is `web_site`'s to say.
+//! Reads the files of a web port, once, at the start. `web_site` decides which of them go into the table.
 //!
 //! Memory: for the table, and for names and paths on the way to it. Handles: none.
 #![tactic(auto)]

@@ -22,7 +22,7 @@ impl<'r, R: Files + Alloc<A = Global> + Clone + Drop> SystemDisk<'r, R> {
         SystemDisk { rt, root }
     }
 
-    /// The system's path of one below the root.
+    /// The system's path for a path below the root.
     fn place(&self, path: &str) -> io::Result<String> {
         let mut place = String::from_str(self.rt.alloc(), self.root)?;
         place.push_str(path)?;

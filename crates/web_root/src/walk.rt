@@ -1,4 +1,4 @@
-//! A walk over a folder and those in it.
+//! A walk over a folder and the folders in it.
 
 ghost use Rattle.std.specs.Prelude.{◌≡◌, All, IfOk, OnOk, ℕ};
 ghost use Rattle.std.specs.String.{string_bytes};
@@ -17,7 +17,8 @@ pub const MOST_FOLDERS: usize = 2_000;
 /// A folder has at most this many names.
 pub const MOST_NAMES: usize = 20_000;
 
-/// A walk: the paths of the folders that are still to be entered, how many were put there, and what was read.
+/// A walk: the paths of the folders that are still to be entered, how many paths were ever added to them, and the files
+/// that were read.
 #[derive(Drop)]
 struct Walk {
     folders: Vec<String>,
@@ -34,7 +35,7 @@ fn path_in(alloc: Global, folder: &str, name: &str) -> Result<String, AllocError
 }
 
 impl Walk {
-    /// One more folder is to be entered.
+    /// Adds one more folder that is to be entered.
     fn push(&mut self, path: String) -> Result<(), RootFault>
         ensures { self.new.table ≡ self.old.table }
     {
@@ -90,7 +91,7 @@ impl Walk {
         Ok(())
     }
 
-    /// Enters one more folder. False where none is left.
+    /// Enters one more folder. It answers false where none is left.
     fn go_on<D: Disk>(&mut self, alloc: Global, disk: &D) -> Result<bool, RootFault>
         requires files { All (IsFileOf (D.has disk.now) (D.gave disk.now)) self.old.table }
         ensures files { OnOk result (All (IsFileOf (D.has disk.now) (D.gave disk.now)) self.new.table) }

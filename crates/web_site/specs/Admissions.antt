@@ -16,7 +16,7 @@ comes_to a [] = false
 comes_to a (host ∷ []) = lists a.hosts.items host.bytes
 comes_to a (host ∷ other ∷ others) = false
 
--- It names no Origin that isn't listed.
+-- A request names no Origin that isn't listed.
 abbrev pub comes_from : Admission → List FieldValue → Bool
 comes_from a origins = list_all (λ origin. lists a.origins.items origin.bytes) origins
 

@@ -19,8 +19,8 @@ pub record Asking : Type 0 where
 abbrev pub IsTold : Site → List Call → Type 0
 IsTold site calls = All (λ c. IsAnswer site (head_of c.0) c.1) calls
 
--- It is let in: what was received are requests, each of which was answered, and then one that opens a link at the site,
--- by HTTP's grammar, with nothing behind it; and that was answered with 101.
+-- A guest is let in: by HTTP's grammar, what was received are requests, each of which was answered, and then one that
+-- opens a link at the site, with nothing after it; and that one was answered with 101.
 pub record IsLetIn (a : Asking) : Type 0 where
   pub before : List Call
   pub text : List ℕ

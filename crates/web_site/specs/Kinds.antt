@@ -4,7 +4,7 @@ use Rattle.std.specs.List.{ends_with}
 use Rattle.web_site.specs.declared.kind.Kind.{Kind}
 use Rattle.web_site.specs.declared.kind.Kind.TheVariants.{Html, Script, Style, Json, Svg, Png, Icon, Mp3, Ogg, Woff, TrueType}
 
--- A file of another ending isn't served.
+-- The kind of a file, by its name. A file with another ending isn't served.
 abbrev pub kind_by_name : List ℕ → Option Kind
 kind_by_name name =
     if ends_with nat_eq name (codes ".html") then Some Html else

@@ -8,7 +8,7 @@ abbrev pub start_for : Bool → List ℕ
 start_for false = codes "vnc.html?autoconnect=true&reconnect=true&resize=scale&show_dot=true"
 start_for true = codes "vnc.html?autoconnect=true&reconnect=true&resize=scale&show_dot=true&view_only=true"
 
--- It leads nowhere else.
+-- A landing that leads somewhere leads to that start.
 abbrev pub LeadsToStart : Bool → Landing → Type 0
 LeadsToStart looks_only (Page body) = ⊤
 LeadsToStart looks_only (There location) = location.bytes ≡ start_for looks_only

@@ -11,13 +11,13 @@ use Rattle.websocket.specs.Handshake.{IsValidKey}
 use Rattle.web_site.specs.Admissions.{Fields, may_open}
 use Rattle.web_site.specs.declared.admission.Admission.{Admission}
 
--- The value of a field that is there once.
+-- The value of a field, where the field is there exactly once.
 abbrev pub only : List FieldValue → Option (List ℕ)
 only [] = None
 only (v ∷ []) = Some v.bytes
 only (v ∷ w ∷ vs) = None
 
--- One of the values of a field has this token, in any case.
+-- One of the values of a field has this token, in upper or lower case.
 abbrev pub names : List FieldValue → List ℕ → Bool
 names values token = list_any (λ v. has_token v.bytes token) values
 
@@ -25,7 +25,7 @@ names values token = list_any (λ v. has_token v.bytes token) values
 abbrev pub asks_websocket : Fields → Bool
 asks_websocket fields = names (get_all fields (codes "upgrade")) (codes "websocket")
 
--- A request for a WebSocket of this server, in HTTP/1.1.
+-- The head is that of a request that asks this server for a WebSocket, in HTTP/1.1.
 pub record IsHandshake (head : Parts) : Type 0 where
   pub method : head.method ≡ codes "GET"
   pub version : head.version ≡ HTTP_11
@@ -41,7 +41,7 @@ key_in fields = only (get_all fields (codes "sec-websocket-key"))
 abbrev pub IsThirteen : Fields → Type 0
 IsThirteen fields = only (get_all fields (codes "sec-websocket-version")) ≡ Some (codes "13")
 
--- The Host is listed, the Origin is listed or missing, and it is a handshake of version 13 with a valid key.
+-- The Host is listed, the Origin is listed or missing, and the request is a handshake of version 13 with a valid key.
 pub record Opens (a : Admission) (head : Parts) : Type 0 where
   pub admitted : IsTrue (may_open a head.headers)
   pub handshake : IsHandshake head

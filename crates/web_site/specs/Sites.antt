@@ -28,7 +28,7 @@ pub record Reply : Type 0 where
 abbrev pub bare : ℕ → Reply
 bare status = record { status = status; own = []; body = [] }
 
--- What no cache keeps, no browser takes for something else, and no other site frames.
+-- The fields by which no cache keeps an answer, no browser takes it for something else, and no other site frames it.
 abbrev pub guards : FieldValue → List Header
 guards policy =
     (codes "cache-control", codes "no-store")
@@ -70,7 +70,8 @@ upgrade_fields accept =
     ∷ (codes "sec-websocket-accept", accept)
     ∷ []
 
--- Of the protocols that a client offers only `binary` is taken up, by which older pages name messages of bytes.
+-- Of the protocols that a client offers only `binary` is taken up, the name that older pages have for messages of
+-- bytes.
 abbrev pub protocol_fields : Fields → List Header
 protocol_fields fields =
     if names (get_all fields (codes "sec-websocket-protocol")) (codes "binary") then (codes "sec-websocket-protocol", codes "binary") ∷ [] else []
@@ -79,16 +80,16 @@ protocol_fields fields =
 abbrev pub Accepts : List ℕ → Fields → Response → Type 0
 Accepts accept fields r = IsResponse 101 (upgrade_fields accept ++ protocol_fields fields) [] r
 
--- What answers a request that asks for a link: 101 and its key exactly where it opens one, and 403 where it is a
--- stranger's.
+-- What answers a request that asks for a link: 101 and the answer to its key exactly where it opens one, and 403 where
+-- its Host or Origin isn't admitted.
 pub record IsOpened (site : Site) (head : Parts) (r : Response) : Type 0 where
   pub opened : (r.status ≡ 101) ↔ Opens site.admission head
   pub accepted : Opens site.admission head → IfSome (key_in head.headers) (λ key. Accepts (accept_key_of key) head.headers r)
   pub stranger : may_open site.admission head.headers ≡ false → Replies site.policy (bare 403) r
   pub bodiless : r.body.items ≡ []
 
--- What a request is answered with, whether it asks for a link or not. So there is a 101 only where it asks, and a body
--- of a file only where it does not.
+-- What a request is answered with, whether it asks for a link or not. So there is a 101 only where it asks for a link,
+-- and the body of a file only where it doesn't.
 abbrev pub IsAnswerFor : Bool → Site → Parts → Response → Type 0
 IsAnswerFor true site head r = IsOpened site head r
 IsAnswerFor false site head r = Replies site.policy (plain_reply site head) r

@@ -20,7 +20,7 @@ file_at files path = find (λ f. bytes_eq (string_bytes f.path) path) files
 abbrev pub total : List WebFile → ℕ
 total files = sum_by (λ f. length f.body) files
 
--- Why a file of this kind and size doesn't go in, if it doesn't: at most 2,000 files and 16 MiB do.
+-- Why a file of this kind and size doesn't go in, if it doesn't. At most 2,000 files with at most 16 MiB go in.
 abbrev pub refusal : List WebFile → Option Kind → ℕ → Option TableFault
 refusal files None size = Some OtherEnding
 refusal files (Some kind) size =
@@ -28,7 +28,7 @@ refusal files (Some kind) size =
     if nat_lt 16777216 (total files + size) then Some TooManyBytes else
     None
 
--- One more file is in it, last, whose kind is that of its ending.
+-- One more file is in the table, at its end. Its kind is that of its ending.
 abbrev pub IsAdded : List WebFile → List WebFile → String Global → List ℕ → Type 0
 IsAdded old new path body =
     IsSomeAnd (kind_by_name (string_bytes path)) (λ kind. new ≡ old ++ record { path = path; kind = kind; body = body } ∷ [])
@@ -39,8 +39,8 @@ met_file None = Ok Read
 met_file (Some OtherEnding) = Ok Pass
 met_file (Some fault) = Err fault
 
--- What is done with what a folder has under a name: folders are entered; what is no regular file, as a link, is passed
--- over.
+-- What is done with what a folder has under a name: folders are entered, and anything else that is no regular file,
+-- such as a link, is passed over.
 abbrev pub met : List WebFile → List ℕ → Found → Result Step TableFault
 met files name Folder = Ok Enter
 met files name Other = Ok Pass

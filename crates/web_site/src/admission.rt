@@ -10,16 +10,16 @@ use http::{HeaderMap, HeaderValue, header};
 ///
 /// Any page that a browser shows may try to open a WebSocket to any port that the browser reaches, 127.0.0.1 too. The
 /// browser says which origin the page has, and a page can't change that (RFC 6455, section 10.2). So only pages of the
-/// origins that are listed may look on. The host is held to a list too, since a name can be made to lead to 127.0.0.1.
+/// listed origins may open a link. The host has to be listed, too, since anyone can make a name lead to 127.0.0.1.
 #[derive(Drop)]
 pub struct Admission {
-    /// What a Host field may be.
+    /// The values that a Host field may have.
     pub hosts: Vec<String>,
-    /// What an Origin field may be.
+    /// The values that an Origin field may have.
     pub origins: Vec<String>,
 }
 
-/// Whether one of the texts is this.
+/// Whether this text is one of the list.
 fn is_listed(texts: &[String], text: &[u8]) -> bool
     ensures { result ≡ lists texts.now text.now }
 {
@@ -31,8 +31,8 @@ impl Admission {
     ghost use Rattle.http.specs.HeaderMap.{get_all};
     ghost use Rattle.web_site.specs.Admissions.{may_open, comes_to, comes_from};
 
-    /// Whether a request with these fields may open a link: it names one Host, which is listed, and no Origin that
-    /// isn't. A client that isn't a browser names no Origin.
+    /// Whether a request with these fields may open a link: it names exactly one Host, which is listed, and no Origin
+    /// that isn't listed. A client that isn't a browser names no Origin.
     pub fn may_open(&self, fields: &HeaderMap<HeaderValue>) -> bool
         ensures { result ≡ may_open self.now fields.now }
     {

@@ -1,4 +1,4 @@
-//! The fields of a request.
+//! Reads the fields of a request.
 
 ghost use Rattle.std.specs.Prelude.{◌≡◌, option_map};
 ghost use Rattle.http.specs.HeaderMap.{get_all};
@@ -7,7 +7,7 @@ ghost use Rattle.web_site.specs.Openings.{only, names};
 
 use http::{HeaderMap, HeaderName, HeaderValue};
 
-/// The value of a field that is there once.
+/// The value of a field, where the field is there exactly once.
 pub(crate) fn only<'r>(fields: &'r HeaderMap<HeaderValue>, name: &HeaderName) -> Option<&'r [u8]>
     ensures { option_map (λ v. v.now) result ≡ only (get_all fields.now name.now) }
 {
@@ -19,7 +19,7 @@ pub(crate) fn only<'r>(fields: &'r HeaderMap<HeaderValue>, name: &HeaderName) ->
     }
 }
 
-/// Whether one of the values of a field has this token, in any case.
+/// Whether one of the values of a field has this token, in upper or lower case.
 pub(crate) fn names(fields: &HeaderMap<HeaderValue>, name: &HeaderName, token: &[u8]) -> bool
     ensures { result ≡ names (get_all fields.now name.now) token.now }
 {
@@ -29,7 +29,7 @@ pub(crate) fn names(fields: &HeaderMap<HeaderValue>, name: &HeaderName, token: &
         .any(|value| has_token(value.as_bytes(), token))
 }
 
-/// Whether one of the pieces between spaces and commas is this token, in any case.
+/// Whether one of the pieces between spaces and commas is this token, in upper or lower case.
 fn has_token(value: &[u8], token: &[u8]) -> bool
     ensures { result ≡ has_token value.now token.now }
 {

@@ -42,7 +42,8 @@ impl Guest {
     ghost use Rattle.http_server.specs.History.{WantsRead, after_sent, new_history, IsDone, IsQuiet};
     ghost use Rattle.web_site.specs.Guests.{IsLetIn};
 
-    /// One that has asked nothing yet. The peer chooses the names of fields, so their map takes secret keys.
+    /// A guest that has asked nothing yet. The peer chooses the names of fields, so the map of fields takes secret
+    /// keys.
     pub fn new(alloc: Global, keys: RandomState, site: Arc<Site, Global>) -> Guest
         ensures site { result.site ≡ arc_value site }
         ensures history { result.history ≡ new_history }
@@ -65,7 +66,7 @@ impl Guest {
         }
     }
 
-    /// Reads once, where more may come. None was read at the end of the stream.
+    /// Reads once, where more may come, and answers how many bytes were read: none at the end of the stream.
     pub fn read_from<R: Read>(&mut self, reader: &mut R) -> io::Result<usize>
         ensures site { self.new.site ≡ self.old.site }
         ensures config { self.new.config ≡ self.old.config }
@@ -73,7 +74,7 @@ impl Guest {
         read_once(&mut self.connection, reader)
     }
 
-    /// Answers what has come.
+    /// Answers the requests that have come.
     pub fn advance(&mut self)
         ensures site { self.new.site ≡ self.old.site }
         ensures config { self.new.config ≡ self.old.config }
@@ -83,7 +84,7 @@ impl Guest {
         self.connection.advance(&mut site);
     }
 
-    /// Writes once of what is to be told.
+    /// Writes once, from what is still to be told, and answers how many bytes went out.
     pub fn write_to<W: Write>(&mut self, writer: &mut W) -> io::Result<usize>
         ensures site { self.new.site ≡ self.old.site }
         ensures config { self.new.config ≡ self.old.config }
@@ -107,15 +108,15 @@ impl Guest {
         self.connection.wants_write()
     }
 
-    /// Whether nothing more is asked or told: it is let in, or is to be closed.
+    /// Whether nothing more is asked or told: the guest is let in, or its connection is to be closed.
     pub fn is_done(&self) -> bool
         ensures { IsTrue result ↔ IsDone self.now.history }
     {
         self.connection.is_done()
     }
 
-    /// Whether it is let in, once it is done: whoever has the stream makes a link of it. One that has said anything
-    /// more before it was told so isn't.
+    /// Whether the guest, once it is done, is let in. The caller then makes a link of the stream. A guest that sent
+    /// anything more before it was told so isn't let in.
     pub fn is_let_in(self) -> bool
         ensures { IsTrue result → ∥ IsLetIn self ∥₁ }
     {

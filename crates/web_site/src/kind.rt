@@ -64,7 +64,7 @@ impl Kind {
         }
     }
 
-    /// How a browser is told so (RFC 9110, section 8.3).
+    /// The Content-Type by which a browser is told this kind (RFC 9110, section 8.3).
     pub fn content_type(self) -> &'static str
         ensures value { result.now ≡ content_type self }
         ensures visible { IsTrue (is_visible_text result.now) }

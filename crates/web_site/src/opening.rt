@@ -13,8 +13,9 @@ use bytes::Bytes;
 use http::{Request, Version, header};
 use websocket::handshake::server::accept_key;
 
-/// What answers the key of an opening handshake (RFC 6455, section 4.2.2) that may open a link: its Host is listed, its
-/// Origin is listed or missing, its version is 13 and its key valid. Of a stranger nothing else is looked at.
+/// The answer to the key of an opening handshake (RFC 6455, section 4.2.2) that may open a link: its Host is listed,
+/// its Origin is listed or missing, its version is 13 and its key is valid. Where Host or Origin isn't admitted,
+/// nothing else is looked at.
 pub fn check_opening(admission: &Admission, request: &Request<Bytes>) -> Result<[u8; 28], Objection>
     ensures opens { IsOk result ↔ Opens admission.now (head_of request.now) }
     ensures accepts { IfOk result (λ accept. option_map accept_key_of (key_in (head_of request.now).headers) ≡ Some accept) }
@@ -38,7 +39,7 @@ pub fn check_opening(admission: &Admission, request: &Request<Bytes>) -> Result<
     }
 }
 
-/// Whether it asks for a WebSocket of this server, in HTTP/1.1.
+/// Whether the request asks this server for a WebSocket, in HTTP/1.1.
 fn is_handshake(request: &Request<Bytes>) -> bool
     ensures { IsTrue result ↔ IsHandshake (head_of request.now) }
 {

@@ -11,11 +11,11 @@ use memchr::memmem;
 use sha2::{Digest, Sha256};
 use std::alloc::{AllocError, Global};
 
-/// The policy but for the hashes of scripts that stand in pages.
+/// The policy without the hashes of scripts that stand in pages.
 const BASE: &[u8] =
     b"frame-ancestors 'none'; default-src 'self'; base-uri 'none'; object-src 'none'; form-action 'none'; connect-src 'self' ws: wss:; img-src 'self' data: blob:; style-src 'self' 'unsafe-inline'; script-src 'self'";
 
-/// Of a page at most this many scripts are named.
+/// At most this many scripts of a page are named.
 const MOST_SCRIPTS: usize = 16;
 
 /// The hash by which a script that stands in a page is allowed.
@@ -46,14 +46,14 @@ fn add_source(policy: &mut Vec<u8>, hash: &str) -> Result<(), AllocError>
     policy.extend_from_slice(b"'")
 }
 
-/// What follows the needle.
+/// What follows the first place of the needle in a text.
 fn behind<'t>(text: &'t [u8], needle: &[u8]) -> Option<&'t [u8]> {
     let at = memmem::find(text, needle)?;
     text.get(at..)?.get(needle.len()..)
 }
 
-/// The next script that stands in a page, without its tags, and what follows it. One that is fetched from elsewhere is
-/// empty.
+/// The next script that stands in a page, without its tags, and what follows it. A script that the page fetches is
+/// empty here.
 fn next_script(page: &[u8]) -> Option<(&[u8], &[u8])> {
     let rest = behind(behind(page, b"<script")?, b">")?;
     let end = memmem::find(rest, b"</script")?;

@@ -1,4 +1,4 @@
-//! Files, read once.
+//! The table of files, which are read once.
 
 ghost use Rattle.std.specs.Prelude.{◌≡◌};
 
@@ -31,7 +31,7 @@ pub enum TableFault {
     /// Files of its ending aren't served.
     #[error("files of this ending aren't served")]
     OtherEnding,
-    /// The table has `MOST_FILES`.
+    /// The table has `MOST_FILES` files already.
     #[error("there are more than 2,000 files")]
     TooManyFiles,
     /// The files would have more than `MOST_BYTES` bytes.
@@ -42,11 +42,12 @@ pub enum TableFault {
     Memory,
 }
 
-/// All files that are served. What isn't in it isn't there: no path is ever opened for a request.
+/// All files that are served. A path that isn't in the table is answered as missing: no file is ever opened for a
+/// request.
 #[derive(Drop)]
 pub struct FileTable {
     files: Vec<WebFile>,
-    // How many bytes they have.
+    // How many bytes all files have.
     size: usize,
 }
 
@@ -109,7 +110,7 @@ impl FileTable {
         }
     }
 
-    /// Adds a file. Where it doesn't, the table stays as it is.
+    /// Adds a file. Where it refuses the file, the table stays as it is.
     pub fn add(&mut self, path: String, body: Bytes) -> Result<(), TableFault>
         ensures added { OnOk result (IsAdded self.old self.new path body) }
         ensures kept { OnErr result (self.new ≡ self.old) }
@@ -141,7 +142,7 @@ impl FileTable {
     }
 
     /// What is done with what a folder has under this name: folders are entered, and regular files of known endings are
-    /// read, unless there are too many or they are too large. All else is passed over, as a symbolic link.
+    /// read, unless there are too many or they are too large. Everything else, such as a symbolic link, is passed over.
     pub fn meet(&self, name: &str, found: Found) -> Result<Step, TableFault>
         ensures { result ≡ met self.now name.now found }
     {

@@ -7,7 +7,7 @@ pub enum Found {
     File(usize),
     /// A folder, which is walked in its turn.
     Folder,
-    /// Something else, as a symbolic link or a device.
+    /// Something else, such as a symbolic link or a device.
     Other,
 }
 

@@ -1,4 +1,4 @@
-//! How large the messages are that go out, and what becomes of bytes that are kept.
+//! How large the messages that go out are, and what becomes of bytes that are kept.
 
 use crate::client::{below, frame};
 use link::{Gave, Link, Took};

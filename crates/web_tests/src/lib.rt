@@ -1,5 +1,5 @@
-//! Tests of `web_frames`, `web_link`, `web_site` and `web_root`, which stand in a crate of their own so that each of
-//! those is proved once.
+//! Tests of `web_frames`, `web_link`, `web_site` and `web_root`, which are in their own crate so that each of those is
+//! proved once.
 //! Frames are spelled by hand after RFC 6455, sections 5.2 and 5.7.
 #![tactic(auto)]
 

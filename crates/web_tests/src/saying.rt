@@ -4,7 +4,7 @@
 use crate::client::below;
 use link::{Gave, Link, MemoryLink};
 use std::test::Fail;
-use web_frames::{FrameReader, Place};
+use web_frames::{FrameReader, Position};
 use web_link::{GatheringLink, WebLink, refusal_frames};
 
 #[test]
@@ -49,5 +49,5 @@ fn a_refusal_is_two_messages_and_a_close_frame(rt: HostRuntime) {
     );
     let mut reader = FrameReader::new(false);
     assert_eq!(rt; reader.read(frames.as_mut_slice()), 37);
-    assert_eq!(rt; reader.place(), Place::Ended);
+    assert_eq!(rt; reader.position(), Position::Ended);
 }

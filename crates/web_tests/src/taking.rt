@@ -1,4 +1,4 @@
-//! What a link over frames takes of a client, and what it answers.
+//! What a link over frames takes from a client, and what it answers.
 
 use crate::client::{below, frame, take_all};
 use link::{Link, Took};
@@ -59,7 +59,7 @@ fn what_breaks_a_rule_is_a_failure(rt: HostRuntime) -> Result<(), Fail> {
         // A ping in fragments, and one that is too long.
         (b"\x09\x80\0\0\0\0", b"\x88\x02\x03\xea"),
         (b"\x89\xfe\0\x7e\0\0\0\0", b"\x88\x02\x03\xea"),
-        // A message in a message, and a fragment of none.
+        // A message inside a message, and a fragment without a message.
         (b"\x02\x80\0\0\0\0\x82\x80\0\0\0\0", b"\x88\x02\x03\xea"),
         (b"\x80\x80\0\0\0\0", b"\x88\x02\x03\xea"),
         // A length that isn't in its shortest form.

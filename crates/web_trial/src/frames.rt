@@ -8,7 +8,7 @@ use web_link::{GatheringLink, WebLink};
 /// A link is taken from and flushed at most this many times.
 const MOST_TURNS: usize = 100_000;
 
-/// A browser is sent at most so many bytes for each that it sends, and so many beside them.
+/// A browser is sent at most this many bytes for each byte that it sends, and this many besides.
 const TIMES: usize = 4;
 
 const BESIDE: usize = 400;
@@ -63,7 +63,8 @@ fn echo<L: Link>(link: &mut L, taken: &mut Vec<u8>) -> Result<&'static str, Allo
     Ok("open")
 }
 
-/// What a browser is told that sends this stream in pieces of these lengths, where each byte of its data is given back.
+/// What a browser is told where it sends this stream in pieces of these lengths, and each byte of its data is given
+/// back.
 pub(crate) fn talk(alloc: Global, lengths: &[u8], stream: Vec<u8>) -> Result<Said, Fail> {
     let count = stream.len().saturating_mul(TIMES).saturating_add(BESIDE);
     let most = count.saturating_mul(lengths.len());

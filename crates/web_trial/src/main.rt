@@ -1,8 +1,8 @@
-//! Reads what browsers may send, one stream a line, and prints what is made of each.
+//! Reads what browsers may send, one stream per line, and prints what is made of each.
 //!
 //! A line has the word `frames` or `requests`, the lengths of the pieces in which the stream comes, one byte each, over
-//! and over, and the stream, both in hex. Of frames it prints the data in them, what the browser is sent, and how the
-//! link ended; of requests what they are answered with, and whether the connection is let in.
+//! and over, and the stream, both in hex. For frames it prints the data in them, what the browser is sent, and how the
+//! link ended. For requests it prints the answers, and whether the connection is let in.
 #![tactic(auto)]
 
 mod frames;

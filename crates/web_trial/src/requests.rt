@@ -7,7 +7,7 @@ use std::sync::Arc;
 use std::test::Fail;
 use web_site::{Admission, FileTable, Guest, Site};
 
-/// A connection is gone on with at most this many times.
+/// A connection is advanced at most this many times.
 const MOST_TURNS: usize = 100_000;
 
 /// The files of the site.
@@ -63,7 +63,7 @@ impl Asker {
         Asker { site, keys }
     }
 
-    /// Asks by this stream, in pieces of these lengths.
+    /// Asks the site with this stream, in pieces of these lengths.
     pub(crate) fn ask(&self, alloc: Global, lengths: &[u8], stream: &[u8]) -> Result<Told, Fail> {
         let mut guest = Guest::new(alloc, self.keys, Arc::try_clone(&self.site)?);
         let mut rest = stream;
