@@ -9,7 +9,7 @@ use Rattle.link.specs.declared.link.Took.TheVariants as took
 use Rattle.link.specs.declared.link.Gave.{Gave}
 use Rattle.link.specs.declared.link.Gave.TheVariants as gave
 
--- Errors that say only that nothing could be done now. A peer that is given up, TimedOut, isn't one.
+-- The error says only that nothing could be done now. TimedOut isn't such an error: the system has given the peer up.
 abbrev pub is_passing : ErrorKind → Bool
 is_passing WouldBlock = true
 is_passing Interrupted = true

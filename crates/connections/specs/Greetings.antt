@@ -1,4 +1,4 @@
--- From where a newcomer comes, and what is said and heard before it is a viewer.
+-- Where a newcomer comes from, and what is said and heard before it is a viewer.
 use Rattle.std.specs.Prelude.{◌≡◌, ◌≤◌, ◌<◌, ℕ, Bool, true, false, List, [], ◌++◌, length, take, Option, Some, None, Result, Ok, Err, IsSomeAnd}
 use Rattle.std.specs.Net.Addr.{IsV4And, IsV6And, IsCanonicalOf, MatchIp, ipv4_octets, ipv6_segments, segments_of}
 use Rattle.std.specs.Net.Socket.{IsPlainSocket, socket_ip}
@@ -11,21 +11,23 @@ use Rattle.proxy_header.specs.declared.origin.Origin.TheVariants.{Peer, Ipv4, Ip
 use Rattle.proxy_header.specs.declared.origin.Refusal.{Refusal}
 use Rattle.rfb_wire.specs.Handshake.{version}
 
--- The address that the system tells is the proxy's, also where an IPv6 address has its IPv4 address inside.
+-- The address that the system tells is the proxy's, even where it is an IPv6 address with the proxy's IPv4 address
+-- inside.
 abbrev pub IsOf : IpAddr → SocketAddr → Type 0
 IsOf proxy address = MatchIp (socket_ip address) (λ ip. proxy ≡ socket_ip address) (λ ip. IsCanonicalOf ip proxy)
 
--- The peer is the proxy that is believed.
+-- The peer is the believed proxy.
 abbrev pub IsFromProxy : Option IpAddr → Option SocketAddr → Type 0
 IsFromProxy proxy peer = IsSomeAnd proxy (λ ip. IsSomeAnd peer (λ address. IsOf ip address))
 
--- From where a newcomer comes: what the system tells, whether a proxy's header is read first, and its bytes that came.
+-- Where a newcomer comes from: what the system tells, whether a proxy's header is read first, and the bytes of the
+-- header that came.
 pub record Whence : Type 0 where
   pub peer : Option SocketAddr
   pub is_proxied : Bool
   pub front : List ℕ
 
--- The same newcomer, of whose header more may have come.
+-- Both are the same newcomer; more of its header may have come since.
 pub record IsSameComer (old new : Whence) : Type 0 where
   pub peer : new.peer ≡ old.peer
   pub proxied : new.is_proxied ≡ old.is_proxied
@@ -38,7 +40,7 @@ IsTold peer (Ipv4 octets port) address =
 IsTold peer (Ipv6 octets port) address =
     IsSomeAnd address (λ a. IsPlainSocket a port × IsV6And (socket_ip a) (λ ip. ipv6_segments ip ≡ segments_of octets))
 
--- What is known of an address once so much of a header has come: nothing yet, or why the header is refused, or the
+-- What is known of an address, given what the header has told by now: nothing yet, why the header is refused, or the
 -- address that it tells.
 abbrev pub IsKnownBy : Option SocketAddr → Option Answer → Option (Result (Option SocketAddr) Refusal) → Type 0
 IsKnownBy peer None known = known ≡ None
@@ -46,7 +48,8 @@ IsKnownBy peer (Some (Err why)) known = known ≡ Some (Err why)
 IsKnownBy peer (Some (Ok origin)) known =
     (address : Option SocketAddr) × (known ≡ Some (Ok address)) × IsTold peer origin address
 
--- Of a newcomer that comes from no proxy the system tells it at once.
+-- What is known of a newcomer's address. Where the newcomer doesn't come from the proxy, the system tells the address
+-- at once.
 abbrev pub IsKnown : Whence → Option (Result (Option SocketAddr) Refusal) → Type 0
 IsKnown whence known = by whence.is_proxied
   where
@@ -54,7 +57,7 @@ IsKnown whence known = by whence.is_proxied
     by true = IsKnownBy whence.peer (whole_of (after header whence.front)) known
     by false = known ≡ Some (Ok whence.peer)
 
--- How far the greeting of a newcomer has gone: from where it comes, how many bytes of the version were said to it, the
+-- How far the greeting of a newcomer has gone: where it comes from, how many bytes of the version were said to it, the
 -- bytes of its own version that have come, and what the socket has sent and received.
 pub record Begun : Type 0 where
   pub whence : Whence
@@ -63,8 +66,8 @@ pub record Begun : Type 0 where
   pub sent : List ℕ
   pub received : List ℕ
 
--- The version is said from its first byte on, and nothing else; what has come is the header of a proxy, where one is
--- believed, and behind it the newcomer's own version, of which nothing is heard before the whole version was said.
+-- The version is said from its first byte on, and nothing else. What has come is the header of a proxy, where one is
+-- believed, and after it the newcomer's own version. Nothing of that is heard before the whole version was said.
 pub record IsGreeting (b : Begun) : Type 0 where
   pub said : b.sent ≡ take b.said version
   pub heard : b.received ≡ b.whence.front ++ b.own
@@ -72,8 +75,8 @@ pub record IsGreeting (b : Begun) : Type 0 where
   pub in_turn : 0 < length b.own → b.said ≡ 12
 
 -- What contracts see of a socket by which a newcomer was greeted: what its owner has sent and received by it; what the
--- socket below has; what was said before that the owner hasn't sent yet, and what was heard that it hasn't received
--- yet; and the header of a proxy that came before.
+-- socket below has sent and received; the bytes said before that the owner still owes, and those heard before that are
+-- still ahead of it; and the header of a proxy that came before.
 pub record Greeted : Type 0 where
   pub sent : List ℕ
   pub received : List ℕ
@@ -83,13 +86,13 @@ pub record Greeted : Type 0 where
   pub ahead : List ℕ
   pub front : List ℕ
 
--- What the owner has sent, and what it owes, is what the socket below has sent; what the owner has received, and what
--- is ahead of it, is what the socket below has received behind the header.
+-- What the owner has sent, followed by what it owes, is what the socket below has sent. What the owner has received,
+-- followed by what is ahead of it, is what the socket below has received after the header.
 pub record Matches (g : Greeted) : Type 0 where
   pub said : g.below_sent ≡ g.sent ++ g.owed
   pub heard : g.below_received ≡ g.front ++ (g.received ++ g.ahead)
 
--- Nothing was said or heard before.
+-- A socket by which nothing was said or heard before.
 abbrev pub untouched : Greeted
 untouched = record { sent = []; received = []; below_sent = []; below_received = []; owed = []; ahead = []; front = [] }
 

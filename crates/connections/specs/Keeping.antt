@@ -6,6 +6,6 @@ pub record KeptBytes : Type 0 where
   pub bytes : List ℕ
   pub room : ℕ
 
--- This many bytes are kept at most.
+-- The most bytes that are kept.
 abbrev pub most_kept : ℕ
 most_kept = 65_536

@@ -11,8 +11,8 @@ use std::io;
 use std::io::ErrorKind;
 use std::marker::Model;
 
-/// Whether nothing could be done now, and may be later. A peer that the system has given up, `TimedOut`, is none of
-/// these.
+/// Whether the error says only that nothing could be done now. `TimedOut` isn't such an error: the system has given the
+/// peer up.
 fn is_passing(error: &io::Error) -> bool
     ensures { result ≡ is_passing (error_kind error.now) }
 {
@@ -20,7 +20,7 @@ fn is_passing(error: &io::Error) -> bool
     kind == ErrorKind::WouldBlock || kind == ErrorKind::Interrupted
 }
 
-/// What a read that was answered so means. No byte is the peer's end.
+/// What this answer to a read means. A read of no byte is the peer's end.
 fn took_of(answer: &io::Result<usize>) -> Took
     ensures { result ≡ took_for answer.now }
 {
@@ -32,7 +32,7 @@ fn took_of(answer: &io::Result<usize>) -> Took
     }
 }
 
-/// What a write that was answered so means. No byte is a failure.
+/// What this answer to a write means. A write of no byte is a failure.
 pub(crate) fn gave_of(answer: &io::Result<usize>) -> Gave
     ensures { result ≡ gave_for answer.now }
 {
@@ -72,7 +72,7 @@ impl Account {
     ghost use Rattle.connections.specs.Answers.{took_for, gave_for};
     ghost use Rattle.connections.specs.Wires.{moved, moved_behind};
 
-    /// Of a link that has done nothing.
+    /// The account of a link that has done nothing.
     pub(crate) fn new() -> Account
         ensures { result ≡ unused }
     {
@@ -84,21 +84,21 @@ impl Account {
         }
     }
 
-    /// It failed once more.
+    /// Notes that the link failed once more.
     pub(crate) fn fail(&mut self)
         ensures { self.new ≡ with_failure self.old }
     {
         self.failures = LIMIT.min(self.failures + 1);
     }
 
-    /// It said once more that it ended.
+    /// Notes that the link said once more that it ended.
     pub(crate) fn end(&mut self)
         ensures { self.new ≡ with_end self.old }
     {
         self.ends = LIMIT.min(self.ends + 1);
     }
 
-    /// What the link took by a receive into this slice that was answered so.
+    /// Notes what the link took by a receive into this slice, which was answered so.
     pub(crate) fn take(&mut self, answer: &io::Result<usize>, into: &[u8]) -> Took
         requires { ReadsAtMost answer.now into.now }
         ensures answer { result ≡ took_for answer.now }
@@ -119,7 +119,7 @@ impl Account {
         took
     }
 
-    /// What the link gave by a send of these bytes that was answered so.
+    /// Notes what the link gave by a send of these bytes, which was answered so.
     pub(crate) fn give(&mut self, answer: &io::Result<usize>, bytes: &[u8]) -> Gave
         requires { WritesAtMost answer.now bytes.now }
         ensures answer { result ≡ gave_for answer.now }
@@ -140,7 +140,7 @@ impl Account {
         gave
     }
 
-    /// What the link gave by a send of these bytes, behind so many that were kept, which was answered so: nothing where
+    /// Notes what the link gave by a send of this many kept bytes and then these, which was answered so: nothing where
     /// no more went out than was kept.
     pub(crate) fn give_behind(
         &mut self,
@@ -167,14 +167,14 @@ impl Account {
         }
     }
 
-    /// It was given these bytes.
+    /// Notes that the link was given these bytes.
     pub(crate) fn note_given(&mut self, bytes: &[u8])
         ensures { self.new ≡ record self.old { given = self.old.given ++ bytes.now } }
     {
         self.given.note(bytes);
     }
 
-    /// How often it failed.
+    /// How often the link failed.
     pub(crate) fn failures(&self) -> u64
         ensures { result ≡ self.now.failed }
     {

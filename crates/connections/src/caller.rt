@@ -18,13 +18,13 @@ use std::sync::{Arc, Wait};
 use std::time::{Clock, Duration, Instant};
 use web_site::{Guest, Site};
 
-/// So many seconds a caller has for a request, and then for each part of its answer.
+/// How many seconds a caller has for a request, and then for each part of its answer.
 const GUEST_SECONDS: u64 = 10;
 
-/// A part of an answer has so many bytes, so that a caller that takes a byte now and then is late all the same.
+/// How many bytes a part of an answer has. By parts a caller that takes only a byte now and then is still late.
 const PART: usize = 65_536;
 
-/// A web port: its listener, what it answers, and the lobby, of the listener's role, to which those are let who are let in.
+/// A web port: its listener, what it answers, and the lobby of the listener's role, to which callers are let in.
 #[derive(Drop)]
 pub struct WebEntry {
     listener: RoleListener,
@@ -34,8 +34,8 @@ pub struct WebEntry {
     ghost role: { listener.role ≡ (arc_value lobby).role },
 }
 
-/// A caller: its arrival, its stream once more, what it has asked, since when it may be late, how many bytes it has
-/// taken since then, and the lobby of the port that it came by.
+/// A caller: its arrival, a second handle of its stream, what it has asked, the moment from which its lateness counts,
+/// how many bytes it has taken since then, and the lobby of the port that it came by.
 #[derive(Drop)]
 pub(crate) struct Caller {
     arrival: Arrival,
@@ -109,7 +109,7 @@ impl Port for WebEntry {
 }
 
 impl Caller {
-    /// Reads a byte of the header of a proxy.
+    /// Reads a byte of a proxy's header.
     fn read_header(&mut self) -> io::Result<()> {
         let mut byte = [0u8; 1];
         let mut stream = self.arrival.stream();
@@ -120,7 +120,8 @@ impl Caller {
         Ok(())
     }
 
-    /// Writes once of what is to be told. A caller that has taken all of it, or a part, isn't late yet.
+    /// Writes once from what is still to be told. A caller that has taken all of it, or a whole part, has its full time
+    /// again.
     fn write<R: Clock>(&mut self, rt: &R) -> io::Result<()> {
         let count = self.guest.write_to(&mut self.arrival.stream())?;
         self.taken = self.taken.saturating_add(count);
@@ -131,7 +132,8 @@ impl Caller {
         Ok(())
     }
 
-    /// Writes once of what is to be told, or else reads once. False where neither is wanted.
+    /// Writes once where something is still to be told, and otherwise reads once. It answers false where neither is
+    /// wanted.
     fn talk<R: Clock>(&mut self, rt: &R) -> io::Result<bool> {
         let mut stream = self.arrival.stream();
         if self.guest.wants_write() {
@@ -145,8 +147,8 @@ impl Caller {
         Ok(true)
     }
 
-    /// Reads of the header of a proxy, if the caller comes from one that is believed and the header hasn't come yet, or
-    /// goes on to talk. False where nothing is wanted.
+    /// Reads a byte of the proxy's header, if the caller comes from the believed proxy and the header isn't whole yet;
+    /// otherwise it goes on to talk. It answers false where nothing is wanted.
     fn step<R: Clock>(&mut self, rt: &R) -> io::Result<bool> {
         match self.arrival.whence().known() {
             None => {
@@ -169,7 +171,8 @@ impl Newcomer for Caller {
         registry.deregister(&mut self.heard)
     }
 
-    /// Whether it has asked for too long, or taken too little of an answer. An answer takes its time in a crowd, too.
+    /// Whether the caller has taken too long to ask, or too long to take a part of an answer. It has the same time in a
+    /// crowd.
     fn is_late(&self, now: Instant, _is_crowded: bool) -> bool {
         now.checked_duration_since(self.since)
             .is_some_and(|passed| passed >= Duration::from_secs(GUEST_SECONDS))
@@ -203,7 +206,7 @@ impl Newcomer for Caller {
         )
     }
 
-    /// Lets it to the lobby of the port that it came by, if it was let in. None where it wasn't.
+    /// Brings the caller to the lobby of the port that it came by, if it was let in. It answers `None` where it wasn't.
     fn enter<R: Wait + Clock>(self, rt: &R, patience: Duration) -> Option<Entrance> {
         let Caller {
             arrival,

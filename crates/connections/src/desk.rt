@@ -1,4 +1,4 @@
-//! Who is there, and what an operator asks of it.
+//! Which viewers are there, and what an operator asks of the run.
 
 use crate::seat::Seat;
 use roles::Role;
@@ -14,9 +14,9 @@ use std::time::Clock;
 pub struct Comer {
     /// The number of the place, counted from 1.
     pub place: u64,
-    /// What it may do.
+    /// What the viewer may do.
     pub role: Role,
-    /// Where it comes from, if the system tells.
+    /// Where the viewer comes from, if the system tells.
     pub address: Option<SocketAddr>,
     /// How its bytes travel.
     pub way: Way,
@@ -24,14 +24,14 @@ pub struct Comer {
 
 /// A viewer that has a place, and what was counted of it when the desk was asked.
 #[derive(Clone, Copy, Debug)]
-pub struct Guest {
-    /// Who it is, and which place it has.
+pub struct ViewerCard {
+    /// Who the viewer is, and which place it has.
     pub comer: Comer,
     /// When it came, by `clock_millis`.
     pub since: u64,
     /// Whether it was asked to leave.
     pub is_asked: bool,
-    /// How many updates were begun for it.
+    /// How many answers were begun for the viewer.
     pub updates: u64,
     /// How many of the run's updates it was shown (`PlaceCount::shown`).
     pub shown: u64,
@@ -44,20 +44,20 @@ pub struct Guest {
 pub struct HostCard {
     /// Its address, if the system tells.
     pub address: Option<SocketAddr>,
-    /// Its name, of which what isn't printable is escaped, and quotation marks are.
+    /// Its name, in which bytes that aren't printable, and quotation marks, are escaped.
     pub name: String,
     /// The width of its screen in pixels.
     pub width: u64,
-    /// The height.
+    /// The height of its screen in pixels.
     pub height: u64,
     /// When it was joined, by `clock_millis`.
     pub since: u64,
 }
 
-/// What was counted since the run began, of all viewers: those that are there too.
+/// What was counted of all viewers since the run began, including those that are there.
 #[derive(Clone, Copy, Debug)]
 pub struct Totals {
-    /// How many updates were begun for viewers.
+    /// How many answers were begun for viewers.
     pub updates: u64,
     /// How many bytes the system took for viewers.
     pub bytes: u64,
@@ -65,19 +65,19 @@ pub struct Totals {
 
 /// How a run stood when the desk was asked.
 #[derive(Drop)]
-pub struct Glance {
+pub struct RunCard {
     /// Whether viewers are let in.
     pub entry: Entry,
     /// The host, if one is joined.
     pub host: Option<HostCard>,
-    /// How many updates were put (`HostCount::updates`), read after all that viewers were shown.
+    /// How many updates were put (`HostCount::updates`). This is read after the viewers' counts.
     pub updates: u64,
     /// When the host's last byte came, by `clock_millis`.
     pub heard: u64,
     /// The time now, by `clock_millis`.
     pub now: u64,
-    /// Who has a place, in the order of the places.
-    pub guests: Vec<Guest>,
+    /// The viewers that have a place, in the order of the places.
+    pub viewers: Vec<ViewerCard>,
     /// What was counted of all viewers.
     pub totals: Totals,
 }
@@ -94,25 +94,25 @@ struct Present {
 #[derive(Drop)]
 struct Book {
     doors: Doors,
-    // By the places.
+    // The viewers that are there, by their places.
     present: Vec<Option<Present>>,
     host: Option<HostCard>,
-    // Of those that have left.
+    // What was counted of viewers that have left.
     totals: Totals,
 }
 
-/// The doors of all places of a run, with who is there, which the places' threads share with whoever hears an operator.
-/// What is asked of the doors, and who comes in after it, is that of `run_control`.
+/// The doors of all places of a run, with the viewers that are there. The places' threads share it with the thread that
+/// hears an operator. `run_control` says what a request does to the doors, and who may come in after it.
 ///
-/// It is locked where a viewer or a host comes or leaves, and where one asks, and for nothing on the way of pixels:
-/// what is counted meanwhile stands in counters (`PlaceCount`, `HostCount`).
+/// It is locked where a viewer or a host comes or leaves, and where somebody asks, but never on the way of pixels: what
+/// is counted meanwhile stands in counters (`PlaceCount`, `HostCount`).
 #[derive(Drop)]
 pub struct Desk {
     book: Mutex<Book>,
     count: Arc<HostCount, Global>,
 }
 
-/// So many places that nobody has.
+/// This many places that nobody has.
 fn vacant(alloc: Global, places: usize) -> Result<Vec<Option<Present>>, AllocError> {
     let mut present = Vec::with_capacity(alloc, places)?;
     for _place in 0..places {
@@ -128,10 +128,10 @@ fn slot(present: &mut [Option<Present>], place: u64) -> Option<&mut Option<Prese
 }
 
 impl Present {
-    /// The viewer, as it is told of now.
-    fn guest(&self, doors: &Doors) -> Guest {
+    /// What is told of the viewer now.
+    fn card(&self, doors: &Doors) -> ViewerCard {
         let count = self.seat.count();
-        Guest {
+        ViewerCard {
             comer: self.comer,
             since: self.since,
             is_asked: doors.is_asked(self.comer.place),
@@ -143,7 +143,7 @@ impl Present {
 }
 
 impl Totals {
-    /// The same, with what was counted of one more viewer.
+    /// The totals, with what was counted of one more viewer.
     fn with(self, count: &PlaceCount) -> Totals {
         Totals {
             updates: self.updates.saturating_add(count.updates()),
@@ -153,18 +153,18 @@ impl Totals {
 }
 
 impl Book {
-    /// Who has a place.
-    fn guests(&self, alloc: Global) -> Result<Vec<Guest>, AllocError> {
-        let mut guests = Vec::new(alloc);
+    /// The viewers that have a place.
+    fn viewers(&self, alloc: Global) -> Result<Vec<ViewerCard>, AllocError> {
+        let mut viewers = Vec::new(alloc);
         for slot in &self.present {
             if let Some(present) = slot {
-                guests.push(present.guest(&self.doors))?;
+                viewers.push(present.card(&self.doors))?;
             }
         }
-        Ok(guests)
+        Ok(viewers)
     }
 
-    /// Has each viewer leave that is asked to.
+    /// Has each viewer leave that was asked to.
     fn dismiss(&self) {
         for slot in &self.present {
             if let Some(present) = slot {
@@ -199,8 +199,8 @@ impl Book {
 }
 
 impl Desk {
-    /// The doors of so many places, all free, at which viewers are let in. There is no host. It fails where memory is
-    /// refused for them.
+    /// A desk of open doors, with this many places, all of them free, and no host. It fails where memory for it is
+    /// refused.
     pub fn new(alloc: Global, places: usize) -> Result<Desk, AllocError> {
         let book = Book {
             doors: Doors::new(alloc, places)?,
@@ -232,7 +232,7 @@ impl Desk {
         self.book.lock(rt).doors.free()
     }
 
-    /// Does what is asked, and has each viewer leave that is asked to.
+    /// Does what is requested, and has each viewer leave that is asked to.
     pub fn ask<R: Wait>(&self, rt: &R, request: Request) -> Outcome {
         let mut guard = self.book.lock(rt);
         let book = &mut *guard;
@@ -241,18 +241,18 @@ impl Desk {
         outcome
     }
 
-    /// How the run stands. It fails where memory is refused for that.
-    pub fn look<R: Wait + Clock>(&self, rt: &R, alloc: Global) -> Result<Glance, AllocError> {
+    /// How the run stands. It fails where memory for the answer is refused.
+    pub fn look<R: Wait + Clock>(&self, rt: &R, alloc: Global) -> Result<RunCard, AllocError> {
         let guard = self.book.lock(rt);
         let book = &*guard;
-        let guests = book.guests(alloc)?;
-        Ok(Glance {
+        let viewers = book.viewers(alloc)?;
+        Ok(RunCard {
             entry: book.doors.entry(),
             host: book.host()?,
             updates: self.count.updates(),
             heard: self.count.heard(),
             now: clock_millis(rt),
-            guests,
+            viewers,
             totals: book.all(),
         })
     }
@@ -262,12 +262,12 @@ impl Desk {
         self.book.lock(rt).host = Some(host);
     }
 
-    /// It has ended.
+    /// The host has ended.
     pub fn host_left<R: Wait>(&self, rt: &R) {
         self.book.lock(rt).host = None;
     }
 
-    /// A viewer comes to a place, whose thread waits at this seat. Whether it is let in.
+    /// A viewer comes to a place, whose thread waits at this seat. It answers whether the viewer is let in.
     pub(crate) fn enter<R: Wait + Clock>(
         &self,
         rt: &R,

@@ -1,4 +1,4 @@
-//! Who is rung by an update.
+//! Who is told of an update.
 
 use crate::seat::Seat;
 use crate::writer_seat::WriterSeat;
@@ -6,8 +6,8 @@ use run_traits::{Alarm, HostCount};
 use std::alloc::Global;
 use std::sync::Arc;
 
-/// The host's writer, and then each place: the host can work on while the viewers are told. It is rung once for each
-/// update that is put, and counts them.
+/// An alarm that rings the host's writer, and then each place, so that the host can go on working while the viewers are
+/// told. It is rung once for each update that is put, and counts these updates.
 #[derive(Drop)]
 pub struct Everyone {
     /// What is counted of the hosts.

@@ -1,4 +1,4 @@
-//! Sockets by which something was said and heard before they are a link's.
+//! Sockets by which something was said and heard before they belong to a link.
 
 use crate::greeting::{VERSION, VERSION_LEN};
 use crate::noted::{Noted, note_both};
@@ -12,15 +12,15 @@ use std::io;
 use std::io::ErrorKind;
 use std::marker::Model;
 
-/// A socket by which, perhaps, the version was said and another was heard before it has an owner. Its owner sends and
-/// receives as if nothing had been said or heard yet: the bytes that were said aren't sent again, and those that were
-/// heard come first. A send of another version fails.
+/// A socket by which, perhaps, the version was said and the peer's version was heard before it had an owner. Its owner
+/// sends and receives as if nothing had been said or heard yet: the bytes that were said aren't sent again, and those
+/// that were heard come first. A send of another version fails.
 #[derive(Drop)]
 pub struct GreetedSocket<S: Socket> {
     socket: S,
-    // So many bytes of the version the owner has sent. All of them, where none was said before.
+    // How many bytes of the version the owner has sent: all of them, where none was said before.
     given: usize,
-    // What was heard, of which the owner has received so many bytes.
+    // What was heard before, and how many of these bytes the owner has received.
     own: ArrayVec<u8, VERSION_LEN>,
     taken: usize,
     // What the owner has sent and received, and the header that came before.
@@ -65,7 +65,8 @@ impl<S: Socket> GreetedSocket<S> {
         }
     }
 
-    /// One by which the version was said, and these bytes were heard, behind this header of a proxy, if there was one.
+    /// A socket by which the version was said, and these bytes were heard, after this header of a proxy, if there was
+    /// one.
     pub(crate) fn greeted(
         socket: S,
         front: Record,
@@ -91,15 +92,15 @@ impl<S: Socket> GreetedSocket<S> {
         }
     }
 
-    /// At every moment what the owner has sent, and what it owes, was sent, and what it has received, and what is ahead
-    /// of it, was received.
+    /// It does nothing. Its clause says that, at every moment, what the owner has sent and what it owes was sent by the
+    /// socket, and that what the owner has received and what is ahead of it was received by the socket.
     pub fn matches(&self)
         ensures { Matches self.now }
     {
         let _ = &self.given;
     }
 
-    /// The first of these bytes that were said before, of which some are owed.
+    /// Takes the first of these bytes as sent, as far as they were said before. It is called only where some are owed.
     fn give_owed(&mut self, bytes: &[u8]) -> io::Result<usize>
         ensures bound { WritesAtMost result bytes.now }
         ensures sent { self.new.sent ≡ self.old.sent ++ moved result bytes.now }
@@ -120,7 +121,7 @@ impl<S: Socket> GreetedSocket<S> {
         }
     }
 
-    /// The first of the bytes that were heard before, of which some are ahead.
+    /// Gives the first of the bytes that were heard before. It is called only where some are ahead.
     #[tactic(auto, using(crate::proofs::Owed::gone_behind))]
     fn take_ahead(&mut self, into: &mut [u8]) -> usize
         ensures bound { result ≤ length into.new }

@@ -1,4 +1,4 @@
-//! What is said to a newcomer over TCP, and heard of it, before it is a viewer.
+//! What is said to a newcomer over TCP, and heard from it, before it is a viewer.
 
 use crate::greeted::GreetedSocket;
 use crate::noted::Noted;
@@ -16,16 +16,16 @@ use std::net::SocketAddr;
 /// The bytes of a version (RFC 6143, section 7.1.1).
 pub(crate) const VERSION_LEN: usize = 12;
 
-/// The version that is said to whoever comes.
+/// The version that is said to each newcomer.
 pub(crate) const VERSION: [u8; VERSION_LEN] = *b"RFB 003.008\n";
 
-/// The greeting of a newcomer over a socket: the header of a proxy is heard first, if the newcomer comes from one that
-/// is believed, then the version is said, and then its own is heard. Nothing behind it is taken.
+/// The greeting of a newcomer over a socket. First the header of a proxy is heard, if the newcomer comes from the
+/// believed proxy; then the version is said; and then the newcomer's version is heard. Nothing after it is taken.
 #[derive(Drop)]
 pub struct Greeting<S: Socket> {
     socket: S,
     whence: Whence,
-    // So many bytes of the version were said.
+    // How many bytes of the version were said.
     said: usize,
     own: ArrayVec<u8, VERSION_LEN>,
 }
@@ -40,7 +40,7 @@ impl<S: Socket> Model for Greeting<S> {
     ghost invariant = { λ g. IsGreeting (record { whence = g.whence; said = g.said; own = g.own.items; sent = S.sent g.socket; received = S.received g.socket }) };
 }
 
-/// The peer has ended.
+/// The error of a peer that has ended.
 fn ended() -> io::Error {
     io::Error::from(ErrorKind::UnexpectedEof)
 }
@@ -49,7 +49,7 @@ impl<S: Socket> Greeting<S> {
     ghost use Rattle.std.specs.Prelude.{◌≡◌, [], IfOk, IfSome, Ok, Some, false, length, true};
     ghost use Rattle.connections.specs.Greetings.{IsGreeted, IsGreeting, IsKnown, IsSameComer};
 
-    /// Of a newcomer that comes from there, over a socket by which nothing was sent or received.
+    /// The greeting of a newcomer that comes from there, over a socket by which nothing was sent or received.
     pub fn new(socket: S, whence: Whence) -> Greeting<S>
         requires sent { S.sent socket ≡ [] }
         requires received { S.received socket ≡ [] }
@@ -66,15 +66,15 @@ impl<S: Socket> Greeting<S> {
         }
     }
 
-    /// At every moment what was sent is the beginning of the version, and what was received is a header and the
-    /// beginning of the newcomer's own version.
+    /// It does nothing. Its clause says that, at every moment, what was sent is the beginning of the version, and what
+    /// was received is a header and the beginning of the newcomer's own version.
     pub fn is_right(&self)
         ensures { IsGreeting self.now }
     {
         let _ = &self.said;
     }
 
-    /// From where the newcomer comes.
+    /// Where the newcomer comes from.
     pub fn whence(&self) -> &Whence
         ensures { result.now ≡ self.now.whence }
     {
@@ -126,8 +126,8 @@ impl<S: Socket> Greeting<S> {
         Ok(())
     }
 
-    /// Goes on by one read or one write. False where nothing is left to be said or heard. It fails where the system
-    /// does, where the peer has ended, and where what it sent is no header.
+    /// Goes on by one read or one write. It answers false where nothing is left to be said or heard. It fails where the
+    /// system does, where the peer has ended, and where the peer sent no header though one was due.
     pub fn step(&mut self) -> io::Result<bool>
         ensures same { IsSameComer self.old.whence self.new.whence }
         ensures over { IfOk result (λ goes_on. goes_on ≡ false → length self.new.own ≡ 12) }
@@ -142,7 +142,8 @@ impl<S: Socket> Greeting<S> {
         Ok(true)
     }
 
-    /// The socket for its owner from now on, and the newcomer's address, if the newcomer's version has come.
+    /// The socket, for its owner from now on, and the newcomer's address, once the newcomer's version has come. Until
+    /// then it answers `None`.
     pub fn done(self) -> Option<(GreetedSocket<S>, Option<SocketAddr>)>
         ensures greeted { IfSome result (λ both. IsGreeted both.0) }
         ensures unsent { IfSome result (λ both. both.0.sent ≡ []) }

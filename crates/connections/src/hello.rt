@@ -16,17 +16,17 @@ pub(crate) const HELLO_SECONDS: u64 = 10;
 /// How long a wait for a viewer may last.
 #[derive(Clone, Copy, Drop)]
 pub(crate) enum Patience {
-    /// So long: the seconds for its hello aren't over.
+    /// At most this long: the seconds for the hello aren't over.
     AtMost(Duration),
-    /// Without an end: its hello has come.
+    /// Without an end: the hello has come.
     Endless,
-    /// Its hello is late.
+    /// No wait: the hello is late.
     Over,
 }
 
-/// How long a wait may last where `missing` bytes of the hello are missing, this long after the viewer came. None that
-/// begins within the seconds for the hello outlasts them, even where no byte is missing: bytes may come in messages of
-/// which some are, and whoever counts those looks then.
+/// How long a wait may last where `missing` bytes of the hello are missing, this long after the viewer came. A wait
+/// that begins within the seconds for the hello never outlasts them, even where no byte is missing here. Bytes may
+/// carry messages in which some of the hello is still missing, and the link that counts those looks again then.
 pub(crate) fn longest_wait(missing: usize, passed: Duration) -> Patience
     ensures { IsPatience result missing (as_nanos passed) }
 {

@@ -15,7 +15,7 @@ const PATIENCE_SECONDS: u64 = 1;
 
 /// One end of the host's connection. `take` waits for bytes, and `give` for at most a second.
 ///
-/// It is proved over every socket; a host's is a stream over TCP.
+/// It is proved over every socket; a host's socket is a stream over TCP.
 #[derive(Drop)]
 pub struct HostLink<S: HostSocket = Noted<TcpStream>> {
     socket: S,
@@ -56,7 +56,7 @@ impl<S: HostSocket> HostLink<S> {
     ghost use Rattle.std.specs.Prelude.{◌≡◌, []};
     ghost use Rattle.connections.specs.Wires.{Carries, closed, fresh};
 
-    /// A link that has taken and given nothing, over a socket of which that holds, too.
+    /// A link that has taken and given nothing, over a socket that has sent and received nothing.
     pub fn over(socket: S) -> HostLink<S>
         requires sent { S.sent socket ≡ [] }
         requires received { S.received socket ≡ [] }
@@ -77,14 +77,15 @@ impl<S: HostSocket> HostLink<S> {
         &self.socket
     }
 
-    /// At every moment what was given is what the socket has sent, and what was taken is what it has received.
+    /// It does nothing. Its clause says that, at every moment, what was given is what the socket has sent, and what was
+    /// taken is what it has received.
     pub fn carries(&self)
         ensures { Carries self.now }
     {
         let _ = &self.socket;
     }
 
-    /// No `take` lasts longer than this, if there is a limit. It fails where the system refuses the option.
+    /// From now on no `take` lasts longer than this, if there is a limit. It fails where the system refuses the option.
     pub(crate) fn limit(&self, longest: Option<Duration>) -> io::Result<()> {
         self.socket.limit(longest)
     }

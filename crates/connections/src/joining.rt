@@ -25,7 +25,7 @@ pub struct JoiningLink<R: Clock + Drop, S: HostSocket = Noted<TcpStream>> {
     /// When the handshake began, or `None` where there is no deadline.
     opened: Option<Instant>,
     failures: u64,
-    /// Where it is noted when the host's bytes came, if anywhere.
+    /// Where it is noted that the host's bytes came, if anywhere.
     count: Option<Arc<HostCount, Global>>,
 }
 
@@ -42,7 +42,7 @@ impl<R: Clock + Drop, S: HostSocket> JoiningLink<R, S> {
     ghost use Rattle.std.specs.Prelude.{◌≡◌, true, false, IsTrue, min, ◌+◌, ◌^◌, IfOk, OnOk, OnErr};
     ghost use Rattle.connections.specs.Wires.{Carries, closed, joining_state};
 
-    /// The same link, with ten seconds from now. It fails where the system refuses an option or the clock.
+    /// This link, with a deadline ten seconds from now. It fails where the system refuses an option or the clock.
     pub fn new(rt: R, link: HostLink<S>) -> io::Result<JoiningLink<R, S>>
         ensures below { IfOk result (λ joining. (joining.below ≡ link) × (joining_state joining ≡ link.own)) }
         ensures deadline { IfOk result (λ joining. joining.has_deadline ≡ true) }
@@ -59,7 +59,7 @@ impl<R: Clock + Drop, S: HostSocket> JoiningLink<R, S> {
         })
     }
 
-    /// The same link, without a deadline.
+    /// This link, without a deadline.
     pub fn without_limit(rt: R, link: HostLink<S>) -> JoiningLink<R, S>
         ensures below { (result.below ≡ link) × (joining_state result ≡ link.own) }
         ensures deadline { result.has_deadline ≡ false }
@@ -74,7 +74,7 @@ impl<R: Clock + Drop, S: HostSocket> JoiningLink<R, S> {
         }
     }
 
-    /// There is no deadline from now on. It fails where the system refuses the option, and then the deadline stays.
+    /// Lifts the deadline. It fails where the system refuses the option, and then the deadline stays.
     pub fn lift(&mut self) -> io::Result<()>
         ensures ok { OnOk result (self.new ≡ record self.old { has_deadline = false }) }
         ensures err { OnErr result (self.new ≡ self.old) }
@@ -84,14 +84,14 @@ impl<R: Clock + Drop, S: HostSocket> JoiningLink<R, S> {
         Ok(())
     }
 
-    /// From now on it is noted there when the host's bytes came.
+    /// From now on this count is told when the host's bytes come.
     pub fn count_by(&mut self, count: Arc<HostCount, Global>)
         ensures { self.new ≡ self.old }
     {
         self.count = Some(count);
     }
 
-    /// Bytes of the host came now.
+    /// Notes that bytes of the host came just now.
     fn hear(&self) {
         if let Some(count) = &self.count {
             count.hear(&self.rt);
@@ -112,14 +112,15 @@ impl<R: Clock + Drop, S: HostSocket> JoiningLink<R, S> {
         &self.link
     }
 
-    /// At every moment what was given is what the socket has sent, and what was taken is what it has received.
+    /// It does nothing. Its clause says that, at every moment, what was given is what the socket has sent, and what was
+    /// taken is what it has received.
     pub fn carries(&self)
         ensures { Carries self.now.below }
     {
         self.link.carries();
     }
 
-    /// Whether its time is over, which it never is without a deadline. A clock that can't be read is late.
+    /// Whether the deadline is past. Without a deadline it never is, and with one it is where the clock can't be read.
     fn is_late(&self) -> bool
         ensures { IsTrue result → self.now.has_deadline ≡ true }
     {
@@ -132,7 +133,7 @@ impl<R: Clock + Drop, S: HostSocket> JoiningLink<R, S> {
         }
     }
 
-    /// It failed once more.
+    /// Notes that the link failed once more.
     fn fail(&mut self)
         ensures { self.new ≡ record self.old { failed = min (2 ^ 62) (self.old.failed + 1) } }
     {

@@ -5,14 +5,14 @@ use std::alloc::{AllocError, Global};
 use std::io;
 use std::marker::Model;
 
-/// This many bytes are kept at most.
+/// The most bytes that are kept.
 pub(crate) const MOST_KEPT: usize = 65_536;
 
-/// Bytes that are kept, in order, until they can go out. There is room again for all once none is left.
+/// Bytes that are kept, in order, until they can go out. Once none is left, all of the room is free again.
 #[derive(Drop)]
 pub(crate) struct Kept {
     bytes: Vec<u8>,
-    // This many of them have gone out.
+    // How many of them have gone out.
     gone: usize,
 }
 
@@ -32,7 +32,7 @@ impl Kept {
     ghost use Rattle.connections.specs.Keeping.{most_kept};
     ghost use Rattle.connections.specs.Wires.{moved, moved_behind};
 
-    /// No byte, and room for `MOST_KEPT`, which is taken here. It fails where that memory is refused.
+    /// A list without a byte. Room for `MOST_KEPT` bytes is taken here. It fails where that memory is refused.
     pub(crate) fn new(alloc: Global) -> Result<Kept, AllocError>
         ensures { IfOk result (λ kept. kept ≡ record { bytes = []; room = most_kept }) }
     {
@@ -75,7 +75,7 @@ impl Kept {
         count
     }
 
-    /// The first bytes have gone out.
+    /// The first bytes, this many, have gone out.
     fn pass(&mut self, count: usize)
         requires { count ≤ length self.old.bytes }
         ensures bytes { self.new.bytes ≡ drop count self.old.bytes }
@@ -88,8 +88,8 @@ impl Kept {
         }
     }
 
-    /// Sends once of what is kept, in order, and answers how many bytes went out. These aren't kept from then on; where
-    /// the socket fails nothing has changed.
+    /// Sends once from what is kept, in order, and answers how many bytes went out. These are no longer kept. Where the
+    /// socket fails nothing has changed.
     pub(crate) fn send_to<S: Socket>(&mut self, socket: &mut S) -> io::Result<usize>
         ensures ok { IfOk result (λ count. (count ≤ length self.old.bytes) × (self.new.bytes ≡ drop count self.old.bytes)) }
         ensures err { OnErr result (self.new ≡ self.old) }
@@ -102,8 +102,8 @@ impl Kept {
         Ok(count)
     }
 
-    /// Sends once of what is kept and then of these bytes, in order, and answers how many of both went out. Those that
-    /// were kept aren't from then on; where the socket fails nothing has changed.
+    /// Sends once from what is kept, followed by these bytes, in order, and answers how many of both went out. Kept
+    /// bytes that went out are no longer kept. Where the socket fails nothing has changed.
     pub(crate) fn send_with<S: Socket>(&mut self, socket: &mut S, bytes: &[u8]) -> io::Result<usize>
         ensures ok { IfOk result (λ count. (count ≤ length self.old.bytes + length bytes.now) × (self.new.bytes ≡ drop count self.old.bytes)) }
         ensures err { OnErr result (self.new ≡ self.old) }

@@ -1,4 +1,4 @@
-//! What `serve` waits with over TCP: seats, links and doors, and who is there.
+//! What `serve` waits with over TCP: seats, links and doors, and a list of the viewers that are there.
 //!
 //! A place's thread waits in one `epoll` for its viewer's socket and for an alarm; the host's writer rests until it is
 //! rung. No contract says that a wait ends, that a ring wakes, or how long anything lasts. Memory: a viewer's link
@@ -32,7 +32,7 @@ mod whence;
 mod writer_seat;
 
 pub use caller::WebEntry;
-pub use desk::{Comer, Desk, Glance, Guest, HostCard, Totals};
+pub use desk::{Comer, Desk, HostCard, RunCard, Totals, ViewerCard};
 pub use everyone::Everyone;
 pub use greeted::GreetedSocket;
 pub use greeting::Greeting;

@@ -24,16 +24,16 @@ use web_link::AnyLink;
 #[derive(Drop)]
 struct Waiting {
     entrants: Vec<Entrant>,
-    // How many places have no viewer, and none on the way.
+    // How many places have no viewer, and no viewer on the way to them.
     free: u64,
     // How many places there are.
     places: u64,
-    // Nobody is let in yet, since there is no host.
+    // Whether nobody is let in now, since there is no host.
     is_held: bool,
     is_closed: bool,
 }
 
-/// What is missing for a newcomer, if something is.
+/// What is missing for a newcomer to come in, if something is.
 fn lack(waiting: &Waiting, is_open: bool) -> Option<Lack>
     ensures none { IsNone result → 0 < waiting.now.free }
 {
@@ -69,8 +69,8 @@ pub struct Lobby {
 }
 
 impl Lobby {
-    /// A lobby for the viewers of a role, whose places are all free, and who may take nothing for so many seconds. It
-    /// fails where memory is refused for the streams on their way.
+    /// A lobby for the viewers of a role, each of which may take nothing for this many seconds. All of its places are
+    /// free. It fails where memory for the streams on their way is refused.
     pub fn new(
         alloc: Global,
         role: Role,
@@ -120,8 +120,8 @@ impl Lobby {
         self.waiting.lock(rt).is_held = is_held;
     }
 
-    /// No more viewers come: each door that waits here, or will, has no next one. Those on their way to a place are let
-    /// go.
+    /// No more viewers come: each door that waits here, or will wait, is told so. Viewers on their way to a place are
+    /// let go.
     pub fn close<R: Wait>(&self, rt: &R) {
         let mut guard = self.waiting.lock(rt);
         let waiting = &mut *guard;
@@ -145,7 +145,8 @@ impl Lobby {
         drop(guard);
     }
 
-    /// Hands a newcomer by a listener of its role to a place that is free, or becomes so in this time, or gives it back.
+    /// Hands a newcomer by a listener of the lobby's role to a place that is free, or becomes free in this time. Where
+    /// there is none it gives the newcomer back.
     pub(crate) fn enter<R: Wait + Clock>(
         &self,
         rt: &R,
@@ -182,7 +183,7 @@ impl Lobby {
         self.freed.notify_all();
     }
 
-    /// Waits for a viewer, whoever came first. None where no more come.
+    /// Waits for the viewer that came first. It answers `None` where no more come.
     fn next_entrant<R: Wait>(&self, rt: &R) -> Option<Entrant> {
         let guard = self.waiting.lock(rt);
         let mut guard = self.came.wait_while(rt, guard, |waiting| {
@@ -211,7 +212,7 @@ pub struct TcpDoor<R: Wait + Clock + Drop, G: Log + Drop> {
     // The number of the place.
     place: u64,
     log: G,
-    // Whether a viewer was let in, and the lobby hasn't been told yet that it is gone.
+    // Whether a viewer was let in, and the lobby hasn't been told yet that the viewer has left.
     has_served: bool,
     // Where that viewer came from, if the system told, and how its bytes travel.
     address: Option<SocketAddr>,
@@ -365,9 +366,9 @@ impl<R: Wait + Clock + Drop + Copy + Send, G: Log + Drop + Send> Door for TcpDoo
         self.seat.count()
     }
 
-    /// The connection is closed before the place is free.
+    /// Closes the connection before the place becomes free.
     fn left(&mut self, mut viewer: ViewerLink<R>, answers: u64, why: Result<(), Fault>) {
-        // A browser's close frame is answered.
+        // This sends the answer to a browser's close frame.
         viewer.flush();
         let connection = connection_of(&viewer);
         let visit = Visit {

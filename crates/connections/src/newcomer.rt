@@ -24,7 +24,8 @@ use std::time::{Clock, Duration, Instant};
 /// The seconds that a newcomer may take while no place is left for another.
 const CROWDED_SECONDS: u64 = 1;
 
-/// A port over TCP: its listener, and the lobby, of the listener's role, to which those are let whose own version has come.
+/// A port over TCP: its listener, and the lobby of the listener's role. Newcomers whose own version has come are let to
+/// the lobby.
 #[derive(Drop)]
 pub struct TcpEntry {
     listener: RoleListener,

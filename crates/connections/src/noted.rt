@@ -34,9 +34,9 @@ impl Gathering for mio::net::TcpStream {
     }
 }
 
-/// A stream whose reads may be given an end in time, and that can be closed for both sides.
+/// A stream whose reads can be limited in time, and that can be closed for both sides.
 pub trait Closing: Gathering {
-    /// No read lasts longer than this from now on, if there is a limit.
+    /// From now on no read lasts longer than this, if there is a limit.
     fn limit(&self, longest: Option<Duration>) -> io::Result<()>;
 
     /// Closes both directions, for both ends.
@@ -49,12 +49,12 @@ impl Closing for TcpStream {
     }
 
     fn shut(&self) {
-        // Where the peer has gone before, there is nothing to be told.
+        // Where the peer has gone already, there is nobody to tell.
         let _ = self.shutdown(Shutdown::Both);
     }
 }
 
-/// Notes so many of the first bytes of both slices, those of `first` before those of `second`.
+/// Notes this many of the first bytes of both slices, those of `first` before those of `second`.
 pub(crate) fn note_both(notes: &mut Record, first: &[u8], second: &[u8], count: usize)
     requires { count ≤ length (first.now ++ second.now) }
     ensures { notes.new.bytes ≡ notes.old.bytes ++ take count (first.now ++ second.now) }
@@ -65,8 +65,8 @@ pub(crate) fn note_both(notes: &mut Record, first: &[u8], second: &[u8], count: 
     notes.note(of_second);
 }
 
-/// A stream until it is closed, and what has gone over it, which only clauses read: contracts know nothing of what a
-/// stream of the system holds.
+/// A stream, until it is closed, and a record of what has gone over it, which only clauses read: contracts know nothing
+/// of what a stream of the system holds.
 #[derive(Drop)]
 pub struct Noted<T: Gathering> {
     stream: Option<T>,
@@ -77,7 +77,7 @@ pub struct Noted<T: Gathering> {
 impl<T: Gathering> Noted<T> {
     ghost use Rattle.std.specs.Prelude.{◌≡◌, []};
 
-    /// One over which nothing has gone.
+    /// A stream over which nothing has gone.
     pub fn new(stream: T) -> Noted<T>
         ensures sent { result.sent.bytes ≡ [] }
         ensures received { result.received.bytes ≡ [] }

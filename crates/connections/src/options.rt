@@ -7,26 +7,26 @@ use std::io;
 use std::net::TcpStream;
 use std::os::fd::{AsRawFd, RawFd};
 
-/// For how long a peer that is gone, or takes nothing, is put up with.
+/// How long a peer that is gone, or takes nothing, is tolerated.
 #[derive(Drop)]
 struct Patience {
-    /// Seconds without a byte after which it is asked whether it's there.
+    /// Seconds without a byte after which the peer is asked whether it's there.
     idle: u32,
     /// Seconds between such questions.
     between: u32,
-    /// How many of them.
+    /// How many such questions are asked.
     times: u32,
     /// Milliseconds for which bytes may stay unsent, or sent and not confirmed.
     stalled: u32,
 }
 
-/// The shortest and the longest that a viewer may take nothing, in seconds.
+/// The shortest and the longest time for which a viewer may take nothing, in seconds.
 const LEAST_STALLED: u64 = 10;
 
 const MOST_STALLED: u64 = 600;
 
-/// A viewer may have a slow line, or one that is gone for a while: it may take nothing for so many seconds, and is
-/// asked whether it's there once it has sent nothing for as many.
+/// A viewer's line may be slow, or down for a while. So a viewer may take nothing for this many seconds, and is asked
+/// whether it's there once it has sent nothing for as many.
 fn with_viewers(seconds: u64) -> Patience
     ensures stalled { result.stalled ≡ 1000 * min (max seconds 10) 600 }
     ensures idle { result.idle ≡ min (max seconds 10) 600 }
@@ -40,7 +40,7 @@ fn with_viewers(seconds: u64) -> Patience
     }
 }
 
-/// While a host is gone all viewers see an old picture, and the next host may have its turn.
+/// While a host is gone all viewers see an old picture, so the next host is to have its turn soon.
 const WITH_HOSTS: Patience = Patience {
     idle: 5,
     between: 2,
@@ -81,13 +81,13 @@ fn outlast_for(stream: &TcpStream, patience: &Patience) -> io::Result<()> {
     check(unsafe { c::setsockopt(fd, c::IPPROTO_TCP, c::TCP_USER_TIMEOUT, &stalled, 4) })
 }
 
-/// The system fails the connection of a viewer that is gone, or that takes no bytes, after so many seconds: ten at
-/// least, and 600 at most.
+/// Has the system fail the connection of a viewer that is gone, or takes no bytes, after this many seconds: at least
+/// 10, and at most 600.
 pub fn outlast(stream: &TcpStream, stalled: u64) -> io::Result<()> {
     outlast_for(stream, &with_viewers(stalled))
 }
 
-/// The system fails the connection of a host that is gone, or that takes no bytes, after eleven seconds.
+/// Has the system fail the connection of a host that is gone, or takes no bytes, after eleven seconds.
 pub fn outlast_host(stream: &TcpStream) -> io::Result<()> {
     outlast_for(stream, &WITH_HOSTS)
 }

@@ -1,4 +1,4 @@
-//! What a porter keeps: ports, and those who came by them and aren't viewers yet.
+//! What a porter keeps: ports, and newcomers that came by them and aren't viewers yet.
 
 use crate::lobby::Entrance;
 use crate::whence::Whence;
@@ -11,8 +11,7 @@ use std::io;
 use std::sync::Wait;
 use std::time::{Clock, Duration, Instant};
 
-/// So many reads and writes of one newcomer follow one another at most. One that keeps the porter busy for longer is
-/// let go.
+/// The most reads and writes of one newcomer in a row. A newcomer that keeps the porter busy for longer is let go.
 pub(crate) const MOST_STEPS: usize = 4_096;
 
 /// How far a newcomer has gone.
@@ -48,7 +47,7 @@ pub(crate) trait Port: Drop {
     /// What is lent to each newcomer.
     type Means: Drop;
 
-    /// What a poll hears.
+    /// The listener at which a poll hears newcomers.
     fn heard(&mut self) -> &mut TcpListener;
 
     /// Whether nobody is let to its lobby any more.
@@ -71,7 +70,7 @@ pub(crate) trait Newcomer: Drop {
     /// No poll hears it any more.
     fn leave(&mut self, registry: &Registry) -> io::Result<()>;
 
-    /// Whether it has taken too long. Where no place is left for another it may take less time.
+    /// Whether it has taken too long. It has less time where the porter has no room for another newcomer.
     fn is_late(&self, now: Instant, is_crowded: bool) -> bool;
 
     /// Reads and writes, as far as it goes now.
@@ -80,6 +79,6 @@ pub(crate) trait Newcomer: Drop {
     /// What a log is told of it if it goes now, late or not.
     fn complaint(&self, is_late: bool) -> Option<Event<'static>>;
 
-    /// Lets it to the lobby of the port that it came by, if it may be let there. None where it may not.
+    /// Brings it to the lobby of the port that it came by, if it may be let in. It answers `None` where it may not.
     fn enter<R: Wait + Clock>(self, rt: &R, patience: Duration) -> Option<Entrance>;
 }

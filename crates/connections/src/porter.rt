@@ -1,4 +1,4 @@
-//! Porters: one thread for all that comes before a link, at the web ports of a run or at a port over TCP.
+//! Porters: a porter is one thread for all that comes before a link, at the web ports of a run or at a port over TCP.
 
 use crate::caller::WebEntry;
 use crate::lobby::Entrance;
@@ -15,19 +15,20 @@ use std::net::Net;
 use std::sync::{Arc, Wait};
 use std::time::{Clock, Duration, Instant};
 
-/// So many connections that aren't viewers yet are kept by one porter at most. The others wait in the system's queue.
+/// The most connections that aren't viewers yet in one porter. The others wait in the system's queue.
 pub const MOST_GUESTS: usize = 64;
 
-/// So many of those whom a poll heard are told at once.
+/// How many of the sockets that a poll heard are told at once.
 const MOST_EVENTS: usize = 128;
 
-/// Those who are late are let go, and a closed lobby is seen, after so long.
+/// After how many milliseconds, at the latest, newcomers that are late are let go and a closed lobby is seen.
 const LOOK_MILLIS: u64 = 500;
 
-/// The seconds after which all places are woken, so that those of browsers that are silent for long say a ping.
+/// The seconds after which all places are woken, so that a place whose browser was sent nothing for long sends a ping.
 const WAKE_SECONDS: u64 = 5;
 
-/// The newcomers of a porter, each at a place of its own.
+/// The newcomers of a porter, each in a slot of its own. `place` is the number of such a slot here, and no viewer's
+/// place.
 #[derive(Drop)]
 struct Guests<C: Newcomer> {
     places: Vec<Option<C>>,
@@ -42,7 +43,7 @@ impl<C: Newcomer> Guests<C> {
         Ok(Guests { places })
     }
 
-    /// A place that is free.
+    /// A slot that is free.
     fn free(&self) -> Option<usize> {
         self.places.iter().position(|place| place.is_none())
     }
@@ -65,7 +66,7 @@ impl<C: Newcomer> Guests<C> {
         }
     }
 
-    /// Whether the one at this place, if there is one, has asked for too long.
+    /// Whether the newcomer in this slot, if there is one, has taken too long.
     fn is_late(&self, place: usize, now: Instant, is_crowded: bool) -> bool {
         match self.places.get(place) {
             Some(Some(comer)) => comer.is_late(now, is_crowded),
@@ -75,7 +76,7 @@ impl<C: Newcomer> Guests<C> {
 }
 
 /// The ports of a porter, and the newcomers that came by them. A poll hears a port under its number, and a newcomer
-/// under that of its place, behind those of the ports.
+/// under the number of its slot, counted on from those of the ports.
 #[derive(Drop)]
 struct Porch<P: Port> {
     alloc: Global,
@@ -115,7 +116,7 @@ impl<P: Port> Porch<P> {
         entry.accept(rt, self.alloc, &self.means).ok()
     }
 
-    /// Gives a newcomer this place, and hears it from now on. One that can't be heard is let go.
+    /// Puts a newcomer into this slot, and hears it from now on. A newcomer that can't be heard is let go.
     fn admit(&mut self, mut comer: P::Comer, place: usize) {
         let number = self.entries.len().saturating_add(place);
         if comer.hear(self.poll.registry(), number).is_ok() {
@@ -123,7 +124,8 @@ impl<P: Port> Porch<P> {
         }
     }
 
-    /// Lets the next newcomer of a port ask, where there is a place for it. False where there is none, or none came.
+    /// Lets the next newcomer of a port ask, where a slot is free. It answers false where none is free, or no newcomer
+    /// came.
     fn let_one_ask<R: Clock>(&mut self, rt: &R, port: usize) -> bool {
         let Some(place) = self.guests.free() else {
             return false;
@@ -146,7 +148,7 @@ impl<P: Port> Porch<P> {
         }
     }
 
-    /// A newcomer that is done leaves its place, and is let to its lobby if it was let in.
+    /// A newcomer that is done leaves its slot, and is brought to its lobby if it was let in.
     fn see_in<R: Wait + Clock, G: Log>(&mut self, rt: &R, place: usize, log: &G) {
         let Some(mut comer) = self.guests.take(place) else {
             return;
@@ -158,7 +160,7 @@ impl<P: Port> Porch<P> {
         }
     }
 
-    /// Lets the newcomer at this place go, which is late or isn't.
+    /// Lets the newcomer in this slot go. `is_late` says whether it is late.
     fn see_off<G: Log>(&mut self, place: usize, is_late: bool, log: &G) {
         if let Some(comer) = self.guests.take(place) {
             if let Some(event) = comer.complaint(is_late) {
@@ -176,7 +178,7 @@ impl<P: Port> Porch<P> {
         }
     }
 
-    /// Goes on with all whom a poll has heard.
+    /// Goes on with all sockets that a poll has heard.
     fn answer<R: Wait + Clock, G: Log>(&mut self, rt: &R, events: &Events, log: &G) {
         let ports = self.entries.len();
         for event in events.iter() {
@@ -187,7 +189,7 @@ impl<P: Port> Porch<P> {
         }
     }
 
-    /// Lets go of those who are late.
+    /// Lets go of the newcomers that are late.
     fn let_go<G: Log>(&mut self, now: Instant, log: &G) {
         let is_crowded = self.guests.free().is_none();
         for place in 0..MOST_GUESTS {
@@ -197,15 +199,15 @@ impl<P: Port> Porch<P> {
         }
     }
 
-    /// Lets those ask who wait at the ports. A poll hears a port once for all of them, so each port is looked at
-    /// whenever a place may be free.
+    /// Lets the newcomers ask that wait at the ports. A poll hears a port once for all of them, so each port is looked
+    /// at whenever a slot may be free.
     fn let_all_ask<R: Clock>(&mut self, rt: &R) {
         for port in 0..self.entries.len() {
             self.let_ask(rt, port);
         }
     }
 
-    /// Waits, but not for long, and goes on with all of whom it heard.
+    /// Waits, but not for long, and goes on with all sockets that it heard.
     fn turn<R: Wait + Clock, G: Log>(&mut self, rt: &R, events: &mut Events, log: &G) {
         let longest = Some(Duration::from_millis(LOOK_MILLIS));
         if self.poll.poll(events, longest).is_err() {
@@ -230,8 +232,7 @@ fn wake(seats: &[Arc<Seat, Global>]) {
     }
 }
 
-/// Whether it is so long ago that the places were woken that they are to be again. Where the clock can't be read they
-/// are.
+/// Whether it is time to wake the places again. It is also where the clock can't be read.
 fn is_due<R: Clock>(rt: &R, woken: &Option<Instant>) -> bool {
     match woken {
         Some(woken) => match woken.elapsed(rt) {
@@ -242,8 +243,8 @@ fn is_due<R: Clock>(rt: &R, woken: &Option<Instant>) -> bool {
     }
 }
 
-/// The porter of all web ports of a run. All that it waits with is made before its thread is, so that whoever starts it
-/// is told where that fails.
+/// The porter of all web ports of a run. What it waits with is made before its thread is started, so that a failure is
+/// told to the thread that starts it.
 #[derive(Drop)]
 pub struct WebPorter {
     porch: Porch<WebEntry>,
@@ -265,8 +266,8 @@ impl WebPorter {
         })
     }
 
-    /// Keeps the ports: answers requests, and lets those to the lobby of their port who open a link. It wakes the
-    /// places of these seats now and then, and ends soon after the lobbies are closed.
+    /// Keeps the ports: it answers requests, and brings callers that open a link to the lobby of their port. It wakes
+    /// the places of these seats now and then, and ends soon after the lobbies are closed.
     pub fn keep<R: Wait + Clock, G: Log>(mut self, rt: &R, seats: &[Arc<Seat, Global>], log: &G) {
         let mut woken = Instant::now(rt).ok();
         for _ in rt.forever() {
@@ -282,9 +283,9 @@ impl WebPorter {
     }
 }
 
-/// The porter of a port over TCP: it says the version to whoever comes, and lets those to the port's lobby whose own
-/// version has come. All that it waits with is made before its thread is, so that whoever starts it is told where that
-/// fails.
+/// The porter of a port over TCP: it says the version to each newcomer, and brings newcomers whose own version has come
+/// to the port's lobby. What it waits with is made before its thread is started, so that a failure is told to the
+/// thread that starts it.
 #[derive(Drop)]
 pub struct TcpPorter {
     porch: Porch<TcpEntry>,
@@ -302,7 +303,8 @@ impl TcpPorter {
         })
     }
 
-    /// Keeps the port. Those who aren't let in, and the log, are told why not. It ends soon after the lobby is closed.
+    /// Keeps the port. Newcomers that aren't let in, and the log, are told why not. It ends soon after the lobby is
+    /// closed.
     pub fn keep<R: Wait + Clock, G: Log>(mut self, rt: &R, log: &G) {
         for _ in rt.forever() {
             self.porch.turn(rt, &mut self.events, log);

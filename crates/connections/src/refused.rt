@@ -14,31 +14,32 @@ use std::time::{Clock, Duration, Instant};
 use web_link::refusal_frames;
 
 /// For how long a newcomer that finds no place is kept before it is told so, in milliseconds. A place whose viewer has
-/// just left is free by then. Newcomers that come within as long after one that was kept in vain are told at once: they
-/// came while it was kept, or nearly so.
+/// just left is free by then. Newcomers that come within the same time after one that was kept in vain are told at
+/// once, since they came while that one was kept, or shortly after.
 const PATIENCE_MILLIS: u64 = 50;
 
 /// Why a newcomer isn't let in: what is missing.
 #[derive(Clone, Copy, Debug, PartialEq, Eq)]
 pub(crate) enum Lack {
-    /// A place that is free.
+    /// No place is free.
     Place,
-    /// A host.
+    /// There is no host.
     Host,
-    /// Leave to come in: an operator has nobody let in.
+    /// An operator lets nobody in.
     Entry,
 }
 
-/// The newcomers that weren't let in at a door: the socket of the last of them, which stays open until the next is
-/// refused, so that its text isn't lost, and until when one was kept in vain.
+/// The newcomers that weren't let in: the socket of the last of them, which stays open until the next is refused, so
+/// that its text isn't lost, and the moment until which one was kept in vain.
 #[derive(Drop)]
 pub(crate) struct Refused {
     last: Option<GreetedSocket<Noted<TcpStream>>>,
     in_vain: Option<Instant>,
 }
 
-/// Says these bytes to a newcomer that isn't let in: in messages where its own travel so. What of them was said before
-/// isn't said again, and is sent by itself. A peer that is gone already needs no reason.
+/// Says these bytes to a newcomer that isn't let in, in messages where its own bytes travel in messages. Bytes that
+/// were said before aren't said again; they count as sent in a call of their own. A peer that is gone already needs no
+/// reason.
 fn say<S: Socket>(socket: &mut S, way: Way, bytes: &[u8])
     requires long { 12 < length bytes.now }
     requires short { length bytes.now ≤ 116 }
@@ -97,7 +98,7 @@ impl Refused {
         }
     }
 
-    /// Refuses a newcomer that was kept for so long.
+    /// Refuses a newcomer that was kept for this long.
     pub(crate) fn refuse<R: Clock, G: Log>(
         &mut self,
         rt: &R,

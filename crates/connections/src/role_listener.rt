@@ -1,4 +1,4 @@
-//! Listeners of a role, and who comes by them.
+//! Listeners of a role, and the newcomers that come by them.
 
 ghost use Rattle.std.specs.Prelude.{◌≡◌, ◌↔◌, IfOk, IfSome, IsTrue, None, Ok, Some, []};
 ghost use Rattle.run_traits.specs.declared.event.Way.TheVariants.{Tcp, Web};
@@ -23,7 +23,8 @@ pub struct RoleListener {
     proxy: Option<IpAddr>,
 }
 
-/// A newcomer that came by a listener: its stream, the role of that listener, and from where it comes. Only a listener makes one.
+/// A newcomer that came by a listener: its stream, the role of that listener, and where it comes from. Only a listener
+/// makes one.
 #[derive(Drop)]
 pub struct Arrival {
     stream: TcpStream,
@@ -32,7 +33,7 @@ pub struct Arrival {
 }
 
 /// A newcomer that may be let to a lobby: its socket, its role, how its bytes travel, and its address, if anyone told
-/// it. Over TCP it has said a version, and was told one. Only a newcomer that came by a listener becomes one.
+/// it. Over TCP it has said its version, and was told ours. Only a newcomer that came by a listener becomes one.
 #[derive(Drop)]
 pub struct Entrant {
     socket: GreetedSocket<Noted<mio::net::TcpStream>>,
@@ -70,15 +71,16 @@ impl RoleListener {
         &self.socket
     }
 
-    /// The role of those who come by it.
+    /// The role of the newcomers that come by it.
     pub fn role(&self) -> Role
         ensures { result ≡ self.now.role }
     {
         self.role
     }
 
-    /// The next newcomer, over TCP as yet. The call waits for it, unless the socket is one that doesn't wait. A
-    /// header is wanted, and believed, of a newcomer that comes from the proxy, and of no other.
+    /// The next newcomer, whose connection is over TCP so far. The call waits for it, unless the socket is one that
+    /// doesn't wait. A header is wanted from a newcomer that comes from the proxy, and believed. It is wanted from no
+    /// other.
     pub fn accept(&self) -> io::Result<Arrival>
         ensures role { IfOk result (λ arrival. arrival.role ≡ self.now.role) }
         ensures proxied { IfOk result (λ arrival. IsTrue arrival.whence.is_proxied ↔ IsFromProxy self.now.proxy arrival.whence.peer) }
@@ -108,7 +110,7 @@ impl Arrival {
         &self.stream
     }
 
-    /// From where it comes.
+    /// Where it comes from.
     pub fn whence(&self) -> &Whence
         ensures { result.now ≡ self.now.whence }
     {
@@ -123,7 +125,7 @@ impl Arrival {
         self.whence.feed(byte);
     }
 
-    /// Its greeting, over TCP. Its stream is to be one that doesn't wait.
+    /// Its greeting, over TCP. Its stream has to be one that doesn't wait.
     pub(crate) fn into_greeting(self) -> Greeting<Noted<mio::net::TcpStream>>
         requires { self.whence.front ≡ [] }
         ensures { result.whence ≡ self.whence }
@@ -133,7 +135,7 @@ impl Arrival {
     }
 
     /// The same newcomer as one that may be let to a lobby, whose bytes travel in messages, if this guest's handshake
-    /// let it in. None where it didn't, or where the address isn't known yet.
+    /// let it in. It is `None` where the handshake didn't, or where the address isn't known yet.
     pub fn let_in(self, guest: Guest) -> Option<Entrant>
         ensures role { IfSome result (λ entrant. entrant.role ≡ self.role) }
         ensures way { IfSome result (λ entrant. entrant.way ≡ Web) }
@@ -158,7 +160,8 @@ impl Arrival {
 }
 
 impl Entrant {
-    /// A newcomer whose own version has come over TCP, in a greeting by a listener of this role. None where it hasn't.
+    /// A newcomer whose own version has come over TCP, in a greeting by a listener of this role. It is `None` where the
+    /// version hasn't come.
     pub(crate) fn greeted(
         role: Role,
         greeting: Greeting<Noted<mio::net::TcpStream>>,

@@ -19,7 +19,7 @@ struct Ears {
     events: Events,
 }
 
-/// Where the thread of a place waits for its viewer's socket and for the alarm, both at once. The place's thread alone
+/// Where the thread of a place waits for its viewer's socket and for the alarm, both at once. Only the place's thread
 /// locks the ears, so it never waits for the lock.
 ///
 /// `rung` is set from a ring until the thread answers, and while it is set a ring costs one exchange. The thread
@@ -27,7 +27,7 @@ struct Ears {
 #[derive(Drop)]
 pub struct Seat {
     rung: AtomicBool,
-    /// Its viewer is to leave.
+    /// Whether the place's viewer is to leave.
     is_dismissed: AtomicBool,
     count: PlaceCount,
     waker: Waker,
@@ -48,7 +48,7 @@ impl Seat {
         })
     }
 
-    /// Whether it was rung since the last answer.
+    /// Whether the seat was rung since the last answer.
     pub fn answer(&self) -> bool {
         self.rung.swap(false, Ordering::SeqCst)
     }
@@ -78,14 +78,14 @@ impl Seat {
         &self.count
     }
 
-    /// The place has another viewer, of which nothing was counted.
+    /// The place has another viewer, of which nothing was counted yet.
     pub(crate) fn welcome(&self) {
         self.is_dismissed.store(false, Ordering::SeqCst);
         self.count.begin();
     }
 
-    /// Waits for the alarm, or for the socket to become readable or writable, at most so long. It may end for no
-    /// reason.
+    /// Waits for the alarm, or for the socket to become readable or writable, at most this long. The wait may end for
+    /// no reason.
     pub fn wait<R: Wait>(&self, rt: &R, most: Option<Duration>) -> io::Result<()> {
         let mut guard = self.ears.lock(rt);
         let Ears { poll, events } = &mut *guard;
@@ -101,7 +101,7 @@ impl Alarm for Seat {
     }
 
     fn rouse(&self) {
-        // Where it fails there is nothing else to try.
+        // Where this fails there is nothing else to try.
         let _ = self.waker.wake();
     }
 }

@@ -1,4 +1,4 @@
-//! What links send and receive by.
+//! The sockets by which links send and receive.
 
 ghost use Rattle.std.specs.Prelude.{◌≡◌, ℕ, List, ◌++◌};
 ghost use Rattle.std.specs.Io.{ReadsAtMost, WritesAtMost};
@@ -7,7 +7,7 @@ ghost use Rattle.connections.specs.Wires.{moved};
 use std::io;
 use std::time::Duration;
 
-/// A stream to a peer, of which is known what has gone over it.
+/// A stream to a peer. It is known what has gone over it.
 pub trait Socket: Drop {
     /// All bytes that it has sent, in order.
     ghost sent: { Self → List ℕ };
@@ -35,9 +35,9 @@ pub trait Socket: Drop {
         ensures sent { sent self.new ≡ sent self.old };
 }
 
-/// A host's: its receives may be given an end in time, and it can be closed.
+/// A host's socket: its receives can be limited in time, and it can be closed.
 pub trait HostSocket: Socket {
-    /// No `receive` lasts longer than this from now on, if there is a limit.
+    /// From now on no `receive` lasts longer than this, if there is a limit.
     fn limit(&self, longest: Option<Duration>) -> io::Result<()>;
 
     /// Closes both directions. Each send and each receive fails from now on.

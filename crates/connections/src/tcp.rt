@@ -20,10 +20,11 @@ use std::marker::Model;
 use std::sync::{Arc, Wait};
 use std::time::{Clock, Duration, Instant};
 
-/// From this many bytes on a slice is written at once, behind what is kept, and not kept where it finds no room.
+/// From this many bytes on a slice is written at once, after what is kept. It isn't kept where the system has no room
+/// for it.
 const LARGE: usize = 16_384;
 
-/// How a connection stands after the system answered so.
+/// How a connection stands after this answer of the system.
 fn parting_after(before: Parting, answer: &io::Result<usize>) -> Parting {
     match answer {
         Ok(_) => before,
@@ -36,38 +37,37 @@ fn parting_after(before: Parting, answer: &io::Result<usize>) -> Parting {
     }
 }
 
-/// How many bytes the system took once it took so many more than these. That is noted at the seat.
+/// How many bytes the system has taken with this many more. The number is noted at the seat.
 fn counted(seat: &Seat, sent: u64, more: usize) -> u64 {
     let sent = sent.saturating_add(more as u64);
     seat.count().note_bytes(sent);
     sent
 }
 
-/// A viewer's connection. `take` waits, until bytes come, until the seat's alarm rings, or until bytes that are kept
-/// can go out.
+/// A viewer's connection. `take` waits until bytes come, until the seat's alarm rings, or until kept bytes can go out.
 ///
 /// `give` keeps small slices, and `take` writes what is kept before it waits, so an answer of many rectangles is one
-/// call of the system. A large slice is written from where it lies, in one call with what is kept; where it finds no
-/// room it stays with the caller, uncopied. While bytes can't go out, rings are left unanswered, so a viewer that takes
-/// nothing costs nothing.
+/// call of the system. A large slice is written from where it lies, in one call with what is kept. Where the system has
+/// no room for it, the slice stays with the caller, uncopied. While bytes can't go out, rings are left unanswered, so a
+/// viewer that takes nothing costs nothing.
 ///
-/// Where its viewer is to leave (`Seat::dismiss`) it ends, as if the peer had closed it.
+/// Where its viewer is to leave (`Seat::dismiss`) the link ends, as if the peer had closed it.
 ///
-/// It is proved over every socket; a viewer's is a stream over TCP.
+/// It is proved over every socket; a viewer's socket is a stream over TCP.
 #[derive(Drop)]
 pub struct ViewerTcpLink<R: Wait + Clock + Drop, S: Socket = GreetedSocket<Noted<TcpStream>>> {
     rt: R,
     socket: S,
     seat: Arc<Seat, Global>,
     kept: Kept,
-    // The last `give` had no room.
+    // Whether the last `give` had no room.
     is_full: bool,
-    // The system had no room for the last write, and no wait has ended since.
+    // Whether the system had no room for the last write, and no wait has ended since.
     is_blocked: bool,
-    // A write failed: kept bytes may be lost.
+    // Whether a write failed, so that kept bytes may be lost.
     is_broken: bool,
     opened: Instant,
-    // This many bytes of the hello are missing.
+    // How many bytes of the hello are missing.
     missing: usize,
     // How the connection stands, and how many bytes the system took, for a log.
     parting: Parting,
@@ -84,7 +84,7 @@ impl<R: Wait + Clock + Drop, S: Socket> Model for ViewerTcpLink<R, S> {
 
     ghost view = { λ l. record { own = l.account; sent = S.sent l.socket; received = S.received l.socket; kept = l.kept.bytes; is_open = true } };
 
-    // What is missing of the hello are the bytes that weren't taken.
+    // The bytes of the hello that are missing are those that weren't taken.
     ghost invariant = { λ l. Carries (record { own = l.account; sent = S.sent l.socket; received = S.received l.socket; kept = l.kept.bytes; is_open = true }) × (l.missing ≡ hello_len - length l.account.taken) };
 }
 
@@ -92,8 +92,8 @@ impl<R: Wait + Clock + Drop> ViewerTcpLink<R> {
     ghost use Rattle.std.specs.Prelude.{◌≡◌, [], IfOk};
     ghost use Rattle.connections.specs.Wires.{fresh};
 
-    /// A link that has taken and given nothing, to a viewer that may take nothing for so many seconds. It fails where
-    /// memory is refused, or an option or the clock by the system.
+    /// A link that has taken and given nothing, to a viewer that may take nothing for this many seconds. It fails where
+    /// memory is refused, or where the system refuses an option or the clock.
     pub fn new(
         rt: R,
         alloc: Global,
@@ -109,8 +109,8 @@ impl<R: Wait + Clock + Drop> ViewerTcpLink<R> {
         ViewerTcpLink::at(rt, alloc, socket, seat)
     }
 
-    /// A link that has taken and given nothing, by a socket by which, perhaps, the viewer was greeted, and which this
-    /// seat hears from now on. It fails where memory is refused, or the clock by the system.
+    /// A link that has taken and given nothing, over a socket by which the viewer may have been greeted. This seat
+    /// hears the socket from now on. It fails where memory is refused, or where the system refuses the clock.
     pub fn at(
         rt: R,
         alloc: Global,
@@ -131,8 +131,9 @@ impl<R: Wait + Clock + Drop, S: Socket> ViewerTcpLink<R, S> {
     ghost use Rattle.link.specs.Links.{TakesAs, GivesAs};
     ghost use Rattle.connections.specs.Wires.{Carries, fresh};
 
-    /// A link that has taken and given nothing, over a socket of which that holds, too, and which never waits. It fails
-    /// where memory is refused, or the clock by the system. Whoever makes it sees to it that the seat hears the socket.
+    /// A link that has taken and given nothing, over a socket that has sent and received nothing and that never waits.
+    /// It fails where memory is refused, or where the system refuses the clock. The caller has to see to it that the
+    /// seat hears the socket.
     pub fn over(
         rt: R,
         alloc: Global,
@@ -170,8 +171,8 @@ impl<R: Wait + Clock + Drop, S: Socket> ViewerTcpLink<R, S> {
         &self.socket
     }
 
-    /// At every moment what was given is what the socket has sent and then what is kept, and what was taken is what it
-    /// has received.
+    /// It does nothing. Its clause says that, at every moment, what was given is what the socket has sent followed by
+    /// what is kept, and what was taken is what the socket has received.
     pub fn carries(&self)
         ensures { Carries self.now }
     {
@@ -188,12 +189,12 @@ impl<R: Wait + Clock + Drop, S: Socket> ViewerTcpLink<R, S> {
         self.sent
     }
 
-    /// How long ago the viewer came. Nothing where the clock can't be read.
+    /// How long ago the viewer came, or no time where the clock can't be read.
     pub fn age(&self) -> Duration {
         self.opened.elapsed(&self.rt).unwrap_or(Duration::ZERO)
     }
 
-    /// Writes once of what is kept. False where nothing is left, or nothing more goes out now.
+    /// Writes once from what is kept. It answers false where nothing is left, or nothing more goes out now.
     fn write_kept(&mut self) -> bool
         ensures { self.new.own ≡ self.old.own }
     {
@@ -219,7 +220,7 @@ impl<R: Wait + Clock + Drop, S: Socket> ViewerTcpLink<R, S> {
         }
     }
 
-    /// Whether bytes wait for the system to have room: some that are kept, or some that were given in vain.
+    /// Whether bytes wait until the system has room: kept ones, or ones that were given in vain.
     fn holds_back(&self) -> bool {
         self.is_blocked || !self.kept.is_empty()
     }
@@ -228,7 +229,7 @@ impl<R: Wait + Clock + Drop, S: Socket> ViewerTcpLink<R, S> {
     fn write_all_kept(&mut self)
         ensures { self.new.own ≡ self.old.own }
     {
-        // Each round but the last writes a byte at least.
+        // Each round but the last writes at least one byte.
         for _ in 0..=MOST_KEPT {
             if !self.write_kept() {
                 return;
@@ -265,7 +266,7 @@ impl<R: Wait + Clock + Drop, S: Socket> ViewerTcpLink<R, S> {
         Gave::Bytes(count)
     }
 
-    /// Reads without a wait. That the peer has ended is told only once nothing is kept.
+    /// Reads without a wait. It tells the peer's end only once nothing is kept.
     fn read(&mut self, into: &mut [u8]) -> Took
         requires { 0 < length into.old }
         ensures { TakesAs result self.old.own self.new.own into.new }
@@ -285,8 +286,8 @@ impl<R: Wait + Clock + Drop, S: Socket> ViewerTcpLink<R, S> {
         took
     }
 
-    /// How long a wait may last now: so long, or without an end. None where the hello is late. A clock that can't be
-    /// read is late.
+    /// How long a wait may last now: this long, or without an end. It is `None` where the hello is late, which also
+    /// counts as so where the clock can't be read.
     fn patience(&mut self) -> Option<Option<Duration>>
         ensures { self.new.own ≡ self.old.own }
     {
@@ -301,7 +302,7 @@ impl<R: Wait + Clock + Drop, S: Socket> ViewerTcpLink<R, S> {
         }
     }
 
-    /// Waits. False where it can't, or the hello is late, also where it is once the wait has ended.
+    /// Waits. It answers false where it can't wait, or where the hello is late before the wait or after it.
     fn wait(&mut self) -> bool
         ensures { self.new.own ≡ self.old.own }
     {
@@ -332,7 +333,7 @@ impl<R: Wait + Clock + Drop, S: Socket> Link for ViewerTcpLink<R, S> {
             return Took::End;
         }
         if self.is_full && !self.holds_back() {
-            // There is room again: the caller gives on.
+            // There is room again, so the caller can go on giving.
             self.is_full = false;
             return Took::Nothing;
         }
@@ -341,7 +342,7 @@ impl<R: Wait + Clock + Drop, S: Socket> Link for ViewerTcpLink<R, S> {
             took => return took,
         }
         if !self.holds_back() && self.seat.answer() {
-            // It was rung: the caller looks.
+            // The seat was rung, so the caller looks.
             return Took::Nothing;
         }
         if !self.wait() {
@@ -370,7 +371,8 @@ impl<R: Wait + Clock + Drop, S: Socket> Link for ViewerTcpLink<R, S> {
         gave
     }
 
-    /// Whoever calls this doesn't wait: what found no room before may find it now.
+    /// A caller that uses this doesn't wait in `take`, so bytes for which there was no room before are tried again
+    /// here.
     fn flush(&mut self) {
         self.is_blocked = false;
         self.write_all_kept();

@@ -13,18 +13,18 @@ use std::sync::Wait;
 use std::time::{Clock, Duration, Instant};
 use web_link::{GatheringLink, WebLink};
 
-/// After this many seconds without a byte given a browser is sent a ping, so that no proxy takes the connection for
-/// dead.
+/// After this many seconds in which nothing was sent to it a browser is sent a ping, so that no proxy takes the
+/// connection for dead.
 const SILENCE_SECONDS: u64 = 30;
 
 /// A browser's connection: the bytes of binary messages over a `ViewerTcpLink`, which go out as large as they can be.
-/// It takes as that does, but the time for its hello counts the bytes of messages alone: neither headers nor pings are
-/// a part of it. Where it is woken after a long silence it says a ping; who wakes it is the porter.
+/// It takes bytes as that link does, but for the time of its hello only the bytes in messages count, and neither
+/// headers nor pings. Where the porter wakes it after a long silence, it sends a ping.
 #[derive(Drop)]
 pub struct BrowserLink<R: Wait + Clock + Drop> {
     rt: R,
     link: GatheringLink<WebLink<ViewerTcpLink<R>>>,
-    // This many bytes of the hello are missing, and whether some were when its time was over.
+    // How many bytes of the hello are missing, and whether some were missing when the time for it was over.
     missing: usize,
     is_late: bool,
     // When a byte was given or a ping said last, and whether a byte was given since then.
@@ -41,7 +41,7 @@ impl<R: Wait + Clock + Drop> Model for BrowserLink<R> {
 
     ghost view = { λ b. b.link };
 
-    // What is missing of the hello are the bytes that weren't taken from messages.
+    // The bytes of the hello that are missing are those that weren't taken from messages.
     ghost invariant = { λ b. b.missing ≡ hello_len - length b.link.own.taken };
 }
 
@@ -52,7 +52,8 @@ impl<R: Wait + Clock + Drop> BrowserLink<R> {
     ghost use Rattle.run_traits.specs.Unused.{unused};
     ghost use Rattle.connections.specs.Hello.{IsPatience, hello_len};
 
-    /// Over a link that has taken and given nothing. It fails where memory is refused, or the clock by the system.
+    /// A browser's link over a link that has taken and given nothing. It fails where memory is refused, or where the
+    /// system refuses the clock.
     pub fn new(rt: R, alloc: Global, below: ViewerTcpLink<R>) -> io::Result<BrowserLink<R>>
         requires { below.own ≡ unused }
         ensures { IfOk result (λ link. link.own ≡ unused) }
@@ -83,14 +84,14 @@ impl<R: Wait + Clock + Drop> BrowserLink<R> {
         }
     }
 
-    /// How long a wait for it may last, this long after it came.
+    /// How long a wait for the browser may last, this long after it came.
     fn patience(&self, passed: Duration) -> Patience
         ensures { IsPatience result (hello_len - length self.now.own.taken) (as_nanos passed) }
     {
         longest_wait(self.missing, passed)
     }
 
-    /// It is given up, since its hello is late.
+    /// Gives the browser up, since its hello is late.
     fn give_up(&mut self)
         ensures { self.new ≡ record self.old { own = with_failure self.old.own } }
     {
@@ -98,7 +99,7 @@ impl<R: Wait + Clock + Drop> BrowserLink<R> {
         self.link.fail();
     }
 
-    /// Says a ping after a long silence. A clock that can't be read says none.
+    /// Sends a ping after a long silence, and none where the clock can't be read.
     fn keep_alive(&mut self)
         ensures { self.new ≡ self.old }
     {

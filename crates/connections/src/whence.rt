@@ -1,4 +1,4 @@
-//! From where a newcomer comes.
+//! Where a newcomer comes from.
 
 ghost use Rattle.std.specs.Prelude.{◌≡◌, ◌↔◌, IsTrue};
 ghost use Rattle.connections.specs.Greetings.{IsFromProxy, IsTold};
@@ -8,8 +8,8 @@ use proxy_header::{HeaderReader, Origin, Refusal};
 use std::marker::Model;
 use std::net::{IpAddr, SocketAddr};
 
-/// Whether the peer of this address is the proxy that is believed, if one is. An IPv4 address inside one of IPv6 is
-/// that of IPv4.
+/// Whether the peer of this address is the believed proxy, if there is one. An IPv4 address inside an IPv6 address
+/// counts as the IPv4 address.
 #[tactic(auto, using(crate::proofs::Canonical::is_one))]
 fn is_from(proxy: &Option<IpAddr>, peer: &Option<SocketAddr>) -> bool
     ensures { IsTrue result ↔ IsFromProxy proxy.now peer.now }
@@ -31,8 +31,8 @@ fn told(peer: Option<SocketAddr>, origin: Origin) -> Option<SocketAddr>
     }
 }
 
-/// From where a newcomer comes: as the system tells it or, behind the proxy that is believed, as the header of the
-/// PROXY protocol tells it, which comes first.
+/// Where a newcomer comes from: as the system tells it or, behind the believed proxy, as the header of the PROXY
+/// protocol tells it, which comes first.
 #[derive(Drop)]
 pub struct Whence {
     peer: Option<SocketAddr>,
@@ -59,7 +59,7 @@ impl Whence {
     ghost use Rattle.std.specs.Prelude.{◌≡◌, ◌↔◌, ◌∷◌, ◌++◌, [], IsTrue, true};
     ghost use Rattle.connections.specs.Greetings.{IsFromProxy, IsKnown, IsSameComer};
 
-    /// Of a newcomer whose peer has this address, where the header of this proxy is believed, if of one.
+    /// The origin of a newcomer whose peer has this address. The headers of this proxy, if there is one, are believed.
     pub(crate) fn new(peer: Option<SocketAddr>, proxy: &Option<IpAddr>) -> Whence
         ensures peer { result.peer ≡ peer }
         ensures proxied { IsTrue result.is_proxied ↔ IsFromProxy proxy.now peer }
@@ -98,7 +98,8 @@ impl Whence {
         self.peer
     }
 
-    /// Whether a newcomer that goes now lacked a header: what it sent is none or, where it is late, a part hasn't come.
+    /// Whether a newcomer that goes now lacked a header: what it sent is no header or, where it is late, a part of the
+    /// header hasn't come.
     pub(crate) fn lacks_header(&self, is_late: bool) -> bool {
         match self.known() {
             Some(Ok(_)) => false,

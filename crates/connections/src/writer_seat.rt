@@ -10,13 +10,13 @@ use std::thread::Parker;
 #[derive(Drop)]
 pub struct WriterSeat {
     parker: Parker,
-    // It was rung, and no rest has ended since.
+    // Whether it was rung, and no rest has ended since.
     is_rung: AtomicBool,
     is_resting: AtomicBool,
 }
 
 impl WriterSeat {
-    /// One that hasn't been rung.
+    /// A seat that hasn't been rung.
     pub fn new() -> WriterSeat {
         WriterSeat {
             parker: Parker::new(),
@@ -25,10 +25,11 @@ impl WriterSeat {
         }
     }
 
-    /// Whether the writer rests, and has looked since it was rung last. It rests where it has nothing to tell; so where
-    /// nobody rings any more all is told. No clause says so.
+    /// Whether the writer rests, and has looked since it was rung last. It rests where it has nothing to tell. So once
+    /// nobody rings any more, all is told. No clause says so.
     pub fn is_quiet(&self) -> bool {
-        // A rest ends before the ring is taken for answered: who sees the answer and then a rest sees a later one.
+        // A rest ends before the ring counts as answered, so a thread that sees the answer and then a rest sees a later
+        // rest.
         !self.is_rung.load(Ordering::SeqCst) && self.is_resting.load(Ordering::SeqCst)
     }
 }

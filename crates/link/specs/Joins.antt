@@ -37,8 +37,8 @@ pub record Joins (old new : LinkState) (joined : Joined) : Type 0 where
   pub failed : new.failed ≡ old.failed
   pub ended : new.ended ≡ old.ended
 
--- What has risen with a fault of the link: how often it failed, or how often it said that it ended. No other fault is
--- the link's.
+-- Which count has risen where the fault is the link's: how often it failed, or how often it said that it ended. Only
+-- `LinkFailed` and `LinkEnded` are faults of a link.
 abbrev pub Rises : Fault → (failed_old failed_new : ℕ) → (ended_old ended_new : ℕ) → Type 0
 Rises LinkFailed failed_old failed_new ended_old ended_new = HasRisen failed_old failed_new
 Rises LinkEnded failed_old failed_new ended_old ended_new = HasRisen ended_old ended_new
@@ -48,6 +48,6 @@ Rises _ failed_old failed_new ended_old ended_new = ⊥
 abbrev pub LinkFails : Fault → (old new : LinkState) → Type 0
 LinkFails fault old new = Rises fault old.failed new.failed old.ended new.ended
 
--- That, or the handshake that was taken is at fault.
+-- The link failed or ended in the meantime, or the handshake that was taken is at fault.
 abbrev pub FailsAs : Fault → (old new : LinkState) → Type 0
 FailsAs fault old new = LinkFails fault old new ⊎ ((heard : List ℕ) × (new.taken ≡ old.taken ++ heard) × (after host_hello heard ≡ Faulty fault))

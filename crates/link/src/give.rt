@@ -1,4 +1,4 @@
-//! Giving a link all of some bytes.
+//! Gives a link a list of bytes to its end.
 
 ghost use Rattle.std.specs.Prelude.{◌≡◌, ◌++◌, OnOk, IfErr};
 ghost use Rattle.link.specs.Halting.{HaltsAt};
@@ -7,7 +7,7 @@ use crate::link::{Gave, Link};
 use crate::waiting::StopFlag;
 use std::sync::Wait;
 
-/// Why giving leaves off.
+/// Why giving stops before the last byte.
 #[derive(Clone, Copy)]
 pub enum Halt {
     /// The link takes nothing now, and the flag is set.

@@ -66,8 +66,8 @@ fn hear<L: Link, R: Wait>(rt: &R, link: &mut L) -> Result<Joined, Fault>
 /// Joins the host at the other end: takes its handshake and no byte further, gives the client's side of it, and then
 /// asks for the format of `Format::HOST`, for the encodings CopyRect, Hextile, RRE and Raw, and for the whole screen.
 ///
-/// `LinkFailed` where the link failed in the meantime, `LinkEnded` where it ended before the last byte was given. Other
-/// faults are of the host's handshake.
+/// It fails with `LinkFailed` where the link failed in the meantime, and with `LinkEnded` where the link ended before
+/// the last byte was given. Any other fault is one of the host's handshake.
 pub fn join_host<L: Link, R: Wait>(rt: &R, link: &mut L) -> Result<Joined, Fault>
     ensures joined { IfOk result (λ joined. Joins (L.state link.old) (L.state link.new) joined) }
     ensures err { IfErr result (λ fault. FailsAs fault (L.state link.old) (L.state link.new)) }

@@ -1,7 +1,7 @@
 //! A link to a peer, and the handshake with a host over it (RFC 6143, sections 7.1 to 7.3 and 7.5).
 //!
-//! A link takes and gives bytes and says what came of it. Only `MemoryLink::new` takes memory. `join_host` and
-//! `give_all` wait as their link does, so they take a handle that may wait; nothing else does.
+//! A link takes bytes from its peer and gives it bytes, and says what came of each call. Only `MemoryLink::new` takes
+//! memory. `join_host` and `give_all` wait as their link does, so they take a handle that may wait; nothing else does.
 #![tactic(auto)]
 
 mod give;

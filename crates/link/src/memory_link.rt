@@ -10,9 +10,9 @@ use std::marker::Model;
 
 /// A link whose peer is a list of answers to `take` and a list of answers to `give`.
 ///
-/// `Took::Bytes(n)` brings the next `n` of the bytes that the peer sends. Those that are more than the slice holds come
-/// at the next call. `Gave::Bytes(n)` takes `n` bytes, or all of a shorter slice, and is used up. A call for which no
-/// byte is left answers Nothing, and a list that is used up answers End. No call takes memory.
+/// `Took::Bytes(n)` brings the next `n` of the bytes that the peer sends. Bytes for which the slice has no room come at
+/// the next call. `Gave::Bytes(n)` takes `n` bytes, or all of a shorter slice, and is used up. A call for which no byte
+/// is left answers Nothing, and a list that is used up answers End. No call takes memory.
 #[derive(Drop)]
 pub struct MemoryLink {
     sends: Vec<u8>,
@@ -65,7 +65,8 @@ impl MemoryLink {
     ghost use Rattle.std.specs.Prelude.{◌≡◌, [], IfOk, IfErr};
     ghost use Rattle.link.specs.Links.{with_end, with_failure};
 
-    /// A link to a peer that sends these bytes. `Memory` where there is no room for all that the peer may be given.
+    /// A link to a peer that sends these bytes. It fails where room for all that the peer may be given is refused
+    /// (`Memory`).
     pub fn new(
         alloc: Global,
         sends: Vec<u8>,
@@ -104,7 +105,7 @@ impl MemoryLink {
         &self.room[..self.given]
     }
 
-    /// The next answer to `take`. Of one that brings more bytes than there is room for, the rest is kept for the next
+    /// The next answer to `take`. Where it brings more bytes than there is room for, the rest is kept for the next
     /// call.
     fn answer_take(&mut self, room: usize) -> Took
         ensures { self.new ≡ self.old }

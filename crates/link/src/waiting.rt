@@ -6,7 +6,7 @@ use std::sync::Wait;
 
 /// A flag, shared by threads, that ends their loops.
 pub trait StopFlag {
-    /// That it was set, which only `is_set` says. What this means is up to each flag.
+    /// The fact that the flag was set, which only `is_set` tells. Each flag says what this means.
     ghost was_set: { Self → Type 0 };
 
     /// Whether the loops are to end.

@@ -11,7 +11,7 @@ use Rattle.proxy_header.specs.declared.origin.Refusal.TheVariants as why
 use Rattle.proxy_header.specs.declared.state.Command.{Command}
 use Rattle.proxy_header.specs.declared.state.Command.TheVariants.{Local, Proxy}
 
--- From where the connection was made, or why the header is refused.
+-- Where the connection came from, or why the header is refused.
 abbrev pub Answer : Type 0
 Answer = Result Origin Refusal
 
@@ -22,7 +22,7 @@ refused reason = Done (Err reason)
 abbrev pub signature : List ℕ
 signature = 13 ∷ 10 ∷ 13 ∷ 10 ∷ 0 ∷ 13 ∷ 10 ∷ 81 ∷ 85 ∷ 73 ∷ 84 ∷ 10 ∷ []
 
--- These very bytes, or else a refusal at the first that is another.
+-- Exactly these bytes, or a refusal at the first byte that differs.
 abbrev pub exactly : List ℕ → Reading Answer → Reading Answer
 exactly [] rest = rest
 exactly (b ∷ bs) rest = Want (λ byte. if byte == b then exactly bs rest else refused why.Signature)
@@ -40,15 +40,15 @@ abbrev pub origin_in : Ip → List ℕ → Origin
 origin_in V4 block = Ipv4 (take 4 block) (port_at block 8)
 origin_in V6 block = Ipv6 (take 16 block) (port_at block 32)
 
--- This many bytes are left that aren't looked at, as further fields (TLVs) are.
+-- This many bytes are left that aren't looked at, such as further fields (TLVs).
 abbrev pub read_past : ℕ → Origin → Reading Answer
 read_past left origin = padding left (Done (Ok origin))
 
 abbrev pub addresses : Ip → ℕ → Reading Answer
 addresses ip rest = bytes (block_len ip) >>= λ block. read_past rest (origin_in ip block)
 
--- What the length counts: the block of addresses and all that follows it. Where no address is told that is of use
--- here all of it is read past.
+-- What the length counts: the block of addresses and all that follows it. Where no address is told that is used here,
+-- all of this is read past.
 abbrev pub block : Option Ip → ℕ → Reading Answer
 block None count = read_past count Peer
 block (Some ip) count = if nat_lt count (block_len ip) then refused why.Length else addresses ip (count - block_len ip)

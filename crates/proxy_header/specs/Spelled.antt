@@ -39,22 +39,22 @@ source_of V6 address port = Ipv6 address port
 abbrev pub ends_bytes : Ends → List ℕ
 ends_bytes ends = ends.source ++ (ends.destination ++ (to_be_bytes w16 ends.source_port ++ to_be_bytes w16 ends.destination_port))
 
--- A header with this command and family, and what follows them, of which the length tells.
+-- A header with this command and family, the length of what follows them, and that.
 abbrev pub header_bytes : ℕ → ℕ → List ℕ → List ℕ
 header_bytes command family counted = signature ++ command ∷ family ∷ (to_be_bytes w16 (length counted) ++ counted)
 
--- What a proxy sends is read as what it means, to its last byte.
+-- Each header that a proxy sends is read, to its last byte, as what it means.
 pub record HeadersAreRead : Type 0 where
   -- A connection, and further fields.
   pub proxied : (ends : Ends) (fields : List ℕ) → AreEnds ends → length (ends_bytes ends ++ fields) < 2 ^ 16
       → Spells header (header_bytes 0x21 (family_of ends.ip) (ends_bytes ends ++ fields)) (Ok (source_of ends.ip ends.source ends.source_port))
-  -- One that isn't a stream over IPv4 or IPv6.
+  -- A connection that isn't a stream over IPv4 or IPv6.
   pub untold : (family : ℕ) (counted : List ℕ) → is_family family ≡ true → told family ≡ None → length counted < 2 ^ 16
       → Spells header (header_bytes 0x21 family counted) (Ok Peer)
   -- The proxy itself.
   pub local : (family : ℕ) (counted : List ℕ) → length counted < 2 ^ 16 → Spells header (header_bytes 0x20 family counted) (Ok Peer)
 
--- Bytes that are no header are refused at the first that shows it.
+-- Bytes that are no header are refused at the first byte that shows it.
 pub record BadHeadersAreRefused : Type 0 where
   pub bad_signature : (count byte : ℕ) → count < 12 → byte ≢ slice_index signature count → Spells header (take count signature ++ byte ∷ []) (Err why.Signature)
   pub bad_version : (command : ℕ) → command / 16 ≢ 2 → Spells header (signature ++ command ∷ []) (Err why.Version)

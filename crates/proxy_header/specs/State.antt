@@ -1,4 +1,4 @@
--- How a header goes on, where so much of it has come.
+-- How reading a header goes on from a state.
 use Rattle.std.specs.Prelude.{◌∷◌, [], Bool, true, false, nat_lt, drop, Ok, Err}
 use Rattle.byte_reading.specs.Reading.{Reading, Done, Want, ◌>>=◌, after, u16}
 use Rattle.proxy_header.specs.Header.{Answer, signature, exactly, after_command, speaks, block, addresses, read_past, refused}
@@ -14,7 +14,7 @@ ahead (Block begun rest) = after (addresses begun.0 rest) begun.1
 ahead (Rest origin left) = read_past left origin
 ahead (Refused reason) = refused reason
 
--- A byte of it is missing.
+-- A byte of the header is missing.
 abbrev pub is_partial : State → Bool
 is_partial (Rest origin left) = nat_lt 0 left
 is_partial (Refused reason) = false

@@ -10,7 +10,7 @@ use std::marker::Model;
 /// The most bytes that a block of addresses has.
 const LONGEST_BLOCK: usize = 36;
 
-/// Of which kind the addresses are.
+/// The kind of the addresses.
 #[derive(Clone, Copy)]
 pub(crate) enum Ip {
     V4,
@@ -38,7 +38,7 @@ fn port_at(block: &[u8], i: usize) -> u16
     u16::from_be_bytes([block[i], block[i + 1]])
 }
 
-/// From where the connection was made, by the block of its addresses.
+/// Where the connection came from, by the block of its addresses.
 fn origin_in(ip: Ip, block: &[u8]) -> Origin
     requires { length block.now ≡ block_len ip }
     ensures { result ≡ origin_in ip block.now }
@@ -81,7 +81,7 @@ impl Model for Block {
 }
 
 impl Block {
-    /// No byte of it.
+    /// A block of which no byte has come.
     pub(crate) fn of(ip: Ip) -> Block
         ensures { result ≡ (ip, []) }
     {
@@ -91,7 +91,7 @@ impl Block {
         }
     }
 
-    /// Whether a byte of it is missing, as one always is.
+    /// Whether a byte of the block is missing, which is always so.
     pub(crate) fn is_open(&self) -> bool
         ensures value { result ≡ true }
         ensures missing { length self.now.1 < block_len self.now.0 }
@@ -99,7 +99,7 @@ impl Block {
         self.begun.len() < self.ip.block_len()
     }
 
-    /// Takes its next byte. After the last it is whole, and says from where the connection was made.
+    /// Takes the next byte of the block. After the last byte it answers where the connection came from.
     pub(crate) fn take(mut self, byte: u8) -> Result<Block, Origin>
         ensures { MatchResult result (λ more. more ≡ (self.0, self.1 ++ byte ∷ [])) (λ origin. (length (self.1 ++ byte ∷ []) ≡ block_len self.0) × (origin ≡ origin_in self.0 (self.1 ++ byte ∷ []))) }
     {

@@ -1,7 +1,7 @@
-//! The header that a proxy sends before a connection's own bytes, of version 2 of the PROXY protocol (its section 2.2),
-//! read in whatever pieces it comes.
+//! Reads the header that a proxy sends before a connection's own bytes, by version 2 of the PROXY protocol (its section
+//! 2.2), in whatever pieces it comes.
 //!
-//! It tells the address from which the connection was made to the proxy. No memory is taken.
+//! The header tells the address from which the proxy was connected to. No memory is taken.
 #![tactic(auto)]
 
 mod address;

@@ -1,9 +1,9 @@
 //! What a header tells, and why one is refused.
 
-/// From where a connection was made, as the header before it tells.
+/// Where a connection came from, as the header before it tells.
 #[derive(Clone, Copy, Debug, PartialEq, Eq)]
 pub enum Origin {
-    /// From the peer itself: the proxy speaks for itself, or tells no address that is of use here.
+    /// From the peer itself: the proxy speaks for itself, or tells no address that is used here.
     Peer,
     /// From this address and port over IPv4.
     Ipv4 { address: [u8; 4], port: u16 },

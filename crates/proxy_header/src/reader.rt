@@ -4,8 +4,8 @@ use crate::origin::{Origin, Refusal};
 use crate::state::State;
 use std::marker::Model;
 
-/// Reads a header, in whatever pieces it comes, and nothing after it. It takes no memory, and none of a header's bytes
-/// is kept but an address.
+/// Reads a header, in whatever pieces it comes, and nothing after it. It takes no memory, and keeps only the address of
+/// a header's bytes.
 #[derive(Drop)]
 pub struct HeaderReader {
     state: State,
@@ -34,8 +34,8 @@ impl HeaderReader {
         }
     }
 
-    /// Takes bytes up to the end of the header, or up to the one that shows why it is refused, and answers how many
-    /// they are. It takes none after that.
+    /// Takes bytes up to the end of the header, or up to the byte that shows why the header is refused, and answers how
+    /// many. After that it takes none.
     pub fn feed(&mut self, piece: &[u8]) -> usize
         ensures reads { ahead self.new ≡ after (ahead self.old) piece.now }
         ensures used { result ≡ taken (ahead self.old) piece.now }

@@ -24,30 +24,31 @@ const PROXY: u8 = 0x21;
 pub(crate) enum Command {
     /// For the proxy itself.
     Local,
-    /// For one who came to the proxy.
+    /// For a connection that came to the proxy.
     Proxy,
 }
 
 /// What has come of a header.
 #[derive(Drop)]
 pub(crate) enum State {
-    /// So many bytes of the signature.
+    /// This many bytes of the signature.
     Signature(usize),
-    /// That, and a command.
+    /// The signature and a command.
     Family(Command),
-    /// And which addresses it tells, if they are of use here.
+    /// All before the length, by which the header tells these addresses, if they are used here.
     Length(Option<Ip>),
-    /// And the first byte of the length of what follows.
+    /// The same, and the first byte of the length.
     LengthEnd(Option<Ip>, u8),
-    /// And a part of these addresses, after which so many bytes follow that aren't looked at.
+    /// All before the addresses, and a part of these. After them this many bytes follow that aren't looked at.
     Block(Block, u16),
-    /// All but so many bytes that aren't looked at.
+    /// All but this many bytes, which aren't looked at.
     Rest(Origin, u16),
-    /// What shows that it is refused.
+    /// Bytes that show why the header is refused.
     Refused(Refusal),
 }
 
-/// What follows a byte of the signature, or the byte after it.
+/// The state after one more byte of the signature, or after the byte that follows it. `count` bytes of the signature
+/// have come before.
 fn judge_signature(count: usize, byte: u8) -> State
     ensures { ahead result ≡ step (ahead (state.Signature count)) byte }
 {
@@ -80,7 +81,7 @@ fn is_family(byte: u8) -> bool
     byte / 16 <= 3 && byte % 16 <= 2
 }
 
-/// Which addresses are told, if they are of use here: those of a stream over IPv4 or IPv6.
+/// Which addresses are told, if they are used here: those of a stream over IPv4 or IPv6.
 fn told(byte: u8) -> Option<Ip>
     ensures { result ≡ told byte }
 {

@@ -3,7 +3,7 @@
 use crate::origin::{Origin, Refusal};
 use crate::reader::HeaderReader;
 
-/// What follows a header, of which nothing may be taken.
+/// Bytes that follow a header, none of which may be taken.
 const RFB: [u8; 12] = *b"RFB 003.008\n";
 
 /// `send-proxy-v2`, from 127.0.0.5 port 40123.
@@ -12,19 +12,19 @@ const OVER_IPV4: [u8; 28] = [
     0x9c, 0xbb, 0xb3, 0x56,
 ];
 
-/// The same from ::1 port 40124.
+/// `send-proxy-v2`, from ::1 port 40124.
 const OVER_IPV6: [u8; 52] = [
     13, 10, 13, 10, 0, 13, 10, 81, 85, 73, 84, 10, 0x21, 0x21, 0, 36, 0, 0, 0, 0, 0, 0, 0, 0, 0, 0,
     0, 0, 0, 0, 0, 1, 0, 0, 0, 0, 0, 0, 0, 0, 0, 0, 0, 0, 0, 0, 0, 1, 0x9c, 0xbc, 0xb3, 0x56,
 ];
 
-/// With a checksum and an empty field, from 127.0.0.6 port 40125.
+/// A header with a checksum and an empty field, from 127.0.0.6 port 40125.
 const WITH_FIELDS: [u8; 38] = [
     13, 10, 13, 10, 0, 13, 10, 81, 85, 73, 84, 10, 0x21, 0x11, 0, 22, 127, 0, 0, 6, 127, 0, 0, 1,
     0x9c, 0xbd, 0xb3, 0x57, 3, 0, 4, 0xea, 0x56, 0xf9, 0xd1, 5, 0, 0,
 ];
 
-/// A check of a server, by which the proxy speaks for itself.
+/// The header of a health check, by which the proxy speaks for itself.
 const OF_A_CHECK: [u8; 16] = [13, 10, 13, 10, 0, 13, 10, 81, 85, 73, 84, 10, 0x20, 0, 0, 0];
 
 /// What is read of a header that comes in two pieces, the second with what follows it, and how many bytes it has.

@@ -1,4 +1,4 @@
--- How the doors of a run stand, and what a request and who comes or leaves make of them.
+-- How the doors of a run stand, and how requests and viewers that come and leave change them.
 use Rattle.std.specs.Prelude.{ℕ, zero, suc, ◌&&◌, Bool, true, false, List, set, slice_get, count_by, Option, Some, None}
 use Rattle.run_control.specs.declared.doors.Place.{Place}
 use Rattle.run_control.specs.declared.doors.Place.TheVariants.{Free, Taken, Leaving}
@@ -14,12 +14,12 @@ pub record Standing : Type 0 where
   pub entry : Entry
   pub places : List Place
 
--- Places are counted from 1.
+-- The place of this number, if there is one. Places are counted from 1.
 abbrev pub place_at : Standing → ℕ → Option Place
 place_at s zero = None
 place_at s (suc n) = slice_get s.places n
 
--- The place of this number stands so, if there is one; all others as before.
+-- The place of this number, if there is one, stands so. All others stand as before.
 abbrev pub with_place : Standing → ℕ → Place → Standing
 with_place s zero place = s
 with_place s (suc n) place = record s { places = set s.places n place }
@@ -38,14 +38,14 @@ is_open Open = true
 is_open Drained = false
 is_open Closed = false
 
--- The place has no viewer, and there is one.
+-- There is such a place, and it has no viewer.
 abbrev pub is_vacant : Option Place → Bool
 is_vacant (Some Free) = true
 is_vacant (Some Taken) = false
 is_vacant (Some Leaving) = false
 is_vacant None = false
 
--- Where the run ends each viewer is asked to leave.
+-- The place has a viewer that is asked to leave. Where the run ends, each viewer is.
 abbrev pub asks : Entry → Option Place → Bool
 asks entry None = false
 asks entry (Some Free) = false
@@ -59,7 +59,7 @@ is_asked s n = asks s.entry (place_at s n)
 
 -- ---- who comes and leaves
 
--- One who comes to a place is let in if it's free and viewers are let in.
+-- A viewer that comes to a place is let in where the place is free and viewers are let in.
 abbrev pub is_let_in : Standing → ℕ → Bool
 is_let_in s n = is_open s.entry && is_vacant (place_at s n)
 
@@ -75,7 +75,7 @@ after_leaving s n = with_place s n Free
 
 -- ---- requests
 
--- A run that ends goes on ending.
+-- Whether viewers are let in after a drain. A run that ends stays closed.
 abbrev pub drained : Entry → Entry
 drained Open = Drained
 drained Drained = Drained
@@ -99,7 +99,7 @@ after_request s Undrain = record s { entry = undrained s.entry }
 after_request s (End n) = ended (place_at s n) s n
 after_request s Stop = record s { entry = Closed }
 
--- What is answered.
+-- What a request to end a place's viewer is answered.
 abbrev pub outcome_at : Option Place → Outcome
 outcome_at None = outcome.NoPlace
 outcome_at (Some Free) = outcome.Nobody

@@ -10,7 +10,7 @@ abbrev pub IsInRange : Request → Type 0
 IsInRange (End place) = place < 2 ^ 64
 IsInRange _ = Unit {0}
 
--- What a request's line has, without its line feed. Numbers are decimal, with neither a sign nor leading zeros.
+-- The bytes of a request's line, without its line feed. Numbers are decimal, with neither a sign nor leading zeros.
 abbrev pub line_of : Request → List ℕ
 line_of (State Text) = codes "state"
 line_of (State Json) = codes "state json"

@@ -1,4 +1,4 @@
--- What happens at the doors of a run, in turn, and what that comes to.
+-- What happens at the doors of a run, one after another, and how the doors stand then.
 use Rattle.std.specs.Prelude.{◌≡◌, ◌≢◌, ℕ, Bool, true, false, List, [], ◌∷◌, All, Some, None}
 use Rattle.run_control.specs.declared.doors.Place.TheVariants.{Free, Taken}
 use Rattle.run_control.specs.declared.doors.Entry.TheVariants.{Open}
@@ -6,7 +6,7 @@ use Rattle.run_control.specs.declared.request.Request.{Request}
 use Rattle.run_control.specs.declared.request.Request.TheVariants.{End, Stop}
 use Rattle.run_control.specs.Doors.{Standing, place_at, is_asked, after_coming, after_leaving, after_request}
 
--- Something is asked, one comes to a place, or one leaves it.
+-- A request is made, a viewer comes to a place, or a viewer leaves its place.
 pub data Happening : Type 0 where
   Asked : Request → Happening
   Comes : ℕ → Happening
@@ -41,7 +41,7 @@ pub record NobodyComesIn (old new : Standing) : Type 0 where
 abbrev pub NobodyComesInAfterAStop : Type 0
 NobodyComesInAfterAStop = (s : Standing) (hs : List Happening) → NobodyComesIn s (after_all (after_request s Stop) hs)
 
--- It doesn't ask the viewer of this place to leave.
+-- What happens doesn't ask the viewer of this place to leave.
 abbrev pub Spares : ℕ → Happening → Type 0
 Spares n (Asked request) = (request ≢ End n) × (request ≢ Stop)
 Spares n (Comes k) = Unit {0}

@@ -7,22 +7,22 @@ use std::marker::Model;
 /// How a place stands.
 #[derive(Clone, Copy, Debug, PartialEq, Eq)]
 pub enum Place {
-    /// It has no viewer.
+    /// The place has no viewer.
     Free,
-    /// It has one.
+    /// The place has a viewer.
     Taken,
-    /// It has one, which `end` has asked to leave.
+    /// The place has a viewer, which `end` has asked to leave.
     Leaving,
 }
 
 /// Whether viewers are let in.
 #[derive(Clone, Copy, Debug, PartialEq, Eq)]
 pub enum Entry {
-    /// Wherever a place is free.
+    /// Viewers are let in wherever a place is free.
     Open,
-    /// Nobody is, until viewers are let in again.
+    /// Nobody is let in, until an operator lets viewers in again.
     Drained,
-    /// Nobody is any more: the run ends, and whoever is there is asked to leave.
+    /// Nobody is let in any more: the run ends, and every viewer is asked to leave.
     Closed,
 }
 
@@ -58,7 +58,7 @@ impl Doors {
     ghost use Rattle.std.specs.Prelude.{◌≡◌, IfOk, length, replicate, count_by};
     ghost use Rattle.run_control.specs.Doors.{after_coming, after_leaving, after_request, free_places, is_asked, is_let_in, outcome_of, place_at, with_place};
 
-    /// Doors at which viewers are let in, with so many places, all free. It fails where memory is refused for them.
+    /// Open doors with this many places, all of them free. It fails where memory for the places is refused.
     pub fn new(alloc: Global, places: usize) -> Result<Doors, AllocError>
         ensures { IfOk result (λ doors. doors ≡ record { entry = Entry.Open; places = replicate places Place.Free }) }
     {
@@ -102,7 +102,7 @@ impl Doors {
             .count()
     }
 
-    /// Whether a place has a viewer who is asked to leave: by `end`, or since the run ends.
+    /// Whether a place has a viewer that is asked to leave: by `end`, or since the run ends.
     pub fn is_asked(&self, number: u64) -> bool
         ensures { result ≡ is_asked self.now number }
     {
@@ -113,7 +113,7 @@ impl Doors {
         }
     }
 
-    /// Has the place of this number stand so. Where there is none nothing changes.
+    /// Sets how the place of this number stands. Where there is no such place nothing changes.
     fn set(&mut self, number: u64, place: Place)
         ensures { self.new ≡ with_place self.old number place }
     {
@@ -126,8 +126,8 @@ impl Doors {
         }
     }
 
-    /// A viewer comes to this place. It takes the place if that is free and viewers are let in; whether it does is
-    /// answered.
+    /// A viewer comes to this place. It takes the place where that is free and viewers are let in. The call answers
+    /// whether it does.
     pub fn enter(&mut self, number: u64) -> bool
         ensures after { self.new ≡ after_coming self.old number }
         ensures value { result ≡ is_let_in self.old number }

@@ -1,7 +1,8 @@
 //! What an operator asks of a running reflector, and what a request does to its doors.
 //!
-//! A request is a line of text. What it does, and who may come in after it, is a function of values; who reads lines
-//! from where, and who waits at the doors, is the caller's. Memory: for the places, once, and for an answer's text.
+//! A request is a line of text. Here are functions of values alone, which say what a request does and who may come in
+//! after it. The caller reads the lines, and has viewers wait at the doors. Memory: for the places, once, and for an
+//! answer's text.
 #![tactic(auto)]
 
 mod doors;

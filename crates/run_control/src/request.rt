@@ -6,7 +6,7 @@ ghost use Rattle.run_control.specs.Request.{IsInRange, Says};
 ghost use Rattle.run_control.specs.declared.request.Request as declared;
 ghost use Rattle.run_control.specs.declared.request.Request.TheVariants as request;
 
-/// In which form an answer is written.
+/// The form in which an answer is written.
 #[derive(Clone, Copy, Debug, PartialEq, Eq)]
 pub enum Form {
     /// As lines that people read.
@@ -18,9 +18,9 @@ pub enum Form {
 /// What is asked of a running reflector.
 #[derive(Clone, Copy, Debug, PartialEq, Eq)]
 pub enum Request {
-    /// How it stands: `state`, or `state json`.
+    /// How the run stands: `state`, or `state json`.
     State(Form),
-    /// That nobody is let in any more: `drain`. Who is there stays.
+    /// That nobody is let in any more: `drain`. Viewers that have a place stay.
     Drain,
     /// That viewers are let in again: `undrain`.
     Undrain,
@@ -31,7 +31,7 @@ pub enum Request {
 }
 
 impl Request {
-    /// Reads a line, without its line feed. `None` where it is no request.
+    /// Reads a line, without its line feed. It answers `None` where the line is no request.
     pub fn read(line: &str) -> Option<Request>
         ensures says { IfSome result (λ request. IsInRange request × Says request line.now) }
         ensures none { IfNone result ((request : declared.Request) → IsInRange request → ¬ Says request line.now) }

@@ -1,4 +1,4 @@
-//! Lines that are requests and lines that aren't, and an evening at the doors.
+//! Tests of lines that are requests and of lines that aren't, and of a sequence of comings, leavings and requests.
 
 use crate::doors::{Doors, Entry, Outcome, Place};
 use crate::request::{Form, Request};

@@ -1,4 +1,5 @@
--- How a run stands, in lines of names and values. Each definition of lines is a text after another.
+-- How a run stands, in lines of names and values. Each definition of lines gives the text that there is once these
+-- lines were put after a text.
 use Rattle.std.specs.Prelude.{ℕ, Bool, true, false, List, [], ◌∷◌, ◌++◌, codes, Option, Some, None}
 use Rattle.std.specs.Fmt.{decimal}
 use Rattle.roles.specs.declared.role.Role.{Role}

@@ -1,4 +1,4 @@
-//! As one object of JSON.
+//! How a run stands, as one object of JSON.
 
 use crate::lines::{entry_word, role_word};
 use crate::report::{HostReport, Report, ViewerReport};
@@ -31,8 +31,8 @@ fn viewer_value(alloc: Global, viewer: &ViewerReport<'_>) -> Result<Value, Alloc
     })
 }
 
-/// How a run stands, as one object of JSON, whose members have the names of the lines. No clause says what it has;
-/// tests do. It fails where memory is refused for it.
+/// How a run stands, as one object of JSON whose members are named as in the lines. No clause says what it contains;
+/// tests do. It fails where memory for it is refused.
 pub fn state_json(alloc: Global, report: &Report<'_>) -> Result<String, AllocError> {
     let mut viewers = Vec::new(alloc);
     for viewer in report.viewers {

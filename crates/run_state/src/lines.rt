@@ -1,4 +1,4 @@
-//! Parts of lines.
+//! Parts of which lines are put together.
 
 ghost use Rattle.std.specs.Prelude.{◌≡◌, ◌++◌, OnOk};
 ghost use Rattle.std.specs.String.{string_bytes};
@@ -38,7 +38,7 @@ pub(crate) fn yes_word(is: bool) -> &'static str
     if is { "yes" } else { "no" }
 }
 
-/// Puts a word behind what goes before it.
+/// Puts the text that goes before a word, and then the word.
 pub(crate) fn put_word(text: &mut String, before: &str, word: &str) -> Result<(), AllocError>
     ensures { OnOk result (string_bytes text.new ≡ string_bytes text.old ++ before.now ++ word.now) }
 {
@@ -46,7 +46,7 @@ pub(crate) fn put_word(text: &mut String, before: &str, word: &str) -> Result<()
     text.push_str(word)
 }
 
-/// Puts a number behind what goes before it.
+/// Puts the text that goes before a number, and then the number.
 pub(crate) fn put_number(text: &mut String, before: &str, number: u64) -> Result<(), AllocError>
     ensures { OnOk result (string_bytes text.new ≡ string_bytes text.old ++ before.now ++ decimal number) }
 {

@@ -1,4 +1,4 @@
-//! What is told.
+//! What a run reports of itself.
 
 use roles::Role;
 use run_control::Entry;
@@ -8,7 +8,7 @@ use run_control::Entry;
 pub struct HostReport<'a> {
     /// Its address, as text.
     pub address: &'a str,
-    /// Its name, of which what isn't printable is escaped, and quotation marks are.
+    /// Its name, in which bytes that aren't printable, and quotation marks, are escaped.
     pub name: &'a str,
     /// The width of its screen in pixels.
     pub width: u64,
@@ -52,12 +52,12 @@ pub struct Report<'a> {
     pub host: Option<HostReport<'a>>,
     /// How many places there are for viewers with full control.
     pub full_places: u64,
-    /// How many for viewers that only look on.
+    /// How many places there are for viewers that only look on.
     pub view_places: u64,
     /// How many inputs of viewers wait for the host.
     pub waiting: u64,
-    /// How many were dropped on their way to a host.
+    /// How many inputs were dropped on their way to a host.
     pub dropped: u64,
-    /// Who has a place, in the order of the places.
+    /// The viewers that have a place, in the order of the places.
     pub viewers: &'a [ViewerReport<'a>],
 }

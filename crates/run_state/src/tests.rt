@@ -1,4 +1,4 @@
-//! How a run stands, as it was written by hand.
+//! Tests of how a run stands, against texts that were written by hand.
 
 use crate::json::state_json;
 use crate::report::{HostReport, Report, ViewerReport};

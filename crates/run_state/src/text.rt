@@ -1,4 +1,4 @@
-//! As lines.
+//! How a run stands, as lines of text.
 
 ghost use Rattle.std.specs.Prelude.{◌≡◌, IfOk, OnOk};
 ghost use Rattle.std.specs.String.{string_bytes};
@@ -22,7 +22,7 @@ fn put_host(text: &mut String, host: &HostReport<'_>) -> Result<(), AllocError>
     text.push_str("\"\n")
 }
 
-/// Puts which place a viewer has, and who it is.
+/// Puts which place a viewer has, its role and its address.
 fn put_place(text: &mut String, viewer: &ViewerReport<'_>) -> Result<(), AllocError>
     ensures { OnOk result (string_bytes text.new ≡ after_place (string_bytes text.old) viewer.now) }
 {
@@ -81,7 +81,7 @@ fn put_input(text: &mut String, report: &Report<'_>) -> Result<(), AllocError>
     text.push_str("\n")
 }
 
-/// Puts the line of the host, if one is joined.
+/// Puts the line of the host, or the one that says that none is joined.
 fn put_whoever(text: &mut String, host: &Option<HostReport<'_>>) -> Result<(), AllocError>
     ensures { OnOk result (string_bytes text.new ≡ after_whoever (string_bytes text.old) host.now) }
 {

@@ -1,4 +1,4 @@
--- Links as they come.
+-- The state in which a link comes.
 use Rattle.std.specs.Prelude.{[]}
 use Rattle.link.specs.Links.{LinkState}
 

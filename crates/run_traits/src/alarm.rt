@@ -5,16 +5,17 @@ use std::alloc::Global;
 use std::sync::{Arc, Wait};
 use std::thread;
 
-/// What ends the wait of other threads. No clause says that one wakes.
+/// What ends the wait of other threads. No clause says that a thread wakes.
 pub trait Alarm {
-    /// There is something new: ends the wait of each that would look at it, or else its next one.
+    /// There is something new: ends the wait of each thread that would look at it, or the next wait of one that isn't
+    /// waiting.
     fn ring(&self);
 
-    /// Ends each wait, or else the next, also of those that could do nothing about news.
+    /// Ends the wait of every thread, or its next wait, even where that thread could do nothing about news.
     fn rouse(&self);
 }
 
-/// An alarm for threads that never wait, as over links in memory. One that rests on it lets others run.
+/// An alarm for threads that never wait, as over links in memory. A thread that rests on it lets others run.
 #[derive(Clone, Copy, Drop)]
 pub struct NoAlarm;
 

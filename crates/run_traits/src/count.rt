@@ -1,4 +1,4 @@
-//! What is counted while a run goes on, for whoever asks how it stands.
+//! What is counted while a run goes on, for those who ask how it stands.
 //!
 //! A thread that counts only stores: it takes no lock and waits for nobody. No clause says what stands in a counter,
 //! nor that two of them belong together.
@@ -6,7 +6,7 @@
 use std::sync::atomic::{AtomicU64, Ordering};
 use std::time::Clock;
 
-/// The milliseconds that the clock has counted, since a start of its own. 0 where it can't be read.
+/// The milliseconds that the clock has counted since some start, or 0 where the clock can't be read.
 pub fn clock_millis<R: Clock>(rt: &R) -> u64 {
     match rt.monotonic() {
         Ok(time) => {
@@ -17,8 +17,8 @@ pub fn clock_millis<R: Clock>(rt: &R) -> u64 {
     }
 }
 
-/// What is counted of the viewer that a place has: its thread stores, and others read. Each is 0 where another viewer
-/// comes.
+/// What is counted of the viewer that a place has. The place's thread stores, and others read. Each count is 0 again
+/// where another viewer comes.
 #[derive(Drop)]
 pub struct PlaceCount {
     updates: AtomicU64,
@@ -36,29 +36,30 @@ impl PlaceCount {
         }
     }
 
-    /// How many updates were begun for the viewer.
+    /// How many answers were begun for the viewer.
     pub fn updates(&self) -> u64 {
         self.updates.load(Ordering::SeqCst)
     }
 
-    /// How many of the run's updates (`HostCount::updates`) had been put when its screen was looked at last: for an
-    /// answer, or in vain since nothing that it asked for had changed. It is behind by those put since.
+    /// How many of the run's updates (`HostCount::updates`) had been put at the viewer's last look, whether that led to
+    /// an answer or found that nothing it asked for had changed. The viewer is behind by the updates put since.
     pub fn shown(&self) -> u64 {
         self.shown.load(Ordering::SeqCst)
     }
 
-    /// How many bytes the system took for it.
+    /// How many bytes the system took for the viewer.
     pub fn bytes(&self) -> u64 {
         self.bytes.load(Ordering::SeqCst)
     }
 
-    /// So many updates were begun for the viewer by now, and its screen was looked at after so many of the run's.
+    /// Notes how many answers were begun for the viewer by now, and how many of the run's updates had been put at its
+    /// last look.
     pub fn note_answer(&self, updates: u64, shown: u64) {
         self.updates.store(updates, Ordering::SeqCst);
         self.shown.store(shown, Ordering::SeqCst);
     }
 
-    /// The system took so many bytes for the viewer by now.
+    /// Notes how many bytes the system took for the viewer by now.
     pub fn note_bytes(&self, bytes: u64) {
         self.bytes.store(bytes, Ordering::SeqCst);
     }
@@ -70,7 +71,7 @@ impl PlaceCount {
     }
 }
 
-/// What is counted of the hosts of a run: the thread that reads them stores, and others read.
+/// What is counted of the hosts of a run. The thread that reads them stores, and others read.
 #[derive(Drop)]
 pub struct HostCount {
     updates: AtomicU64,
@@ -86,8 +87,8 @@ impl HostCount {
         }
     }
 
-    /// How many updates were put, of all hosts of the run, those between two hosts among them: as many as a viewer that
-    /// is not behind was shown.
+    /// How many updates of all hosts of the run were put, including those between two hosts. A viewer that isn't behind
+    /// was shown as many.
     pub fn updates(&self) -> u64 {
         self.updates.load(Ordering::SeqCst)
     }
@@ -97,12 +98,12 @@ impl HostCount {
         self.heard.load(Ordering::SeqCst)
     }
 
-    /// One more update was put.
+    /// Notes that one more update was put.
     pub fn note_put(&self) {
         self.updates.fetch_add(1, Ordering::SeqCst);
     }
 
-    /// Bytes of the host came now.
+    /// Notes that bytes of the host came just now.
     pub fn hear<R: Clock>(&self, rt: &R) {
         self.heard.store(clock_millis(rt), Ordering::SeqCst);
     }

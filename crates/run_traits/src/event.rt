@@ -1,4 +1,4 @@
-//! What happens at the doors and at the host, for whoever keeps a log of it.
+//! What happens at the doors and at the host, for a log.
 
 use fault::Fault;
 use roles::Role;
@@ -8,12 +8,12 @@ use std::net::SocketAddr;
 use std::sync::Arc;
 use std::time::Duration;
 
-/// Which place it is: its number, and the role of whoever has it.
+/// Which place it is: its number, and the role of its viewer.
 #[derive(Clone, Copy, Debug)]
 pub struct PlaceId {
     /// The number of the place, counted from 1 over all places of the program.
     pub place: u64,
-    /// What whoever has it may do.
+    /// What the place's viewer may do.
     pub role: Role,
 }
 
@@ -26,20 +26,20 @@ pub enum Way {
     Web,
 }
 
-/// How a viewer's connection stood when its place was done with it, as far as the system told.
+/// How a viewer's connection stood when serving it ended, as far as the system told.
 #[derive(Clone, Copy, Debug, PartialEq, Eq)]
 pub enum Parting {
-    /// It was open.
+    /// The connection was open.
     Open,
     /// The viewer had closed it.
     Closed,
     /// The handshake took longer than it may.
     Late,
-    /// The system gave it up: for as long as it may the viewer took no bytes, or wasn't there.
+    /// The system gave the connection up: the viewer took no bytes, or wasn't reachable, for longer than is allowed.
     Stalled,
     /// The system reported another error.
     Broken,
-    /// It was open, and the viewer was asked to leave.
+    /// The connection was open, and the viewer was asked to leave.
     Dismissed,
 }
 
@@ -50,11 +50,11 @@ pub struct Visit {
     pub why: Result<(), Fault>,
     /// How the connection stood.
     pub parting: Parting,
-    /// How long it was served. Nothing where the clock can't be read.
+    /// How long the viewer was served: no time where the clock can't be read.
     pub served: Duration,
-    /// How many updates were begun for it.
+    /// How many answers were begun for the viewer.
     pub answers: u64,
-    /// How many bytes the system took for it.
+    /// How many bytes the system took for the viewer.
     pub bytes: u64,
 }
 
@@ -68,7 +68,7 @@ pub enum Event<'a> {
         places: u64,
         way: Way,
     },
-    /// A host was to be connected to, which the system did or, with this error, did not. The address is missing where
+    /// The system was asked to connect to a host, and did so, or refused with this error. The address is missing where
     /// the system had none for the name in the host's text.
     HostTried {
         host: &'a str,
@@ -88,26 +88,26 @@ pub enum Event<'a> {
         address: Option<SocketAddr>,
         way: Way,
     },
-    /// It has left.
+    /// A viewer has left its place.
     ViewerOut {
         place_id: PlaceId,
         address: Option<SocketAddr>,
         way: Way,
         visit: Visit,
     },
-    /// One was refused, since all places were taken.
+    /// A viewer was refused, since all places were taken.
     PlacesTaken {
         role: Role,
         address: Option<SocketAddr>,
         way: Way,
     },
-    /// One was refused, since there is no host yet.
+    /// A viewer was refused, since there is no host yet.
     NoHost {
         role: Role,
         address: Option<SocketAddr>,
         way: Way,
     },
-    /// One was refused, since an operator has nobody let in.
+    /// A viewer was refused, since an operator lets nobody in.
     NoEntry {
         role: Role,
         address: Option<SocketAddr>,
@@ -126,7 +126,7 @@ pub enum Event<'a> {
     },
 }
 
-/// Who is told what happens. No clause says what becomes of it.
+/// What is told what happens. No clause says what it does with that.
 pub trait Log {
     /// This has happened.
     fn note(&self, event: &Event<'_>);

@@ -1,7 +1,8 @@
-//! By what a run meets the system around it: who wakes its threads, where its viewers come from, who is told what
-//! happens, and what is counted meanwhile.
+//! The traits by which a run meets the system around it: what wakes its threads, where its viewers come from, who is
+//! told what happens, and what is counted meanwhile.
 //!
-//! No contract says that a ring wakes, or how long anything lasts. Memory: none. Handles: Wait where a call may wait.
+//! No contract says that a ring wakes a thread, or how long anything lasts. Memory: none. Handles: Wait where a call
+//! may wait.
 #![tactic(auto)]
 
 mod alarm;

@@ -1,4 +1,4 @@
-//! What rings an alarm after each step.
+//! A wrapper that rings an alarm after each step.
 
 ghost use Rattle.std.specs.Prelude.{◌≡◌};
 
@@ -8,12 +8,12 @@ use painter::Patch;
 use reflect_core::Puts;
 use roles::{Input, InputSink};
 
-/// The inner's steps, and a ring of the alarm after each that succeeded.
+/// Takes steps as `inner` does, and rings the alarm after each that succeeded.
 #[derive(Drop)]
 pub struct Ringing<T: Drop, B: Alarm + Drop> {
     /// What takes the updates or the input.
     pub inner: T,
-    /// Who is told that there is more.
+    /// The alarm of those who wait for more.
     pub alarm: B,
 }
 
