@@ -17,7 +17,7 @@ known = (built serve).top.rules
 abbrev pub given : List Text → Text → Option Text
 given words name = first_of name (settled known (walk known [] nothing_held words).held).rows
 
--- the texts that the words give, in their order: of the words that no option takes, each is one
+-- the texts that the words give, in their order: each word that no option takes is one
 abbrev pub all_given : List Text → Text → List Text
 all_given words name = unwrap_or (all_of name (settled known (walk known [] nothing_held words).held).rows) []
 
@@ -43,7 +43,7 @@ abbrev pub IsPort : Option Text → Option ℕ → Type 0
 IsPort None port = port ≡ None
 IsPort (Some text) port = (number : ℕ) × (port ≡ Some number) × Spells text number × IsIn 1 65535 number
 
--- a flag has the text `true` where the words give it, which takes no other
+-- the settings are those that the words set; a flag that the words give has the text `true`, and can have no other
 pub record AreSetBy (words : List Text) (s : Settings) : Type 0 where
   pub host : given words (codes "host") ≡ Some (string_bytes s.host)
   pub bind : string_bytes s.bind ≡ text_of words (codes "bind") (codes "127.0.0.1")

@@ -18,21 +18,21 @@ abbrev pub port : Text → Text → Rule
 port name default =
     with_default default (record (option name) { parser = Some (vp.Signed (pos 1) (pos 65535)) })
 
--- how many viewers of one role there may be, four where it isn't said
+-- how many viewers of one role there may be: four where the words don't say
 abbrev pub places : Text → Rule
 places name =
     with_default (codes "4") (record (option name) { parser = Some (vp.Unsigned 1 32) })
 
--- how many seconds pass before the first host is tried again, which it isn't where they aren't given
+-- how many seconds pass before the first host is tried again; where they aren't given it isn't tried again
 abbrev pub pause : Text → Rule
 pause name = record (option name) { parser = Some (vp.Unsigned 1 3600) }
 
--- how many seconds something may last, 60 where it isn't said
+-- how many seconds something may last: 60 where the words don't say
 abbrev pub seconds : Text → Rule
 seconds name =
     with_default (codes "60") (record (option name) { parser = Some (vp.Unsigned 10 600) })
 
--- the port of browsers of one role, which have none where it isn't given
+-- the port of browsers of one role; where it isn't given there is none
 abbrev pub web_port : Text → Rule
 web_port name = record (option name) { parser = Some (vp.Signed (pos 1) (pos 65535)) }
 
@@ -93,6 +93,6 @@ serve_alone = record {
 abbrev pub serve : App
 serve = record serve_alone { top = record serve_alone.top { rules = options } }
 
--- memory was refused, or the line is at one of clap's faults (a call for help and for the version are such)
+-- memory was refused, or the line has one of clap's faults (a call for help or for the version counts as one)
 abbrev pub IsBad : Kinds → ℕ → Type 0
 IsBad faults status = (status ≡ 4) ⊎ ((status ≡ 2) × (faults ≢ []))

@@ -47,7 +47,7 @@ texts_in found name = unwrap_or (option_map raw_values (matched_of found name)) 
 abbrev pub flag_of : Found → Text → Bool
 flag_of found name = bytes_eq (unwrap_or (first_value found name) (codes "false")) (codes "true")
 
--- every option has its text, but those that may have none
+-- every option has its text, except those that may have none
 pub record HasValues (found : Found) : Type 0 where
   pub host : HasText found (codes "host")
   pub bind : HasText found (codes "bind")

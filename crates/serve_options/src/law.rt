@@ -6,7 +6,7 @@ ghost use Rattle.clap.specs.declared.error.kind.ErrorKind.TheVariants.{DisplayHe
 ghost use Rattle.serve_options.specs.Given.{all_given, given};
 ghost use Rattle.serve_options.specs.Serve.{serve};
 
-/// Lines worked by hand: what clap faults them for, and what they give.
+/// Lines that were worked by hand: for what clap faults them, and what they give.
 pub fn worked_lines()
     ensures no_host { fault_of serve [] ≡ MissingRequiredArgument ∷ [] }
     ensures port_0 { fault_of serve (codes "--host" ∷ codes "h:1" ∷ codes "--full" ∷ codes "0" ∷ []) ≡ ValueValidation ∷ [] }

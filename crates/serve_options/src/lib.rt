@@ -1,6 +1,6 @@
 //! The command line of `reflectord serve`: what its words set, and what a line that sets nothing is told.
 //!
-//! RFC 6143: none of it.
+//! RFC 6143 has no part in it.
 //! Memory: for clap's command and matches, for the texts that are kept, and for the text of a bad line.
 //! Handles: none.
 #![tactic(auto)]

@@ -14,7 +14,8 @@ use settings::Settings;
 use std::alloc::{AllocError, Global};
 use std::convert::AsStr;
 
-/// What the words after `serve` set: for each option the text or number that they give it, or else its default.
+/// What the words after `serve` set: for each option the text or number that the words give it, or its default where
+/// they give none.
 pub fn settings<'a, S: AsStr>(alloc: Global, words: &'a [S]) -> Result<Settings, BadLine>
     ensures ok { IfOk result (λ s. AreSetBy (map S.text words.entry.now) s) }
     ensures faultless { IfOk result (λ s. fault_of serve (map S.text words.entry.now) ≡ []) }

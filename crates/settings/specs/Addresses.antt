@@ -9,7 +9,8 @@ use Rattle.roles.specs.declared.role.Role.{Role}
 use Rattle.settings.specs.declared.values.Settings.{Settings}
 use Rattle.settings.specs.ByRole.{bind_for, port_for, web_port_for}
 
--- The text is this one in square brackets, in which an IPv6 address stands before a port (RFC 3986, section 3.2.2).
+-- The first text is the other in square brackets, as an IPv6 address is written before a port (RFC 3986, section
+-- 3.2.2).
 abbrev pub IsBracketed : List ℕ → List ℕ → Type 0
 IsBracketed text inner = text ≡ codes "[" ++ (inner ++ codes "]")
 

@@ -2,6 +2,7 @@
 
 ghost use Rattle.std.specs.Prelude.{◌≡◌, ℕ, List, IfOk, IfErr, IfSome, MatchOption, Some, is_some};
 ghost use Rattle.std.specs.declared.net.ip_addr.IpAddr.{IpAddr as Ip};
+ghost use Rattle.std.specs.declared.net.socket_addr.SocketAddr.{SocketAddr as Address};
 ghost use Rattle.settings.specs.Addresses.{IsAddressFor, IsBindText, IsBracketed, IsMetricsAddressFor, IsProxyFor, IsWebAddressFor};
 ghost use Rattle.settings.specs.ByRole.{bind_for, web_port_for};
 
@@ -10,7 +11,7 @@ use crate::values::Settings;
 use roles::Role;
 use std::net::{AddrParseError, IpAddr, SocketAddr};
 
-/// The text in square brackets, if it is in some.
+/// What stands between the square brackets of a text, if it is in square brackets.
 #[tactic(auto, using(crate::proofs::Enclosed::bracketed, crate::proofs::Enclosed::no_front, crate::proofs::Enclosed::no_end))]
 fn in_brackets(text: &str) -> Option<&str>
     ensures { MatchOption result ((inner : List ℕ) → ¬ (IsBracketed text.now inner)) (λ inner. IsBracketed text.now inner.now) }
@@ -83,6 +84,7 @@ pub fn proxy_of(settings: &Settings) -> Result<Option<IpAddr>, AddrParseError>
 pub fn metrics_address_of(settings: &Settings) -> Option<Result<SocketAddr, AddrParseError>>
     ensures none { is_some result ≡ is_some settings.now.metrics }
     ensures ok { IfSome result (λ address. IfOk address (λ a. IsMetricsAddressFor settings.now a)) }
+    ensures err { IfSome result (λ address. IfErr address (λ _. (a : Address) → ¬ (IsMetricsAddressFor settings.now a))) }
 {
     match &settings.metrics {
         Some(text) => Some(text.as_str().parse::<SocketAddr>()),
