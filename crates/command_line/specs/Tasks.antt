@@ -12,7 +12,7 @@ use Rattle.command_line.specs.declared.task.Task.TheVariants.{Replay, Serve, Con
 abbrev pub replay_line : List Text
 replay_line = codes "replay" ∷ []
 
--- A line of `control` has a path and at least one word of a request behind it.
+-- A line of `control` has a path and, after it, at least one word of a request.
 abbrev pub IsControlLine : List Text → Type 0
 IsControlLine words = (rest : List Text) × (words ≡ codes "control" ∷ rest) × (1 < length rest)
 
@@ -32,24 +32,24 @@ IsAsked words (Serve settings) = (rest : List Text) × (words ≡ codes "serve" 
 IsAsked words Control = IsControlLine words
 IsAsked words (Explain bad) = IsNoTask words bad.status
 
--- What was done: a script was played, or a run was asked, or the settings of the line were served, and that ended with
--- this status; what can't be done has its own.
+-- What was done: a script was played, a run was asked, or the settings of the line were served, and that ended with
+-- this status. A line that asks for nothing that can be done has its own status.
 abbrev pub IsDone : (serves : Settings → ℕ → Type 0) → (plays : ℕ → Type 0) → (asks : ℕ → Type 0) → Task → ℕ → Type 0
 IsDone serves plays asks Replay status = plays status
 IsDone serves plays asks (Serve settings) status = serves settings status
 IsDone serves plays asks Control status = asks status
 IsDone serves plays asks (Explain bad) status = status ≡ bad.status
 
--- A script may end with 0, or with 2 to 4.
+-- The statuses with which a script may end: 0, and 2 to 4.
 abbrev pub MayEndAScript : ℕ → Type 0
 MayEndAScript status = (status ≡ 0) ⊎ ((2 ≤ status) × (status ≤ 4))
 
--- What was asked for is done, or it isn't.
+-- The statuses with which asking may end: 0 where what was asked for is done, and 1 where it isn't.
 abbrev pub MayEndAnAsking : ℕ → Type 0
 MayEndAnAsking status = (status ≡ 0) ⊎ (status ≡ 1)
 
--- How a task may end: a script as it may; a run as `serve` may; asking as that may; what can't be done with its own
--- status.
+-- The statuses with which a task may end: those of a script, of `serve` or of asking, and for a line that asks for
+-- nothing that can be done its own status.
 abbrev pub EndsAs : Task → ℕ → Type 0
 EndsAs Replay status = MayEndAScript status
 EndsAs (Serve settings) status = IsStatus status

@@ -1,4 +1,4 @@
-//! Asking something of a run that goes on.
+//! Asks something of a run that goes on.
 
 ghost use Rattle.command_line.specs.Tasks.{MayEndAnAsking};
 
@@ -31,7 +31,7 @@ fn line_of(alloc: Global, words: &[String]) -> Result<String, AllocError> {
     Ok(line)
 }
 
-/// What is answered at the socket of this path to whoever asks this, up to its end.
+/// The whole answer to this line at the socket of this path.
 fn answer_to<R: Net>(rt: &R, alloc: Global, path: &str, line: &str) -> io::Result<Vec<u8>> {
     let stream = UnixStream::connect(rt, path)?;
     stream.set_read_timeout(Some(Duration::from_secs(PATIENCE_SECONDS)))?;
@@ -42,7 +42,7 @@ fn answer_to<R: Net>(rt: &R, alloc: Global, path: &str, line: &str) -> io::Resul
     Ok(answer)
 }
 
-/// Prints an answer, or why nothing was done. It is the exit status.
+/// Prints an answer, or why nothing was done, and answers the exit status.
 fn print<R: Print + Eprint>(rt: &R, answer: &[u8]) -> u8
     ensures { MayEndAnAsking result }
 {

@@ -1,4 +1,4 @@
-//! Doing what the words ask for.
+//! Does what the words ask for.
 
 ghost use Rattle.std.specs.Prelude.{◌≡◌, map};
 ghost use Rattle.std.specs.String.{string_bytes};
@@ -35,9 +35,9 @@ fn words<R: Env + AllocGlobal>(rt: &R, alloc: Global) -> io::Result<Vec<String>>
     Ok(words)
 }
 
-/// Has done what these words say, which are those after the program's name, and answers the exit status: of `replay`
-/// that of playing a script, of `control` that of asking, of `serve` that of serving by the settings that the words
-/// set, and of any other line its own, 2 or 4.
+/// Has these functions do what these words say, those after the program's name, and answers the exit status: for
+/// `replay` that of playing a script, for `control` that of asking, for `serve` that of serving by the settings that
+/// the words set, and for any other line that line's own, 2 or 4.
 #[tactic(auto, using(crate::proofs::Places::has_places))]
 pub fn perform<S, P, A, T>(
     alloc: Global,
@@ -93,7 +93,7 @@ where
             ensures { MayEndAnAsking result }
         { ask(&rt, alloc, words) },
         move |text: &str| {
-            // Where standard error takes no text the status alone says it.
+            // Where standard error takes no text, the status alone tells it.
             let _ = rt.eprint(text);
         },
     )

@@ -17,7 +17,7 @@ pub enum Task {
     Serve(Settings),
     /// To ask something of a run.
     Control,
-    /// Nothing that can be done.
+    /// Nothing that can be done: the line is explained.
     Explain(BadLine),
 }
 

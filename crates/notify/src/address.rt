@@ -1,4 +1,4 @@
-//! Where systemd hears of a service.
+//! The address at which systemd hears of a service.
 
 ghost use Rattle.std.specs.Prelude.{◌≡◌, ◌+◌, ◌≤◌, ◌<◌, ◌∷◌, ℕ, List, IfSome, IsNone, length};
 ghost use Rattle.mio.specs.SockAddr as spec;
@@ -6,7 +6,7 @@ ghost use Rattle.notify.specs.Addresses.{IsAddressOf};
 
 use libc::net as c;
 
-/// The most bytes of a path or of an abstract name, beside the zero behind or before it (unix(7)).
+/// The most bytes of a path or of an abstract name, without the zero after or before it (unix(7)).
 const LONGEST: usize = 107;
 
 fn put(raw: &mut [u8; c::_SS_SIZE], at: usize, bytes: &[u8])
@@ -31,9 +31,9 @@ fn encode(name: &[u8], is_abstract: bool) -> Option<([u8; c::_SS_SIZE], u32)>
     Some((raw, name.len() as u32 + 3))
 }
 
-/// The address that systemd's text writes, as the bytes of C's `sockaddr_un` and how many of them count: a path from
-/// the root, or an abstract name behind an `@` (sd_notify(3)). None where it writes none, or a longer one than there
-/// is.
+/// The address in systemd's text, as the bytes of C's `sockaddr_un` and how many of them count: a path from the root,
+/// or an abstract name after an `@` (sd_notify(3)). It is `None` where the text has no address, or one that is too
+/// long.
 pub fn address_of(text: &str) -> Option<([u8; c::_SS_SIZE], u32)>
     ensures address { IfSome result (λ r. IsAddressOf text.now r) }
     ensures len { IfSome result (λ r. r.1 ≤ 110) }

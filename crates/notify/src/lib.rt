@@ -1,5 +1,5 @@
 //! What std lacks for a program that is watched: the socket at which systemd hears of a service (sd_notify(3)), and
-//! whether standard error has room. What the system does with a notice no clause says. Memory: none. Handles: Net.
+//! whether standard error has room. No clause says what the system does with a notice. Memory: none. Handles: Net.
 #![tactic(auto)]
 
 mod address;

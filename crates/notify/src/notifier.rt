@@ -1,4 +1,4 @@
-//! Telling systemd.
+//! Tells systemd how the service stands.
 
 ghost use Rattle.std.specs.Prelude.{◌≤◌};
 
@@ -24,8 +24,8 @@ fn failure() -> io::Error {
 }
 
 impl Notifier {
-    /// For the text that systemd has given the service (`NOTIFY_SOCKET`). It fails where that writes no address, or the
-    /// system refuses a socket.
+    /// A notifier for the text that systemd has given the service (`NOTIFY_SOCKET`). It fails where the text has no
+    /// address, or where the system refuses a socket.
     pub fn new(_net: &impl Net, text: &str) -> io::Result<Notifier> {
         let Some(found) = address_of(text) else {
             return Err(io::Error::from(ErrorKind::InvalidInput));
@@ -44,7 +44,7 @@ impl Notifier {
         })
     }
 
-    /// Tells a notice in one datagram, without a wait. It fails where nobody hears, or there is no room.
+    /// Sends a notice in one datagram, without a wait. It fails where nobody hears, or where there is no room.
     pub fn send(&self, notice: &str) -> io::Result<()> {
         let flags = c::MSG_NOSIGNAL | c::MSG_DONTWAIT;
         let fd = self.socket.as_raw_fd();

@@ -1,4 +1,4 @@
-//! Addresses as unix(7) has them, and a datagram that is heard.
+//! Tests of addresses as unix(7) has them, and of a datagram that is heard.
 
 use crate::address::address_of;
 use crate::notifier::Notifier;

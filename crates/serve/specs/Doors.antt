@@ -18,7 +18,7 @@ IsEntryFor role settings entry = (entry.settings.now ≡ settings) × ((arc_valu
 abbrev pub IsFullEntry : Settings → Option Entry → Type 0
 IsFullEntry settings full = MatchOption full (settings.view_only ≡ true) (λ entry. (settings.view_only ≡ false) × IsEntryFor Full settings entry)
 
--- One entry, if there is one, is for viewers with full control, and the other for those who only look on.
+-- The first entry, if there is one, is for viewers with full control, and the second for those that only look on.
 pub record AreBoth (settings : Settings) (full : Option Entry) (view : Entry) : Type 0 where
   pub lets_type : IsFullEntry settings full
   pub lets_look : IsEntryFor View settings view
@@ -32,6 +32,6 @@ module _ {R G : Type 0} where
   abbrev pub roles_in : List (Role × TcpDoor R G) → List Role
   roles_in doors = map (λ door. door.0) doors
 
-  -- There are as many of each role as the settings say, those with full control first.
+  -- There are as many doors of each role as the settings say, and those of full control come first.
   abbrev pub AreDoorsFor : Settings → List (Role × TcpDoor R G) → Type 0
   AreDoorsFor settings doors = roles_in doors ≡ replicate (places_for Full settings) Full ++ replicate settings.view_places View

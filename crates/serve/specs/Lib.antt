@@ -1,5 +1,6 @@
 pub mod Browsers
 pub mod Doors
+pub mod Gravities
 pub mod Ports
 pub mod States
 pub mod Statuses

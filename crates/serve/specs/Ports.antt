@@ -6,7 +6,7 @@ use Rattle.roles.specs.declared.role.Role.TheVariants.{Full, View}
 use Rattle.settings.specs.Addresses.{IsAddressFor, IsMetricsAddressFor, IsWebAddressFor}
 use Rattle.settings.specs.declared.values.Settings.{Settings}
 
--- The system was asked at this address, or not at all.
+-- The system was asked for a port at this address, or not at all.
 abbrev pub IsAskedAtMost : SocketAddr → List SocketAddr → List SocketAddr → Type 0
 IsAskedAtMost address old new = (new ≡ old) ⊎ (new ≡ old ++ address ∷ [])
 
@@ -19,13 +19,13 @@ AsksFor role settings old new = (new ≡ old) ⊎ ((address : SocketAddr) × IsA
 abbrev pub AsksForWeb : Role → Settings → List SocketAddr → List SocketAddr → Type 0
 AsksForWeb role settings old new = (new ≡ old) ⊎ ((address : SocketAddr) × IsWebAddressFor role settings address × (new ≡ old ++ address ∷ []))
 
--- It was asked at the address for viewers with full control, then at that for those who only look on; or it wasn't
--- asked for one of them. For those with full control it wasn't asked where all only look on.
+-- It was asked at the address for viewers with full control, and then at that for those that only look on; either may
+-- be left out. Where all only look on, it wasn't asked for those with full control.
 abbrev pub AsksForViewers : Settings → List SocketAddr → List SocketAddr → Type 0
 AsksForViewers settings old new = (between : List SocketAddr) × AsksFor Full settings old between
     × (settings.view_only ≡ true → between ≡ old) × AsksFor View settings between new
 
--- The same of browsers: the settings have no address for those with full control where all only look on.
+-- The same for browsers. Where all only look on, the settings have no address for those with full control.
 abbrev pub AsksForBrowsers : Settings → List SocketAddr → List SocketAddr → Type 0
 AsksForBrowsers settings old new = (between : List SocketAddr) × AsksForWeb Full settings old between × AsksForWeb View settings between new
 

@@ -9,6 +9,6 @@ status_for (Ok _) = 0
 status_for (Err Memory) = 4
 status_for (Err _) = 3
 
--- A status with which the program may end once its line was read.
+-- A status with which the program may end once its command line was read.
 abbrev pub IsStatus : ℕ → Type 0
 IsStatus status = (status ≡ 0) ⊎ ((status ≡ 3) ⊎ (status ≡ 4))

@@ -31,7 +31,7 @@ impl Display for Said<'_> {
     }
 }
 
-/// The reason that a host gave that refused, between quotation marks.
+/// The reason that a host gave when it refused, between quotation marks.
 #[derive(Drop)]
 struct Given<'a> {
     fault: &'a Fault,
@@ -147,7 +147,7 @@ fn join_advice(fault: &Fault) -> &'static str {
     }
 }
 
-/// What a fault of a run means. Those of a handshake are of a host that followed on another.
+/// What a fault of a run means. A fault of a handshake is that of a host that followed on another.
 fn run_advice(fault: &Fault) -> &'static str {
     match fault {
         Fault::LinkFailed =>

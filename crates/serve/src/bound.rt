@@ -1,4 +1,4 @@
-//! The ports of a run, and the one place where one is bound. What the system does with an address no clause says.
+//! The ports of a run, and the one place where one is bound. No clause says what the system does with an address.
 
 ghost use Rattle.std.specs.Prelude.{◌≡◌, ◌++◌, ◌∷◌, [], IfOk, OnOk};
 ghost use Rattle.serve.specs.Ports.{IsAskedAtMost};
@@ -58,8 +58,8 @@ pub(crate) struct Bound {
 }
 
 impl Bound {
-    /// Listens at this address for the viewers of this role, where the headers of this proxy are believed, if there is
-    /// one. It fails where the system refuses that, or memory for the list of what was asked.
+    /// Listens at this address for the viewers of this role. The headers of this proxy are believed there, if one is
+    /// given. It fails where the system refuses that, or memory for the list of what was asked.
     pub(crate) fn at<R: Net<Stream = TcpStream, Listener = TcpListener>>(
         rt: &R,
         ports: &mut Ports,

@@ -16,27 +16,27 @@ use std::sync::{Arc, Wait};
 use std::time::{Clock, Duration};
 use std::{io, thread};
 
-/// For how long one who asks may say nothing, and take nothing of the answer, in milliseconds.
+/// For how long an operator may say nothing, or take nothing of the answer, in milliseconds.
 const PATIENCE_MILLIS: u64 = 1_000;
 
-/// A request comes in so many reads at most, and has so many bytes.
+/// A request comes in so many reads at most, and has at most `LONGEST` bytes.
 const MOST_READS: usize = 8;
 
 const LONGEST: usize = 64;
 
-/// How often it is asked whether the host was told all that viewers held, and how long that takes each time, in
+/// How often a stop looks whether the host was told all that viewers held, and the pause after each look, in
 /// milliseconds.
 const MOST_LOOKS: usize = 400;
 
 const LOOK_MILLIS: u64 = 5;
 
-/// For how long one who has stopped the run is kept until it has ended, in milliseconds.
+/// For how long at most an operator that has stopped the run is kept waiting for its end, in milliseconds.
 const END_MILLIS: u64 = 10_000;
 
 /// For how long nobody is heard after the system refused a connection, in milliseconds.
 const PAUSE_MILLIS: u64 = 100;
 
-/// What is answered to one who asks for nothing that there is.
+/// What is answered where an operator's line is no request.
 const NO_REQUEST: &[u8] =
     b"error: no request: state, state json, drain, undrain, end PLACE or stop\n";
 
@@ -45,7 +45,7 @@ const NO_REQUEST: &[u8] =
 pub(crate) struct Control {
     pub(crate) listener: UnixListener,
     pub(crate) desk: Arc<Desk, Global>,
-    /// Whoever tells the host.
+    /// The hosts' writer, which tells the host what viewers held.
     pub(crate) writer: WriterReach,
     /// How many places there are for viewers of each role.
     pub(crate) full_places: u64,
@@ -61,7 +61,7 @@ pub(crate) struct Reach {
     pub(crate) halls: Arc<Halls, Global>,
 }
 
-/// Whether a socket is left at this path to which nobody listens: one of a run that has ended.
+/// Whether there is a socket at this path to which nobody listens: a run that has ended left it.
 fn is_stale<R: Files + Net>(rt: &R, path: &str) -> bool {
     let is_socket = match rt.symlink_metadata(path) {
         Ok(found) => found.file_type().is_socket(),
@@ -74,8 +74,8 @@ fn is_stale<R: Files + Net>(rt: &R, path: &str) -> bool {
         }
 }
 
-/// Listens at a path of this machine, in the place of a socket that is stale. A file of another kind stays, and so does
-/// a socket that is listened to: it fails then.
+/// Listens at a path of this machine, in the place of a socket that is stale. It fails where a file of another kind is
+/// there, or a socket that is listened to; that stays.
 pub(crate) fn listen<R: Files + Net>(rt: &R, path: &str) -> io::Result<UnixListener> {
     if is_stale(rt, path) {
         rt.remove_file(path)?;
@@ -109,7 +109,7 @@ fn request_in(bytes: &[u8]) -> Option<Request> {
     }
 }
 
-/// What is answered to one whose request came to this.
+/// What is answered to a request with this outcome.
 fn outcome_text(outcome: Outcome) -> &'static str {
     match outcome {
         Outcome::Done => "done\n",
@@ -162,7 +162,7 @@ fn answer<R: Net + Wait + Clock>(
     }
 }
 
-/// Hears one request, and answers it. It is whether the run is to end.
+/// Hears one request, and answers it. The result says whether the run is to end.
 fn hear<R: Net + Wait + Clock>(rt: &R, reach: &Reach, stream: &UnixStream) -> io::Result<bool> {
     let patience = Duration::from_millis(PATIENCE_MILLIS);
     stream.set_read_timeout(Some(patience))?;
@@ -181,7 +181,7 @@ fn hear<R: Net + Wait + Clock>(rt: &R, reach: &Reach, stream: &UnixStream) -> io
     Ok(matches!(request, Request::Stop))
 }
 
-/// Hears one request after another, until one ends the run. One who breaks off is let go.
+/// Hears one request after another, until one ends the run. Where an operator breaks off, the next one is heard.
 pub(crate) fn keep_control<R: Net + Wait + Clock>(rt: &R, reach: &Reach) {
     for stream in reach.control.listener.incoming() {
         let Ok(stream) = stream else {

@@ -1,10 +1,10 @@
 //! A run's numbers, from where they are counted.
 
-use connections::Glance;
+use connections::RunCard;
 use metrics_text::{ByRole, Counters, Lag};
 use reflector::InputCounts;
 use roles::Role;
-use run_reports::Tally;
+use run_reports::HappeningCounts;
 use settings::{Settings, places_of};
 use std::alloc::{AllocError, Global};
 use std::sync::Wait;
@@ -17,7 +17,7 @@ pub(crate) fn places_by_role(settings: &Settings) -> ByRole {
     }
 }
 
-/// The number that so many tenths of these don't exceed, which are in order. 0 where there are none.
+/// Of these numbers, which are in order, the one that so many tenths of them don't exceed; 0 where there are none.
 fn tenths(behind: &[u64], tenths: usize) -> u64 {
     let rank = behind.len().saturating_mul(tenths).div_ceil(10);
     match behind.get(rank.saturating_sub(1)) {
@@ -27,10 +27,10 @@ fn tenths(behind: &[u64], tenths: usize) -> u64 {
 }
 
 /// By how many updates viewers are behind. It fails where memory is refused for them.
-fn lag_of(alloc: Global, glance: &Glance) -> Result<Lag, AllocError> {
-    let mut behind = Vec::with_capacity(alloc, glance.guests.len())?;
-    for guest in &glance.guests {
-        behind.push(glance.updates.saturating_sub(guest.shown))?;
+fn lag_of(alloc: Global, run_card: &RunCard) -> Result<Lag, AllocError> {
+    let mut behind = Vec::with_capacity(alloc, run_card.viewers.len())?;
+    for viewer in &run_card.viewers {
+        behind.push(run_card.updates.saturating_sub(viewer.shown))?;
     }
     behind.sort_unstable();
     let behind = behind.as_slice();
@@ -42,10 +42,10 @@ fn lag_of(alloc: Global, glance: &Glance) -> Result<Lag, AllocError> {
 }
 
 /// How many of those that have a place are of each role.
-fn viewers_of(glance: &Glance) -> ByRole {
+fn viewers_of(run_card: &RunCard) -> ByRole {
     let mut viewers = ByRole { full: 0, view: 0 };
-    for guest in &glance.guests {
-        match guest.comer.role {
+    for viewer in &run_card.viewers {
+        match viewer.comer.role {
             Role::Full => viewers.full = viewers.full.saturating_add(1),
             Role::View => viewers.view = viewers.view.saturating_add(1),
         }
@@ -53,29 +53,29 @@ fn viewers_of(glance: &Glance) -> ByRole {
     viewers
 }
 
-/// The numbers of a run with these places, whose viewers' input is watched so. It fails where memory is refused for
+/// The numbers of a run with these places and these counts of its viewers' input. It fails where memory is refused for
 /// them.
 pub(crate) fn counters_of<R: Wait>(
     rt: &R,
     alloc: Global,
-    glance: &Glance,
-    tally: &Tally,
+    run_card: &RunCard,
+    counts: &HappeningCounts,
     places: ByRole,
     input: &InputCounts,
 ) -> Result<Counters, AllocError> {
     Ok(Counters {
-        is_joined: glance.host.is_some(),
-        silent_seconds: glance.now.saturating_sub(glance.heard) / 1_000,
-        joins: tally.joins,
+        is_joined: run_card.host.is_some(),
+        silent_seconds: run_card.now.saturating_sub(run_card.heard) / 1_000,
+        joins: counts.joins,
         places,
-        viewers: viewers_of(glance),
-        came: tally.came,
-        refused: tally.refused,
-        updates: glance.updates,
-        answers: glance.totals.updates,
-        bytes: glance.totals.bytes,
+        viewers: viewers_of(run_card),
+        came: counts.came,
+        refused: counts.refused,
+        updates: run_card.updates,
+        answers: run_card.totals.updates,
+        bytes: run_card.totals.bytes,
         waiting: input.waiting(rt) as u64,
         dropped: input.dropped(),
-        lag: lag_of(alloc, glance)?,
+        lag: lag_of(alloc, run_card)?,
     })
 }

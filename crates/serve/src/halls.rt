@@ -5,6 +5,7 @@ ghost use Rattle.raster.specs.Size.{IsScreenSize};
 
 use crate::control::Control;
 use crate::entries::Entrances;
+use crate::incident::RunLog;
 use crate::meet::Met;
 use crate::rooms::{Hall, start_porter};
 use crate::runtime::Runtime;
@@ -67,7 +68,7 @@ impl Halls {
     }
 }
 
-/// Nobody is let in yet.
+/// Lets nobody in yet.
 fn hold<R: Wait>(rt: &R, entrances: &Entrances<'_>) {
     if let Some(full) = &entrances.full {
         full.lobby.hold(rt, true);
@@ -114,7 +115,7 @@ pub(crate) fn welcome<R, G>(
 ) -> Result<(Met<R>, Arc<Halls, Global>), Trouble>
 where
     R: Runtime,
-    G: Log + Clone + Drop + Send + 'static,
+    G: RunLog + Clone + Drop + Send + 'static,
     ensures size { IfOk result (λ both. IsScreenSize both.0.joined.w both.0.joined.h) }
     ensures untimed { IfOk result (λ both. (both.0.reader.has_deadline ≡ false) × (both.0.writer.has_deadline ≡ false)) }
     ensures again { supply.new.turns.again ≡ supply.old.turns.again }

@@ -12,8 +12,8 @@ use std::net::SocketAddr;
 /// The most letters that a name of the domain name system has (RFC 1035, section 2.3.4).
 const LONGEST_NAME: usize = 253;
 
-/// Whether a text may be a machine's name, which the system is asked for: letters, digits, dots, hyphens and
-/// underscores. A log's line may have such a text without marks round it.
+/// Whether a text may be a machine's name, whose addresses the system is asked for: it has only letters, digits, dots,
+/// hyphens and underscores. In a line of the log such a text needs no quotation marks.
 fn may_be_a_name(text: &str) -> bool {
     !text.is_empty() && text.len() <= LONGEST_NAME && text.bytes().all(is_of_a_name)
 }

@@ -1,5 +1,6 @@
 //! The log: a line an event, on standard error.
 
+use crate::incident::{Incident, gravity_of};
 use crate::quoted::Quoted;
 use byte_record::Record;
 use fault::Fault;
@@ -7,7 +8,7 @@ use jiff::Timestamp;
 use notify::standard_error_has_room;
 use roles::Role;
 use run_reports::{Gravity, Ledger, Paper, prefix_of};
-use run_traits::{Event, Log, Parting, PlaceId, Visit, Way};
+use run_traits::{Event, Parting, PlaceId, Visit, Way};
 use std::alloc::{AllocError, Global};
 use std::fmt;
 use std::fmt::{Display, Formatter};
@@ -16,7 +17,7 @@ use std::net::SocketAddr;
 use std::sync::{Arc, Mutex, Wait};
 use std::time::Clock;
 
-/// Standard error, of which clauses know what was written to it.
+/// Standard error. Clauses can say what was written to it.
 #[derive(Drop)]
 struct StandardError<R: Eprint + Drop> {
     rt: R,
@@ -82,30 +83,27 @@ impl<R: Eprint + Clock + Wait + Drop> Journal<R> {
             self.ledger.lock(&self.rt).write(line);
         }
     }
-}
 
-/// How grave it is that this happens.
-fn gravity_of(event: &Event<'_>) -> Gravity {
-    match event {
-        Event::HostOut { .. } => Gravity::Warning,
-        _ => Gravity::Plain,
-    }
-}
-
-impl<R: Eprint + Clock + Wait + Drop> Log for Journal<R> {
-    fn note(&self, event: &Event<'_>) {
+    /// Notes that this has happened, with a line if the log is kept.
+    pub(crate) fn note(&self, incident: &Incident<'_>) {
         if !self.is_kept {
             return;
         }
         let Ok(now) = Timestamp::now(&self.rt) else {
             return;
         };
-        let line = Line { event };
-        self.say(gravity_of(event), format_args!("{now:.3} {line}"));
+        let words = Words { incident };
+        self.say(gravity_of(incident), format_args!("{now:.3} {words}"));
     }
 }
 
 /// What a line says after its time.
+#[derive(Drop)]
+struct Words<'a> {
+    incident: &'a Incident<'a>,
+}
+
+/// What a line says of what happens at a door or at the host.
 #[derive(Drop)]
 struct Line<'a> {
     event: &'a Event<'a>,
@@ -202,7 +200,8 @@ fn viewer_out<W: fmt::Write>(
     )
 }
 
-/// Where the system has no address for a host's name, its text stands in the place of one.
+/// The line of a try to connect to a host. Where the system has no address for the host's name, the text that names it
+/// stands in the address's place.
 fn host_tried<W: fmt::Write>(
     f: &mut Formatter<W>,
     host: &str,
@@ -305,6 +304,24 @@ impl Display for Line<'_> {
                 };
                 let place = AddressOrDash { address: *address };
                 write!(f, "host-out address={place} why=\"{why}\"")
+            }
+        }
+    }
+}
+
+impl Display for Words<'_> {
+    fn fmt<W: fmt::Write>(&self, f: &mut Formatter<W>) -> fmt::Result {
+        match self.incident {
+            Incident::Noted(event) => {
+                let line = Line { event };
+                write!(f, "{line}")
+            }
+            Incident::MetricsListening(address) => {
+                write!(f, "listening for=metrics address={address}")
+            }
+            Incident::HostStopped(address, _cut) => {
+                let place = AddressOrDash { address: *address };
+                write!(f, "host-out address={place} why=\"stopped\"")
             }
         }
     }

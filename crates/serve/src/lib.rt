@@ -1,9 +1,9 @@
 //! `reflectord serve`: one VNC host after another, and up to 64 viewers over TCP.
 //!
-//! It listens, joins the first host, starts the threads of a run, and says what became of it: the exit status, and
-//! where it failed `fault N` on standard error with a line of plain words after it. A log says who comes and goes, if
-//! it is asked for. No clause says what a socket, a thread or a terminal does. Memory: for places, doors and lines of
-//! the log; the rest is `reflector`'s. Handles: Threads, Wait, Net.
+//! It listens, joins the first host, starts the threads of a run, and says what became of it: by the exit status, and
+//! where it failed also by `fault N` on standard error, with a line of plain words after it. A log says which hosts and
+//! viewers come and go, if it is asked for. No clause says what a socket, a thread or a terminal does. Memory: for
+//! places, doors and lines of the log; the rest is `reflector`'s. Handles: Threads, Wait, Net.
 #![tactic(auto)]
 
 mod advice;
@@ -14,6 +14,7 @@ mod counters;
 mod entries;
 mod halls;
 mod host_text;
+mod incident;
 mod journal;
 mod lifeline;
 mod meet;

@@ -6,7 +6,7 @@ use std::net::{Shutdown, TcpStream};
 use std::sync::{Arc, Condvar, Mutex, Wait};
 use std::time::{Clock, Duration};
 
-/// A run was asked to stop: only a lifeline that was cut gives one.
+/// What shows that a run was asked to stop: only a lifeline that was cut gives one.
 #[derive(Clone, Copy, Drop)]
 pub(crate) struct Cut {}
 
@@ -28,7 +28,7 @@ pub(crate) struct Lifeline {
 }
 
 impl Lifeline {
-    /// There is no host yet.
+    /// A lifeline that holds no host yet.
     pub(crate) fn new() -> Lifeline {
         Lifeline {
             line: Mutex::new(Line {

@@ -55,7 +55,8 @@ pub(crate) struct Reached<R: Clock + Drop> {
     pub(crate) writer: JoiningLink<R>,
 }
 
-/// One that wasn't: the last address that was tried, or none where the system had none for its name, and what it said.
+/// A host that wasn't connected to: the last address that was tried, or none where the system had none for its name,
+/// and what the system said.
 #[derive(Drop)]
 pub(crate) struct Missed {
     pub(crate) address: Option<SocketAddr>,
@@ -107,7 +108,7 @@ pub(crate) fn connect_by_text<R: Net<Stream = TcpStream> + Clock + Copy + Drop>(
     Err(missed)
 }
 
-/// Joins the host of this number over the ends of its connection. They have no deadline then.
+/// Joins the host of this number over the ends of its connection. After that they have no deadline.
 #[tactic(auto, using(crate::proofs::Sizes::is_screen))]
 pub(crate) fn join<R>(
     rt: &R,

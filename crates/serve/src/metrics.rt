@@ -9,6 +9,7 @@ ghost use Rattle.serve.specs.Ports.{AsksForAll, AsksForMetrics};
 use crate::bound::Ports;
 use crate::counters::{counters_of, places_by_role};
 use crate::entries::{Entrances, open_all};
+use crate::incident::{Incident, RunLog};
 use crate::run::run;
 use crate::runtime::{REQUEST_STACK, Runtime};
 use crate::sentry::Sentry;
@@ -19,7 +20,6 @@ use metrics_site::{Watched, answer_one};
 use metrics_text::ByRole;
 use reflector::InputCounts;
 use run_control::Entry;
-use run_traits::Log;
 use settings::{Settings, metrics_address_of};
 use std::alloc::{AllocGlobal, Global};
 use std::hash::RandomState;
@@ -37,12 +37,13 @@ const PATIENCE_SECONDS: u64 = 2;
 /// For how long nobody is answered after the system refused a connection, in milliseconds.
 const PAUSE_MILLIS: u64 = 100;
 
-/// Listens for machines that watch the run, if the settings have an address for that.
+/// Listens for machines that watch the run, if the settings have an address for that, and tells the log where.
 #[tactic(auto, using(crate::proofs::Asking::asks_for_metrics))]
-fn open_metrics<R: Net<Stream = TcpStream, Listener = TcpListener>>(
+fn open_metrics<R: Net<Stream = TcpStream, Listener = TcpListener>, G: RunLog>(
     rt: &R,
     settings: &Settings,
     ports: &mut Ports,
+    log: &G,
 ) -> Result<Option<TcpListener>, Trouble>
     ensures asked { AsksForMetrics settings.now ports.old ports.new }
     ensures heard { IfOk result (λ listener. is_some listener ≡ is_some settings.now.metrics) }
@@ -54,7 +55,10 @@ fn open_metrics<R: Net<Stream = TcpStream, Listener = TcpListener>>(
         return Err(Trouble::new(Stage::ReadMetrics, Fault::LinkFailed));
     };
     match ports.listen(rt, address) {
-        Ok(listener) => Ok(Some(listener)),
+        Ok(listener) => {
+            log.note_incident(&Incident::MetricsListening(address));
+            Ok(Some(listener))
+        }
         Err(error) => Err(Trouble::of(Stage::ListenMetrics, error)),
     }
 }
@@ -77,13 +81,13 @@ pub(crate) fn open_ports<'a, R, G>(
 ) -> Result<Opened<'a>, Trouble>
 where
     R: Net<Stream = TcpStream, Listener = TcpListener> + Files + AllocGlobal + Copy + Drop,
-    G: Log,
+    G: RunLog,
     ensures asked { AsksForAll settings.now ports.old ports.new }
     ensures both { IfOk result (λ opened. AreBoth settings.now opened.entrances.full opened.entrances.view) }
     ensures machines { IfOk result (λ opened. is_some opened.machines ≡ is_some settings.now.metrics) }
 {
     let entrances = open_all(rt, alloc, settings, ports, log)?;
-    let machines = open_metrics(rt, settings, ports)?;
+    let machines = open_metrics(rt, settings, ports, log)?;
     Ok(Opened {
         entrances,
         machines,
@@ -104,14 +108,14 @@ struct Sources<R: Eprint + Clock + Wait + Drop> {
 impl<R: Eprint + Clock + Wait + Drop> Sources<R> {
     /// The run as it stands now. It fails where memory is refused for that.
     fn look(&self, rt: &R) -> io::Result<Watched> {
-        let glance = self.desk.look(rt, self.alloc)?;
-        let tally = self.sentry.tally();
-        let counters = counters_of(rt, self.alloc, &glance, &tally, self.places, &self.input)?;
-        let is_drained = glance.entry != Entry::Open;
+        let run_card = self.desk.look(rt, self.alloc)?;
+        let counts = self.sentry.counts();
+        let counters = counters_of(rt, self.alloc, &run_card, &counts, self.places, &self.input)?;
+        let is_drained = run_card.entry != Entry::Open;
         Ok(Watched::new(self.alloc, counters, is_drained))
     }
 
-    /// Answers one who has connected.
+    /// Answers one machine that has connected.
     fn attend(&self, rt: &R, stream: &TcpStream) -> io::Result<()> {
         let patience = Duration::from_secs(PATIENCE_SECONDS);
         stream.set_read_timeout(Some(patience))?;
@@ -123,11 +127,12 @@ impl<R: Eprint + Clock + Wait + Drop> Sources<R> {
         answer_one(rt, self.alloc, self.keys, &watched, (stream, stream), until)
     }
 
-    /// Answers one after another. The names of fields are the peer's, so maps of them take secret keys.
+    /// Answers one machine after another. The peer chooses the names of fields, so maps of them are hashed with secret
+    /// keys.
     fn keep(&self, rt: &R, listener: &TcpListener) {
         for stream in listener.incoming() {
             match stream {
-                // Who asks in vain asks again.
+                // A machine that got no answer can ask again.
                 Ok(stream) => drop(self.attend(rt, &stream)),
                 Err(_) => thread::sleep(rt, Duration::from_millis(PAUSE_MILLIS)),
             }
@@ -181,8 +186,8 @@ where
     }
 }
 
-/// Reflects the hosts of the settings for those who come in by these ports, and answers machines meanwhile, if they are
-/// answered.
+/// Reflects the hosts of the settings for viewers that come in by these ports, and answers machines meanwhile, if there
+/// is a port for them.
 pub(crate) fn run_watched<R>(
     rt: R,
     alloc: Global,

@@ -7,12 +7,12 @@ use std::time::{Clock, Duration, Instant};
 /// The seconds after which hosts that still aren't there are noted again.
 const NOTED_AGAIN_SECONDS: u64 = 60;
 
-/// Each host has a try in a round. Noted are the tries of the first round since a host was joined, and then those of one
-/// round a minute, so that a host that is away for a night doesn't fill the log.
+/// In a round each host is tried once. The tries of the first round since a host was joined are noted, and then those
+/// of one round a minute, so that a host that is away for a night doesn't fill the log.
 #[derive(Drop)]
 pub(crate) struct NotedTries {
     is_noted: bool,
-    /// When the first try of the last round that was noted has failed.
+    /// When the first try of the last noted round failed.
     since: Option<Instant>,
 }
 

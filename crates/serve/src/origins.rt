@@ -16,7 +16,7 @@ fn is_part(text: &str) -> bool {
 }
 
 /// What comes behind the scheme of an origin, as `lecture.example:8443` of `https://lecture.example:8443`, or `None`
-/// where the text is none: a scheme, a host, and perhaps a port (RFC 6454, section 6.2).
+/// where the text is no origin. An origin has a scheme, a host, and perhaps a port (RFC 6454, section 6.2).
 fn authority_of(origin: &str) -> Option<&str> {
     let (scheme, authority) = origin.split_once("://")?;
     if is_part(scheme) && is_part(authority) {
@@ -42,7 +42,7 @@ fn host_text(alloc: Global, host: &str, port: u16) -> Result<String, AllocError>
     }
 }
 
-/// The hosts of a listener at this address, as browsers spell them that reach it by its address or are on its machine.
+/// The hosts of a listener at this address, spelled as by browsers that reach it by its address or are on its machine.
 fn own_hosts(alloc: Global, address: SocketAddr) -> Result<Vec<String>, AllocError> {
     let mut hosts = Vec::new(alloc);
     for host in ["127.0.0.1", "localhost", "[::1]"] {
@@ -61,7 +61,7 @@ fn origins_of(alloc: Global, hosts: &[String]) -> Result<Vec<String>, AllocError
     Ok(origins)
 }
 
-/// The same texts.
+/// Copies of these texts.
 fn copies(alloc: Global, texts: &[String]) -> Result<Vec<String>, AllocError>
     ensures { IfOk result (λ copies. map string_bytes copies.items ≡ map string_bytes texts.now) }
 {
@@ -82,8 +82,8 @@ fn add_hosts(alloc: Global, hosts: &mut Vec<String>, origins: &[String]) -> Resu
     Ok(())
 }
 
-/// Whom a web port at this address lets in: pages of these origins, or of its own where there are none of these. Its
-/// hosts are its own and those of the origins; no clause says which its own are.
+/// What a web port at this address lets in: pages of the origins that are named, or pages of its own origins where none
+/// are named. Its hosts are its own and those of the named origins. No clause says which its own are.
 pub(crate) fn admission_of(
     alloc: Global,
     address: SocketAddr,

@@ -10,12 +10,12 @@ pub(crate) trait CallsOff {
     /// What shows that a pause was called off.
     type Order: Drop;
 
-    /// That the pause is called off, if it is.
+    /// What shows that the pause is called off, if it is.
     fn order(&self) -> Option<Self::Order>;
 }
 
-/// Whoever has one has let so many seconds pass: only `after` and `after_unless` make it. That the system lets them
-/// pass no clause says.
+/// Whoever has one has let so many seconds pass: only `after` and `after_unless` make it. No clause says that the
+/// system lets them pass.
 #[derive(Debug, Drop)]
 pub struct Rested {
     seconds: u64,
@@ -30,7 +30,7 @@ impl Rested {
         Rested { seconds }
     }
 
-    /// Lets so many seconds pass, unless that is called off, for which it asks before each.
+    /// Lets so many seconds pass, unless the pause is called off. Before each second it looks whether it is.
     pub(crate) fn after_unless<R: Clock, C: CallsOff>(
         rt: &R,
         seconds: u64,

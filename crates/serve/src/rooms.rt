@@ -34,7 +34,7 @@ pub(crate) struct Rooms<R: Wait + Clock + Drop, G: Log + Drop> {
 }
 
 impl<R: Wait + Clock + Drop + Copy + Net, G: Log + Clone + Drop> Rooms<R, G> {
-    /// No place.
+    /// Rooms without any place.
     pub(crate) fn new(alloc: Global) -> Rooms<R, G>
         ensures { result.doors.items ≡ [] }
     {
@@ -44,7 +44,7 @@ impl<R: Wait + Clock + Drop + Copy + Net, G: Log + Clone + Drop> Rooms<R, G> {
         }
     }
 
-    /// One place more, at which its thread waits on this seat.
+    /// Adds a place, whose thread waits at this seat.
     #[tactic(auto, using(crate::proofs::Roles::one_more))]
     fn add(
         &mut self,
@@ -68,7 +68,7 @@ impl<R: Wait + Clock + Drop + Copy + Net, G: Log + Clone + Drop> Rooms<R, G> {
         Ok(())
     }
 
-    /// The places of viewers with full control, if there are some. They are the first.
+    /// Adds the places of viewers with full control, if there are some. They are the first.
     #[tactic(auto, using(crate::proofs::Counts::entry_places))]
     fn add_full(
         &mut self,
@@ -91,7 +91,7 @@ impl<R: Wait + Clock + Drop + Copy + Net, G: Log + Clone + Drop> Rooms<R, G> {
         }
     }
 
-    /// The places of one role more, as many as the entry's settings say.
+    /// Adds the places of one more role, as many as the entry's settings say.
     pub(crate) fn add_all(
         &mut self,
         rt: R,
@@ -137,7 +137,8 @@ pub(crate) fn rooms_of<R: Wait + Clock + Drop + Copy + Net, G: Log + Clone + Dro
     Ok(rooms)
 }
 
-/// Who is woken by news: the host's writer, who rests here, and all these seats. What is put is counted there.
+/// Everyone that is woken by news: the hosts' writer at its seat, and the places' threads at theirs. `count` counts
+/// what is put.
 pub(crate) fn everyone_of(
     alloc: Global,
     writer: &Arc<WriterSeat, Global>,
@@ -154,7 +155,7 @@ pub(crate) fn everyone_of(
     Ok(Arc::new(alloc, everyone)?)
 }
 
-/// What is left to do with a role's viewers while its port is kept: to send them away.
+/// What a run reaches of a role's viewers while its port is kept: it lets them in, and at the end sends them away.
 #[derive(Drop)]
 pub(crate) struct Hall {
     lobby: Arc<Lobby, Global>,
@@ -205,8 +206,8 @@ impl Hall {
         self.lobby.hold(rt, false);
     }
 
-    /// No more viewers come, and those that are there are waited for, though not for long. Whoever keeps the port sees
-    /// that soon.
+    /// No more viewers come, and those that are there are waited for, though not for long. The thread that keeps the
+    /// port sees that soon.
     pub(crate) fn close<R: Wait + Clock>(&self, rt: &R) {
         self.lobby.close(rt);
         self.lobby

@@ -11,6 +11,7 @@ use crate::control::Control;
 use crate::entries::Entrances;
 use crate::halls::welcome;
 use crate::host_text::texts_of;
+use crate::incident::RunLog;
 use crate::meet::Met;
 use crate::rooms::{Rooms, everyone_of, rooms_of};
 use crate::runtime::Runtime;
@@ -84,8 +85,8 @@ where
 }
 
 /// Starts all threads, with the places that the settings say, and waits until the last host has ended. It answers what
-/// reading or joining that was answered. Where the first host is to be tried again, no end of a host is the last. The
-/// first host's links have no deadline: a run of them would end ten seconds after it began.
+/// reading or joining that host answered. Where the first host is to be tried again, no end of a host is the last. The
+/// first host's links have no deadline; with one, the run would end ten seconds after it began.
 fn reflect<G, R>(
     rt: R,
     alloc: Global,
@@ -96,7 +97,7 @@ fn reflect<G, R>(
     writer: WriterReach,
 ) -> Result<(), Fault>
 where
-    G: Log + Drop + Send + 'static,
+    G: RunLog + Drop + Send + 'static,
     R: Runtime,
     requires size { IsScreenSize met.joined.w met.joined.h }
     requires untimed { (met.reader.has_deadline ≡ false) × (met.writer.has_deadline ≡ false) }
@@ -137,7 +138,7 @@ fn reflect_all<G, R>(
     log: &G,
 ) -> Result<(), Trouble>
 where
-    G: Log + Clone + Drop + Send + 'static,
+    G: RunLog + Clone + Drop + Send + 'static,
     R: Runtime,
     requires places { HasPlaces settings.now }
     requires doors { AreDoorsFor settings.now rooms.doors.items }
@@ -166,7 +167,7 @@ struct Common<G: Drop> {
 }
 
 impl<G: Log + Clone + Drop> Common<G> {
-    /// For a run into which viewers come by these entries, and whose input is watched there.
+    /// What is shared in a run into which viewers come by these entries, and whose input is counted at `input`.
     fn new(
         alloc: Global,
         entrances: &Entrances<'_>,
@@ -183,7 +184,7 @@ impl<G: Log + Clone + Drop> Common<G> {
 }
 
 /// Reflects the hosts of the settings, for viewers who come in by these entries, one for each role that is served,
-/// until the last host ends or an operator stops the run, if one can. It is read at `input` how much of theirs waits.
+/// until the last host ends or an operator stops the run, if one can. `input` tells how much of their input waits.
 #[tactic(auto, using(crate::proofs::Stopping::stopped))]
 pub(crate) fn run<G, R>(
     rt: R,
@@ -194,7 +195,7 @@ pub(crate) fn run<G, R>(
     log: &G,
 ) -> Result<(), Trouble>
 where
-    G: Log + Clone + Drop + Send + 'static,
+    G: RunLog + Clone + Drop + Send + 'static,
     R: Runtime + Files,
     requires places { HasPlaces settings.now }
     requires entries { AreBoth settings.now entrances.full entrances.view }

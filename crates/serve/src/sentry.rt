@@ -1,10 +1,11 @@
-//! Who is told what happens: the log, systemd, and whoever counts.
+//! The sentry notes what happens: in the log, for systemd, and in the numbers for machines.
 
+use crate::incident::{Incident, RunLog};
 use crate::journal::Journal;
 use crate::surroundings::Surroundings;
 use notify::Notifier;
 use roles::Role;
-use run_reports::{Happening, Notice, Ready, Tally, notice_text};
+use run_reports::{Happening, HappeningCounts, Notice, Ready, notice_text};
 use run_traits::{Event, Log};
 use settings::{Settings, places_of};
 use std::alloc::{AllocError, Global};
@@ -15,7 +16,7 @@ use std::time::Clock;
 /// How a run stands, and where systemd hears of it.
 #[derive(Drop)]
 struct Standing {
-    tally: Tally,
+    counts: HappeningCounts,
     /// Where the host is, if one is joined and the system tells.
     host: Option<SocketAddr>,
     places: u64,
@@ -24,7 +25,7 @@ struct Standing {
     notifier: Option<Notifier>,
 }
 
-/// Who is told what happens in a run.
+/// What is told what happens in a run, and notes it wherever it is needed.
 #[derive(Clone, Drop)]
 pub(crate) struct Sentry<R: Eprint + Clock + Wait + Drop> {
     rt: R,
@@ -33,8 +34,8 @@ pub(crate) struct Sentry<R: Eprint + Clock + Wait + Drop> {
     standing: Arc<Mutex<Standing>, Global>,
 }
 
-/// What is counted of an event, if it is.
-fn happening_of(event: &Event<'_>) -> Option<Happening> {
+/// What is counted of what happens at a door or at the host, if anything is.
+fn happening_at(event: &Event<'_>) -> Option<Happening> {
     match event {
         Event::Listening { .. } | Event::HostTried { .. } => None,
         Event::HostJoined { .. } => Some(Happening::Joined),
@@ -48,11 +49,20 @@ fn happening_of(event: &Event<'_>) -> Option<Happening> {
     }
 }
 
+/// What is counted of what happens in a run, if anything is.
+fn happening_of(incident: &Incident<'_>) -> Option<Happening> {
+    match incident {
+        Incident::Noted(event) => happening_at(event),
+        Incident::MetricsListening(_) => None,
+        Incident::HostStopped(..) => Some(Happening::HostLeft),
+    }
+}
+
 impl Standing {
-    /// Nothing has happened in a run of so many places.
+    /// How a run of so many places stands before anything has happened.
     fn new(places: u64, notifier: Option<Notifier>) -> Standing {
         Standing {
-            tally: Tally::new(),
+            counts: HappeningCounts::new(),
             host: None,
             places,
             is_ready: false,
@@ -73,11 +83,11 @@ impl Standing {
         let Ok(host) = host else {
             return;
         };
-        let is_news = self.tally.is_joined && !self.is_ready;
-        let viewers = self.tally.viewers;
+        let is_news = self.counts.is_joined && !self.is_ready;
+        let viewers = self.counts.viewers;
         let notice = Notice {
             ready: if is_news { Ready::Now } else { Ready::Unsaid },
-            host: if self.tally.is_joined {
+            host: if self.counts.is_joined {
                 Some(host.as_str())
             } else {
                 None
@@ -91,13 +101,13 @@ impl Standing {
         }
     }
 
-    /// This has happened.
-    fn note(&mut self, alloc: Global, event: &Event<'_>) {
-        let Some(happening) = happening_of(event) else {
+    /// Notes that this has happened: counts it, and tells systemd, unless it is that a viewer was refused.
+    fn note(&mut self, alloc: Global, incident: &Incident<'_>) {
+        let Some(happening) = happening_of(incident) else {
             return;
         };
-        self.tally.note(happening);
-        if let Event::HostJoined { address, .. } = event {
+        self.counts.note(happening);
+        if let Incident::Noted(Event::HostJoined { address, .. }) = incident {
             self.host = *address;
         }
         if !matches!(happening, Happening::Refused(_)) {
@@ -107,7 +117,7 @@ impl Standing {
 }
 
 impl<R: Eprint + Clock + Wait + Net + Copy + Drop> Sentry<R> {
-    /// For a run by these settings, in these surroundings. It fails where memory is refused for it.
+    /// A sentry for a run by these settings, in these surroundings. It fails where memory is refused for it.
     pub(crate) fn new(
         rt: R,
         alloc: Global,
@@ -133,20 +143,26 @@ impl<R: Eprint + Clock + Wait + Net + Copy + Drop> Sentry<R> {
 }
 
 impl<R: Eprint + Clock + Wait + Drop> Sentry<R> {
-    /// Standard error.
+    /// Standard error, with the log on it.
     pub(crate) fn journal(&self) -> &Journal<R> {
         &self.journal
     }
 
     /// What has happened until now.
-    pub(crate) fn tally(&self) -> Tally {
-        self.standing.lock(&self.rt).tally
+    pub(crate) fn counts(&self) -> HappeningCounts {
+        self.standing.lock(&self.rt).counts
     }
 }
 
 impl<R: Eprint + Clock + Wait + Drop> Log for Sentry<R> {
     fn note(&self, event: &Event<'_>) {
-        self.journal.note(event);
-        self.standing.lock(&self.rt).note(self.alloc, event);
+        self.note_incident(&Incident::Noted(event));
+    }
+}
+
+impl<R: Eprint + Clock + Wait + Drop> RunLog for Sentry<R> {
+    fn note_incident(&self, incident: &Incident<'_>) {
+        self.journal.note(incident);
+        self.standing.lock(&self.rt).note(self.alloc, incident);
     }
 }

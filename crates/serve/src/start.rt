@@ -19,7 +19,8 @@ use std::rt::Files;
 use std::sync::{Arc, Wait};
 use std::thread::Builder;
 
-/// What the requests of an operator reach, who is heard at this listener and may end the run by a new lifeline.
+/// What the requests of an operator reach. The operator is heard at this listener, and may end the run by a new
+/// lifeline.
 fn prepared(
     alloc: Global,
     listener: UnixListener,
@@ -37,8 +38,8 @@ fn prepared(
     })
 }
 
-/// Listens for an operator, if the settings have a path for it. These are the desk of the run, and whoever tells the
-/// host.
+/// Listens for an operator, if the settings have a path for it. Requests reach the desk of the run and the hosts'
+/// writer.
 pub(crate) fn control_of<R: Files + Net>(
     rt: &R,
     alloc: Global,
@@ -76,7 +77,7 @@ pub(crate) fn lifeline_of(
     }
 }
 
-/// The run has ended, which whoever stopped it waits for. It is whether an operator has.
+/// Notes that the run has ended: an operator that has stopped it waits for that. The result says whether one has.
 pub(crate) fn was_cut<R: Wait>(rt: &R, lifeline: &Option<Arc<Lifeline, Global>>) -> bool
     ensures { result ≡ true → is_some lifeline.now ≡ true }
 {

@@ -4,7 +4,7 @@ ghost use Rattle.std.specs.Prelude.{◌≡◌};
 ghost use Rattle.serve.specs.States.{IsHostReport, IsViewerReport, seconds_from};
 
 use crate::control::Reach;
-use connections::{Glance, Guest, HostCard};
+use connections::{HostCard, RunCard, ViewerCard};
 use run_control::Form;
 use run_state::{HostReport, Report, ViewerReport, state_json, state_text};
 use std::alloc::{AllocError, Global};
@@ -28,55 +28,60 @@ fn address_text(alloc: Global, address: Option<SocketAddr>) -> Result<String, Al
 }
 
 /// What is told of a viewer now, when so many updates were put.
-fn viewer_report<'a>(guest: &Guest, address: &'a str, updates: u64, now: u64) -> ViewerReport<'a>
-    ensures { IsViewerReport guest.now address.entry.now updates now result }
+fn viewer_report<'a>(
+    viewer: &ViewerCard,
+    address: &'a str,
+    updates: u64,
+    now: u64,
+) -> ViewerReport<'a>
+    ensures { IsViewerReport viewer.now address.entry.now updates now result }
 {
     ViewerReport {
-        place: guest.comer.place,
-        role: guest.comer.role,
+        place: viewer.comer.place,
+        role: viewer.comer.role,
         address,
-        seconds: seconds_from(guest.since, now),
-        updates: guest.updates,
-        bytes: guest.bytes,
-        behind: updates.saturating_sub(guest.shown),
-        is_asked: guest.is_asked,
+        seconds: seconds_from(viewer.since, now),
+        updates: viewer.updates,
+        bytes: viewer.bytes,
+        behind: updates.saturating_sub(viewer.shown),
+        is_asked: viewer.is_asked,
     }
 }
 
 /// What is told of the host.
-fn host_report<'a>(card: &'a HostCard, address: &'a str, glance: &Glance) -> HostReport<'a>
-    ensures { IsHostReport card.entry.now address.entry.now glance.entry.now result }
+fn host_report<'a>(card: &'a HostCard, address: &'a str, run_card: &RunCard) -> HostReport<'a>
+    ensures { IsHostReport card.entry.now address.entry.now run_card.entry.now result }
 {
     HostReport {
         address,
         name: card.name.as_str(),
         width: card.width,
         height: card.height,
-        seconds: seconds_from(card.since, glance.now),
-        silent: seconds_from(glance.heard, glance.now),
-        updates: glance.updates,
+        seconds: seconds_from(card.since, run_card.now),
+        silent: seconds_from(run_card.heard, run_card.now),
+        updates: run_card.updates,
     }
 }
 
 /// The addresses of all viewers, in their order.
-fn addresses_of(alloc: Global, guests: &[Guest]) -> Result<Vec<String>, AllocError> {
+fn addresses_of(alloc: Global, viewers: &[ViewerCard]) -> Result<Vec<String>, AllocError> {
     let mut addresses = Vec::new(alloc);
-    for guest in guests {
-        addresses.push(address_text(alloc, guest.comer.address)?)?;
+    for viewer in viewers {
+        addresses.push(address_text(alloc, viewer.comer.address)?)?;
     }
     Ok(addresses)
 }
 
-/// What is told of each viewer, which have these addresses, in their order.
+/// What is told of each viewer, in their order. These are their addresses, in the same order.
 fn viewers_of<'a>(
     alloc: Global,
-    glance: &Glance,
+    run_card: &RunCard,
     addresses: &'a [String],
 ) -> Result<Vec<ViewerReport<'a>>, AllocError> {
     let mut viewers = Vec::new(alloc);
-    for (guest, address) in glance.guests.iter().zip(addresses) {
+    for (viewer, address) in run_card.viewers.iter().zip(addresses) {
         let address = address.as_str();
-        viewers.push(viewer_report(guest, address, glance.updates, glance.now))?;
+        viewers.push(viewer_report(viewer, address, run_card.updates, run_card.now))?;
     }
     Ok(viewers)
 }
@@ -88,17 +93,17 @@ pub(crate) fn state<R: Wait + Clock>(
     form: Form,
 ) -> Result<String, AllocError> {
     let alloc = reach.alloc;
-    let glance = reach.control.desk.look(rt, alloc)?;
-    let addresses = addresses_of(alloc, glance.guests.as_slice())?;
-    let viewers = viewers_of(alloc, &glance, addresses.as_slice())?;
-    let host_address = match &glance.host {
+    let run_card = reach.control.desk.look(rt, alloc)?;
+    let addresses = addresses_of(alloc, run_card.viewers.as_slice())?;
+    let viewers = viewers_of(alloc, &run_card, addresses.as_slice())?;
+    let host_address = match &run_card.host {
         Some(card) => address_text(alloc, card.address)?,
         None => String::new(alloc),
     };
     let report = Report {
-        entry: glance.entry,
-        host: match &glance.host {
-            Some(card) => Some(host_report(card, host_address.as_str(), &glance)),
+        entry: run_card.entry,
+        host: match &run_card.host {
+            Some(card) => Some(host_report(card, host_address.as_str(), &run_card)),
             None => None,
         },
         full_places: reach.control.full_places,

@@ -4,6 +4,7 @@ ghost use Rattle.std.specs.Prelude.{◌≡◌, ◌⊎◌, ◌-◌, ◌≤◌, �
 ghost use Rattle.serve.specs.Turns.{endless, turn_of};
 ghost use Rattle.serve.specs.Stops.{IsOut};
 
+use crate::incident::{Incident, RunLog};
 use crate::lifeline::{Cut, Lifeline, Recall};
 use crate::meet::{Met, Missed, Reached, connect_by_text, join};
 use crate::noted_tries::NotedTries;
@@ -26,12 +27,12 @@ use std::time::Clock;
 #[derive(Drop)]
 pub(crate) struct Supply<
     R: Net<Stream = TcpStream, Listener = TcpListener> + Wait + Clock + Copy + Drop,
-    G: Log + Drop,
+    G: RunLog + Drop,
 > {
     rt: R,
     alloc: Global,
     log: G,
-    /// Where it is known which host is joined.
+    /// The desk, which knows the host that is joined.
     pub(crate) desk: Arc<Desk, Global>,
     /// The texts that say where the hosts are, by their numbers.
     texts: Vec<String>,
@@ -43,13 +44,13 @@ pub(crate) struct Supply<
     is_joined: bool,
     /// What an operator ends the run by, if one can.
     lifeline: Option<Arc<Lifeline, Global>>,
-    /// That the run was seen to be asked to stop.
+    /// What showed that the run was asked to stop, if it was seen.
     stopped: Option<Cut>,
 }
 
 impl<
     R: Net<Stream = TcpStream, Listener = TcpListener> + Wait + Clock + Copy + Drop,
-    G: Log + Drop,
+    G: RunLog + Drop,
 > Supply<R, G> {
     ghost use Rattle.raster.specs.Size.{IsScreenSize};
 
@@ -93,7 +94,7 @@ impl<
     }
 
     /// Meets the first host, which is joined then. Where it is to be tried again, hosts have their turns until one is
-    /// met, so that only want of memory and a screen that can't be shown are errors.
+    /// met, so that only a lack of memory and a screen that can't be shown are errors.
     pub(crate) fn first(&mut self) -> Result<Met<R>, Trouble>
         ensures size { IfOk result (λ met. IsScreenSize met.joined.w met.joined.h) }
         ensures untimed { IfOk result (λ met. (met.reader.has_deadline ≡ false) × (met.writer.has_deadline ≡ false)) }
@@ -141,7 +142,7 @@ impl<
         }
     }
 
-    /// Whether an operator has asked the run to stop.
+    /// What shows that an operator has asked the run to stop, if one has.
     fn is_cut(&self) -> Option<Cut>
         ensures { is_some result ≡ true → is_some self.now.lifeline ≡ true }
     {
@@ -234,12 +235,14 @@ impl<
         }
     }
 
-    /// Tells the log why a host was left, unless it is one that wasn't joined in a round that isn't told.
+    /// Tells the log why a host was left, unless it wasn't joined and the tries of its round aren't noted. Where the
+    /// run was asked to stop, that is the reason, however the host's link ended.
     fn note_out(&mut self, why: Result<(), Fault>)
         ensures turns { self.new.turns ≡ self.old.turns }
         ensures texts { self.new.texts ≡ self.old.texts }
         ensures lifeline { self.new.lifeline ≡ self.old.lifeline }
     {
+        let cut = self.is_cut();
         if let Some(lifeline) = &self.lifeline {
             lifeline.let_go(&self.rt);
         }
@@ -248,10 +251,15 @@ impl<
             self.noted_tries.fail(&self.rt);
         }
         if self.is_joined || self.noted_tries.is_noted() {
-            self.log.note(&Event::HostOut {
-                address: self.present,
-                why,
-            });
+            match cut {
+                Some(cut) => self
+                    .log
+                    .note_incident(&Incident::HostStopped(self.present, cut)),
+                None => self.log.note(&Event::HostOut {
+                    address: self.present,
+                    why,
+                }),
+            }
         }
     }
 
@@ -279,8 +287,8 @@ impl<
         }
     }
 
-    /// Whose turn it is next, by its number: that of the first host after its pause. It is nobody's where each host had
-    /// one, and the first is to have no other, or where the run is to stop.
+    /// The number of the host that has its turn next; the first host has it after its pause. There is none where each
+    /// host had its turn and the first is to have no other, or where the run is to stop.
     fn turn(&mut self) -> Option<usize>
         ensures value { (result ≡ turn_of self.old.turns) ⊎ (is_some self.new.stopped ≡ true) }
         ensures texts { self.new.texts ≡ self.old.texts }
@@ -300,7 +308,7 @@ impl<
 
 impl<
     R: Net<Stream = TcpStream, Listener = TcpListener> + Wait + Clock + Copy + Drop,
-    G: Log + Drop,
+    G: RunLog + Drop,
 > Hosts<JoiningLink<R>> for Supply<R, G> {
     ghost use Rattle.std.specs.Prelude.{◌≡◌, ◌⊎◌, ◌≤◌, ⊤, None, false};
     ghost use Rattle.connections.specs.Wires.{joining_state};
@@ -328,7 +336,7 @@ impl<
         unreachable!()
     }
 
-    /// The link that is read has no deadline any more. Where the system keeps its limit it is closed, so that the next
+    /// Lifts the deadline of the link that is read. Where the system refuses that, the link is closed, so that the next
     /// host has its turn.
     fn joined(&mut self, reader: &mut JoiningLink<R>, host: &Joined)
         ensures link { joining_state reader.new ≡ joining_state reader.old }

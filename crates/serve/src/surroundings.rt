@@ -33,7 +33,7 @@ fn is_journal<R: Env + Files + AllocGlobal>(rt: &R, alloc: Global) -> bool {
 }
 
 impl Surroundings {
-    /// What is told here. What memory is refused for isn't told.
+    /// What the environment tells here. What memory is refused for is left out.
     pub(crate) fn of<R: Env + Files + AllocGlobal>(rt: &R, alloc: Global) -> Surroundings {
         Surroundings {
             notify: env::var(rt, "NOTIFY_SOCKET").ok(),

@@ -5,8 +5,8 @@ ghost use Rattle.serve.specs.Turns.{following};
 
 use crate::rested::Rested;
 
-/// The hosts in their order, by number: 0 is the first, and those that follow on it have the next ones, of which some
-/// had their turn since the first had.
+/// The hosts in their order, by number: the first has 0, and those that follow on it have the next numbers. Some of
+/// these had their turn since the first had its turn.
 #[derive(Drop)]
 pub(crate) struct Turns {
     /// How many follow on the first.
@@ -54,7 +54,8 @@ impl Turns {
         self.again
     }
 
-    /// The first host, which has its turn again after its pause, and only then: the others have theirs again.
+    /// Gives the first host its turn again. The pause has been made before, as `Rested` shows. After it the others have
+    /// their turns again.
     pub(crate) fn begin_anew(&mut self, _rested: Rested) -> usize
         requires rested { self.old.again ≡ Some _rested.seconds }
         ensures value { result ≡ 0 }

@@ -44,8 +44,8 @@ fn read_files<R: Files + AllocGlobal + Copy + Drop>(
     }
 }
 
-/// The files that browsers are sent, which are read here, once, and shared by all web ports. An origin that is none is
-/// found out here, too.
+/// The files that browsers are sent. They are read here, once, and shared by all web ports. It fails here, too, where a
+/// text is no origin.
 pub(crate) fn files_of<R: Files + AllocGlobal + Copy + Drop>(
     rt: R,
     alloc: Global,
@@ -89,7 +89,7 @@ fn site_of(
     Ok(Arc::new(alloc, site)?)
 }
 
-/// Listens for the browsers of a role whose entry this is, if there is a port for them, and tells the log where.
+/// Listens for the browsers of this entry's role, if there is a port for them, and tells the log where.
 #[tactic(auto, using(crate::proofs::Asking::asks_for_web))]
 fn open_web<R: Net<Stream = TcpStream, Listener = TcpListener>, G: Log>(
     rt: &R,
@@ -196,7 +196,7 @@ pub(crate) fn open_webs<R: Net<Stream = TcpStream, Listener = TcpListener>, G: L
     Ok(web)
 }
 
-/// The same seats.
+/// The same seats, for one more owner.
 pub(crate) fn shared(
     alloc: Global,
     seats: &[Arc<Seat, Global>],

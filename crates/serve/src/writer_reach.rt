@@ -10,7 +10,7 @@ use std::sync::Arc;
 pub(crate) struct WriterReach {
     /// Where it rests.
     pub(crate) seat: Arc<WriterSeat, Global>,
-    /// What is read of the input that it takes.
+    /// The counts of the input that it takes.
     pub(crate) input: Arc<InputCounts, Global>,
 }
 

@@ -1,0 +1,36 @@
+//! What a run's log is told: what happens at the doors and at the host, and what only the run knows.
+
+ghost use Rattle.std.specs.Prelude.{◌≡◌};
+ghost use Rattle.serve.specs.Gravities.{gravity_for};
+
+use crate::lifeline::Cut;
+use run_reports::Gravity;
+use run_traits::{Event, Log};
+use std::net::SocketAddr;
+
+/// What happens in a run. An address that the system doesn't tell is missing.
+#[derive(Clone, Copy)]
+pub(crate) enum Incident<'a> {
+    /// This happens at a door or at the host.
+    Noted(&'a Event<'a>),
+    /// Machines that watch the run can connect here.
+    MetricsListening(SocketAddr),
+    /// The host was left because the run was asked to stop, as the `Cut` shows.
+    HostStopped(Option<SocketAddr>, Cut),
+}
+
+/// Who is told what happens in a run. No clause says what becomes of it.
+pub(crate) trait RunLog: Log {
+    /// Notes that this has happened.
+    fn note_incident(&self, incident: &Incident<'_>);
+}
+
+/// How grave it is that this happens: a host that has ended by itself, or wasn't joined, is a warning.
+pub(crate) fn gravity_of(incident: &Incident<'_>) -> Gravity
+    ensures { result ≡ gravity_for incident.now }
+{
+    match incident {
+        Incident::Noted(Event::HostOut { .. }) => Gravity::Warning,
+        _ => Gravity::Plain,
+    }
+}
