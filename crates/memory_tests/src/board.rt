@@ -6,7 +6,7 @@ use std::sync::Arc;
 use std::sync::atomic::{AtomicU64, Ordering};
 use std::thread;
 
-/// Whoever waits gives up after this many turns.
+/// A thread that waits gives up after this many turns.
 const TURNS: u64 = 10_000_000;
 
 /// What has happened in the run.
@@ -16,7 +16,7 @@ pub(crate) struct Board {
     pub(crate) told: AtomicU64,
     /// How many viewers came.
     came: AtomicU64,
-    /// How many viewers left as they are to.
+    /// How many viewers left as they should.
     pub(crate) left: AtomicU64,
 }
 
@@ -31,7 +31,7 @@ impl Board {
         Ok(Arc::new(alloc, board)?)
     }
 
-    /// The number of the viewer that comes, counted from 1. None where all came.
+    /// The number of the viewer that comes, counted from 1, or None where all came.
     pub(crate) fn enter(&self) -> Option<u64> {
         let before = self.came.fetch_add(1, Ordering::SeqCst);
         if before < VIEWERS {
@@ -46,7 +46,7 @@ impl Board {
         self.came.load(Ordering::SeqCst)
     }
 
-    /// The viewer that came last has left, as it is to or not.
+    /// Notes that the viewer that came last has left, and whether it left as it should.
     pub(crate) fn leave(&self, is_right: bool) {
         if is_right {
             let _ = self.left.fetch_add(1, Ordering::SeqCst);
@@ -54,7 +54,7 @@ impl Board {
     }
 }
 
-/// Waits until it has happened so often, or until the turns are used up.
+/// Waits until this count has reached the least, or until the turns are used up.
 pub(crate) fn hold(count: &AtomicU64, least: u64) {
     for _ in 0..TURNS {
         if least <= count.load(Ordering::SeqCst) {

@@ -2,12 +2,12 @@
 
 use std::alloc::{AllocError, Global};
 
-/// The address space has this many bytes, in at most so many blocks as the system gives.
+/// The address space has this many bytes. The system gives them in at most `BLOCKS` blocks.
 const SPACE: usize = 1 << 47;
 
 const BLOCKS: usize = 1 << 16;
 
-/// Smaller blocks are left to others: threads go on with these.
+/// Smaller blocks are left free: threads go on with these.
 const LEAST: usize = 1 << 25;
 
 /// All memory that could be had in large blocks, untouched. It is given back as this is dropped.
@@ -18,7 +18,7 @@ pub(crate) struct Hoard {
 
 impl Hoard {
     /// Takes blocks of ever smaller sizes, of each size until one is refused. After that this thread is refused each
-    /// further block of 32 MiB or more. None where blocks were never refused.
+    /// further block of 32 MiB or more. It answers None where blocks were never refused.
     pub(crate) fn new(alloc: Global) -> Result<Option<Hoard>, AllocError> {
         let blocks = Vec::with_capacity(alloc, BLOCKS)?;
         let mut hoard = Hoard { blocks };

@@ -19,7 +19,7 @@ use std::thread::Threads;
 use std::time::Clock;
 use std::{fs, thread};
 
-/// Where the system counts all memory that is asked for, taking it would take that of other processes.
+/// Fails where the system counts all memory that is asked for: there, taking it would take that of other processes.
 fn expect_loose_counting(rt: &HostRuntime) -> Result<(), Fail> {
     match fs::read_to_string(rt, "/proc/sys/vm/overcommit_memory") {
         Ok(text) if text.starts_with('2') => Err(Fail::new("the system counts memory strictly")),
@@ -66,7 +66,7 @@ where
     ended
 }
 
-/// Whether a run with this door ends well, and each viewer that comes to this port is given what it is to be given.
+/// Whether a run with this door ends well, and each viewer that comes to this port is given what it should be.
 fn serves<D, R>(
     rt: R,
     net: &HostRuntime,

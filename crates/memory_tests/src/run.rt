@@ -22,7 +22,7 @@ use std::thread::Threads;
 use std::time::Clock;
 use tally_word::{Naming, Opened};
 
-/// A run over a history that J names. It answers whether it ended well, after its place has.
+/// A run over a history that J names. It answers whether the run ended without a fault, after its place did.
 fn over<J, D, R>(
     rt: R,
     alloc: Global,
@@ -79,8 +79,8 @@ where
     Ok(result.is_ok())
 }
 
-/// Whether a run ends well whose one place serves the viewers of this door with full control. The host sends one
-/// update, and ends once all viewers have left.
+/// Whether a run whose one place serves the viewers of this door with full control ends without a fault. The host sends
+/// one update, and ends once all viewers have left.
 pub(crate) fn ends_well<D, R>(
     rt: R,
     alloc: Global,

@@ -13,7 +13,7 @@ use std::net::{SocketAddr, TcpStream};
 use std::sync::{Arc, Mutex, Wait};
 use std::time::{Clock, Duration};
 
-/// Nobody waits longer than this many seconds.
+/// No read waits longer than this many seconds.
 const LONG: u64 = 20;
 
 /// The version of both sides (RFC 6143, 7.1.1).
@@ -22,7 +22,7 @@ const VERSION: &[u8] = b"RFB 003.008\n";
 /// More bytes than a viewer is given.
 const MOST: usize = 128;
 
-/// A log that keeps memory from the second viewer while that has the place.
+/// A log that keeps memory from the second viewer while that viewer has the place.
 #[derive(Drop)]
 pub(crate) struct Keeper<R: Drop> {
     rt: R,
@@ -32,7 +32,7 @@ pub(crate) struct Keeper<R: Drop> {
 }
 
 impl<R: Wait + Drop> Keeper<R> {
-    /// It keeps nothing yet.
+    /// A log that keeps no memory yet.
     pub(crate) fn new(rt: R, alloc: Global, board: Arc<Board, Global>) -> Keeper<R> {
         Keeper {
             rt,
@@ -63,8 +63,8 @@ impl<R: Wait + Drop> Log for Keeper<R> {
     }
 }
 
-/// Whether a viewer is given what it is to be given. One that is let go has said its version and was told one, and
-/// nothing more, and the others leave.
+/// Whether a viewer is given what it should be. A viewer that is let go has sent its version and was sent one, and
+/// nothing more. The others leave by themselves.
 fn visits(net: &HostRuntime, address: SocketAddr, viewer: u64) -> io::Result<bool> {
     let mut stream = TcpStream::connect(net, address)?;
     stream.set_read_timeout(Some(Duration::from_secs(LONG)))?;
@@ -85,7 +85,7 @@ fn visits(net: &HostRuntime, address: SocketAddr, viewer: u64) -> io::Result<boo
 }
 
 /// The viewers come once the host was asked for more, and each once the place is free. Then the lobby is closed, which
-/// whoever keeps the port sees soon.
+/// the thread that keeps the port sees soon.
 pub(crate) fn come<R: Wait + Clock>(
     rt: &R,
     net: &HostRuntime,

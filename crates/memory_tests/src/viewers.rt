@@ -14,7 +14,7 @@ use std::sync::Arc;
 pub(crate) struct Viewers {
     pub(crate) alloc: Global,
     pub(crate) board: Arc<Board, Global>,
-    /// What is kept from the second one.
+    /// The memory that is kept from the second viewer.
     pub(crate) hoard: Option<Hoard>,
     pub(crate) count: PlaceCount,
 }
@@ -39,7 +39,7 @@ pub(crate) fn given_to(viewer: u64) -> &'static [u8] {
     }
 }
 
-/// Whether a viewer's visit ended as it is to.
+/// Whether a viewer's visit ended as it should.
 pub(crate) fn ends_right(viewer: u64, why: &Result<(), Fault>) -> bool {
     match viewer {
         2 => matches!(why, Err(Fault::Memory)),

@@ -1,4 +1,4 @@
-//! A link in memory whose peer waits for others.
+//! A link in memory whose peer waits for other peers.
 
 ghost use Rattle.std.specs.Prelude.{◌≡◌, IfOk};
 ghost use Rattle.run_traits.specs.Unused.{unused};
@@ -19,7 +19,7 @@ const GIVES: usize = 16;
 
 const ROOM: usize = 4096;
 
-/// How often a peer has nothing to say before it ends. It is given what it asked for meanwhile.
+/// How often a peer has nothing to send before it ends. It is given what it asked for meanwhile.
 const PAUSES: usize = 16;
 
 /// Who is at the other end.

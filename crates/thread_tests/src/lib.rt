@@ -1,5 +1,5 @@
 //! Tests of what runs on threads: the loops of a host and of a viewer, the pair and the shared screen, connections,
-//! whole runs, and `serve`. They stand in a crate of their own so that what they try is proved once.
+//! whole runs, and `serve`. They are in their own crate so that what they test is proved once.
 #![tactic(auto)]
 
 #[cfg(test)]

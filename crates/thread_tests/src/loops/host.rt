@@ -1,4 +1,4 @@
-//! Reading the host of a screen of 2 by 1, over links of every course.
+//! Reading the host of a screen of 2 by 1, over links that end or fail, and from bytes at fault.
 
 ghost use Rattle.std.specs.Prelude.{◌≡◌};
 
@@ -20,7 +20,7 @@ const UPDATE: [u8; 24] = [
     0, 0, 0, 1, 0, 0, 0, 0, 0, 2, 0, 1, 0, 0, 0, 0, 0, 0, 0xFF, 0, 0xFF, 0, 0, 0,
 ];
 
-/// The same, and then what is no message.
+/// That update, and then bytes that are no message.
 const UPDATE_AND_FAULT: [u8; 26] = [
     0, 0, 0, 1, 0, 0, 0, 0, 0, 2, 0, 1, 0, 0, 0, 0, 0, 0, 0xFF, 0, 0xFF, 0, 0, 0, 7, 2,
 ];
@@ -53,8 +53,8 @@ impl Puts for Limited {
     }
 }
 
-/// What a host sends over a link that answers so, the number of the fault to which reading it comes, or 0, and how many
-/// updates are there then; and whether these show red and blue, and tell a Bell and the text "Hi" as the second.
+/// What a host sends over a link that answers so; the number of the fault with which reading it ends, or 0; how many
+/// updates there are then; whether these show red and blue; and whether the second tells a Bell and the text "Hi".
 #[derive(Drop)]
 struct Case<'a> {
     name: &'a str,
@@ -67,7 +67,8 @@ struct Case<'a> {
     tells: bool,
 }
 
-/// Reads what a host sends over the link, from a black screen on, and puts it. The number of the fault, or 0.
+/// Reads what a host sends over the link, from a black screen on, and puts it. It answers the number of the fault, or
+/// 0.
 fn read<R: Wait>(
     rt: &R,
     alloc: Global,
@@ -84,8 +85,8 @@ fn read<R: Wait>(
     Ok(number(answer))
 }
 
-/// How many updates the screen shows, whether it is red and blue, and whether a Bell was told and the text "Hi" as the
-/// second.
+/// How many updates the screen shows, whether it is red and blue, and whether the second update told a Bell and the
+/// text "Hi".
 fn look_at(alloc: Global, screen: &mut PlainScreen) -> Result<(u64, bool, bool), Fault>
     requires { (screen.old.width ≡ 2) × (screen.old.height ≡ 1) }
     ensures { (screen.new.width ≡ 2) × (screen.new.height ≡ 1) }
@@ -125,7 +126,7 @@ fn goes_on_as_told<R: Wait>(
     )
 }
 
-/// Whether reading goes as told, of a screen to which nothing was put.
+/// Whether reading goes as told, with a screen to which nothing was put.
 fn goes_as_told<R: Wait>(rt: &R, alloc: Global, case: &Case<'_>) -> Result<bool, Fault> {
     let screen = PlainScreen::new(alloc, 2, 1)?;
     let mut publisher = Limited {
@@ -135,8 +136,8 @@ fn goes_as_told<R: Wait>(rt: &R, alloc: Global, case: &Case<'_>) -> Result<bool,
     goes_on_as_told(rt, alloc, case, &mut publisher)
 }
 
-/// Links that end where a host may end or inside its message, and bytes at fault: what was whole before stays. Bells
-/// and texts are put, and colour maps aren't. What was put before memory was refused stays.
+/// The links end where a host may end or inside its message, or the bytes are at fault: what was whole before stays.
+/// Bells and texts are put, and colour maps aren't. What was put before memory was refused stays.
 const CASES: [Case<'static>; 7] = [
     Case {
         name: "ends inside a message",
@@ -248,7 +249,7 @@ const BYTE_BY_BYTE: Case<'static> = Case {
     tells: false,
 };
 
-/// Links that end behind a message. The second puts to the screen of the first.
+/// The links end after a message. The second puts to the screen of the first.
 #[test]
 fn ends_behind_a_message(rt: HostRuntime) -> Result<(), Fail> {
     let screen = PlainScreen::new(rt.alloc(), 2, 1)?;

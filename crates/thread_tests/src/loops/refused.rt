@@ -39,8 +39,8 @@ impl<R: Wait + Drop> InputSink for RefusesTheSecond<R> {
 /// The letters a and b are pressed.
 const TWO_KEYS: [u8; 16] = [4, 1, 0, 0, 0, 0, 0, 0x61, 4, 1, 0, 0, 0, 0, 0, 0x62];
 
-/// The first goes on and the second is refused for good: then the sink is offered neither that once more nor a release,
-/// though it would take both.
+/// The first input is taken and the second is refused for good: then the sink is offered neither the second once more
+/// nor a release, though it would take both.
 #[test]
 fn nothing_is_offered_after_a_refusal(rt: HostRuntime) -> Result<(), Fail> {
     let alloc = rt.alloc();

@@ -43,7 +43,7 @@ impl<R: Wait + Drop> InputSink for FullFor<R> {
 struct Case<'a> {
     name: &'a str,
     role: Role,
-    // What it sends, and by which answers its link takes and gives, beside each how often.
+    // What it sends, and the answers by which its link takes and gives, each with how often it comes.
     sends: &'a [u8],
     takes: &'a [(Took, usize)],
     gives: &'a [(Gave, usize)],
@@ -58,7 +58,7 @@ struct Case<'a> {
     relayed: &'a [[u64; 4]],
 }
 
-/// Serves the viewer. Whether the answer and the rests are as told.
+/// Serves the viewer. It answers whether the answer and the rests are as told.
 fn serves<R: Wait + Drop>(
     rt: &R,
     alloc: Global,
@@ -94,8 +94,8 @@ fn full_for<R: Wait + Drop + Copy>(
     Ok((FullFor { sender, calls }, taker))
 }
 
-/// Whether these are the next inputs that were relayed, each as four numbers: 4, down and the key; 5, the mask and the
-/// position; 6, a text; nothing else.
+/// Whether these are the next inputs that were relayed, each as four numbers, of which the first is the kind: 4 with
+/// down and the key, 5 with the mask and the position, 6 for a text, and 0 where there is none.
 fn relays<R: Wait + Drop>(taker: &mut Taker<R>, wanted: &[[u64; 4]]) -> bool {
     let mut is_so = true;
     for input in wanted {
@@ -136,7 +136,7 @@ const INPUT_AND_ASK: [u8; 24] = [
     4, 1, 0, 0, 0, 0, 0, 0x61, 5, 3, 1, 2, 0, 7, 3, 0, 0, 0, 0, 0, 0, 2, 0, 1,
 ];
 
-/// What of it goes to the host, with the releases, and no more.
+/// What of it goes to the host, with the releases, and nothing else.
 const RELAYED: [[u64; 4]; 5] = [
     [4, 1, 0x61, 0],
     [5, 3, 258, 7],
@@ -208,7 +208,8 @@ const INPUT_IS_RELAYED: Case<'static> = Case {
     relayed: &RELAYED,
 };
 
-/// While the relay is full, three times, it rests; then the screen that was asked for after the input is given.
+/// While the relay is full, for three calls, the loop rests; then the screen that was asked for after the input is
+/// given.
 const INPUT_WAITS: Case<'static> = Case {
     name: "viewer input waits and is relayed",
     role: Role::Full,
@@ -238,8 +239,8 @@ const VIEW_IS_NOT_RELAYED: Case<'static> = Case {
     relayed: &NO_INPUT,
 };
 
-/// Where the link fails while an input waits, the input goes in before the release. It rests at most once for each call
-/// at which the relay is full.
+/// Where the link fails while an input waits, the input goes in before the release. The loop rests at most once for
+/// each call at which the relay is full.
 const WAITING_INPUT_GOES_IN_FIRST: Case<'static> = Case {
     name: "waiting input goes in first",
     role: Role::Full,
@@ -254,7 +255,7 @@ const WAITING_INPUT_GOES_IN_FIRST: Case<'static> = Case {
     relayed: &[[4, 1, 0x62, 0], [4, 0, 0x62, 0], [0; 4]],
 };
 
-/// A viewer that says nothing is let go once the flag is set, before its link fails.
+/// A viewer that sends nothing is let go once the flag is set, before its link fails.
 const SILENT_IS_LET_GO: Case<'static> = Case {
     name: "silent viewer is let go",
     role: Role::Full,
@@ -347,8 +348,8 @@ fn is_served_until<R: Wait + Drop + Copy>(
     goes_as_told(rt, alloc, &case)
 }
 
-/// A link that fails at any of its calls is `LinkFailed`. One that ends at any of its calls is `LinkEnded`, but between
-/// two messages with nothing unsent.
+/// A link that fails at any of its calls is `LinkFailed`. A link that ends at any of its calls is `LinkEnded`, except
+/// between two messages with nothing unsent.
 #[test]
 fn viewer_fails_or_ends_at_each_call(rt: HostRuntime) -> Result<(), Fail> {
     for call in 0..=CALLS {

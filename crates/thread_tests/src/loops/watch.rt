@@ -18,7 +18,7 @@ const AREA: Rect = Rect {
     h: 1,
 };
 
-/// More often than any flag is asked.
+/// This is more often than any flag is asked.
 pub(crate) const ALWAYS: u64 = 1 << 62;
 
 /// A flag that is set once it was asked this often, and a rest that counts how often it was rested on.
@@ -43,7 +43,7 @@ impl Rest for Watch {
     }
 }
 
-/// A flag that is set once it was asked this often, and a rest on which none rested.
+/// A flag that is set once it was asked this often, and a rest on which no thread has rested.
 pub(crate) fn make_watch(calls: u64) -> Watch {
     Watch {
         calls,
@@ -72,7 +72,7 @@ pub(crate) fn number(answer: Result<(), Fault>) -> u64 {
     }
 }
 
-/// Each of these as often as is said beside it, in order.
+/// Each of these items, as often as the number beside it says, in order.
 fn in_full<T: Copy + Drop>(alloc: Global, runs: &[(T, usize)]) -> Result<Vec<T>, Fault> {
     let mut full = Vec::new(alloc);
     for (answer, times) in runs {

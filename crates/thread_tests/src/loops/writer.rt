@@ -1,4 +1,4 @@
-//! What the host's writer tells.
+//! What the host's writer tells the host.
 
 ghost use Rattle.std.specs.Prelude.{◌≡◌, length};
 
@@ -76,7 +76,8 @@ struct Case<'a> {
     is_alone: bool,
     // The inputs in the relay, each with the number of its place.
     inputs: &'a [(usize, Sent)],
-    // By which answers its link gives, beside each how often, and how often the flag is asked before it is set.
+    // The answers by which its link gives, each with how often it comes, and how often the flag is asked before it is
+    // set.
     gives: &'a [(Gave, usize)],
     stop: u64,
     // The number of the fault, or 0, and how often the loop rests, at least and at most.
@@ -87,7 +88,7 @@ struct Case<'a> {
     dropped: (u64, u64),
 }
 
-/// Sends these inputs, each at its place. Whether all were taken.
+/// Sends these inputs, each at its place. It answers whether all were taken.
 fn send_all<R: Wait + Drop>(
     alloc: Global,
     senders: &mut [Sender<R>],
@@ -139,8 +140,8 @@ impl DropCount for Untold {
     }
 }
 
-/// Tells the host what was relayed. Whether the answer, the rests and what doesn't pass are as told, of each place and
-/// of both.
+/// Tells the host what was relayed. It answers whether the answer, the rests and what doesn't pass are as told, of each
+/// place and of both.
 fn tells<R: Wait + Drop>(
     rt: &R,
     alloc: Global,
@@ -189,7 +190,7 @@ fn goes_as_told<R: Wait + Drop + Copy>(
 /// The letter a is pressed.
 const PRESS_A: Sent = Sent::Key(true, 0x61);
 
-/// The same in bytes; and what is new of the whole screen is asked for.
+/// That press in bytes, and a request for what is new of the whole screen.
 const PRESS_AND_REQUEST: [u8; 18] = [4, 1, 0, 0, 0, 0, 0, 0x61, 3, 1, 0, 0, 0, 0, 0, 2, 0, 1];
 
 /// One input in the relay and one raise give that input's bytes and one request; the loop ends at the tenth look.
@@ -228,8 +229,8 @@ const EACH_FORM: Case<'static> = Case {
     dropped: (0, 0),
 };
 
-/// While the first place has a button down, nothing of the second passes: the host is told the stroke whole. It rests
-/// at most once a look.
+/// While the first place has a button down, nothing of the second passes: the host is told the stroke whole. The loop
+/// rests at most once a look.
 const STROKES_ARE_WHOLE: Case<'static> = Case {
     name: "writer keeps strokes whole",
     is_alone: false,
@@ -251,7 +252,7 @@ const STROKES_ARE_WHOLE: Case<'static> = Case {
     dropped: (0, 2),
 };
 
-/// A host that takes three bytes of an input and then nothing isn't waited for once the flag is set.
+/// The writer doesn't wait, once the flag is set, for a host that took three bytes of an input and then nothing.
 const STALLED_IS_LET_GO: Case<'static> = Case {
     name: "stalled host is let go",
     is_alone: true,
@@ -282,8 +283,8 @@ fn host_is_told(rt: HostRuntime) -> Result<(), Fail> {
     Ok(())
 }
 
-/// A link that fails at any of its 18 calls is `LinkFailed`. Where it ends before the first byte of the input or of the
-/// request it is well, and inside them it is `LinkEnded`. The bytes before that call are told.
+/// A link that fails at any of its 18 calls is `LinkFailed`. Where the link ends before the first byte of the input or
+/// of the request there is no fault, and inside them it is `LinkEnded`. The bytes before that call are told.
 #[test]
 fn writer_fails_or_ends_at_each_call(rt: HostRuntime) -> Result<(), Fail> {
     for count in 0..=18 {

@@ -1,5 +1,4 @@
-//! Rings, and waits that they end. A ring that is lost is seen after ten seconds, since the viewer's handshake is late
-//! by then.
+//! Rings end waits. A ring that was lost shows after ten seconds, since the viewer's handshake is late by then.
 
 use connections::{Everyone, Seat, WriterSeat};
 use link::{Link, Rest, StopFlag, Took};
@@ -31,8 +30,8 @@ pub(crate) fn keeps_early_rings<R: Wait, L: Link>(rt: &R, seat: &Seat, link: &mu
     [first, rung, roused] == [Took::Nothing; 3]
 }
 
-/// Looks at the number after each take, until the flag is set. False where a take failed, or the number hadn't risen to
-/// the last.
+/// Looks at the number after each take, until the flag is set. It answers false where a take failed, or the number
+/// hadn't risen to the last.
 fn follows<L: Link, F: StopFlag>(
     link: &mut L,
     stop: &F,

@@ -1,4 +1,4 @@
-//! Viewers who come in, are turned away, and leave.
+//! Viewers that come in, are turned away, and leave.
 
 use crate::over_tcp::sockets::{VERSION, come, listen, make_seat};
 use connections::{Desk, Lobby, RoleListener, TcpDoor, TcpEntry, TcpPorter};
@@ -16,10 +16,10 @@ use std::{io, thread};
 /// Version 3.8, no security type, and the reason with its length (RFC 6143, 7.1.1 and 7.1.2).
 const REFUSAL: &[u8] = b"RFB 003.008\n\x00\x00\x00\x00\x14all places are taken";
 
-/// The version, and a byte behind it.
+/// The version, and a byte after it.
 const GREETING: &[u8] = b"RFB 003.008\nR";
 
-/// Greets each viewer with its version and a byte, and then serves it until it ends. It answers how many came.
+/// Greets each viewer with its version and a byte, and then serves it until it ends. It answers how many viewers came.
 fn greets<D: Door>(door: &mut D) -> u64 {
     let mut into = [0u8; 64];
     for count in 0..1_000u64 {
@@ -42,22 +42,23 @@ fn greets<D: Door>(door: &mut D) -> u64 {
     u64::MAX
 }
 
-/// The first this many bytes that one who comes is told. Of a refusal all bytes are read.
+/// Connects a viewer, and reads the first bytes that it is sent, as many as `told` has. All bytes of a refusal are
+/// read.
 fn comes(rt: &HostRuntime, address: SocketAddr, told: &mut [u8]) -> io::Result<TcpStream> {
     let mut viewer = come(rt, address)?;
     viewer.read_exact(told)?;
     Ok(viewer)
 }
 
-/// Whether one who comes finds a place. Whoever comes before the place is seen to be free is told a reason behind the
-/// version.
+/// Whether a viewer that comes finds a place. A viewer that comes before the place is seen to be free is told a reason
+/// after the version.
 fn is_let_in(rt: &HostRuntime, address: SocketAddr) -> io::Result<bool> {
     let mut told = [0u8; 13];
     let _viewer = comes(rt, address, &mut told)?;
     Ok(told.as_slice() == GREETING)
 }
 
-/// One comes in, a second is told why not, and once the first has left there is a place again.
+/// One viewer comes in, a second is told why it can't, and once the first has left there is a place again.
 fn visits(rt: &HostRuntime, address: SocketAddr) -> io::Result<bool> {
     let mut greeting = [0u8; 13];
     let first = comes(rt, address, &mut greeting)?;
@@ -76,7 +77,7 @@ fn visits(rt: &HostRuntime, address: SocketAddr) -> io::Result<bool> {
     Ok(false)
 }
 
-/// Whether the visits are right. Then the lobby is closed, which whoever keeps the port sees soon.
+/// Whether the visits are right. Then the lobby is closed, which the thread that keeps the port sees soon.
 fn visits_and_closes<R: Wait>(
     rt: &R,
     net: &HostRuntime,
@@ -88,7 +89,7 @@ fn visits_and_closes<R: Wait>(
     is_right
 }
 
-/// How many came to the door while the port was kept.
+/// How many viewers came to the door while the port was kept.
 fn keeps<R: Threads + Wait + Clock + Send + Sync, D: Door + Send>(
     rt: &R,
     porter: TcpPorter,
@@ -98,7 +99,7 @@ fn keeps<R: Threads + Wait + Clock + Send + Sync, D: Door + Send>(
     came
 }
 
-/// How many came to the door while the port was kept, and whether each was told what it should be.
+/// How many viewers came to the door while the port was kept, and whether each was told what it should be.
 fn serves<R: Threads + Wait + Clock + Send + Sync, D: Door + Send>(
     rt: &R,
     net: &HostRuntime,
@@ -115,7 +116,7 @@ fn serves<R: Threads + Wait + Clock + Send + Sync, D: Door + Send>(
     (came, is_right)
 }
 
-/// The same of a new lobby of one place.
+/// What `serves` answers with a new lobby of one place.
 fn opens<R: Threads + Wait + Clock + Copy + Drop + Send + Sync>(
     rt: R,
     net: &HostRuntime,

@@ -8,7 +8,7 @@ use std::io::{Read, Write};
 use std::net::TcpStream;
 use std::test::*;
 
-/// Whether what a host sends is taken, what is given comes to it, and its end is seen.
+/// Whether what a host sends is taken, what is given reaches it, and its end is seen.
 fn is_read_and_told<L: Link>(
     reader: &mut L,
     writer: &mut L,
@@ -39,7 +39,7 @@ fn is_answered_when_full<L: Link>(writer: &mut L) -> bool {
     false
 }
 
-/// Whether one of these is so of the two ends of a new connection.
+/// Whether one of these is so for the two ends of a new connection.
 fn is_right(rt: &HostRuntime, is_full: bool) -> io::Result<bool> {
     let (far, near) = pair(rt)?;
     let (mut reader, mut writer) = HostLink::pair(near)?;
@@ -50,7 +50,7 @@ fn is_right(rt: &HostRuntime, is_full: bool) -> io::Result<bool> {
     }
 }
 
-/// A host is read and told; and one that takes nothing is answered Nothing, each time after a second, so that the
+/// A host is read and told. Where a host takes nothing the link answers Nothing, each time after a second, so that the
 /// writer sees whether it is to end.
 #[test]
 fn host_is_read_and_told_until_full(rt: HostRuntime) -> Result<(), Fail> {

@@ -18,7 +18,7 @@ use std::time::Clock;
 /// What is tried over a new link.
 #[derive(Clone, Copy)]
 enum Trial {
-    /// A ring before a wait ends it, and a rouse too.
+    /// A ring before a wait ends the wait, and so does a rouse.
     EarlyRing,
     /// No ring is lost, and a stop ends each wait.
     RingsAndStop,
@@ -28,9 +28,10 @@ enum Trial {
     SmallSlices,
     /// A peer that is closed is an end.
     ClosedPeer,
-    /// A viewer that takes nothing is answered Nothing, and what was given in slices of this length waits for it.
+    /// Where a viewer takes nothing the link answers Nothing, and what was given in slices of this length waits for the
+    /// viewer.
     NoRoom(usize),
-    /// A wait for room ends, also where nothing is kept: else the viewer's read would fail.
+    /// A wait for room ends, even where nothing is kept: otherwise the viewer's read would fail.
     LongAnswer,
 }
 
@@ -85,7 +86,7 @@ fn is_right<R: Threads + Wait + Clock + Copy + Drop + Send + Sync>(
     plays(&rt, net.alloc(), trial, &seat, &mut link, far)
 }
 
-/// Each trial comes out right, over a link of its own. One that doesn't is named.
+/// Each trial comes out right, over its own link. A trial that doesn't is named.
 #[test]
 fn each_trial_is_right(rt: HostRuntime) -> Result<(), Fail> {
     for (name, trial) in TRIALS {

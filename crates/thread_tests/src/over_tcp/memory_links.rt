@@ -46,7 +46,8 @@ fn socket(
     Ok(MemorySocket::new(alloc, all, sends, receives))
 }
 
-/// Gives all of these bytes, and sends on what is kept. False where the link fails, or gives nothing for long.
+/// Gives all of these bytes, and sends on what is kept. It answers false where the link fails, or gives nothing for
+/// long.
 fn gives_all<L: Link>(link: &mut L, bytes: &[u8]) -> bool {
     let mut left = bytes;
     for _ in 0..100_000 {
@@ -76,7 +77,7 @@ fn narrow(alloc: Global) -> io::Result<Vec<Turn>> {
     ]?)
 }
 
-/// Whether a flush leaves just so many bytes of the version sent.
+/// Whether a flush leaves exactly this many bytes of the version sent.
 fn has_sent<R: Wait + Clock + Drop>(
     link: &mut ViewerTcpLink<R, MemorySocket>,
     count: usize,
@@ -109,8 +110,8 @@ fn viewer_is_given_each_byte_in_order_once(rt: HostRuntime) -> Result<(), Fail> 
     Ok(())
 }
 
-/// Whether a large slice that is given goes out behind what is kept, in turns: some of what is kept, the rest of it,
-/// and ten bytes of the slice.
+/// Whether a large slice that is given goes out after what is kept, in turns: some of what is kept, the rest of it, and
+/// ten bytes of the slice.
 fn sends_behind<R: Wait + Clock + Drop>(
     link: &mut ViewerTcpLink<R, MemorySocket>,
     bytes: &[u8; LARGE],
@@ -142,7 +143,7 @@ fn large_slice_goes_out_with_what_is_kept(rt: HostRuntime) -> Result<(), Fail> {
     Ok(())
 }
 
-/// Whether the next take brings just these bytes.
+/// Whether the next take brings exactly these bytes.
 fn brings<L: Link>(link: &mut L, bytes: &[u8]) -> bool {
     let mut into = [0u8; 64];
     match link.take(&mut into) {
@@ -218,7 +219,7 @@ const PARTINGS: [(ErrorKind, Parting); 4] = [
     (ErrorKind::HostUnreachable, Parting::Broken),
 ];
 
-/// A link says how its connection stands, whether the system said so as it read or as it wrote.
+/// A link says how its connection stands, whether the system reported that as the link read or as it wrote.
 #[test]
 fn viewers_link_says_how_it_stands(rt: HostRuntime) -> Result<(), Fail> {
     let alloc = rt.alloc();

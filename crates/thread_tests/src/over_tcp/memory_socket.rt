@@ -8,7 +8,7 @@ use std::io;
 use std::io::ErrorKind;
 use std::time::Duration;
 
-/// What one send or receive comes to.
+/// What one send or receive does.
 #[derive(Clone, Copy)]
 pub(crate) enum Turn {
     /// This many bytes go at most.

@@ -1,4 +1,4 @@
-//! Who comes to a port and isn't a viewer yet: some leave, some are silent, and some come through a proxy.
+//! Newcomers at a port, which aren't viewers yet: some leave, some are silent, and some come through a proxy.
 
 use crate::over_tcp::sockets::{VERSION, come, connect, listen, make_seat};
 use connections::{Desk, Lobby, MOST_GUESTS, RoleListener, TcpDoor, TcpEntry, TcpPorter};
@@ -24,7 +24,7 @@ const LOCAL: &[u8] = b"\r\n\r\n\0\r\nQUIT\n\x20\0\0\0";
 /// More than a newcomer may take, in milliseconds.
 const TOO_LONG: u64 = 10_000;
 
-/// After so long who says nothing makes room for others, in milliseconds.
+/// A newcomer that sends nothing makes room for others after this time, in milliseconds.
 const A_SECOND: u64 = 1_000;
 
 /// A runtime whose clock stands until it is put forward.
@@ -50,7 +50,8 @@ impl<R: Clock + Drop> Clock for ByHand<'_, R> {
     }
 }
 
-/// A log that counts what it is told, and who lacked a header, and keeps the address of the viewer that came last.
+/// A log that counts the events that it is told and the newcomers that lacked a header, and keeps the address of the
+/// viewer that came last.
 #[derive(Drop)]
 struct Notebook<R: Drop> {
     rt: R,
@@ -83,12 +84,12 @@ struct House<'a, R: Drop> {
 }
 
 impl<R: Wait + Drop> House<'_, R> {
-    /// Whether nobody is at the place, and the log was told so much.
+    /// Whether no viewer is at the place, and the log was told this many events.
     fn is_quiet(&self, count: u64) -> bool {
         self.lobby.desk().free(&self.log.rt) == 1 && self.log.count.load(Ordering::SeqCst) == count
     }
 
-    /// Whether so many who lacked a header were told of.
+    /// Whether the log was told of this many newcomers that lacked a header.
     fn have_lacked(&self, count: u64) -> bool {
         self.log.lacking.load(Ordering::SeqCst) == count
     }
@@ -103,7 +104,7 @@ impl<R: Wait + Drop> House<'_, R> {
         Ok(viewer)
     }
 
-    /// Whether the log was told last that one came from there.
+    /// Whether the log was told last that a viewer came from there.
     fn has_come(&self, address: SocketAddr) -> bool {
         *self.log.last.lock(&self.log.rt) == Some(address)
     }
@@ -129,14 +130,14 @@ fn greets<D: Door>(door: &mut D) -> u64 {
     u64::MAX
 }
 
-/// Whether this one is greeted as a viewer.
+/// Whether this newcomer is greeted as a viewer.
 fn is_greeted(viewer: &mut TcpStream) -> io::Result<bool> {
     let mut told = [0u8; 13];
     viewer.read_exact(&mut told)?;
     Ok(told == *b"RFB 003.008\nR")
 }
 
-/// Whether this one is let go without a further byte.
+/// Whether this newcomer is let go without a further byte.
 fn is_let_go(viewer: &mut TcpStream) -> bool {
     match viewer.read(&mut [0]) {
         Ok(count) => count == 0,
@@ -144,8 +145,8 @@ fn is_let_go(viewer: &mut TcpStream) -> bool {
     }
 }
 
-/// Whether those who leave before their own version is whole take no place and write no line, and a silent one is let
-/// go once its time is over; then one that says its version is greeted.
+/// Whether newcomers that leave before their own version is whole take no place and write no line, and a silent one is
+/// let go once its time is over; then one that sends its version is greeted.
 fn checks_leave_nothing<R: Wait + Drop>(house: &House<'_, R>) -> io::Result<bool> {
     let mut told = [0u8; 12];
     let mut check = connect(house.net, house.address)?;
@@ -166,8 +167,8 @@ fn checks_leave_nothing<R: Wait + Drop>(house: &House<'_, R>) -> io::Result<bool
     Ok(is_told && is_quiet && is_gone && is_greeted && house.has_come(viewer.local_addr()?))
 }
 
-/// Whether one who comes through the proxy is named by its header, and the proxy that speaks for itself by its own
-/// address. What is no header is refused without a version, and half of one is let go in time.
+/// Whether a newcomer through the proxy is named by its header, and a proxy that speaks for itself by its own address.
+/// Bytes that are no header are refused without a version, and a newcomer with half a header is let go in time.
 fn headers_are_believed<R: Wait + Clock + Drop>(house: &House<'_, R>) -> io::Result<bool> {
     let mut liar = connect(house.net, house.address)?;
     liar.write_all(VERSION)?;
@@ -180,9 +181,9 @@ fn headers_are_believed<R: Wait + Clock + Drop>(house: &House<'_, R>) -> io::Res
     let is_greeted_first = is_greeted(&mut viewer)?;
     let named = SocketAddr::from((Ipv4Addr::new(192, 0, 2, 7), 4711));
     let is_named = house.has_come(named);
-    let glance = house.lobby.desk().look(&house.log.rt, house.net.alloc())?;
-    let is_seen = match glance.guests.first() {
-        Some(guest) => guest.comer.address == Some(named),
+    let run_card = house.lobby.desk().look(&house.log.rt, house.net.alloc())?;
+    let is_seen = match run_card.viewers.first() {
+        Some(viewer) => viewer.comer.address == Some(named),
         None => false,
     };
     drop(viewer);
@@ -204,7 +205,7 @@ fn header_of_another_is_no_header<R: Wait + Drop>(house: &House<'_, R>) -> io::R
     Ok(is_greeted(&mut viewer)? && house.has_come(viewer.local_addr()?))
 }
 
-/// Whether one is greeted for whom those who say nothing have left no place, once they have been there for a second.
+/// Whether a newcomer is greeted though silent ones fill the port, once those have been there for a second.
 fn silent_ones_make_room<R: Wait + Drop>(house: &House<'_, R>) -> io::Result<bool> {
     let mut silent = Vec::new(house.net.alloc());
     for _ in 0..MOST_GUESTS {
@@ -218,7 +219,7 @@ fn silent_ones_make_room<R: Wait + Drop>(house: &House<'_, R>) -> io::Result<boo
     Ok(is_greeted(&mut viewer)? && house.has_come(viewer.local_addr()?))
 }
 
-/// Who comes to a house.
+/// The newcomers that come to a house.
 #[derive(Clone, Copy)]
 enum Visitors {
     Checks,
@@ -227,7 +228,7 @@ enum Visitors {
     Strangers,
 }
 
-/// Whether these visitors are met as they are to be. Then the lobby is closed.
+/// Whether these visitors are met as they should be. Then the lobby is closed.
 fn visits<R: Wait + Clock + Drop>(house: &House<'_, R>, visitors: Visitors) -> bool {
     let is_right = match visitors {
         Visitors::Checks => checks_leave_nothing(house),
@@ -239,7 +240,7 @@ fn visits<R: Wait + Clock + Drop>(house: &House<'_, R>, visitors: Visitors) -> b
     is_right.unwrap_or(false)
 }
 
-/// Whether they are while the port and its place are kept.
+/// Whether these visitors are met so while the port and its place are kept.
 fn serves<R, D>(
     rt: R,
     hand: &ByHand<'_, R>,
@@ -260,7 +261,7 @@ where
     is_right
 }
 
-/// The same of a new port, where this proxy is believed.
+/// What `serves` answers with a new port, at which this proxy is believed.
 fn opens<R>(rt: R, net: &HostRuntime, proxy: Option<IpAddr>, visitors: Visitors) -> io::Result<bool>
 where
     R: Threads + Wait + Clock + Copy + Drop + Send + Sync,
@@ -307,7 +308,7 @@ where
 }
 
 #[test]
-fn who_leaves_before_his_version_leaves_nothing(rt: HostRuntime) -> Result<(), Fail> {
+fn a_newcomer_leaving_before_its_version_leaves_nothing(rt: HostRuntime) -> Result<(), Fail> {
     assert!(rt; opens(rt, &rt, None, Visitors::Checks)?);
     Ok(())
 }

@@ -1,4 +1,4 @@
-//! What an operator asks while viewers come: nobody is let in, one is sent away, and all are.
+//! What an operator asks while viewers come: no viewer is let in, one is sent away, and all are.
 
 use crate::over_tcp::sockets::{VERSION, come, listen, make_seat};
 use connections::{Desk, Lobby, RoleListener, TcpDoor, TcpEntry, TcpPorter};
@@ -14,11 +14,11 @@ use std::thread::Threads;
 use std::time::Clock;
 use std::{io, thread};
 
-/// What one is told while nobody is let in: version 3.8, no security type, and the reason with its length (RFC 6143,
-/// 7.1.1 and 7.1.2).
+/// What a viewer is told while no viewer is let in: version 3.8, no security type, and the reason with its length (RFC
+/// 6143, 7.1.1 and 7.1.2).
 const NO_ENTRY: &[u8] = b"RFB 003.008\n\0\0\0\0\x13no viewer is let in";
 
-/// What the parts of the evening share.
+/// What the parts of this test share.
 #[derive(Drop)]
 struct House<'a> {
     net: &'a HostRuntime,
@@ -27,8 +27,8 @@ struct House<'a> {
     desk: &'a Desk,
 }
 
-/// Greets each viewer with its version and a byte, and then serves it until it ends. It answers how many came, and how
-/// many of their links ended.
+/// Greets each viewer with its version and a byte, and then serves it until it ends. It answers how many viewers came,
+/// and how many of their links ended.
 fn greets<D: Door>(door: &mut D) -> (u64, u64) {
     let mut into = [0u8; 64];
     let mut ended: u64 = 0;
@@ -54,7 +54,7 @@ fn greets<D: Door>(door: &mut D) -> (u64, u64) {
     (u64::MAX, ended)
 }
 
-/// Whether one who comes is refused, since nobody is let in.
+/// Whether a viewer that comes is refused, since no viewer is let in.
 fn is_refused(house: &House<'_>) -> io::Result<bool> {
     let mut viewer = come(house.net, house.address)?;
     let mut told = [0u8; 36];
@@ -62,7 +62,7 @@ fn is_refused(house: &House<'_>) -> io::Result<bool> {
     Ok(told.as_slice() == NO_ENTRY)
 }
 
-/// Whether one who comes is greeted, and let go once this is asked.
+/// Whether a viewer that comes is greeted, and let go once the operator asks this.
 fn stays_until<R: Wait>(rt: &R, house: &House<'_>, request: Request) -> io::Result<bool> {
     let mut viewer = come(house.net, house.address)?;
     let mut told = [0u8; 13];
@@ -73,8 +73,8 @@ fn stays_until<R: Wait>(rt: &R, house: &House<'_>, request: Request) -> io::Resu
     Ok(told == *b"RFB 003.008\nR" && is_there && outcome == Outcome::Done && is_gone)
 }
 
-/// Nobody is let in while the doors are drained. Then one is sent away, and the next finds a place too.
-/// After a stop nobody is let in again.
+/// No viewer is let in while the doors are drained. Then one is sent away, and the next finds a place, too. After a
+/// stop no viewer is let in any more.
 fn evening<R: Wait>(rt: &R, house: &House<'_>) -> io::Result<bool> {
     let drained = house.desk.ask(rt, Request::Drain);
     let is_closed = is_refused(house)? && is_refused(house)?;
@@ -90,14 +90,14 @@ fn evening<R: Wait>(rt: &R, house: &House<'_>) -> io::Result<bool> {
     Ok(is_closed && are_sent && is_over && outcomes)
 }
 
-/// Whether the evening is right. Then the lobby is closed, which whoever keeps the port sees soon.
+/// Whether all of this is right. Then the lobby is closed, which the thread that keeps the port sees soon.
 fn asks_and_closes<R: Wait>(rt: &R, house: &House<'_>) -> bool {
     let is_right = evening(rt, house).unwrap_or(false);
     house.lobby.close(rt);
     is_right
 }
 
-/// How many came in while the port was kept, and how many were sent away.
+/// How many viewers came in while the port was kept, and how many were sent away.
 fn keeps<R: Threads + Wait + Clock + Send + Sync, D: Door + Send>(
     rt: &R,
     porter: TcpPorter,
@@ -107,7 +107,7 @@ fn keeps<R: Threads + Wait + Clock + Send + Sync, D: Door + Send>(
     came
 }
 
-/// How many came in and how many were sent away, and whether each was told what it should be.
+/// How many viewers came in and how many were sent away, and whether each was told what it should be.
 fn serves<R: Threads + Wait + Clock + Send + Sync, D: Door + Send>(
     rt: &R,
     house: &House<'_>,
@@ -122,7 +122,7 @@ fn serves<R: Threads + Wait + Clock + Send + Sync, D: Door + Send>(
     (came, is_right)
 }
 
-/// The same of a new lobby of one place.
+/// What `serves` answers with a new lobby of one place.
 fn opens<R: Threads + Wait + Clock + Copy + Drop + Send + Sync>(
     rt: R,
     net: &HostRuntime,

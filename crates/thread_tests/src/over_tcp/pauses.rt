@@ -1,4 +1,4 @@
-//! A pause is made, and once.
+//! A pause is made once.
 
 use serve::Rested;
 use std::io;
@@ -6,7 +6,7 @@ use std::sync::atomic::{AtomicU64, Ordering};
 use std::test::*;
 use std::time::{Clock, Duration};
 
-/// A clock that stands still, and counts for how many seconds it was to sleep, and how often.
+/// A clock that stands still, and counts how often it was told to sleep, and for how many seconds.
 #[derive(Drop)]
 struct Stopped {
     seconds: AtomicU64,
@@ -28,7 +28,7 @@ impl Clock for Stopped {
     }
 }
 
-/// A pause of five seconds asks the system for that once.
+/// A pause of five seconds asks the system once to sleep for that time.
 #[test]
 fn pause_is_made_once(rt: HostRuntime) {
     let clock = Stopped {

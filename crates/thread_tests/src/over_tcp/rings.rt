@@ -51,7 +51,7 @@ fn press() -> Input {
     }
 }
 
-/// Whether an update is put, and how often that rings.
+/// Whether an update is put, and how often the put rings.
 fn put_rings(alloc: Global) -> Result<(bool, u64), Fault> {
     let mut screen = Ringing {
         inner: PlainScreen::new(alloc, 2, 1)?,
@@ -63,7 +63,7 @@ fn put_rings(alloc: Global) -> Result<(bool, u64), Fault> {
     Ok((is_put, screen.alarm.rings.load(Ordering::SeqCst)))
 }
 
-/// Whether an input is refused where the sink is full, and how often that rings.
+/// Whether an input is refused where the sink is full, and how often the refusal rings.
 fn refusal_rings() -> (bool, u64) {
     let mut full = Ringing {
         inner: Full,
@@ -75,7 +75,7 @@ fn refusal_rings() -> (bool, u64) {
     (is_refused, full.alarm.rings.load(Ordering::SeqCst))
 }
 
-/// An update that is put rings once, and an input that is refused rings nobody.
+/// An update that is put rings once, and an input that is refused doesn't ring.
 #[test]
 fn each_success_rings_once(rt: HostRuntime) -> Result<(), Fail> {
     let found = [put_rings(rt.alloc())?, refusal_rings()];
@@ -100,7 +100,7 @@ fn rings_and_relays<R: Wait + Drop, S: InputSink>(
     }
 }
 
-/// The same of a new relay of one place.
+/// Whether this is so with a new relay of one place.
 fn send_rings<R: Wait + Copy + Drop>(rt: R, alloc: Global) -> Result<bool, Fault> {
     let writer = Arc::new(alloc, WriterSeat::new())?;
     let alarm = Arc::try_clone(&writer)?;

@@ -24,7 +24,7 @@ pub(crate) fn connect(rt: &HostRuntime, address: SocketAddr) -> io::Result<TcpSt
     Ok(stream)
 }
 
-/// A newcomer that connects and says its version.
+/// A newcomer that connects and sends its version.
 pub(crate) fn come(rt: &HostRuntime, address: SocketAddr) -> io::Result<TcpStream> {
     let mut stream = connect(rt, address)?;
     stream.write_all(VERSION)?;

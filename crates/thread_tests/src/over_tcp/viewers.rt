@@ -57,7 +57,7 @@ pub(crate) fn sees_the_end<L: Link>(link: &mut L, mut far: TcpStream) -> io::Res
     Ok(first == Took::Bytes(1) && ends == [Took::End; 2])
 }
 
-/// A pattern that is nowhere the same as a few bytes on.
+/// The length after which the pattern repeats, so that a few bytes lost or doubled show.
 const ROUND: usize = 251;
 
 fn pattern() -> [u8; 20_000] {
@@ -68,8 +68,8 @@ fn pattern() -> [u8; 20_000] {
     bytes
 }
 
-/// Gives slices of the pattern, of this length, up to this many bytes. Where the link takes none it ends, or waits
-/// until the peer ends, if it is patient. It answers how many bytes the link took in all.
+/// Gives slices of the pattern, of this length, up to this many bytes. Where the link takes none of a slice, this ends,
+/// or waits until the peer ends, if it is patient. It answers how many bytes the link took in all.
 fn gives<L: Link>(link: &mut L, len: usize, total: usize, is_patient: bool) -> usize {
     let pattern = pattern();
     let mut given: usize = 0;

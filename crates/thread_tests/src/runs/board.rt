@@ -18,7 +18,7 @@ pub(crate) struct Board {
     inside: [AtomicU64; 4],
     /// How many key events were handed out.
     pub(crate) handed: AtomicU64,
-    /// Of how many the host was told.
+    /// How many key events the host was told of.
     pub(crate) told: AtomicU64,
     // The number of the update that turns the screen black.
     black: u64,
@@ -35,7 +35,7 @@ pub(crate) enum Gate {
     Open,
     /// This place, counted from 0, was shown this update, or a later one.
     Shown(usize, u64),
-    /// All four places were.
+    /// All four places were shown this update, or a later one.
     All(u64),
     /// Viewers handed out this many key events.
     Handed(u64),
@@ -74,7 +74,7 @@ impl Board {
         Ok(Arc::new(alloc, board)?)
     }
 
-    /// Whether that has come which is waited for.
+    /// Whether what is waited for has come.
     pub(crate) fn is_open(&self, gate: &Gate) -> bool {
         match gate {
             Gate::Open => true,
@@ -94,7 +94,7 @@ impl Board {
         }
     }
 
-    /// Waits for it. False, and a flaw, where it hasn't come after all turns.
+    /// Waits for it. It answers false, and notes a flaw, where it hasn't come after all turns.
     pub(crate) fn hold(&self, gate: &Gate) -> bool {
         for _ in 0..TURNS {
             if self.is_open(gate) {
@@ -106,14 +106,14 @@ impl Board {
         false
     }
 
-    /// Something went wrong where this isn't right.
+    /// Notes a flaw where this isn't right.
     pub(crate) fn check(&self, is_right: bool) {
         if !is_right {
             self.flaws.store(1, Ordering::SeqCst);
         }
     }
 
-    /// A viewer comes to this place, where nobody is to be.
+    /// A viewer comes to this place, where no other may be.
     pub(crate) fn enter(&self, place: usize) {
         if let Some(inside) = self.inside.get(place) {
             self.check(inside.fetch_add(1, Ordering::SeqCst) == 0);
@@ -127,7 +127,7 @@ impl Board {
         }
     }
 
-    /// Whether nobody is at any place.
+    /// Whether no viewer is at any place.
     pub(crate) fn is_left(&self) -> bool {
         let mut is_left = true;
         for inside in &self.inside {

@@ -16,8 +16,8 @@ pub(crate) const PRESS_97: &[u8] = b"\x04\x01\0\0\0\0\0\x61";
 
 pub(crate) const PRESS_98: &[u8] = b"\x04\x01\0\0\0\0\0\x62";
 
-/// What a viewer is greeted with: the version, one type of security, that it went well, and the screen of 2 by 1 with
-/// its format of 32 bits and its name, T (RFC 6143, 7.1.1 to 7.1.3, 7.3.2 and 7.4).
+/// What a viewer is greeted with: the version, one security type, that it went well, and the screen of 2 by 1 with its
+/// format of 32 bits and its name, T (RFC 6143, 7.1.1 to 7.1.3, 7.3.2 and 7.4).
 pub(crate) const GREETING: &[u8] =
     b"RFB 003.008\n\x01\x01\0\0\0\0\0\x02\0\x01\x20\x18\0\x01\0\xFF\0\xFF\0\xFF\x10\x08\0\0\0\0\0\0\0\x01T";
 
@@ -42,6 +42,6 @@ pub(crate) const UNKNOWN: &[u8] = b"\0\0\0\x01\0\0\0\0\0\x02\0\x01\0\0\0\x63";
 pub(crate) const WELCOME: &[u8] =
     b"RFB 003.008\n\x01\x01\0\0\0\0\0\x02\0\x01\x20\x18\0\x01\0\xFF\0\xFF\0\xFF\x10\x08\0\0\0\0\0\0\0\x01T";
 
-/// The same, with a screen of 3 by 1.
+/// That side of the handshake, with a screen of 3 by 1.
 pub(crate) const WIDER: &[u8] =
     b"RFB 003.008\n\x01\x01\0\0\0\0\0\x03\0\x01\x20\x18\0\x01\0\xFF\0\xFF\0\xFF\x10\x08\0\0\0\0\0\0\0\x01T";

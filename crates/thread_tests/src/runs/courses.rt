@@ -11,7 +11,7 @@ use crate::runs::picture::Picture;
 use crate::runs::sight::View;
 use std::test::*;
 
-/// This many key events are more than there is room for.
+/// The relay hasn't room for this many key events.
 const MANY: u64 = 300;
 
 /// Key 65 is pressed and released: 300 key events.
@@ -47,13 +47,14 @@ const AT_ONCE: Script = Script {
     taking: Taking::AtOnce,
 };
 
-/// The same, but it takes nothing until the first was shown the third update.
+/// A viewer that asks until it was shown the third update, but takes nothing until the first viewer was shown that.
 const STALLED: Script = Script {
     acts: TO_THREE,
     taking: Taking::Stalls(Gate::Shown(0, 3)),
 };
 
-/// The same, but each `give` doesn't return until then.
+/// A viewer that asks until it was shown the third update, whose `give` doesn't return until the first viewer was shown
+/// that.
 const HELD: Script = Script {
     acts: TO_THREE,
     taking: Taking::Held(Gate::Shown(0, 3)),
@@ -77,7 +78,7 @@ const SENDS_ONE: Script = Script {
     taking: Taking::Told(Gate::Open, &[]),
 };
 
-/// The same of one that sends three updates, and ends once all were shown the third.
+/// The end that is read, of a host that sends three updates, and ends once all viewers were shown the third.
 const SENDS_THREE: Script = Script {
     acts: &[
         Act::Says(ONE),
@@ -393,7 +394,7 @@ static COURSES: [Course; 9] = [
     PAINTED,
 ];
 
-/// Each of the runs goes as it has to. The first that doesn't is named.
+/// Each of the runs goes as it should. The first that doesn't is named.
 #[test]
 fn runs_go_right(rt: HostRuntime) -> Result<(), Fail> {
     for course in &COURSES {

@@ -13,11 +13,11 @@ const KEYS: [[Key; 2]; 2] = [
     [[4, 1, 0, 0, 0, 0, 0, 98], [4, 0, 0, 0, 0, 0, 0, 98]],
 ];
 
-/// What follows on the press of key 97: its release, and both of key 98.
+/// What follows the press of key 97: its release, and the press and release of key 98.
 const OTHERS: &[u8] = b"\x04\0\0\0\0\0\0\x61\x04\x01\0\0\0\0\0\x62\x04\0\0\0\0\0\0\x62";
 
 /// The first host's link fails as the first of four key events is told: nothing more is told over it. The host ends
-/// after that, the next one is told the three others, and is asked for the screen.
+/// after that. The next host is told the three others, and is asked for the screen.
 static GOES_ON: Course = Course {
     name: "input goes on to the next host",
     view: &SMALL,
@@ -67,7 +67,7 @@ static GOES_ON: Course = Course {
 };
 
 /// The only host's link fails as the press of key 97 is told, and the host ends. The key is released as its viewer is
-/// left, which nobody takes any more.
+/// left, and that release is never taken.
 static IS_LEFT: Course = Course {
     name: "input is left at the end",
     view: &SMALL,

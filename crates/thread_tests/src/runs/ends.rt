@@ -34,7 +34,7 @@ use tally_word::{Naming, Opened};
 use tiles::Have;
 
 /// How a run is to end: with a fault of this number, or with none, 0; with this many links handed back; with this
-/// update, its last; with this many inputs that were dropped, and this many that nobody has taken.
+/// update, its last; with this many inputs that were dropped, and this many that weren't taken.
 pub(crate) struct End {
     pub(crate) fault: u64,
     pub(crate) links: usize,
@@ -77,7 +77,7 @@ fn shows<J: Naming>(
     Ok(number == last && view.is_held(cut.colours.as_slice(), last))
 }
 
-/// How many inputs nobody has taken.
+/// How many inputs weren't taken.
 fn left_in<R: Wait + Drop>(settled: &mut Settled<R>) -> usize {
     for count in 0..256 {
         if settled.next().is_none() {
@@ -87,8 +87,8 @@ fn left_in<R: Wait + Drop>(settled: &mut Settled<R>) -> usize {
     256
 }
 
-/// Whether the run ended as it is to, each place shows the last update, and who watches the input reads what became of
-/// it.
+/// Whether the run ended as it should, each place shows the last update, and the gauge of the input reads what became
+/// of it.
 fn ends<J, L, H, D, R>(
     rt: R,
     alloc: Global,
@@ -217,7 +217,7 @@ where
     ends(rt, alloc, running, &input, course.view, &course.end)
 }
 
-/// Whether a run goes as it has to.
+/// Whether a run goes as it should.
 pub(crate) fn goes_right<R>(rt: R, alloc: Global, course: &Course) -> Result<bool, Fail>
 where
     R: Threads + Wait + Clock + Copy + Drop + Send + 'static,

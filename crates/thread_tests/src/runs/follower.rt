@@ -1,8 +1,8 @@
-//! A viewer that decodes what it is sent, by RFC 6143 alone. It shares nothing with what is tested.
+//! A viewer that decodes what it is sent, by RFC 6143 alone. It shares no code with what is tested.
 
 use std::alloc::{AllocError, Global};
 
-/// What isn't known of a position.
+/// The colour of a position of which nothing is known.
 pub(crate) const UNKNOWN: u64 = u64::MAX;
 
 /// A pixel format: the bytes of a pixel, whether the highest comes first, and the maximum and the shift of red, green
@@ -56,7 +56,7 @@ impl Bytes<'_> {
         Some(u64::from(*first))
     }
 
-    /// A number of so many bytes, the highest first.
+    /// A number of this many bytes, the highest first.
     fn number(&mut self, count: u64) -> Option<u64> {
         let mut number: u64 = 0;
         for _ in 0..count {
@@ -65,7 +65,7 @@ impl Bytes<'_> {
         Some(number)
     }
 
-    /// A number of so many bytes, the lowest first.
+    /// A number of this many bytes, the lowest first.
     fn lowest_first(&mut self, count: u64) -> Option<u64> {
         let mut number: u64 = 0;
         let mut unit: u64 = 1;
@@ -84,7 +84,7 @@ impl Bytes<'_> {
         }
     }
 
-    /// A rectangle's place and size, each in so many bytes.
+    /// A rectangle's position and size, each number in this many bytes.
     fn area(&mut self, count: u64) -> Option<Area> {
         let x = self.number(count)?;
         let y = self.number(count)?;
@@ -99,7 +99,7 @@ impl Bytes<'_> {
 pub(crate) struct Follower {
     width: u64,
     held: Vec<u64>,
-    /// Whether what is read is held. Else it is only read.
+    /// Whether what is read is held. Otherwise it is only read.
     is_held: bool,
     /// Whether a rectangle came Raw, as a CopyRect, in RRE and in Hextile.
     pub(crate) came: [bool; 4],
@@ -176,7 +176,7 @@ impl Follower {
         }
     }
 
-    /// Another place of the screen (7.7.2). It has to lie apart.
+    /// A copy of another area of the screen (7.7.2), which has to lie apart.
     fn copy(&mut self, bytes: &mut Bytes, area: Area) -> Option<()> {
         let x = bytes.number(2)?;
         let y = bytes.number(2)?;
@@ -296,7 +296,7 @@ impl Follower {
         }
     }
 
-    /// One rectangle (7.6.1). Nothing of an encoding that isn't one of the four.
+    /// One rectangle (7.6.1). It answers nothing where the encoding isn't one of the four.
     fn rectangle(&mut self, bytes: &mut Bytes, format: &Format) -> Option<()> {
         let area = bytes.area(2)?;
         match bytes.number(4)? {
@@ -330,8 +330,8 @@ impl Follower {
         if kind == 0 { Some(()) } else { None }
     }
 
-    /// Follows one whole FramebufferUpdate at the front of these bytes, and answers how many it has. Where there is
-    /// none nothing is followed.
+    /// Follows one whole FramebufferUpdate at the front of these bytes, and answers how many bytes it has. Where there
+    /// is no whole one, nothing is followed.
     pub(crate) fn follow(&mut self, bytes: &[u8], format: &Format) -> Option<usize> {
         self.is_held = false;
         let mut first = Bytes {

@@ -10,13 +10,14 @@ use std::test::*;
 /// Key 97 is released (RFC 6143, 7.5.4).
 const RELEASE_97: &[u8] = b"\x04\0\0\0\0\0\0\x61";
 
-/// It is pressed, and then released.
+/// Key 97 is pressed, and then released.
 const KEYS: [[Key; 2]; 1] = [[[4, 1, 0, 0, 0, 0, 0, 97], [4, 0, 0, 0, 0, 0, 0, 97]]];
 
 /// One viewer ends after its answer, two end inside a message and inside the handshake, three break the rules by what
 /// isn't a version, by a type of security that wasn't offered and by a message that there isn't, and two have a link
-/// that fails, as bytes are taken and inside an answer (RFC 6143, 7.1 and 7.5). No viewer comes before the one
-/// before it was seen off, once. The last one types, is shown the second update, and stays until the host has ended.
+/// that fails, as bytes are taken and inside an answer (RFC 6143, 7.1 and 7.5). No viewer comes before the one before
+/// it was seen off, and each is seen off once. The last one types, is shown the second update, and stays until the host
+/// has ended.
 static EACH_LEAVES: Course = Course {
     name: "a place is free once after each way of leaving",
     view: &SMALL,

@@ -1,5 +1,5 @@
-//! A screen of 34 by 33, of three rows of three tiles, and four viewers that follow it in formats and encodings of
-//! their own: one in 32 bits and Raw, two in 16 bits, and one in 8 bits, which asks for a part. The first four updates
+//! A screen of 34 by 33, of three rows of three tiles, and four viewers that follow it, each in its own format and
+//! encodings: one in 32 bits and Raw, two in 16 bits, and one in 8 bits, which asks for a part. The first four updates
 //! are shown one by one, so that each viewer is answered after each; the others come at once.
 
 use crate::runs::board::Gate;
@@ -25,7 +25,8 @@ const PAINTS: [Paint; 10] = [
     [7, 6, 20, 12, 5, 0xA000A0],
 ];
 
-/// The same as its messages: each rectangle in RRE, a background and nothing on it (RFC 6143, 7.6.1 and 7.7.3).
+/// What the host paints, as its messages: each rectangle comes in RRE, as a background with nothing on it (RFC 6143,
+/// 7.6.1 and 7.7.3).
 const ONE: &[u8] = b"\x00\x00\x00\x01\
     \x00\x00\x00\x00\x00\x22\x00\x21\x00\x00\x00\x02\x00\x00\x00\x00\xc0\x60\x40\x00";
 
@@ -50,7 +51,7 @@ const SIX: &[u8] = b"\x00\x00\x00\x01\
 const SEVEN: &[u8] = b"\x00\x00\x00\x01\
     \x00\x06\x00\x14\x00\x0c\x00\x05\x00\x00\x00\x02\x00\x00\x00\x00\xa0\x00\xa0\x00";
 
-/// What a viewer is greeted with: as that of 2 by 1 is, but for the size.
+/// What a viewer is greeted with: the greeting of the screen of 2 by 1, except for the size.
 const GREETING: &[u8] =
     b"RFB 003.008\n\x01\x01\0\0\0\0\0\x22\0\x21\x20\x18\0\x01\0\xFF\0\xFF\0\xFF\x10\x08\0\0\0\0\0\0\0\x01T";
 

@@ -21,7 +21,7 @@ pub(crate) enum Act {
     Waits(Gate),
     /// Asks, again after each answer, until it was shown this update.
     AsksFor(u64),
-    /// The same, by this request.
+    /// Asks by this request, again after each answer, until it was shown this update.
     Requests(&'static [u8], u64),
     /// Hands out this many key events, one at a time: key 65 is pressed and released by turns.
     Types(u64),
@@ -45,7 +45,7 @@ pub(crate) enum Taking {
     Follows(&'static Sight),
     /// A viewer: one byte at the first `give`. At the second one its link fails.
     Breaks,
-    /// A host that hears a handshake out. It wants no key event.
+    /// A host that takes a whole handshake. It wants no key event.
     Joins,
     /// A host that is told: it wants to be asked for the screen, and these key events, by twos. The first of them it
     /// takes only once the gate is open.
@@ -156,7 +156,7 @@ impl Peer {
         }
     }
 
-    /// Looks at an answer of the screen of 2 by 1: both of its colours are the same.
+    /// Looks at an answer of the screen of 2 by 1: both of its pixels have the same colour.
     fn look_at_both(&mut self) {
         let start = GREETING
             .len()

@@ -11,8 +11,8 @@ use run_traits::{Door, PlaceCount};
 use std::alloc::Global;
 use std::sync::Arc;
 
-/// One peer after another, by their scripts: the viewers of a place; or of each host the end that is read, and then
-/// the end that is told. Where a host is asked for though no more are to be taken, something is wrong.
+/// One peer after another, by their scripts: the viewers of a place; or of each host the end that is read, and then the
+/// end that is told. It is a flaw where a host is asked for though no more are to be taken.
 #[derive(Drop)]
 pub(crate) struct Queue {
     pub(crate) alloc: Global,
@@ -52,7 +52,7 @@ impl Queue {
     }
 }
 
-/// Whether a viewer left as it is to: greeted, unless it leaves before, and for this reason.
+/// Whether a viewer left as it should: for this reason, and greeted, unless it left before that.
 fn goes_right(peer: &Peer, greeting: &[u8], why: &Result<(), Fault>) -> bool {
     let taking = &peer.script.taking;
     let heard = peer.heard.as_slice();
@@ -103,7 +103,7 @@ impl Hosts<Wire> for Queue {
     ghost use Rattle.std.specs.Prelude.{◌≡◌, ⊤, None};
     ghost use Rattle.run_traits.specs.Unused.{unused};
 
-    // It has done nothing.
+    // The new link has done nothing.
     ghost came = { λ wire. wire ≡ unused };
 
     ghost are_out = { λ _. ⊤ };

@@ -1,4 +1,4 @@
-//! A link in memory whose peer may wait for others.
+//! A link in memory whose peer may wait for other peers.
 
 ghost use Rattle.std.specs.Prelude.{◌≡◌};
 ghost use Rattle.run_traits.specs.Unused.{unused};

@@ -17,11 +17,11 @@ use std::test::*;
 use std::time::{Clock, Duration};
 use std::{io, str};
 
-/// What is answered where what was asked for holds then.
+/// The answer to a request that was done.
 const DONE: &[u8] = b"done\n";
 
-/// What one is told while nobody is let in: version 3.8, no security type, and the reason with its length (RFC 6143,
-/// 7.1.1 and 7.1.2).
+/// What a viewer is told while no viewer is let in: version 3.8, no security type, and the reason with its length (RFC
+/// 6143, 7.1.1 and 7.1.2).
 const NO_ENTRY: &[u8] = b"RFB 003.008\n\0\0\0\0\x13no viewer is let in";
 
 /// An answer has fewer bytes.
@@ -36,7 +36,7 @@ const HOSTS: &[Host] = &[Host {
     ending: Ending::IsLeft,
 }];
 
-/// The first host is to be tried again, and isn't after a stop.
+/// With these options the first host is tried again, but not after a stop.
 const OPTIONS: &str = "--log --again 1";
 
 const LINES: &[Line] = &[
@@ -48,7 +48,7 @@ const LINES: &[Line] = &[
         FIRST,
         " width=2 height=1 name=\"T\"",
     ),
-    Line::Of("host-out address=", FIRST, " why=\"ended\""),
+    Line::Of("host-out address=", FIRST, " why=\"stopped\""),
 ];
 
 const SCENES: &[Scene] = &[
@@ -167,7 +167,7 @@ where
     Ok(is_told(ear, path, "state", &lines)? && is_told(ear, path, "state json", &members)?)
 }
 
-/// Whether requests are answered of which nothing stays.
+/// Whether requests that change nothing for good are answered.
 fn is_heard<R>(ear: &Ear<R>, path: &str, address: &str) -> io::Result<bool>
 where
     R: Net<Stream = TcpStream, Listener = TcpListener> + Drop,
@@ -183,7 +183,7 @@ where
     )
 }
 
-/// Whether the program's own words ask: what is done is printed, and why something isn't.
+/// Whether the program's own command asks: it prints what was done, and why something wasn't.
 fn is_client_right<R>(ear: &Ear<R>, path: &str) -> io::Result<bool>
 where
     R: Net<Stream = TcpStream, Listener = TcpListener> + Wait + Clock + Drop,
@@ -197,7 +197,7 @@ where
     Ok(ask_by_words(ear, ear.alloc, words.as_slice()) == 1 && is_done)
 }
 
-/// Whether one who comes is refused, since nobody is let in. The log is to tell of it.
+/// Whether a viewer that comes is refused, since no viewer is let in. The log has to tell of it.
 fn is_refused<R>(ear: &Ear<R>, port: u16) -> io::Result<bool>
 where
     R: Net<Stream = TcpStream, Listener = TcpListener> + Wait + Clock + Drop,
@@ -210,7 +210,7 @@ where
     Ok(told.as_slice() == NO_ENTRY)
 }
 
-/// Whether each of these requests is done. Where nobody is let in after it one who comes is refused.
+/// Whether each of these requests is done. Where no viewer is let in after it, one that comes is refused.
 fn are_done<R>(ear: &Ear<R>, port: u16, path: &str, requests: &[&str]) -> io::Result<bool>
 where
     R: Net<Stream = TcpStream, Listener = TcpListener> + Wait + Clock + Drop,
@@ -226,8 +226,8 @@ where
     Ok(true)
 }
 
-/// A viewer that is greeted up to its screen. One that is told that there is no host yet comes again, and the log is to
-/// tell of it.
+/// A viewer that is greeted up to its screen. One that is told that there is no host yet comes again, and the log has
+/// to tell of it.
 fn comes_in<R>(ear: &Ear<R>, port: u16) -> io::Result<Option<TcpStream>>
 where
     R: Net<Stream = TcpStream, Listener = TcpListener> + Wait + Clock + Drop,
@@ -245,7 +245,7 @@ where
 }
 
 /// Whether a viewer that holds a key is let go by the first of these requests, and the others are done then. What the
-/// log is to tell of it is noted.
+/// log has to tell of it is noted.
 pub(crate) fn is_sent_away<R>(ear: &Ear<R>, port: u16, requests: &[&str]) -> io::Result<bool>
 where
     R: Net<Stream = TcpStream, Listener = TcpListener> + SocketFiles + Wait + Clock + Drop,

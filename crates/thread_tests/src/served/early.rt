@@ -11,11 +11,11 @@ use std::sync::Wait;
 use std::sync::atomic::Ordering;
 use std::time::Clock;
 
-/// More than the time after which hosts that still aren't there are told of again, in seconds.
+/// Longer than the time, in seconds, after which the log tells again of hosts that still aren't there.
 const A_MINUTE: u64 = 61;
 
-/// Whether one who comes early is told so, and whether the host is met once its name has the right address: then one who
-/// comes is greeted, and leaves. Tries that fail are told once, and once more after a minute.
+/// Whether a viewer that comes early is told so, and whether the host is met once its name has the right address: then
+/// a viewer that comes is greeted, and leaves. Tries that fail are told once, and once more after a minute.
 pub(crate) fn is_early_one_right<R>(ear: &Ear<R>, port: u16) -> io::Result<bool>
 where
     R: Net<Stream = TcpStream, Listener = TcpListener> + Wait + Clock + Drop,
@@ -40,8 +40,8 @@ where
     Ok(is_greeted && is_over)
 }
 
-/// Whether further tries fail of which nothing is told, until a minute is over. By then the name is another machine's,
-/// where nobody listens.
+/// Whether further tries fail without a line in the log, until a minute is over. By then the name is another machine's,
+/// on which nothing listens.
 fn fails_silently<R: Wait + Clock + Drop>(ear: &Ear<R>) -> bool {
     let are_further = ear.reaches(&ear.room.lookups, 3);
     ear.room.home.store(2, Ordering::SeqCst);
@@ -50,7 +50,7 @@ fn fails_silently<R: Wait + Clock + Drop>(ear: &Ear<R>) -> bool {
     are_further && is_silent && ear.hears("address=127.0.0.2")
 }
 
-/// Whether the one who comes here is told that there is no host, as the log is to tell, too.
+/// Whether the viewer that comes here is told that there is no host. The log has to tell so, too.
 fn is_told_early<R: Wait + Clock + Drop>(ear: &Ear<R>, stream: &mut TcpStream) -> io::Result<bool> {
     let address = stream.local_addr()?;
     ear.want(format!(in ear.alloc; "no-host role=full address={address}")?)?;
@@ -59,8 +59,8 @@ fn is_told_early<R: Wait + Clock + Drop>(ear: &Ear<R>, stream: &mut TcpStream) -
     Ok(refusal.as_slice() == NO_HOST)
 }
 
-/// A viewer that finds a host which was just joined, and what the log is to tell of it. Those that come before the doors
-/// are open are told that there is none.
+/// A viewer that finds a host which was just joined, and what the log has to tell of it. Viewers that come before the
+/// doors are open are told that there is no host.
 fn enters<R>(ear: &Ear<R>, port: u16) -> io::Result<Option<TcpStream>>
 where
     R: Net<Stream = TcpStream, Listener = TcpListener> + Wait + Clock + Drop,
@@ -85,7 +85,7 @@ where
     Ok(None)
 }
 
-/// The log is to tell that a viewer came and that it left once it was greeted, by 43 bytes.
+/// The log has to tell that a viewer came, and that it left once it was greeted, with 43 bytes.
 fn wants_visit<R: Wait + Clock + Drop>(ear: &Ear<R>, stream: &TcpStream) -> io::Result<()> {
     let address = stream.local_addr()?;
     let who = format!(in ear.alloc; "place=1 role=full address={address}")?;

@@ -23,7 +23,7 @@ const SCENES: &[Scene] = &[
         status: 0,
         lines: &[],
     },
-    // Nobody asks for the port of full control, which another program has, nor for its address, which is another
+    // This run opens no port with full control. Another program has that port, and the address for it is another
     // machine's.
     Scene {
         name: "the end of a host lets the one go that looks on where there is no other",

@@ -23,7 +23,7 @@ const PARTS: usize = 3;
 /// The screen is 8 by 3, of 32 bits a pixel, named T (RFC 6143, 7.3.2 and 7.4).
 const INIT: &[u8] = b"\0\x08\0\x03\x20\x18\0\x01\0\xFF\0\xFF\0\xFF\x10\x08\0\0\0\0\0\0\0\x01T";
 
-/// What a client asks that joins is as long.
+/// What a joining client asks has this many bytes.
 const ASKED: usize = 50;
 
 /// The whole screen in Hextile: a red pixel on blue (RFC 6143, 7.6.1 and 7.7.4).

@@ -14,7 +14,7 @@ use std::{io, thread};
 pub(crate) const INIT: &[u8] =
     b"\0\x02\0\x01\x20\x18\0\x01\0\xFF\0\xFF\0\xFF\x10\x08\0\0\0\0\0\0\0\x01T";
 
-/// The same, with a name of 18 bytes that would end its line of a log, and begin another.
+/// The same screen, with a name of 18 bytes that would end its line of a log, and begin another.
 pub(crate) const FORGED: &[u8] =
     b"\0\x02\0\x01\x20\x18\0\x01\0\xFF\0\xFF\0\xFF\x10\x08\0\0\0\0\0\0\0\x12T\"\r\n1Z viewer-in\x1b\\";
 
@@ -24,13 +24,13 @@ const REFUSAL: &[u8] = b"RFB 003.008\n\0\0\0\0\x09no\n\x1b room";
 /// More than a host's side of the handshake may take, in seconds.
 const TOO_LONG: u64 = 11;
 
-/// What a client gives that joins: its format, its four encodings, and a request of the whole screen (RFC 6143, 7.5.1
-/// to 7.5.3).
+/// What a joining client gives: its format, its four encodings, and a request for the whole screen (RFC 6143, 7.5.1 to
+/// 7.5.3).
 const ASKED: &[u8] = b"\0\0\0\0\x20\x18\0\x01\0\xFF\0\xFF\0\xFF\x10\x08\0\0\0\0\
       \x02\0\0\x04\0\0\0\x01\0\0\0\x05\0\0\0\x02\0\0\0\0\
       \x03\0\0\0\0\0\0\x02\0\x01";
 
-/// What it asks for once an update was put: what is new of the whole screen.
+/// What the client asks for once an update was put: what is new of the whole screen.
 const ASKED_ANEW: &[u8] = b"\x03\x01\0\0\0\0\0\x02\0\x01";
 
 /// The key a goes down, and up again.
@@ -44,7 +44,7 @@ const READS: u64 = 20_000;
 /// After this many milliseconds with nothing to do each thread waits.
 const LULL_MILLIS: u64 = 200;
 
-/// What a host does that was connected to.
+/// What a host does once it was connected to.
 pub(crate) struct Host {
     /// At which of the three places it listens, counted from 0.
     pub(crate) at: usize,
@@ -62,11 +62,12 @@ pub(crate) enum Ending {
     OfAnotherProtocol,
     /// It refuses the connection, for a reason that would end its line, and closes.
     Refuses,
-    /// It says its version and then nothing for longer than it may, by the clock of the scene.
+    /// It sends its version and then nothing for longer than it may, by the clock of the scene.
     FallsSilent,
-    /// Closes a little after so many viewers have asked for news, as `ClosesInLull`. Its name would forge a line.
+    /// Closes a little after this many viewers have asked for news, as `ClosesInLull` does. Its name would forge a
+    /// line.
     Forges(u64),
-    /// Breaks the connection where the most of what was typed last isn't read.
+    /// Breaks the connection while most of what was typed last is unread.
     BreaksOff,
     /// Closes.
     Closes,
@@ -74,13 +75,13 @@ pub(crate) enum Ending {
     EndsWell,
     /// Sends a message that there isn't, and waits until the client has gone.
     EndsBadly,
-    /// Closes a little after so many viewers have asked for news. Nothing more is said to it meanwhile.
+    /// Closes a little after this many viewers have asked for news. Nothing more is sent to it meanwhile.
     ClosesInLull(u64),
     /// It is told a key that goes down, and is left once it was told that it is up again.
     IsLeft,
 }
 
-/// Whether a host is joined at its listener as it has to be, and asked anew after each of its updates, each of which is
+/// Whether a host is joined at its listener as it should be, and asked anew after each of its updates, each of which is
 /// shown. Then it ends.
 pub(crate) fn is_host_right<R: Wait + Clock + Drop>(
     ear: &Ear<R>,
@@ -102,7 +103,7 @@ pub(crate) fn is_host_right<R: Wait + Clock + Drop>(
     }
 }
 
-/// Whether the client of this connection does so.
+/// Whether the client of this connection joins and asks so.
 fn is_client_right<R: Wait + Clock + Drop>(
     ear: &Ear<R>,
     stream: &mut TcpStream,
@@ -147,7 +148,8 @@ fn is_left<R: Drop>(ear: &Ear<R>, stream: &mut TcpStream) -> io::Result<bool> {
     Ok(is_down && told == *KEY_UP && stream.read(&mut told)? == 0)
 }
 
-/// Whether the client gives its version, and then goes once the clock is put forward. It doesn't take so long itself.
+/// Whether the client gives its version, and then goes once the clock is put forward. The test itself doesn't take that
+/// long.
 fn falls_silent<R: Drop>(ear: &Ear<R>, stream: &mut TcpStream) -> io::Result<bool> {
     let mut version = [0u8; 12];
     stream.write_all(b"RFB 003.008\n")?;
@@ -156,7 +158,7 @@ fn falls_silent<R: Drop>(ear: &Ear<R>, stream: &mut TcpStream) -> io::Result<boo
     Ok(goes(stream)? && version == *b"RFB 003.008\n")
 }
 
-/// Whether the client says what a client that joins has to say.
+/// Whether the client sends what a joining client has to send.
 fn is_joined(stream: &mut TcpStream, init: &[u8]) -> io::Result<bool> {
     let mut version = [0u8; 12];
     let mut choice = [0u8; 1];
@@ -182,7 +184,7 @@ fn is_asked_anew(stream: &mut TcpStream) -> io::Result<bool> {
 }
 
 /// Whether the client asks anew after each update. Each is sent once the one before was shown, or what was typed after
-/// it was told. A host that follows on another is asked anew once before, since the screen has turned black by then.
+/// it was told. A host that comes after another is asked anew once before, since the screen has turned black by then.
 fn asks_anew<R: Wait + Clock + Drop>(
     ear: &Ear<R>,
     stream: &mut TcpStream,
@@ -210,8 +212,8 @@ fn asks_anew<R: Wait + Clock + Drop>(
     Ok(true)
 }
 
-/// Whether the client goes in time. What it said meanwhile is read, since the system would call the connection broken
-/// else.
+/// Whether the client goes in time. What it sent meanwhile is read, since otherwise the system would call the
+/// connection broken.
 fn goes(stream: &mut TcpStream) -> io::Result<bool> {
     let mut rest = [0u8; 64];
     for _ in 0..READS {
@@ -222,7 +224,7 @@ fn goes(stream: &mut TcpStream) -> io::Result<bool> {
     Ok(false)
 }
 
-/// Whether the client says nothing for a while.
+/// Whether the client sends nothing for a while.
 fn is_silent<R: Wait + Clock + Drop>(ear: &Ear<R>, stream: &mut TcpStream) -> io::Result<bool> {
     thread::sleep(ear, Duration::from_millis(LULL_MILLIS));
     let mut more = [0u8; 1];

@@ -1,4 +1,4 @@
-//! What viewers type, point and send after each update, and how far it comes.
+//! What viewers type, point and send after each update, and whether it reaches the host.
 
 use crate::served::loopback::update;
 use crate::served::room::Ear;
@@ -37,7 +37,7 @@ fn typed(number: u16) -> &'static [u8] {
     }
 }
 
-/// Types by full control, after the host has asked anew and the viewer that only looks on has typed in vain.
+/// Types with full control, after the host was asked anew and the viewer that only looks on has typed in vain.
 pub(crate) fn types<R: Wait + Clock + Drop>(
     ear: &Ear<R>,
     stream: &mut TcpStream,
@@ -51,7 +51,7 @@ pub(crate) fn types<R: Wait + Clock + Drop>(
     Ok(true)
 }
 
-/// Types where nothing may come of it. The answer that comes after it shows that it was read.
+/// Types where the host may be told nothing of it. The answer that comes after it shows that it was read.
 pub(crate) fn types_in_vain<R: Drop>(
     ear: &Ear<R>,
     stream: &mut TcpStream,
@@ -63,8 +63,8 @@ pub(crate) fn types_in_vain<R: Drop>(
     Ok(is_shown)
 }
 
-/// Whether a host is told what is typed after this update, and nothing before it: the whole of it, or of the last the
-/// first byte.
+/// Whether a host is told what is typed after this update, and nothing before it: all of it, or only the first byte of
+/// the last input.
 pub(crate) fn is_told(stream: &mut TcpStream, number: u16, is_whole: bool) -> io::Result<bool> {
     let wanted = typed(number);
     let len = if is_whole { wanted.len() } else { 1 };

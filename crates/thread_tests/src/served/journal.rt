@@ -9,7 +9,7 @@ use crate::served::visits::Leaving;
 use std::test::*;
 
 const SCENES: &[Scene] = &[
-    // Of each viewer the visits note what is told. The host's name forges no line.
+    // The visits note what is told of each viewer. The host's name forges no line.
     Scene {
         name: "a place is free once after each way of leaving, and the log tells of each",
         told: Told::First,
@@ -39,6 +39,35 @@ const SCENES: &[Scene] = &[
                 "host-joined address=",
                 FIRST,
                 " width=2 height=1 name=\"T\\\"\\r\\n1Z viewer-in\\x1b\\\\\"",
+            ),
+            Line::Of("host-out address=", FIRST, " why=\"ended\""),
+        ],
+    },
+    // The system chooses the port at which machines are answered.
+    Scene {
+        name: "the log tells where machines are answered",
+        told: Told::First,
+        options: "--log --metrics 127.0.0.1:0",
+        is_taken: false,
+        hosts: &[Host {
+            at: 0,
+            from: 1,
+            to: 0,
+            is_told: false,
+            ending: Ending::EndsWell,
+        }],
+        full: Viewer::Nobody,
+        view: Viewer::Nobody,
+        status: 0,
+        lines: &[
+            Line::Of("listening role=full address=", FULL, " places=1"),
+            Line::Of("listening role=view address=", VIEW, " places=1"),
+            Line::Is("listening for=metrics address=127.0.0.1:0"),
+            Line::Of("host-tried address=", FIRST, " why=\"connected\""),
+            Line::Of(
+                "host-joined address=",
+                FIRST,
+                " width=2 height=1 name=\"T\"",
             ),
             Line::Of("host-out address=", FIRST, " why=\"ended\""),
         ],
@@ -109,7 +138,7 @@ const SCENES: &[Scene] = &[
     },
 ];
 
-/// The log has the lines that it is to have, and no others.
+/// The log has the lines that it should have, and no others.
 #[test]
 fn log_tells_what_happens(rt: HostRuntime) -> Result<(), Fail> {
     play_all(rt, rt.alloc(), SCENES)

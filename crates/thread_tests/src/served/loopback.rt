@@ -16,10 +16,10 @@ pub(crate) const RED_AND_BLUE: u16 = u16::MAX;
 /// A read that waits for this many seconds has failed.
 const LONG: u64 = 20;
 
-/// A connection is tried so often, each time after ten milliseconds.
+/// A connection is tried this often, each time after ten milliseconds.
 const TRIES: u64 = 1_000;
 
-/// Update n: colour n all over, or else red and blue.
+/// Update n: colour n all over, or red and blue where n is `RED_AND_BLUE`.
 pub(crate) fn update(n: u16) -> [u8; 24] {
     let mut update = UPDATE;
     if n != RED_AND_BLUE {
@@ -33,14 +33,14 @@ pub(crate) fn update(n: u16) -> [u8; 24] {
     update
 }
 
-/// Listens at a port that nobody has.
+/// Listens at a port that is free.
 pub(crate) fn listen<R: Net<Stream = TcpStream, Listener = TcpListener>>(
     rt: &R,
 ) -> io::Result<TcpListener> {
     TcpListener::bind(rt, SocketAddr::from((Ipv4Addr::LOCALHOST, 0)))
 }
 
-/// A port that nobody has now.
+/// A port that is free now.
 pub(crate) fn free_port<R: Net<Stream = TcpStream, Listener = TcpListener>>(
     rt: &R,
 ) -> io::Result<u16> {
@@ -54,7 +54,7 @@ pub(crate) fn accept(listener: &TcpListener) -> io::Result<TcpStream> {
     Ok(stream)
 }
 
-/// Connects as soon as somebody listens.
+/// Connects as soon as a program listens at the port.
 pub(crate) fn connect<R: Net<Stream = TcpStream> + Clock>(
     rt: &R,
     port: u16,
@@ -70,14 +70,14 @@ pub(crate) fn connect<R: Net<Stream = TcpStream> + Clock>(
     TcpStream::connect(rt, address)
 }
 
-/// A viewer that has connected, as soon as somebody listens, and has said its version (RFC 6143, 7.1.1).
+/// A viewer that has connected, as soon as a program listens at the port, and has sent its version (RFC 6143, 7.1.1).
 pub(crate) fn come<R: Net<Stream = TcpStream> + Clock>(rt: &R, port: u16) -> io::Result<TcpStream> {
     let mut stream = connect(rt, port)?;
     stream.write_all(b"RFB 003.008\n")?;
     Ok(stream)
 }
 
-/// Whether nobody listens at this port on another address of this machine.
+/// Whether nothing listens at this port on another address of this machine.
 pub(crate) fn is_closed_beside<R: Net<Stream = TcpStream>>(rt: &R, port: u16) -> bool {
     let beside = SocketAddr::from((Ipv4Addr::new(127, 0, 0, 2), port));
     match TcpStream::connect(rt, beside) {

@@ -44,7 +44,7 @@ const SCENES: &[Scene] = &[
             Line::Of("reflectord: can't connect to the host ", NOBODY, ": "),
         ],
     },
-    // It is told before the host is troubled.
+    // It is told before the host is connected to.
     Scene {
         name: "a port that is taken",
         told: Told::First,

@@ -1,4 +1,4 @@
-//! Hosts by their names, and texts that say nowhere. A first host that isn't there yet.
+//! Hosts by their names, words that name no host, and a first host that isn't there yet.
 
 use crate::served::host::{Ending, Host};
 use crate::served::scene::{FAULT, FIRST, FULL, Line, Scene, Told, VIEW, play_all};

@@ -1,4 +1,4 @@
-//! A viewer that comes through a proxy which `serve` is told of.
+//! A viewer that comes through a proxy which `serve` was told of.
 
 use crate::served::host::{Ending, Host, INIT};
 use crate::served::loopback::connect;
@@ -71,7 +71,8 @@ const SCENES: &[Scene] = &[
     },
 ];
 
-/// Whether one is greeted who comes here through the proxy, and leaves.
+/// Whether a viewer that comes here through the proxy is greeted, and is named by its header in the log once it has
+/// left.
 pub(crate) fn is_proxied_one_right<R>(ear: &Ear<R>, port: u16) -> io::Result<bool>
 where
     R: Net<Stream = TcpStream, Listener = TcpListener> + Wait + Clock + Drop,
@@ -86,7 +87,7 @@ where
     Ok(is_greeted && is_over)
 }
 
-/// The address that a believed header tells is the viewer's in the log, and a word that is no address is told so.
+/// The address in a believed header is the viewer's in the log, and a word that is no address is told to be none.
 #[test]
 fn proxy_is_believed_where_it_is_told(rt: HostRuntime) -> Result<(), Fail> {
     play_all(rt, rt.alloc(), SCENES)

@@ -20,11 +20,11 @@ const TURNS: u64 = 20_000;
 /// What the parts of a scene share.
 #[derive(Drop)]
 pub(crate) struct Room {
-    /// What stands on standard error.
+    /// The text on standard error.
     text: Mutex<String>,
-    /// What stands on standard output.
+    /// The text on standard output.
     said: Mutex<String>,
-    /// The lines that are to stand there.
+    /// The lines that have to come on standard error.
     wanted: Mutex<Vec<String>>,
     /// How many seconds the clock is ahead.
     ahead: AtomicU64,
@@ -79,25 +79,25 @@ impl<R: Drop> Ear<R> {
         Ear { rt, alloc, room }
     }
 
-    /// The clock is so many seconds ahead from now on.
+    /// The clock is this many seconds ahead from now on.
     pub(crate) fn put_forward(&self, seconds: u64) {
         self.room.ahead.store(seconds, Ordering::SeqCst);
     }
 }
 
 impl<R: Wait + Clock + Drop> Ear<R> {
-    /// This line is to stand on standard error.
+    /// This line has to come on standard error.
     pub(crate) fn want(&self, line: String) -> Result<(), AllocError> {
         self.room.wanted.lock(self).push(line)?;
         Ok(())
     }
 
-    /// Whether this stands on standard error.
+    /// Whether this text is on standard error.
     pub(crate) fn has(&self, words: &str) -> bool {
         self.room.text.lock(self).as_str().contains(words)
     }
 
-    /// Whether it comes to stand there in time.
+    /// Whether this text comes on standard error in time.
     pub(crate) fn hears(&self, words: &str) -> bool {
         for _ in 0..TURNS {
             if self.has(words) {
@@ -108,7 +108,7 @@ impl<R: Wait + Clock + Drop> Ear<R> {
         false
     }
 
-    /// Whether this number comes to be reached in time.
+    /// Whether this number is reached in time.
     pub(crate) fn reaches(&self, number: &AtomicU64, wanted: u64) -> bool {
         for _ in 0..TURNS {
             if wanted <= number.load(Ordering::SeqCst) {
@@ -119,7 +119,7 @@ impl<R: Wait + Clock + Drop> Ear<R> {
         false
     }
 
-    /// Whether the lines that are to stand on standard error come to stand there in time, and no others.
+    /// Whether the lines that have to come on standard error come there in time, and no others.
     pub(crate) fn is_told(&self) -> bool {
         for _ in 0..TURNS {
             if self.has_all_lines() {
@@ -130,7 +130,7 @@ impl<R: Wait + Clock + Drop> Ear<R> {
         false
     }
 
-    /// Whether they stand there now. No two lines that are wanted fit the same one.
+    /// Whether they are there now. No two lines that are wanted fit the same one.
     fn has_all_lines(&self) -> bool {
         let text = self.room.text.lock(self);
         let wanted = self.room.wanted.lock(self);
@@ -152,7 +152,8 @@ fn stands_in(text: &str, wanted: &str) -> bool {
     false
 }
 
-/// Whether a line is as it is wanted: one of the log after its time, and but for its seconds; any other as it begins.
+/// Whether a line is the wanted one: of a line of the log, what comes after its time is compared, except its seconds;
+/// of any other, how it begins.
 fn fits(told: &str, wanted: &str) -> bool {
     if told.starts_with(wanted) {
         return true;
@@ -199,7 +200,7 @@ impl<R: Wait + Clock + Drop> Eprint for Ear<R> {
 }
 
 impl<R: Wait + Clock + Drop> Ear<R> {
-    /// What stands on standard output ends so.
+    /// Whether the text on standard output ends so.
     pub(crate) fn has_said(&self, words: &str) -> bool {
         self.room.said.lock(self).as_str().ends_with(words)
     }

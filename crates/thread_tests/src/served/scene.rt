@@ -1,5 +1,5 @@
-//! What `serve` stands between: hosts, and a viewer of each role. It is the program that serves, by a line of words, on
-//! a runtime whose standard error and clock are the scene's.
+//! A scene has hosts, a viewer of each role, and `serve` between them. `serve` runs as the program does, by a line of
+//! words, on a runtime whose standard error and clock are the scene's.
 
 use crate::served::host::{Host, is_host_right};
 use crate::served::lines::words_of;
@@ -21,12 +21,12 @@ use std::{io, thread};
 /// The hosts, each viewer and `serve` have a thread each.
 const PARTS: usize = 4;
 
-/// The exit status of a fault that isn't want of memory.
+/// The exit status of a fault other than a lack of memory.
 pub(crate) const FAULT: u8 = 3;
 
 /// What `serve` is told, whom it meets, how it ends, and what it says.
 pub(crate) struct Scene {
-    /// What is said where it isn't so.
+    /// The name that is printed where the scene goes otherwise.
     pub(crate) name: &'static str,
     /// Where hosts are told to be.
     pub(crate) told: Told,
@@ -49,9 +49,9 @@ pub(crate) struct Scene {
 pub(crate) enum Told {
     /// At the first listener.
     First,
-    /// Where nobody listens.
+    /// Where no host listens.
     Nobody,
-    /// At the first listener, where nobody listens, at the second and at the third listener.
+    /// At the first listener, then where no host listens, then at the second and at the third listener.
     EachInTurn,
     /// At the first listener's port of this name.
     Named(&'static str),
@@ -71,8 +71,8 @@ pub(crate) enum Line {
     At(&'static str, usize, &'static str),
 }
 
-/// The numbers of ports: of the listeners of three hosts, of nobody, and those at which `serve` listens for viewers of
-/// each role.
+/// The numbers of ports: those of the listeners of three hosts, one at which nothing listens, and those at which
+/// `serve` listens for viewers of each role.
 pub(crate) const FIRST: usize = 0;
 
 pub(crate) const SECOND: usize = 1;
@@ -133,7 +133,7 @@ impl Stage {
         self.ports.get(number).copied().unwrap_or(0)
     }
 
-    /// Notes the lines of a scene that are to stand on standard error.
+    /// Notes the lines of a scene that have to come on standard error.
     fn note<R: Wait + Clock + Drop>(&self, ear: &Ear<R>, lines: &[Line]) -> Result<(), AllocError> {
         for line in lines {
             let line = match line {
@@ -158,7 +158,7 @@ pub(crate) fn control_path(alloc: Global, full: u16) -> Result<String, AllocErro
     format!(in alloc; "control-{full}")
 }
 
-/// The ports of three listeners, and three that nobody has.
+/// The ports of three listeners, and three free ports.
 fn ports<R: Net<Stream = TcpStream, Listener = TcpListener>>(
     rt: &R,
     hosts: &[TcpListener; 3],
@@ -174,7 +174,7 @@ fn ports<R: Net<Stream = TcpStream, Listener = TcpListener>>(
     ])
 }
 
-/// Plays each scene: an error with its name where it isn't as it has to be.
+/// Plays each scene. It answers an error with the scene's name where a scene doesn't go as it should.
 pub(crate) fn play_all<R>(rt: R, alloc: Global, scenes: &[Scene]) -> Result<(), Fail>
 where
     R: Net<Stream = TcpStream, Listener = TcpListener>
@@ -200,8 +200,8 @@ where
     Ok(())
 }
 
-/// Whether each part of a scene is right: the hosts, a viewer of each role, and `serve`, also in what it says. No host
-/// is called once too often.
+/// Whether each part of a scene is right: the hosts, a viewer of each role, and `serve`, including what it prints. No
+/// host is connected to more often than it should be.
 fn is_played<R>(
     rt: R,
     alloc: Global,
@@ -273,7 +273,7 @@ where
     Ok(run_words(ear, alloc, words.as_slice(), io::empty(), io::sink()))
 }
 
-/// Whether nobody calls these hosts.
+/// Whether no client connects to these hosts.
 fn are_left_alone(hosts: &[TcpListener]) -> bool {
     let mut are_left_alone = true;
     for listener in hosts {

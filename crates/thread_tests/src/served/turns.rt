@@ -8,7 +8,8 @@ use std::test::*;
 /// The viewer keeps its connection from one host to the next, and is shown what each sends.
 const SCENES: &[Scene] = &[
     // A host that isn't there is passed over, and the others are met in their order. The second breaks off. The hosts
-    // are told each byte that full control types, and none that is typed in vain. The run ends well with the last host.
+    // are told each byte that full control types, and none that is typed in vain. The run ends without a fault, with
+    // the last host.
     Scene {
         name: "viewers type from host to host",
         told: Told::EachInTurn,

@@ -6,7 +6,7 @@ use crate::served::scene::{Scene, Told, play_all};
 use crate::served::viewer::Viewer;
 use std::test::*;
 
-/// The host ends once its updates were shown, and so does `serve`, well.
+/// The host ends once its updates were shown, and `serve` ends with it, without a fault.
 const SCENES: &[Scene] = &[
     Scene {
         name: "a viewer is greeted, and its answer is the host's update",

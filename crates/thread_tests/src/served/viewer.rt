@@ -24,11 +24,11 @@ const CHOICE_AND_SHARED: &[u8] = b"\x01\x01";
 /// 7.1.3).
 pub(crate) const GREETING: &[u8] = b"RFB 003.008\n\x01\x01\0\0\0\0";
 
-/// What one is told who comes before there is a host: version 3.8, no type of security, and the reason with its length
-/// (RFC 6143, 7.1.1 and 7.1.2).
+/// What a viewer is told that comes before there is a host: version 3.8, no security type, and the reason with its
+/// length (RFC 6143, 7.1.1 and 7.1.2).
 pub(crate) const NO_HOST: &[u8] = b"RFB 003.008\n\0\0\0\0\x0Bno host yet";
 
-/// So many viewers at most come before the doors are seen to be open.
+/// At most this many viewers come before the doors are seen to be open.
 pub(crate) const TRIES: u64 = 10_000;
 
 /// Asks for the whole screen, or for what is new of it (RFC 6143, 7.5.3).
@@ -56,10 +56,10 @@ pub(crate) enum Viewer {
     Types(u16),
     /// As `FollowsHosts`, and after each update it types what no host is to be told.
     TypesInVain(u16),
-    /// Asks for what is new of a black screen, of which there is nothing, and is let go without a byte. A read that
-    /// lasts too long is an error, so a place that isn't told of the end is found.
+    /// Asks for what is new of a black screen, where nothing is new, and is let go without a byte. A read that lasts
+    /// too long is an error, so a place that isn't told of the end shows.
     IsLetGo,
-    /// Viewers come one after another and leave so. While one is there another finds no place.
+    /// Viewers come one after another, and leave so. While one is there, another finds no place.
     Visits(&'static [Leaving]),
     /// Comes before there is a host, and is told so; once there is one it comes again, and leaves.
     ComesEarly,
@@ -69,8 +69,8 @@ pub(crate) enum Viewer {
     IsSentAway(&'static [&'static str]),
 }
 
-/// Whether a viewer at the port of this role is greeted as it has to be, and then given what it has to be. It tells the
-/// number of the last update that it was shown. Nobody listens at the port on another address.
+/// Whether a viewer at the port of this role is greeted as it should be, and then given what it should be. It tells the
+/// number of the last update that it was shown. Nothing listens at the port on another address.
 pub(crate) fn is_viewer_right<R>(
     ear: &Ear<R>,
     role: Role,
@@ -114,7 +114,7 @@ where
     Ok(None)
 }
 
-/// What a viewer that has said its version is told up to its screen.
+/// What a viewer that has sent its version is told, up to its screen.
 pub(crate) fn greeting(stream: &mut TcpStream) -> io::Result<[u8; 18]> {
     let mut greeting = [0u8; 18];
     stream.write_all(CHOICE_AND_SHARED)?;
@@ -138,7 +138,7 @@ pub(crate) fn is_greeted(stream: &mut TcpStream, init: &[u8]) -> io::Result<bool
     Ok(greeting.as_slice() == GREETING && is_screen(stream, init)?)
 }
 
-/// Whether a viewer that was greeted is given what it has to be.
+/// Whether a viewer that was greeted is given what it should be.
 fn is_served<R: Wait + Clock + Drop>(
     ear: &Ear<R>,
     stream: &mut TcpStream,
@@ -220,7 +220,7 @@ fn goes_on<R: Wait + Clock + Drop>(
 }
 
 /// Whether it is shown a black screen, after which it asks for what is new, and is let go without a byte. It counts
-/// itself among those that wait.
+/// itself among the viewers that wait.
 pub(crate) fn is_let_go<R: Drop>(ear: &Ear<R>, stream: &mut TcpStream) -> io::Result<bool> {
     let given = answer(stream, ASK)?;
     stream.write_all(ASK_NEW)?;

@@ -12,14 +12,14 @@ use std::net::{Net, TcpListener, TcpStream};
 use std::sync::Wait;
 use std::time::Clock;
 
-/// What one is told who finds no place: version 3.8, no type of security, and the reason with its length (RFC 6143,
+/// What a viewer is told that finds no place: version 3.8, no security type, and the reason with its length (RFC 6143,
 /// 7.1.1 and 7.1.2).
 const REFUSAL: &[u8] = b"RFB 003.008\n\0\0\0\0\x14all places are taken";
 
 /// More than a viewer's side of the handshake may take, in seconds.
 const TOO_LONG: u64 = 11;
 
-/// So many viewers at most find the place not yet free that was left.
+/// At most this many viewers find that a place which was left isn't free yet.
 const TRIES: u64 = 1_000;
 
 /// How a viewer leaves.
@@ -30,8 +30,8 @@ pub(crate) enum Leaving {
     BreaksRules,
     /// It closes with bytes unread, so that the system calls the connection broken.
     BreaksOff,
-    /// It has said its version and nothing more when its time is over, by the clock of the scene. That waits until
-    /// a viewer at the other port waits for news.
+    /// It has sent its version and nothing more when its time is over, by the clock of the scene. The clock is put
+    /// forward once a viewer at the other port waits for news.
     IsLate,
     /// It waits for news until it is let go.
     IsLetGo,
@@ -57,7 +57,7 @@ fn named(role: Role) -> (&'static str, u64) {
     }
 }
 
-/// Whether each of these viewers finds a place, and leaves so, while another that comes finds none. What the log is to
+/// Whether each of these viewers finds a place, and leaves so, while another that comes finds none. What the log has to
 /// tell of them is noted.
 pub(crate) fn are_visits_right<R>(
     ear: &Ear<R>,
@@ -90,8 +90,8 @@ where
     Ok(true)
 }
 
-/// A viewer that finds a place, and what the log is to tell of it. Those that come before the place is seen to be free
-/// find none.
+/// A viewer that finds a place, and what the log has to tell of it. Viewers that come before the place is seen to be
+/// free find none.
 fn enters<R>(
     ear: &Ear<R>,
     role: Role,
@@ -114,7 +114,7 @@ where
     Ok(None)
 }
 
-/// Whether the log tells of a newcomer that there is no place for it, or else that there is.
+/// Whether the log tells that there is no place for a newcomer. Otherwise it tells that there is one.
 fn is_refused<R: Wait + Clock + Drop>(
     ear: &Ear<R>,
     role: Role,
@@ -132,14 +132,14 @@ fn is_refused<R: Wait + Clock + Drop>(
     Ok(is_refused || !is_told)
 }
 
-/// Whether one who finds no place is told so.
+/// Whether a viewer that finds no place is told so.
 fn is_told_so(stream: &mut TcpStream) -> io::Result<bool> {
     let mut refusal = [0u8; 37];
     stream.read_exact(&mut refusal)?;
     Ok(refusal.as_slice() == REFUSAL)
 }
 
-/// The log is to tell that a viewer came and that it left so.
+/// The log has to tell that a viewer came, and that it left so.
 fn wants_visit<R: Wait + Clock + Drop>(
     ear: &Ear<R>,
     role: Role,
@@ -155,7 +155,7 @@ fn wants_visit<R: Wait + Clock + Drop>(
     Ok(())
 }
 
-/// Does what comes before a viewer closes that leaves so. Whether it was served until then.
+/// Does what a viewer that leaves so does before it closes. It answers whether the viewer was served until then.
 fn leaves<R: Wait + Clock + Drop>(
     ear: &Ear<R>,
     stream: &mut TcpStream,
@@ -180,7 +180,7 @@ fn leaves<R: Wait + Clock + Drop>(
     }
 }
 
-/// Whether a viewer is let go whose time is over behind its version.
+/// Whether a viewer is let go whose time is over after its version.
 fn is_late<R: Wait + Clock + Drop>(ear: &Ear<R>, stream: &mut TcpStream) -> io::Result<bool> {
     let mut told = [0u8; 14];
     stream.read_exact(&mut told)?;
@@ -188,7 +188,8 @@ fn is_late<R: Wait + Clock + Drop>(ear: &Ear<R>, stream: &mut TcpStream) -> io::
         return Ok(false);
     }
     ear.put_forward(TOO_LONG);
-    // A byte more ends the wait that began before. Whoever had seen the time before has broken the connection by then.
+    // One more byte ends a wait that began before the clock was put forward. If the server had looked at the clock
+    // already, it has broken the connection by then.
     let _ = stream.write_all(b"\x01");
     let is_over = match stream.read(&mut [0]) {
         Ok(count) => count == 0,

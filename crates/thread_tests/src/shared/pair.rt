@@ -1,4 +1,4 @@
-//! One thread puts, four look and cut.
+//! One thread puts; four look and cut.
 
 ghost use Rattle.std.specs.Prelude.{◌≡◌, ◌≤◌};
 
@@ -26,7 +26,7 @@ impl<J: Naming> Reads for Eye<J> {
     }
 }
 
-/// Whether each cuts the last update once it has met the writer.
+/// Whether each eye cuts the last update once it has met the writer.
 fn all_cut_the_last<J: Naming + Publishes, R: Wait + Drop>(
     eyes: &mut [Eye<J>],
     writer: &PairWriter<J, R>,
@@ -72,7 +72,8 @@ fn reads_beside<J: Naming + Publishes + Send + Sync, R: Threads + Wait + Sync + 
     put && right && are_gone(eyes, room)
 }
 
-/// The same of a new pair with this many eyes; or, where memory may be short, whether five puts are answered.
+/// Whether all is right with a new pair of this many eyes, or, where memory may be short, whether five puts are
+/// answered.
 fn plays<J: Naming + Publishes + Send + Sync, R: Threads + Wait + Sync + Send + Copy + Drop>(
     rt: R,
     alloc: Global,

@@ -32,8 +32,8 @@ fn painted(alloc: Global, n: u64) -> Result<Patch, Fault>
     painter.patch()
 }
 
-/// Puts patch n, and says whether it is answered n. Refused for want of memory the patch comes back, and is put then:
-/// that is right where memory may be short.
+/// Puts patch n, and says whether it is answered n. Where the put is refused for want of memory the patch comes back,
+/// and is put then, which is right where memory may be short.
 pub fn puts_one<P: Puts>(alloc: Global, puts: &mut P, n: u64, is_short: bool) -> Result<bool, Fault>
     requires { (P.width puts.old ≡ 4) × (P.height puts.old ≡ 4) }
     ensures { (P.width puts.new ≡ 4) × (P.height puts.new ≡ 4) }
@@ -93,7 +93,7 @@ pub trait Reads {
     /// Its screen has 4 by 4 pixels.
     ghost fits: { Type 0 };
 
-    /// Looks, and then cuts: both numbers, if there is a cut, which shows its number all over.
+    /// Looks, and then cuts. It answers both numbers, if there is a cut and the cut shows its number all over.
     fn reads(&mut self, room: &mut Room) -> Option<(u64, u64)>
         requires { fits };
 }
@@ -141,8 +141,8 @@ fn all_read<R: Threads + Sync, E: Reads + Send>(
     );
 }
 
-/// One thread puts 1,000 patches, and each of four ends reads in a thread. Whether each put was answered its number,
-/// and all that was read was right.
+/// One thread puts 1,000 patches, and each of four ends reads in a thread. It answers whether each put was answered its
+/// number, and all that was read was right.
 pub fn beside<R: Threads + Sync, P: Puts + Send, E: Reads + Send>(
     rt: &R,
     alloc: Global,

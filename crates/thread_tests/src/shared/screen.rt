@@ -71,8 +71,8 @@ fn is_gone<J: Naming>(watchers: &mut [Watcher<J>], room: &mut Room) -> bool
     }
 }
 
-/// Whether all is right where all watchers but the last read beside a thousand puts, and each then looks at the last
-/// number, also the one that never looked.
+/// Whether all is right where all watchers but the last read beside a thousand puts, and each watcher then looks at the
+/// last number, including the one that never looked.
 fn reads_beside<J: Naming + Publishes + Send + Sync, R: Threads + Wait + Sync + Send + Copy + Drop>(
     rt: R,
     alloc: Global,
@@ -91,8 +91,8 @@ fn reads_beside<J: Naming + Publishes + Send + Sync, R: Threads + Wait + Sync + 
     right
 }
 
-/// Puts three patches, for which the first watcher wants forms, both do, and the second does. It says whether a form is
-/// kept of what changed by the second alone.
+/// Puts three patches. For the first the first watcher wants forms, for the second both do, and for the third the
+/// second does. It says whether a form is kept only of what the second patch changed.
 fn keeps_for_two<J: Naming + Publishes, R: Wait + Drop>(
     alloc: Global,
     publisher: &mut Publisher<J, R>,

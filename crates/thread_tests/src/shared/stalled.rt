@@ -1,4 +1,4 @@
-//! Viewers that stall, each at another update: how many boards there are.
+//! Viewers stall, each at another update, and the boards are counted.
 
 ghost use Rattle.std.specs.Prelude.{◌≡◌, ◌≤◌};
 
@@ -33,7 +33,7 @@ fn puts_and_cuts<J: Naming + Publishes, R: Wait + Drop>(
     Ok(put && matches!(cut, Ok(number) if number == n) && room.shows(n))
 }
 
-/// Whether the cuts show 1, 2 and so on still.
+/// Whether the cuts still show 1, 2 and so on.
 fn show_their_own(rooms: &[Room]) -> bool {
     let mut right = true;
     let mut n = 1u64;
@@ -44,9 +44,9 @@ fn show_their_own(rooms: &[Room]) -> bool {
     right
 }
 
-/// Each of four places holds a cut of an update of its own: then puts go on, and change none of these cuts. Where one
-/// place holds a second cut, there are the seven boards that there may be, those of five cuts and of two copies; so a
-/// put is refused, and changes nothing, until that cut is of a newer update.
+/// Each of four places holds a cut of another update. Then puts go on, and change none of these cuts. Where one place
+/// holds a second cut, there are as many boards as there may be, seven: those of five cuts and of two copies. So a put
+/// is refused, and changes nothing, until that cut is of a newer update.
 fn stalls<J: Naming + Publishes, R: Wait + Drop>(
     alloc: Global,
     publisher: &mut Publisher<J, R>,
@@ -80,7 +80,7 @@ fn stalls<J: Naming + Publishes, R: Wait + Drop>(
     Ok(right && show_their_own(rooms.as_slice()))
 }
 
-/// The same of a new shared screen with four places.
+/// What `stalls` answers with a new shared screen of four places.
 fn plays<J: Naming + Publishes + Send + Sync, R: Threads + Wait + Sync + Send + Copy + Drop>(
     rt: R,
     alloc: Global,
