@@ -1,10 +1,10 @@
--- The numbers of the faults. 1 to 14 are of the protocol, the peer's bytes showed them; 20 to 24 of memory, links
--- and places; 30 and 31 of what is counted or queued.
+-- The numbers of the faults. Those from 1 to 14 are faults of the protocol, which the peer's bytes showed; 20 to 24 are
+-- of memory, links and places; 30 and 31 are of queues and counts.
 use Rattle.std.specs.Prelude.{ℕ}
 use Rattle.fault.specs.declared.kinds.Fault.{Fault}
 use Rattle.fault.specs.declared.kinds.Fault.TheVariants.{BadVersion, HostRefused, NoNone, SecurityFailed, BadScreen, UnknownMessage, RectOutside, UnknownEncoding, SubrectOutside, NoBackground, NoForeground, BadFormat, BadChoice, CopyOutside, Memory, LinkFailed, LinkEnded, Gone, NoPlace, QueueFull, NumbersOut}
 
--- The number of each.
+-- The number of each fault.
 abbrev pub number_of : Fault → ℕ
 number_of BadVersion = 1
 number_of (HostRefused reason) = 2

@@ -4,7 +4,7 @@ use crate::reason::Reason;
 use std::alloc::{AllocError, AllocFailed};
 use thiserror::Error;
 
-/// Why a message, a handshake or a call is refused. Each has a number of its own, which programs print.
+/// Why a message, a handshake or a call is refused. Each fault has a number of its own, which programs print.
 #[derive(Clone, Copy, Debug, Error)]
 pub enum Fault {
     /// The peer's first 12 bytes aren't a version that is accepted (RFC 6143, section 7.1.1).
@@ -22,7 +22,7 @@ pub enum Fault {
     /// The host's screen, as ServerInit tells it (section 7.3.2), has a width or a height that is 0 or over 4096.
     #[error("the host's screen has a size that is not served")]
     BadScreen,
-    /// A message type that a peer of that side doesn't send (sections 7.5 and 7.6).
+    /// The peer sent a message type that its side doesn't send (sections 7.5 and 7.6).
     #[error("unknown message type {0}")]
     UnknownMessage(u8),
     /// A rectangle of the host leaves the screen (section 7.6.1).
@@ -106,7 +106,7 @@ impl Fault {
     }
 }
 
-/// So that `?` answers `Memory` where memory was refused.
+/// Lets `?` answer `Memory` where memory was refused.
 impl From<AllocError> for Fault {
     ghost use Rattle.std.specs.Prelude.{◌≡◌};
     ghost use Rattle.fault.specs.declared.kinds.Fault.TheVariants.{Memory};
@@ -118,7 +118,7 @@ impl From<AllocError> for Fault {
     }
 }
 
-/// The same where the value that could not be stored comes back, as from `Vec::push`. It is dropped.
+/// Does the same where the value that couldn't be stored comes back, as from `Vec::push`. That value is dropped.
 impl<T: Drop> From<AllocFailed<T>> for Fault {
     ghost use Rattle.std.specs.Prelude.{◌≡◌};
     ghost use Rattle.fault.specs.declared.kinds.Fault.TheVariants.{Memory};

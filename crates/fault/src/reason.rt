@@ -8,7 +8,8 @@ use std::marker::Model;
 /// How many bytes of a reason are kept.
 pub const LONGEST_REASON: usize = 255;
 
-/// The first bytes of a host's reason (RFC 6143, section 7.1.2). It is plain data, so a fault that holds it is too.
+/// The first bytes of a host's reason (RFC 6143, section 7.1.2). It is plain data, so a fault that holds it is plain
+/// data, too.
 #[derive(Clone, Copy, Debug)]
 pub struct Reason {
     bytes: [u8; LONGEST_REASON],
@@ -23,7 +24,7 @@ impl Model for Reason {
 
     ghost view = { λ r. take r.len r.bytes };
 
-    // What isn't of the reason is zero, so that equal reasons are equal data.
+    // The bytes after the reason are zero, so that equal reasons are equal data.
     ghost invariant = { λ r. (r.len ≡ length (take r.len r.bytes)) × (r.bytes ≡ take r.len r.bytes ++ replicate (LONGEST_REASON - r.len) 0) };
 
     ghost inverse = { λ reason. record { bytes = reason ++ replicate (LONGEST_REASON - length reason) 0; len = length reason } };

@@ -1,4 +1,4 @@
--- How reading the data of one rectangle of a host goes on, and what of it is painted (RFC 6143, 7.7).
+-- How reading the data of one rectangle of a host goes on, and how much of them is painted (RFC 6143, 7.7).
 use Rattle.std.specs.Prelude.{◌≡◌, ℕ, ◌+◌, ◌*◌, ◌-◌, ◌<◌, Bool, true, false, List, [], ◌∷◌, ◌++◌, length, map, Result, Ok, Err, None}
 use Rattle.pixel_format.specs.PixelFormat.{host_format}
 use Rattle.byte_reading.specs.Reading.{Reading, Done, Faulty, ◌>>=◌, after, taken, times, wants_more, fault_of, Spells}
@@ -79,7 +79,7 @@ IsSource area begun source = Spells copy_source begun (source.x, source.y) × (s
 abbrev pub IsCodecFor : {P : Type 0} → (width height : P → ℕ) → Rect → P → Type 0
 IsCodecFor width height area p = (width p ≡ area.w) × (height p ≡ area.h)
 
--- The rectangle shows what was read so far, of which the whole makes a picture. Reading goes on as ahead says.
+-- The rectangle shows what was read so far, and what is read in the end shows a picture. Reading goes on as ahead says.
 pub record CodecStands {P S A : Type 0} (width height : P → ℕ) (picture : ℕ → ℕ → A → Canvas) (ahead : P → S → Reading A) (Stands : P → Canvas → S → Type 0) (area : Rect) (p : P) (canvas : Canvas) (reading : Reading Paint) : Type 0 where
   pub sofar : S
   pub width_is : width p ≡ area.w
@@ -125,15 +125,15 @@ IsBodyWanting (body.Hextile p) = hextile.IsWanting p
 abbrev pub IsWanting : DataProgress → Type 0
 IsWanting d = IsBodyWanting d.body
 
--- What was painted before, over the screen at the update's start, and what a rectangle shows so far, which a CopyRect
--- leaves as it is.
+-- The painter shows what was painted before, over the screen at the update's start, and what of this rectangle was
+-- painted so far, which for a CopyRect is nothing.
 abbrev pub BodyStands : ℕ → ℕ → Rect → Body → Canvas → List Paint → Painting → Reading Paint → Type 0
 BodyStands w h area (body.Raw p) start paints painter reading = IsPaintedAround start paints area painter × RawStands area p (part_of area (worked painter)) reading
 BodyStands w h area (body.Copy begun) start paints painter reading = IsPaintedOver start paints painter × CopyStands w h area begun reading
 BodyStands w h area (body.Rre p) start paints painter reading = IsPaintedAround start paints area painter × RreStands area p (part_of area (worked painter)) reading
 BodyStands w h area (body.Hextile p) start paints painter reading = IsPaintedAround start paints area painter × HextileStands area p (part_of area (worked painter)) reading
 
--- It stands for data that goes on so, after these paints.
+-- What is kept stands for data that go on so, after these paints.
 abbrev pub DataStands : DataProgress → Canvas → List Paint → Painting → Reading Paint → Type 0
 DataStands d start paints painter reading = BodyStands d.width d.height d.area d.body start paints painter reading
 
@@ -143,14 +143,14 @@ pub record IsSameArea (old new : DataProgress) : Type 0 where
   pub height : new.height ≡ old.height
   pub area : new.area ≡ old.area
 
--- Where the rectangle is whole it is one paint more.
+-- The rectangle is whole, and is one paint more.
 pub record IsWhole (start : Canvas) (paints : List Paint) (painter : Painting) (reading : Reading Paint) : Type 0 where
   pub painted : Paint
   pub reads : reading ≡ Done painted
   pub shows : IsPaintedOver start (paints ++ in_colours painted ∷ []) painter
 
--- A reader that stood for a reading, after these paints, was fed a piece, and answers how many bytes it used and
--- whether the rectangle is whole, or the fault. Where it isn't whole, it wants another byte.
+-- A reader that stood for a reading, after these paints, was fed a piece. It answers how many bytes it used and whether
+-- the rectangle is whole, or it answers the fault. Where the rectangle isn't whole, another byte is wanted.
 abbrev pub Fed : (Stands : Reading Paint → Type 0) → Canvas → List Paint → Painting → Reading Paint → List ℕ → Result (ℕ × Bool) Fault → Type 0
 Fed Stands start paints painter reading piece (Ok (used, true)) = IsWhole start paints painter (after reading piece) × (used ≡ taken reading piece)
 Fed Stands start paints painter reading piece (Ok (used, false)) = Stands (after reading piece) × (wants_more (after reading piece) ≡ true) × (used ≡ taken reading piece)

@@ -54,7 +54,7 @@ form_of w h sofar (Encoding left area) = with_others w h sofar left (u32 >>= dat
 form_of w h sofar Colours = set_color_map_entries
 form_of w h sofar Length = text ServerCutText LostText
 
--- Only inside an update there are paints.
+-- There are paints only inside an update.
 abbrev pub IsSuited : HostPart → List Paint → Type 0
 IsSuited Kind paints = paints ≡ []
 IsSuited Count paints = paints ≡ []
@@ -71,7 +71,7 @@ keeping = kept_text ServerCutText
 abbrev pub passing : ℕ → Passed → Reading ServerMessage
 passing left what = padding left (Done (message_of what))
 
--- ---- the state of a decoder, beside what was painted, over the screen at the start of the message
+-- ---- the state of a decoder and of its painter, over the screen at the start of the message
 
 -- The painter shows the paints of the message so far, in colours.
 abbrev pub Holds : Canvas → Painting → List Paint → Type 0
@@ -101,8 +101,8 @@ pub record AtEnd (w h : ℕ) (event : HostEvent) (start : Canvas) (painter : Pai
   pub brings : Brings w h start event message
   pub shows : Holds (after_updates start (changes w h message)) painter []
 
--- That state stands for a message that goes on so, and that began over a screen. Where memory was refused it
--- stands for none, since no message has that fault.
+-- The state, with its painter, stands for a message that began over this screen and goes on so. Where memory was
+-- refused it stands for no message, since no message has that fault.
 abbrev pub Stands : ℕ → ℕ → HostState → Canvas → Painting → Reading ServerMessage → Type 0
 Stands w h (Fields fields) start painter r = InPart w h fields.0 fields.1 start painter r
 Stands w h (Pixels left reader) start painter r = InData w h left reader start painter r
@@ -111,14 +111,14 @@ Stands w h (Passing what left) start painter r = Holds start painter [] × (0 < 
 Stands w h (Whole event) start painter r = AtEnd w h event start painter r
 Stands w h (Failed fault) start painter r = r ≡ Faulty fault
 
--- Outside an update: whatever the painter is, where nothing was painted over a screen, it stands for a message that
--- goes on so.
+-- Outside an update: the state stands for a message that goes on so with every painter that has painted nothing over
+-- the screen.
 abbrev pub StandsUnpainted : ℕ → ℕ → HostState → Reading ServerMessage → Type 0
 StandsUnpainted w h state r = (start : Canvas) (painter : Painting) → Holds start painter [] → Stands w h state start painter r
 
 -- A decoder and its painter stand for a message of the host that goes on so. At its start the screen was this: what all
--- whole messages before it made. Before the message's first byte, and where it is whole, the painter shows the screen
--- as it then is; inside an update, or at a fault, it may show a part of it.
+-- whole messages before it made. Before the message's first byte, and once the message is whole, the painter shows the
+-- screen as it then is. Inside an update, or at a fault, it may show a part of the message.
 abbrev pub Decodes : Decoding → Painting → Canvas → Reading ServerMessage → Type 0
 Decodes decoder painter start r = Stands decoder.width decoder.height decoder.state start painter r
 
@@ -126,7 +126,7 @@ Decodes decoder painter start r = Stands decoder.width decoder.height decoder.st
 abbrev pub start : HostState
 start = Fields (Kind, [])
 
--- Another byte is taken: no message is whole, and nothing failed.
+-- Another byte would be taken: no message is whole, and nothing failed.
 abbrev pub is_open : HostState → Bool
 is_open (Fields fields) = true
 is_open (Pixels left reader) = true
@@ -157,7 +157,7 @@ pub record IsFor (decoder : Decoding) (painter : Painting) : Type 0 where
   pub width : painter.width ≡ decoder.width
   pub height : painter.height ≡ decoder.height
 
--- A message that went on as r was fed a piece. Where memory is refused, nothing is said of it from then on.
+-- A message that went on as r was fed a piece. Where memory is refused, nothing is said of the message from then on.
 abbrev pub Feeds : Decoding → Painting → Canvas → Reading ServerMessage → List ℕ → Result ℕ Fault → Type 0
 Feeds decoder painter start r piece (Ok used) = Decodes decoder painter start (after r piece) × (used ≡ taken r piece) × (fault_of (after r piece) ≡ None)
 Feeds decoder painter start r piece (Err fault) =
@@ -165,7 +165,7 @@ Feeds decoder painter start r piece (Err fault) =
 
 -- ---- a step of it
 
--- A rectangle lies on the screen where its encoding is read.
+-- Where a rectangle's encoding is read next, the rectangle lies on the screen.
 abbrev pub SuitsPart : ℕ → ℕ → HostPart → Type 0
 SuitsPart w h Kind = Unit {0}
 SuitsPart w h Count = Unit {0}
@@ -174,7 +174,8 @@ SuitsPart w h (Encoding left area) = IsWithin area w h
 SuitsPart w h Colours = Unit {0}
 SuitsPart w h Length = Unit {0}
 
--- And its data are read for this screen, and want another byte.
+-- The part suits the screen; and a rectangle's data, where they are read, are read for this screen and want another
+-- byte.
 abbrev pub Suits : ℕ → ℕ → HostState → Type 0
 Suits w h (Fields fields) = SuitsPart w h fields.0
 Suits w h (Pixels left reader) = (reader.width ≡ w) × (reader.height ≡ h) × IsWanting reader
@@ -188,13 +189,13 @@ pub record IsDecoding (w h : ℕ) (state : HostState) : Type 0 where
   pub size : IsScreenSize w h
   pub suits : Suits w h state
 
--- The painter's screen stays, and the decoder's state is for it.
+-- The size of the painter's screen stays, and the decoder's state suits it.
 pub record Stays (old new : Painting) (state : HostState) : Type 0 where
   pub width : new.width ≡ old.width
   pub height : new.height ≡ old.height
   pub suits : Suits old.width old.height state
 
--- A message that waited for more goes on as r. Or memory was refused.
+-- The message goes on as r, or memory was refused.
 abbrev pub GoesOn : Painting → Painting → HostState → Canvas → Reading ServerMessage → Type 0
 GoesOn old new state start r = (is_refused state ≡ true) ⊎ Stands old.width old.height state start new r
 
@@ -203,7 +204,7 @@ pub record IsBehind (r next : Reading ServerMessage) (bytes : List ℕ) (n : ℕ
   pub says : after r bytes ≡ after next (drop n bytes)
   pub count : fault_of next ≡ None → taken r bytes ≡ n + taken next (drop n bytes)
 
--- It does so once these bytes were used.
+-- Reading goes on in that way once the first n bytes were used.
 pub record Uses (old new : Painting) (state : HostState) (start : Canvas) (r : Reading ServerMessage) (bytes : List ℕ) (n : ℕ) : Type 0 where
   pub next : Reading ServerMessage
   pub behind_ : IsBehind r next bytes n

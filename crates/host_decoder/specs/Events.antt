@@ -23,7 +23,7 @@ event_of w h server.Bell = Bell (sized w h update.Bell)
 event_of w h (ServerCutText text) = Cut (sized w h (update.Cut text))
 event_of w h (LostText len) = LongCut
 
--- The update of an event: a colour map and a text that isn't kept bring none.
+-- The update that an event brings. A colour map brings none, nor does a text that isn't kept.
 abbrev pub update_in : HostEvent → Option Update
 update_in (Paint patch) = Some patch.update
 update_in (Bell patch) = Some patch.update
@@ -31,7 +31,7 @@ update_in (Cut patch) = Some patch.update
 update_in Map = None
 update_in LongCut = None
 
--- The same as a list.
+-- The update that an event brings, as a list.
 abbrev pub brought_by : HostEvent → List Update
 brought_by (Paint patch) = patch.update ∷ []
 brought_by (Bell patch) = patch.update ∷ []
@@ -39,7 +39,7 @@ brought_by (Cut patch) = patch.update ∷ []
 brought_by Map = []
 brought_by LongCut = []
 
--- Its patch is for a screen of w by h.
+-- The event's patch, if it has one, is for a screen of w by h.
 abbrev pub IsSized : ℕ → ℕ → HostEvent → Type 0
 IsSized w h (Paint patch) = (patch.width ≡ w) × (patch.height ≡ h)
 IsSized w h (Bell patch) = (patch.width ≡ w) × (patch.height ≡ h)
@@ -51,19 +51,19 @@ IsSized w h LongCut = Unit {0}
 abbrev pub changes : ℕ → ℕ → ServerMessage → List Update
 changes w h message = brought_by (event_of w h message)
 
--- An event brings what a message changes that was sent over a screen.
+-- The event brings what this message changes, where it was sent over the screen start.
 pub record Brings (w h : ℕ) (start : Canvas) (event : HostEvent) (message : ServerMessage) : Type 0 where
   pub sized : IsSized w h event
   pub same : AreSameUpdates w h start (changes w h message) (brought_by event)
 
--- There is an event where there is a message, and it brings what that changes.
+-- Either there are both an event and a message, and the event brings what the message changes, or there is neither.
 abbrev pub BringsWhole : ℕ → ℕ → Canvas → Option HostEvent → Option ServerMessage → Type 0
 BringsWhole w h start None None = Unit {0}
 BringsWhole w h start None (Some message) = ⊥
 BringsWhole w h start (Some event) None = ⊥
 BringsWhole w h start (Some event) (Some message) = Brings w h start event message
 
--- The screen after a message that was sent over a screen: as it is where none is whole.
+-- The screen after a message that was sent over the screen start, or that screen itself where no message is whole.
 abbrev pub screen_behind : ℕ → ℕ → Canvas → Option ServerMessage → Canvas
 screen_behind w h start None = start
 screen_behind w h start (Some message) = after_updates start (changes w h message)

@@ -6,10 +6,10 @@ use Rattle.raster.specs.Update.{Update}
 use Rattle.host_decoder.specs.Updates.{updates}
 
 -- The updates in the bytes of hosts that have ended, over a screen of w by h: after those of each the screen is
--- switched to black. What is left after the last whole message of a host gives none.
+-- switched to black. Bytes after the last whole message of a host give no update.
 abbrev pub ended_updates : ℕ → ℕ → List (List ℕ) → List Update
 ended_updates w h ended = flat_map (λ stream. updates w h stream ++ switch w h ∷ []) ended
 
--- And then those in the bytes of the present host.
+-- The same, followed by the updates in the bytes of the present host.
 abbrev pub updates_in_turn : ℕ → ℕ → List (List ℕ) → List ℕ → List Update
 updates_in_turn w h ended present = ended_updates w h ended ++ updates w h present

@@ -6,7 +6,7 @@ use Rattle.host_decoder.specs.declared.part.HostPart.TheVariants.{Kind, Count, A
 use Rattle.host_decoder.specs.declared.passed.Passed as declared
 use Rattle.host_decoder.specs.declared.passed.Passed.TheVariants as passed
 
--- How many bytes each has.
+-- How many bytes each part has.
 abbrev pub len_of : HostPart → ℕ
 len_of Kind = 1
 len_of Count = 3
@@ -19,7 +19,7 @@ len_of Length = 7
 abbrev pub Passed : Type 0
 Passed = declared.Passed
 
--- The message that it is.
+-- The message whose bytes are read past.
 abbrev pub message_of : Passed → ServerMessage
 message_of passed.Colours = SetColorMapEntries
 message_of (passed.Text len) = LostText len

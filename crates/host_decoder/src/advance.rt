@@ -1,5 +1,5 @@
-//! What becomes of a decoder's state with bytes from the front of some: another state, if it doesn't stay, and
-//! how many bytes it takes.
+//! How a decoder's state takes bytes from the front of a piece. Each call answers the next state, or none where the
+//! state stays, and how many bytes were taken.
 
 ghost use Rattle.std.specs.Prelude.{◌≡◌, ◌<◌, ◌≤◌, [], length, unwrap_or};
 ghost use Rattle.byte_reading.specs.Reading.{Reading};
@@ -18,8 +18,7 @@ use painter::Painter;
 use rfb_wire::{Fields, FixedPart, KeptText, SkippedBytes};
 use std::alloc::Global;
 
-/// Takes bytes of fields whose length is fixed. It answers the state that follows, or none where they stay, and how
-/// many bytes it took.
+/// Takes bytes of fields whose length is fixed.
 pub(crate) fn take_fields(
     alloc: Global,
     painter: &mut Painter,
@@ -48,7 +47,7 @@ pub(crate) fn take_fields(
     )
 }
 
-/// What becomes of a text that is kept. Where memory for it is refused, no more is read.
+/// Takes bytes of a text that is kept. Where memory for the text is refused, no more is read.
 pub(crate) fn take_text(
     alloc: Global,
     painter: &Painter,
@@ -76,7 +75,7 @@ pub(crate) fn take_text(
     }
 }
 
-/// What becomes of bytes that are read past.
+/// Takes bytes that are read past.
 pub(crate) fn skip(
     what: Passed,
     past: &mut SkippedBytes,

@@ -1,4 +1,4 @@
-//! A rectangle in an encoding that a codec reads, RRE or Hextile, in whatever pieces it comes (RFC 6143, sections 7.7.3
+//! Reads a rectangle in an encoding of a codec, RRE or Hextile, in whatever pieces it comes (RFC 6143, sections 7.7.3
 //! and 7.7.4).
 
 ghost use Rattle.std.specs.Prelude.{◌≡◌, true, None};

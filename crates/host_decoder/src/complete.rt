@@ -61,7 +61,7 @@ fn behind_area(painter: &Painter, left: u16, b: &[u8]) -> HostState
     }
 }
 
-/// What follows the number of a colour map's entries, of six bytes each.
+/// What follows the number of a colour map's entries. Each entry has six bytes.
 fn behind_colours(b: &[u8]) -> HostState
     requires { length b.now ≡ 5 }
     ensures stands { (w h : ℕ) → StandsUnpainted w h result (after set_color_map_entries b.now) }

@@ -80,8 +80,8 @@ impl CopySource {
         }
     }
 
-    /// Takes the next piece, up to the end of the source, and answers how many bytes it used, and whether all have
-    /// come. Then the rectangle is copied.
+    /// Takes the next piece, up to the end of the source. Once all bytes of the source have come, the rectangle is
+    /// copied. It answers how many bytes it used, and whether all have come.
     ///
     /// `CopyOutside` at the last byte of a source that leaves the screen.
     pub(crate) fn feed(

@@ -94,8 +94,8 @@ impl Data {
         true
     }
 
-    /// Takes the next piece, up to the end of the rectangle, and paints what it says. Answers how many bytes it used,
-    /// and whether the rectangle is whole. It takes no memory.
+    /// Takes the next piece, up to the end of the rectangle, and paints what it says. It answers how many bytes it
+    /// used, and whether the rectangle is whole. It takes no memory.
     ///
     /// `SubrectOutside`, `NoBackground`, `NoForeground` and `CopyOutside` at the byte that shows it. The painter's
     /// screen may then show a part of the rectangle, and is useless from then on.

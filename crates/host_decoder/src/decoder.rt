@@ -19,11 +19,12 @@ use std::alloc::Global;
 use std::marker::Model;
 use std::mem;
 
-/// A decoder of what a host sends after its handshake (RFC 6143, 7.6 and 7.7), over a screen of one size, which holds
-/// what has come of the next message. Contracts see the width and the height of the screen in pixels, and what is held.
+/// A decoder of what a host sends after its handshake (RFC 6143, 7.6 and 7.7), over a screen of one size. It holds what
+/// has come of the next message. Contracts see the width and the height of the screen in pixels, and what the decoder
+/// holds.
 ///
-/// Rectangles are painted into the painter's screen as they come. At an update's end its patch is made of the tiles
-/// that they touched; of a message that isn't whole none is ever made.
+/// Rectangles are painted into the painter's screen as they come. At an update's end the patch is made of the tiles
+/// that they touched. No patch is ever made of a message that isn't whole.
 #[derive(Drop)]
 pub struct HostDecoder {
     alloc: Global,
@@ -81,7 +82,7 @@ impl HostDecoder {
         self.state.feed(self.alloc, painter, piece)
     }
 
-    /// The event of the message that is whole, if there is one. The next bytes begin another.
+    /// Takes the event of the message that is whole, if there is one. The next bytes begin another.
     pub fn whole(&mut self) -> Option<HostEvent>
         ensures size { (self.new.width ≡ self.old.width) × (self.new.height ≡ self.old.height) }
         ensures given { (painter : Painting) (screen : Canvas) (r : Reading ServerMessage) → Decodes self.old painter screen r
@@ -100,8 +101,8 @@ impl HostDecoder {
         }
     }
 
-    /// The host has ended, and the bytes of another come next: what has come of a message is forgotten, and so is a
-    /// message that is whole and wasn't taken.
+    /// The host has ended, and the bytes of another host come next. The part of a message that has come is forgotten,
+    /// and so is a whole message whose event wasn't taken.
     pub fn next_host(&mut self)
         ensures value { self.new ≡ record self.old { state = start } }
         ensures begins { (screen : Canvas) (painter : Painting) → Holds screen painter [] → Decodes self.new painter screen (host_message self.old.width self.old.height) }

@@ -13,7 +13,7 @@ use fault::Fault;
 use painter::{Painter, Patch};
 use std::alloc::Global;
 
-/// A decoder, and the painter of the screen that it reads. They are of one size, and are fed together:
+/// A decoder, and the painter of the screen that it reads. Both are of one size, and are fed together:
 /// `screen.decoder.feed(&mut screen.painter, piece)`.
 #[derive(Drop)]
 pub struct HostScreen {
@@ -22,7 +22,7 @@ pub struct HostScreen {
 }
 
 impl HostScreen {
-    /// A black screen of `width` by `height` pixels, of whose host no byte has come. It fails where memory is refused
+    /// A black screen of `width` by `height` pixels, whose host has sent no byte yet. It fails where memory is refused
     /// (`Memory`).
     pub fn new(alloc: Global, width: u64, height: u64) -> Result<Self, Fault>
         requires { IsScreenSize width height }
@@ -36,8 +36,8 @@ impl HostScreen {
         Ok(HostScreen { decoder, painter })
     }
 
-    /// The same for a host that follows another, and the patch that turns the screen of the host before it black. It
-    /// fails where memory is refused (`Memory`).
+    /// The same as `new`, for a host that follows another, together with the patch that turns the screen of the host
+    /// before it black. It fails where memory is refused (`Memory`).
     pub fn switched(alloc: Global, width: u64, height: u64) -> Result<(Self, Patch), Fault>
         requires { IsScreenSize width height }
         ensures size { IfOk result (λ made. (made.0.decoder.width ≡ width) × (made.0.decoder.height ≡ height)) }

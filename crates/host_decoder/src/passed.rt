@@ -1,4 +1,4 @@
-//! The bytes of a message that are read past, and of which nothing is kept.
+//! The bytes of a message that are read past. Nothing of them is kept.
 
 ghost use Rattle.std.specs.Prelude.{ℕ};
 ghost use Rattle.host_decoder.specs.Decoder.{StandsUnpainted, passing};

@@ -17,7 +17,7 @@ use std::marker::Model;
 /// How many bytes a pixel of the host has.
 const PIXEL_LEN: usize = 4;
 
-/// A reader of the pixels of a rectangle, which holds no more of them than the bytes of one that is begun.
+/// A reader of the pixels of a rectangle. It holds no more than the bytes of one pixel that is begun.
 #[derive(Drop)]
 pub(crate) struct RawPixels {
     width: usize,
@@ -66,7 +66,7 @@ impl RawPixels {
         (self.count - self.done) * PIXEL_LEN - self.filled
     }
 
-    /// How many bytes at the front end the pixel that is begun.
+    /// How many of the bytes belong to the pixel that is begun, if one is.
     fn first_len(&self, bytes: &[u8]) -> usize
         ensures most { result ≤ length bytes.now }
         ensures pixel { length self.now.begun + result ≤ 4 }
@@ -116,7 +116,7 @@ impl RawPixels {
         self.done += pixels.len();
     }
 
-    /// Takes all of these bytes. They end no later than the rectangle.
+    /// Takes all of these bytes. They have to end no later than the rectangle.
     pub(crate) fn take_all(&mut self, painter: &mut Painter, bytes: &[u8])
         requires fits { IsRawFor painter.old.area self.old }
         requires missing { length self.old.begun + length bytes.now + 4 * self.old.done ≤ 4 * self.old.count }

@@ -19,7 +19,7 @@ use raster::Rect;
 /// A reader of a rectangle's pixels, in whatever pieces they come, in one encoding. It draws them on the rectangle that
 /// a painter draws on, and takes no memory.
 pub(crate) trait RectReader {
-    // It reads pixels in this encoding.
+    // The encoding whose pixels it reads.
     ghost encoding: { Encoding };
 
     // It reads a rectangle of this size.
@@ -59,8 +59,8 @@ pub(crate) trait RectReader {
         ensures open_ { IsFalse result → IsFine self.now → IsWanting self.now };
 }
 
-/// Takes the next piece of a rectangle, up to its end, and paints what it says. Answers how many bytes it used, and
-/// whether the rectangle is whole, which is then one paint more; or the fault.
+/// Takes the next piece of a rectangle, up to its end, and paints what it says. It answers how many bytes it used, and
+/// whether the rectangle is whole, which is then one paint more; or it answers the fault.
 pub(crate) fn paint_pixels<R: RectReader>(
     reader: &mut R,
     painter: &mut Painter,

@@ -65,7 +65,7 @@ impl HostState {
         HostState::Whole(HostEvent::Cut(Patch::text(width, height, text.into_vec())))
     }
 
-    /// Whether it takes another byte: not after a whole message, nor after a fault.
+    /// Whether it takes another byte. It doesn't after a whole message or after a fault.
     pub(crate) fn is_open(&self) -> bool
         ensures { result ≡ is_open self.now }
     {
@@ -78,7 +78,7 @@ impl HostState {
         }
     }
 
-    /// Takes all of some bytes that end inside the pixels of a Raw rectangle. For any others it answers `false`, and
+    /// Takes all of these bytes, where they end inside the pixels of a Raw rectangle. Otherwise it answers `false`, and
     /// nothing changes.
     fn advance_within(&mut self, painter: &mut Painter, bytes: &[u8]) -> bool
         requires suits { Suits painter.old.width painter.old.height self.old }
@@ -117,7 +117,7 @@ impl HostState {
         }
     }
 
-    /// Takes bytes from the front of some, and answers how many: what its part, its data or its text wants.
+    /// Takes bytes from the front of these, as many as the part, the data or the text wants, and answers how many.
     fn advance(&mut self, alloc: Global, painter: &mut Painter, bytes: &[u8]) -> usize
         requires size { IsScreenSize painter.old.width painter.old.height }
         requires suits { Suits painter.old.width painter.old.height self.old }
@@ -128,7 +128,7 @@ impl HostState {
         ensures uses { (start : Canvas) (r : Reading ServerMessage) → Stands painter.old.width painter.old.height self.old start painter.old r → Uses painter.old painter.new self.new start r bytes.now result }
     {
         // Most pieces of a large update are such bytes. `step` answers with room for a whole state, and filling that
-        // for each piece is felt where pieces are small.
+        // room for each piece costs noticeable time where pieces are small.
         if self.advance_within(painter, bytes) {
             return bytes.len();
         }

@@ -20,8 +20,8 @@ use painter::Painter;
 use raster::Rect;
 use rfb_wire::Fields;
 
-/// The state where `left` rectangles are still to come: the next one's header, or the end of the update, which has its
-/// patch.
+/// The state where `left` rectangles are still to come: it wants the next one's header. Where none is left, it is the
+/// end of the update, with its patch.
 pub(crate) fn next_rectangle(painter: &mut Painter, left: u16) -> HostState
     ensures stays { Stays painter.old painter.new result }
     ensures goes_on { (start : Canvas) (sofar : List update.Paint) → Holds start painter.old sofar → GoesOn painter.old painter.new result start (rectangles painter.old.width painter.old.height sofar left) }
@@ -35,8 +35,8 @@ pub(crate) fn next_rectangle(painter: &mut Painter, left: u16) -> HostState
     }
 }
 
-/// Reads a rectangle's data from the front of some bytes, and paints them; `left` more rectangles follow. It answers
-/// what follows, if not more data, and how many bytes it took.
+/// Reads a rectangle's data from the front of these bytes, and paints them; `left` more rectangles follow. It answers
+/// the next state, or none where more data follow, and how many bytes it took.
 pub(crate) fn read_data(
     painter: &mut Painter,
     left: u16,
@@ -71,7 +71,7 @@ pub(crate) fn begin_data(painter: &mut Painter, left: u16, area: Rect, encoding:
 {
     let (width, height) = painter.size();
     match Data::new(width, height, area, encoding) {
-        // Its data may have no byte.
+        // The rectangle's data may have no byte.
         Ok(mut reader) => {
             let (next, _) = read_data(painter, left, &mut reader, &[]);
             next.unwrap_or(HostState::Pixels(left, reader))

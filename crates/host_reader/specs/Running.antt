@@ -25,15 +25,15 @@ pub record IsInside (w h : ℕ) (stream : List ℕ) : Type 0 where
   pub some : 0 < length begun
   pub wants : wants_more (after (host_message w h) begun) ≡ true
 
--- They end between two messages, or inside one.
+-- The host's bytes end between two messages, or inside one.
 abbrev pub EndsAt : Bool → ℕ → ℕ → List ℕ → Type 0
 EndsAt true w h stream = rest (host_message w h) stream ≡ host_message w h
 EndsAt false w h stream = IsInside w h stream
 
 -- ---- how it ends
 
--- Since a publisher had the updates old, updates were put that come to the same as those of the host's bytes, one by
--- one: sent over this screen.
+-- Updates were put after the updates old that a publisher had. Sent over this screen, they come to the same as those of
+-- the host's bytes, one by one.
 pub record ArePut (w h : ℕ) (screen : Canvas) (stream : List ℕ) (old new : List Update) : Type 0 where
   pub put : List Update
   pub added : new ≡ old ++ put

@@ -26,7 +26,7 @@ fn put_patch<P: Puts>(publisher: &mut P, patch: Patch) -> Result<(), Fault>
     }
 }
 
-/// Puts the update of a message: a colour map and a text that isn't kept bring none.
+/// Puts the update that a message brings. A colour map brings none, nor does a text that isn't kept.
 fn put_event<P: Puts>(publisher: &mut P, event: HostEvent) -> Result<(), Fault>
     requires { IsSized (P.width publisher.old) (P.height publisher.old) event }
     ensures size { (P.width publisher.new ≡ P.width publisher.old) × (P.height publisher.new ≡ P.height publisher.old) }
@@ -43,7 +43,7 @@ fn put_event<P: Puts>(publisher: &mut P, event: HostEvent) -> Result<(), Fault>
 }
 
 /// Puts the update of each message that ends in a piece of the host's bytes, in order. It answers whether the piece
-/// ends between two messages, as the bytes before it did or not.
+/// ends between two messages. The bytes before it may have ended inside one.
 ///
 /// It fails at a fault of the bytes, and where the decoder or the publisher refuse. What was put before stays.
 pub(crate) fn put_piece<P: Puts>(

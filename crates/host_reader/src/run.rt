@@ -17,7 +17,7 @@ use std::sync::Wait;
 /// How many bytes are taken from the link at a time, at most.
 const PIECE: usize = 65536;
 
-/// What the run answers where the link's answer ends it.
+/// What the run answers where this answer of the link ends it, and `None` where the run goes on.
 fn outcome(took: Took, is_between: bool) -> Option<Result<(), Fault>>
     ensures { result ≡ outcome took is_between }
 {

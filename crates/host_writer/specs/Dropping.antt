@@ -5,12 +5,12 @@ use Rattle.roles.specs.Strokes.{Taken, unbroken, StrokesKept, StrokesStand}
 use Rattle.input_relay.specs.declared.queue.Message.{Message}
 use Rattle.host_writer.specs.Writing.{taken_from}
 
--- An input that doesn't pass is dropped. How many are, of all places: so many were taken, less those that pass. A count
--- at LIMIT stays there.
+-- How many inputs of all places are dropped, since they don't pass: the number that were taken less the number that
+-- pass. A count at LIMIT stays there.
 abbrev pub all_dropped : List Taken → ℕ
 all_dropped taken = min LIMIT (length taken - length (unbroken taken))
 
--- The strokes stand for all that was taken of the relay, and so many as were dropped of it are counted.
+-- The strokes stand for all that was taken of the relay, and the number counts what was dropped of it.
 pub record IsCounted (taken : List Message) (strokes : StrokesKept) (number : ℕ) : Type 0 where
   pub stands : StrokesStand strokes (map taken_from taken)
   pub counted : number ≡ all_dropped (map taken_from taken)

@@ -1,5 +1,5 @@
--- What the host is told once it is joined: of the input taken of the relay what doesn't break into another place's
--- stroke, and a request for each rise of a look (RFC 6143, 7.5.3 to 7.5.6; own).
+-- What the host is told once it is joined: the inputs taken of the relay that don't break into another place's stroke,
+-- and a request for each rise of a look (RFC 6143, 7.5.3 to 7.5.6; own).
 use Rattle.std.specs.Prelude.{◌≡◌, ℕ, ◌≤◌, ◌<◌, ◌⊎◌, max, nat_lt, if◌then◌else◌, Bool, true, false, List, [], ◌∷◌, ◌++◌, length, map, Result, Ok, Err}
 use Rattle.fault.specs.declared.kinds.Fault.{Fault}
 use Rattle.fault.specs.declared.kinds.Fault.TheVariants.{LinkEnded, LinkFailed}
@@ -48,13 +48,14 @@ told before [] = []
 told before (Took message ∷ ds) = told before ds ++ (if is_told before message ds then taken_from message ∷ [] else [])
 told before (Saw number ∷ ds) = told before ds
 
--- What its looks have risen to: the greatest reply, 0 at first.
+-- The greatest reply of its looks, and 0 before the first.
 abbrev pub risen_to : List Did → ℕ
 risen_to [] = 0
 risen_to (Took message ∷ ds) = risen_to ds
 risen_to (Saw number ∷ ds) = max (risen_to ds) number
 
--- What it says after all it did: an input where it passes, or, where its look has risen, a request.
+-- What it says for one thing that it did, after all that it did before: an input where that passes, and a request where
+-- its look has risen.
 abbrev pub says : List Taken → ℕ → ℕ → Did → List Did → List ℕ
 says before w h (Took message) ds = if is_told before message ds then input_bytes (input_in message.input) else []
 says before w h (Saw number) ds = if nat_lt (risen_to ds) number then whole_request w h else []
@@ -64,7 +65,7 @@ abbrev pub said : List Taken → ℕ → ℕ → List Did → List ℕ
 said before w h [] = []
 said before w h (d ∷ ds) = said before w h ds ++ says before w h d ds
 
--- The last of it.
+-- What it says last.
 abbrev pub last_said : List Taken → ℕ → ℕ → List Did → List ℕ
 last_said before w h [] = []
 last_said before w h (d ∷ ds) = says before w h d ds
@@ -75,8 +76,9 @@ Looked {S} looks old [] new = new ≡ old
 Looked {S} looks old (Took message ∷ ds) new = Looked looks old ds new
 Looked {S} looks old (Saw number ∷ ds) new = (before : S) × Looked looks old ds before × looks before number new
 
--- How it ends, where so much of what was said last isn't given. It is Ok where the flag was set, and where the link
--- said that it ended before the first byte of a spelling; else the link said that inside one, or failed.
+-- How it ends, where these bytes of what was said last aren't given. It is Ok where the flag was set, and where the
+-- link said that it ended before the first byte of a spelling. Otherwise the link said that it ended inside a spelling,
+-- or it failed.
 abbrev pub EndsWriting : (was_set : Type 0) → Result (Unit {0}) Fault → (old new : LinkState) → (left last : List ℕ) → Type 0
 EndsWriting was_set (Ok done) old new left last =
     (was_set × (new.failed ≡ old.failed) × (new.ended ≡ old.ended) × (length left ≤ length last)) ⊎ (HasRisen old.ended new.ended × (new.failed ≡ old.failed) × (left ≡ last) × (0 < length last))
@@ -84,7 +86,7 @@ EndsWriting was_set (Err LinkEnded) old new left last = HasRisen old.ended new.e
 EndsWriting was_set (Err LinkFailed) old new left last = HasRisen old.failed new.failed × (0 < length left) × (length left ≤ length last)
 EndsWriting was_set (Err fault) old new left last = ⊥
 
--- What is answered where giving leaves off so.
+-- What is answered where giving stopped for this reason.
 abbrev pub answer_at : Halt → Result (Unit {0}) Fault
 answer_at halt.Stopped = Ok tt
 answer_at halt.Before = Ok tt
@@ -92,7 +94,7 @@ answer_at halt.Inside = Err LinkEnded
 answer_at halt.Failed = Err LinkFailed
 
 -- The host was given all that the writer says, but for the end of what it said last. Where the strokes stood for the
--- inputs taken before, they stand for all that were taken, and what is said is told by these.
+-- inputs taken before, they stand for all that were taken, and they decide what is said.
 pub record Writes {S : Type 0} (looks : S → ℕ → S → Type 0) (was_set : Type 0) (source_old source_new : S) (taken_old taken_new : List Message) (strokes_old strokes_new : StrokesKept) (w h : ℕ) (answer : Result (Unit {0}) Fault) (old new : LinkState) : Type 0 where
   pub did : List Did
   pub all : List ℕ
@@ -121,12 +123,12 @@ pub record TellsInput (taken_old taken_new : List Message) (strokes_old strokes_
   pub judged : IsJudged strokes_old strokes_new message bytes
   pub state : new ≡ record old { given = old.given ++ bytes }
 
--- That, or there was none.
+-- An input was taken and what is said of it was given, or there was no input.
 abbrev pub Tells : Bool → (taken_old taken_new : List Message) → (strokes_old strokes_new : StrokesKept) → (old new : LinkState) → Type 0
 Tells true taken_old taken_new strokes_old strokes_new old new = TellsInput taken_old taken_new strokes_old strokes_new old new
 Tells false taken_old taken_new strokes_old strokes_new old new = (taken_new ≡ taken_old) × (strokes_new ≡ strokes_old) × (new ≡ old)
 
--- Giving left off in what is said of an input that was taken.
+-- Giving stopped inside what is said of an input that was taken.
 pub record HaltsTelling (was_set : Type 0) (halt : Halt) (taken_old taken_new : List Message) (strokes_old strokes_new : StrokesKept) (old new : LinkState) : Type 0 where
   pub message : Message
   pub bytes : List ℕ

@@ -1,4 +1,4 @@
-//! How many inputs aren't told.
+//! Counts the inputs that the host isn't told.
 
 ghost use Rattle.std.specs.Prelude.{◌≡◌, ◌+◌, ℕ, List, [], ◌∷◌, ◌++◌, length, min, if◌then◌else◌};
 ghost use Rattle.fault.specs.declared.limits.TheConstants.{LIMIT};
@@ -9,7 +9,7 @@ use roles::{Input, Strokes};
 
 /// What counts the inputs that aren't told to a host.
 pub trait DropCount {
-    /// How many it has counted.
+    /// How many inputs it has counted.
     ghost dropped: { Self → ℕ };
 
     /// One more input isn't told. A count at `LIMIT` stays there.

@@ -33,7 +33,7 @@ fn request_of(width: u64, height: u64) -> [u8; 10]
     request
 }
 
-/// What a run answers that leaves off so.
+/// What a run answers where giving stopped for this reason.
 fn answer_at(halt: Halt) -> Result<(), Fault>
     ensures { result ≡ answer_at halt }
 {
@@ -44,15 +44,16 @@ fn answer_at(halt: Halt) -> Result<(), Fault>
     }
 }
 
-/// Tells the host the input that it takes of the relay, one after another, and asks once for what is new of the whole
-/// screen each time its look has risen, over 0 at first (RFC 6143, 7.5.3). It rests where nothing was taken and the
-/// look hasn't risen.
+/// Tells the host the inputs that it takes of the relay, one after another. Each time a look replies more than every
+/// look before it, or the first more than 0, it asks once for what is new of the whole screen (RFC 6143, 7.5.3). It
+/// rests where no input was taken and the look hasn't risen.
 ///
-/// Of the input that was taken the host is told what `strokes` lets pass: nothing of a place while another has a key or
-/// a button down. What doesn't pass is counted there for its place, and in `drops` for all of them.
+/// The host is told the inputs that `strokes` lets pass: none of a place while another has a key or a button down. An
+/// input that doesn't pass is counted in `strokes` for its place, and in `drops` for all places together.
 ///
-/// It is `Ok` where the flag is set, and where the link ends before the first byte of a spelling. `LinkEnded` where it
-/// ends inside one, and `LinkFailed` where it fails. Of what was said last the link may then lack the end.
+/// It is `Ok` where the flag is set, and where the link ends before the first byte of a spelling. It is `LinkEnded`
+/// where the link ends inside a spelling, and `LinkFailed` where the link fails. In each case the end of what was said
+/// last may be missing.
 pub fn run_writer<
     L: Link,
     S: ScreenSource,

@@ -48,7 +48,7 @@ module _ {R : Type 0} where
   abbrev pub taken_at_end : Settled R → List Message
   taken_at_end t = (view t.pass).got
 
-  -- what each sender sent that came back
+  -- what each sender that came back had sent
   abbrev pub known_at_end : Settled R → List Strand
   known_at_end t = (view t.pass).known
 
@@ -56,7 +56,7 @@ module _ {R : Type 0} where
   abbrev pub relay_at_end : Settled R → TableId
   relay_at_end t = t.pass.table_id
 
--- the relay that a gauge looks at
+-- the relay whose waiting inputs a gauge counts
 abbrev pub seen_by : Gauge → TableId
 seen_by g = g.pass.table_id
 

@@ -37,7 +37,8 @@ of p (m ∷ ms) = if p == m.from then m.input ∷ of p ms else of p ms
 abbrev pub FitsSender : (ℕ → maybe.Option ℕ) → (ℕ → List Input) → ℕ → View → Type 0
 FitsSender seat sent pass v = v.sends ≡ true → (seat v.from ≡ some pass) × (v.put ≡ sent v.from)
 
--- the one taker knows what it got, that later senders have sent nothing, and what those sent in all that came back
+-- the one taker knows what it got, that senders not made yet have sent nothing, and all that the senders that came back
+-- had sent
 abbrev pub FitsTaker : ℕ → (ℕ → maybe.Option ℕ) → (ℕ → List Input) → List Message → ℕ → View → Type 0
 FitsTaker reader seat sent got pass v =
     v.gets ≡ true
@@ -60,6 +61,6 @@ grown sent q x p = if p == q then sent p ++ x ∷ [] else sent p
 abbrev pub seated : (ℕ → maybe.Option ℕ) → ℕ → maybe.Option ℕ → ℕ → maybe.Option ℕ
 seated seat q to p = if p == q then to else seat p
 
--- of each strand, these messages have all of it
+-- these messages hold all that each strand sent
 abbrev pub Accounted : List Strand → List Message → Type 0
 Accounted known all = (k : ℕ) (s : Strand) → get_elem? known k ≡ some s → of s.from all ≡ s.sent

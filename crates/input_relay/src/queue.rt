@@ -21,7 +21,7 @@ pub struct Message {
     pub input: Input,
 }
 
-/// What a place has sent. No value of it is made: clauses speak of it.
+/// What a place has sent. Only clauses speak of it: no value of this type is ever made.
 pub struct Strand {
     /// The number of the place.
     pub from: u64,
@@ -30,13 +30,13 @@ pub struct Strand {
 }
 
 /// What the holder of a pass knows. A sender knows its place and what it has sent. The taker knows how many senders
-/// were made, what it got, and what the senders had sent that came back. No value of it is made.
+/// were made, what it got, and what the senders that came back had sent. No value of this type is ever made.
 pub struct View {
     /// Whether it is a sender's.
     pub sends: bool,
     /// Whether it is the taker's.
     pub gets: bool,
-    /// A sender's place; how many senders the taker has made.
+    /// For a sender the number of its place; for the taker how many senders it has made.
     pub from: u64,
     /// What a sender has sent, in order.
     pub put: LinkedList<Input>,
@@ -50,7 +50,7 @@ mod ends;
 
 pub use ends::{relay, settle};
 
-/// What arrives of each place is what it sent, in its order.
+/// The queue's rule: the taker gets the inputs of each place in the order in which that place sent them.
 pub struct InOrder;
 
 impl Protocol<Message, View> for InOrder {
@@ -135,7 +135,7 @@ impl Lesson<Message, View> for Taken {
 /// The queue, under that rule.
 type Line = RuledArrayQueue<Message, View, InOrder>;
 
-/// This many inputs can wait.
+/// The most inputs that can wait.
 const ROOM: usize = 256;
 
 /// The most inputs that a place sends. The queue's own numbers last for 64 places.
@@ -165,7 +165,7 @@ pub struct Taker<R: Wait + Drop> {
     ghost room: { ruled_capacity (arc_value line) ≡ 256 },
 }
 
-/// The end of the relay of whoever looks how many inputs wait.
+/// The end of the relay by which others see how many inputs wait.
 #[derive(Drop)]
 pub struct Gauge {
     line: Arc<Line, Global>,

@@ -1,4 +1,4 @@
-//! A sender takes the input of a viewer.
+//! How a sender takes the input of a viewer, as an `InputSink`.
 
 ghost use Rattle.std.specs.Prelude.{◌≡◌, List, [], ◌∷◌, ◌++◌, ◌⊎◌, OnOk, IfErr};
 ghost use Rattle.roles.specs.Held.{input_in};

@@ -1,4 +1,4 @@
-//! What passes, and what is released, by what the rules say.
+//! What passes, and what is released, as the rules say.
 
 use rfb_wire::{ClientMessage, Text};
 use roles::{Held, Input, Role};
@@ -36,7 +36,7 @@ fn check_stays<R: Abort>(rt: &R, held: &mut Held, role: Role, message: &ClientMe
     assert!(rt; !held.passes(role, message));
 }
 
-/// Nothing is left, however often it is asked.
+/// Nothing is left to release, however often that is asked.
 fn check_nothing_left<R: Abort>(rt: &R, held: &mut Held) {
     assert!(rt; held.release().is_none());
     assert!(rt; held.release().is_none());
@@ -85,7 +85,7 @@ fn buttons_are_released(rt: HostRuntime) {
     check_nothing_left(&rt, &mut held);
 }
 
-/// A text passes of a viewer in full control, and leaves nothing to release.
+/// The text of a viewer with full control passes, and leaves nothing to release.
 #[test]
 fn texts_pass(rt: HostRuntime) {
     let mut held = Held::new();

@@ -1,4 +1,4 @@
-//! Tests of `roles` and `input_relay`, which stand in a crate of their own so that each of those is proved once.
+//! Tests of `roles` and `input_relay`, which are in their own crate so that each of those is proved once.
 #![tactic(auto)]
 
 #[cfg(test)]

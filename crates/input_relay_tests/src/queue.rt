@@ -17,7 +17,7 @@ use std::thread::{JoinHandle, Promise, Threads};
 /// This many inputs fit.
 const ROOM: u32 = 256;
 
-/// This many inputs each thread sends.
+/// Each thread sends this many inputs.
 const MANY: u32 = 10_000;
 
 fn press(key: u32) -> Input {
@@ -217,7 +217,7 @@ fn start<R: Threads + Wait + Copy + Drop + Send + 'static>(
     Ok(threads)
 }
 
-/// The place of the next input, if it is a press of the key that is wanted of that place.
+/// The place of the next input, if that is a press of the key that has to come next from that place.
 fn next_place<R: Wait + Drop>(rt: &R, taker: &mut Taker<R>, wanted: &[u32; 4]) -> Option<usize>
     ensures { IfSome result (λ place. place < 4) }
 {

@@ -117,7 +117,7 @@ fn sixty_four_keys(rt: HostRuntime) -> Result<(), Fail> {
     Ok(())
 }
 
-/// Where there is no room for the counts nothing is made.
+/// Where there is no memory for the counts no relay is made.
 #[test]
 fn no_room_for_counts(rt: HostRuntime) {
     let refused = Strokes::new(rt.alloc(), u64::MAX);

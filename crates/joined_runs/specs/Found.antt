@@ -22,12 +22,12 @@ pub record LiesAmong (values : List ℕ) (w : ℕ) (area : Rect) : Type 0 where
   pub wide : w < 2 ^ 16
   pub high : area.y + area.h < 2 ^ 16
 
--- It does, and a run begins in it.
+-- The rectangle lies among the values, and the run begins in it.
 pub record HasRun (values : List ℕ) (w : ℕ) (area : Rect) (run : RowRun) : Type 0 where
   pub lies : LiesAmong values w area
   pub column : run.x < area.w
   pub row : run.y < area.h
 
--- How many rows directly below a run have it, too.
+-- How many rows directly below a run have the same run.
 abbrev pub rows_below : Canvas → ℕ → ℕ → Subrect → ℕ
 rows_below canvas w h run = length (take_while (stands_in canvas w run) (range_with_len (run.area.y + 1) (h - (run.area.y + 1))))

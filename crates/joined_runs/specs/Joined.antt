@@ -1,4 +1,5 @@
--- The joined form of a rectangle in RRE and in Hextile (own): what decodes it is as ever (RFC 6143, 7.7.3, 7.7.4).
+-- The joined form of a rectangle in RRE and in Hextile (own). It is decoded as any other rectangle (RFC 6143, 7.7.3,
+-- 7.7.4).
 use Rattle.std.specs.Prelude.{◌≡◌, ℕ, zero, suc, ◌+◌, ◌-◌, ◌==◌, Bool, true, false, ◌&&◌, ◌||◌, not, nat_le, nat_lt, if◌then◌else◌, List, [], ◌∷◌, ◌++◌, length, map, filter, take, take_while, slice_index, Option, Some, None}
 use Rattle.std.specs.List.{flat_map, list_all, range_with_len}
 use Rattle.std.specs.Int.{w32, to_be_bytes}
@@ -16,11 +17,11 @@ use Rattle.joined_runs.specs.declared.runs.Runs.TheVariants.{OfRows, Joined}
 abbrev pub count_of : List ℕ → ℕ → ℕ
 count_of values value = length (filter (λ v. v == value) values)
 
--- No value stands there more often.
+-- No value stands in the list more often than this one.
 abbrev pub is_most_frequent : List ℕ → ℕ → Bool
 is_most_frequent values value = list_all (λ v. nat_le (count_of values v) (count_of values value)) values
 
--- The most frequent value; of several the one that comes first.
+-- The most frequent value, or the first of several.
 abbrev pub most_frequent : List ℕ → ℕ
 most_frequent values = slice_index (filter (is_most_frequent values) values) 0
 
@@ -37,7 +38,7 @@ stands_in canvas w run y =
     && (((run.area.x == 0) || not (canvas (run.area.x - 1) y == run.value))
     && ((run_from canvas w y run.area.x).area.w == run.area.w))
 
--- The row above has it, so that it is joined to that one.
+-- The row above has the same run, so this one is joined to it.
 abbrev pub is_below : Canvas → ℕ → Subrect → Bool
 is_below canvas w run = not (run.area.y == 0) && stands_in canvas w run (run.area.y - 1)
 
@@ -47,8 +48,8 @@ with_below canvas w h run =
     let below = length (take_while (stands_in canvas w run) (range_with_len (run.area.y + 1) (h - (run.area.y + 1)))) in
     record { value = run.value; area = record { x = run.area.x; y = run.area.y; w = run.area.w; h = 1 + below } }
 
--- The subrectangles that are written for runs of rows: these themselves; or those that aren't joined to one above them,
--- each joined with those below it.
+-- The subrectangles that are written for runs of rows: these runs themselves; or, joined, the runs that aren't joined
+-- to one above them, each with those below it.
 abbrev pub written : Runs → Canvas → ℕ → ℕ → List Subrect → List Subrect
 written OfRows canvas w h runs = runs
 written Joined canvas w h runs = map (with_below canvas w h) (filter (λ run. not (is_below canvas w run)) runs)
@@ -76,7 +77,8 @@ background_of Joined w h canvas = most_frequent (values_of w h canvas)
 abbrev pub subrects_of : Runs → ℕ → ℕ → Canvas → List Subrect
 subrects_of runs w h canvas = written runs canvas w h (runs_over canvas (background_of runs w h canvas) w h)
 
--- A tile. Its mask, what is left off, and when it is Raw, are the same in both forms.
+-- The bytes of a tile, and what it carries on. The mask, what is left off, and when a tile is Raw follow the same rules
+-- in both forms.
 abbrev pub tile_bytes_as : Runs → PixelFormat → Carried → ℕ → ℕ → Canvas → List ℕ × Carried
 tile_bytes_as runs format before w h canvas =
     let background = background_of runs w h canvas in
@@ -103,21 +105,21 @@ hextile_bytes_as runs format w h canvas = tiles_from_as runs format w h canvas n
 abbrev pub shorter : List ℕ → List ℕ → List ℕ
 shorter bytes others = if nat_le (length bytes) (length others) then bytes else others
 
--- The data of a rectangle of these values in an encoding. Joined runs may have more bytes in Hextile alone: where the
--- most frequent value isn't the first, there can be more runs, and it may have to be said. The rectangle is then
--- written as the runs of rows.
+-- The data of a rectangle of these values in an encoding. Only in Hextile may joined runs have more bytes: where the
+-- most frequent value isn't the first, there can be more runs, and the background may have to be said. The rectangle is
+-- then written as the runs of rows.
 abbrev pub form_of : Runs → Encoding → PixelFormat → ℕ → ℕ → List ℕ → List ℕ
 form_of OfRows encoding format w h values = form encoding format w h values
 form_of Joined Raw format w h values = raw_bytes format values
 form_of Joined Rre format w h values = joined_rre_bytes format w h (value_at w values)
 form_of Joined Hextile format w h values = shorter (hextile_bytes_as Joined format w h (value_at w values)) (form Hextile format w h values)
 
--- It is used only where it has fewer bytes than Raw.
+-- The form is used only where it has fewer bytes than Raw.
 abbrev pub saves_bytes_as : Runs → Encoding → PixelFormat → ℕ → ℕ → List ℕ → Bool
 saves_bytes_as runs encoding format w h values = nat_lt (length (form_of runs encoding format w h values)) (length (raw_bytes format values))
 
--- What an encoder answers: where the form has fewer bytes than Raw they stand at the front of out, and their number is
--- answered. Else there is no answer.
+-- What an encoder answers. Where the form has fewer bytes than Raw, its bytes stand at the front of out, and their
+-- number is the answer. Otherwise the answer is None.
 abbrev pub IsEncodedAs : Runs → Encoding → PixelFormat → ℕ → ℕ → List ℕ → List ℕ → Option ℕ → Type 0
 IsEncodedAs runs encoding format w h values out (Some n) =
     (saves_bytes_as runs encoding format w h values ≡ true) × (n ≡ length (form_of runs encoding format w h values)) × (take n out ≡ form_of runs encoding format w h values)

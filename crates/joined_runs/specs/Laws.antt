@@ -13,7 +13,7 @@ abbrev pub IsReadBack : Runs → Encoding → Type 0
 IsReadBack runs encoding =
     (format : PixelFormat) (w h : ℕ) (values : List ℕ) → IsAccepted format → AreValues format w h values → Spells (pixels encoding format w h) (form_of runs encoding format w h values) values
 
--- No two lists of pixel values have the same.
+-- No two lists of pixel values have the same form.
 abbrev pub FormDetermines : Runs → Type 0
 FormDetermines runs =
     (encoding : Encoding) (format : PixelFormat) (w h : ℕ) (values others : List ℕ) → IsAccepted format → AreValues format w h values → AreValues format w h others

@@ -1,4 +1,4 @@
-//! Which runs are joined to one above them, and how far down a run is joined, found in a rectangle's values.
+//! Finds in a rectangle's values which runs are joined to one above them, and how far down a run is joined.
 
 ghost use Rattle.std.specs.Prelude.{◌≡◌, ℕ, ◌+◌, ◌-◌, ◌<◌, ◌≤◌, [], ◌∷◌, MatchOption, IfSome, ◌==◌, ◌&&◌, ◌||◌, not, length, slice_index, take_while};
 ghost use Rattle.raster.specs.RowShown.{row_shows};
@@ -18,7 +18,7 @@ pub struct RowRun {
     pub len: usize,
 }
 
-/// How many values at the front are this one.
+/// How many values at the front equal this one.
 #[inline]
 fn run_len(values: &[u32], value: u32) -> usize
     ensures { result ≡ length (take_while (λ v. v == value) values.now) }
@@ -26,7 +26,7 @@ fn run_len(values: &[u32], value: u32) -> usize
     values.iter().take_while(|v| **v == value).count()
 }
 
-/// Row `y` of a rectangle, of values that stand in rows of `w`.
+/// Row `y` of the rectangle `area`, where the values stand in rows of `w`.
 #[inline]
 fn row_of<'a>(values: &'a [u32], w: usize, area: &Rect, y: usize) -> &'a [u32]
     requires lies { LiesAmong values.now w area.now }
@@ -47,7 +47,7 @@ fn begins(row: &[u32], x: usize, value: u32) -> bool
     row[x] == value && (x == 0 || row[x - 1] != value)
 }
 
-/// Whether a row has a run of the same ends and value.
+/// Whether a row has a run with the same ends and value.
 #[inline]
 fn has_run(row: &[u32], run: &RowRun) -> bool
     requires { run.now.x < length row.now }
@@ -66,7 +66,7 @@ fn is_below(values: &[u32], w: usize, area: &Rect, run: &RowRun) -> bool
     run.y > 0 && has_run(row_of(values, w, area, run.y - 1), run)
 }
 
-/// How many rows directly below a run have one that is joined to it.
+/// How many rows directly below a run have a run that is joined to it.
 #[inline]
 fn rows_below(values: &[u32], w: usize, area: &Rect, run: &RowRun) -> usize
     requires { HasRun values.now w area.now run.now }
@@ -80,8 +80,9 @@ fn rows_below(values: &[u32], w: usize, area: &Rect, run: &RowRun) -> usize
     y - run.y - 1
 }
 
-/// How high the subrectangle is that is written for a run of a rectangle, in pixels; `None` where none is, since the run
-/// is joined to one above it. The values stand in rows of `w`, and the rectangle's are those of `area`.
+/// The height in pixels of the subrectangle that is written for a run of a rectangle. It is `None` where none is
+/// written, since the run is joined to one above it. The values stand in rows of `w`, and the rectangle's are those of
+/// `area`.
 #[inline]
 pub fn height(runs: Runs, values: &[u32], w: usize, area: &Rect, run: &RowRun) -> Option<usize>
     requires { HasRun values.now w area.now run.now }

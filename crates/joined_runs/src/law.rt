@@ -1,4 +1,4 @@
-//! What is written in either form is read back, and what it has of the colours of its rectangle.
+//! Laws about what is written in either form: it is read back, and is made of the colours of its rectangle.
 
 ghost use Rattle.std.specs.Prelude.{◌≡◌, ℕ, ◌≤◌, List, length, map};
 ghost use Rattle.pixel_format.specs.PixelFormat.{PixelFormat, tint};
@@ -11,12 +11,12 @@ ghost use Rattle.joined_runs.specs.Joined.{background_of, form_of, subrects_of};
 ghost use Rattle.joined_runs.specs.Laws.{IsReadBack, FormDetermines};
 ghost use Rattle.joined_runs.specs.Tinted.{ShowsApart, tinted_subrect};
 
-/// Whatever the encoding, either form of a rectangle of pixel values spells these values.
+/// In each encoding either form of a rectangle of pixel values spells these values.
 pub fn form_is_read()
     ensures { (runs : Runs) (encoding : Encoding) → IsReadBack runs encoding }
 {}
 
-/// No two rectangles of pixel values that have one size have the same form.
+/// No two rectangles of one size with different pixel values have the same form.
 pub fn forms_differ()
     ensures { (runs : Runs) → FormDetermines runs }
 {}
@@ -26,8 +26,8 @@ pub fn joined_is_shorter()
     ensures { (encoding : Encoding) (format : PixelFormat) (w h : ℕ) (values : List ℕ) → length (form_of Joined encoding format w h values) ≤ length (form encoding format w h values) }
 {}
 
-/// In a format that keeps colours apart, either form of a tile's pixel values is that of its colours, each as its pixel
-/// value: the background, and one subrectangle for each, in the same place.
+/// In a format that keeps colours apart, either form of a tile's pixel values is the form of its colours with each
+/// colour replaced by its pixel value: the background, and each subrectangle, in the same place.
 pub fn form_is_tinted()
     ensures background { (runs : Runs) (format : PixelFormat) (w h : ℕ) (colours shown : Canvas) → ShowsApart format w h colours shown → background_of runs w h shown ≡ tint format (background_of runs w h colours) }
     ensures subrects { (runs : Runs) (format : PixelFormat) (w h : ℕ) (colours shown : Canvas) → ShowsApart format w h colours shown → subrects_of runs w h shown ≡ map (tinted_subrect format) (subrects_of runs w h colours) }

@@ -1,7 +1,7 @@
 //! The second form in which rectangles are written: runs that are joined with those below them (RFC 6143, 7.7.3, 7.7.4).
 //!
-//! Both forms are read by what reads the encodings. `specs/Joined` defines the second, `law` says what holds of it, and
-//! `joining` tells which runs are joined, for both codecs. Nothing takes memory.
+//! Every reader of the encodings reads both forms. `specs/Joined` defines the second, `law` says what holds of both,
+//! and `joining` tells both codecs which runs are joined. Nothing takes memory.
 #![tactic(auto)]
 
 mod joining;

@@ -1,11 +1,11 @@
-//! Names of the two forms.
+//! The names of the two forms.
 
-/// Which rectangles of one value a rectangle of pixels is written as, in RRE and in Hextile.
+/// The form of a rectangle in RRE and in Hextile: as which subrectangles its pixels are written.
 #[derive(Clone, Copy, Debug, PartialEq, Eq)]
 pub enum Runs {
     /// The runs of each row, over the first pixel's value.
     OfRows,
-    /// Runs that are joined with those below them, in Hextile over each tile's most frequent value; a rectangle whose
-    /// runs have fewer bytes as they are in the rows is written as those.
+    /// Runs that are joined with those below them, in Hextile over each tile's most frequent value. A rectangle that
+    /// has fewer bytes as the runs of its rows is written in that way.
     Joined,
 }

@@ -13,9 +13,9 @@ use Rattle.rfb_wire.specs.declared.client_reader.part.Part.TheVariants as part
 use Rattle.rfb_wire.specs.declared.client_reader.state.State.{State}
 use Rattle.rfb_wire.specs.declared.client_reader.state.State.TheVariants.{Fields, Keeping, Passing, Whole, Failed}
 
--- ---- a list of encodings, of which the numbers so far were told and not kept
+-- ---- a list of encodings, whose numbers are noted as they come and not kept
 
--- The choice where these numbers are left.
+-- The choice where this is found and these numbers are left.
 abbrev pub choice_with : Found → List ℕ → client.Choice
 choice_with found es = record { kind = unwrap_or found.kind (kind_of es); copy = found.copy || list_any (λ e. e == 1) es }
 
@@ -29,7 +29,7 @@ numbers n found = times n u32 >>= λ es. Done (SetEncodings (choice_with found e
 abbrev pub keeping : List ℕ → ℕ → Reading ClientMessage
 keeping = kept_text CutText
 
--- The rest of a text that is read past.
+-- The rest of a text of len bytes that is read past, of which this many are left.
 abbrev pub passing : ℕ → ℕ → Reading ClientMessage
 passing left len = padding left (Done (LostText len))
 
@@ -46,7 +46,7 @@ form_of part.Key = key_event
 form_of part.Pointer = pointer_event
 form_of part.Length = text CutText LostText
 
--- How a reader goes on that holds this.
+-- How a reader that holds this goes on.
 abbrev pub ahead : State → Reading ClientMessage
 ahead (Fields fields) = after (form_of fields.0) fields.1
 ahead (Keeping kept) = keeping kept.0 kept.1
@@ -62,7 +62,7 @@ is_partial (Passing len left) = true
 is_partial (Whole message) = false
 is_partial (Failed fault) = false
 
--- The type of the message has come: no further byte shows one that isn't known, 255 say.
+-- The type of the message has come, so no next byte, such as 255, shows an unknown type.
 abbrev pub KnowsType : Reading ClientMessage → Type 0
 KnowsType reading = fault_of (step reading 255) ≡ Some (UnknownMessage 255) → ⊥
 
@@ -75,6 +75,6 @@ pub record Uses (old new : Reading ClientMessage) (piece : List ℕ) (n : ℕ) :
   pub goes_on : new ≡ after old (take n piece)
   pub all : taken old (take n piece) ≡ n
 
--- Memory for a text may have been refused.
+-- The same as Uses, where memory for a text may have been refused.
 abbrev pub UsesOrLoses : Reading ClientMessage → Reading ClientMessage → List ℕ → ℕ → Type 0
 UsesOrLoses old new piece n = Uses old new piece n ⊎ Uses (losing old) new piece n

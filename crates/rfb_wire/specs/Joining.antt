@@ -8,14 +8,14 @@ use Rattle.rfb_wire.specs.declared.host_talk.Stage.{Stage}
 use Rattle.rfb_wire.specs.declared.host_talk.Stage.TheVariants as at
 use Rattle.rfb_wire.specs.declared.host_talk.HostTalk.{HostTalk}
 
--- How each part of the handshake goes on, where so much of a field of it has been read: a part after that field is
--- still to come, and a part before it is done. First the version.
+-- How each part of the handshake goes on at a stage, where these bytes of the stage's field have been read. A part
+-- after that field is still to come, and a part before it is done. Here: the version.
 abbrev pub version_ahead : Stage → List ℕ → Reading (Unit {0})
 version_ahead at.Version begun = after host_version begun
 version_ahead at.BadVersion begun = Faulty fault.BadVersion
 version_ahead _ begun = Done tt
 
--- The security types.
+-- How the security types go on.
 abbrev pub types_ahead : Stage → ℕ → List ℕ → Reading (Unit {0})
 types_ahead at.Version wanted begun = security_types
 types_ahead at.BadVersion wanted begun = security_types
@@ -27,7 +27,7 @@ types_ahead at.Types wanted begun = after (bytes wanted >>= λ types. unless (no
 types_ahead at.NoNone wanted begun = Faulty fault.NoNone
 types_ahead _ wanted begun = Done tt
 
--- SecurityResult.
+-- How SecurityResult goes on.
 abbrev pub result_ahead : Stage → List ℕ → Reading (Unit {0})
 result_ahead at.Version begun = security_result
 result_ahead at.BadVersion begun = security_result
@@ -41,7 +41,7 @@ result_ahead at.SecurityResult begun = after security_result begun
 result_ahead at.Failed begun = Faulty fault.SecurityFailed
 result_ahead _ begun = Done tt
 
--- ServerInit.
+-- How ServerInit goes on.
 abbrev pub init_ahead : Stage → (w h rest wanted : ℕ) → List ℕ → Reading Joined
 init_ahead at.Size w h rest wanted begun = after host_init begun
 init_ahead at.BadScreen w h rest wanted begun = Faulty fault.BadScreen
@@ -56,15 +56,15 @@ init_ahead _ w h rest wanted begun = host_init
 abbrev pub version_of : HostTalk → Reading (Unit {0})
 version_of talk = version_ahead talk.stage talk.field.items
 
--- Its security types.
+-- How reading its security types goes on.
 abbrev pub types_of : HostTalk → Reading (Unit {0})
 types_of talk = types_ahead talk.stage talk.wanted talk.field.items
 
--- Its SecurityResult.
+-- How reading its SecurityResult goes on.
 abbrev pub result_of : HostTalk → Reading (Unit {0})
 result_of talk = result_ahead talk.stage talk.field.items
 
--- Its ServerInit.
+-- How reading its ServerInit goes on.
 abbrev pub init_of : HostTalk → Reading Joined
 init_of talk = init_ahead talk.stage talk.w talk.h talk.rest talk.wanted talk.field.items
 
@@ -72,7 +72,7 @@ init_of talk = init_ahead talk.stage talk.w talk.h talk.rest talk.wanted talk.fi
 abbrev pub ahead : HostTalk → Reading Joined
 ahead talk = version_of talk >>= λ _. types_of talk >>= λ _. result_of talk >>= λ _. init_of talk
 
--- It has heard this stream: each beginning of the handshake goes on as it says.
+-- The handshake has heard this stream: each beginning of the host's side goes on as the handshake says.
 pub record HasHeard (talk : HostTalk) (stream : List ℕ) : Type 0 where
   pub version : after host_version stream ≡ version_of talk
   pub types : after (host_version >>= λ _. security_types) stream ≡ (version_of talk >>= λ _. types_of talk)
@@ -93,11 +93,12 @@ said at.SecurityResult = version ++ 1 ∷ []
 said at.Failed = version ++ 1 ∷ []
 said _ = version ++ 1 ∷ 1 ∷ []
 
--- What is to be sent: that, but for what was sent. After a fault nothing is said.
+-- What is to be sent: what must have been said by now, without what was sent already. After a fault nothing is said.
 abbrev pub to_send : HostTalk → List ℕ
 to_send talk = if is_none (fault_of (ahead talk)) then drop talk.sent (said talk.stage) else []
 
--- How many bytes of a field have come and how many it has; and what is left of a name that is too long to be kept.
+-- What each stage allows for three numbers: how many bytes its field has, how many bytes are left of a name that is too
+-- long to be kept, and how many bytes of the field have come.
 abbrev pub FitsStage : Stage → (wanted rest count : ℕ) → Type 0
 FitsStage at.Version wanted rest count = (wanted ≡ 12) × (count ≤ wanted)
 FitsStage at.TypeCount wanted rest count = (wanted ≡ 1) × (count ≤ wanted)
@@ -134,7 +135,7 @@ pub record IsSound (talk : HostTalk) : Type 0 where
   pub room : is_field talk.stage ≡ true → length talk.field.items < talk.wanted
   pub within : talk.sent ≤ length (said talk.stage)
 
--- The same is still to come.
+-- Reading goes on in the same way in both.
 pub record GoesOnAlike (old new : HostTalk) : Type 0 where
   pub version : version_of new ≡ version_of old
   pub types : types_of new ≡ types_of old

@@ -3,7 +3,7 @@ use Rattle.std.specs.Prelude.{ℕ}
 use Rattle.rfb_wire.specs.declared.client_reader.part.Part.{Part}
 use Rattle.rfb_wire.specs.declared.client_reader.part.Part.TheVariants.{Kind, Format, Count, Number, Ask, Key, Pointer, Length}
 
--- How many bytes each has.
+-- How many bytes each part has.
 abbrev pub len_of : Part → ℕ
 len_of Kind = 1
 len_of Format = 19

@@ -13,7 +13,7 @@ HasShortText server.Bell = Unit {0}
 HasShortText (ServerCutText text) = length text ≤ longest_text
 HasShortText (LostText len) = Unit {0}
 
--- An update brings a short text, if any.
+-- The text that an update brings, if any, has at most 65,536 bytes.
 abbrev pub BringsShortText : Update → Type 0
 BringsShortText (Paints paints) = Unit {0}
 BringsShortText Bell = Unit {0}

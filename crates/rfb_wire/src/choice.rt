@@ -2,7 +2,7 @@
 
 use raster::Encoding;
 
-/// What a viewer's list of encodings comes to (RFC 6143, 7.5.2).
+/// The choice that a viewer's list of encodings leads to (RFC 6143, 7.5.2).
 #[derive(Clone, Copy, Debug, PartialEq, Eq)]
 pub struct Choice {
     /// How it wants pixels: the first of Raw, RRE and Hextile in its list, and Raw where none of them is there.

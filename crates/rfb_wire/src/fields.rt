@@ -1,4 +1,4 @@
-//! Fields of a fixed length, as they come.
+//! Collects fields of a fixed length as their bytes come.
 
 ghost use Rattle.rfb_wire.specs.declared.fields.TheConstants.{LONGEST_PART};
 ghost use Rattle.std.specs.Prelude.{◌≡◌, ◌+◌, ◌<◌, ◌≤◌, ℕ, List, [], ◌++◌, length, take};
@@ -38,7 +38,7 @@ impl<P: FixedPart> Model for Fields<P> {
 }
 
 impl<P: FixedPart> Fields<P> {
-    /// No byte of this part.
+    /// This part, of which no byte has come.
     pub fn of(part: P) -> Fields<P>
         requires some { 0 < P.len_of part }
         requires most { P.len_of part ≤ LONGEST_PART }
@@ -67,7 +67,7 @@ impl<P: FixedPart> Fields<P> {
         self.part.len() - self.filled
     }
 
-    /// Keeps its next bytes, of which more are missing.
+    /// Keeps the next bytes of the part. More bytes have to be missing than these.
     pub fn keep(&mut self, next: &[u8])
         requires { length self.old.1 + length next.now < P.len_of self.old.0 }
         ensures { self.new ≡ (self.old.0, self.old.1 ++ next.now) }
@@ -77,7 +77,7 @@ impl<P: FixedPart> Fields<P> {
         self.filled = end;
     }
 
-    /// All of its bytes, the last of which are these: they stand in front.
+    /// All bytes of the part, of which these are the last. They stand at the front of the answer.
     pub fn whole(&mut self, last: &[u8]) -> [u8; LONGEST_PART]
         requires { length self.old.1 + length last.now ≡ P.len_of self.old.0 }
         ensures { take (P.len_of self.old.0) result ≡ self.old.1 ++ last.now }

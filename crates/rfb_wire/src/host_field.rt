@@ -20,11 +20,11 @@ pub(crate) const SIZE_LEN: usize = 4;
 /// How many bytes a pixel format has (RFC 6143, 7.4).
 pub(crate) const FORMAT_LEN: usize = 16;
 
-/// The most bytes that are kept of a reason or a name, whose length may be any. A list of security types never has
-/// more, since its length is told in one byte (RFC 6143, 7.1.2).
+/// The most bytes that are kept of a reason or a name, whose length may be any. A list of security types never has more
+/// bytes, since its length is told in one byte (RFC 6143, 7.1.2).
 pub(crate) const MOST_KEPT: usize = 255;
 
-/// The number that three digits spell.
+/// The number that the three digits from byte `i` on spell.
 fn number_at(version: &[u8], i: usize) -> u32
     requires { i + 3 ≤ length version.now }
     ensures { result ≡ number_at version.now i }
@@ -34,7 +34,7 @@ fn number_at(version: &[u8], i: usize) -> u32
         + u32::from(version[i + 2].saturating_sub(b'0'))
 }
 
-/// Whether three digits stand there.
+/// Whether three digits stand from byte `i` on.
 fn has_number_at(version: &[u8], i: usize) -> bool
     requires { i + 3 ≤ length version.now }
     ensures { result ≡ has_number_at version.now i }
@@ -72,7 +72,7 @@ pub(crate) fn number_in(field: &[u8]) -> u32
     u32::from_be_bytes([field[0], field[1], field[2], field[3]])
 }
 
-/// A width or a height in two bytes of a field.
+/// A width or a height, in the two bytes of a field from byte `i` on.
 pub(crate) fn size_at(field: &[u8], i: usize) -> u16
     requires { i + 2 ≤ length field.now }
     ensures { result ≡ from_be_bytes w16 (slice_index field.now i ∷ slice_index field.now (i + 1) ∷ []) }
@@ -80,7 +80,7 @@ pub(crate) fn size_at(field: &[u8], i: usize) -> u16
     u16::from_be_bytes([field[i], field[i + 1]])
 }
 
-/// Whether a screen may be so wide or high: 1 to 4096 pixels.
+/// Whether a screen may be this wide or this high: 1 to 4096 pixels.
 pub(crate) fn is_size(n: u16) -> bool
     ensures { result ≡ is_size n }
 {
@@ -93,7 +93,7 @@ pub(crate) fn kept(bytes: &[u8]) -> ArrayVec<u8, MOST_KEPT>
     ensures { result.items ≡ bytes.now }
 {
     let mut kept = ArrayVec::new();
-    // There is room for as many as are kept.
+    // There is room for all bytes that are kept.
     let _ = kept.try_extend_from_slice(bytes);
     kept
 }

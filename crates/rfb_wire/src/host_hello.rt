@@ -9,9 +9,8 @@ use std::marker::Model;
 /// A host's handshake in mid-course: what has come of it, and what is to be said to it. It takes no memory.
 ///
 /// Any version from 3.8 on is accepted, and answered by 3.8. Security type None is chosen wherever it stands in the
-/// host's list, and a shared session is asked for. The host's own pixel format is passed over, and of its name the
-/// first 255 bytes are kept. After a fault no byte is taken, each feed answers the same fault, and there is nothing to
-/// say.
+/// host's list, and a shared session is asked for. The host's own pixel format is ignored. The first 255 bytes of its
+/// name are kept. After a fault no byte is taken, each feed answers the same fault, and there is nothing to say.
 #[derive(Drop)]
 pub struct HostHello {
     talk: HostTalk,

@@ -17,9 +17,9 @@ pub(crate) enum Stage {
     Version,
     /// How many security types it has (7.1.2).
     TypeCount,
-    /// How long the reason is for which it has none (7.1.2).
+    /// The length of the reason, where the host offers no security type (7.1.2).
     ReasonLength,
-    /// That reason, as much of it as is kept.
+    /// The reason, as much of it as is kept.
     Reason,
     /// Its security types (7.1.2).
     Types,
@@ -27,19 +27,19 @@ pub(crate) enum Stage {
     SecurityResult,
     /// The size of its screen, first in ServerInit (7.3.2).
     Size,
-    /// Its pixel format, which is passed over.
+    /// The host's pixel format, which is ignored.
     Format,
-    /// How long its name is.
+    /// The length of the host's name.
     NameLength,
-    /// That name, as much of it as is kept.
+    /// The name, as much of it as is kept.
     Name,
     /// What is left of a name that is too long to be kept.
     Rest,
-    /// It was whole.
+    /// The handshake is whole.
     Joined,
     /// The version isn't 3.8 or later.
     BadVersion,
-    /// There is no security type; the field is the reason.
+    /// The host offers no security type. The field holds the reason.
     Refused,
     /// None is not among the security types.
     NoNone,
@@ -179,7 +179,7 @@ impl HostTalk {
         self.wanted = wanted;
     }
 
-    /// After a version from 3.8 on come the security types.
+    /// Judges the version. After one from 3.8 on the security types are read.
     fn judge_version(&mut self)
         requires stage { self.old.stage ≡ Stage.Version }
         requires whole { length self.old.field.items ≡ VERSION_LEN }
@@ -193,7 +193,7 @@ impl HostTalk {
         }
     }
 
-    /// After a number of security types they come, and after 0 a reason.
+    /// Judges the number of security types. After 0 a reason is read, and otherwise the types.
     fn judge_type_count(&mut self)
         requires stage { self.old.stage ≡ Stage.TypeCount }
         requires whole { length self.old.field.items ≡ COUNT_LEN }
@@ -220,7 +220,7 @@ impl HostTalk {
         }
     }
 
-    /// None has to be among the types.
+    /// Judges the security types: type None has to be among them.
     fn judge_types(&mut self)
         requires stage { self.old.stage ≡ Stage.Types }
         requires whole { length self.old.field.items ≡ self.old.wanted }
@@ -234,7 +234,7 @@ impl HostTalk {
         }
     }
 
-    /// SecurityResult 0 is OK.
+    /// Judges SecurityResult: 0 is OK.
     fn judge_outcome(&mut self)
         requires stage { self.old.stage ≡ Stage.SecurityResult }
         requires whole { length self.old.field.items ≡ NUMBER_LEN }
@@ -248,7 +248,7 @@ impl HostTalk {
         }
     }
 
-    /// Width and height are judged together.
+    /// Judges the size: width and height together.
     fn judge_size(&mut self)
         requires stage { self.old.stage ≡ Stage.Size }
         requires whole { length self.old.field.items ≡ SIZE_LEN }
@@ -306,7 +306,7 @@ impl HostTalk {
         }
     }
 
-    /// Passes over a byte of a name that is too long to be kept.
+    /// Reads past a byte of a name that is too long to be kept.
     fn pass(&mut self)
         requires stage { self.old.stage ≡ Stage.Rest }
         requires sound { IsSound self.old }

@@ -29,7 +29,7 @@ impl Model for KeptText {
 }
 
 impl KeptText {
-    /// No byte of a text of this length. It takes no memory.
+    /// A text of this length, of which no byte has come. It takes no memory.
     pub fn begin(alloc: Global, len: usize) -> KeptText
         requires some { 0 < len }
         requires short { len ≤ LONGEST_TEXT }
@@ -57,7 +57,8 @@ impl KeptText {
         self.bytes.len() + self.left
     }
 
-    /// Keeps its next bytes, of which more are left. `Memory`: nothing changes.
+    /// Keeps the next bytes of the text. More bytes have to be left than these. Where memory is refused (`Memory`)
+    /// nothing changes.
     pub fn keep(&mut self, next: &[u8]) -> Result<(), Fault>
         requires { length next.now < self.old.1 }
         ensures kept { OnOk result (self.new ≡ (self.old.0 ++ next.now, self.old.1 - length next.now)) }
@@ -68,8 +69,8 @@ impl KeptText {
         Ok(())
     }
 
-    /// The whole text, of which these are the last bytes. It is handed out, and what stays is a text of the bytes that
-    /// were left. `Memory`: nothing changes.
+    /// Hands out the whole text, of which these are the last bytes. What stays is a text of which no byte has come.
+    /// Where memory is refused (`Memory`) nothing changes.
     pub fn finish(&mut self, alloc: Global, last: &[u8]) -> Result<Text, Fault>
         requires { length last.now ≡ self.old.1 }
         ensures text { IfOk result (λ text. text ≡ self.old.0 ++ last.now) }

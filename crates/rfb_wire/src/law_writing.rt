@@ -1,4 +1,4 @@
-//! What is written is read back as what was meant, in both directions.
+//! Laws about reading what is written, in both directions.
 
 ghost use Rattle.std.specs.Prelude.{◌≡◌, ◌≤◌, ◌<◌, ◌+◌, ◌^◌, ℕ, Bool, List, [], ◌∷◌, length};
 ghost use Rattle.std.specs.List.{All};
@@ -10,7 +10,8 @@ ghost use Rattle.rfb_wire.specs.ServerMessage as server;
 ghost use Rattle.rfb_wire.specs.Handshake.{Joined, server_init, host_init, host_hello, viewer_hello, said_to_viewer, said_to_host};
 ghost use Rattle.rfb_wire.specs.Writing.{set_pixel_format_bytes, set_encodings_bytes, request_bytes, key_bytes, pointer_bytes, client_text_bytes, bell_bytes, server_text_bytes};
 
-/// Each message to the host is read as what it was written for. A text of more than 65,536 bytes is lost.
+/// Each message to the host is read as the message that was written. A text of more than 65,536 bytes is read as one
+/// that is lost.
 pub fn client_messages_are_read()
     ensures format { (format : PixelFormat) → IsAccepted format → Spells client_message (set_pixel_format_bytes format) (SetPixelFormat format) }
     ensures encodings { (encodings : List ℕ) → length encodings < 2 ^ 16 → All (λ e. e < 2 ^ 32) encodings → Spells client_message (set_encodings_bytes encodings) (SetEncodings (choice_of encodings)) }
@@ -21,8 +22,8 @@ pub fn client_messages_are_read()
     ensures lost { (text : List ℕ) → longest_text < length text → length text < 2 ^ 32 → Spells client_message (client_text_bytes text) (LostText (length text)) }
 {}
 
-/// A Bell and a text are read as such by every viewer. A text of more than 65,536 bytes is lost. Of updates
-/// `update_is_read` speaks.
+/// Every viewer reads a Bell as a Bell and a text as that text. A text of more than 65,536 bytes is read as one that is
+/// lost. `update_is_read` speaks of updates.
 pub fn server_messages_are_read()
     ensures bell { (format : PixelFormat) (w h : ℕ) → Spells (server.server_message format w h) bell_bytes server.Bell }
     ensures text { (format : PixelFormat) (w h : ℕ) (text : List ℕ) → length text ≤ longest_text → Spells (server.server_message format w h) (server_text_bytes text) (server.ServerCutText text) }

@@ -10,7 +10,7 @@ use raster::Rect;
 pub enum ClientMessage {
     /// SetPixelFormat, with a format that is accepted.
     Format(Format),
-    /// SetEncodings, by what its list comes to.
+    /// SetEncodings, as the choice that its list leads to.
     Encodings(Choice),
     /// FramebufferUpdateRequest: a rectangle in pixels, and whether only what has changed is asked for.
     Ask { incremental: bool, rect: Rect },

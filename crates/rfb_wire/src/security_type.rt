@@ -1,4 +1,4 @@
-//! The type of security that is spoken.
+//! The security type that is used.
 
-/// Security type None: nobody shows who they are, and nothing is hidden (RFC 6143, 7.2.1).
+/// Security type None: neither side is authenticated, and nothing is encrypted (RFC 6143, 7.2.1).
 pub(crate) const NONE: u8 = 1;

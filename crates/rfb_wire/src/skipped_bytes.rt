@@ -31,7 +31,7 @@ impl SkippedBytes {
         }
     }
 
-    /// How many are left.
+    /// How many bytes are left to be read past.
     pub fn left(&self) -> usize
         ensures value { result ≡ self.now }
         ensures some { 0 < result }
@@ -39,7 +39,7 @@ impl SkippedBytes {
         self.left
     }
 
-    /// Reads past this many of them, and not past all.
+    /// Reads past this many of them. At least one has to be left.
     pub fn skip(&mut self, count: usize)
         requires { count < self.old }
         ensures { self.new ≡ self.old - count }

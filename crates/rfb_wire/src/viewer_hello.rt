@@ -21,10 +21,10 @@ const VIEWER_LEN: usize = 14;
 /// number (RFC 6143, 7.1.1 and 7.1.2).
 const BEFORE_CHOICE_LEN: usize = 14;
 
-/// How many bytes are said to a viewer at most: all before the name, and a name of 255.
+/// The most bytes that are said to a viewer: those before the name, and a name of 255 bytes.
 const LONGEST_HANDSHAKE: usize = 297;
 
-/// How many bytes must have been said once this many have come, of `all` that are said in a handshake.
+/// How many of the `all` bytes that a handshake says must have been said once this many bytes have come.
 fn due(all: usize, taken: usize) -> usize
     ensures { result ≡ due all taken }
 {
@@ -38,15 +38,16 @@ fn due(all: usize, taken: usize) -> usize
 
 /// A viewer's handshake in mid-course: what has come of it, and what is to be said to it. It takes no memory.
 ///
-/// The viewer is told of a screen and a name. Its version has to be 3.8 and its choice None; its shared-flag is not
-/// acted on. After a fault no byte is taken, each feed answers the same fault, and there is nothing to say.
+/// The viewer is told of a screen and a name. Its version has to be 3.8, and its choice security type None. Its
+/// shared-flag is ignored. After a fault no byte is taken, each feed answers the same fault, and there is nothing to
+/// say.
 #[derive(Drop)]
 pub struct ViewerHello {
     w: u16,
     h: u16,
     /// What is said in a whole handshake, one answer after the other.
     said: ArrayVec<u8, LONGEST_HANDSHAKE>,
-    /// What has come.
+    /// The bytes of the viewer that have come.
     begun: ArrayVec<u8, VIEWER_LEN>,
     sent: usize,
 }
@@ -122,7 +123,7 @@ impl ViewerHello {
         }
     }
 
-    /// Takes a byte.
+    /// Takes the next byte of the viewer.
     fn step(&mut self, byte: u8)
         requires { wants_more (ahead self.old) ≡ true }
         ensures { self.new ≡ record self.old { begun = self.old.begun ++ byte ∷ [] } }

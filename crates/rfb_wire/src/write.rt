@@ -220,10 +220,10 @@ pub fn write_server_init(w: u16, h: u16, name: &[u8], out: &mut [u8]) -> usize
 /// 6143, 7.1.2 and 7.1.3).
 const SECURITY: [u8; 6] = [1, NONE, 0, 0, 0, 0];
 
-/// How many bytes of a handshake are said before ServerInit: the version and what is said of security.
+/// How many bytes of a handshake are said before ServerInit: the version, the security types and SecurityResult.
 pub(crate) const BEFORE_INIT_LEN: usize = 18;
 
-/// How many are said before the name: those before ServerInit, and 24 of it.
+/// How many bytes are said before the name: those before ServerInit, and the first 24 of ServerInit.
 pub(crate) const BEFORE_NAME_LEN: usize = 42;
 
 /// What a server says after its version.

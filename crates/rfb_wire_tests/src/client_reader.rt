@@ -71,7 +71,7 @@ fn is_format(format: &Format, bytes: &[u8; 16]) -> bool {
     written == *bytes
 }
 
-/// Whether these are so many bytes, each of which is an M.
+/// Whether these are this many bytes, each of which is an M.
 fn is_long_text(bytes: &[u8], count: usize) -> bool {
     bytes.len() == count && bytes.iter().all(|byte| *byte == b'M')
 }
@@ -118,12 +118,12 @@ fn shows_bad_format(reader: &mut ClientReader, piece: &[u8]) -> bool {
     matches!(reader.feed(piece), Err(Fault::BadFormat))
 }
 
-/// Whether all of both pieces is used, and they spell this.
+/// Whether all bytes of both pieces are used, and they spell this.
 fn reads_in_two(reader: &mut ClientReader, front: &[u8], back: &[u8], says: &Says) -> bool {
     uses(reader, front, front.len()) && uses(reader, back, back.len()) && gives(reader, says)
 }
 
-/// Whether each of so many pieces is used up to this byte.
+/// Whether `count` pieces are each used up to this byte.
 fn uses_pieces(reader: &mut ClientReader, piece: &[u8], used: usize, count: usize) -> bool {
     for _ in 0..count {
         if !uses(reader, piece, used) {
@@ -158,14 +158,14 @@ fn messages_in_pieces(rt: HostRuntime) {
     }
 }
 
-/// What is done with one reader, and what comes of it.
+/// What is done with one reader, and what the reader answers.
 #[derive(Clone, Copy)]
 enum Step {
-    /// So many bytes of a piece are used, and no fault is shown.
+    /// This many bytes of a piece are used, and no fault is shown.
     Uses(&'static [u8], usize),
-    /// The same of so many pieces, one after the other.
+    /// This many bytes of a piece are used, and no fault is shown, for this many such pieces, one after the other.
     UsesAgain(&'static [u8], usize, usize),
-    /// The same of so many pieces of this many bytes, each of which is an M.
+    /// The pieces of this length and number are each used so far, where each byte is an M.
     UsesLong(Long),
     Gives(Says),
     GivesNothing,
@@ -178,7 +178,7 @@ enum Step {
     IsAtFault,
 }
 
-/// So many pieces of one length, of each of which this many bytes are used.
+/// Pieces of one length: their length, how many bytes of each are used, and how many pieces there are.
 #[derive(Clone, Copy)]
 struct Long {
     len: usize,
@@ -191,7 +191,7 @@ const EMPTY_TEXT: [Step; 2] = [
     Step::GivesEmptyText,
 ];
 
-/// Of 65,535 numbers one alone is an encoding that is written.
+/// Of 65,535 numbers only one is an encoding that is written.
 const LONGEST_LIST: [Step; 6] = [
     Step::Uses(&[2, 0, 255, 255], 4),
     Step::UsesAgain(&[0, 0, 0, 7], 4, 65533),
@@ -298,7 +298,7 @@ fn is_unknown(reader: &mut ClientReader, piece: &[u8], kind: u8) -> bool {
     }
 }
 
-/// Whether a step comes to what it has to.
+/// Whether a step has the result that it should have.
 fn goes(alloc: Global, reader: &mut ClientReader, step: &Step) -> bool {
     match step {
         Step::Uses(piece, used) => uses(reader, piece, *used),
@@ -314,7 +314,7 @@ fn goes(alloc: Global, reader: &mut ClientReader, step: &Step) -> bool {
     }
 }
 
-/// Each step over a new reader comes to what it has to.
+/// Each step over a new reader has the result that it should have.
 fn plays<R: Abort + AllocGlobal>(rt: &R, name: &str, steps: &[Step]) {
     let mut reader = ClientReader::new(rt.alloc());
     for (i, step) in steps.iter().enumerate() {
@@ -401,7 +401,7 @@ fn is_judged_at_its_end(alloc: Global, format: &[u8; 16], accepted: bool) -> boo
         && is_judged(&mut reader, last, accepted)
 }
 
-/// Each value of this byte of a format is judged as it must be.
+/// Each value of this byte of a format is judged as it should be.
 fn is_judged_at_each_value<R: Abort + AllocGlobal>(rt: &R, position: usize) {
     for value in 0..=255 {
         let format = changed(position, value);

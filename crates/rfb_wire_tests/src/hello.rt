@@ -12,7 +12,7 @@ use std::process::Abort;
 const HOST: [u8; 43] =
     *b"RFB 003.008\n\x01\x01\0\0\0\0\0\x02\0\x01\x20\x18\0\x01\0\xFF\0\xFF\0\xFF\x10\x08\0\0\0\0\0\0\0\x01T";
 
-/// The same host with another version, and with a screen of another size.
+/// That host with another version, and with a screen of another size.
 fn host_with(version: &[u8; 12], size: &[u8; 4]) -> [u8; 43] {
     let mut bytes = HOST;
     bytes[..12].copy_from_slice(version);
@@ -20,8 +20,8 @@ fn host_with(version: &[u8; 12], size: &[u8; 4]) -> [u8; 43] {
     bytes
 }
 
-/// How many of a host's bytes are used, in pieces of this many, and the number of the fault that they come to, 0 where
-/// there is none.
+/// How many of a host's bytes are used, in pieces of this many bytes, and the number of the fault that they lead to, or
+/// 0 where there is none.
 fn feed_host(hello: &mut HostHello, bytes: &[u8], size: usize) -> (usize, u64)
     requires { 0 < size }
 {
@@ -154,16 +154,16 @@ fn long_names(rt: HostRuntime) {
     }
 }
 
-/// What is done with a viewer's handshake, and what comes of it.
+/// What is done with a viewer's handshake, and what the handshake answers.
 #[derive(Clone, Copy)]
 enum Step {
     /// The viewer is to be sent exactly this, all of which is then sent.
     Says(&'static [u8]),
-    /// So much of a piece is used, and no fault shown.
+    /// This many bytes of a piece are used, and no fault is shown.
     Uses(&'static [u8], usize),
     /// The fault of this number is shown.
     Shows(&'static [u8], u64),
-    /// Whether it is done.
+    /// Whether the handshake is done.
     IsDone(bool),
 }
 
@@ -197,7 +197,7 @@ fn says(hello: &mut ViewerHello, wanted: &[u8]) -> bool {
     says
 }
 
-/// How much of a piece is used, and the number of the fault that is shown, 0 where there is none.
+/// How many bytes of a piece are used, and the number of the fault that is shown, or 0 where there is none.
 fn feed_viewer(hello: &mut ViewerHello, piece: &[u8]) -> (usize, u64) {
     match hello.feed(piece) {
         Ok(used) => (used, 0),
@@ -205,7 +205,7 @@ fn feed_viewer(hello: &mut ViewerHello, piece: &[u8]) -> (usize, u64) {
     }
 }
 
-/// Whether a step comes to what it has to.
+/// Whether a step has the result that it should have.
 fn goes(hello: &mut ViewerHello, step: &Step) -> bool {
     match step {
         Step::Says(wanted) => says(hello, wanted),
@@ -215,7 +215,7 @@ fn goes(hello: &mut ViewerHello, step: &Step) -> bool {
     }
 }
 
-/// Each step over a new handshake comes to what it has to.
+/// Each step over a new handshake has the result that it should have.
 fn plays<R: Abort>(rt: &R, name: &str, steps: &[Step]) {
     let mut hello = ViewerHello::new(2, 1, b"T");
     for (i, step) in steps.iter().enumerate() {
@@ -239,7 +239,7 @@ fn viewers_are_told_or_refused(rt: HostRuntime) {
 /// The viewer's side of a handshake: its version, the choice of None, and a shared-flag.
 const VIEWER: [u8; 14] = *b"RFB 003.008\n\x01\x01";
 
-/// That with one byte changed.
+/// That side of the handshake, with one byte changed.
 fn changed(position: usize, value: u8) -> [u8; 14] {
     let mut bytes = VIEWER;
     if position < 14 {
@@ -248,7 +248,7 @@ fn changed(position: usize, value: u8) -> [u8; 14] {
     bytes
 }
 
-/// The fault that such a change comes to. The shared-flag isn't looked at.
+/// The fault that such a change leads to. The shared-flag isn't looked at.
 fn fault_of_change(position: usize, value: u8) -> u64 {
     match position {
         12 if value != 1 => 13,
@@ -257,8 +257,8 @@ fn fault_of_change(position: usize, value: u8) -> u64 {
     }
 }
 
-/// The number of the fault that a viewer's bytes, up to this many and then the rest, come to, 0 where the handshake is
-/// done, and 99 where it is neither.
+/// The number of the fault that a viewer's bytes lead to, up to this many and then the rest. It is 0 where the
+/// handshake is done, and 99 where there is neither.
 fn viewer_fault(bytes: &[u8; 14], cut: usize) -> u64 {
     let mut hello = ViewerHello::new(2, 1, b"T");
     let (front, back) = bytes.split_at(cut.min(14));
@@ -295,8 +295,8 @@ fn every_byte_of_a_viewer(rt: HostRuntime) {
     }
 }
 
-/// Bytes of which the one behind so many shows the fault of this number, fed one by one: it comes with the last byte of
-/// its field, and no sooner.
+/// Bytes, how many of them show no fault when they are fed one by one, and the number of the fault that the next byte
+/// shows: a fault comes with the last byte of its field, and no sooner.
 const JUDGED: [(&[u8], usize, u64); 6] = [
     (b"XXX 003.008\n\x01", 11, 1),
     (b"RFB 003.008\n\x02\x02\x05\0", 14, 3),

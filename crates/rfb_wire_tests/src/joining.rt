@@ -1,4 +1,4 @@
-//! Joining a host whose screen is 2 by 1 and whose name is T, over links of every course.
+//! Joining a host whose screen is 2 by 1 and whose name is T, over links that answer in different ways.
 
 use fault::Fault;
 use link::{Gave, Link, MemoryLink, Took, join_host};
@@ -10,10 +10,10 @@ use std::sync::Wait;
 const SENDS: [u8; 45] =
     *b"RFB 003.008\n\x01\x01\0\0\0\0\0\x02\0\x01\x20\x18\0\x01\0\xFF\0\xFF\0\xFF\x10\x08\0\0\0\0\0\0\0\x01T\0\0";
 
-/// How many of these are of the handshake.
+/// How many of these bytes belong to the handshake.
 const HANDSHAKE: usize = 43;
 
-/// What it is given: the version, the choice of None, shared-flag 1, and the three messages.
+/// What the host is given: the version, the choice of None, shared-flag 1, and the three messages.
 const GIVES: [u8; 64] = [
     0x52, 0x46, 0x42, 0x20, 0x30, 0x30, 0x33, 0x2E, 0x30, 0x30, 0x38, 0x0A, 0x01, 0x01, 0x00, 0x00,
     0x00, 0x00, 0x20, 0x18, 0x00, 0x01, 0x00, 0xFF, 0x00, 0xFF, 0x00, 0xFF, 0x10, 0x08, 0x00, 0x00,
@@ -21,7 +21,8 @@ const GIVES: [u8; 64] = [
     0x00, 0x02, 0x00, 0x00, 0x00, 0x00, 0x03, 0x00, 0x00, 0x00, 0x00, 0x00, 0x00, 0x02, 0x00, 0x01,
 ];
 
-/// A link that answers so many calls to take with the first, and then one with the last; so for calls to give.
+/// A link that answers this many calls to take with `take`, and then one with `last_take`. Calls to give are answered
+/// likewise.
 #[derive(Clone, Copy)]
 struct Course {
     take: Took,
@@ -61,7 +62,8 @@ fn number_of(answer: &Result<Joined, Fault>) -> u64 {
     }
 }
 
-/// Whether so many of the host's bytes were taken, if that is looked at, and so many of the others given.
+/// Whether as many of the host's bytes were taken, if that is looked at, and as many bytes were given, as the ending
+/// says.
 fn has_moved(link: &MemoryLink, ending: &Ending) -> bool {
     let is_taken = match ending.taken {
         Some(count) => SENDS.get(..count) == Some(link.taken()),
@@ -95,7 +97,7 @@ const BYTEWISE: Course = Course {
     last_give: Gave::Failed,
 };
 
-/// Nothing comes at first, and then all at once; and each byte by itself, both ways.
+/// Nothing comes at first, and then all comes at once; or each byte goes by itself, both ways.
 #[test]
 fn joins_a_host(rt: HostRuntime) {
     let ending = Ending {
@@ -152,7 +154,8 @@ fn fails_at_each_byte_taken(rt: HostRuntime) {
     }
 }
 
-/// Whether joining ends as this link's last answer to a call to give, behind so many, and with so much given.
+/// Whether joining ends as this link's last answer to a call to give says, after `gives` such calls, and with `given`
+/// bytes given.
 fn fails_at<R: Wait + AllocGlobal>(rt: &R, course: &Course, gives: usize, given: usize) -> bool {
     let failed = Ending {
         number: 21,

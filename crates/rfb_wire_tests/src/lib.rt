@@ -1,4 +1,4 @@
-//! Tests of `rfb_wire` and `link`, which stand in a crate of their own so that each of those is proved once.
+//! Tests of `rfb_wire` and `link`, which are in their own crate so that each of those is proved once.
 #![tactic(auto)]
 
 #[cfg(test)]

@@ -8,7 +8,7 @@ use Rattle.roles.specs.declared.input.Input as declared
 use Rattle.roles.specs.declared.input.Input.TheVariants as code
 use Rattle.roles.specs.Allowed.{Input, Key, Pointer, Cut, input_of, passes, keys_after, keys_down, last_pointer, allowed}
 
--- The input that one in the code stands for.
+-- The input of the definitions for which an `Input` of the code stands.
 abbrev pub input_in : declared.Input → Input
 input_in (code.Key down key) = Key down key
 input_in (code.Pointer mask x y) = Pointer mask x y
@@ -22,7 +22,7 @@ pub record Kept : Type 0 where
   pub x : ℕ
   pub y : ℕ
 
--- Before the first message.
+-- What is kept before the first message.
 abbrev pub nothing_kept : Kept
 nothing_kept = record { keys = []; mask = 0; x = 0; y = 0 }
 
@@ -66,6 +66,6 @@ passed_if pass (Some input) = if pass then input ∷ [] else []
 abbrev pub pointer_left : ℕ × ℕ × ℕ → List Input
 pointer_left last = if last.0 == 0 then [] else Pointer 0 last.1 last.2 ∷ []
 
--- All of it, the keys first.
+-- All that is still to be released where the viewer leaves, the keys first.
 abbrev pub left_in : Kept → List Input
 left_in kept = map (λ key. Key false key) kept.keys ++ pointer_left (kept.mask, kept.x, kept.y)

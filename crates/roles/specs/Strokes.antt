@@ -1,5 +1,5 @@
--- Which of the input that several places sent goes to the host, so that no place breaks into what another has begun
--- with a key or a button (RFC 6143, 7.5.4 and 7.5.5; the rule is this project's own).
+-- Which input of several places goes to the host, so that no place breaks into what another has begun with a key or a
+-- button (RFC 6143, 7.5.4 and 7.5.5; the rule is this project's own).
 use Rattle.std.specs.Prelude.{◌≡◌, ◌≢◌, ◌⊎◌, ℕ, ◌+◌, ◌<◌, min, Bool, false, not, ◌&&◌, ◌||◌, ◌==◌, nat_lt, if◌then◌else◌, List, [], ◌∷◌, ◌++◌, length, slice_index, slice_set}
 use Rattle.std.specs.List.{list_any}
 use Rattle.fault.specs.declared.limits.TheConstants.{LIMIT}
@@ -11,7 +11,7 @@ pub record Taken : Type 0 where
   pub place : ℕ
   pub input : Input
 
--- This input of this place.
+-- This input, as taken of this place.
 abbrev pub input_from : ℕ → Input → Taken
 input_from place input = record { place = place; input = input }
 
@@ -32,16 +32,17 @@ buttons_of place passed = (last_pointer (0, 0, 0) (sent_by place passed)).0
 abbrev pub has_down : ℕ → List Taken → Bool
 has_down place passed = nat_lt 0 (length (keys_of place passed)) || nat_lt 0 (buttons_of place passed)
 
--- Another place than this one has.
+-- A place other than this one has a key or a button down.
 abbrev pub another_has_down : ℕ → List Taken → Bool
 another_has_down place passed = list_any (λ t. not (t.place == place) && has_down t.place passed) passed
 
--- An input passes where no other place has a key or a button down, unless it is the release of a key that isn't down of
--- its place, or the press of a further key while 64 are down.
+-- An input passes where no other place has a key or a button down, unless it releases a key that its own place doesn't
+-- have down, or presses a further key while that place has 64 down.
 abbrev pub passes_after : List Taken → Taken → Bool
 passes_after passed t = not (another_has_down t.place passed) && passes (keys_of t.place passed) t.input
 
--- What passed, and then the inputs that pass after it, in order.
+-- Where the inputs of the first list have passed already: those, and then the inputs of the second list that pass, in
+-- order.
 abbrev pub unbroken_after : List Taken → List Taken → List Taken
 unbroken_after passed [] = passed
 unbroken_after passed (t ∷ ts) = if passes_after passed t then unbroken_after (passed ++ t ∷ []) ts else unbroken_after passed ts
@@ -50,7 +51,7 @@ unbroken_after passed (t ∷ ts) = if passes_after passed t then unbroken_after 
 abbrev pub unbroken : List Taken → List Taken
 unbroken taken = unbroken_after [] taken
 
--- The inputs that don't pass after what passed, in order.
+-- The inputs of the second list that don't pass where the first list has passed already, in order.
 abbrev pub left_out_after : List Taken → List Taken → List Taken
 left_out_after passed [] = []
 left_out_after passed (t ∷ ts) = if passes_after passed t then left_out_after (passed ++ t ∷ []) ts else t ∷ left_out_after passed ts
@@ -59,7 +60,8 @@ left_out_after passed (t ∷ ts) = if passes_after passed t then left_out_after 
 abbrev pub dropped : ℕ → List Taken → ℕ
 dropped place taken = min LIMIT (length (sent_by place (left_out_after [] taken)))
 
--- Some of these, in their order, each at most once: the first is left out, or they begin with it.
+-- The first list has some of the second, in its order, each at most once: the second list's first is left out, or both
+-- begin with it.
 abbrev pub IsPickedFrom : {A : Type 0} → List A → List A → Type 0
 IsPickedFrom picked [] = picked ≡ []
 IsPickedFrom {A} picked (x ∷ xs) = IsPickedFrom picked xs ⊎ ((rest : List A) × (picked ≡ x ∷ rest) × IsPickedFrom rest xs)
@@ -72,7 +74,7 @@ pub record StrokesKept : Type 0 where
   pub held : Kept
   pub counts : List ℕ
 
--- It stands for the inputs that were taken: no other place has a key or a button down.
+-- What is kept stands for the inputs that were taken. No place other than the one kept has a key or a button down.
 pub record StrokesStand (kept : StrokesKept) (taken : List Taken) : Type 0 where
   pub keys : kept.held.keys ≡ keys_of kept.place (unbroken taken)
   pub buttons : kept.held.mask ≡ buttons_of kept.place (unbroken taken)
@@ -83,11 +85,11 @@ pub record StrokesStand (kept : StrokesKept) (taken : List Taken) : Type 0 where
 abbrev pub is_holding : Kept → Bool
 is_holding held = nat_lt 0 (length held.keys) || nat_lt 0 held.mask
 
--- An input passes there.
+-- An input passes where this is kept.
 abbrev pub lets_pass : StrokesKept → Taken → Bool
 lets_pass kept t = (kept.place == t.place || not (is_holding kept.held)) && passes kept.held.keys t.input
 
--- What is kept after it, but for the counts.
+-- What is kept after that input, but for the counts.
 abbrev pub let_through : StrokesKept → Taken → StrokesKept
 let_through kept t = if lets_pass kept t then record kept { place = t.place; held = kept_with kept.held t.input } else kept
 

@@ -58,7 +58,7 @@ fn is_among(keys: &[u32], key: u32) -> bool
 }
 
 impl Held {
-    /// Nothing is held.
+    /// A viewer that holds nothing down and has sent no pointer event.
     pub fn new() -> Self
         ensures { result ≡ nothing_kept }
     {
@@ -99,7 +99,7 @@ impl Held {
         true
     }
 
-    /// A pointer event always passes, and is the last from now on.
+    /// A pointer event always passes. From now on it is the last one.
     fn point(&mut self, mask: u8, x: u16, y: u16)
         ensures { self.new ≡ record self.old { mask = mask; x = x; y = y } }
     {
@@ -110,8 +110,9 @@ impl Held {
 
     /// Whether a message of a viewer of this role passes to the host, and what is held after it. It takes no memory.
     ///
-    /// Of a viewer in full control pass, in order, each pointer event, each text that was kept, the press of a key that
-    /// is down or while fewer than 64 are, and the release of a key that is down; of a view-only viewer nothing.
+    /// For a viewer in full control these pass, in order: each pointer event, each text that was kept, the press of a
+    /// key that is down already or while fewer than 64 keys are down, and the release of a key that is down. Nothing of
+    /// a view-only viewer passes.
     pub fn passes(&mut self, role: Role, message: &ClientMessage) -> bool
         ensures value { result ≡ passes_if self.old.keys (input_for role (message_of message.now)) }
         ensures kept { self.new ≡ kept_after self.old (input_for role (message_of message.now)) }
@@ -125,8 +126,8 @@ impl Held {
         }
     }
 
-    /// Whether an input passes, and what is held after it: the press of a key that is down or while fewer than
-    /// 64 are, the release of a key that is down, each pointer event and each text. It takes no memory.
+    /// Whether an input passes, and what is held after it: the press of a key that is down already or while fewer than
+    /// 64 keys are down, the release of a key that is down, each pointer event and each text pass. It takes no memory.
     pub(crate) fn takes(&mut self, input: &Input) -> bool
         ensures value { result ≡ passes self.old.keys (input_in input.now) }
         ensures kept { self.new ≡ kept_after self.old (Some (input_in input.now)) }
@@ -149,7 +150,7 @@ impl Held {
         !self.keys.is_empty() || self.mask != 0
     }
 
-    /// The same of a viewer in full control.
+    /// What `passes` answers and keeps for a viewer in full control.
     fn passes_full(&mut self, message: &ClientMessage) -> bool
         ensures value { result ≡ passes_if self.old.keys (input_of (message_of message.now)) }
         ensures kept { self.new ≡ kept_after self.old (input_of (message_of message.now)) }
@@ -169,7 +170,7 @@ impl Held {
         }
     }
 
-    /// How many inputs are to be released where the viewer leaves: at most 64 keys and a pointer event.
+    /// How many releases follow where the viewer leaves: at most one for each of 64 keys, and one pointer event.
     pub fn releases(&self) -> usize
         ensures value { result ≡ length (left_in self.now) }
         ensures most { result ≤ 65 }
@@ -181,9 +182,9 @@ impl Held {
         }
     }
 
-    /// The next input that is to be released where the viewer has left, and `None` once there is none left: the keys
-    /// that are down by rising number, then mask 0 at the last position if the last mask wasn't 0. Where there is none
-    /// nothing has changed. It takes no memory.
+    /// The next release of a viewer that has left: one of each key that is down, by rising number, and then mask 0 at
+    /// the last position if the last mask wasn't 0. After the last release it answers `None` and changes nothing. It
+    /// takes no memory.
     pub fn release(&mut self) -> Option<Input>
         ensures next { MatchOption result ((left_in self.old ≡ []) × (self.new ≡ self.old)) (λ input. left_in self.old ≡ input_in input ∷ left_in self.new) }
     {

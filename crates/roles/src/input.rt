@@ -1,4 +1,4 @@
-//! Input to the host.
+//! The inputs that may go to the host.
 
 use rfb_wire::Text;
 

@@ -1,4 +1,4 @@
-//! What holds of all that a viewer sends.
+//! Laws about all that a viewer sends.
 
 ghost use Rattle.std.specs.Prelude.{◌≡◌, ◌≢◌, ℕ, ◌-◌, min, Bool, List, ◌∷◌, ◌++◌, length, map, true, false};
 ghost use Rattle.fault.specs.declared.limits.TheConstants.{LIMIT};
@@ -15,10 +15,11 @@ pub fn releases_are_allowed()
 
 /// What passes of the input of several places.
 ///
-/// Of each place it is taken from what it sent, in its order, each input at most once. Where an input of a place
-/// passes, no other place has a key or a button down: between a place's first press and the last release of its keys
-/// and buttons nothing of another passes. Where one place alone sends, all passes that its viewer is allowed, with the
-/// releases where it has left. Each other input is counted for the place that sent it.
+/// What passes of a place's input is some of what that place sent, in its order, each input at most once. Where an
+/// input of a place passes, no other place has a key or a button down: between a place's first press and the last
+/// release of its keys and buttons nothing of another place passes. Where only one place sends, all that its viewer is
+/// allowed passes, with the releases once it has left. Each input that doesn't pass is counted for the place that sent
+/// it.
 pub fn strokes_are_whole()
     ensures picked { (place : ℕ) (taken : List Taken) → IsPickedFrom (sent_by place (unbroken taken)) (sent_by place taken) }
     ensures whole { (taken before after : List Taken) (t : Taken) → unbroken taken ≡ before ++ t ∷ after → (place : ℕ) → place ≢ t.place → has_down place before ≡ false }

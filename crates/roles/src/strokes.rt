@@ -38,9 +38,9 @@ fn count_up(counts: &mut [u64], place: u64)
 }
 
 impl Strokes {
-    /// Nothing was taken. Counts are kept of this many places, from 0 on.
+    /// The strokes before any input. Dropped inputs are counted for this many places, whose numbers begin at 0.
     ///
-    /// `Memory` where there is none for the counts.
+    /// It fails where memory for the counts is refused (`Memory`).
     pub fn new(alloc: Global, places: u64) -> Result<Self, Fault>
         ensures stands { IfOk result (λ strokes. StrokesStand strokes []) }
         ensures places { IfOk result (λ strokes. length strokes.counts ≡ places) }
@@ -54,7 +54,7 @@ impl Strokes {
         })
     }
 
-    /// Whether an input passes, and what is held after it. It counts nothing.
+    /// Whether an input of this place passes. It notes what is held after that input, and counts nothing.
     fn lets(&mut self, place: u64, input: &Input) -> bool
         ensures value { result ≡ lets_pass self.old (input_from place (input_in input.now)) }
         ensures kept { self.new ≡ let_through self.old (input_from place (input_in input.now)) }
@@ -71,8 +71,8 @@ impl Strokes {
 
     /// Whether an input that was taken of this place passes to the host. It takes no memory.
     ///
-    /// It passes where no other place has a key or a button down, unless it is the release of a key that isn't down of
-    /// its place, or the press of a further key while 64 are down. What doesn't pass is counted.
+    /// It passes where no other place has a key or a button down, unless it releases a key that its own place doesn't
+    /// have down, or presses a further key while that place has 64 down. An input that doesn't pass is counted.
     pub fn passes(&mut self, place: u64, input: &Input) -> bool
         ensures value { (taken : List Taken) → StrokesStand self.old taken → result ≡ passes_after (unbroken taken) (input_from place (input_in input.now)) }
         ensures unbroken { (taken : List Taken) → StrokesStand self.old taken

@@ -31,7 +31,8 @@ next_form format w h Outside sofar = Faulty SubrectOutside
 abbrev pub ahead : Progress → Drawing → Reading Drawing
 ahead p sofar = after (next_form p.format p.width p.height p.stage sofar) p.begun
 
--- From the background on a canvas shows what it keeps of what was drawn so far. After a fault nothing is said of it.
+-- Once the background is drawn, a canvas shows what it keeps of what was drawn so far. After a fault nothing is said of
+-- the canvas.
 abbrev pub IsDrawn : (keeps : ℕ → ℕ) → ℕ → ℕ → Stage → Canvas → Drawing → Type 0
 IsDrawn keeps w h Head canvas sofar = Unit {0}
 IsDrawn keeps w h (Subrects count) canvas sofar = LooksLike w h canvas (kept keeps (drawn sofar))
@@ -41,7 +42,7 @@ IsDrawn keeps w h Outside canvas sofar = Unit {0}
 abbrev pub Stands : (keeps : ℕ → ℕ) → Progress → Canvas → Drawing → Type 0
 Stands keeps p canvas sofar = IsDrawn keeps p.width p.height p.stage canvas sofar
 
--- However that was drawn, another byte is wanted.
+-- Another byte is wanted, whatever was drawn so far.
 abbrev pub IsWanting : Progress → Type 0
 IsWanting p = (sofar : Drawing) → wants_more (ahead p sofar) ≡ true
 
@@ -51,14 +52,14 @@ pub record IsSameSize (old new : Progress) : Type 0 where
   pub width : new.width ≡ old.width
   pub height : new.height ≡ old.height
 
--- Bytes are all wanted, and lead from one stage to a later one, and what they say was drawn.
+-- All of these bytes are wanted, they lead from one stage to the next, and what they say was drawn.
 pub record Led (keeps : ℕ → ℕ) (format : PixelFormat) (w h : ℕ) (stage next : Stage) (bytes : List ℕ) (now : Canvas) (sofar : Drawing) : Type 0 where
   pub drawing : Drawing
   pub takes : taken (next_form format w h stage sofar) bytes ≡ length bytes
   pub reads : after (next_form format w h stage sofar) bytes ≡ next_form format w h next drawing
   pub shows : IsDrawn keeps w h next now drawing
 
--- That, wherever the canvas before showed what was drawn so far.
+-- The bytes led to the next stage, where the canvas showed before what was drawn so far.
 abbrev pub Leads : (keeps : ℕ → ℕ) → PixelFormat → ℕ → ℕ → Stage → Stage → List ℕ → Canvas → Canvas → Drawing → Type 0
 Leads keeps format w h stage next bytes before now sofar = IsDrawn keeps w h stage before sofar → Led keeps format w h stage next bytes now sofar
 

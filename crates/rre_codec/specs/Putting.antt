@@ -7,6 +7,6 @@ pub record IsPut (bytes before now : List ℕ) (n : ℕ) : Type 0 where
   pub inside : n < length before
   pub front : take n now ≡ bytes
 
--- Bytes are put in front of a buffer, and it is answered where they end; or that isn't inside the buffer.
+-- These bytes were put at the front of a buffer, and the answer is where they end; or they don't end inside the buffer.
 abbrev pub Puts : List ℕ → List ℕ → List ℕ → Option ℕ → Type 0
 Puts bytes before now answer = MatchOption answer (length before ≤ length bytes) (IsPut bytes before now)

@@ -1,4 +1,4 @@
-//! Joined runs that begin at corners, counted before any is written.
+//! Counts the joined runs that begin at corners before any is written.
 
 ghost use Rattle.std.specs.Prelude.{◌≡◌, ℕ, ◌+◌, ◌-◌, ◌*◌, ◌<◌, ◌≤◌, ◌^◌, length, slice_index, IsTrue};
 ghost use Rattle.raster.specs.Screen.{Canvas, value_at};
@@ -14,8 +14,8 @@ fn row_of<'a>(values: &'a [u32], w: usize, y: usize) -> &'a [u32]
     &values[y * w..y * w + w]
 }
 
-/// How many corners a row has: positions with another value than the background, than the position to the left, and than
-/// the one in the row above. Those of the first column aren't counted.
+/// How many corners a row has: positions whose value differs from the background, from the position to the left, and
+/// from the one in the row above. Corners of the first column aren't counted.
 fn count_corners(row: &[u32], above: &[u32], background: u32) -> u32
     requires some { 0 < length row.now }
     requires same { length above.now ≡ length row.now }
@@ -25,15 +25,15 @@ fn count_corners(row: &[u32], above: &[u32], background: u32) -> u32
 {
     let mut corners = 0;
     for x in 1..row.len() {
-        // All tests of each position are made, so that many positions are tested at once.
+        // All tests are made at each position, so that the processor tests many positions at once.
         let begins = (row[x] != background) & (row[x - 1] != row[x]);
         corners += u32::from(begins & (above[x] != row[x]));
     }
     corners
 }
 
-/// Whether a rectangle is seen to have this many joined runs, by the corners of its rows but for the first. It ends with
-/// the row that shows it.
+/// Whether the corners of a rectangle's rows, without the first row, show that it has at least this many joined runs.
+/// It stops after the row that shows it.
 pub fn has_joined(values: &[u32], w: usize, h: usize, enough: u64) -> bool
     requires w_some { 0 < w }
     requires h_some { 0 < h }

@@ -1,4 +1,4 @@
-//! Reading RRE, in whatever pieces it comes.
+//! Reads RRE, in whatever pieces it comes.
 
 ghost use Rattle.std.specs.Prelude.{◌≡◌, ℕ, ◌+◌, ◌<◌, ◌≤◌, true, [], length, take, is_some, None, IfOk, OnOk};
 ghost use Rattle.pixel_format.specs.PixelFormat.{pixel_len};
@@ -87,8 +87,8 @@ fn draw<C: Canvas>(
     }
 }
 
-/// Draws the fields that the bytes have whole, one after another. Answers what the next bytes are, and how many these
-/// fields have.
+/// Draws the fields that are whole in these bytes, one after another. It answers what the next bytes are, and how many
+/// bytes these fields have.
 fn draw_fields<C: Canvas>(
     format: &Format,
     w: u64,
@@ -118,8 +118,8 @@ fn draw_fields<C: Canvas>(
     (stage, bytes.len() - rest.len())
 }
 
-/// A reader of one rectangle in RRE (RFC 6143, section 7.7.3), which paints as it reads. It holds no more than the
-/// bytes of one subrectangle, and those only where a piece ends inside it.
+/// A reader of one rectangle in RRE (RFC 6143, section 7.7.3), which draws as it reads. It holds no more than the bytes
+/// of one subrectangle, and only where a piece ends inside that.
 #[derive(Drop)]
 pub struct Reader {
     format: Format,
@@ -169,8 +169,8 @@ impl Reader {
         }
     }
 
-    /// Takes the next piece, up to the end of the rectangle, and draws it on a canvas of the rectangle's size.
-    /// Answers how many bytes it used.
+    /// Takes the next piece, up to the end of the rectangle, and draws it on a canvas of the rectangle's size. It
+    /// answers how many bytes it used.
     ///
     /// `SubrectOutside` at the last byte of a subrectangle that leaves the rectangle. The fault is final.
     pub fn feed<C: Canvas>(&mut self, canvas: &mut C, piece: &[u8]) -> Result<usize, Fault>
@@ -229,7 +229,7 @@ impl CodecReader for Reader {
         }
     }
 
-    /// It takes the bytes as far as they are looked at together.
+    /// Draws the fields that are whole in these bytes, or keeps bytes of a field that isn't.
     fn step<C: Canvas>(&mut self, canvas: &mut C, bytes: &[u8]) -> usize {
         let needed = needed(&self.format, self.stage);
         if self.begun.is_empty() && needed <= bytes.len() {

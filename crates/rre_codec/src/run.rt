@@ -14,10 +14,10 @@ use std::simd::u32x16;
 /// How many bytes the number of subrectangles has.
 pub const COUNT_LEN: usize = 4;
 
-/// This many values are compared at once.
+/// How many values are compared at once.
 const LANES: usize = 16;
 
-/// How many of the next sixteen values are this one, before another comes.
+/// How many of the next sixteen values equal this one, before another value comes.
 fn same_from(values: &[u32], from: usize, value: u32) -> usize
     requires { from + LANES ≤ length values.now }
     ensures few { result ≤ LANES }
@@ -33,7 +33,7 @@ fn same_from(values: &[u32], from: usize, value: u32) -> usize
     }
 }
 
-/// How many values at the front are this one, looked at one by one.
+/// How many values at the front equal this one, counted one by one.
 fn run_len_by_one(values: &[u32], value: u32) -> usize
     ensures { result ≡ length (take_while (λ v. v == value) values.now) }
 {

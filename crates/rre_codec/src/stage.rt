@@ -14,7 +14,7 @@ pub enum Stage {
     Head,
     /// This many subrectangles.
     Subrects(u32),
-    /// None: a subrectangle left the rectangle.
+    /// No byte comes next: a subrectangle left the rectangle.
     Outside,
 }
 

@@ -1,4 +1,4 @@
-//! Writing RRE.
+//! Writes rectangles in RRE.
 
 ghost use Rattle.std.specs.Prelude.{◌≡◌, ◌+◌, ◌*◌, ◌<◌, ◌≤◌, ◌^◌, ◌++◌, [], ◌∷◌, length, take, IsTrue};
 ghost use Rattle.std.specs.List.{flat_map};
@@ -29,8 +29,8 @@ fn whole(w: usize, h: usize) -> Rect
     }
 }
 
-/// Writes the subrectangle for a run, if there is one, from index `used` of `out` on, and answers where it ends; `None`
-/// where that isn't inside `out`.
+/// Writes the subrectangle for a run, if there is one, from index `used` of `out` on. It answers where the subrectangle
+/// ends, and `None` where that isn't inside `out`.
 fn put_subrect(
     format: &Format,
     form: Runs,
@@ -61,8 +61,8 @@ fn put_subrect(
     Some(used + size)
 }
 
-/// Writes the subrectangles for the runs of row `y` other than the background from index `used` of `out` on, and answers
-/// where they end; `None` where that isn't inside `out`.
+/// Writes the subrectangles for the runs of row `y` other than the background, from index `used` of `out` on. It
+/// answers where they end, and `None` where that isn't inside `out`.
 fn put_row(
     format: &Format,
     form: Runs,
@@ -96,7 +96,7 @@ fn put_row(
     Some(end)
 }
 
-/// Writes the background and all subrectangles after the place of their number, and answers where they end; `None`
+/// Writes the background and all subrectangles after the room for their number. It answers where they end, and `None`
 /// where that isn't inside `out`.
 fn put_runs(
     format: &Format,
@@ -122,7 +122,8 @@ fn put_runs(
     Some(used)
 }
 
-/// Whether a rectangle is seen to have this many runs in a form, which is told faster than they are written.
+/// Whether a quick count shows that a rectangle has at least this many runs in a form. It takes less time than writing
+/// them.
 fn has_many(form: Runs, values: &[u32], w: usize, h: usize, enough: u64) -> bool
     requires w_some { 0 < w }
     requires h_some { 0 < h }
@@ -137,11 +138,11 @@ fn has_many(form: Runs, values: &[u32], w: usize, h: usize, enough: u64) -> bool
     }
 }
 
-/// Writes the pixel values of a rectangle in RRE (RFC 6143, section 7.7.3) in the form that is named, and answers
-/// how many bytes that are.
+/// Writes the pixel values of a rectangle in RRE (RFC 6143, section 7.7.3) in the form that is named, and answers how
+/// many bytes it wrote.
 ///
-/// `None` where Raw has no more bytes, as soon as it shows; what `out` holds then is not said. The values are `w` by
-/// `h`, row after row, and `out` has room for the bytes of Raw.
+/// It answers `None`, as soon as that shows, where Raw has no more bytes. Nothing is said then of what `out` holds. The
+/// values are `w` by `h`, row after row, and `out` has room for the bytes of Raw.
 pub fn encode_as(
     form: Runs,
     values: &[u32],
@@ -162,7 +163,7 @@ pub fn encode_as(
     if raw <= head {
         return None;
     }
-    // This many subrectangles have as many bytes as Raw.
+    // With this many subrectangles the rectangle has at least as many bytes as in Raw.
     let enough = (raw - head).div_ceil(pixel + RECT_LEN);
     if has_many(form, values, w as usize, h as usize, enough as u64) {
         return None;

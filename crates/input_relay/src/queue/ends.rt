@@ -88,7 +88,7 @@ impl<R: Wait + Drop> Taker<R> {
 }
 
 impl Gauge {
-    /// How many inputs waited at one moment of the call, of all places: at most 256. It takes none of them. It may wait
+    /// How many inputs of all places waited at one moment of the call: at most 256. It takes none of them. It may wait
     /// where another thread stands still inside a call.
     pub fn waiting<R: Wait>(&mut self, rt: &R) -> usize
         ensures most { result ≤ 256 }
@@ -99,7 +99,8 @@ impl Gauge {
 }
 
 impl<R: Wait + Drop> Settled<R> {
-    /// The next input that is left, with the number of its place. It is `None` only once all that was sent was taken.
+    /// The next input that is left, with the number of its place. It is `None` only once every input that was sent has
+    /// been taken.
     pub fn next(&mut self) -> Option<(u64, Input)>
         ensures some { IfSome result (λ r. taken_at_end self.new ≡ taken_at_end self.old ++ message r.0 r.1 ∷ []) }
         ensures none { IfNone result ((taken_at_end self.new ≡ taken_at_end self.old) × Accounted (known_at_end self.old) (taken_at_end self.old)) }
@@ -167,8 +168,8 @@ pub fn relay<R: Wait + Drop + Clone>(
     Ok((senders, Taker { line, pass, rt }))
 }
 
-/// Ends a relay: the senders and the taker come back. What was taken of each place is a beginning of what that place
-/// had sent, and what was taken and what is left are together all of it. It asks for senders of this taker's relay.
+/// Ends a relay: the senders and the taker come back. The inputs that were taken of a place are the first ones that it
+/// sent, and those that are left are the rest. The senders have to be those of this taker's relay.
 pub fn settle<R: Wait + Drop>(senders: Vec<Sender<R>>, taker: Taker<R>) -> Settled<R>
     requires { All (λ s. relay_of s ≡ host_of taker) senders.items }
     ensures taken { taken_at_end result ≡ taken_of taker }

@@ -1,4 +1,4 @@
-//! What a list of encodings comes to, as its numbers come.
+//! The choice in a list of encodings, found while its numbers come.
 
 ghost use Rattle.std.specs.Prelude.{◌≡◌, ℕ, List, [], ◌∷◌};
 ghost use Rattle.rfb_wire.specs.ClientReader.{choice_with};
@@ -16,13 +16,13 @@ pub(crate) struct Found {
 }
 
 impl Found {
-    /// What is found in no numbers.
+    /// What is found before the first number.
     pub(crate) const NOTHING: Found = Found {
         kind: None,
         copy: false,
     };
 
-    /// One more number. Of the encodings of pixels the first counts.
+    /// What is found with one more number. Only the first encoding of pixels counts.
     pub(crate) fn note(self, number: u32) -> Found
         ensures { (others : List ℕ) → choice_with result others ≡ choice_with self (number ∷ others) }
     {

@@ -19,19 +19,20 @@ use std::alloc::Global;
 /// What has come of a message.
 #[derive(Drop)]
 pub(crate) enum State {
-    /// Some fields of a fixed length.
+    /// Bytes of fields that have a fixed length.
     Fields(Fields<Part>),
     /// A part of a text that is kept.
     Keeping(KeptText),
     /// A part of a text of this many bytes that is read past.
     Passing(u32, SkippedBytes),
-    /// All of it.
+    /// The whole message has come.
     Whole(ClientMessage),
-    /// What shows a fault.
+    /// Bytes have come that show a fault.
     Failed(Fault),
 }
 
-/// What a part becomes with bytes from the front of a piece, if it doesn't stay a part, and how many bytes it takes.
+/// Takes bytes from the front of a piece for a part. It answers what the part becomes, if the part is whole then, and
+/// how many bytes were taken.
 fn take_fields(alloc: Global, fields: &mut Fields<Part>, piece: &[u8]) -> (Option<State>, usize)
     requires { 0 < length piece.now }
     ensures { UsesOrLoses (ahead (state.Fields fields.old)) (ahead (unwrap_or result.0 (state.Fields fields.new))) piece.now result.1 }
@@ -47,8 +48,8 @@ fn take_fields(alloc: Global, fields: &mut Fields<Part>, piece: &[u8]) -> (Optio
     (Some(complete(alloc, part, &all[..part.len()])), count)
 }
 
-/// What a text that is kept becomes with such bytes, and how many it takes. Where memory for it is refused it is read
-/// past from now on.
+/// Takes bytes from the front of a piece for a text that is kept. It answers what the text becomes, if that changes,
+/// and how many bytes were taken. Where memory for the text is refused, the text is read past from now on.
 fn take_text(alloc: Global, kept: &mut KeptText, piece: &[u8]) -> (Option<State>, usize)
     requires { 0 < length piece.now }
     ensures { UsesOrLoses (ahead (state.Keeping kept.old)) (ahead (unwrap_or result.0 (state.Keeping kept.new))) piece.now result.1 }
@@ -70,7 +71,8 @@ fn take_text(alloc: Global, kept: &mut KeptText, piece: &[u8]) -> (Option<State>
     }
 }
 
-/// What a text of `len` bytes that is read past becomes with such bytes, and how many it takes.
+/// Reads past bytes from the front of a piece, of a text of `len` bytes. It answers what the text becomes, if it ends
+/// there, and how many bytes were taken.
 fn skip(len: u32, bytes: &mut SkippedBytes, piece: &[u8]) -> (Option<State>, usize)
     requires { 0 < length piece.now }
     ensures { UsesOrLoses (ahead (state.Passing len bytes.old)) (ahead (unwrap_or result.0 (state.Passing len bytes.new))) piece.now result.1 }
@@ -84,7 +86,7 @@ fn skip(len: u32, bytes: &mut SkippedBytes, piece: &[u8]) -> (Option<State>, usi
 }
 
 impl State {
-    /// Nothing of a message.
+    /// The state in which nothing of a message has come.
     pub(crate) fn start() -> State
         ensures { ahead result ≡ client_message }
     {
@@ -113,12 +115,12 @@ impl State {
         }
     }
 
-    /// Whether another byte is wanted: neither is a message whole nor a fault shown.
+    /// Whether another byte is wanted, since no message is whole and no fault is shown.
     pub(crate) fn wants_more(&self) -> bool
         ensures value { result ≡ wants_more (ahead self.now) }
         ensures partial { result ≡ is_partial self.now }
     {
-        // Of each part at least one byte is left. That the number is asked for here is for the proof.
+        // At least one byte of each part is left. The call that asks for their number is for the proof.
         match self {
             State::Fields(fields) => fields.left() > 0,
             State::Keeping(kept) => kept.left() > 0,
@@ -131,7 +133,7 @@ impl State {
     pub(crate) fn fault(&self) -> Option<Fault>
         ensures { result ≡ fault_of (ahead self.now) }
     {
-        // A part shows none; `wants_more` is asked for the proof.
+        // A part shows no fault. `wants_more` is called for the proof.
         if self.wants_more() {
             return None;
         }
@@ -141,7 +143,7 @@ impl State {
         }
     }
 
-    /// Takes bytes from the front of a piece, and answers how many: all that its part or its text wants.
+    /// Takes bytes from the front of a piece, as many as the part or the text wants, and answers how many.
     pub(crate) fn advance(&mut self, alloc: Global, piece: &[u8]) -> usize
         requires wanted { wants_more (ahead self.old) ≡ true }
         requires some { 0 < length piece.now }
