@@ -34,7 +34,7 @@ fn looks_of<S: ScreenSource + Send, R: Threads + Clock + Sync>(
     Some(start.elapsed(rt).ok()?.as_nanos())
 }
 
-/// This many cuts of the whole screen. Whether each was had.
+/// Takes this many cuts of the whole screen. It answers whether each was had.
 fn cut_often<S: ScreenSource, R: Clock>(rt: &R, alloc: Global, source: &mut S, count: u64) -> bool
     requires { (S.width source.old ≡ 1920) × (S.height source.old ≡ 1080) }
 {

@@ -1,4 +1,4 @@
-//! Each call by itself, while nobody is inside a copy.
+//! Each call by itself, while no thread is inside a copy.
 
 ghost use Rattle.std.specs.Prelude.{◌≡◌};
 
@@ -62,7 +62,7 @@ fn puts_once<P: Puts, R: Clock>(
     ensures { (P.width puts.new ≡ 1920) × (P.height puts.new ≡ 1080) }
 {
     best[0] = best[0].min(put(rt, brush, puts, ALL, colour)?);
-    // Each of the two boards that these are put on was shown before the full screen, which it catches up.
+    // Each of the two boards that these are put on was shown before the full screen, and catches up with it.
     best[1] = best[1].min(put(rt, brush, puts, TILE, colour)?);
     best[2] = best[2].min(put(rt, brush, puts, TILE, colour)?);
     Some(())

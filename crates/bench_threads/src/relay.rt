@@ -44,7 +44,7 @@ fn take_all<R: Wait + Drop>(rt: &R, taker: &mut Taker<R>, count: u64) {
     }
 }
 
-/// A thread for each sender, which sends this many.
+/// A thread for each sender, which sends this many inputs.
 fn start<R: Threads + Wait + Copy + Drop + Send + 'static>(
     rt: R,
     alloc: Global,
@@ -76,7 +76,7 @@ fn micros<R: Threads + Wait + Clock + Copy + Drop + Send + 'static>(
     Ok(start_time.elapsed(&rt)?.as_micros())
 }
 
-/// Prints the time that so many inputs take. There are from 1 to 64 senders, or nothing is done.
+/// Prints the time that this many inputs take. Nothing is done unless there are from 1 to 64 senders.
 pub(crate) fn print<R: Print + Threads + Wait + Clock + Copy + Drop + Send + 'static>(
     rt: R,
     alloc: Global,

@@ -25,7 +25,7 @@ pub const TILE: Rect = Rect {
     h: 16,
 };
 
-/// A screen that patches are painted on, as a host's reader has one, and room for the colours of one.
+/// A screen that patches are painted on, as a host's reader has, and room for the colours of one patch.
 #[derive(Drop)]
 pub struct Brush {
     painter: Painter,

@@ -55,7 +55,7 @@ fn print_all<R: Print>(rt: &R, names: &[&str], times: &[u128]) -> Result<(), Fai
     Ok(())
 }
 
-/// Prints what each call takes, alone, and beside other threads that look so often.
+/// Prints what each call takes, alone, and beside other threads that look this often.
 pub(crate) fn print<R: Print + Threads + Wait + Clock + Sync + Send + Copy + Drop>(
     rt: R,
     alloc: Global,

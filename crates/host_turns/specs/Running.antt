@@ -13,13 +13,13 @@ use Rattle.host_reader.specs.Running.{EndsBetween, EndsWith}
 
 -- ---- one host
 
--- A host's link was read over the opening screen of w by h, to the end that the answer tells; since a publisher had the
--- updates old, its messages' updates were put.
+-- A host's link was read over the opening screen of w by h, to the end that the answer tells. The updates of its
+-- messages were put, after the updates old.
 abbrev pub IsRead : ℕ → ℕ → Result (Unit {0}) Fault → (link_old link_new : LinkState) → (old new : List Update) → Type 0
 IsRead w h (Ok done) link_old link_new old new = EndsBetween w h opening link_old link_new old new
 IsRead w h (Err fault) link_old link_new old new = EndsWith w h opening fault link_old link_new old new
 
--- One update was put that comes to the same as a switch, whatever was shown before.
+-- One update was put, which comes to the same as a switch, whatever was shown before.
 pub record IsSwitched (w h : ℕ) (old new : List Update) : Type 0 where
   pub put : Update
   pub added : new ≡ old ++ put ∷ []
@@ -32,29 +32,30 @@ pub record JoinsAt (w h : ℕ) (link_old link_new : LinkState) : Type 0 where
   pub width : host.w ≡ w
   pub height : host.h ≡ h
 
--- It was joined, and its screen has another size.
+-- A host was joined, and its screen has another size.
 pub record JoinsElsewhere (w h : ℕ) (link_old link_new : LinkState) : Type 0 where
   pub host : Joined
   pub joins : Joins link_old link_new host
   pub other : (host.w ≢ w) ⊎ (host.h ≢ h)
 
--- Why a host isn't joined at the size of the screen: its handshake fails so, or its screen has another size.
+-- Why a host isn't joined at the size of the screen: joining it fails with this fault, or its screen has another size.
 abbrev pub IsUnfit : ℕ → ℕ → Fault → (link_old link_new : LinkState) → Type 0
 IsUnfit w h fault link_old link_new = FailsAs fault link_old link_new ⊎ (JoinsElsewhere w h link_old link_new × (fault ≡ BadScreen))
 
--- After so many updates memory is refused for what a host wants that was joined, or there is no number for its switch.
+-- After this many updates there is want: memory that a host needs is refused, or there is no number for its switch.
 abbrev pub IsWant : ℕ → Fault → Type 0
 IsWant count fault = (fault ≡ Memory) ⊎ ((fault ≡ NumbersOut) × (count ≡ 2 ^ 62))
 
--- Why a host is missed that comes over a link, after so many updates: it isn't joined at the size of the screen, or it is,
--- and then there is want.
+-- Why a host that comes over this link is missed, after this many updates: it isn't joined at the size of the screen,
+-- or it is joined, and there is want.
 abbrev pub IsMissed : ℕ → ℕ → ℕ → Fault → LinkState → Type 0
 IsMissed w h count fault link = (left : LinkState) × (IsUnfit w h fault link left ⊎ (JoinsAt w h link left × IsWant count fault))
 
 -- ---- one host after another
 
--- After this answer of reading or of joining a host the next one is taken: the host ended, or its link did or failed, or
--- it has another version, refuses, wants a proof, or ended the handshake as failed (own).
+-- Whether the next host is taken after this answer of reading or of joining one: where the host ended, its link ended
+-- or failed, or the host has another version, refuses, doesn't offer security type None, or reports a failed handshake
+-- (own).
 abbrev pub goes_on : Result (Unit {0}) Fault → Bool
 goes_on (Ok done) = true
 goes_on (Err BadVersion) = true
@@ -83,7 +84,7 @@ abbrev pub answer_of : Turn → Result (Unit {0}) Fault
 answer_of (Read stay) = stay.answer
 answer_of (Missed fault) = Err fault
 
--- The links that were read, and the updates that were put, with those of a turn.
+-- The links of the hosts that were read, and the updates that were put, with those of one turn more.
 abbrev pub links_with : List LinkState → Turn → List LinkState
 links_with links (Read stay) = links ++ stay.left ∷ []
 links_with links (Missed fault) = links
@@ -92,9 +93,8 @@ abbrev pub put_with : List Update → Turn → List Update
 put_with old (Read stay) = stay.put
 put_with old (Missed fault) = old
 
--- A host that comes over such a link has this turn, after the updates so far. It is joined at the size of the screen,
--- then the switch is put, and then it is read over a black screen. Or it is missed, and nothing is put: it isn't joined
--- so, or it is, and there is want.
+-- A host that comes over such a link has this turn, after the updates so far. Either it is joined at the size of the
+-- screen, then the switch is put, and then it is read over a black screen; or it is missed, and nothing is put.
 abbrev pub IsTurn : ℕ → ℕ → (LinkState → Type 0) → List Update → Turn → Type 0
 IsTurn w h comes old (Read stay) = ((link : LinkState) × comes link × JoinsAt w h link stay.joined) × ((black : List Update) × IsSwitched w h old black × IsRead w h stay.answer stay.joined stay.left black stay.put)
 IsTurn w h comes old (Missed fault) = (link : LinkState) × comes link × IsMissed w h (length old) fault link
@@ -114,8 +114,8 @@ abbrev pub put_by : Stay → List Turn → List Update
 put_by first [] = first.put
 put_by first (t ∷ ts) = put_with (put_by first ts) t
 
--- They are the turns of hosts that come over such links. A host is taken only where the answer of the one before it
--- goes on.
+-- These are turns of hosts that come over such links. A host is taken only where goes_on is true of the answer before
+-- it.
 abbrev pub AreTurns : ℕ → ℕ → (LinkState → Type 0) → Stay → List Turn → Type 0
 AreTurns w h comes first [] = ⊤
 AreTurns w h comes first (t ∷ ts) = AreTurns w h comes first ts × (goes_on (last_answer first ts) ≡ true) × IsTurn w h comes (put_by first ts) t
@@ -132,11 +132,11 @@ pub record HasRun (w h : ℕ) (comes : LinkState → Type 0) (result : Result (U
   pub handed : links ≡ links_of first turns
   pub put : new ≡ put_by first turns
 
--- A link is that of an end that came so.
+-- This is the state of the link of an end that came so.
 abbrev pub IsLinkOf : {L : Type 0} → (L → LinkState) → (L → Type 0) → LinkState → Type 0
 IsLinkOf {L} state came link = (end : L) × came end × (link ≡ state end)
 
--- Why a run ends: no host is taken after its answer, or the supply that it leaves has none.
+-- Why a run ends: no host is taken after its answer, or no host is left.
 abbrev pub IsOver : {H : Type 0} → (H → Type 0) → H → Result (Unit {0}) Fault → Type 0
 IsOver {H} are_out hosts result = (goes_on result ≡ false) ⊎ are_out hosts
 

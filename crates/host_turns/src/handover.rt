@@ -1,11 +1,11 @@
-//! Which host is told.
+//! Hands hosts to the thread that tells them.
 
 use run_traits::Alarm;
 use std::alloc::Global;
 use std::sync::atomic::{AtomicU64, Ordering};
 use std::sync::{Arc, Condvar, Mutex, Wait};
 
-/// The end of a connection that is written, and the number of its host.
+/// The end of a connection on which a host is told, and the number of that host.
 #[derive(Drop)]
 pub struct NumberedLink<L: Drop> {
     pub link: L,
@@ -14,7 +14,7 @@ pub struct NumberedLink<L: Drop> {
 
 #[derive(Drop)]
 struct Post<L: Drop> {
-    // The host that is told next. One that nobody took is dropped for the one after it.
+    // The host that is told next. A host that nobody took is dropped where another comes.
     next: Option<NumberedLink<L>>,
     is_over: bool,
 }
@@ -31,7 +31,7 @@ pub struct Handover<L: Drop, W: Alarm + Drop> {
 }
 
 impl<L: Drop, W: Alarm + Drop> Handover<L, W> {
-    /// The first host is told first.
+    /// A handover that begins with the first host, over this link.
     pub fn new(link: L, alarm: Arc<W, Global>) -> Handover<L, W> {
         let next = Some(NumberedLink { link, number: 0 });
         Handover {
@@ -53,7 +53,7 @@ impl<L: Drop, W: Alarm + Drop> Handover<L, W> {
         self.came.notify_all();
     }
 
-    /// The host was left: it is told no more.
+    /// The host was left, so it is told nothing more.
     pub(crate) fn leave(&self) {
         let _ = self.left.fetch_add(1, Ordering::SeqCst);
         self.alarm.rouse();
@@ -67,7 +67,7 @@ impl<L: Drop, W: Alarm + Drop> Handover<L, W> {
         self.came.notify_all();
     }
 
-    /// Waits for the next host that is told. None where no other comes.
+    /// Waits for the next host that is to be told. It answers `None` where no other comes.
     pub fn take<R: Wait>(&self, rt: &R) -> Option<NumberedLink<L>> {
         let guard = self.post.lock(rt);
         let mut guard = self

@@ -53,7 +53,8 @@ fn read<L: Link, P: Puts, R: Wait>(
     run_host(rt, alloc, link, &mut decoder, &mut painter, publisher)
 }
 
-/// The stay of a host that was joined: it is read to its end, and told no more. Its link comes after the others.
+/// Reads a host that was joined to its end. After that the host is told nothing more, and its link is added to the
+/// others.
 pub(crate) fn stay<L: Link, H: Hosts<L>, P: Puts, W: Alarm + Drop, R: Wait>(
     rt: &R,
     run_screen: &RunScreen,
@@ -75,15 +76,15 @@ pub(crate) fn stay<L: Link, H: Hosts<L>, P: Puts, W: Alarm + Drop, R: Wait>(
 {
     let answer = read(rt, run_screen.alloc, &mut link, screen, publisher);
     handover.leave();
-    // The answer is given out as well: the kit's borrow checker wants its copy made before the call.
+    // The answer is also returned: the kit's borrow checker wants its copy made before the call.
     let told = answer;
     hosts.left(&mut link, told);
-    // Not refused: the room was taken before.
+    // This isn't refused, since the room was taken before.
     let _ = links.push(link);
     answer
 }
 
-/// Joins a host. `BadScreen` where its screen isn't of the run's size.
+/// Joins a host. It fails with `BadScreen` where the host's screen isn't of the run's size.
 fn join_at<L: Link, R: Wait>(rt: &R, run_screen: &RunScreen, link: &mut L) -> Result<Joined, Fault>
     ensures ok { OnOk result (JoinsAt run_screen.now.width run_screen.now.height (L.state link.old) (L.state link.new)) }
     ensures err { IfErr result (λ fault. IsUnfit run_screen.now.width run_screen.now.height fault (L.state link.old) (L.state link.new)) }
@@ -109,7 +110,7 @@ fn put_switch<P: Puts>(patch: Patch, publisher: &mut P) -> Result<(), Fault>
     }
 }
 
-/// Takes all the memory that a further host wants: room for its link, what reads it, and the patch of its switch.
+/// Takes all the memory that a further host needs: room for its link, what reads the host, and the patch of its switch.
 fn make_ready<L>(run_screen: &RunScreen, links: &mut Vec<L>) -> Result<(HostScreen, Patch), Fault>
     ensures links { links.new.items ≡ links.old.items }
     ensures room { OnOk result (vec_len links.new < vec_capacity links.new) }
@@ -153,8 +154,9 @@ fn meet<L: Link, H: Hosts<L>, P: Puts, R: Wait>(
     Ok(screen)
 }
 
-/// The turn of a further host, over the two ends of its connection: it is joined, the switch is put, and it is read to
-/// its end. Or it is missed. The one who tells the hosts goes on with it while it is read.
+/// The turn of a further host, over the two ends of its connection. Either the host is joined, the switch is put, and
+/// the host is read to its end; or it is missed. While the host is read, the thread that tells the hosts tells this
+/// one.
 pub(crate) fn take_turn<L: Link, H: Hosts<L>, P: Puts, W: Alarm + Drop, R: Wait>(
     rt: &R,
     run_screen: &RunScreen,
@@ -179,7 +181,7 @@ pub(crate) fn take_turn<L: Link, H: Hosts<L>, P: Puts, W: Alarm + Drop, R: Wait>
             )
         }
         Err(fault) => {
-            // The fault is given out as well, so it is copied first.
+            // The fault is also returned, so it is copied first.
             let why = fault;
             hosts.left(&mut reader, Err(why));
             Err(fault)

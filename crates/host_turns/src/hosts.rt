@@ -1,4 +1,4 @@
-//! One host after another.
+//! Reads one host after another.
 
 ghost use Rattle.std.specs.Prelude.{◌≡◌, ◌<◌, true, None, List, [], map, vec_capacity};
 ghost use Rattle.raster.specs.Screen.{opening};
@@ -35,7 +35,7 @@ fn goes_on(answer: &Result<(), Fault>) -> bool
     }
 }
 
-/// Takes the further hosts in turn, until one ends so that no other is taken, or none is left.
+/// Takes the further hosts in turn, until one ends in such a way that no other is taken, or until none is left.
 fn read_others<L: Link, H: Hosts<L>, P: Puts, W: Alarm + Drop, R: Wait>(
     rt: &R,
     run_screen: &RunScreen,
@@ -64,13 +64,14 @@ fn read_others<L: Link, H: Hosts<L>, P: Puts, W: Alarm + Drop, R: Wait>(
     unreachable!()
 }
 
-/// Reads the first host and then the others, in turn, and adds the links of those that were read. Each is handed over to
-/// whoever tells it while it is read.
+/// Reads the first host and then the others, in turn, and adds the links of those that were read. While a host is read,
+/// it is handed over to the thread that tells it.
 ///
-/// Where the first has its turn again it ends only with an answer after which no host is taken.
+/// Where the first host has its turn again, the call ends only with an answer after which no host is taken.
 ///
-/// It answers as the last of them did: with the fault of reading it or of joining it, `BadScreen` where its screen has
-/// another size, `Memory` where memory is refused for what it wants, and `NumbersOut` where its switch has no number.
+/// It answers as the last host did: with the fault of reading or of joining it, `BadScreen` where its screen has
+/// another size, `Memory` where memory that it needs is refused, and `NumbersOut` where there is no number for its
+/// switch.
 pub fn read_all<L: Link, H: Hosts<L>, P: Puts, W: Alarm + Drop, R: Wait>(
     rt: &R,
     run_screen: &RunScreen,

@@ -1,7 +1,7 @@
 //! Reads the hosts of a run in turn: each is joined, over a screen that turns black, and read to its end.
 //!
-//! `read_all` runs in the thread that reads the hosts, and hands each of them (`Handover`) to the one that tells it. It
-//! takes memory for each further host: room for its link, and what reads it.
+//! `read_all` runs in the thread that reads the hosts, and hands each of them (`Handover`) to the thread that tells it.
+//! It takes memory for each further host: room for its link, and for what reads the host.
 #![tactic(auto)]
 
 mod handover;

@@ -6,24 +6,24 @@ use fault::Fault;
 use link::Link;
 use rfb_wire::Joined;
 
-/// Where the hosts come from that follow on one that has ended. It is asked in the thread that reads the hosts.
+/// Where the hosts come from that follow one that has ended. It is asked in the thread that reads the hosts.
 pub trait Hosts<L: Link>: Drop {
     ghost use Rattle.std.specs.Prelude.{ℕ, Option};
 
-    /// That this is the end to be read of a host's connection, just as it came, which only `next` says. What this means
-    /// is up to each supply.
+    /// The fact that this is the end to be read of a host's connection, just as it came. Only `next` says so, and each
+    /// supply says what it means.
     ghost came: { L → Type 0 };
 
-    /// That no host is left, which only `next` says. What this means is up to each supply.
+    /// The fact that no host is left. Only `next` says so, and each supply says what it means.
     ghost are_out: { Self → Type 0 };
 
-    /// How many seconds after the last host the first has its turn again, or `None` where it hasn't. No call changes
-    /// it, and where the first has its turn again there is always a next host.
+    /// How many seconds after the last host the first has its turn again, or `None` where it never has. No call changes
+    /// this. Where the first host has its turn again there is always a next host.
     ghost again: { Self → Option ℕ };
 
     /// The connection to the next host, the end to be read and the end to be written, or `None` where no host is left.
-    /// It may wait without an end. The host is joined over the first of them, so a limit of time for the handshake is
-    /// up to that link.
+    /// It may wait without an end. The host is joined over the end to be read, so that link has to limit the time for
+    /// the handshake.
     fn next(&mut self) -> Option<(L, L)>
         ensures came { IfSome result (λ ends. came ends.0) }
         ensures out { IsNone result → are_out self.new }
@@ -35,13 +35,14 @@ pub trait Hosts<L: Link>: Drop {
         ensures link { L.state reader.new ≡ L.state reader.old }
         ensures again { again self.new ≡ again self.old };
 
-    /// A host was read, the first one too, and ended so, or it wasn't joined, or its screen has another size.
+    /// Is told of each host, the first one included, that was read and how it ended, or that it wasn't joined, or that
+    /// its screen has another size.
     fn left(&mut self, reader: &mut L, why: Result<(), Fault>)
         ensures link { L.state reader.new ≡ L.state reader.old }
         ensures again { again self.new ≡ again self.old };
 }
 
-/// No further hosts: a run ends with its first one.
+/// A supply of no further hosts: the run ends with its first one.
 #[derive(Clone, Copy, Drop)]
 pub struct NoHosts;
 

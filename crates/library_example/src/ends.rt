@@ -1,4 +1,5 @@
-//! What a viewer is served with, where nobody else is there: no host to type to, no other thread to wait for.
+//! What serving a viewer takes besides a link and a screen, where there is no host to type to and no other thread to
+//! wait for.
 
 ghost use Rattle.std.specs.Prelude.{◌≡◌, []};
 ghost use Rattle.fault.specs.declared.kinds.Fault.TheVariants.{Gone};

@@ -26,10 +26,10 @@ use std::test::Fail;
 use viewer_server::{NoProgress, run_viewer};
 use viewer_session::Session;
 
-/// How wide the host's screen is, in pixels.
+/// The width of the host's screen in pixels.
 const WIDTH: u64 = 8;
 
-/// How high it is.
+/// The height of the host's screen in pixels.
 const HEIGHT: u64 = 1;
 
 /// What the viewer sends: a list of encodings with Hextile, and a request for the whole screen (RFC 6143, 7.5.2 and
@@ -62,7 +62,8 @@ fn number(answer: Result<(), Fault>) -> u64 {
     }
 }
 
-/// Puts the updates of a host's bytes, as if they came over a link that then ends. Inside is how reading them ended.
+/// Puts the updates of a host's bytes, as if they came over a link that then ends. The inner result says how reading
+/// them ended.
 fn put_updates<R: Wait>(
     rt: &R,
     alloc: Global,
@@ -79,8 +80,8 @@ fn put_updates<R: Wait>(
     Ok(run_host(rt, alloc, &mut link, &mut decoder, &mut painter, screen))
 }
 
-/// Serves a viewer that only looks on, and whose handshake is done: it asks, takes its answer and ends. Beside how that
-/// ended are the bytes that it was given, as a script prints them.
+/// Serves a viewer that only looks on, and whose handshake is done: it asks, takes its answer and ends. It answers how
+/// serving ended, and the bytes that the viewer was given, as a script prints them.
 fn serve_viewer<R: Wait>(
     rt: &R,
     alloc: Global,

@@ -37,16 +37,16 @@ bounds_stay v (Send u) = false
 bounds_stay v Take = false
 bounds_stay v (Part u) = v == u
 
--- Where the viewer leaves now, what was relayed of it in this stay is a beginning of all that is allowed of it,
--- releases and all; where the queue has room, it is all of it.
+-- Where the viewer leaves now, its inputs that were relayed in this stay are a beginning of all that is allowed of it,
+-- releases included. Where the queue has room, they are all of that.
 pub record LeavesAllowed (s : Setup) (before es : List Step) (v : ℕ) (p : Viewer) : Type 0 where
   pub sent : List Input
   pub relayed : relayed_by v (play s (es ++ Part v ∷ [])) ≡ relayed_by v (play s before) ++ sent
   pub begins : Begins sent (allowed p.role (messages_in p.entries) true)
   pub whole : length (play s es).queue + length (leaves_behind v p) ≤ s.room → sent ≡ allowed p.role (messages_in p.entries) true
 
--- A stay of a viewer, which joined in this role after these steps and hasn't left since: it is there, and what was
--- relayed of it since, and then its input that waits, is all that is allowed of the messages taken of it.
+-- A stay of a viewer that joined in this role after these steps and hasn't left since. The viewer is there; and its
+-- inputs that were relayed since, followed by the one that waits, are all that is allowed of its messages.
 pub record StaysAllowed (s : Setup) (before es : List Step) (v : ℕ) (role : Role) : Type 0 where
   pub viewer : Viewer
   pub there : (play s es).viewers v ≡ Some viewer
@@ -56,21 +56,21 @@ pub record StaysAllowed (s : Setup) (before es : List Step) (v : ℕ) (role : Ro
   pub same_role : viewer.role ≡ role
   pub leaves : LeavesAllowed s before es v viewer
 
--- What the host is sent is unbroken: of each viewer it is taken from what was taken of it, in order, each input at most
--- once; and where an input of a viewer passes, no other has a key or a button down, so that between a viewer's first
--- press and the last release of its keys and buttons nothing of another passes.
+-- What the host is sent is unbroken. What passes of a viewer's input is some of what was taken of it, in order, each
+-- input at most once. Where an input of a viewer passes, no other viewer has a key or a button down; so between a
+-- viewer's first press and the last release of its keys and buttons nothing of another passes.
 pub record TellsUnbroken (w : World) : Type 0 where
   pub picked : (v : ℕ) → IsPickedFrom (sent_by v (told_of w.taken)) (sent_by v (map taken_from w.taken))
   pub whole : (before after : List Taken) (t : Taken) → told_of w.taken ≡ before ++ t ∷ after → (v : ℕ) → v ≢ t.place → has_down v before ≡ false
 
--- Each stay of each viewer is such. What was relayed only becomes more, at its end. Of a viewer that isn't there a step
--- relays nothing. What the host is sent of it is unbroken.
+-- StaysAllowed is true of each stay of each viewer. What was relayed only grows, at its end. No step relays input of a
+-- viewer that isn't there. What the host is sent is unbroken.
 pub record RelaysAllowed (s : Setup) (es : List Step) : Type 0 where
   pub stays : (v : ℕ) (role : Role) (greet : Bool) (before since : List Step) → es ≡ before ++ Join v role greet ∷ since → list_any (bounds_stay v) since ≡ false → StaysAllowed s before es v role
   pub grows : (e : Step) → Begins (all_relayed (play s es)) (all_relayed (play s (es ++ e ∷ [])))
   pub absent : (v : ℕ) (e : Step) → (play s es).viewers v ≡ None → relayed_by v (play s (es ++ e ∷ [])) ≡ relayed_by v (play s es)
   pub told : TellsUnbroken (play s es)
 
--- In every schedule.
+-- RelaysAllowed is true of every schedule.
 abbrev pub RelaysInEverySchedule : Type 0
 RelaysInEverySchedule = (s : Setup) (es : List Step) → RelaysAllowed s es

@@ -8,21 +8,21 @@ use Rattle.roles.specs.Strokes.{Taken, unbroken, passes_after, StrokesKept, Stro
 use Rattle.reflect_world.specs.Schedule.{Relayed, taken_from, told_of}
 use Rattle.reflect_world.specs.declared.relay.Entry as declared
 
--- That of inputs, one after another.
+-- The spellings of inputs, one after another.
 abbrev pub spelled : List Input → List ℕ
 spelled inputs = flat_map input_bytes inputs
 
--- The input of a viewer that one in the code stands for.
+-- The input of a viewer for which an entry in the code stands.
 abbrev pub relayed_in : declared.Entry → Relayed
 relayed_in entry = record { viewer = entry.viewer; input = input_in entry.input }
 
--- The queue, what was taken of it, and for how many more there is memory.
+-- The queue, what was taken of it, and for how many more inputs there is memory.
 pub record RelaySide : Type 0 where
   pub queue : List Relayed
   pub taken : List Relayed
   pub spare : ℕ
 
--- What the host is sent of what was taken, as inputs.
+-- The inputs that the host is sent of those that were taken.
 abbrev pub inputs_told : List Relayed → List Input
 inputs_told taken = map (λ (it : Taken). it.input) (told_of taken)
 
@@ -31,7 +31,7 @@ pub record KeepsStrokes (strokes : StrokesKept) (taken : List Relayed) : Type 0 
   pub stands : StrokesStand strokes (map taken_from taken)
   pub counts : length strokes.counts ≡ 65
 
--- After these that were taken this one was: its spelling was added where it passes.
+-- An input was taken after these. Its spelling was added where it passes.
 pub record Tells (taken : List Taken) (t : Taken) (strokes_new : StrokesKept) (out_old out_new : List ℕ) : Type 0 where
   pub said : out_new ≡ out_old ++ (if passes_after (unbroken taken) t then input_bytes t.input else [])
   pub stands : StrokesStand strokes_new (taken ++ t ∷ [])
@@ -44,6 +44,6 @@ takes_from (first ∷ left) were queue taken = (queue ≡ left) × (taken ≡ we
 abbrev pub TakesFirst : RelaySide → RelaySide → Type 0
 TakesFirst old new = takes_from old.queue old.taken new.queue new.taken
 
--- Inputs of a viewer.
+-- These inputs, as those of this viewer.
 abbrev pub relayed_of : ℕ → List Input → List Relayed
 relayed_of v inputs = map (λ i. record { viewer = v; input = i }) inputs

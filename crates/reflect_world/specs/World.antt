@@ -28,7 +28,7 @@ use Rattle.reflect_world.specs.declared.step.Entry.TheVariants as kept
 
 -- ---- steps
 
--- The step that one in the code stands for, where no text found no memory.
+-- The step for which a step in the code stands, without marks for texts.
 abbrev pub step_of : declared_step.Step → Step
 step_of (code.HostBytes bytes) = HostBytes bytes.items
 step_of code.Put = Put
@@ -41,7 +41,7 @@ step_of (code.Written viewer count) = Written viewer count
 step_of (code.Send viewer) = Send viewer
 step_of code.Take = Take
 
--- With these marks for the texts of a viewer that became whole by it: of each whether it found no memory.
+-- The same step with marks for the texts of a viewer that it completed. Each says whether the text found no memory.
 abbrev pub step_with : declared_step.Step → List Bool → Step
 step_with (code.HostBytes bytes) lost = HostBytes bytes.items
 step_with code.Put lost = Put
@@ -78,26 +78,26 @@ pub record Kept : Type 0 where
   pub steps : List Step
   pub is_refused : Bool
 
--- The setup of the definitions: its screen, its room and its form.
+-- The setup of the definitions: the world's screen, its room and its form.
 abbrev pub setup_of : Kept → Setup
 setup_of k = record { w = k.width; h = k.height; name = k.name; room = k.room; runs = k.runs }
 
--- The world that its schedule gives.
+-- The world of the definitions that its schedule makes.
 abbrev pub world_of : Kept → World
 world_of k = play (setup_of k) k.steps
 
 -- ---- what the fields hold
 
--- A viewer: its session, the reply to its last step where that was a look, what was written to it, and its bytes that
--- aren't read yet, since an input waits.
+-- A viewer: its session, the reply to its last step where that was a look, what was written to it, and its own bytes
+-- that are unread, since an input waits.
 pub record Held : Type 0 where
   pub session : State
   pub looked : Option ℕ
   pub written : List ℕ
   pub unread : List ℕ
 
--- The screen, the host and the fault that its bytes showed, the viewers by number, the room for inputs, and those on
--- their way to the host.
+-- The screen, the host and the fault that its bytes showed, the viewers by number, the room for inputs, and the inputs
+-- on their way to the host.
 pub record Standing : Type 0 where
   pub screen : Plain
   pub host : HostSide
@@ -110,13 +110,13 @@ pub record Standing : Type 0 where
 abbrev pub place_at : List (Option Held) → ℕ → Option Held
 place_at places v = slice_index_or places v None
 
--- An input of the viewer there waits.
+-- There is a viewer, and an input of it waits.
 abbrev pub waits_at : Option Held → Bool
 waits_at None = false
 waits_at (Some place) = is_some place.session.waiting
 
--- A place stands for a viewer, over these updates: its last cut, if there was one, counted the Bells of the first of
--- them. Where its last step was a look it is ready to go on.
+-- A place stands for a viewer. Its last cut, if there was one, counted the Bells of the first of these updates. Where
+-- its last step was a look, it is ready to go on with the turn.
 pub record PlaceStands (s : Setup) (us : List Update) (place : Held) (p : Viewer) : Type 0 where
   pub session : Stands s place.session (at_rest p)
   pub unread : place.unread ≡ p.unread
@@ -126,7 +126,7 @@ pub record PlaceStands (s : Setup) (us : List Update) (place : Held) (p : Viewer
   pub ready : is_some place.looked ≡ true → is_ready place.session ≡ true
   pub written : place.written ≡ take p.written (out_bytes s p)
 
--- There is a place where there is a viewer, and they are so related.
+-- Either there are both a place and a viewer, so related, or neither.
 abbrev pub PlaceBy : (Held → Viewer → Type 0) → Option Held → Option Viewer → Type 0
 PlaceBy P None None = Unit {0}
 PlaceBy P None (Some p) = ⊥
@@ -138,8 +138,8 @@ pub record PlaceShows (s : Setup) (place : Held) (p : Viewer) : Type 0 where
   pub fault : fault_in place.session ≡ viewer_fault p
   pub written : place.written ≡ take p.written (out_bytes s p)
 
--- What is seen of the fields is what the schedule has come to: the updates put come to the same as its. It stays so
--- where memory was refused in the middle of a step.
+-- What is seen of the fields is what the schedule has come to: the updates put come to the same as those of the
+-- schedule. This stays true where memory was refused in the middle of a step.
 pub record Shows (s : Setup) (standing : Standing) (w : World) : Type 0 where
   pub size : IsScreenSize s.w s.h
   pub width : standing.screen.width ≡ s.w
@@ -170,7 +170,7 @@ pub record Reached (s : Setup) (standing : Standing) (w : World) : Type 0 where
 
 -- ---- what the calls of a place do
 
--- A place whose session went on, and which has no look.
+-- A place with this session, whose last step was no look.
 abbrev pub with_session : Held → State → Held
 with_session place session = record { session = session; looked = None; written = place.written; unread = place.unread }
 
@@ -180,7 +180,7 @@ pub record IsFed (old new : Held) (bytes : List ℕ) (marks : List Bool) : Type 
   pub stands : (s : Setup) (p : Viewer) → Stands s old.session p → StandsBut s new.session (after_bytes (with_marks marks p) (old.unread ++ bytes)) new.unread
   pub counted : (us : List Update) → HasCounted old.session us → HasCounted new.session us
 
--- Bytes that wait were read, up to the end of a message: the look and what was written stay.
+-- Unread bytes were read, up to the end of a message. The look and what was written stay.
 pub record ReadsMore (old new : Held) (before after : List Bool) : Type 0 where
   pub others : new ≡ record old { session = new.session; unread = new.unread }
   pub marks : List Bool
@@ -188,7 +188,7 @@ pub record ReadsMore (old new : Held) (before after : List Bool) : Type 0 where
   pub feeding : IsFeeding old.session new.session marks old.unread new.unread
   pub counted : (us : List Update) → HasCounted old.session us → HasCounted new.session us
 
--- It looked at the tally, if it may.
+-- The viewer looked at the tally, if it might.
 pub record HasLooked (old new : Held) (tally : ℕ) : Type 0 where
   pub others : new ≡ record old { looked = if is_ready old.session then Some tally else None }
   pub stands : (s : Setup) (p : Viewer) → Stands s old.session p → is_ready old.session ≡ may_look s p
@@ -208,24 +208,24 @@ pub record WritesSome (old new : Held) (count : ℕ) : Type 0 where
   pub stands : (s : Setup) (p : Viewer) → Stands s old.session p → Stands s new.session (after_writing count p)
   pub counted : (us : List Update) → HasCounted old.session us → HasCounted new.session us
 
--- Writing was broken off: it shows what it showed before.
+-- Writing was broken off: the place shows what it showed before.
 pub record IsBrokenOff (old new : Held) : Type 0 where
   pub fault : fault_in new.session ≡ fault_in old.session
   pub written : new.written ≡ old.written
 
--- It went on after a look that replied this number, over a source of these updates.
+-- The viewer went on with its turn after a look that replied this number, over a source of these updates.
 pub record HasTurned (old new : Held) (looked : ℕ) (us : List Update) : Type 0 where
   pub others : new ≡ with_session old new.session
   pub stays : (s : Setup) (p : Viewer) → Stands s old.session p → has_reason s.w s.h p.entries looked ≡ false → Stands s new.session (without_look p)
   pub cuts : (s : Setup) (p : Viewer) → HasCounted old.session us → Stands s old.session p → has_reason s.w s.h p.entries looked ≡ true → Stands s new.session (after_cut s us p)
   pub counted : HasCounted old.session us → HasCounted new.session us
 
--- Where there was no look it does nothing.
+-- The viewer went on with its turn, where it had looked; otherwise nothing changed.
 abbrev pub GoesOn : Option ℕ → Held → Held → List Update → Type 0
 GoesOn None old new us = new ≡ old
 GoesOn (Some looked) old new us = HasTurned old new looked us
 
--- Its waiting input was taken.
+-- The viewer's waiting input was taken.
 pub record HasSent (old new : Held) : Type 0 where
   pub others : new ≡ with_session old new.session
   pub stands : (s : Setup) (p : Viewer) → Stands s old.session p → Stands s new.session (without_input (without_look p))
@@ -242,53 +242,53 @@ pub record IsPut (old new : Standing) (u : Update) : Type 0 where
   pub updates : new.screen.updates ≡ old.screen.updates ++ u ∷ []
   pub tally : new.screen.tally ≡ old.screen.tally
 
--- An update wasn't put: it is as if it weren't read.
+-- An update couldn't be put: the host stands as if it weren't read yet.
 pub record IsUnread (old new : Standing) (u : Update) : Type 0 where
   pub others : new ≡ record old { host = new.host }
   pub size : IsSameHost old.host new.host
   pub stands : (past : List Update) (bytes : List ℕ) (us : List Update) → HasReadTo past bytes (us ++ u ∷ []) old.host → HasReadTo past bytes us new.host
 
--- An input of the viewer waits, if there is one.
+-- There is a viewer, and its input waits.
 abbrev pub has_waiting : Option Viewer → Bool
 has_waiting None = false
 has_waiting (Some p) = is_some p.waiting
 
 -- ---- what a step does
 
--- What stood for a world stands for what happens to it by a step.
+-- If the old fields stood for a world, the new ones stand for what this step makes of it.
 abbrev pub TakesStep : Step → Standing → Standing → Type 0
 TakesStep e old new = (s : Setup) (w : World) → Reached s old w → Reached s new (happens s w e)
 
--- The same, over a screen of this name, whose viewers are answered in this form.
+-- The same as TakesStep, over a screen of this name whose viewers are answered in this form.
 abbrev pub JoinsUnder : List ℕ → Runs → Step → Standing → Standing → Type 0
 JoinsUnder name runs e old new = (s : Setup) (w : World) → s.name ≡ name → s.runs ≡ runs → Reached s old w → Reached s new (happens s w e)
 
--- What stood for a world stands for it still.
+-- If the old fields stood for a world, the new ones stand for it, too.
 abbrev pub StaysFor : Standing → Standing → Type 0
 StaysFor old new = (s : Setup) (w : World) → Reached s old w → Reached s new w
 
--- What stood for a world is seen as it was.
+-- If the old fields stood for a world, the new ones still show it.
 abbrev pub StaysSeen : Standing → Standing → Type 0
 StaysSeen old new = (s : Setup) (w : World) → Reached s old w → Shows s new w
 
--- And stands for it still, unless it was memory that was refused.
+-- The new fields still show what the old ones stood for; and they stand for it where the fault is NumbersOut.
 abbrev pub Leaves : Standing → Standing → Fault → Type 0
 Leaves old new fault = StaysSeen old new × (fault ≡ NumbersOut → StaysFor old new)
 
--- What was seen of a world is seen of what happens to it by a step, over a screen of this name, whose viewers are
--- answered in this form.
+-- If the old fields showed a world, the new ones show what this step makes of it, over a screen of this name whose
+-- viewers are answered in this form.
 abbrev pub ShowsUnder : List ℕ → Runs → Step → Standing → Standing → Type 0
 ShowsUnder name runs e old new = (s : Setup) (w : World) → s.name ≡ name → s.runs ≡ runs → Shows s old w → Shows s new (happens s w e)
 
--- The same, whatever its name and the form.
+-- The same as ShowsUnder, whatever the name and the form.
 abbrev pub ShowsStep : Step → Standing → Standing → Type 0
 ShowsStep e old new = (s : Setup) (w : World) → Shows s old w → Shows s new (happens s w e)
 
--- It stands for some world.
+-- The fields stand for some world.
 abbrev pub IsReachable : Standing → Type 0
 IsReachable standing = (s : Setup) × (w : World) × Reached s standing w
 
--- It shows some world.
+-- The fields show some world.
 abbrev pub IsSeen : Standing → Type 0
 IsSeen standing = (s : Setup) × (w : World) × Shows s standing w
 
@@ -299,14 +299,14 @@ IsRefusal e standing fault = (fault ≡ Memory) ⊎ ((fault ≡ NumbersOut) × (
 -- ---- what a world's calls do
 
 -- The fields stand for what the schedule has come to, over a screen with a name of 1 to 255 bytes. Once memory was
--- refused no step is taken any longer, and they only show it.
+-- refused they only show it, and no step is taken any longer.
 pub record IsKept (k : Kept) (standing : Standing) : Type 0 where
   pub named : (1 ≤ length k.name) × (length k.name ≤ 255)
   pub shows : Shows (setup_of k) standing (world_of k)
   pub reached : k.is_refused ≡ false → Reached (setup_of k) standing (world_of k)
 
 -- A step was refused, and isn't in the schedule: for want of memory, which is noted; or at a Put for which there is no
--- more number.
+-- number left.
 abbrev pub StopsAt : Kept → Kept → Step → Fault → Type 0
 StopsAt old new e fault =
     ((fault ≡ Memory) × (new ≡ record old { is_refused = true }))
@@ -320,18 +320,18 @@ with_steps k es = record k { steps = k.steps ++ es }
 abbrev pub HasPlayed : Kept → Kept → List Step → Type 0
 HasPlayed old new es = (old.is_refused ≡ false) × ((played : List Step) × (map unmarked played ≡ es) × (new ≡ with_steps old played))
 
--- None was played, since a step was refused for want of memory before; or this many were played, and the next was
+-- No step was played, since one was refused for want of memory before; or this many were played, and the next was
 -- refused.
 abbrev pub HasStopped : Kept → Kept → List Step → ℕ → Fault → Type 0
 HasStopped old new es count fault =
     ((old.is_refused ≡ true) × (new ≡ old) × (count ≡ 0) × (fault ≡ Memory))
     ⊎ ((old.is_refused ≡ false) × ((played : List Step) × (e : Step) × (map unmarked played ≡ take count es) × (slice_get es count ≡ Some e) × StopsAt (with_steps old played) new e fault))
 
--- What holds of a schedule: the headline, so that after each answer a viewer that follows its answers holds the area
--- asked for, and the puts, raises, looks and cuts are one legal history, which has the viewers' own; the updates are
--- those of the host's bytes, in order; each viewer is sent its Bells, texts and answers and nothing else, and reads
--- exactly these; once an answer is written whole it holds the area; what is relayed of each viewer is what is allowed of
--- its messages, in each of its stays; and what the host is sent of it is unbroken.
+-- What holds of a schedule. First the headline: after each answer a viewer that follows its answers holds the area
+-- asked for, and the puts, raises, looks and cuts are one legal history, which has the viewers' own. The updates are
+-- those of the host's bytes, in order. Each viewer is sent its Bells, texts and answers and nothing else, and reads
+-- exactly these; once an answer is written whole, it holds the area. What is relayed of each viewer is what is allowed
+-- of its messages, in each of its stays; and what the host is sent is unbroken.
 pub record IsServed (s : Setup) (es : List Step) : Type 0 where
   pub holds : Holds s es
   pub in_order : ArePutInOrder s (play s es)
@@ -340,7 +340,7 @@ pub record IsServed (s : Setup) (es : List Step) : Type 0 where
   pub written : HoldsAfterEachWritten s (play s es)
   pub relayed : RelaysAllowed s es
 
--- That holds of a world's schedule, whatever it is, and of each beginning of it: a viewer that left was served as long
--- as it was there.
+-- IsServed is true of each beginning of a world's schedule, and of the whole: so a viewer that has left was served as
+-- long as it was there.
 abbrev pub IsFaithful : Kept → Type 0
 IsFaithful k = (before after : List Step) → k.steps ≡ before ++ after → IsServed (setup_of k) before

@@ -14,7 +14,8 @@ use painter::Patch;
 use std::alloc::Global;
 use std::marker::Model;
 
-/// The bytes of a host, which are read update by update; and an update that was read and couldn't be put.
+/// The bytes of a host, which are read update by update, and an update, if there is one, that was read and couldn't be
+/// put.
 #[derive(Drop)]
 pub(crate) struct Host {
     screen: HostScreen,
@@ -47,7 +48,7 @@ impl Host {
         })
     }
 
-    /// Bytes of it come, and are kept. Where memory is refused (`Memory`) nothing has changed.
+    /// Keeps bytes that come from the host. Where memory is refused (`Memory`) nothing has changed.
     pub(crate) fn add(&mut self, bytes: &[u8]) -> Result<(), Fault>
         ensures same { IsSameHost self.old self.new }
         ensures ok { OnOk result ((past : List Update) (all : List ℕ) (us : List Update) → HostStands past all us self.old → HostStands past (all ++ bytes.now) us self.new) }
@@ -56,8 +57,8 @@ impl Host {
         self.unread.add(bytes)
     }
 
-    /// The next update, where it has come whole. It fails at the fault at which the bytes stand; or where memory is
-    /// refused (`Memory`), which is final.
+    /// The next update, where it has come whole. It fails with the fault at which the bytes stand, or where memory is
+    /// refused (`Memory`); after that it reads nothing more.
     pub(crate) fn next_patch(&mut self) -> Result<Option<Patch>, Fault>
         requires { CanRead self.old }
         ensures same { IsSameHost self.old self.new }
@@ -81,7 +82,7 @@ impl Host {
         }
     }
 
-    /// An update that was read and couldn't be put waits, and is the next again.
+    /// Keeps an update that was read and couldn't be put. It is the next update again.
     pub(crate) fn keep(&mut self, patch: Patch)
         requires none { self.old.waiting ≡ None }
         requires size { (patch.width ≡ self.old.decoder.width) × (patch.height ≡ self.old.decoder.height) }

@@ -17,8 +17,8 @@ use std::alloc::Global;
 use std::marker::Model;
 use viewer_session::Session;
 
-/// A viewer's session, the reply of its last step where that was a look, all bytes that were written to it, and those
-/// of it that wait to be read since an input of it waits.
+/// A viewer's session, the reply of its last step where that was a look, all bytes that were written to it, and its own
+/// bytes that are unread since an input of it waits.
 #[derive(Drop)]
 pub(crate) struct Place {
     session: Session,
@@ -36,7 +36,7 @@ impl Model for Place {
 }
 
 impl Place {
-    /// A viewer that has sent nothing, of a screen with a name of 1 to 255 bytes, and is answered in this form. It
+    /// A viewer that has sent nothing yet, over a screen with a name of 1 to 255 bytes. It is answered in this form. It
     /// begins with its hello where `greet` says so. It fails where memory is refused (`Memory`).
     pub(crate) fn new(
         alloc: Global,
@@ -81,9 +81,9 @@ impl Place {
         self.session.fault()
     }
 
-    /// Its bytes come, and are read after those that wait, as far as no input waits. For each text that becomes whole
-    /// `lost` gets a mark: whether it found no memory. Where memory is refused (`Memory`), which comes first, nothing
-    /// has changed.
+    /// Bytes of the viewer come. They are read after those that are unread, up to a message whose input waits. For each
+    /// text that becomes whole `lost` gets a mark: whether it found no memory. Memory is asked for first; where it is
+    /// refused (`Memory`) nothing has changed.
     pub(crate) fn feed(&mut self, bytes: &[u8], lost: &mut Vec<bool>) -> Result<(), Fault>
         requires { lost.old.items ≡ [] }
         ensures ok { OnOk result (IsFed self.old self.new bytes.now lost.new.items) }
@@ -101,7 +101,7 @@ impl Place {
         Ok(())
     }
 
-    /// Reads bytes that wait, up to the end of a message. After a fault none is looked at.
+    /// Reads unread bytes, up to the end of a message. After a fault no byte is looked at.
     fn read_on(&mut self, lost: &mut Vec<bool>)
         requires some { 0 < length self.old.unread }
         requires none { self.old.session.waiting ≡ None }
@@ -130,7 +130,7 @@ impl Place {
         self.session.has_input()
     }
 
-    /// No look is its last step any more.
+    /// Notes that the viewer's last step was no look.
     pub(crate) fn forget_look(&mut self)
         ensures { self.new ≡ record self.old { looked = None } }
     {
@@ -146,7 +146,7 @@ impl Place {
         self.session.take_input()
     }
 
-    /// How many inputs go to the host where it leaves: the one that waits, and the releases.
+    /// How many inputs go to the host where the viewer leaves: the one that waits, and the releases.
     pub(crate) fn inputs_left(&self) -> usize
         ensures { result ≡ length (left_by self.now) }
     {
@@ -158,7 +158,7 @@ impl Place {
         }
     }
 
-    /// The next of these, and `None` once there is none left.
+    /// The next input of a viewer that leaves, and `None` once there is none left.
     pub(crate) fn leave(&mut self) -> Option<Input>
         ensures next { MatchOption result (left_by self.old ≡ []) (λ input. left_by self.old ≡ input_in input ∷ left_by self.new) }
     {
@@ -168,7 +168,7 @@ impl Place {
         }
     }
 
-    /// It looks at the tally, if it may.
+    /// The viewer looks at the tally, if it may.
     pub(crate) fn look(&mut self, tally: u64)
         ensures { HasLooked self.old self.new tally }
     {
@@ -179,7 +179,8 @@ impl Place {
         };
     }
 
-    /// It goes on after its look. It takes no memory, and always succeeds, since such a screen doesn't end.
+    /// The viewer goes on with its turn after its look. It takes no memory, and always succeeds, since a `PlainScreen`
+    /// never ends.
     pub(crate) fn cut(&mut self, screen: &mut PlainScreen)
         requires ready { is_some self.old.looked ≡ true → is_ready self.old.session ≡ true }
         requires size { (self.old.session.width ≡ screen.old.width) × (self.old.session.height ≡ screen.old.height) }
@@ -195,8 +196,8 @@ impl Place {
         self.looked = None;
     }
 
-    /// This many of its unsent bytes are written, piece by piece, at most those there are. Where memory is refused
-    /// (`Memory`) what was written before stands, and no more can be made of the session.
+    /// Writes this many of its unsent bytes, or all of them where there are fewer, piece by piece. Where memory is
+    /// refused (`Memory`) what was written before this call is kept, and the session can't be used any more.
     pub(crate) fn write(&mut self, count: u64) -> Result<(), Fault>
         ensures ok { OnOk result (IsWritten self.old self.new (min count (length self.old.session.unsent))) }
         ensures err { IfErr result (λ fault. (fault ≡ Memory) × IsBrokenOff self.old self.new) }
@@ -216,8 +217,7 @@ impl Place {
         Ok(())
     }
 
-    /// Bytes of the piece that is sent next are written, at most this many. Where memory is refused nothing has
-    /// changed.
+    /// Writes bytes of the piece that is sent next, at most this many. Where memory is refused nothing has changed.
     fn write_piece(&mut self, most: u64) -> Result<u64, Fault>
         ensures ok { IfOk result (λ count. WritesSome self.old self.new count × (count ≤ most)) }
         ensures some { IfOk result (λ count. 0 < most → 0 < length self.old.session.piece → 0 < count) }

@@ -25,7 +25,7 @@ pub(crate) struct Entry {
 }
 
 /// The inputs of all viewers, in the order in which they came; how many of them were taken for the host; which of these
-/// pass to it; and the bytes that it was sent.
+/// pass to the host; and the bytes that it was sent.
 #[derive(Drop)]
 pub(crate) struct Relay {
     entries: Vec<Entry>,
@@ -50,7 +50,7 @@ impl Model for Relay {
 }
 
 impl Relay {
-    /// No input is on its way, and none was sent. It fails where memory is refused (`Memory`).
+    /// A relay with no input on its way, and none sent. It fails where memory is refused (`Memory`).
     pub(crate) fn new(alloc: Global) -> Result<Self, Fault>
         ensures ok { IfOk result (λ relay. (relay.queue ≡ []) × (relay.taken ≡ [])) }
         ensures err { IfErr result (λ fault. fault ≡ Memory) }
@@ -98,7 +98,7 @@ impl Relay {
         }
     }
 
-    /// An input of a viewer goes into the queue, for which there is room.
+    /// Adds an input of a viewer to the queue. There has to be room for it.
     pub(crate) fn push(&mut self, viewer: u64, input: Input)
         requires { 0 < self.old.spare }
         ensures queue { self.new.queue ≡ self.old.queue ++ record { viewer = viewer; input = input_in input } ∷ [] }
@@ -110,7 +110,7 @@ impl Relay {
         };
     }
 
-    /// The input that waited longest is taken, if there is one, and goes to the host where it passes after those taken
+    /// Takes the input that has waited longest, if there is one. It goes to the host where it passes after those taken
     /// before. Where memory is refused (`Memory`) nothing has changed.
     pub(crate) fn take(&mut self) -> Result<(), Fault>
         ensures ok { OnOk result (TakesFirst self.old self.new) }
@@ -138,7 +138,7 @@ fn tell(strokes: &mut Strokes, viewer: u64, input: &Input, out: &mut Vec<u8>) ->
     ensures counts { length strokes.new.counts ≡ length strokes.old.counts }
     ensures err { IfErr result (λ fault. (fault ≡ Memory) × (strokes.new ≡ strokes.old) × (out.new.items ≡ out.old.items)) }
 {
-    // It is spelled first: once the strokes know of it no memory may be refused any longer.
+    // The input is spelled first: once the strokes have it, no memory may be refused any longer.
     let before = out.len();
     spell(input, out)?;
     if !strokes.passes(viewer, input) {

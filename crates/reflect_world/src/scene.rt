@@ -26,7 +26,7 @@ use std::marker::Model;
 /// Places are numbered below this. That of number 0 stays free.
 pub(crate) const PLACES: u64 = 65;
 
-/// The screen, the host, the fault that its bytes showed, the viewers by number, the room for inputs, and those on
+/// The screen, the host, the fault that its bytes showed, the viewers by number, the room for inputs, and the inputs on
 /// their way to the host.
 #[derive(Drop)]
 pub(crate) struct Scene {
@@ -48,7 +48,7 @@ impl Model for Scene {
 }
 
 impl Scene {
-    /// Before any step. It fails where memory is refused (`Memory`).
+    /// The scene before any step. It fails where memory is refused (`Memory`).
     pub(crate) fn new(alloc: Global, width: u64, height: u64, room: u64) -> Result<Self, Fault>
         requires { IsScreenSize width height }
         ensures ok { IfOk result (λ scene. (s : Setup) → s.w ≡ width → s.h ≡ height → s.room ≡ room → Reached s scene beginning) }
@@ -92,8 +92,8 @@ impl Scene {
         }
     }
 
-    /// A viewer begins anew, of a screen with a name of 1 to 255 bytes, and is answered in this form. Where memory is
-    /// refused (`Memory`) nothing has changed.
+    /// A viewer joins and begins anew, over a screen with a name of 1 to 255 bytes. It is answered in this form. Where
+    /// memory is refused (`Memory`) nothing has changed.
     pub(crate) fn join(
         &mut self,
         viewer: u64,
@@ -175,10 +175,10 @@ impl Scene {
         self.relay.dropped(viewer)
     }
 
-    /// Takes a step. For each text of a viewer that becomes whole by it `lost` gets a mark: whether it found no memory.
-    /// Where memory is refused (`Memory`), or there are no more numbers of updates (`NumbersOut`), it isn't taken: what
-    /// is seen is that of the steps before, and after `NumbersOut` further steps may be taken. `Raise`, `Look` and
-    /// `Cut` are always taken.
+    /// Takes a step. For each text of a viewer that the step completes `lost` gets a mark: whether that text found no
+    /// memory. Where memory is refused (`Memory`), or there are no more numbers of updates (`NumbersOut`), the step
+    /// isn't taken: what is seen is what the steps before have come to, and after `NumbersOut` further steps may be
+    /// taken. `Raise`, `Look` and `Cut` are always taken.
     pub(crate) fn take(&mut self, step: &Step, lost: &mut Vec<bool>) -> Result<(), Fault>
         requires reachable { IsReachable self.old }
         requires unmarked { lost.old.items ≡ [] }
@@ -349,8 +349,8 @@ impl Scene {
         }
     }
 
-    /// This many of a viewer's unsent bytes are written, if it is there. Where memory is refused what was written
-    /// before is seen still.
+    /// This many of a viewer's unsent bytes are written, if it is there. Where memory is refused, what was written
+    /// before is still seen.
     fn write(&mut self, viewer: u64, count: u64) -> Result<(), Fault>
         requires { IsReachable self.old }
         ensures ok { OnOk result (TakesStep (Written viewer count) self.old self.new) }
@@ -366,7 +366,8 @@ impl Scene {
     }
 }
 
-/// What goes to the host of a viewer that leaves goes into the queue, as far as there is room. There is memory for it.
+/// Adds to the queue, as far as there is room, what goes to the host of a viewer that leaves. Memory for it has to be
+/// taken before.
 fn relay_left(viewer: u64, place: &mut Place, room: u64, relay: &mut Relay)
     requires { length (left_by place.old) ≤ relay.old.spare }
     ensures queue { relay.new.queue ≡ relay.old.queue ++ take (room - length relay.old.queue) (relayed_of viewer (left_by place.old)) }

@@ -16,16 +16,16 @@ pub enum Step {
     Put,
     /// The tally becomes the number of updates.
     Raise,
-    /// The host has ended, and the next begins with a switch to black, which the next `Put` puts: where no update of it
-    /// is left to be put, and its bytes are at no fault.
+    /// The host has ended, and the next begins with a switch to black, which the next `Put` puts. This happens only
+    /// where no update of the old host is left to be put and its bytes are at no fault.
     Next,
     /// Bytes of a viewer come, and are read.
     Bytes(u64, Vec<u8>),
     /// A viewer's session looks at the tally, where all its bytes are written and it has no fault: the first half of a
     /// turn.
     Look(u64),
-    /// It cuts and answers, where there is reason for it: the second half. It is taken only directly after its `Look`,
-    /// as far as that viewer's steps go.
+    /// A viewer's session cuts and answers, where there is reason to: the second half of a turn. It is taken only where
+    /// that viewer's last step was its `Look`.
     Cut(u64),
     /// This many more of a viewer's unsent bytes are written, at most those there are.
     Written(u64, u64),
@@ -36,20 +36,20 @@ pub enum Step {
     Take,
 }
 
-/// What a world keeps: a viewer joined or left, or a step was played, with marks for the texts of a viewer that became
-/// whole by it.
+/// An entry of the schedule that a world keeps: a viewer joined or left, or a step was played, with marks for the texts
+/// of a viewer that it completed.
 #[derive(Drop)]
 pub(crate) enum Entry {
-    /// A viewer of this number and role joined; with its hello where the last says so, else after it.
+    /// A viewer of this number and role joined: with its hello where the last field is true, otherwise after it.
     Joined(u64, Role, bool),
     /// The viewer of this number left.
     Parted(u64),
-    /// This step was played. Of each text the mark says whether it found no memory.
+    /// This step was played. The marks say of each text that it completed whether the text found no memory.
     Played(Step, Vec<bool>),
 }
 
 impl Step {
-    /// The same step, with bytes of its own. It fails where memory is refused.
+    /// A copy of the step, with bytes of its own. It fails where memory is refused.
     pub fn copy(&self, alloc: Global) -> Result<Step, AllocError>
         ensures same { IfOk result (λ same. step_of same ≡ step_of self.now) }
         ensures marked { IfOk result (λ same. (lost : List Bool) → step_with same lost ≡ step_with self.now lost) }

@@ -25,7 +25,7 @@ impl Model for Unread {
 }
 
 impl Unread {
-    /// Nothing has come, so nothing is left to read.
+    /// A stream of which nothing has come yet.
     pub(crate) fn new(alloc: Global) -> Self
         ensures { result ≡ [] }
     {
@@ -53,7 +53,7 @@ impl Unread {
         &self.bytes.as_slice()[self.read..]
     }
 
-    /// The first of the unread bytes, this many, were read.
+    /// This many of the unread bytes, from the first on, were read.
     pub(crate) fn take(&mut self, count: usize)
         requires { count ≤ length self.old }
         ensures { self.new ≡ drop count self.old }
@@ -65,7 +65,7 @@ impl Unread {
         }
     }
 
-    /// Takes back the last of the unread bytes, this many, as if they hadn't been added.
+    /// Takes this many bytes away from the end of the unread ones, as if they hadn't been added.
     pub(crate) fn take_back(&mut self, count: usize)
         requires { count ≤ length self.old }
         ensures { self.new ≡ take (length self.old - count) self.old }

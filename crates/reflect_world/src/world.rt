@@ -16,7 +16,7 @@ use roles::Role;
 use std::alloc::Global;
 use std::marker::Model;
 
-/// A reflector of a screen: its host, its screen and its viewers, over one schedule of steps, which it stores.
+/// A reflector with its host, its screen and its viewers, and the schedule of all its steps, which it keeps.
 #[derive(Drop)]
 pub struct World {
     alloc: Global,
@@ -91,8 +91,8 @@ impl World {
         })
     }
 
-    /// A viewer of this number, from 1 to 64, joins, and begins anew: with its hello where `greet` says so, else its
-    /// hello is done. Where memory is refused (`Memory`) nothing has changed.
+    /// A viewer of this number, from 1 to 64, joins and begins anew: with its hello where `greet` says so, otherwise as
+    /// one whose hello is done. Where memory is refused (`Memory`) nothing has changed.
     pub fn join(&mut self, viewer: u64, role: Role, greet: bool) -> Result<(), Fault>
         requires viewer { (1 ≤ viewer) × (viewer ≤ 64) }
         ensures ok { OnOk result (self.new ≡ with_steps self.old (Join viewer role greet ∷ [])) }
@@ -244,13 +244,14 @@ impl World {
     }
 }
 
-/// Plays steps. With a fault the number says how many were played, and the world is as after them: `Memory`, which
-/// every later call names again, playing nothing; or `NumbersOut` at a `Put` for which there is no more number.
+/// Plays steps. Where it fails, the number beside the fault says how many were played, and the world is as after these.
+/// It fails with `Memory`, and then every later call plays nothing and fails with `Memory` again; or with `NumbersOut`,
+/// at a `Put` for which there is no number left.
 ///
 /// Whatever was played, the world is faithful to its schedule: after each answer a viewer that follows its answers
 /// holds the area asked for, of the screen after some whole number of updates; the puts, raises, looks and cuts are one
 /// legal history; the updates are those of the host's bytes; and what is written to each viewer is a beginning of the
-/// stream of its answers, which reads as them.
+/// stream of its answers, from which a viewer reads exactly these answers.
 pub fn play(world: &mut World, steps: &[Step]) -> Result<(), (usize, Fault)>
     ensures ok { OnOk result (HasPlayed world.old world.new (map step_of steps.now)) }
     ensures err { IfErr result (λ stop. HasStopped world.old world.new (map step_of steps.now) stop.0 stop.1) }

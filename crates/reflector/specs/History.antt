@@ -15,8 +15,7 @@ own_steps us (Turn looked (Some n) ∷ acts) = own_steps us acts ++ Look looked 
 own_steps us (Written count ∷ acts) = own_steps us acts
 own_steps us (Passed ∷ acts) = own_steps us acts
 
--- A history leads from the one state to the other whose looks and cuts are these, in order. Its other steps are puts and
--- raises.
+-- A history leads from old to new. Its looks and cuts are these, in order, and its other steps are puts and raises.
 pub record IsOneHistory (old : Shared) (own : List Step) (new : Shared) : Type 0 where
   pub steps : List Step
   pub leads : Leads old steps new

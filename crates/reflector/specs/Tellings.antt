@@ -7,8 +7,8 @@ use Rattle.link.specs.Links.{LinkState}
 use Rattle.host_writer.specs.Writing.{Did, Writes, all_taken, said, taken_in}
 use Rattle.input_relay.specs.declared.queue.Message.{Message}
 
--- Whoever tells the hosts, between two of them: the links so far, each as it came and then as it was left; the source
--- that is looked at; the input that was taken of the relay so far; and the strokes.
+-- How telling the hosts stands between two of them: the links so far, each as it came and then as it was left; the
+-- source that is looked at; the input that was taken of the relay so far; and the strokes.
 pub record Desk (S : Type 0) : Type 0 where
   pub links : List LinkState
   pub source : S
@@ -18,7 +18,7 @@ pub record Desk (S : Type 0) : Type 0 where
 abbrev pub desk : {S : Type 0} → List LinkState → S → List Message → StrokesKept → Desk S
 desk links source taken strokes = record { links = links; source = source; taken = taken; strokes = strokes }
 
--- One host was told, over one link more, which was written as the input goes on (Writes).
+-- One more host was told, over one more link, to which was written what Writes says.
 pub record Telling {S : Type 0} (looks : S → ℕ → S → Type 0) (width height : S → ℕ) (old new : Desk S) : Type 0 where
   pub came : LinkState
   pub left : LinkState
@@ -26,18 +26,19 @@ pub record Telling {S : Type 0} (looks : S → ℕ → S → Type 0) (width heig
   pub links : new.links ≡ old.links ++ came ∷ left ∷ []
   pub writes : Writes looks ⊤ old.source new.source old.taken new.taken old.strokes new.strokes (width old.source) (height old.source) answer came left
 
--- Hosts were told one after another. How it stood before each of them is listed, the latest first.
+-- Hosts were told one after another. The list says how telling stood before each of them, the latest first.
 abbrev pub AreTellings : {S : Type 0} → (looks : S → ℕ → S → Type 0) → (width height : S → ℕ) → Desk S → List (Desk S) → Desk S → Type 0
 AreTellings {S} looks width height old [] new = new ≡ old
 AreTellings {S} looks width height old (before ∷ befores) new = AreTellings looks width height old befores before × Telling looks width height before new
 
--- So they were told, from that state on: over these links, and then this input was taken, and the strokes stood so.
+-- From this state on hosts were told over these links. In the end this input was taken, and the strokes stood so.
 pub record HasTold {S : Type 0} (looks : S → ℕ → S → Type 0) (width height : S → ℕ) (old : Desk S) (links : List LinkState) (taken : List Message) (strokes : StrokesKept) : Type 0 where
   pub befores : List (Desk S)
   pub source : S
   pub tellings : AreTellings looks width height old befores (desk links source taken strokes)
 
--- The same of a whole run: it began with no link, with nothing taken, and with strokes that stand for that.
+-- The hosts of a whole run were told. It began with no link, with nothing taken, and with strokes that stand for
+-- nothing taken.
 pub record TellsHosts {S : Type 0} (looks : S → ℕ → S → Type 0) (width height : S → ℕ) (source : S) (links : List LinkState) (taken : List Message) (strokes : StrokesKept) : Type 0 where
   pub began : StrokesKept
   pub none_down : StrokesStand began []
@@ -45,16 +46,16 @@ pub record TellsHosts {S : Type 0} (looks : S → ℕ → S → Type 0) (width h
 
 -- ---- in plain words
 
--- Where this input was taken before, a host was told what is said of these acts, or a beginning of that: the inputs that
--- pass, and the requests. Its link came and was left so.
+-- Where this input was taken before, a host was told what is said for these acts, the inputs that pass and the
+-- requests, or a beginning of that. The host's link came and was left so.
 pub record IsToldOver (w h : ℕ) (before : List Taken) (did : List Did) (came left : LinkState) : Type 0 where
   pub given : List ℕ
   pub gave : left.given ≡ came.given ++ given
   pub begins : Begins given (said before w h did)
   pub heard : left.taken ≡ came.taken
 
--- One host after another was told so, over these links, each as it came and then as it was left. The input taken is
--- divided between them: no host is told of what was taken for another.
+-- One host after another was told in this way, over these links, each as it came and then as it was left. The input
+-- taken is divided between the hosts: no host is told anything that was taken for another.
 abbrev pub AreToldInTurn : (w h : ℕ) → List Taken → List LinkState → List Message → Type 0
 AreToldInTurn w h before [] taken = taken ≡ []
 AreToldInTurn w h before (came ∷ []) taken = ⊥

@@ -31,8 +31,8 @@ name_of (b ∷ bs) = b ∷ bs
 abbrev pub setup_of : ℕ → ℕ → List ℕ → Runs → Setup
 setup_of w h name form = record { w = w; h = h; name = name; room = 0; runs = form }
 
--- That they are the size and the name of the screen of a host that was joined, and the form in which all viewers of a
--- run are answered.
+-- The size, the name and the form are those of the screen of a host that was joined, and the form in which all viewers
+-- of a run are answered.
 abbrev pub IsOfScreen : (w h : ℕ) → (name : List ℕ) → (form : Runs) → (width height : ℕ) → (told : List ℕ) → (answered : Runs) → Type 0
 IsOfScreen w h name form width height told answered = (width ≡ w) × (height ≡ h) × (told ≡ name_of name) × (answered ≡ form)
 
@@ -45,14 +45,15 @@ pub record IsServed {S : Type 0} (looks cuts : S → ℕ → S → Type 0) (may_
   pub serves : Serves looks cuts may_end was_set may_refuse source_old source_new (known source_new) s (new_viewer role true) sent_old sent_new why unused left
   pub grows : Begins (known source_old) (known source_new)
 
--- There was no memory for it, and it was let go: nothing was taken of it, given to it or sent.
+-- There was no memory for a viewer, and it was let go: nothing was taken from it or given to it, and no input of it was
+-- sent.
 pub record IsLetGo {S : Type 0} (source_old source_new : S) (sent_old sent_new : List Input) (why : Result (Unit {0}) Fault) (left : LinkState) : Type 0 where
   pub memory : why ≡ Err Memory
   pub link : left ≡ unused
   pub source : source_new ≡ source_old
   pub sent : sent_new ≡ sent_old
 
--- What comes of a viewer: the one or the other.
+-- What comes of a viewer: it is served or let go.
 abbrev pub IsReceived : {S : Type 0} → (looks cuts : S → ℕ → S → Type 0) → (may_end was_set : Type 0) → (may_refuse : Fault → Type 0) → (known : S → List Update) → Setup → Role → (source_old source_new : S)
     → (sent_old sent_new : List Input) → (why : Result (Unit {0}) Fault) → (left : LinkState) → Type 0
 IsReceived {S} looks cuts may_end was_set may_refuse known s role source_old source_new sent_old sent_new why left =
@@ -69,13 +70,13 @@ pub record Visit {D S : Type 0} (lets_in : D → Bool → D → Type 0) (sees_of
   pub received : receives old.source new.source old.sent new.sent why left
   pub went : sees_off met left why new.door
 
--- Visits one after another, from the one state of the place to the other. The states before each of them are listed,
--- the latest first.
+-- Visits one after another lead from the old state of the place to the new one. The list has the state before each of
+-- them, the latest first.
 abbrev pub AreVisits : {D S : Type 0} → (lets_in : D → Bool → D → Type 0) → (sees_off : D → LinkState → Result (Unit {0}) Fault → D → Type 0) → (receives : S → S → List Input → List Input → Result (Unit {0}) Fault → LinkState → Type 0) → At D S → List (At D S) → At D S → Type 0
 AreVisits {D} {S} lets_in sees_off receives old [] new = new ≡ old
 AreVisits {D} {S} lets_in sees_off receives old (before ∷ befores) new = AreVisits lets_in sees_off receives old befores before × Visit lets_in sees_off receives before new
 
--- These were all of its visits: after them it asked for no further viewer, or its door let none in.
+-- These were all visits of the place: after them it asked for no further viewer, or its door let none in.
 pub record HasVisits {D S : Type 0} (lets_in : D → Bool → D → Type 0) (sees_off : D → LinkState → Result (Unit {0}) Fault → D → Type 0) (receives : S → S → List Input → List Input → Result (Unit {0}) Fault → LinkState → Type 0) (old new : At D S) : Type 0 where
   pub befores : List (At D S)
   pub last : At D S

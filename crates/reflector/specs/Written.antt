@@ -7,11 +7,11 @@ use Rattle.reflector.specs.declared.written.Trail.TheFolds.{fold-Trail}
 use Rattle.reflector.specs.declared.written.Written.{Written}
 
 module _ {L : Type 0} (state : L → LinkState) where
-  -- One more, after those before it.
+  -- The links with one more, after those before it.
   abbrev pub one_more : Trail-F L (List LinkState) → List LinkState
   one_more Nothing = []
   one_more (Then before link) = before.value ++ state link.value ∷ []
 
-  -- All of them in turn: what each had been given and had given then.
+  -- The states of all of them, in turn, as they were when they were noted.
   abbrev pub links_in : Written L → List LinkState
   links_in written = fold-Trail L (List LinkState) one_more written.trail.value

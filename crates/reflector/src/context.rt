@@ -13,11 +13,11 @@ pub(crate) struct RunContext<R: Wait + Drop, B: Alarm + Drop, W: Alarm + Drop> {
     pub(crate) rt: R,
     pub(crate) alloc: Global,
     pub(crate) runs: Runs,
-    /// Rung after each put, and roused by the flag: all that wait.
+    /// The alarm of all that wait. It is rung after each put, and roused by the flag.
     pub(crate) everyone: Arc<B, Global>,
-    /// Rung after each input that was sent: the host's writer.
+    /// The alarm of the host's writer. It is rung after each input that was sent.
     pub(crate) writer: Arc<W, Global>,
-    /// Where it is read how much input waits, and how much was dropped.
+    /// Where others read how much input waits, and how much was dropped.
     pub(crate) input: Arc<InputCounts, Global>,
     pub(crate) stop: Arc<Stop<Arc<B, Global>>, Global>,
 }

@@ -1,4 +1,4 @@
-//! How far a viewer is, for the counters of its place.
+//! Tells the counters of a place how far its viewer is.
 
 use run_traits::PlaceCount;
 use viewer_server::Progress;

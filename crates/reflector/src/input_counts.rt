@@ -1,4 +1,4 @@
-//! What is read of the viewers' input while a run goes on.
+//! What others read of the viewers' input while a run goes on.
 
 ghost use Rattle.std.specs.Prelude.{◌≡◌, ◌≤◌};
 
@@ -9,8 +9,8 @@ use std::alloc::Global;
 use std::sync::atomic::{AtomicU64, Ordering};
 use std::sync::{Arc, Mutex, Wait};
 
-/// The viewers' input on its way to the hosts, for whoever asks how a run stands. The places' threads never touch it,
-/// and the one that tells the hosts only stores: the lock is for those who ask.
+/// Counts of the viewers' input on its way to the hosts, for those who ask how a run stands. The places' threads never
+/// touch them, and the thread that tells the hosts only stores. The lock is for those who ask.
 #[derive(Drop)]
 pub struct InputCounts {
     gauge: Mutex<Option<Gauge>>,
@@ -18,7 +18,7 @@ pub struct InputCounts {
 }
 
 impl InputCounts {
-    /// Of a run that hasn't begun.
+    /// The counts of a run that hasn't begun.
     pub fn new() -> InputCounts {
         InputCounts {
             gauge: Mutex::new(None),
@@ -26,12 +26,12 @@ impl InputCounts {
         }
     }
 
-    /// From now on those inputs are counted that wait in the relay of this gauge.
+    /// From now on the inputs that wait in this gauge's relay are counted.
     pub(crate) fn attach<R: Wait>(&self, rt: &R, gauge: Gauge) {
         *self.gauge.lock(rt) = Some(gauge);
     }
 
-    /// How many inputs wait for a host, of all places: at most 256, and 0 before the run begins.
+    /// How many inputs of all places wait for a host: at most 256, and 0 before the run begins.
     pub fn waiting<R: Wait>(&self, rt: &R) -> usize
         ensures { result ≤ 256 }
     {
@@ -42,15 +42,15 @@ impl InputCounts {
         }
     }
 
-    /// How many inputs were taken for the hosts and not told, of all places: those that another's stroke kept out, the
-    /// release of a key that isn't down, and the press of one too many. No clause says that it is up to date; what a
-    /// run hands back is (`Running`).
+    /// How many inputs of all places were taken for the hosts and not told: those that another place's stroke kept out,
+    /// releases of keys that weren't down, and presses of one key too many. No clause says that this number is up to
+    /// date; the one that a run hands back is (`Running`).
     pub fn dropped(&self) -> u64 {
         self.dropped.load(Ordering::SeqCst)
     }
 }
 
-/// How many inputs weren't told, as the thread that tells the hosts counts them, and where others read it.
+/// The number of inputs that weren't told, as the thread that tells the hosts counts them, and where others read it.
 #[derive(Drop)]
 pub(crate) struct Untold {
     pub(crate) count: u64,
@@ -58,7 +58,7 @@ pub(crate) struct Untold {
 }
 
 impl Untold {
-    /// None yet. It is read at this watch.
+    /// A count of 0, which others read at this watch.
     pub(crate) fn new(watch: Arc<InputCounts, Global>) -> Untold
         ensures { result.count ≡ 0 }
     {

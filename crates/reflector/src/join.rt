@@ -1,4 +1,4 @@
-//! What is known once a place was joined.
+//! Joins a place, and says what is known then.
 
 ghost use Rattle.std.specs.Prelude.{◌≡◌, ◌⊎◌};
 ghost use Rattle.input_relay.specs.Ends.{inputs_of};
@@ -19,10 +19,10 @@ use tally_word::Naming;
 
 /// Waits for a place of a run, and lets its watcher meet the run's publisher.
 ///
-/// What the place's watcher knew begins what it knows then, and so do the publisher's updates; one of these two is all
-/// that it knows. Over this list each viewer that the place's door let in, in turn, was served whole screens in the
-/// place's role, and no more was sent of its input than the role allows (`IsServedWhole`). Where they only look on the
-/// sender has sent nothing.
+/// What the place's watcher knew before begins what it knows then, and so do the publisher's updates; the longer of
+/// these two is all that it knows. Over this list each viewer that the place's door let in was served whole screens in
+/// the place's role, one viewer after another, and no more was sent of its input than the role allows
+/// (`IsServedWhole`). Where the viewers only look on, the sender has sent nothing.
 pub fn join_place<J, D, R>(
     rt: &R,
     handle: PlaceHandle<Watcher<J>, D, R>,

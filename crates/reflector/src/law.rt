@@ -1,4 +1,4 @@
-//! What the visits of a place have in common.
+//! Laws about the visits of a place.
 
 ghost use Rattle.std.specs.Prelude.{◌≡◌, ◌≤◌, ◌+◌, ◌∷◌, [], List, length};
 ghost use Rattle.raster.specs.Update.{Update, view};
@@ -19,14 +19,15 @@ use reflect_core::ScreenSource;
 use roles::InputSink;
 use run_traits::Door;
 
-/// Each visit of a place is of one list: what its source knew before each of them begins what it knows in the end.
+/// All visits of a place are of one list: what the place's source knew before each of them begins what it knows in the
+/// end.
 pub fn visits_are_of_one_list<S: ScreenSource, K: InputSink, D: Door, F: StopFlag>()
     ensures { (stop : F) (s : Setup) (role : roles.Role) (old : At D S) (befores : List (At D S)) (last : At D S)
         → AreVisits D.lets_in D.sees_off (λ source_old source_new sent_old sent_new why left. IsReceived S.looks S.cuts S.may_end (F.was_set stop) K.may_refuse S.known s role source_old source_new sent_old sent_new why left) old befores last
         → AllBegin S.known befores last }
 {}
 
-/// The visits of a place keep the promise, over each list that begins with what its source knows in the end.
+/// The visits of a place keep the promise, over each list that begins with what the place's source knows in the end.
 pub fn visits_keep_the_promise<S: ScreenSource, K: InputSink, D: Door, F: StopFlag>()
     ensures { (stop : F) (s : Setup) (role : roles.Role) (old new : At D S) → s.w ≤ 4096 → s.h ≤ 4096
         → HasVisits D.lets_in D.sees_off (λ source_old source_new sent_old sent_new why left. IsReceived S.looks S.cuts S.may_end (F.was_set stop) K.may_refuse S.known s role source_old source_new sent_old sent_new why left) old new

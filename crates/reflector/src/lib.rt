@@ -2,8 +2,8 @@
 //! that reads it.
 //!
 //! `run_all` takes memory as it begins, and fails where it is refused (`Memory`) or no place is left (`NoPlace`). It
-//! starts threads and waits for them, so it takes a handle that may. No clause says that a thread gets on, or that a
-//! call returns.
+//! starts threads and waits for them, so it takes a handle that may do so. No clause says that a thread makes progress,
+//! or that a call returns.
 #![tactic(auto)]
 
 mod context;

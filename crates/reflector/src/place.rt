@@ -45,10 +45,10 @@ pub struct Place<S, D, R: Wait + Drop> {
     pub sender: Sender<R>,
 }
 
-/// That a place gives back the door, the watcher and the sender that it began with, after its visits: each viewer that
-/// the door let in, in turn, was served in this role and form, over a screen of this size and name (`IsReceived`). So it
-/// keeps the promise of the program: all of them were shown whole screens of one list, and no more went on of their
-/// input than the role allows (`KeepsPromise`).
+/// The promise that a place gives back the door, the watcher and the sender that it began with, after its visits: each
+/// viewer that the door let in was served in turn, in this role and form, over a screen of this size and name
+/// (`IsReceived`). So the place keeps the promise of the program: all of its viewers were shown whole screens of one
+/// list, and no more of their input went on than the role allows (`KeepsPromise`).
 #[derive(Drop)]
 pub struct OfPlace<S, D, R: Wait + Drop> {
     pub role: Role,
@@ -75,7 +75,7 @@ impl<S: ScreenSource, D: Door, R: Wait + Drop> Promise<Place<S, D, R>> for OfPla
 /// The thread of a place.
 pub type PlaceHandle<S, D, R> = PromisedHandle<Place<S, D, R>, OfPlace<S, D, R>>;
 
-/// Rests for a moment: the relay is full, and whoever takes of it rings no alarm.
+/// Rests for a moment where the relay is full, since taking an input from it rings no alarm.
 #[derive(Drop)]
 struct Nap<R: Clock + Drop> {
     clock: R,
@@ -87,8 +87,8 @@ impl<R: Clock + Drop> Rest for Nap<R> {
     }
 }
 
-/// Serves one viewer, and answers how many answers were begun, and how it ended. One for whom there is no memory is let
-/// go (`Memory`).
+/// Serves one viewer, and answers how many answers were begun and how serving ended. A viewer for which memory is
+/// refused is let go (`Memory`).
 fn receive<L: Link, S: ScreenSource, K: InputSink, F: StopFlag, Z: Rest, R: Wait>(
     rt: &R,
     maker: &SessionMaker,
@@ -140,7 +140,7 @@ fn serve_viewers<S: ScreenSource, K: InputSink, D: Door, F: StopFlag, Z: Rest, R
     unreachable!()
 }
 
-/// The same with the sender that T names as the sink, after each input of which the alarm is rung.
+/// The same as `serve_viewers`, with the sender that `T` names as the sink. The alarm is rung after each of its inputs.
 fn serve_from<
     T: Seat,
     S: ScreenSource,

@@ -27,9 +27,9 @@ pub(crate) struct HostsRead<L: Link, H: Hosts<L>, P: Drop> {
     pub(crate) publisher: P,
 }
 
-/// That this link was read to its end, and then those of further hosts in turn, and what they brought was put to this
-/// publisher. Where the first host of the supply has its turn again it ended only with an answer after which no host is
-/// taken.
+/// The promise that this link was read to its end, and then the links of further hosts in turn, and that what they
+/// brought was put to this publisher. Where the first host has its turn again, the thread ended only with an answer
+/// after which no host is taken.
 #[derive(Drop)]
 pub(crate) struct OfHosts<L: Link, H: Hosts<L>, P: Puts> {
     pub(crate) width: u64,

@@ -50,15 +50,15 @@ pub struct Running<L, H, P, S: ScreenSource, D: Door, R: Wait + Drop> {
     pub hosts: H,
     /// The screen, with all that was put.
     pub publisher: P,
-    /// The links that the hosts were told over, in turn: each as it came, and then as it was left.
+    /// The links over which the hosts were told, in turn: each as it came, and then as it was left.
     pub written: Written<L>,
     /// What took the viewers' input.
     pub taker: Taker<R>,
-    /// Whose key or button is down, of what was taken, and how many inputs of each place weren't told.
+    /// Whose key or button is down after what was taken, and how many inputs of each place weren't told.
     pub strokes: Strokes,
-    /// How many weren't told of all places.
+    /// How many inputs of all places weren't told.
     pub dropped: u64,
-    /// The places, by their numbers, each still to be joined: it gives back its watcher and its sender.
+    /// The places, by their numbers. Each is still to be joined, and then gives back its watcher and its sender.
     pub places: Vec<PlaceHandle<S, D, R>>,
 }
 
@@ -104,7 +104,8 @@ where
     Ok(places)
 }
 
-/// Starts all threads: the places', the host's writer's, and last the one that reads the hosts. Nothing is put before.
+/// Starts all threads: those of the places, that of the host's writer, and last the one that reads the hosts. Nothing
+/// is put before.
 fn start_all<L, H, P, S, D, B, W, R>(
     context: &RunContext<R, B, W>,
     handover: &Arc<Handover<L, W>, Global>,
@@ -212,7 +213,7 @@ where
     }
 }
 
-/// The relay of a run, of which whoever watches the run has a gauge. It fails where memory is refused (`Memory`).
+/// The relay of a run, and its gauge for those who watch the run. It fails where memory is refused (`Memory`).
 fn watched_relay<B, W, R>(
     context: &RunContext<R, B, W>,
     places: u64,
@@ -288,27 +289,28 @@ where
 /// Runs a reflector: a first host that was joined, over its two links, then the hosts of a supply in turn, and the
 /// places of their viewers, each behind its door.
 ///
-/// A thread for each place serves one viewer after another, one tells the hosts what they have to be told, and one
-/// reads them. The call waits until the last host is read, tells the others to end, and waits for the one that tells the
-/// hosts. A place ends once its viewer has left; whoever wants what it gives back joins it.
+/// Each place has a thread, which serves one viewer after another. A further thread tells the hosts what they have to
+/// be told, and another reads them. The call waits until the last host is read, tells the other threads to end, and
+/// waits for the one that tells the hosts. A place ends once its viewer has left. The caller joins a place for what
+/// that gives back.
 ///
-/// Where a host ended between two messages or inside one, or its link failed, the next one is taken of the supply and
-/// joined over the end that is read. If that has the screen's size the screen turns black, and the host is read as the
-/// first was. If it doesn't the run ends with `BadScreen`. A host that can't be joined is passed over where it has
-/// another version, refuses, offers no type None, ended the handshake as failed, or its link failed or ended. Every
-/// other fault ends the run, and so does the last of the supply, with the last answer. There is no last one where the
-/// first has its turn again.
+/// Where a host ended between two messages or inside one, or its link failed, the next host is taken from the supply
+/// and joined over the end that is read. If it has the screen's size, the screen turns black, and the host is read as
+/// the first was. If it hasn't, the run ends with `BadScreen`. A host that can't be joined is passed over where it has
+/// another version, refuses, doesn't offer security type None or reports a failed handshake, or where its link failed
+/// or ended. Every other fault ends the run, and so does the end of the supply, with the last answer. The supply has no
+/// end where the first host has its turn again.
 ///
-/// Each door is for the role that stands beside it, in which its place serves its viewers. All of them are answered in
-/// one of the two forms (`joined_runs`).
+/// Each door is for the role that stands beside it, in which its place serves its viewers. All viewers are answered in
+/// the same one of the two forms (`joined_runs`).
 ///
-/// `everyone` is rung after each put: whoever waits for news, the hosts' writer too. `writer_bell` is rung after each
-/// input. The hosts' writer goes on with each host that is read; what was cut short at the end of one isn't written
-/// again. At `input` it is read meanwhile how many inputs wait, and how many weren't told.
+/// `everyone`, the alarm of all that wait for news, including the hosts' writer, is rung after each put. `writer_bell`
+/// is rung after each input. The hosts' writer goes on with each host that is read; what was cut short at the end of
+/// one host isn't written again. Meanwhile `input` tells how many inputs wait, and how many weren't told.
 ///
-/// `Memory` where memory is refused or a thread can't be made, `NoPlace` where the shared screen has no place: then
-/// nothing was put, and the threads that were started are told to end and aren't waited for. Once all threads are there
-/// refused memory is an answer of the run.
+/// It fails with `Memory` where memory is refused or a thread can't be made, and with `NoPlace` where the shared screen
+/// has no place. Then nothing was put, and the threads that were started are told to end and aren't waited for. Once
+/// all threads are there, refused memory is an answer of the run.
 pub fn run_all<J, L, H, D, B, W, R>(
     rt: R,
     alloc: Global,

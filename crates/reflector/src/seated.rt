@@ -1,4 +1,4 @@
-//! The sender of one place, whatever it sends.
+//! The sender of one place, known by a name.
 
 ghost use Rattle.std.specs.Prelude.{◌≡◌, ◌⊎◌};
 ghost use Rattle.fault.specs.declared.kinds.Fault.TheVariants.{QueueFull, NumbersOut};
@@ -11,7 +11,7 @@ use std::marker::{Brand, PhantomData};
 use std::sync::Wait;
 
 /// Names a sender: its relay, and its place there. A sink of that name stays that sender, whatever it is lent to. No
-/// value of it is made.
+/// value of such a type is ever made. It isn't the seat at which a place's thread waits (`connections::Seat`).
 pub(crate) trait Seat {
     ghost use Rattle.std.specs.Prelude.{ℕ};
     ghost use Rattle.atomic_table.specs.Seated.{TableId};
@@ -31,7 +31,7 @@ impl Seat for Brand {
     ghost place = { 0 };
 }
 
-/// The sender of that name.
+/// The sender that has this name.
 #[derive(Drop)]
 pub(crate) struct Seated<T: Seat, R: Wait + Drop> {
     sender: Sender<R>,

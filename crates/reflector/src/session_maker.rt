@@ -1,4 +1,4 @@
-//! What a viewer is welcomed with.
+//! Makes the sessions of a place's viewers.
 
 ghost use Rattle.std.specs.Prelude.{◌≡◌, ◌≤◌, length, true, None, IfOk, IfErr};
 ghost use Rattle.fault.specs.declared.kinds.Fault.TheVariants.{Memory};
@@ -31,7 +31,7 @@ pub(crate) struct SessionMaker {
 }
 
 impl SessionMaker {
-    /// It fails where memory is refused for the name (`Memory`).
+    /// A maker of sessions. It fails where memory for the name is refused (`Memory`).
     pub(crate) fn new(
         alloc: Global,
         width: u64,

@@ -1,4 +1,4 @@
-//! Which hosts are told.
+//! Which hosts are told, and over which links.
 
 ghost use Rattle.std.specs.Prelude.{◌≡◌, [], ◌∷◌, ◌++◌, IfSome, IsNone};
 ghost use Rattle.link.specs.Links.{LinkState};
@@ -11,8 +11,8 @@ use run_traits::Alarm;
 use std::alloc::Global;
 use std::sync::{Arc, Wait};
 
-/// Where the hosts come from that are told, one after another. It is the flag of the host that is told: it is set once
-/// that host is left.
+/// Where the hosts come from that are told, one after another. It is also the flag of the host that is told, and is set
+/// once that host was left.
 pub(crate) trait LinkTurns<L: Link>: StopFlag + Drop {
     ghost use Rattle.std.specs.Prelude.{List};
 
@@ -38,7 +38,7 @@ pub(crate) struct Round<L: Link, W: Alarm + Drop> {
 }
 
 impl<L: Link, W: Alarm + Drop> Round<L, W> {
-    /// No link has come.
+    /// The hosts of this handover, before any link has come.
     pub(crate) fn new(handover: Arc<Handover<L, W>, Global>) -> Round<L, W>
         ensures { links_in L.state result.written ≡ [] }
     {
@@ -49,7 +49,7 @@ impl<L: Link, W: Alarm + Drop> Round<L, W> {
         }
     }
 
-    /// The links of all that were told.
+    /// The links of all hosts that were told.
     pub(crate) fn into_written(self) -> Written<L>
         ensures { result ≡ self.written }
     {

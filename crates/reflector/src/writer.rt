@@ -26,8 +26,8 @@ use std::sync::{Arc, Wait};
 use std::thread;
 use std::thread::{Promise, PromisedHandle, Threads};
 
-/// What telling the hosts came to: over which links, what took the viewers' input, whose key or button is down of what
-/// was taken, and how many inputs of all places weren't told.
+/// What telling the hosts came to: the links over which they were told, the taker of the viewers' input, whose key or
+/// button is down after what was taken, and how many inputs of all places weren't told.
 #[derive(Drop)]
 pub(crate) struct HostsTold<L, R: Wait + Drop> {
     pub(crate) written: Written<L>,
@@ -36,8 +36,8 @@ pub(crate) struct HostsTold<L, R: Wait + Drop> {
     pub(crate) dropped: u64,
 }
 
-/// That the taker comes back that the thread began with, after hosts were told one after another what it took, and that
-/// what wasn't told was counted from the first on.
+/// The promise that the thread gives back the taker with which it began, after one host after another was told what the
+/// taker took, and that every input that wasn't told was counted.
 #[derive(Drop)]
 pub(crate) struct OfTaker<S, R: Wait + Drop> {
     pub(crate) source: Snapshot<S>,
@@ -58,8 +58,8 @@ impl<L: Link, S: ScreenSource, R: Wait + Drop> Promise<HostsTold<L, R>> for OfTa
 /// The thread that tells the hosts.
 pub(crate) type WriterHandle<L, S, R> = PromisedHandle<HostsTold<L, R>, OfTaker<S, R>>;
 
-/// Tells one host after another, each until it is left or its link ends, and the rest of the input goes on to the next.
-/// A fault of a link isn't told: the reader's tells it.
+/// Tells one host after another, each until it is left or its link ends. The rest of the input goes on to the next
+/// host. A fault of a link isn't answered here, since the reader's link shows it.
 fn write<L: Link, E: LinkTurns<L>, S: ScreenSource + Drop, D: DropCount, Z: Rest, R: Wait + Drop>(
     rt: &R,
     turns: &mut E,
@@ -93,7 +93,7 @@ fn write<L: Link, E: LinkTurns<L>, S: ScreenSource + Drop, D: DropCount, Z: Rest
     unreachable!()
 }
 
-/// The same of the hosts of a handover.
+/// Tells the hosts of a handover, as `write` does.
 fn tell<L: Link, W: Alarm + Drop, S: ScreenSource + Drop, Z: Rest, R: Wait + Drop>(
     rt: &R,
     handover: Arc<Handover<L, W>, Global>,

@@ -12,12 +12,12 @@ use std::snapshot::Snapshot;
 enum Trail<L> {
     /// No link was noted.
     Nothing,
-    /// These, and then this one.
+    /// These links, and then this one.
     Then(Snapshot<Trail<L>>, Snapshot<L>),
 }
 
-/// The links that hosts were told over, one after another: each as it came, and then as it was left. It has no bytes:
-/// only clauses read it (`links_in`).
+/// The links over which hosts were told, one after another: each as it came, and then as it was left. At run time it
+/// has no bytes: only clauses read it (`links_in`).
 #[derive(Drop)]
 pub struct Written<L> {
     trail: Snapshot<Trail<L>>,
@@ -33,7 +33,7 @@ impl<L: Link> Written<L> {
         }
     }
 
-    /// And then this link, as it is now.
+    /// Notes this link, as it is now, after those before.
     pub(crate) fn note(&mut self, link: &L)
         ensures { links_in L.state self.new ≡ links_in L.state self.old ++ L.state link.now ∷ [] }
     {

@@ -1,6 +1,6 @@
-//! Scripts, played over the world of `reflect_world`.
+//! Plays scripts over the world of `reflect_world`.
 //!
-//! Memory: that of the world, a line and what is printed of it.
+//! Memory: that of the world, of one line of the script, and of what is printed for it.
 //! Handles: none. `replay` reads and writes through what it is given.
 #![tactic(auto)]
 
@@ -31,13 +31,14 @@ const LARGEST: u64 = 4096;
 /// Room for inputs on their way to the host.
 const ROOM: u64 = 1 << 62;
 
-/// A number of bytes that is greater than that of any unsent bytes, so that all of them are written.
+/// More bytes than are ever unsent, so that all unsent bytes are written.
 const ALL: u64 = u64::MAX;
 
 /// Why a script isn't played to its end.
 #[derive(Drop)]
 enum Stop {
-    /// The line of this number has another form, or is on a viewer that isn't open or is open already.
+    /// The line of this number has no valid form, or names a viewer that isn't open, or one to be opened that is open
+    /// already.
     Line(u64),
     /// The reader or the writer failed, the script or one of its lines has no end, or the numbers of updates have run
     /// out.
@@ -112,7 +113,8 @@ fn print_bad_line<W: Write>(alloc: Global, output: &mut W, number: u64) -> Resul
     print(output, format!(in alloc; "line {number}\n")?)
 }
 
-/// Plays it, its viewers answered in the canonical spelling, and answers whether the host's bytes were at fault.
+/// Plays a script whose viewers are answered in the canonical spelling, and answers whether the host's bytes were at
+/// fault.
 fn play_script<B: BufRead, W: Write>(
     alloc: Global,
     input: &mut B,
@@ -135,7 +137,7 @@ fn play_lines<B: BufRead, W: Write>(
     output: &mut W,
 ) -> Result<bool, Stop> {
     let mut line = Vec::new(alloc);
-    // Each line takes a byte at least, and the reads run out long before this many.
+    // Each line has at least one byte, so the reads run out long before there are this many lines.
     for number in 2..u64::MAX {
         if !next_line(input, &mut line)? {
             return Ok(world.host_fault().is_some());
@@ -155,7 +157,7 @@ fn next_line<B: BufRead>(input: &mut B, line: &mut Vec<u8>) -> Result<bool, Stop
         return Ok(false);
     }
     if line.last() == Some(&b'\n') {
-        // The line feed.
+        // This is the line feed.
         let _ = line.pop();
     } else if count as u64 == LONGEST_LINE {
         return Err(Stop::Failed);
@@ -223,7 +225,7 @@ fn play_one(world: &mut World, step: Step) -> Result<(), Stop> {
     }
 }
 
-/// Bytes of the host: each whole message of an update is put.
+/// Adds bytes of the host, and puts the update of each whole message.
 fn host<W: Write>(
     alloc: Global,
     world: &mut World,
@@ -234,13 +236,13 @@ fn host<W: Write>(
     put_all(alloc, world, output)
 }
 
-/// The next host begins, where this one is at no fault: the switch to black is put.
+/// Begins the next host, unless this one is at fault, and puts the switch to black.
 fn next_host<W: Write>(alloc: Global, world: &mut World, output: &mut W) -> Result<bool, Stop> {
     play_one(world, Step::Next)?;
     put_all(alloc, world, output)
 }
 
-/// Puts until no update is left. A fault of the host, also an earlier one, is printed.
+/// Puts until no update is left. It prints a fault of the host, even one that was printed before.
 fn put_all<W: Write>(alloc: Global, world: &mut World, output: &mut W) -> Result<bool, Stop> {
     for _ in 0..ROOM {
         let before = world.updates();
@@ -256,12 +258,12 @@ fn put_all<W: Write>(alloc: Global, world: &mut World, output: &mut W) -> Result
     Ok(true)
 }
 
-/// Whether a viewer is there and not at fault.
+/// Whether a viewer has joined and is at no fault.
 fn is_open(world: &World, viewer: u64) -> bool {
     world.is_joined(viewer) && world.fault(viewer).is_none()
 }
 
-/// A viewer joins, with its hello or after it, unless it is there already.
+/// Has a viewer join, with its hello or after it, unless it has joined already.
 fn join(world: &mut World, viewer: u64, access: Access, greet: bool) -> Result<bool, Stop>
     requires { (1 ≤ viewer) × (viewer ≤ 64) }
 {
@@ -276,7 +278,7 @@ fn join(world: &mut World, viewer: u64, access: Access, greet: bool) -> Result<b
     Ok(true)
 }
 
-/// Bytes of a viewer. A fault is printed, and the viewer is no longer open.
+/// Reads bytes of a viewer. A fault is printed, and the viewer is no longer open.
 fn viewer_bytes<W: Write>(
     alloc: Global,
     world: &mut World,
@@ -297,7 +299,7 @@ fn viewer_bytes<W: Write>(
     Ok(true)
 }
 
-/// While an input of a viewer waits and there is room, it goes into the queue, and the bytes after it are read.
+/// As long as an input of the viewer waits and there is room, sends it to the queue and reads the bytes after it.
 fn send_inputs(alloc: Global, world: &mut World, viewer: u64) -> Result<(), Stop> {
     for _ in 0..ROOM {
         if !world.is_waiting(viewer) || !world.has_room() {
@@ -309,7 +311,7 @@ fn send_inputs(alloc: Global, world: &mut World, viewer: u64) -> Result<(), Stop
     Ok(())
 }
 
-/// A viewer leaves, and may be opened again.
+/// Has a viewer leave. It may be opened again.
 fn leave(world: &mut World, viewer: u64) -> Result<bool, Stop> {
     if !is_open(world, viewer) {
         return Ok(false);
@@ -318,7 +320,7 @@ fn leave(world: &mut World, viewer: u64) -> Result<bool, Stop> {
     Ok(true)
 }
 
-/// All inputs are taken for the host. What it is sent is printed.
+/// Takes all inputs for the host, and prints what the host is sent.
 fn input<W: Write>(alloc: Global, world: &mut World, output: &mut W) -> Result<bool, Stop> {
     let before = world.host_sent().len();
     for _ in 0..ROOM {
@@ -337,7 +339,7 @@ fn input<W: Write>(alloc: Global, world: &mut World, output: &mut W) -> Result<b
     Ok(true)
 }
 
-/// How many inputs of a viewer didn't pass to the host is printed, whether it is open or not.
+/// Prints how many inputs of a viewer didn't pass to the host, whether the viewer is open or not.
 fn dropped<W: Write>(
     alloc: Global,
     world: &World,
@@ -351,7 +353,8 @@ fn dropped<W: Write>(
     Ok(true)
 }
 
-/// A turn of a viewer, with all of its bytes written before it and after it. They are printed.
+/// Has a viewer take its turn, with all of its unsent bytes written before the turn and after it, and prints these
+/// bytes.
 fn turn<W: Write>(
     alloc: Global,
     world: &mut World,
@@ -371,7 +374,7 @@ fn turn<W: Write>(
     Ok(true)
 }
 
-/// What was written to a viewer in its turn, or that it was nothing.
+/// Prints what was written to a viewer in its turn, or that nothing was.
 fn print_written<W: Write>(
     alloc: Global,
     output: &mut W,

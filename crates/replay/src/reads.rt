@@ -1,13 +1,13 @@
-//! A reader that is asked only so often.
+//! A reader with a limit on the number of its reads.
 
 use std::io;
 use std::io::{ErrorKind, Read};
 
-/// Reads from another reader, and fails once that was asked as often as it may be.
+/// Reads from another reader, and fails once that reader was asked as often as it may be.
 #[derive(Drop)]
 pub(crate) struct FewReads<R> {
     reader: R,
-    /// How many more times the reader may be asked.
+    /// How many more times the inner reader may be asked.
     left: u64,
 }
 

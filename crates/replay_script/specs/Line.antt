@@ -7,8 +7,8 @@ use Rattle.replay_script.specs.declared.line.Line.TheVariants.{Screen, Host, Rai
 use Rattle.replay_script.specs.declared.line.Access.{Access}
 use Rattle.replay_script.specs.declared.line.Access.TheVariants.{Full, View}
 
--- Its numbers are in range: a screen has from 1 to 4096 pixels each way and a name of 1 to 255 bytes, viewers are 1 to
--- 64.
+-- The line's numbers are in range: a screen has from 1 to 4096 pixels each way and a name of 1 to 255 bytes, and
+-- viewers are numbered from 1 to 64.
 abbrev pub IsInRange : Line → Type 0
 IsInRange (Screen width height name) = (1 ≤ width) × (width ≤ 4096) × (1 ≤ height) × (height ≤ 4096) × (1 ≤ length name.now) × (length name.now ≤ 255)
 IsInRange (Host bytes) = Unit {0}
@@ -22,7 +22,7 @@ IsInRange Input = Unit {0}
 IsInRange Next = Unit {0}
 IsInRange (Dropped viewer) = (1 ≤ viewer) × (viewer ≤ 64)
 
--- Its first word.
+-- The line's first word.
 abbrev pub word_of : Line → List ℕ
 word_of (Screen width height name) = codes "screen"
 word_of (Host bytes) = codes "host"
@@ -63,7 +63,7 @@ Says Input text = text ≡ codes "input"
 Says Next text = text ≡ codes "next"
 Says line text = (rest : List ℕ) × (text ≡ word_of line ++ (blank ∷ rest)) × SaysBehind line rest
 
--- What was read after a word is such a line, and None where there is none.
+-- What was read after this word is a line that the text spells, and None where the text spells none.
 pub record ReadsBehind (word text : List ℕ) (found : Option Line) : Type 0 where
   pub some : IfSome found (λ line. IsInRange line × (word_of line ≡ word) × SaysBehind line text)
   pub none : IfNone found ((line : Line) → IsInRange line → word_of line ≡ word → ¬ SaysBehind line text)

@@ -1,4 +1,4 @@
--- How a script spells bytes: what it gives, HEX, and what is printed for it, BYTES.
+-- How bytes are spelled: HEX in a script, and BYTES in what is printed for it.
 use Rattle.std.specs.Prelude.{◌≡◌, ◌≢◌, ℕ, ◌<◌, List, [], ◌∷◌, length, map, Ok, All}
 use Rattle.std.specs.List.{AllPass, concat, join_with_byte}
 use Rattle.hex.specs.Hex.{decode_of, encode_upper, is_hex_digit}
@@ -7,7 +7,7 @@ use Rattle.hex.specs.Hex.{decode_of, encode_upper, is_hex_digit}
 abbrev pub blank : ℕ
 blank = 32
 
--- A word: one or more bytes, none a blank.
+-- A word: one or more bytes, none of them a blank.
 abbrev pub IsWord : List ℕ → Type 0
 IsWord word = (0 < length word) × All (λ b. b ≢ blank) word
 

@@ -32,8 +32,8 @@ pub fn script_bytes(alloc: Global, text: &str) -> Result<Option<Vec<u8>>, Fault>
     }
 }
 
-/// The words of a text that are divided by one blank each, joined; `None` where a blank stands at either end or beside
-/// another, or there is no byte.
+/// The words of a text, joined without the single blanks between them. It is `None` where a blank stands at either end
+/// or beside another, or where the text has no byte.
 fn joined(alloc: Global, text: &[u8]) -> Result<Option<Vec<u8>>, AllocError>
     ensures found { IfOk result (λ found. IfSome found (λ digits. (words : List (List ℕ)) × IsDivided text.now words × (digits.items ≡ concat words))) }
     ensures none { IfOk result (λ found. IfNone found ((words : List (List ℕ)) → ¬ IsDivided text.now words)) }

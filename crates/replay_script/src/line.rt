@@ -15,41 +15,42 @@ use std::alloc::Global;
 /// What a viewer of a script may do.
 #[derive(Clone, Copy, Debug, PartialEq, Eq)]
 pub enum Access {
-    /// See the screen and send input.
+    /// It sees the screen and sends input.
     Full,
-    /// See the screen.
+    /// It only sees the screen.
     View,
 }
 
 /// What a line of a script says.
 #[derive(Debug, Drop)]
 pub enum Line<'a> {
-    /// The screen's width and height in pixels, and its name: the first line, and only that.
+    /// The screen's width and height in pixels, and its name. The first line says this, and no other does.
     Screen(u64, u64, &'a str),
-    /// Bytes of the host.
+    /// These bytes come from the host.
     Host(Vec<u8>),
     /// The tally becomes the number of updates.
     Raise,
-    /// A viewer joins, its hello done.
+    /// A viewer joins whose hello counts as done.
     Open(u64, Access),
     /// A viewer joins, and begins with its hello.
     Greet(u64, Access),
-    /// Bytes of a viewer.
+    /// These bytes come from a viewer.
     Viewer(u64, Vec<u8>),
-    /// A turn of a viewer.
+    /// A viewer has a turn.
     Turn(u64),
     /// A viewer leaves.
     Leave(u64),
     /// All inputs go to the host, but for those that break into another viewer's stroke.
     Input,
-    /// How many inputs of a viewer didn't go to the host is asked for.
+    /// The script asks how many inputs of a viewer didn't go to the host.
     Dropped(u64),
     /// The host has ended, and the next one begins.
     Next,
 }
 
 impl<'a> Line<'a> {
-    /// Reads a line, without its line feed. `None` where it has another form. Its only fault is `Memory`.
+    /// Reads a line, without its line feed. It answers `None` where the line has no valid form. Its only fault is
+    /// `Memory`.
     pub fn read(alloc: Global, line: &'a str) -> Result<Option<Line<'a>>, Fault>
         ensures in_range { IfOk result (λ found. IfSome found IsInRange) }
         ensures says { IfOk result (λ found. IfSome found (λ said. Says said line.now)) }

@@ -1,4 +1,4 @@
-//! Lines of worlds, sessions and what is held: what is done, and what is seen then.
+//! Lines of worlds, of sessions and of what a viewer holds: what is done, and what is seen then.
 
 use fault::Fault;
 use replay_script::script_bytes;
@@ -8,7 +8,7 @@ use std::alloc::Global;
 /// The type of the one message that is sent here and isn't known.
 const UNKNOWN: u8 = 7;
 
-/// A word, a number, and what stands behind them.
+/// A word, a number, and what follows them.
 #[derive(Clone, Copy)]
 pub struct Act<'a> {
     pub word: &'a str,
@@ -17,7 +17,7 @@ pub struct Act<'a> {
 }
 
 impl<'a> Act<'a> {
-    /// Reads `WORD NUMBER`, behind which a blank and more may stand.
+    /// Reads `WORD NUMBER`, which a blank and more may follow.
     pub fn read(line: &'a str) -> Option<Self> {
         let (word, behind) = line.split_once(' ')?;
         let (number, rest) = behind.split_once(' ').unwrap_or((behind, ""));
@@ -28,7 +28,8 @@ impl<'a> Act<'a> {
         })
     }
 
-    /// The bytes that stand behind the number, or none where nothing does. `None` where that is no HEX.
+    /// The bytes that follow the number, or no bytes where nothing follows. It answers `None` where what follows is no
+    /// HEX.
     pub fn bytes(&self, alloc: Global) -> Option<Vec<u8>> {
         if self.rest.is_empty() {
             return Some(Vec::new(alloc));
@@ -36,7 +37,7 @@ impl<'a> Act<'a> {
         script_bytes(alloc, self.rest).ok()?
     }
 
-    /// The number that stands behind the first.
+    /// The number that follows the first.
     pub fn second(&self) -> Option<u64> {
         self.rest.parse::<u64>().ok()
     }

@@ -1,10 +1,10 @@
-//! Scripts with what they are to do, as they lie in files.
+//! Scripts with what they should do, as they lie in files.
 
 use replay::replay;
 use std::alloc::Global;
 use std::test::Fail;
 
-/// A script, what it is to print, and its exit status.
+/// A script, what it should print, and its exit status.
 #[derive(Clone, Copy)]
 pub struct Case<'a> {
     pub name: &'a str,
@@ -39,7 +39,7 @@ pub fn plays(alloc: Global, script: &[u8], printed: &str, status: u8) -> bool {
     replay(alloc, script, &mut output) == status && output.as_slice() == printed.as_bytes()
 }
 
-/// Lines that no script may have at one place, and what it prints that has one there.
+/// Lines that no script may have at one place, and what a script with such a line there prints.
 #[derive(Clone, Copy)]
 pub struct Place {
     before: &'static str,

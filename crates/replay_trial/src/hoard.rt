@@ -8,7 +8,7 @@ const SMALL: usize = 1032;
 /// Sizes of small blocks differ by this much. The smallest that is worth taking has 24 bytes.
 const STEP: usize = 16;
 
-/// What is opened as a hole has this much more at its front, so that it isn't small.
+/// A block that is opened as a hole has this many more bytes at its front, so that it isn't small.
 const FRONT: usize = 4096;
 
 /// Blocks that are kept from others.
@@ -72,7 +72,8 @@ impl Hoard {
         self.take_large(most) && self.take_small()
     }
 
-    /// Takes all blocks of at most so many bytes, but leaves a hole of this many, and answers whether more is refused.
+    /// Takes all blocks of at most `most` bytes, but leaves a hole of `hole` bytes, and answers whether more is
+    /// refused.
     pub fn close(&mut self, most: usize, hole: usize) -> bool {
         let Ok(wide) = Vec::<u8>::with_capacity(self.alloc, hole.saturating_add(FRONT)) else {
             return false;

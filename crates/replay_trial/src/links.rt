@@ -87,7 +87,7 @@ fn spells(alloc: Global) -> Result<bool, Fail> {
     )
 }
 
-/// Says of each of these whether it does as told.
+/// Says for each of these whether it does as told.
 pub fn play_links(rt: &HostRuntime) -> Result<(), Fail> {
     let alloc = rt.alloc();
     let later = b"screen 2 1 T\nopen 1 full\nturn 1\nraise\xC3\nturn 1\n";

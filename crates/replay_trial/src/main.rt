@@ -1,8 +1,9 @@
 //! Plays scripts, and counts those that do as they are told.
 //!
-//! `scripts` has whole scripts and `real_hosts` such with what real hosts sent, `bad_lines` lines that no script may
-//! have, and `first_lines` lines that none may begin with. `examples` has those that `examples/README.md` tells of, and
-//! `growths` those that are played while memory is refused. `steps` has worlds and sessions, step by step.
+//! `scripts` has whole scripts, and `real_hosts` has scripts with what real hosts sent. `bad_lines` has lines that no
+//! script may have, and `first_lines` has lines that no script may begin with. `examples` has the scripts that
+//! `examples/README.md` tells of, and `growths` has those that are played while memory is refused. `steps` has worlds
+//! and sessions, step by step.
 #![tactic(auto)]
 
 mod act;
@@ -27,7 +28,7 @@ use std::test::Fail;
 use steps::play_steps;
 
 fn main(rt: HostRuntime) -> Result<(), Fail> {
-    // First, while nothing else has used the heap.
+    // This comes first, while nothing else has used the heap.
     refuse_growths(&rt, "growths")?;
     play_examples(&rt)?;
     play_scripts(&rt, "scripts")?;
@@ -38,7 +39,8 @@ fn main(rt: HostRuntime) -> Result<(), Fail> {
     play_steps(&rt, "steps")
 }
 
-/// Plays the scripts of a file, names those that do otherwise than told, and says how many there are.
+/// Plays the scripts of a file, names those that do something else than they are told, and says how many scripts there
+/// are.
 fn play_scripts(rt: &HostRuntime, file: &str) -> Result<(), Fail> {
     let text = fs::read_to_string(rt, file)?;
     let mut count: u64 = 0;

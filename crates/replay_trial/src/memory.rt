@@ -1,8 +1,8 @@
 //! Plays scripts on the heap that the programs have, where each growth in turn is refused.
 //!
-//! All of the process's address space is taken but for a reserve, so that the C library refuses memory. While one line
-//! of a script is played the reserve is taken, too, but for a hole: of no bytes at first, and then ever larger, until
-//! the line meets no refusal. Nothing of it is written to, and other processes have what they had.
+//! All of the process's address space is taken except a reserve, so that the C library refuses memory. While one line
+//! of a script is played the reserve is taken, too, except a hole. The hole has no bytes at first, and then ever more,
+//! until the line meets no refusal. None of this memory is written to, and other processes keep what they had.
 
 use crate::hoard::Hoard;
 use crate::lines::Lines;
@@ -12,7 +12,7 @@ use std::alloc::{AllocError, Global};
 use std::fs;
 use std::test::Fail;
 
-/// The address space has this many bytes, in at most so many blocks as the system gives.
+/// The address space has this many bytes. The system gives them in at most `BLOCKS` blocks.
 const SPACE: usize = 1 << 47;
 
 const BLOCKS: usize = 1 << 16;
@@ -22,29 +22,29 @@ const RESERVE: usize = 1 << 23;
 
 const PIECES: usize = 1 << 12;
 
-/// More bytes than a script prints.
+/// This is more bytes than a script prints.
 const PRINTED: usize = 1 << 16;
 
-/// A hole is larger than the one before it by so many bytes. There are at most so many.
+/// A hole has this many bytes more than the one before it. There are at most `HOLES` of them.
 const STEP: usize = 16;
 
 const HOLES: usize = 1 << 16;
 
-/// Where steps aren't fine, they grow by as much for each so many bytes that a hole has.
+/// Where steps aren't fine, a step grows by `STEP` for each `WIDE` bytes that the hole has.
 const WIDE: usize = 1024;
 
 /// Memory that is refused, and room for what a script prints.
 #[derive(Drop)]
 struct Trial {
     alloc: Global,
-    // All but the reserve.
+    // All memory except the reserve.
     taken: Hoard,
     hoard: Hoard,
     output: Vec<u8>,
 }
 
 impl Trial {
-    /// Takes all memory but the reserve. It answers None where it is never refused.
+    /// Takes all memory except the reserve. It answers None where memory is never refused.
     fn new(alloc: Global) -> Result<Option<Trial>, AllocError> {
         let mut taken = Hoard::new(alloc, BLOCKS)?;
         let hoard = Hoard::new(alloc, PIECES)?;

@@ -3,7 +3,7 @@
 /// What came of playing a script.
 #[derive(Clone, Copy, PartialEq, Eq)]
 pub enum Outcome {
-    /// It printed all of its lines, and ended well.
+    /// It printed all of its lines, and ended without a fault.
     Whole,
     /// It printed the first of its lines, each whole, and ended for want of memory; or a viewer's text was lost.
     Refused,
@@ -21,7 +21,7 @@ pub struct Case<'a> {
 }
 
 impl<'a> Case<'a> {
-    /// Reads a name and a line feed, the script, `>` and a line feed, and what is printed; behind a further `>` stands
+    /// Reads a name and a line feed, the script, `>` and a line feed, and what is printed. After a further `>` comes
     /// what is printed without the text.
     pub fn read(text: &'a str) -> Option<Self> {
         let (name, rest) = text.split_once('\n')?;
@@ -42,7 +42,7 @@ impl<'a> Case<'a> {
         })
     }
 
-    /// What it is to print this with this status.
+    /// What came of a script that printed this with this status.
     pub fn outcome(&self, status: u8, output: &[u8]) -> Outcome {
         match status {
             0 if output == self.printed.as_bytes() => Outcome::Whole,

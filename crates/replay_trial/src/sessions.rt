@@ -13,7 +13,7 @@ use roles::{Held, Role};
 use std::alloc::Global;
 use viewer_session::Session;
 
-/// Plays the lines over a new session, with its hello or after it, and answers the first that comes out otherwise.
+/// Plays the lines over a new session, with its hello or after it, and answers the first line that comes out otherwise.
 pub fn play_session<'a>(
     alloc: Global,
     width: u64,
@@ -37,7 +37,7 @@ pub fn play_session<'a>(
     otherwise(alloc, &mut session, &mut screen, lines)
 }
 
-/// Plays the lines, and answers the first that comes out otherwise.
+/// Plays the lines, and answers the first line that comes out otherwise.
 fn otherwise<'a>(
     alloc: Global,
     session: &mut Session,
@@ -123,7 +123,7 @@ fn does(alloc: Global, session: &mut Session, act: &Act<'_>) -> bool
     }
 }
 
-/// Feeds bytes, of which so many are used, or which are at fault.
+/// Feeds bytes. As many of them are used as the line says, or they are at fault.
 fn feeds(alloc: Global, session: &mut Session, act: &Act<'_>) -> bool
     ensures { (session.new.width ≡ session.old.width) × (session.new.height ≡ session.old.height) }
 {
@@ -167,7 +167,7 @@ fn is_so(session: &Session, act: &Act<'_>) -> bool {
     }
 }
 
-/// Plays the lines over what a viewer of this role holds, and answers the first that comes out otherwise.
+/// Plays the lines over what a viewer of this role holds, and answers the first line that comes out otherwise.
 pub fn play_held<'a>(role: Role, lines: &'a str) -> Option<&'a str> {
     let mut held = Held::new();
     for line in lines.lines() {

@@ -15,7 +15,7 @@ const LARGEST: u64 = 4096;
 /// Where bytes come in two pieces they are cut at each place up to this one.
 const LAST_CUT: usize = 24;
 
-/// A world, a session or what is held, on a screen of this size, with what is done and what is seen.
+/// A world, a session or what a viewer holds, on a screen of this size, with what is done and what is seen.
 #[derive(Clone, Copy)]
 struct Case<'a> {
     kind: &'a str,
@@ -57,7 +57,7 @@ impl<'a> Case<'a> {
         }
     }
 
-    /// The same of a world whose viewer's bytes are cut at one place after the other.
+    /// The first such line of a world whose viewer's bytes are cut, at one place after the other.
     fn otherwise_cut(&self, alloc: Global) -> Option<&'a str>
         requires { IsScreenSize self.now.width self.now.height }
     {

@@ -1,4 +1,4 @@
-//! Worlds, step by step: of what is due only a part is written, and a viewer is named that isn't there.
+//! Worlds, step by step: only a part of what is due is written, and a viewer is named that isn't there.
 
 ghost use Rattle.raster.specs.Size.{IsScreenSize};
 
@@ -14,13 +14,13 @@ use std::slice;
 #[derive(Drop)]
 struct Trial {
     alloc: Global,
-    // All that the viewer was told by now.
+    // All bytes that the viewer was told by now.
     told: Vec<u8>,
-    // Where the bytes of a viewer are cut that come in two pieces.
+    // Where a viewer's bytes that come in two pieces are cut.
     cut: usize,
 }
 
-/// Plays the lines over a new world, with bytes cut at this place, and answers the first that comes out otherwise.
+/// Plays the lines over a new world, with bytes cut at this place, and answers the first line that comes out otherwise.
 pub fn play_world<'a>(
     alloc: Global,
     width: u64,
@@ -47,7 +47,7 @@ fn play_one(world: &mut World, step: Step) -> bool {
 }
 
 impl Trial {
-    /// Plays the lines, and answers the first that comes out otherwise.
+    /// Plays the lines, and answers the first line that comes out otherwise.
     fn otherwise<'a>(&mut self, world: &mut World, lines: &'a str) -> Option<&'a str> {
         for line in lines.lines() {
             let holds = match Act::read(line) {
@@ -78,7 +78,7 @@ impl Trial {
         }
     }
 
-    /// The viewer is to be told these bytes, too.
+    /// Notes that the viewer has to be told these bytes, too.
     fn awaits(&mut self, act: &Act<'_>) -> bool {
         match act.bytes(self.alloc) {
             Some(bytes) => self.told.extend_from_slice(bytes.as_slice()).is_ok(),
@@ -86,7 +86,7 @@ impl Trial {
         }
     }
 
-    /// It is to be told black rows of this width.
+    /// Notes that the viewer has to be told black rows of this width.
     fn awaits_rows(&mut self, width: u64) -> bool {
         match u16::try_from(width) {
             Ok(width) => push_rows(&mut self.told, width).is_some(),
@@ -94,7 +94,7 @@ impl Trial {
         }
     }
 
-    /// The host sends every second tile, and the viewer is to be told these.
+    /// The host sends every second tile, and the viewer has to be told these.
     fn paints_tiles(&mut self, world: &mut World) -> bool {
         let mut tiles = Vec::new(self.alloc);
         push_tiles(&mut self.told).is_some()
@@ -102,8 +102,8 @@ impl Trial {
             && play_one(world, Step::HostBytes(tiles))
     }
 
-    /// The viewer's bytes are written one by one. Only after the last is all written that it is to be told, and one
-    /// more adds nothing.
+    /// The viewer's bytes are written one by one. All that it has to be told is written only after the last byte, and
+    /// writing one more adds nothing.
     fn gets_singly(&self, world: &mut World, viewer: u64) -> bool {
         let left = self.told.len().saturating_sub(world.written(viewer).len());
         for _ in 0..left {
@@ -135,7 +135,7 @@ impl Trial {
         }
     }
 
-    /// The bytes before the cut, or those behind it.
+    /// The bytes before the cut, or those after it.
     fn piece(&self, act: &Act<'_>) -> Option<Vec<u8>> {
         let bytes = act.bytes(self.alloc)?;
         let (before, behind) = bytes.as_slice().split_at(self.cut.min(bytes.len()));

@@ -30,7 +30,7 @@ MayBe s us p (Turn looked cut) = (may_look s p ≡ true) × (looked ≤ length u
 MayBe s us p (Written count) = p.written + count ≤ length (out_bytes s p)
 MayBe s us p Passed = is_some p.waiting ≡ true
 
--- Each of them may be done after those before it.
+-- Each act may be done after those before it.
 abbrev pub AllMayBe : Setup → List Update → Viewer → List Act → Type 0
 AllMayBe s us p [] = Unit {0}
 AllMayBe s us p (act ∷ acts) = AllMayBe s us p acts × MayBe s us (viewer_after s us p acts) act
@@ -73,7 +73,7 @@ pub record IsDone (s : Setup) (p : Viewer) : Type 0 where
   pub turned : has_turned p.entries ≡ true
   pub written : p.written ≡ length (out_bytes s p)
 
--- The link ended while bytes were unsent, or elsewhere than between two messages after the hello; or it failed.
+-- The link ended while bytes were unsent, or it ended anywhere but between two messages after the hello; or it failed.
 abbrev pub HaltsBy : Fault → Setup → Viewer → (failed_old failed_new : ℕ) → (ended_old ended_new : ℕ) → Type 0
 HaltsBy LinkEnded s p failed_old failed_new ended_old ended_new = HasRisen ended_old ended_new × ((p.written < length (out_bytes s p)) ⊎ (IsBetween p → ⊥))
 HaltsBy LinkFailed s p failed_old failed_new ended_old ended_new = HasRisen failed_old failed_new
@@ -86,15 +86,16 @@ LinkHalts fault s p old new = HaltsBy fault s p old.failed new.failed old.ended 
 abbrev pub IsRefused : (may_refuse : Fault → Type 0) → Fault → Type 0
 IsRefused may_refuse fault = may_refuse fault × (fault ≡ QueueFull → ⊥)
 
--- Of all that was to go to the sink it took this much, and refused the next for good. That and the rest were given up.
+-- The sink took the first of all inputs and refused the next one for good. That one and the rest were given up.
 pub record GivesUp (may_refuse : Fault → Type 0) (fault : Fault) (sent all : List Input) : Type 0 where
   pub refused : IsRefused may_refuse fault
   pub input : Input
   pub rest : List Input
   pub left : all ≡ sent ++ input ∷ rest
 
--- The flag was set; the link said that it ended, and all was done; the viewer is at this fault; the source has ended,
--- which was looked at once more; all that is left of the input was given up at this fault; or the link halted.
+-- Serving ended for one of these reasons: the flag was set; the link said that it ended, and all was done; the viewer
+-- is at this fault; all that is left of the input was given up at this fault; the link halted; or the source, which was
+-- looked at once more, has ended.
 abbrev pub EndsServing : {S : Type 0} → (looks : S → ℕ → S → Type 0) → (may_end was_set : Type 0) → (is_given_up : Fault → Type 0) → (behind new : S) → Setup → Viewer → Result (Unit {0}) Fault → (old new : LinkState) → Type 0
 EndsServing {S} looks may_end was_set is_given_up behind source s p (Ok done) old new =
     (source ≡ behind) × (new.failed ≡ old.failed) × ((was_set × (new.ended ≡ old.ended)) ⊎ (HasRisen old.ended new.ended × IsDone s p))
@@ -105,13 +106,14 @@ EndsServing {S} looks may_end was_set is_given_up behind source s p (Err fault) 
 abbrev pub all_allowed : Viewer → List Input
 all_allowed p = allowed p.role (messages_in p.entries) true
 
--- Why not all of it went to the sink: the flag was set, or the sink refused some for good, and then this isn't Ok.
+-- Why the sink didn't take all that is allowed: the flag was set, or, which is never Ok, the sink refused an input for
+-- good.
 abbrev pub IsHeldBack : (was_set : Type 0) → (may_refuse : Fault → Type 0) → Result (Unit {0}) Fault → (sent all : List Input) → Type 0
 IsHeldBack was_set may_refuse (Ok done) sent all = was_set
 IsHeldBack was_set may_refuse (Err fault) sent all = was_set ⊎ ((refused : Fault) × GivesUp may_refuse refused sent all)
 
--- The sink took a beginning of all that is allowed of the viewer, which has left; all that the messages before the last
--- bring; and all of it, unless the flag was set or it refused for good.
+-- The viewer has left. The sink took a beginning of all that is allowed of it: at least all that its messages before
+-- the last bring, and everything unless the flag was set or the sink refused an input for good.
 pub record Relays (was_set : Type 0) (may_refuse : Fault → Type 0) (p : Viewer) (answer : Result (Unit {0}) Fault) (sent_old sent_new : List Input) : Type 0 where
   pub sent : List Input
   pub took : sent_new ≡ sent_old ++ sent
@@ -119,17 +121,17 @@ pub record Relays (was_set : Type 0) (may_refuse : Fault → Type 0) (p : Viewer
   pub all_but_last : Begins (allowed p.role (messages_in (before_last p.entries)) false) sent
   pub whole : (sent ≡ all_allowed p) ⊎ IsHeldBack was_set may_refuse answer sent (all_allowed p)
 
--- After an answer one who follows all answers holds the area asked for, of the screen after the first n of these
--- updates, in the format last taken before the cut; and n is at least every number that was seen or cut at before.
+-- After an answer a follower of all answers holds the area asked for, of the screen after the first n of these updates,
+-- in the format last taken before the cut; and n is at least every number that was seen or cut at before.
 abbrev pub EachAnswerHolds : Setup → List Update → Viewer → Type 0
 EachAnswerHolds s us p =
     (later earlier : List Entry) (area : Rect) (n : ℕ) (bytes : List ℕ) → p.entries ≡ later ++ Began area n bytes ∷ earlier
     → (n ≤ length us) × NumbersUpTo n earlier × HoldsArea (follower s.w s.h (received (Began area n bytes ∷ earlier))) area (take n us)
 
--- A viewer was served: the acts that were done for it are such as may be done; all bytes that were taken are read, but
--- for those after a message whose input waits; what it was given is the beginning of its hello and answers that counts
--- as written; one who follows its answers holds what was asked for; and what the sink took is its input, up to the first
--- that it refused for good, if it did.
+-- A viewer was served. Each act that was done for it may be done. All bytes that were taken are read, but for those
+-- after a message whose input waits. It was given as many bytes of its hello and answers, from the first on, as count
+-- as written. A follower of its answers holds what was asked for. The sink took the viewer's input, up to the first
+-- that it refused for good, if there is one.
 pub record Serves {S : Type 0} (looks cuts : S → ℕ → S → Type 0) (may_end was_set : Type 0) (may_refuse : Fault → Type 0) (source_old source_new : S) (us : List Update) (s : Setup) (p : Viewer)
     (sent_old sent_new : List Input) (answer : Result (Unit {0}) Fault) (old new : LinkState) : Type 0 where
   pub acts : List Act

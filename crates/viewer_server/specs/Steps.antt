@@ -15,7 +15,7 @@ use Rattle.viewer_server.specs.Serving.{AllMayBe, IsShown, bytes_in, EachAnswerH
 use Rattle.viewer_server.specs.declared.breaks.Break.{Break}
 use Rattle.viewer_server.specs.declared.breaks.Break.TheVariants.{At, Refused}
 
--- What has come of a viewer and isn't passed on yet: bytes that aren't read, and an input that isn't in the sink.
+-- What has come from a viewer and isn't passed on yet: bytes that aren't read, and an input that the sink hasn't taken.
 pub record Unpassed : Type 0 where
   pub unread : List ℕ
   pub waiting : Option Input
@@ -28,18 +28,18 @@ all_passed = record { unread = []; waiting = None }
 abbrev pub WaitsIfLeft : Unpassed → Type 0
 WaitsIfLeft box = (box.unread ≡ []) ⊎ (is_some box.waiting ≡ true)
 
--- An input that waits went to the sink, which has room or is full; or it refused the input for good.
+-- The sink is full and the input still waits; the sink took the input, if one waited; or it refused the input for good.
 abbrev pub Passes : (may_refuse : Fault → Type 0) → Result Bool Fault → (before after : Unpassed) → (sent_old sent_new : List Input) → Type 0
 Passes may_refuse (Ok true) before after sent_old sent_new = (is_some before.waiting ≡ true) × (after ≡ before) × (sent_new ≡ sent_old)
 Passes may_refuse (Ok false) before after sent_old sent_new = (after ≡ record before { waiting = None }) × (sent_new ≡ sent_old ++ waiting_list before.waiting)
 Passes may_refuse (Err fault) before after sent_old sent_new = (is_some before.waiting ≡ true) × (after ≡ before) × (sent_new ≡ sent_old) × IsRefused may_refuse fault
 
--- The session stands for the viewer after these bytes but for the input that waits, which is this.
+-- The session stands for the viewer after these bytes, without the input that then waits, which is next.
 pub record ReadsTo (s : Setup) (p : Viewer) (st : State) (marks : List Bool) (bytes : List ℕ) (next : Option Input) : Type 0 where
   pub stands : Stands s st (without_input (after_bytes (with_marks marks p) bytes))
   pub waiting : (after_bytes (with_marks marks p) bytes).waiting ≡ next
 
--- Of the unread bytes the first were read, up to an input that waits now, or all.
+-- The unread bytes were read: all of them, or the first ones, up to an input that waits now.
 pub record Reads (old new : State) (before after : Unpassed) : Type 0 where
   pub marks : List Bool
   pub bytes : List ℕ
@@ -48,11 +48,12 @@ pub record Reads (old new : State) (before after : Unpassed) : Type 0 where
   pub all : WaitsIfLeft after
   pub reads : (s : Setup) (p : Viewer) → Stands s old p → ReadsTo s p new marks bytes after.waiting
 
--- That, or nothing was read.
+-- The unread bytes were read as in Reads, or nothing was read.
 abbrev pub ReadsIfAny : (old new : State) → (before after : Unpassed) → Type 0
 ReadsIfAny old new before after = ((new ≡ old) × (after ≡ before)) ⊎ Reads old new before after
 
--- Input went on, and bytes were read after it, perhaps up to a fault of the session; or the sink refused for good.
+-- The input was passed on, and bytes were read after it, perhaps up to a fault of the session; or the sink refused the
+-- input for good.
 abbrev pub GoesOn : (may_refuse : Fault → Type 0) → Result Bool Break → (old new : State) → (before after : Unpassed) → (sent_old sent_new : List Input) → Type 0
 GoesOn may_refuse (Ok is_full) old new before after sent_old sent_new = (mid : Unpassed) × Passes may_refuse (Ok is_full) before mid sent_old sent_new × ReadsIfAny old new mid after
 GoesOn may_refuse (Err (At fault)) old new before after sent_old sent_new =
@@ -77,31 +78,31 @@ pub record Says (before after : State) (old new : LinkState) : Type 0 where
   pub counted : (us : List Update) → HasCounted before us → HasCounted after us
   pub stands : (s : Setup) (p : Viewer) → Stands s before p → Stands s after (after_writing count p)
 
--- Why no more of them are.
+-- How giving ended: without a fault of the link, or as the link halted.
 abbrev pub SaysNoMore : Result (Unit {0}) Fault → State → (old new : LinkState) → Type 0
 SaysNoMore (Ok done) st old new = (new.failed ≡ old.failed) × (new.ended ≡ old.ended)
 SaysNoMore (Err fault) st old new = (s : Setup) (p : Viewer) → Stands s st p → LinkHalts fault s p old new
 
--- A turn was had where no bytes were unsent, or the source has ended.
+-- Where no bytes were unsent the session had a turn; otherwise nothing changed; or the source has ended.
 abbrev pub Offers : {S : Type 0} → (looks cuts : S → ℕ → S → Type 0) → Type 0 → (old new : S) → (before after : State) → List Update → (least most : ℕ) → Result Bool Fault → Type 0
 Offers {S} looks cuts may_end old new before after us least most (Ok true) =
     (length before.unsent ≡ 0) × (is_ready before ≡ false → (after ≡ before) × (new ≡ old) × (most ≡ least)) × (is_ready before ≡ true → Turns looks cuts old new before after us least most)
 Offers {S} looks cuts may_end old new before after us least most (Ok false) = (0 < length before.unsent) × (after ≡ before) × (new ≡ old) × (most ≡ least)
 Offers {S} looks cuts may_end old new before after us least most (Err fault) = (fault ≡ Gone) × may_end × (after ≡ before) × HasOnlyLooked looks old new
 
--- These bytes came to the session, if there are any.
+-- These bytes came, if any, and the session read them.
 abbrev pub HasHeard : List ℕ → (old new : State) → Unpassed → Type 0
 HasHeard [] old new after = (new ≡ old) × (after ≡ all_passed)
 HasHeard (b ∷ bs) old new after = Reads old new (record { unread = b ∷ bs; waiting = None }) after
 
--- How taking them came out: there may be more; the link said that it ended, between two messages with nothing unsent;
+-- What taking the bytes came to: more may come; the link said that it ended, between two messages with nothing unsent;
 -- the session is at this fault; or the link halted.
 abbrev pub HeardSo : Result Bool Fault → List ℕ → State → (old new : LinkState) → Type 0
 HeardSo (Ok true) piece st old new = (new.failed ≡ old.failed) × (new.ended ≡ old.ended)
 HeardSo (Ok false) piece st old new = (piece ≡ []) × HasRisen old.ended new.ended × (new.failed ≡ old.failed) × (length st.unsent ≡ 0) × ((s : Setup) (p : Viewer) → Stands s st p → IsBetween p)
 HeardSo (Err fault) piece st old new = ((fault_in st ≡ Some fault) × (new.failed ≡ old.failed) × (new.ended ≡ old.ended)) ⊎ ((piece ≡ []) × ((s : Setup) (p : Viewer) → Stands s st p → LinkHalts fault s p old new))
 
--- Bytes were taken, if any had come, and read.
+-- Bytes were taken, if any had come, and the session read them.
 pub record Hears (answer : Result Bool Fault) (before after : State) (box : Unpassed) (old new : LinkState) : Type 0 where
   pub piece : List ℕ
   pub taken : new.taken ≡ old.taken ++ piece
@@ -111,7 +112,7 @@ pub record Hears (answer : Result Bool Fault) (before after : State) (box : Unpa
 
 -- ---- all of them
 
--- How serving ended. Where it broke off for the sink, that has refused the input that waits for good.
+-- How serving ended. Where the sink was the reason, it has refused the waiting input for good.
 abbrev pub EndsSo : {S : Type 0} → (looks : S → ℕ → S → Type 0) → (may_end was_set : Type 0) → (may_refuse : Fault → Type 0) → (behind new : S) → Setup → Viewer → Unpassed → Result (Unit {0}) Break → (old new : LinkState) → Type 0
 EndsSo {S} looks may_end was_set may_refuse behind source s p box (Ok done) old new = EndsServing looks may_end was_set (λ fault. ⊥) behind source s p (Ok done) old new
 EndsSo {S} looks may_end was_set may_refuse behind source s p box (Err (At fault)) old new = EndsServing looks may_end was_set (λ fault. ⊥) behind source s p (Err fault) old new
@@ -135,12 +136,12 @@ pub record HasServed {S : Type 0} (looks cuts : S → ℕ → S → Type 0) (may
   pub holds : s.w ≤ 4096 → s.h ≤ 4096 → EachAnswerHolds s us (viewer_after s us p acts)
   pub ends : EndsSo looks may_end was_set may_refuse behind source_new s (viewer_after s us p acts) box answer old new
 
--- Why leaving ends before all is in: the flag was set, or the sink refused an input for good.
+-- How leaving ends: the sink took all, the flag was set, or the sink refused an input for good.
 abbrev pub LeavesBy : (was_set : Type 0) → (may_refuse : Fault → Type 0) → Result (Unit {0}) Fault → (sent all : List Input) → Type 0
 LeavesBy was_set may_refuse (Ok done) sent all = (sent ≡ all) ⊎ was_set
 LeavesBy was_set may_refuse (Err fault) sent all = GivesUp may_refuse fault sent all
 
--- The sink took the first of these.
+-- The sink took the first of these inputs, and leaving ended.
 pub record Leaves (was_set : Type 0) (may_refuse : Fault → Type 0) (all : List Input) (sent_old sent_new : List Input) (answer : Result (Unit {0}) Fault) : Type 0 where
   pub sent : List Input
   pub took : sent_new ≡ sent_old ++ sent

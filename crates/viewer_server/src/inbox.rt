@@ -1,4 +1,4 @@
-//! What has come of a viewer and isn't passed on yet.
+//! What has come from a viewer and isn't passed on yet.
 
 ghost use Rattle.std.specs.Prelude.{◌≡◌, ◌++◌, [], true, false, None, Some, is_some, IfErr};
 ghost use Rattle.roles.specs.Held.{left_in};
@@ -15,11 +15,11 @@ use viewer_session::Session;
 /// How many bytes are taken from the link at a time, at most.
 const PIECE: usize = 4096;
 
-/// Bytes that the session hasn't read, and an input that isn't in the sink.
+/// Bytes that the session hasn't read, and an input that the sink hasn't taken.
 #[derive(Drop)]
 pub(crate) struct Inbox {
     bytes: [u8; PIECE],
-    // Where the bytes begin that aren't read, and where they end.
+    // Where the unread bytes begin, and where they end.
     start: usize,
     end: usize,
     waiting: Option<Input>,
@@ -50,7 +50,7 @@ impl Inbox {
         }
     }
 
-    /// The bytes that aren't read.
+    /// The bytes that the session hasn't read.
     pub(crate) fn unread(&self) -> &[u8]
         ensures { result.now ≡ self.now.unread }
     {
@@ -66,7 +66,7 @@ impl Inbox {
         self.waiting.is_some()
     }
 
-    /// Takes bytes from the link, where all was read.
+    /// Takes bytes from the link, once all that came before were read.
     pub(crate) fn fill<L: Link>(&mut self, link: &mut L) -> Took
         requires { self.old ≡ all_passed }
         ensures { FillsAs result self.new (L.state link.old) (L.state link.new) }
@@ -80,7 +80,8 @@ impl Inbox {
         took
     }
 
-    /// Lets the session read on, up to a message whose input waits now. It fails with the session's fault.
+    /// Lets the session read on, to the end of the bytes or of a message whose input then waits. It fails with the
+    /// session's fault.
     pub(crate) fn read(&mut self, session: &mut Session) -> Result<(), Fault>
         requires { self.old.waiting ≡ None }
         ensures same { IsSameSession session.old session.new }
@@ -121,7 +122,7 @@ impl Inbox {
         }
     }
 
-    /// Lets the next release wait. It answers whether there is one.
+    /// Makes the next release the input that waits. It answers whether there is one.
     pub(crate) fn release(&mut self, session: &mut Session) -> bool
         requires { self.old.waiting ≡ None }
         ensures next { left_in session.old.held ≡ waiting_list self.new.waiting ++ left_in session.new.held }

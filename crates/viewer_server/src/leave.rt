@@ -1,4 +1,4 @@
-//! A viewer that has left: its input that waits, and then the releases.
+//! What still goes to the sink once a viewer has left: its input that waits, and then the releases.
 
 ghost use Rattle.std.specs.Prelude.{◌++◌};
 ghost use Rattle.roles.specs.Held.{left_in};

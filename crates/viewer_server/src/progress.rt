@@ -1,12 +1,13 @@
 //! How far a viewer is, while it is served.
 
-/// Who is told how far a viewer is. No clause says what becomes of it.
+/// What is told how far a viewer is. No clause says what it does with that.
 pub trait Progress {
-    /// So many updates were begun for the viewer by now, and its screen was looked at last after so many of the source.
+    /// Notes how many answers were begun for the viewer by now, and how many of the source's updates its last look
+    /// found.
     fn count(&self, answers: u64, shown: u64);
 }
 
-/// Nobody is told.
+/// A progress that tells nobody.
 #[derive(Clone, Copy, Drop)]
 pub struct NoProgress;
 

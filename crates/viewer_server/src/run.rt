@@ -1,4 +1,4 @@
-//! Serving one viewer, and what follows where it has left.
+//! Serves one viewer, and relays what is left of its input once it has left.
 
 ghost use Rattle.std.specs.Prelude.{◌≡◌, Bool, None};
 ghost use Rattle.reflect_core.specs.Sequential.{Begins};
@@ -20,15 +20,15 @@ use std::sync::Wait;
 use viewer_session::Session;
 
 /// Serves a viewer over a link, from any source, and relays its input to any sink. Once it has left, its input that
-/// waits and then the releases go to the sink, until they are in or the flag is set.
+/// waits and then the releases go to the sink, until the sink has taken all of them or the flag is set.
 ///
-/// A turn is had before each call of `take` with nothing unsent, and then it is told how far the viewer is. While the
-/// sink is full no bytes are taken of the viewer, and updates go on. It rests only where the sink is full.
+/// Before each call of `take` with nothing unsent the session has a turn, and `progress` is told how far the viewer is.
+/// While the sink is full no bytes are taken from the viewer, and updates go on. It rests only where the sink is full.
 ///
-/// It is `Ok` where the link ends between two messages with nothing unsent, or where the flag is set. Else it is the
-/// fault of the viewer's bytes, `LinkFailed`, `LinkEnded`, `Gone` where the source has ended, if it may end, or the
-/// fault with which the sink refuses an input for good, any but `QueueFull`. Then that input and all after it are given
-/// up: the sink is offered nothing more.
+/// It is `Ok` where the link ends between two messages with nothing unsent, or where the flag is set. Otherwise it
+/// fails: with the fault of the viewer's bytes, with `LinkFailed`, with `LinkEnded`, with `Gone` where a source that
+/// may end has ended, or with the fault, any but `QueueFull`, by which the sink refuses an input for good. In the last
+/// case that input and all after it are given up: the sink is offered nothing more.
 pub fn run_viewer<L, S, K, F, Z, P, R>(
     rt: &R,
     link: &mut L,

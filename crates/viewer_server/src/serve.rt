@@ -1,4 +1,4 @@
-//! Serving one viewer, until it leaves.
+//! Serves one viewer until it leaves.
 
 ghost use Rattle.std.specs.Prelude.{◌≡◌, Bool, None};
 ghost use Rattle.reflect_core.specs.Sequential.{Begins};
@@ -17,8 +17,8 @@ use roles::InputSink;
 use std::sync::Wait;
 use viewer_session::Session;
 
-/// Has a turn, unless bytes are unsent, and then tells how far the viewer is, and the source whether it lends forms for
-/// it. It answers whether none were.
+/// Unless bytes are unsent, the session has a turn. Then `progress` is told how far the viewer is, and the source
+/// whether to lend forms for it. It answers whether no bytes were unsent.
 fn offer<S: ScreenSource, P: Progress>(
     source: &mut S,
     session: &mut Session,
@@ -39,7 +39,7 @@ fn offer<S: ScreenSource, P: Progress>(
     Ok(true)
 }
 
-/// Gives what waits to be sent, as far as the link takes it now.
+/// Gives the link as many of the unsent bytes as it takes now.
 fn say<L: Link>(link: &mut L, session: &mut Session) -> Result<(), Fault>
     ensures says { Says session.old session.new (L.state link.old) (L.state link.new) }
     ensures why { SaysNoMore result session.new (L.state link.old) (L.state link.new) }
@@ -75,8 +75,8 @@ fn relay<K: InputSink>(
     Ok(is_full)
 }
 
-/// Takes what has come and reads it, and answers whether there may be more: not where the link ended between two
-/// messages with nothing unsent.
+/// Takes the bytes that have come and lets the session read them. It answers whether more may come: false where the
+/// link ended between two messages with nothing unsent.
 fn hear<L: Link>(link: &mut L, session: &mut Session, inbox: &mut Inbox) -> Result<bool, Fault>
     requires { inbox.old ≡ all_passed }
     ensures same { IsSameSession session.old session.new }
@@ -99,9 +99,10 @@ fn hear<L: Link>(link: &mut L, session: &mut Session, inbox: &mut Inbox) -> Resu
     }
 }
 
-/// Serves the viewer until the link ends or the flag is set: passes on all of its input that has come, has a turn where
-/// nothing is unsent, gives what its session sends, and takes its bytes. Where the sink is full it only rests, so that
-/// updates go on. Bytes are taken only where a turn was had or others are unsent.
+/// Serves the viewer until the link ends or the flag is set. Each round passes on its input that has come, has a turn
+/// where nothing is unsent, gives the link what the session sends, and takes the viewer's bytes. Where the sink is full
+/// it rests instead of taking bytes, so that updates go on. Bytes are taken only after a turn, or while others are
+/// unsent.
 pub(crate) fn serve<L, S, K, F, Z, P, R>(
     rt: &R,
     link: &mut L,

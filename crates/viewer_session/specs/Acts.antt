@@ -26,14 +26,14 @@ abbrev pub after_turn : Setup → List Update → (looked : ℕ) → Option ℕ 
 after_turn s us looked None p = after_look looked p
 after_turn s us looked (Some n) p = after_cut s (take n us) (after_look looked p)
 
--- What an act makes of it.
+-- What an act makes of a viewer.
 abbrev pub after_act : Setup → List Update → Act → Viewer → Viewer
 after_act s us (Bytes marks bytes) p = after_bytes (with_marks marks p) bytes
 after_act s us (Turn looked cut) p = after_turn s us looked cut p
 after_act s us (Written count) p = after_writing count p
 after_act s us Passed p = without_input p
 
--- What all of them make of it.
+-- What a list of acts makes of a viewer.
 abbrev pub viewer_after : Setup → List Update → Viewer → List Act → Viewer
 viewer_after s us p [] = p
 viewer_after s us p (act ∷ acts) = after_act s us act (viewer_after s us p acts)
@@ -43,8 +43,8 @@ abbrev pub waiting_list : Option Input → List Input
 waiting_list None = []
 waiting_list (Some input) = input ∷ []
 
--- All input of the viewer's messages is what was handed out and then what waits; all that the messages before the last
--- bring was handed out. What is kept stands for the messages.
+-- All that is allowed of the viewer's messages is what was handed out and then what waits. All that the messages before
+-- the last bring was handed out. What is kept stands for the messages.
 pub record HasPassed (p : Viewer) (sent : List Input) : Type 0 where
   pub kept : Kept
   pub held : HeldStands p.role kept (messages_in p.entries)
@@ -67,7 +67,8 @@ HandsOutAllowed =
     → let p : Viewer = viewer_after s us (new_viewer role greet) acts in
     handed_out s us (new_viewer role greet) acts ++ waiting_list p.waiting ≡ allowed role (messages_in p.entries) false
 
--- And where it leaves, with what its session still holds it is all that is allowed of one that has left.
+-- And where the viewer leaves: what was handed out, what waits and what its session still has to release are together
+-- all that is allowed of a viewer that has left.
 abbrev pub ReleasesAllowed : Type 0
 ReleasesAllowed =
     (s : Setup) (us : List Update) (role : Role) (greet : Bool) (acts : List Act) (st : State)

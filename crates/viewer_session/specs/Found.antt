@@ -19,7 +19,7 @@ abbrev pub is_newer : ℕ → Option NumberedText → Bool
 is_newer number None = false
 is_newer number (Some last) = nat_lt number last.number
 
--- It is newer than the last cut, if there was one.
+-- The text is newer than the last cut, if there was one.
 abbrev pub has_newer : Option ℕ → Option NumberedText → Bool
 has_newer None text = false
 has_newer (Some number) text = is_newer number text
@@ -30,12 +30,13 @@ update_of style cut area =
     let found = runs cut.width cut.height area (marked cut) in
     if length found == 0 then None else Some (area, answer_bytes style (shown cut) cut.all_were_sent found)
 
--- That of the area that is pending, if one is.
+-- The update of the area that is pending, if one is.
 abbrev pub update_in : Style → Cut → Option Rect → Option (Rect × List ℕ)
 update_in style cut None = None
 update_in style cut (Some area) = update_of style cut area
 
--- What decides what a viewer has and wants, with an update begun at a cut of this number, where there is one.
+-- The events that decide what a viewer has and wants, with an answer begun at a cut of this number, where there is an
+-- update.
 abbrev pub answered_at : ℕ → Option (Rect × List ℕ) → List Event → List Event
 answered_at number None es = es
 answered_at number (Some found) es = Answered found.0 number ∷ es

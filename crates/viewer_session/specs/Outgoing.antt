@@ -7,14 +7,14 @@ use Rattle.update_encoder.specs.Coming.{Answering, AnswerStands, coming}
 use Rattle.viewer_session.specs.declared.coming.Coming as declared
 use Rattle.raster.specs.declared.tile.TheConstants.{TILE_SIDE}
 
--- How much room there is for a piece, how many bytes were put into it, and those that aren't sent yet.
+-- How much room there is for a piece, how many bytes were put into it, and which of them aren't sent yet.
 pub record Waiting : Type 0 where
   pub room : ℕ
   pub filled : ℕ
   pub unsent : List ℕ
 
 -- The most bytes of a piece, over a screen of this width: those of the longest text's message (7.6.4), or of a
--- rectangle's head and one row of tiles in the widest format (7.6.1).
+-- rectangle's header and one row of tiles in the widest format (7.6.1).
 abbrev pub longest_piece : ℕ → ℕ
 longest_piece w = max 65544 (12 + 64 * w)
 
@@ -23,7 +23,7 @@ abbrev pub text_message : Option NumberedText → List ℕ
 text_message None = []
 text_message (Some last) = server_text_bytes last.text
 
--- What comes of an answer: its head, unless that was put out, and its rectangles (7.6.1).
+-- What is still to come of an answer: its header, unless that was put out already, and its rectangles (7.6.1).
 abbrev pub answer_coming : Bool → Option Answering → Cut → List ℕ
 answer_coming head None cut = []
 answer_coming head (Some answer) cut = (if head then update_head_bytes answer.count else []) ++ coming answer cut
@@ -32,14 +32,14 @@ answer_coming head (Some answer) cut = (if head then update_head_bytes answer.co
 abbrev pub all_coming : declared.Coming → Cut → List ℕ
 all_coming c cut = (if c.text then text_message cut.text else []) ++ answer_coming c.head c.answer cut
 
--- What is to come is the cut's: its text, where one comes, and an answer that was begun of it.
+-- What is still to come is of this cut: its text, where one comes, and an answer that was begun at it.
 pub record IsOf (c : declared.Coming) (cut : Cut) : Type 0 where
   pub text : c.text ≡ true → is_some cut.text ≡ true
   pub answer : IfSome c.answer (λ answer. AnswerStands answer cut)
 
 -- ---- what contracts see of it
 
--- The last cut, how many bytes were put into the piece, those of it that aren't sent yet, and all bytes that aren't.
+-- The last cut, how many bytes were put into the piece, the unsent bytes of the piece, and all unsent bytes.
 pub record Sending : Type 0 where
   pub cut : Cut
   pub filled : ℕ

@@ -27,8 +27,8 @@ use Rattle.viewer_session.specs.Viewer.{Setup, Viewer, out_bytes, new_viewer, wi
 
 -- The size of the screen, the form in which the viewer is answered, its role, its hello where it has one, what has come
 -- of its next message, the pixel format and the choice of encodings that hold, what it has asked for, what it has of
--- each tile, the last cut, the piece that is sent next, and all bytes for it that aren't sent yet; what it holds down,
--- and its input that waits.
+-- each tile, the last cut, the piece that is sent next, all unsent bytes for it, what it holds down, and its input that
+-- waits.
 pub record State : Type 0 where
   pub width : ℕ
   pub height : ℕ
@@ -51,24 +51,24 @@ abbrev pub hello_of : Option Greeting → Reading (Unit {0})
 hello_of None = Done tt
 hello_of (Some greeting) = handshake.ahead greeting
 
--- While more of a hello is to come, all that is to be said by now was put out, and nothing else.
+-- While more of the hello is to come: all that is to be said by now was put out, and nothing else.
 pub record IsSaid (greeting : Greeting) (out : Sending) : Type 0 where
   pub said : greeting.sent ≡ length (said_to_viewer greeting.w greeting.h greeting.name (length greeting.begun))
   pub filled : out.filled ≤ greeting.sent
   pub alone : out.unsent ≡ out.piece
 
--- A hello is short, and is said as it goes on.
+-- The name in the hello is short, and what is to be said was put out as the hello went on.
 pub record IsSpoken (greeting : Greeting) (out : Sending) : Type 0 where
   pub short : length greeting.name ≤ 255
   pub said : wants_more (handshake.ahead greeting) ≡ true → IsSaid greeting out
 
--- That, where there is a hello.
+-- Where there is a hello, it is spoken.
 abbrev pub IsGreeting : Option Greeting → Sending → Type 0
 IsGreeting None out = Unit {0}
 IsGreeting (Some greeting) out = IsSpoken greeting out
 
--- All parts of a session are of the screen's size, no whole message waits in its reader, which no byte reaches before
--- the hello is done, and the hello is said as it goes on.
+-- All parts of a session are of the screen's size. No whole message waits in its reader, and the reader has no fault
+-- before the hello is done. What is to be said of the hello was put out as it went on.
 pub record IsSound (w h : ℕ) (greeting : Option Greeting) (reader : ClientReader) (asked : Wanted) (have : SentTiles) (out : Sending) : Type 0 where
   pub size : IsScreenSize w h
   pub taken : whole_of (ahead reader) ≡ None
@@ -90,11 +90,11 @@ fault_in st = if is_some (hello_fault st) then hello_fault st else fault_of (ahe
 abbrev pub is_greeted : State → Bool
 is_greeted st = is_some (whole_of (hello_of st.greeting))
 
--- It may look: all bytes were sent, the hello is done, and there is no fault.
+-- The session may look: all bytes were sent, the hello is done, and there is no fault.
 abbrev pub is_ready : State → Bool
 is_ready st = (length st.unsent == 0) && (is_greeted st && is_none (fault_in st))
 
--- How its next answer is written.
+-- How the session's next answer is written.
 abbrev pub style_now : State → Style
 style_now st = record { runs = st.runs; format = st.format; choice = st.choice }
 
@@ -102,8 +102,8 @@ style_now st = record { runs = st.runs; format = st.format; choice = st.choice }
 abbrev pub at_rest : Viewer → Viewer
 at_rest p = record p { unread = []; lost = [] }
 
--- The hello of the session is the viewer's: its screen and name, and how it goes on. While more of it is to come so
--- many bytes were taken, and no answer is begun.
+-- The hello of the session is the viewer's: its screen and name, and how it goes on. While more of it is to come, the
+-- session took as many bytes of it as the viewer says, and no answer is begun.
 pub record GreetsAs (s : Setup) (greeting : Greeting) (greet : Bool) (hello : Reading (Unit {0})) (said : ℕ) (said_after : List ℕ) : Type 0 where
   pub w : greeting.w ≡ s.w
   pub h : greeting.h ≡ s.h
@@ -112,7 +112,7 @@ pub record GreetsAs (s : Setup) (greeting : Greeting) (greet : Bool) (hello : Re
   pub goes_on : hello ≡ handshake.ahead greeting
   pub taken : wants_more hello ≡ true → (said ≡ length greeting.begun) × (said_after ≡ [])
 
--- That, or there is no hello, and the viewer has none.
+-- The hello of the session is the viewer's, or neither has one.
 abbrev pub Greets : Setup → Option Greeting → Bool → Reading (Unit {0}) → ℕ → List ℕ → Type 0
 Greets s None greet hello said said_after = (greet ≡ false) × (hello ≡ Done tt)
 Greets s (Some greeting) greet hello said said_after = GreetsAs s greeting greet hello said said_after
@@ -124,14 +124,14 @@ pub record Keeps (w h : ℕ) (st : State) (entries : List Entry) : Type 0 where
   pub format : st.format ≡ format_of entries
   pub choice : st.choice ≡ choice_of entries
 
--- A text that is kept is short, and one that is read past for its length is longer (7.5.6; the bound is this project's
--- own).
+-- A text that is kept has at most the longest length, and one that is skipped for its length is longer (7.5.6; the
+-- bound is this project's own).
 abbrev pub HasKeptShort : ClientMessage → Type 0
 HasKeptShort (CutText text) = length text ≤ longest_text
 HasKeptShort (LostText len) = longest_text < len
 HasKeptShort message = Unit {0}
 
--- The state stands for all of a viewer but its input.
+-- The state stands for a viewer in all but its input.
 pub record Serves (s : Setup) (st : State) (p : Viewer) : Type 0 where
   pub width : st.width ≡ s.w
   pub height : st.height ≡ s.h
@@ -160,18 +160,18 @@ pub record Stands (s : Setup) (st : State) (p : Viewer) : Type 0 where
 
 -- ---- what the calls do
 
--- Before any byte of a viewer: what was said so far waits to be sent, and is all that the viewer is sent by then.
+-- Before any byte of a viewer has come: what is to be said by then waits to be sent, and nothing else does.
 pub record IsBegun (s : Setup) (role : Role) (greet : Bool) (greeting : Option Greeting) (out : Sending) : Type 0 where
   pub greets : Greets s greeting greet (new_viewer role greet).hello 0 []
   pub unsent : out.unsent ≡ out_bytes s (new_viewer role greet)
 
--- The size of the screen and the role stay.
+-- The size of the screen and the role are the same before and now.
 pub record IsSameViewer (before now : State) : Type 0 where
   pub width : now.width ≡ before.width
   pub height : now.height ≡ before.height
   pub role : now.role ≡ before.role
 
--- And so does the last cut.
+-- The size of the screen, the role, the last cut and its number are the same before and now.
 pub record IsSameSession (before now : State) : Type 0 where
   pub width : now.width ≡ before.width
   pub height : now.height ≡ before.height
@@ -179,15 +179,15 @@ pub record IsSameSession (before now : State) : Type 0 where
   pub cut : now.cut ≡ before.cut
   pub last : now.asked.last ≡ before.asked.last
 
--- Of the piece these bytes are left, and this viewer, for which the state stands, is to take them, with these marks for
--- the texts among them.
+-- Some bytes of the piece are left. The state stands for a viewer that has still to take them, with these marks for the
+-- texts among them.
 pub record HasFed (s : Setup) (p : Viewer) (now : State) (marks : List Bool) (piece left : List ℕ) : Type 0 where
   pub viewer : Viewer
   pub stands : Stands s now viewer
   pub rest : after_bytes p piece ≡ after_bytes (record viewer { lost = marks }) left
 
--- What stood for a viewer stands, after these bytes, for one that is to take what is left. These marks are those of the
--- texts that became whole: of each whether it found no memory.
+-- If the old state stood for a viewer, the new one stands, after these bytes, for one that has still to take those that
+-- are left. The marks say of each text that became whole whether it found no memory.
 abbrev pub IsFeeding : State → State → List Bool → List ℕ → List ℕ → Type 0
 IsFeeding old now marks piece left = (s : Setup) (p : Viewer) (more : List Bool) → Stands s old p → HasFed s (record p { lost = marks ++ more }) now more piece left
 
@@ -195,17 +195,18 @@ IsFeeding old now marks piece left = (s : Setup) (p : Viewer) (more : List Bool)
 abbrev pub with_marks : List Bool → Viewer → Viewer
 with_marks marks p = record p { looked = None; lost = marks }
 
--- The state stands for this viewer but for the bytes that it left unread, since an input waits.
+-- The state stands for this viewer, but for the bytes that the viewer left unread since an input waits.
 pub record StandsBut (s : Setup) (st : State) (p : Viewer) (left : List ℕ) : Type 0 where
   pub stands : Stands s st (at_rest p)
   pub unread : p.unread ≡ left
   pub marks : p.lost ≡ []
 
--- What stood for a viewer stands for it after these bytes, as far as no input waited. These are left unread.
+-- If the old state stood for a viewer, the new one stands for it after these bytes, as far as no input waited. The
+-- bytes after that are left unread.
 abbrev pub FeedsTo : State → State → List Bool → List ℕ → List ℕ → Type 0
 FeedsTo old new marks piece left = (s : Setup) (p : Viewer) → Stands s old p → StandsBut s new (after_bytes (with_marks marks p) piece) left
 
--- This many bytes of the piece were used: all of it, and there is no fault; or all up to an input, which waits.
+-- This many bytes of the piece were used: all of them without a fault, or those up to an input, which waits.
 pub record FeedsUpTo (old new : State) (piece : List ℕ) (used : ℕ) : Type 0 where
   pub within : used ≤ length piece
   pub all : ((used ≡ length piece) × (fault_in new ≡ None)) ⊎ (is_some new.waiting ≡ true)
@@ -218,25 +219,24 @@ pub record FeedsToFault (old new : State) (piece : List ℕ) (fault : Fault) : T
   pub marks : List Bool
   pub feeds : FeedsTo old new marks piece []
 
--- Bytes of the hello were used: all of the piece, unless it is done.
+-- This many bytes of the hello were used, at least one where there is one. The hello has no fault.
 pub record ReadsHello (old new : State) (piece : List ℕ) (used : ℕ) : Type 0 where
   pub fed : IsFeeding old new [] piece (drop used piece)
   pub within : used ≤ length piece
   pub some : 0 < length piece → 0 < used
   pub fine : hello_fault new ≡ None
 
--- A whole message was taken from the reader, or there was none: how it goes on by the bytes, and then with that message
--- taken.
+-- The reader went on by these bytes. Then the whole message in it was taken, if there was one.
 pub record ReadsOne (old new : State) (piece : List ℕ) (used : ℕ) (message : Option ClientMessage) : Type 0 where
   pub begun : Reading ClientMessage
   pub feeds : FeedsOrLoses (ahead old.reader) begun piece (Ok used)
   pub gives : GivesWhole viewer_form begun (ahead new.reader) message
 
--- A message was noted.
+-- A viewer once a message was noted in its record.
 abbrev pub after_noting : ClientMessage → Viewer → Viewer
 after_noting message p = record p { entries = Took message ∷ p.entries }
 
--- And its input waits, where it passes.
+-- The same, once the message's input waits as well, where it passes.
 abbrev pub after_taking : ClientMessage → Viewer → Viewer
 after_taking message p = with_input (after_noting message p) (input_for p.role message)
 
@@ -245,21 +245,21 @@ abbrev pub marks_in : Option Bool → List Bool
 marks_in None = []
 marks_in (Some lost) = lost ∷ []
 
--- The mark of a message's text, where it isn't longer than the longest: whether it is lost.
+-- The mark of a message's text, where that has at most the longest length: whether it is lost.
 abbrev pub text_mark : ClientMessage → Option Bool
 text_mark (CutText text) = Some false
 text_mark (LostText len) = if nat_le len longest_text then Some true else None
 text_mark message = None
 
--- The input that waits was taken.
+-- A viewer once its input that waits was taken.
 abbrev pub without_input : Viewer → Viewer
 without_input p = record p { waiting = None }
 
--- What is still to be released is what follows the input that passed where the viewer leaves.
+-- What is still to be released is what the definitions add to the input that passed where the viewer leaves.
 abbrev pub HasReleases : State → Type 0
 HasReleases st = (s : Setup) (p : Viewer) → Stands s st p → left_in st.held ≡ releases (allowed p.role (messages_in p.entries) false)
 
--- A look was taken, with this reply.
+-- A viewer once a look was taken, with this reply.
 abbrev pub after_look : ℕ → Viewer → Viewer
 after_look number p = record p { looked = Some number; entries = Saw number ∷ p.entries }
 
@@ -273,7 +273,7 @@ pub record IsBetween (p : Viewer) : Type 0 where
   pub greeted : viewer.is_greeted p ≡ true
   pub begins : p.reading ≡ client_message
 
--- This many bytes more were written.
+-- A viewer once this many more bytes were written.
 abbrev pub after_writing : ℕ → Viewer → Viewer
 after_writing n p = record p { written = p.written + n }
 
@@ -285,9 +285,9 @@ wants_cut wanted looked = nat_lt (unwrap_or wanted.last 0) looked || (is_some wa
 abbrev pub HasCounted : State → List Update → Type 0
 HasCounted st us = (number : ℕ) → st.asked.last ≡ Some number → (number ≤ length us) × (st.cut.bells ≡ bells (take number us))
 
--- The source was cut once, with this number (cuts): at least the one and at most the other of these, of the updates that
--- the source knows. The new state stands for the viewers that the cut makes of those of the old, where the cut before it
--- was one of this source.
+-- The source was cut once, at this number (cuts): at least least, at most most, and at most as many as the updates that
+-- the source knows. The new state stands for what the cut makes of each viewer for which the old one stood, where the
+-- cut before it was one of this source.
 pub record CutsAt {S : Type 0} (cuts : S → ℕ → S → Type 0) (before after : S) (old new : State) (us : List Update) (least most : ℕ) : Type 0 where
   pub number : ℕ
   pub cut : cuts before number after
@@ -297,9 +297,9 @@ pub record CutsAt {S : Type 0} (cuts : S → ℕ → S → Type 0) (before after
   pub counted : HasCounted new us
   pub stands : (s : Setup) (p : Viewer) → HasCounted old us → Stands s old p → Stands s new (after_cut s (take number us) p)
 
--- The source was looked at once, with a reply that is known and is the source's own (looks), and then cut once where
--- there is reason, at a number that is at least the reply, and else left alone. Reply and number are at most what the
--- source has answered by now.
+-- The source was looked at once, with a reply that is the source's own (looks) and at most the number of its updates.
+-- Where there was reason it was then cut once, at a number that is at least the reply; otherwise it was left alone.
+-- Reply and number are at most most.
 pub record Turns {S : Type 0} (looks cuts : S → ℕ → S → Type 0) (before after : S) (old new : State) (us : List Update) (least most : ℕ) : Type 0 where
   pub looked : ℕ
   pub behind : S

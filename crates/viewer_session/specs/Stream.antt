@@ -15,8 +15,8 @@ pub data Heard : Type 0 where
   Format : PixelFormat → Heard
   Bytes : List ℕ → Heard
 
--- Before an answer a cut of updates sends a Bell where Bells have become more since the cut before it, and the last
--- text where that is newer.
+-- What a cut of these updates sends before an answer: a Bell where Bells have become more since the cut before it, and
+-- the last text where that is newer.
 abbrev pub news_at : List Update → Option ℕ → List ℕ
 news_at us last = bell_at us last ++ text_at us last
 
@@ -29,7 +29,7 @@ heard w h us (Saw number ∷ es) = heard w h us es
 heard w h us (MadeCut number ∷ es) = heard w h us es ++ Bytes (news_at (take number us) (news_since w h es)) ∷ []
 heard w h us (Began area number bytes ∷ es) = heard w h us es ++ Bytes bytes ∷ []
 
--- The bytes among it: the stream.
+-- The stream: the bytes among what comes.
 abbrev pub stream_of : List Heard → List ℕ
 stream_of [] = []
 stream_of (Format format ∷ hs) = stream_of hs
@@ -37,7 +37,8 @@ stream_of (Bytes bytes ∷ hs) = bytes ++ stream_of hs
 
 -- ---- a viewer that reads the stream
 
--- What it follows so far, the messages that it has read whole, in order, and how the next one goes on.
+-- What the viewer holds so far as a follower, the messages that it has read whole, in order, and how the next one goes
+-- on.
 pub record Listener : Type 0 where
   pub follower : Follower
   pub messages : List ServerMessage
@@ -47,7 +48,7 @@ pub record Listener : Type 0 where
 abbrev pub between : ℕ → ℕ → Follower → List ServerMessage → Listener
 between w h f messages = record { follower = f; messages = messages; reading = server_message f.format w h }
 
--- A whole message is followed. A fault is final.
+-- A whole message is followed as it ends. A fault is final.
 abbrev pub after_step : ℕ → ℕ → Listener → Reading ServerMessage → Listener
 after_step w h l (Done message) =
     between w h (record { format = l.follower.format; held = after_message l.follower.held (Some message) }) (l.messages ++ message ∷ [])
@@ -59,7 +60,7 @@ abbrev pub hears_bytes : ℕ → ℕ → Listener → List ℕ → Listener
 hears_bytes w h l [] = l
 hears_bytes w h l (b ∷ bs) = hears_bytes w h (after_step w h l (step l.reading b)) bs
 
--- A change of format makes all unknown; the messages after it are in this format.
+-- A change of format makes all that is held unknown. The messages after it are read in the new format.
 abbrev pub hears : ℕ → ℕ → Listener → Heard → Listener
 hears w h l (Format format) = between w h (record { format = format; held = unknown }) l.messages
 hears w h l (Bytes bytes) = hears_bytes w h l bytes

@@ -12,8 +12,8 @@ use Rattle.roles.specs.Held.{input_for}
 use Rattle.viewer_session.specs.Record.{Entry, Took}
 use Rattle.viewer_session.specs.Turn.{sent_at, record_after_cut}
 
--- A screen of w by h named so, with room for this many inputs in the queue to the host, whose viewers are answered in
--- one of the two forms.
+-- A screen of w by h with a name, room for this many inputs in the queue to the host, and the form in which viewers are
+-- answered.
 pub record Setup : Type 0 where
   pub w : ℕ
   pub h : ℕ
@@ -21,7 +21,7 @@ pub record Setup : Type 0 where
   pub room : ℕ
   pub runs : Runs
 
--- One viewer, from its join on.
+-- One viewer, from the moment at which it joins.
 pub record Viewer : Type 0 where
   pub role : Role
   pub greet : Bool  -- its bytes begin with a hello
@@ -59,25 +59,25 @@ with_input p (Some input) =
     then record p { keys = keys_after p.keys input; waiting = Some input }
     else p
 
--- A whole message, with the marks of texts that are left after it. A text is lost for want of memory where its mark
--- says so.
+-- A whole message, and the marks that are left after it. Its text is lost for want of memory where the first mark says
+-- so.
 abbrev pub marked : List Bool → ClientMessage → ClientMessage × List Bool
 marked [] (CutText text) = (CutText text, [])
 marked (lost ∷ marks) (CutText text) = ((if lost then without_text (CutText text) else CutText text), marks)
 marked marks message = (message, marks)
 
--- It goes into the record, its input waits where it passes, and the next message begins.
+-- A message goes into the record, its input waits where that passes, and the next message begins.
 abbrev pub with_message : Viewer → ClientMessage × List Bool → Viewer
 with_message p taken =
     with_input (record p { entries = Took taken.0 ∷ p.entries; lost = taken.1; reading = client_message }) (input_for p.role taken.0)
 
--- Where reading of a message has come to: it is whole, at a fault, or goes on.
+-- How far a message is read: it is whole, it is at a fault, or it goes on.
 abbrev pub after_reading : Viewer → Reading ClientMessage → Viewer
 after_reading p (Done message) = with_message p (marked p.lost message)
 after_reading p (Faulty fault) = record p { reading = Faulty fault }
 after_reading p (Want more) = record p { reading = Want more }
 
--- A byte at which the hello is at fault is answered by nothing.
+-- A byte of the hello was read. A byte that shows a fault isn't answered.
 abbrev pub after_hello : Viewer → Reading (Unit {0}) → Viewer
 after_hello p hello = record p { hello = hello; said = if is_some (fault_of hello) then p.said else p.said + 1 }
 
@@ -87,7 +87,7 @@ after_byte p b =
     if wants_more p.hello then after_hello p (step p.hello b)
     else (if is_some (viewer_fault p) then p else after_reading p (step p.reading b))
 
--- Bytes are taken as far as no input waits.
+-- Bytes are taken, up to one whose message leaves an input waiting. The rest stays unread.
 abbrev pub after_bytes : Viewer → List ℕ → Viewer
 after_bytes p [] = record p { unread = [] }
 after_bytes p (b ∷ bs) = if is_some p.waiting then record p { unread = b ∷ bs } else after_bytes (after_byte p b) bs

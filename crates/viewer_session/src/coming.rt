@@ -8,8 +8,8 @@ use crate::piece::Piece;
 use reflect_core::Cut;
 use update_encoder::Answer;
 
-/// What of a cut comes after the piece: its text where one is news, then an answer. Of the answer the header comes
-/// first, and then one rectangle after the other.
+/// What a cut still sends after the piece: its text where that is news, and then an answer: its header, and one
+/// rectangle after another.
 #[derive(Drop)]
 pub(crate) struct Coming {
     /// Whether the text of the cut comes.

@@ -1,4 +1,4 @@
-//! What a session sends: a cut of the source, and what of it waits to be sent, piece by piece.
+//! What a session sends: a cut of the source, whose parts wait to be sent piece by piece.
 
 ghost use Rattle.std.specs.Prelude.{◌≡◌, ℕ, ◌+◌, ◌*◌, ◌≤◌, Bool, true, if◌then◌else◌, is_some, [], ◌++◌, drop, length, IfOk, IfErr, IfSome};
 ghost use Rattle.fault.specs.declared.kinds.Fault.TheVariants.{Memory, Gone};
@@ -24,8 +24,8 @@ use update_encoder::Answer;
 /// How many bytes a pixel of the widest format has (RFC 6143, 7.4).
 const WIDEST_PIXEL: usize = 4;
 
-/// A cut of the source, one piece of the bytes that wait to be sent, and what of the cut comes after it. Contracts see
-/// the cut, the piece's bytes, and all bytes that aren't sent.
+/// A cut of the source, one piece of the bytes that wait to be sent, and what the cut sends after it. Contracts see the
+/// cut, the piece's bytes, and all unsent bytes.
 #[derive(Drop)]
 pub(crate) struct Outgoing {
     cut: Cut,
@@ -46,8 +46,8 @@ impl Model for Outgoing {
 }
 
 impl Outgoing {
-    /// Nothing waits, over a screen of `width` by `height` pixels. All the room is taken here. It fails where memory is
-    /// refused (`Memory`).
+    /// An outgoing side on which nothing waits, for a screen of `width` by `height` pixels. All its room is taken here.
+    /// It fails where memory is refused (`Memory`).
     pub(crate) fn new(alloc: Global, width: u64, height: u64) -> Result<Self, Fault>
         requires { IsScreenSize width height }
         ensures size { IfOk result (λ out. (out.cut.width ≡ width) × (out.cut.height ≡ height)) }
@@ -109,7 +109,7 @@ impl Outgoing {
         self.piece.append(bytes);
     }
 
-    /// Cuts the source, where all bytes were sent. What is cut waits only once `begin` says so.
+    /// Cuts the source, once all bytes were sent. Nothing of the cut waits to be sent until `begin` is called.
     pub(crate) fn take<S: ScreenSource>(
         &mut self,
         source: &mut S,
@@ -132,7 +132,8 @@ impl Outgoing {
         source.cut(area, have, &mut self.cut)
     }
 
-    /// What of the cut is sent waits from now on, and nothing else: a Bell, its text and an answer, in this order.
+    /// From now on these parts of the cut wait to be sent, in this order, and nothing else: a Bell, the text and an
+    /// answer.
     pub(crate) fn begin(&mut self, bell: bool, text: bool, answer: Option<Answer>)
         requires text { text ≡ true → is_some self.old.cut.text ≡ true }
         requires answer { IfSome answer (λ begun. AnswerStands begun self.old.cut) }

@@ -14,8 +14,8 @@ use std::alloc::Global;
 use std::marker::Model;
 use update_encoder::Answer;
 
-/// Bytes that wait to be sent, in room that was reserved for them. Contracts see how much room there is and how much of
-/// it is taken, and the bytes that aren't sent yet.
+/// Bytes that wait to be sent, in room that was reserved for them. Contracts see how much room there is, how many bytes
+/// were put into it, and the bytes that aren't sent yet.
 #[derive(Drop)]
 pub(crate) struct Piece {
     bytes: Vec<u8>,
@@ -60,7 +60,7 @@ impl Piece {
         &self.bytes.as_slice()[self.sent..self.filled]
     }
 
-    /// The first of the unsent bytes, this many, were sent.
+    /// This many of the unsent bytes, from the first on, were sent.
     pub(crate) fn sent(&mut self, count: usize)
         requires { count ≤ length self.old.unsent }
         ensures room { (self.new.room ≡ self.old.room) × (self.new.filled ≡ self.old.filled) }
@@ -122,8 +122,8 @@ impl Piece {
         self.sent = 0;
     }
 
-    /// The next rectangle of an answer waits from now on, and nothing else; where there is none, nothing does. It is
-    /// encoded over a strip of pixel values.
+    /// The next rectangle of an answer waits from now on, and nothing else. Where there is none, nothing waits. The
+    /// rectangle is encoded in a strip of pixel values.
     pub(crate) fn put_rectangle(&mut self, answer: &mut Answer, cut: &Cut, strip: &mut [u32])
         requires stands { AnswerStands answer.old cut.now }
         requires strip { TILE_SIDE * cut.now.width ≤ length strip.old }

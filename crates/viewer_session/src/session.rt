@@ -29,13 +29,13 @@ use std::marker::Model;
 use tiles::Have;
 
 /// A viewer's hello and messages are read, and answered from a source of screens (RFC 6143, 7.1 to 7.6). An input that
-/// its role allows waits to be taken, and no further byte is read until it is. What it holds down is released when it
-/// leaves.
+/// the viewer's role allows waits to be taken, and until it is taken no further byte is read. The keys and buttons that
+/// the viewer holds down are released when it leaves.
 ///
 /// What is sent waits in pieces: `out` is the bytes of a hello, a Bell, a text, the header of an update or one
-/// rectangle, and once `sent` has emptied it the next takes its place. An answer keeps the format and the choice that
-/// stood at its cut, and what is forgotten while pieces are unsent stays forgotten: what the viewer has of each tile
-/// changes at the cut.
+/// rectangle, and once `sent` has emptied it the next piece takes its place. An answer keeps the format and the choice
+/// that held at its cut. Tiles count as sent from the cut on, so what a message makes the session forget while pieces
+/// are unsent stays forgotten.
 #[derive(Drop)]
 pub struct Session {
     width: u64,
@@ -51,7 +51,7 @@ pub struct Session {
     out: Outgoing,
     held: Held,
     waiting: Option<Input>,
-    // How many updates were begun, for whoever keeps a log.
+    // How many answers were begun, for a log.
     answers: u64,
 }
 
@@ -122,7 +122,7 @@ impl Session {
         Session::begun(alloc, w, h, role, runs, None, out)
     }
 
-    /// A session of which so much of the hello was said.
+    /// A session that begins with this hello, or with none. What the hello says first waits in `out`.
     fn begun(
         alloc: Global,
         w: u64,
@@ -162,8 +162,7 @@ impl Session {
         })
     }
 
-    /// The piece that is sent next: the first of the bytes that aren't sent yet, and empty exactly where there are
-    /// none.
+    /// The piece that is sent next: the first of the unsent bytes. It is empty exactly where no byte is unsent.
     pub fn out(&self) -> &[u8]
         ensures value { result.now ≡ self.now.piece }
         ensures begins { Begins result.now self.now.unsent }
@@ -229,8 +228,9 @@ impl Session {
         self.waiting.is_some()
     }
 
-    /// Takes the input that waits: a message's that its role allows. Then none waits, and the bytes after the message
-    /// may be fed. Where none waits nothing has changed. It takes no memory.
+    /// Takes the input that waits: that of a message, as far as the viewer's role allows it. Then no input waits, and
+    /// the bytes after that message may be fed. Where none waits it answers `None`, and nothing has changed. It takes
+    /// no memory.
     pub fn take_input(&mut self) -> Option<Input>
         ensures value { option_map input_in result ≡ self.old.waiting }
         ensures others { self.new ≡ record self.old { waiting = None } }
@@ -247,9 +247,9 @@ impl Session {
         self.held.releases()
     }
 
-    /// The next input that is to be released where the viewer has left, and `None` once there is none left: the keys
-    /// that are down by rising number, then mask 0 at the last position if the last mask wasn't 0. An input that waits
-    /// is taken before. It takes no memory.
+    /// The next release of a viewer that has left: one of each key that is down, by rising number, and then mask 0 at
+    /// the last position if the last mask wasn't 0. After the last release it answers `None`. An input that waits has
+    /// to be taken before. It takes no memory.
     pub fn leave(&mut self) -> Option<Input>
         ensures next { MatchOption result ((left_in self.old.held ≡ []) × (self.new ≡ self.old)) (λ input. left_in self.old.held ≡ input_in input ∷ left_in self.new.held) }
         ensures others { self.new ≡ record self.old { held = self.new.held } }
@@ -258,19 +258,19 @@ impl Session {
         self.held.release()
     }
 
-    /// How many updates were begun to be sent, for a log: no clause speaks of it. It stays at the highest number.
+    /// How many answers were begun, for a log: no clause speaks of it. The count stays at the highest number.
     pub fn answers(&self) -> u64 {
         self.answers
     }
 
-    /// How many updates the screen showed that was looked at last, whether an answer was begun then or not, for a log: no
-    /// clause speaks of it.
+    /// How many updates the last look found, whether an answer was begun then or not. It is for a log: no clause speaks
+    /// of it.
     pub fn shown(&self) -> u64 {
         self.asked.last_cut().unwrap_or(0)
     }
 
-    /// Whether forms of tiles that a source lends would be used for its answers: these are in joined runs, in Hextile and
-    /// in a format that keeps colours apart. No clause speaks of it.
+    /// Whether answers would use the forms of tiles that a source lends: they are written in joined runs, in Hextile
+    /// and in a format that keeps colours apart. No clause speaks of it.
     pub fn wants_forms(&self) -> bool {
         self.runs == Runs::Joined
             && self.choice.kind == Encoding::Hextile
@@ -286,7 +286,7 @@ impl Session {
     }
 }
 
-/// What is to be said in a hello by now waits to be sent.
+/// The bytes of the hello that are to be said by now wait to be sent.
 fn say(hello: &mut ViewerHello, out: &mut Outgoing)
     requires room { out.old.filled + length (to_send hello.old) ≤ 65544 }
     requires alone { out.old.unsent ≡ out.old.piece }

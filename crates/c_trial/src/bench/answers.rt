@@ -28,7 +28,7 @@ fn keep(bytes: &[u8], sent: &mut [u8]) {
 }
 
 /// Writes all rectangles of an answer of the whole screen, each over the one before, and copies them one after the
-/// other as far as there is room. Answers how many bytes they are.
+/// other as far as there is room. It answers how many bytes they have.
 fn write_all(cut: &Cut, style: Style, room: &mut Room, sent: &mut [u8]) -> u64
     requires values { 16 * cut.now.width ≤ length room.old.values.items }
     requires out { 12 + 64 * cut.now.width ≤ length room.old.out.items }
@@ -132,9 +132,10 @@ fn prepare(alloc: Global, width: u64, height: u64) -> Result<(Cut, Room), Fault>
 }
 
 /// Copies colours into a cut, and writes an answer of the whole screen from it, this many times, and once more into
-/// `sent`; `kind`: the number of its encoding, and any other is Raw; `joined`: with joined runs, else with those of the
-/// rows; `all`: of all tiles, else of one; `copies`: the colours are copied anew each time. Answers how many bytes an answer has after its header, and 0 where there is no
-/// memory, no such screen or format, or colours of another size.
+/// `sent`. `kind` is the number of its encoding, and any other is Raw. With `joined` it has joined runs, and otherwise
+/// those of the rows. With `all` it is of all tiles, and otherwise of one. With `copies` the colours are copied anew
+/// each time. It answers how many bytes an answer has after its header, or 0 where there is no memory, no such screen
+/// or format, or colours of another size.
 #[unsafe(no_mangle)]
 pub extern "C" fn bench_answers(
     alloc: Global,

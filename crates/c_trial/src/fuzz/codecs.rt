@@ -89,8 +89,8 @@ fn write_raster(raster: &Raster, report: &mut Report<'_>) {
     }
 }
 
-/// Writes a rectangle whose pixels stand there in Raw, and answers how many bytes it has; 0 where Raw is as short, or
-/// where this is no rectangle or has no room.
+/// Writes a rectangle whose pixels come in Raw, and answers how many bytes it has. It answers 0 where Raw is as short,
+/// or where this is no rectangle or has no room.
 #[unsafe(no_mangle)]
 pub extern "C" fn fuzz_encode(
     alloc: Global,

@@ -5,7 +5,7 @@ use crate::fuzz::report::Report;
 use fault::Fault;
 use rfb_wire::{HostHello, ViewerHello};
 
-/// Writes down what there is to say to the viewer: it is said.
+/// Writes down what there is to send to the viewer, and notes that it is sent.
 fn say_to_viewer(hello: &mut ViewerHello, report: &mut Report<'_>) {
     let count = hello.out().len();
     report.bytes(hello.out());
@@ -51,7 +51,7 @@ pub extern "C" fn fuzz_viewer_hello(
     report.len()
 }
 
-/// What a host told of its refusal.
+/// The reason that a host gave for its refusal.
 fn write_reason(fault: &Option<Fault>, report: &mut Report<'_>) {
     if let Some(Fault::HostRefused(reason)) = fault {
         report.number(reason.len() as u64);

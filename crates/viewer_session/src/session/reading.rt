@@ -21,7 +21,7 @@ use roles::Input;
 pub struct Fed {
     /// How many of its bytes were used.
     pub used: usize,
-    /// Where a text of at most 65,536 bytes is whole now, whether it is lost since it found no memory.
+    /// Where they completed a text of at most 65,536 bytes: whether that is lost, since it found no memory.
     pub lost: Option<bool>,
 }
 
@@ -36,8 +36,7 @@ impl Session {
         }
     }
 
-    /// A byte of the hello is taken. What is to be said to it waits to be sent; where the byte shows a fault that is
-    /// nothing.
+    /// A byte of the hello is taken. The answer to it waits to be sent; a byte that shows a fault has none.
     fn greet(&mut self, byte: u8)
         requires wants { wants_more (hello_of self.old.greeting) ≡ true }
         requires none { self.old.waiting ≡ None }
@@ -45,7 +44,8 @@ impl Session {
         ensures stands { (s : Setup) (p : Viewer) → Stands s self.old p → Stands s self.new (after_byte p byte) }
     {
         if let Some(hello) = &mut self.hello {
-            // It uses the byte, since it wants one. A fault that the byte shows stays in it: `hello_fault` names it.
+            // The hello uses the byte, since it wants one. It keeps a fault that the byte shows, and `hello_fault`
+            // names that.
             let _ = hello.feed(&[byte]);
             say(hello, &mut self.out);
         }
@@ -97,7 +97,7 @@ impl Session {
         self.have.forget_all();
     }
 
-    /// A list of encodings is taken: the choice that it comes to holds for each answer from now on.
+    /// A list of encodings is taken: from now on answers are written by the choice that it leads to.
     fn set_choice(&mut self, choice: Choice)
         ensures same { IsSameSession self.old self.new }
         ensures reader { (self.new.reader ≡ self.old.reader) × (self.new.greeting ≡ self.old.greeting) }
@@ -107,7 +107,7 @@ impl Session {
         self.choice = choice;
     }
 
-    /// An input waits, where it passes.
+    /// Where this input passes, it waits from now on.
     fn wait(&mut self, passes: bool, input: Input)
         ensures { self.new ≡ record self.old { waiting = if passes then Some (input_in input) else self.old.waiting } }
     {
@@ -169,9 +169,9 @@ impl Session {
         Ok(Fed { used, lost })
     }
 
-    /// Takes bytes of the hello, or of the messages after it up to the end of one; at least one byte, where there is
-    /// one. It fails at the byte that shows a fault, and from then on it uses no byte and fails with the same fault:
-    /// those of `feed`.
+    /// Takes bytes of the hello, or bytes of the messages after it up to the end of one message. It uses at least one
+    /// byte, where there is one. It fails at the byte that shows a fault, and from then on it uses no byte and fails
+    /// with the same fault. The faults are those of `feed`.
     pub fn feed_message(&mut self, piece: &[u8]) -> Result<Fed, Fault>
         requires none { self.old.waiting ≡ None }
         ensures same { IsSameSession self.old self.new }
@@ -186,9 +186,9 @@ impl Session {
         Ok(Fed { used, lost: None })
     }
 
-    /// Takes a piece of the viewer's bytes: first those of its hello, then its messages, up to one whose input waits;
-    /// while one waits no byte is used. It fails at the byte that shows a fault, and from then on it uses no byte and
-    /// fails with the same fault.
+    /// Takes a piece of the viewer's bytes: first those of its hello, then its messages, up to one whose input then
+    /// waits. While an input waits no byte is used. It fails at the byte that shows a fault, and from then on it uses
+    /// no byte and fails with the same fault.
     ///
     /// `BadVersion` and `BadChoice` in the hello; `UnknownMessage` at a type that isn't known, `BadFormat` at a pixel
     /// format that isn't accepted.

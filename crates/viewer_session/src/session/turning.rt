@@ -44,8 +44,8 @@ impl Session {
             || (self.asked.area().is_some() && self.asked.has_asked())
     }
 
-    /// The answer to a pending area at the cut, where a tile of it is due. Then the area is no longer pending, and each
-    /// tile that lies wholly inside it counts as sent.
+    /// The answer for this area at the cut, where a tile of the area is due. Then no area is pending any longer, and
+    /// each tile that lies wholly inside the area counts as sent.
     fn answer(&mut self, area: Option<Rect>, number: u64) -> Option<Answer>
         requires { LiesOn self.old.cut.width self.old.cut.height area }
         ensures others { self.new ≡ record self.old { asked = self.new.asked; have = self.new.have } }
@@ -71,13 +71,13 @@ impl Session {
         Some(answer)
     }
 
-    /// The second half of a turn, after a look that replied `looked`: where there is reason the source is cut, and what
+    /// The second half of a turn, after a look that replied `looked`. Where there is reason the source is cut, and what
     /// the cut brings begins to be sent: one Bell where Bells have become more since the last cut, the text where it is
-    /// newer, and an update of the pending area where a tile of it is due. The first cut brings neither Bell nor text.
-    /// It answers whether anything is begun.
+    /// newer, and an answer for the pending area where a tile of that is due. The first cut brings neither Bell nor
+    /// text. The call answers whether anything is begun.
     ///
-    /// It takes no memory, and fails where the source has ended (`Gone`), if it may end; then session and source are as
-    /// they were.
+    /// It takes no memory. It fails where a source that may end has ended (`Gone`); then session and source are as they
+    /// were.
     pub fn turn_at<S: ScreenSource>(&mut self, source: &mut S, looked: u64) -> Result<bool, Fault>
         requires ready { is_ready self.old ≡ true }
         requires screen { (S.width source.old ≡ self.old.width) × (S.height source.old ≡ self.old.height) }
@@ -124,7 +124,8 @@ impl Session {
     }
 }
 
-/// What a cut has that is news since the one of this number, which showed this many Bells. At the first cut nothing is.
+/// What a cut has that is news since the cut of this number, which showed this many Bells. At the first cut nothing is
+/// news.
 fn news_of(cut: &Cut, last: Option<u64>, bells: u64) -> News
     ensures bell { result.bell ≡ rings last bells cut.now.bells }
     ensures text { result.text ≡ has_newer last cut.now.text }
