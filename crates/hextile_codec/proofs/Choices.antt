@@ -6,7 +6,7 @@ use Rattle.std.proofs.Math.ListN.{get_or-append}
 use Rattle.std.proofs.Math.Seq.{get_or-append_seam}
 use Rattle.pixel_format.specs.PixelFormat.{PixelFormat}
 use Rattle.raster.specs.declared.rect.Rect.{Rect}
-use Rattle.raster.specs.Screen.{Canvas, part_of, tile_rect}
+use Rattle.raster.specs.Screen.{Canvas, part_of, tile_count, tile_rect}
 use Rattle.raster.specs.Encoding.{Carried, Subrect}
 use Rattle.joined_runs.specs.declared.runs.Runs.TheVariants.{Joined}
 use Rattle.joined_runs.specs.Joined.{tile_bytes_as}
@@ -53,6 +53,13 @@ chosen_by format w h k shown before tile forms form choice is so kept by =
     let same : by.form ≡ form = cc in
     subst (λ (f : TileForm). IsChosen Joined format before tile.w tile.h (part_of tile shown) (map (tinted_subrect format) (map subrect_of f.runs.items)) choice) same
     (chosen_of format w h k shown before tile _ choice is so by.chosen)
+
+-- What is chosen of tile k, whose form is found, by what was chosen of all tiles.
+pub choice_at : (format : PixelFormat) (w h k : ℕ) (shown : Canvas) (before : Carried) (tile : Rect) (forms : List (Option TileForm)) (form : TileForm) (choices : List TileChoice) (none : TileChoice) → AreChosenBy format w h shown forms choices
+    → length choices ≡ tile_count w h → k < tile_count w h → tile ≡ tile_rect w h k → before ≡ carried_to format w h shown k → slice_index_or forms k None ≡ Some form
+    → IsChosen Joined format before tile.w tile.h (part_of tile shown) (map (tinted_subrect format) (map subrect_of form.runs.items)) (slice_index_or choices k none)
+choice_at format w h k shown before tile forms form choices none are all inside is so kept =
+    chosen_by format w h k shown before tile forms form (slice_index_or choices k none) is so kept (are k none (omega (arith, inside, all)))
 
 pub one_more : (format : PixelFormat) (w h k : ℕ) (shown : Canvas) (forms : List (Option TileForm)) (choices : List TileChoice) (choice : TileChoice) → length choices ≡ k
     → AreChosenBy format w h shown forms choices → IsChosenBy format w h shown forms k choice → AreChosenBy format w h shown forms (choices ++ choice ∷ [])
