@@ -1,0 +1,48 @@
+//! Tests of `serve` over loopback alone, a host and a viewer in threads, and `serve` between them, in which each wait
+//! ends; of the pause that it makes; and of the lines that `serve_options` and `command_line` read.
+#![tactic(auto)]
+
+#[cfg(test)]
+mod control;
+#[cfg(test)]
+mod early;
+#[cfg(test)]
+mod ending;
+#[cfg(test)]
+mod forms;
+#[cfg(test)]
+mod host;
+#[cfg(test)]
+mod input;
+#[cfg(test)]
+mod journal;
+#[cfg(test)]
+mod lines;
+#[cfg(test)]
+mod loopback;
+#[cfg(test)]
+mod meeting;
+#[cfg(test)]
+mod names;
+#[cfg(test)]
+mod options;
+#[cfg(test)]
+mod pauses;
+#[cfg(test)]
+mod proxied;
+#[cfg(test)]
+mod room;
+#[cfg(test)]
+mod scene;
+#[cfg(test)]
+mod surroundings;
+#[cfg(test)]
+mod system;
+#[cfg(test)]
+mod turns;
+#[cfg(test)]
+mod updates;
+#[cfg(test)]
+mod viewer;
+#[cfg(test)]
+mod visits;

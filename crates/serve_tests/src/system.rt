@@ -1,0 +1,106 @@
+//! What a runtime in a room hands on as it is: memory, random bytes and sockets that are files. It has no other files.
+
+use crate::room::Ear;
+use std::alloc::{Allocator, Global};
+use std::fs::{File, Metadata, OpenOptions};
+use std::io;
+use std::io::ErrorKind;
+use std::os::fd::BorrowedFd;
+use std::os::unix::net::SocketAddr;
+use std::random::RandomSource;
+use std::rt::Files;
+
+impl<R: Drop> Alloc for Ear<R> {
+    type A = Global;
+
+    fn alloc(&self) -> Global {
+        self.alloc
+    }
+}
+
+impl<R: RandomSource + Drop> RandomSource for Ear<R> {
+    fn fill_bytes(&self, buf: &mut [u8]) -> io::Result<()> {
+        self.rt.fill_bytes(buf)
+    }
+}
+
+/// No scene has files.
+fn none<T>() -> io::Result<T> {
+    Err(io::Error::from(ErrorKind::Unsupported))
+}
+
+/// Files that are sockets.
+pub(crate) trait SocketFiles {
+    /// Gives this address to a socket.
+    fn bind(&self, socket: BorrowedFd<'_>, address: &SocketAddr) -> io::Result<()>;
+
+    /// What stands at this path.
+    fn find(&self, path: &str) -> io::Result<Metadata>;
+
+    /// Removes it.
+    fn remove(&self, path: &str) -> io::Result<()>;
+}
+
+impl SocketFiles for HostRuntime {
+    fn bind(&self, socket: BorrowedFd<'_>, address: &SocketAddr) -> io::Result<()> {
+        self.bind_unix(socket, address)
+    }
+
+    fn find(&self, path: &str) -> io::Result<Metadata> {
+        self.symlink_metadata(path)
+    }
+
+    fn remove(&self, path: &str) -> io::Result<()> {
+        self.remove_file(path)
+    }
+}
+
+impl<R: SocketFiles + Drop> Files for Ear<R> {
+    type File = File;
+
+    type Dir = io::Empty;
+
+    fn open_file(&self, _how: &OpenOptions, _path: &str) -> io::Result<File> {
+        none()
+    }
+
+    fn open_dir(&self, _path: &str) -> io::Result<io::Empty> {
+        none()
+    }
+
+    fn metadata(&self, _path: &str) -> io::Result<Metadata> {
+        none()
+    }
+
+    fn symlink_metadata(&self, path: &str) -> io::Result<Metadata> {
+        self.rt.find(path)
+    }
+
+    fn copy(&self, _from: &str, _to: &str) -> io::Result<u64> {
+        none()
+    }
+
+    fn rename(&self, _from: &str, _to: &str) -> io::Result<()> {
+        none()
+    }
+
+    fn remove_file(&self, path: &str) -> io::Result<()> {
+        self.rt.remove(path)
+    }
+
+    fn create_dir(&self, _path: &str) -> io::Result<()> {
+        none()
+    }
+
+    fn remove_dir(&self, _path: &str) -> io::Result<()> {
+        none()
+    }
+
+    fn remove_dir_all<B: Allocator>(&self, _alloc: B, _path: &str) -> io::Result<()> {
+        none()
+    }
+
+    fn bind_unix(&self, socket: BorrowedFd<'_>, address: &SocketAddr) -> io::Result<()> {
+        self.rt.bind(socket, address)
+    }
+}

@@ -1,9 +1,0 @@
-use Rattle.std.proofs.Common.{subst, sym}
-use Rattle.raster.specs.Screen.{opening}
-use Rattle.host_decoder.specs.Decoder.{Decodes, Decoding, host_message}
-use Rattle.thread_tests.proofs.loops.host.read.Goals as goal
-
-pub run_host-answer-requires-clause-begins : goal.run_host-answer-requires-clause-begins
-run_host-answer-requires-clause-begins g c =
-    let begins = c.new-decoder.ensures.begins opening c.in_ok-painter.painter c.in_ok-painter.ensures.black in
-    (opening, subst (λ (d : Decoding). Decodes c.new-decoder.result c.in_ok-painter.painter opening (host_message d.width d.height)) (sym c.new-decoder.ensures.value) begins)
