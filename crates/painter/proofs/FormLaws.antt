@@ -1,16 +1,18 @@
 -- A tile's kept form stays its colours' form for as long as these stay: a form asks of a tile's positions alone, and a
 -- patch paints those of its tiles.
-use Rattle.std.proofs.Common.{◌≡◌, ◌≢◌, ℕ, ◌+◌, ◌*◌, ◌<◌, ◌≤◌, ◌^◌, Bool, false, List, [], ◌∷◌, length, map, Option, None, refl, ap, sym, subst, ◌∙◌, arith, inl, inr}
+use Rattle.std.proofs.Common.{◌≡◌, ◌≢◌, ℕ, suc, ◌+◌, ◌-◌, ◌*◌, ◌<◌, ◌≤◌, ◌^◌, Bool, false, List, [], ◌∷◌, length, take, drop, map, get_or, Option, None, refl, ap, sym, subst, ◌∙◌, arith, zero-add, inl, inr}
 use Rattle.std.specs.Prelude.{◌==◌, ◌||◌, if◌then◌else◌, slice_index_or, IfSome}
-use Rattle.std.specs.List.{list_any}
-use Rattle.std.proofs.Math.Nat.{mul_comm, mul-le-mul}
+use Rattle.std.specs.List.{AllPairs, list_any}
+use Rattle.std.proofs.Math.Nat.{mul_comm}
 use Rattle.std.proofs.lemmas.Bool.{both_ways, cases_Bool, cases_eq, cases_lt, eq-eqb, ne_eqb}
 use Rattle.std.proofs.lemmas.List.{get_or_past}
+use Rattle.std.proofs.lemmas.List.Folds.{list_any_none}
+use Rattle.std.proofs.lemmas.List.Kept.{AllPairs-from_increasing}
 use Rattle.raster.specs.declared.rect.Rect.{Rect}
-use Rattle.raster.specs.Screen.{Canvas, IsWithin, LooksLike, meets, part_of, tile_count, tile_rect, value_at}
+use Rattle.raster.specs.Screen.{Canvas, IsWithin, LooksLike, lay, meets, part_of, tile_count, tile_rect, value_at}
 use Rattle.raster.specs.Encoding.{Subrect}
-use Rattle.raster.specs.Size.{IsScreenSize}
-use Rattle.raster.specs.Update.{Paint, painted, paints_of}
+use Rattle.raster.specs.declared.tile.TheConstants.{TILE_SIDE}
+use Rattle.raster.specs.Update.{Paint, Put, after_paint, after_paints, painted, paints_of}
 use Rattle.raster.proofs.Places.{Has, holds_has}
 use Rattle.tiles.proofs.Ranges.{IsTile, tile_is}
 use Rattle.tiles.proofs.Touching.{or_left, or_right, same_after_paints}
@@ -28,8 +30,8 @@ use Rattle.hextile_codec.specs.Marks.{LiesAmong}
 use Rattle.hextile_codec.proofs.KeptForms.{if_some}
 use Rattle.painter.specs.Forms.{AreFormsBut, TookForms}
 use Rattle.painter.specs.Newer.{TookTiles}
-use Rattle.painter.specs.Patch.{ShowsOver, SizedUpdate, tile_paints}
-use Rattle.painter.proofs.PatchLaws.{meets_tiles, tile_within}
+use Rattle.painter.specs.Patch.{AreTiles, AreTouchedTiles, IsPainted, ShowsOver, ShowsTiles, SizedUpdate, tile_area, tile_paints}
+use Rattle.painter.proofs.PatchLaws.{meets_tiles, others, tile_within}
 use Rattle.painter.proofs.TilePuts.{meet_by}
 
 -- ---- what looks alike has one form
@@ -80,18 +82,33 @@ stands_on w h t a b form lw lt same stands =
     (stands_alike r.w r.h (part_of r a) (part_of r b) some.0 some.1
     (λ x y lx ly. same (r.x + x) (r.y + y) (record { left = omega arith; right = omega (arith, lx); top = omega arith; bottom = omega (arith, ly) }))) stands
 
--- The tile lies among the screen's colours.
-pub tile_lies : (w h t : ℕ) (colours : List ℕ) → IsScreenSize w h → length colours ≡ w * h → t < tile_count w h → LiesAmong colours w (tile_rect w h t)
-tile_lies w h t colours size count lt =
+-- It stays so where the tile shows other colours, which stand row after row.
+pub stands_shown : (w h t : ℕ) (colours : List ℕ) (screen : Canvas) (form : Option TileForm) → 0 < w → t < tile_count w h
+    → LooksLike (tile_rect w h t).w (tile_rect w h t).h (part_of (tile_rect w h t) screen) (value_at (tile_rect w h t).w colours)
+    → IfSome form (λ f. FormStands f (tile_rect w h t).w (tile_rect w h t).h (value_at (tile_rect w h t).w colours)) → Stands w h screen t form
+stands_shown w h t colours screen form lw lt shows stands =
     let r : Rect = tile_rect w h t in
-    let within : IsWithin r w h = tile_within w h t (omega (arith, size.wide.0)) lt in
-    let rows : (r.y + r.h) * w ≤ h * w = mul-le-mul {n₁ = r.y + r.h} {m₁ = w} {n₂ = h} {m₂ = w} within.down (omega arith) in
-    let turned : h * w ≡ w * h = mul_comm h w in
+    let some = tile_some w h t lw lt in
+    if_some (λ f. FormStands f r.w r.h (value_at r.w colours)) (λ f. FormStands f r.w r.h (part_of r screen)) form
+    (stands_alike r.w r.h (value_at r.w colours) (part_of r screen) some.0 some.1 shows) stands
+
+-- The part of a tile's colours that is the whole tile has the same form.
+pub stands_whole : (w h : ℕ) (colours : Canvas) (form : Option TileForm) → 0 < w → 0 < h
+    → IfSome form (λ f. FormStands f w h (part_of (record { x = 0; y = 0; w = w; h = h }) colours)) → IfSome form (λ f. FormStands f w h colours)
+stands_whole w h colours form lw lh stands =
+    let part : Canvas = part_of (record { x = 0; y = 0; w = w; h = h }) colours in
+    if_some (λ f. FormStands f w h part) (λ f. FormStands f w h colours) form
+    (stands_alike w h part colours lw lh (λ x y lx ly. sym (ap (λ k. colours k (0 + y)) (zero-add x) ∙ ap (colours x) (zero-add y)))) stands
+
+-- A tile lies among its own colours.
+pub lies_alone : (w h : ℕ) (colours : List ℕ) → length colours ≡ w * h → w ≤ TILE_SIDE → h ≤ TILE_SIDE → LiesAmong colours w (record { x = 0; y = 0; w = w; h = h })
+lies_alone w h colours count wide high =
+    let turned : (0 + h) * w ≡ w * h = ap (λ k. k * w) (zero-add h) ∙ mul_comm h w in
     record {
-      across = within.across;
-      down = omega (arith, rows, turned, count);
-      wide = omega (arith, size.wide.1);
-      high = omega (arith, size.high.1, within.down);
+      across = omega arith;
+      down = omega (arith, turned, count);
+      wide = omega (arith, wide);
+      high = omega (arith, high);
     }
 
 -- ---- where the forms are kept
@@ -138,6 +155,50 @@ pub stand_but : (patch : SizedUpdate) (old new : List ℕ) (forms : List (Option
     → (t : ℕ) → t < length forms → t < tile_count patch.width patch.height → touches (tile_rect patch.width patch.height t) patch.update ≡ false → Stands patch.width patch.height (value_at patch.width new) t (slice_index_or forms t None)
 stand_but patch old new forms some shows stand t there lt out =
     stands_on patch.width patch.height t (value_at patch.width old) (value_at patch.width new) (slice_index_or forms t None) some lt (λ x y has. unpainted patch t old new x y shows out has) (stand t there lt)
+
+-- ---- what a patch shows
+
+-- What is laid over a rectangle shows there.
+laid : (r : Rect) (over under : Canvas) (x y : ℕ) → Has r (r.x + x) (r.y + y) → lay r over under (r.x + x) (r.y + y) ≡ over x y
+laid r over under x y has =
+    let column : r.x + x - r.x ≡ x = omega arith in
+    let row : r.y + y - r.y ≡ y = omega arith in
+    ap (λ b. if b then over (r.x + x - r.x) (r.y + y - r.y) else under (r.x + x) (r.y + y)) (holds_has r (r.x + x) (r.y + y) has)
+    ∙ (ap (λ k. over k (r.y + y - r.y)) column ∙ ap (over x) row)
+
+-- Where numbers rise, the first doesn't come again.
+none_again : (t : ℕ) (ts : List ℕ) → AllPairs (λ k j. k < j) (t ∷ ts) → list_any (λ k. k == t) ts ≡ false
+none_again t ts rising =
+    list_any_none (λ k. k == t) ts
+    (λ i d lt.
+    let less : t < get_or ts i d = rising 0 (suc i) d (omega arith) (omega (arith, lt)) in
+    ne_eqb (get_or ts i d) t (λ e. omega (arith, less, e)))
+
+-- A screen on which tiles of rising numbers were painted shows each of them, since no other is painted over it.
+pub shown_tiles : (w h : ℕ) (ts colours : List ℕ) (before screen : Canvas) → 0 < w → AreTiles w h ts colours → AllPairs (λ k j. k < j) ts
+    → LooksLike w h screen (after_paints before (tile_paints w h ts colours)) → ShowsTiles w h ts colours screen
+shown_tiles w h [] colours before screen lw are rising shows = tt
+shown_tiles w h (t ∷ ts) colours before screen lw are rising shows =
+    let r : Rect = tile_rect w h t in
+    let first : List ℕ = take (tile_area w h t) colours in
+    let rest : List ℕ = drop (tile_area w h t) colours in
+    let next : Canvas = after_paint before (Put r first) in
+    let within : IsWithin r w h = tile_within w h t lw (are.there 0 t (omega arith)) in
+    let none : list_any (λ p. meets (painted p) r) (tile_paints w h ts rest) ≡ false = meets_tiles w h r ts rest ∙ none_met w h t ts (none_again t ts rising) in (
+      (λ x y lx ly.
+          let has : Has r (r.x + x) (r.y + y) = record { left = omega arith; right = omega (arith, lx); top = omega arith; bottom = omega (arith, ly) } in
+          shows (r.x + x) (r.y + y) (omega (arith, within.across, lx)) (omega (arith, within.down, ly))
+          ∙ (same_after_paints next (tile_paints w h ts rest) r (r.x + x) (r.y + y) none has ∙ laid r (value_at r.w first) before x y has)),
+      shown_tiles w h ts rest next screen lw (others w h t ts colours are) (λ i j d lt less. rising (suc i) (suc j) d (omega (arith, lt)) (omega (arith, less))) shows,
+    )
+
+-- So a screen shows the tiles of a patch once it was painted.
+pub patch_shown : (patch : SizedUpdate) (colours ts tiles : List ℕ) → 0 < patch.width → tile_paints patch.width patch.height ts tiles ≡ paints_of patch.update
+    → AreTouchedTiles patch.width patch.height ts tiles → IsPainted patch colours → ShowsTiles patch.width patch.height ts tiles (value_at patch.width colours)
+patch_shown patch colours ts tiles lw paints are shown =
+    let before : Canvas = value_at patch.width shown.0 in
+    shown_tiles patch.width patch.height ts tiles before (value_at patch.width colours) lw are.tiles (AllPairs-from_increasing ts are.rising)
+    (subst (λ (ps : List Paint). LooksLike patch.width patch.height (value_at patch.width colours) (after_paints before ps)) (sym paints) (shown.1 before (λ x y lx ly. refl)))
 
 -- ---- one tile more
 

@@ -11,3 +11,5 @@ pub mod Switches
 pub mod NewerLaws
 pub mod CaughtUp
 pub mod FormLaws
+pub mod KeptTiles
+pub mod EncodedLaws

@@ -64,3 +64,9 @@ stands-push board patch w h n rung count old new grid touched last text us is si
       bells = ap (λ k. k + count) stood.bells ∙ (ap (λ k. bells us + k) (is_count ∙ counted (is_bell u)) ∙ sym (bells-push us u));
       text = ap (λ (t : Option NumberedText). newer t (n + 1) text) stood.text ∙ (ap (λ k. newer (last_text us) k text) next ∙ (ap (λ (t : Option (List ℕ)). newer (last_text us) (1 + length us) t) is_text ∙ sym (last_text-push us u)));
     }
+
+-- A board is the view of the same updates where its number, colours, Bells and text are the same.
+pub stands_as : (board : Posted) (us : List Update) (number rung : ℕ) (colours : List ℕ) (text : Option NumberedText) → number ≡ board.number → colours ≡ board.colours → rung ≡ board.bells → text ≡ board.text
+    → BoardStands board us → BoardStands (record { width = board.width; height = board.height; number = number; colours = colours; grid = board.grid; bells = rung; text = text }) us
+stands_as board us number rung colours text same_number same_colours same_bells same_text =
+    subst (λ (b : Posted). BoardStands b us) (λ i. record { width = board.width; height = board.height; number = sym same_number i; colours = sym same_colours i; grid = board.grid; bells = sym same_bells i; text = sym same_text i })

@@ -7,3 +7,5 @@ pub mod Same
 pub mod Newer
 pub mod Shown
 pub mod Forms
+pub mod WholeTiles
+pub mod Encoded

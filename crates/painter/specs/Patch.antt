@@ -2,7 +2,7 @@
 use Rattle.std.specs.Prelude.{◌≡◌, ℕ, ◌*◌, ◌<◌, ◌≤◌, Bool, true, false, List, [], ◌∷◌, length, take, drop, All, Option, Some, None}
 use Rattle.std.specs.List.{sum_by}
 use Rattle.std.specs.List.Sorted.{IsStrictlyIncreasing}
-use Rattle.raster.specs.Screen.{Canvas, LooksLike, tile_count, tile_rect, value_at}
+use Rattle.raster.specs.Screen.{Canvas, LooksLike, part_of, tile_count, tile_rect, value_at}
 use Rattle.raster.specs.Update.{Paint, Put, Update, Paints, Bell, Cut, after_paints, paints_of}
 use Rattle.painter.specs.declared.patch.Change.{Change}
 use Rattle.painter.specs.declared.patch.Change.TheVariants as code
@@ -52,6 +52,17 @@ abbrev pub ShowsOver : SizedUpdate → List ℕ → List ℕ → Type 0
 ShowsOver patch old new =
     (before : Canvas) → LooksLike patch.width patch.height (value_at patch.width old) before
     → LooksLike patch.width patch.height (value_at patch.width new) (after_paints before (paints_of patch.update))
+
+-- These colours of a screen are what painting the patch over some older ones leaves.
+abbrev pub IsPainted : SizedUpdate → List ℕ → Type 0
+IsPainted patch colours = (old : List ℕ) × ShowsOver patch old colours
+
+-- A screen of w by h shows these tiles in these colours, which stand one tile after the other.
+abbrev pub ShowsTiles : ℕ → ℕ → List ℕ → List ℕ → Canvas → Type 0
+ShowsTiles w h [] colours screen = Unit {0}
+ShowsTiles w h (t ∷ ts) colours screen =
+    LooksLike (tile_rect w h t).w (tile_rect w h t).h (part_of (tile_rect w h t) screen) (value_at (tile_rect w h t).w (take (tile_area w h t) colours))
+    × ShowsTiles w h ts (drop (tile_area w h t) colours) screen
 
 -- ---- what kind of update it is
 

@@ -1,8 +1,9 @@
 //! A board: what a list of updates shows, kept from one update to the next.
 
-ghost use Rattle.std.specs.Prelude.{◌≡◌, ℕ, ◌+◌, ◌*◌, ◌<◌, ◌≤◌, ◌^◌, List, [], ◌∷◌, ◌++◌, length, take, vec_capacity, IfOk, IfErr};
+ghost use Rattle.std.specs.Prelude.{◌≡◌, ℕ, ◌+◌, ◌*◌, ◌<◌, ◌≤◌, ◌^◌, List, [], ◌∷◌, ◌++◌, length, take, vec_capacity, IfOk, IfErr, IfSome};
 ghost use Rattle.hextile_codec.specs.Kept.{AreFormsOf};
 ghost use Rattle.painter.specs.Board.{BoardStands, IsSameScreen};
+ghost use Rattle.painter.specs.Encoded.{IsHextileOf};
 ghost use Rattle.painter.specs.Patch.{is_bell};
 ghost use Rattle.fault.specs.declared.kinds.Fault.TheVariants.{Memory};
 ghost use Rattle.raster.specs.Screen.{value_at};
@@ -10,12 +11,16 @@ ghost use Rattle.raster.specs.Size.{IsScreenSize};
 ghost use Rattle.raster.specs.Update.{Update};
 ghost use Rattle.std.specs.Int.{from_bool};
 
+use crate::area_source::AreaSource;
 use crate::copying::copy_lacked;
+use crate::encoded::EncodedAreas;
 use crate::forms::Forms;
 use crate::patch::Patch;
 use crate::text::LastText;
 use fault::Fault;
 use hextile_codec::TileForm;
+use pixel_format::Format;
+use raster::Rect;
 use std::alloc::Global;
 use std::marker::Model;
 use tiles::{Grid, LackedSince};
@@ -33,18 +38,21 @@ pub struct Board {
     bells: u64,
     text: LastText,
     forms: Forms,
+    encoded: EncodedAreas,
 }
 
 impl Model for Board {
+    ghost use Rattle.std.specs.Prelude.{length};
     ghost use Rattle.hextile_codec.specs.Kept.{AreFormsOf};
     ghost use Rattle.painter.specs.Board.{IsBoard, Posted};
+    ghost use Rattle.painter.specs.Encoded.{AreEncoded};
     ghost use Rattle.raster.specs.Screen.{value_at};
 
     ghost Value = { Posted };
 
     ghost view = { λ b. record { width = b.width; height = b.height; number = b.number; colours = b.colours.items; grid = b.grid; bells = b.bells; text = b.text } };
 
-    ghost invariant = { λ b. IsBoard (record { width = b.width; height = b.height; number = b.number; colours = b.colours.items; grid = b.grid; bells = b.bells; text = b.text }) × AreFormsOf b.width b.height (value_at b.width b.colours.items) b.forms.list.items };
+    ghost invariant = { λ b. IsBoard (record { width = b.width; height = b.height; number = b.number; colours = b.colours.items; grid = b.grid; bells = b.bells; text = b.text }) × AreFormsOf b.width b.height (value_at b.width b.colours.items) b.forms.list.items × AreEncoded b.encoded.format (value_at b.width b.colours.items) (length b.encoded.bytes.items) b.encoded.bytes.items b.encoded.list.items };
 }
 
 /// How many updates and how many Bells there are after a patch, given how many there were before it.
@@ -71,6 +79,7 @@ impl Board {
         let colours = vec![in alloc; 0u32; (width * height) as usize]?;
         let grid = Grid::new(alloc, width, height)?;
         let forms = Forms::new(alloc, width, height)?;
+        let encoded = EncodedAreas::new(alloc, width, height)?;
         Ok(Board {
             width,
             height,
@@ -80,6 +89,7 @@ impl Board {
             bells: 0,
             text,
             forms,
+            encoded,
         })
     }
 
@@ -134,9 +144,17 @@ impl Board {
         self.forms.list.as_slice()
     }
 
-    /// Applies the next update. It always succeeds, and takes no memory. If it `keeps` forms, the forms of the tiles
-    /// that change are made of their new colours; otherwise they are forgotten.
-    pub fn apply(&mut self, patch: &Patch, keeps: bool)
+    /// The data of an area in Hextile of joined runs in a format (RFC 6143, 7.7.4), where the area was encoded.
+    pub fn encoded(&self, area: &Rect, format: &Format) -> Option<&[u8]>
+        ensures { IfSome result (λ bytes. IsHextileOf format.now (value_at self.now.width self.now.colours) area.now bytes.now) }
+    {
+        self.encoded.find(area, format)
+    }
+
+    /// Applies the next update. It always succeeds, and takes no memory. If a format is `wanted`, the forms of the
+    /// tiles that change are made of their new colours, and the areas that change are encoded in that format; otherwise
+    /// forms and encoded areas are forgotten.
+    pub fn apply(&mut self, patch: &Patch, wanted: Option<Format>)
         requires size { (patch.now.width ≡ self.old.width) × (patch.now.height ≡ self.old.height) }
         requires number { self.old.number < 2 ^ 62 }
         ensures size { IsSameScreen self.old self.new }
@@ -145,8 +163,16 @@ impl Board {
     {
         let (number, bells) = counted(self.number, self.bells, patch);
         patch.paint(self.colours.as_mut_slice());
-        self.forms.renew(patch, self.colours.as_slice(), keeps);
+        self.forms
+            .renew(patch, self.colours.as_slice(), wanted.is_some());
         patch.touch(&mut self.grid, number);
+        let source = AreaSource {
+            width: self.width,
+            height: self.height,
+            colours: self.colours.as_slice(),
+            forms: self.forms.list.as_slice(),
+        };
+        self.encoded.renew(&source, &self.grid, self.number, wanted);
         self.text.follow(patch.text_bytes(), number);
         self.number = number;
         self.bells = bells;
@@ -154,8 +180,9 @@ impl Board {
 
     /// Takes over what a newer board of its screen shows, and then applies one update more. This board has to be the
     /// view of the newer one's first updates. The tiles that were touched since are copied with their forms, except
-    /// those that the patch brings. It always succeeds, and takes no memory. Forms are kept as in `apply`.
-    pub fn catch_up(&mut self, newer: &Board, patch: &Patch, keeps: bool)
+    /// those that the patch brings. It always succeeds, and takes no memory. Forms are kept, and areas encoded, as in
+    /// `apply`.
+    pub fn catch_up(&mut self, newer: &Board, patch: &Patch, wanted: Option<Format>)
         requires same { IsSameScreen self.old newer.now }
         requires size { (patch.now.width ≡ self.old.width) × (patch.now.height ≡ self.old.height) }
         requires number { newer.now.number < 2 ^ 62 }
@@ -175,18 +202,28 @@ impl Board {
             self.number,
         );
         let lacked = LackedSince::new(&self.grid, &newer.grid, self.number);
+        let keeps = wanted.is_some();
         self.forms
             .take_lacked(&newer.forms, &lacked, self.width, self.height, keeps);
         patch.paint(self.colours.as_mut_slice());
         self.forms.renew(patch, self.colours.as_slice(), keeps);
         self.grid.catch_up(&newer.grid, self.number);
+        let source = AreaSource {
+            width: self.width,
+            height: self.height,
+            colours: self.colours.as_slice(),
+            forms: self.forms.list.as_slice(),
+        };
+        self.encoded
+            .renew(&source, &self.grid, newer.number, wanted);
         self.text.catch_up(&newer.text, self.number);
         self.text.follow(patch.text_bytes(), number);
         self.number = number;
         self.bells = bells;
     }
 
-    /// Becomes equal to another board of its screen, and forgets its forms. It always succeeds, and takes no memory.
+    /// Becomes equal to another board of its screen, and forgets its forms and encoded areas. It always succeeds, and
+    /// takes no memory.
     pub fn copy_from(&mut self, other: &Board)
         requires { IsSameScreen self.old other.now }
         ensures { self.new ≡ other.now }
@@ -195,6 +232,7 @@ impl Board {
             .as_mut_slice()
             .copy_from_slice(other.colours.as_slice());
         self.forms.clear();
+        self.encoded.clear();
         self.grid.copy_from(&other.grid);
         self.text.copy_from(&other.text);
         self.number = other.number;
@@ -230,6 +268,7 @@ impl Board {
             bells: self.bells,
             text,
             forms: Forms::none(alloc),
+            encoded: EncodedAreas::none(alloc),
         }
     }
 }

@@ -1,18 +1,20 @@
 //! The forms of a board's tiles, which are kept while their colours stay.
 
-ghost use Rattle.std.specs.Prelude.{◌≡◌, ◌≢◌, ℕ, ◌*◌, ◌<◌, [], false, length, slice_index_or, All, None, Some, IfOk, IfErr, IfNone, IfSome, IsTrue};
+ghost use Rattle.std.specs.Prelude.{◌≡◌, ◌≢◌, ℕ, ◌*◌, ◌<◌, ◌≤◌, [], false, length, slice_index_or, None, Some, IfOk, IfErr, IfNone, IfSome, IsTrue};
 ghost use Rattle.fault.specs.declared.kinds.Fault.TheVariants.{Memory};
 ghost use Rattle.hextile_codec.specs.Kept.{AreFormsOf, FormStands};
 ghost use Rattle.painter.specs.Forms.{AreFormsBut, TookForms};
-ghost use Rattle.raster.specs.Screen.{part_of, tile_count, tile_rect, value_at};
+ghost use Rattle.painter.specs.Patch.{AreTiles, IsPainted, ShowsTiles};
+ghost use Rattle.raster.specs.Screen.{Canvas, part_of, tile_count, tile_rect, value_at};
 ghost use Rattle.raster.specs.Size.{IsScreenSize};
+ghost use Rattle.raster.specs.declared.tile.TheConstants.{TILE_SIDE};
 ghost use Rattle.tiles.specs.Grid.{is_lacked};
 ghost use Rattle.tiles.specs.Touched.{touches};
 
 use crate::patch::Patch;
 use fault::Fault;
 use hextile_codec::{TileForm, TileRoom, form_of_tile};
-use raster::{tile_count, tile_rect};
+use raster::{Rect, tile_count, tile_rect};
 use std::alloc::Global;
 use tiles::{DueTiles, LackedSince};
 
@@ -20,6 +22,16 @@ use tiles::{DueTiles, LackedSince};
 #[derive(Drop)]
 pub(crate) struct Forms {
     pub list: Vec<Option<TileForm>>,
+}
+
+/// The form of a tile of `w` by `h`, whose colours stand row after row; `None` as in `form_of_tile`.
+fn form_of_colours(colours: &[u32], w: u64, h: u64, room: &mut TileRoom) -> Option<TileForm>
+    requires count { length colours.now ≡ w * h }
+    requires wide { (0 < w) × (w ≤ TILE_SIDE) }
+    requires high { (0 < h) × (h ≤ TILE_SIDE) }
+    ensures { IfSome result (λ form. FormStands form w h (value_at w colours.now)) }
+{
+    form_of_tile(colours, w as usize, &Rect { x: 0, y: 0, w, h }, room)
 }
 
 impl Forms {
@@ -112,8 +124,8 @@ impl Forms {
         }
     }
 
-    /// Renews the forms of the tiles of these numbers, whose colours have changed. If it `keeps` forms, they are made
-    /// of the new colours; otherwise they are forgotten.
+    /// Renews the forms of the tiles of these numbers, which have changed to these colours, one whole tile after the
+    /// other. If it `keeps` forms, they are made of these; otherwise they are forgotten.
     fn renew_tiles(
         &mut self,
         width: u64,
@@ -123,28 +135,30 @@ impl Forms {
         keeps: bool,
     )
         requires size { IsScreenSize width height }
-        requires there { All (λ t. t < tile_count width height) numbers.now }
-        requires rows { length colours.now ≡ width * height }
-        requires others { AreFormsBut numbers.now width height (value_at width colours.now) self.old.list.items }
-        ensures { AreFormsOf width height (value_at width colours.now) self.new.list.items }
+        requires tiles { AreTiles width height numbers.now colours.now }
+        ensures { (screen : Canvas) → ShowsTiles width height numbers.now colours.now screen → AreFormsBut numbers.now width height screen self.old.list.items → AreFormsOf width height screen self.new.list.items }
     {
         let mut room = TileRoom::new();
+        let mut left = colours;
         for number in numbers {
-            let tile = tile_rect(width, height, *number);
+            let area = tile_rect(width, height, *number);
+            let (tile, behind) = left.split_at((area.w * area.h) as usize);
             let form = if keeps {
-                form_of_tile(colours, width as usize, &tile, &mut room)
+                form_of_colours(tile, area.w, area.h, &mut room)
             } else {
                 None
             };
             self.put(*number as usize, form);
+            left = behind;
         }
     }
 
-    /// Renews the forms of a patch's tiles after it was painted, which left these colours. Forms are kept as in
-    /// `Board::apply`.
+    /// Renews the forms of a patch's tiles after it was painted, which left the screen these colours. Forms are kept as
+    /// in `Board::apply`. They are made of the patch's own colours, which lie together: a tile's rows lie far apart on
+    /// a large screen. So only the contract reads the screen's.
     pub fn renew(&mut self, patch: &Patch, colours: &[u32], keeps: bool)
         requires size { IsScreenSize patch.now.width patch.now.height }
-        requires rows { length colours.now ≡ patch.now.width * patch.now.height }
+        requires shown { IsPainted patch.now colours.now }
         requires others { (t : ℕ) → t < length self.old.list.items → t < tile_count patch.now.width patch.now.height → touches (tile_rect patch.now.width patch.now.height t) patch.now.update ≡ false → IfSome (slice_index_or self.old.list.items t None) (λ form. FormStands form (tile_rect patch.now.width patch.now.height t).w (tile_rect patch.now.width patch.now.height t).h (part_of (tile_rect patch.now.width patch.now.height t) (value_at patch.now.width colours.now))) }
         ensures { AreFormsOf patch.now.width patch.now.height (value_at patch.now.width colours.now) self.new.list.items }
     {
@@ -152,9 +166,9 @@ impl Forms {
             return;
         }
         let (width, height) = patch.size();
-        let (numbers, _) = patch.tiles();
+        let (numbers, tiles) = patch.tiles();
         self.begin(width, height);
-        self.renew_tiles(width, height, numbers, colours, keeps);
+        self.renew_tiles(width, height, numbers, tiles, keeps);
     }
 
     /// Gives the tiles that are lacked on a screen of `width` by `height` the forms that a newer board keeps of them.

@@ -5,9 +5,12 @@
 //! needed.
 #![tactic(auto)]
 
+mod area_forms;
+mod area_source;
 mod board;
 mod canvas;
 mod copying;
+mod encoded;
 mod forms;
 mod law;
 mod painter;
@@ -16,6 +19,7 @@ mod room;
 mod shown;
 mod text;
 
+pub use area_source::AreaSource;
 pub use board::Board;
 pub use copying::copy_area;
 pub use law::{same_updates_are_put_together, same_updates_show_the_same};

@@ -1,14 +1,16 @@
 //! The colours that a cut shows.
 
-ghost use Rattle.std.specs.Prelude.{◌≡◌, ◌*◌, ◌<◌, ◌≤◌, ◌^◌, true, false, IfOk, IfErr, length, vec_capacity};
+ghost use Rattle.std.specs.Prelude.{◌≡◌, ◌*◌, ◌<◌, ◌≤◌, ◌^◌, true, false, IfOk, IfErr, IfSome, length, vec_capacity};
 ghost use Rattle.fault.specs.declared.kinds.Fault.TheVariants.{Memory};
 ghost use Rattle.hextile_codec.specs.Kept.{AreFormsOf};
+ghost use Rattle.painter.specs.Encoded.{IsHextileOf};
 ghost use Rattle.raster.specs.Screen.{IsWithin, LooksLike, lay, part_of, value_at};
 ghost use Rattle.raster.specs.Size.{IsScreenSize};
 
 use fault::Fault;
 use hextile_codec::TileForm;
 use painter::{Board, Shown, copy_area};
+use pixel_format::Format;
 use raster::Rect;
 use std::alloc::Global;
 use std::marker::Model;
@@ -156,6 +158,17 @@ impl Picture {
             // A board of another size is never shared. Testing the size here spares the type an invariant.
             Some(board) if board.size() == (width, height) => board.forms(),
             _ => &[],
+        }
+    }
+
+    /// The data of an area in Hextile of joined runs in a format, where the board that it shares has it encoded, on a
+    /// screen of this size.
+    pub fn encoded(&self, width: u64, height: u64, area: &Rect, format: &Format) -> Option<&[u8]>
+        ensures { IfSome result (λ bytes. IsHextileOf format.now (value_at width self.now.items) area.now bytes.now) }
+    {
+        match &self.shared {
+            Some(board) if board.size() == (width, height) => board.encoded(area, format),
+            _ => None,
         }
     }
 }

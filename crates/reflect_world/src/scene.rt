@@ -57,6 +57,7 @@ impl Scene {
         let Ok(places) = free_places(alloc) else {
             return Err(Fault::Memory);
         };
+        let relay = Relay::new(alloc)?;
         Ok(Scene {
             alloc,
             screen: PlainScreen::new(alloc, width, height)?,
@@ -64,7 +65,7 @@ impl Scene {
             host_fault: None,
             places,
             room,
-            relay: Relay::new(alloc)?,
+            relay,
         })
     }
 

@@ -11,6 +11,7 @@ use crate::published::Published;
 use crate::stamped::Stamped;
 use fault::Fault;
 use painter::{Board, Patch};
+use pixel_format::Format;
 use std::alloc::Global;
 use std::marker::Model;
 use std::sync::Arc;
@@ -145,14 +146,14 @@ impl<J: Naming> Spares<J> {
         Ok(opening)
     }
 
-    /// A board that nobody else has and that shows what the newest shows and one update more. `keeps` says whether it
-    /// keeps forms of the tiles that change (`painter::Board::catch_up`). It fails (`Memory`) where memory is refused,
-    /// or where every board that there may be is being read.
+    /// A board that nobody else has and that shows what the newest shows and one update more. If a format is `wanted`,
+    /// it keeps forms and encoded areas of what changes (`painter::Board::catch_up`). It fails (`Memory`) where memory
+    /// is refused, or where every board that there may be is being read.
     pub fn next(
         &mut self,
         newest: &Published<J>,
         patch: &Patch,
-        keeps: bool,
+        wanted: Option<Format>,
     ) -> Result<Arc<Board, Global>, Fault>
         requires size { (patch.now.width ≡ J.width) × (patch.now.height ≡ J.height) }
         requires number { length (puts_of newest.now) < 2 ^ 62 }
@@ -161,7 +162,7 @@ impl<J: Naming> Spares<J> {
         ensures err { IfErr result (λ fault. fault ≡ Memory) }
     {
         let spare = self.taken()?;
-        match spare.renewed(newest, patch, keeps) {
+        match spare.renewed(newest, patch, wanted) {
             Some(board) => Ok(board),
             None => Err(Fault::Memory),
         }

@@ -129,7 +129,7 @@ impl<J: Naming + Publishes, R: Wait + Drop> Puts for PairWriter<J, R> {
             return Err((Fault::Memory, patch));
         }
         // Everything that may be refused memory comes first, except the entry of the operation, whose room is kept.
-        let Ok(board) = self.spares.next(self.handle.published(), &patch, false) else {
+        let Ok(board) = self.spares.next(self.handle.published(), &patch, None) else {
             return Err((Fault::Memory, patch));
         };
         // This call does nothing. Its clause says that puts and raises take turns, so a put may follow.

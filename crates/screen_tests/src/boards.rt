@@ -44,7 +44,7 @@ fn apply(board: &mut Board, patch: &Patch)
     ensures same_height { board.new.height ≡ board.old.height }
 {
     if board.number() < 9 {
-        board.apply(patch, false);
+        board.apply(patch, None);
     }
 }
 

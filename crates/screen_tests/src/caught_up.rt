@@ -5,6 +5,7 @@ ghost use Rattle.std.specs.Prelude.{◌≡◌, IfOk};
 use crate::coloured::coloured;
 use fault::Fault;
 use painter::{Board, Painter, Patch};
+use pixel_format::Format;
 use raster::Rect;
 use std::alloc::Global;
 use std::test::Fail;
@@ -51,25 +52,25 @@ pub fn painted(alloc: Global, area: Rect, colours: &[u32; 2]) -> Result<Patch, F
 }
 
 /// One of the first nine updates is applied to a board, and the board that is behind goes on to it.
-pub fn go_on(behind: &mut Board, newest: &Board, next: &Patch, keeps: bool)
+pub fn go_on(behind: &mut Board, newest: &Board, next: &Patch, wanted: Option<Format>)
     requires behind { (behind.old.width ≡ 17) × (behind.old.height ≡ 2) }
     requires newest { (newest.now.width ≡ 17) × (newest.now.height ≡ 2) }
     requires next { (next.now.width ≡ 17) × (next.now.height ≡ 2) }
     ensures { (behind.new.width ≡ 17) × (behind.new.height ≡ 2) }
 {
     if newest.number() < 9 {
-        behind.catch_up(newest, next, keeps);
+        behind.catch_up(newest, next, wanted);
     }
 }
 
 /// One of the first nine updates is applied to a board.
-pub fn apply(board: &mut Board, next: &Patch, keeps: bool)
+pub fn apply(board: &mut Board, next: &Patch, wanted: Option<Format>)
     requires board { (board.old.width ≡ 17) × (board.old.height ≡ 2) }
     requires next { (next.now.width ≡ 17) × (next.now.height ≡ 2) }
     ensures { (board.new.width ≡ 17) × (board.new.height ≡ 2) }
 {
     if board.number() < 9 {
-        board.apply(next, keeps);
+        board.apply(next, wanted);
     }
 }
 
@@ -82,19 +83,14 @@ fn board_that_is_behind_goes_on(rt: HostRuntime) -> Result<(), Fail> {
     let mut behind = Board::new(alloc, 17, 2)?;
     // The next update paints the second tile; the first has to come from the newest.
     let next = painted(alloc, SECOND, &[4, 5])?;
-    go_on(&mut behind, &newest, &next, false);
+    go_on(&mut behind, &newest, &next, None);
     assert!(rt; told(&behind) == ([2, 0, 1, 2], None, [7, 5]));
-    apply(&mut newest, &next, false);
+    apply(&mut newest, &next, None);
     let mut text = Vec::new(alloc);
     text.push(b'a')?;
-    apply(&mut newest, &Patch::text(17, 2, text), false);
+    apply(&mut newest, &Patch::text(17, 2, text), None);
     // The board is behind by the text alone, and the next update paints a part of the first tile.
-    go_on(
-        &mut behind,
-        &newest,
-        &painted(alloc, FIRST, &[1, 2])?,
-        false,
-    );
+    go_on(&mut behind, &newest, &painted(alloc, FIRST, &[1, 2])?, None);
     assert!(rt; told(&behind) == ([4, 0, 4, 2], Some(3), [1, 5]));
     Ok(())
 }

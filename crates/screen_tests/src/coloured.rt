@@ -25,7 +25,7 @@ pub fn coloured(alloc: Global, width: u64, height: u64, colours: &[u32]) -> Resu
     let patch = painter.patch()?;
     let mut board = Board::new(alloc, width, height)?;
     if board.number() == 0 {
-        board.apply(&patch, false);
+        board.apply(&patch, None);
     }
     Ok(board)
 }

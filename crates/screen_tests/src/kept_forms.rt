@@ -5,6 +5,7 @@ ghost use Rattle.std.specs.Prelude.{◌≡◌};
 use crate::caught_up::{FIRST, SECOND, apply, go_on, painted};
 use hextile_codec::{TileForm, TileRoom, form_of_tile};
 use painter::Board;
+use pixel_format::Format;
 use raster::tile_rect;
 use std::test::Fail;
 
@@ -46,19 +47,31 @@ fn made(board: &Board) -> [Told; 2]
 fn forms_are_those_of_the_colours(rt: HostRuntime) -> Result<(), Fail> {
     let alloc = rt.alloc();
     let mut board = Board::new(alloc, 17, 2)?;
-    apply(&mut board, &painted(alloc, FIRST, &[1, 2])?, false);
+    apply(&mut board, &painted(alloc, FIRST, &[1, 2])?, None);
     assert!(rt; board.forms().is_empty());
     // Black but for two pixels of a row; and one over the other, of which the first is the background.
-    apply(&mut board, &painted(alloc, FIRST, &[3, 2])?, true);
+    apply(
+        &mut board,
+        &painted(alloc, FIRST, &[3, 2])?,
+        Some(Format::HOST),
+    );
     assert!(rt; both(&board) == [Some((2, 3)), None]);
-    apply(&mut board, &painted(alloc, SECOND, &[4, 5])?, true);
+    apply(
+        &mut board,
+        &painted(alloc, SECOND, &[4, 5])?,
+        Some(Format::HOST),
+    );
     assert!(rt; both(&board) == [Some((2, 3)), Some((1, 5))]);
     assert!(rt; both(&board) == made(&board));
     // Other colours have another form, which is forgotten where none is to be kept.
-    apply(&mut board, &painted(alloc, SECOND, &[6, 6])?, true);
+    apply(
+        &mut board,
+        &painted(alloc, SECOND, &[6, 6])?,
+        Some(Format::HOST),
+    );
     assert!(rt; both(&board) == [Some((2, 3)), Some((0, 0))]);
     assert!(rt; both(&board) == made(&board));
-    apply(&mut board, &painted(alloc, FIRST, &[7, 8])?, false);
+    apply(&mut board, &painted(alloc, FIRST, &[7, 8])?, None);
     assert!(rt; both(&board) == [None, Some((0, 0))]);
     Ok(())
 }
@@ -69,20 +82,28 @@ fn forms_are_caught_up(rt: HostRuntime) -> Result<(), Fail> {
     let alloc = rt.alloc();
     let mut newest = Board::new(alloc, 17, 2)?;
     let mut behind = Board::new(alloc, 17, 2)?;
-    apply(&mut newest, &painted(alloc, FIRST, &[1, 2])?, true);
-    apply(&mut newest, &painted(alloc, SECOND, &[4, 5])?, true);
+    apply(
+        &mut newest,
+        &painted(alloc, FIRST, &[1, 2])?,
+        Some(Format::HOST),
+    );
+    apply(
+        &mut newest,
+        &painted(alloc, SECOND, &[4, 5])?,
+        Some(Format::HOST),
+    );
     let next = painted(alloc, SECOND, &[9, 9])?;
-    go_on(&mut behind, &newest, &next, true);
+    go_on(&mut behind, &newest, &next, Some(Format::HOST));
     assert!(rt; both(&behind) == [Some((2, 1)), Some((0, 0))]);
     assert!(rt; both(&behind) == made(&behind));
     // A newer board whose tile has no form leaves it without one.
-    apply(&mut newest, &next, false);
-    apply(&mut newest, &painted(alloc, FIRST, &[3, 3])?, false);
+    apply(&mut newest, &next, None);
+    apply(&mut newest, &painted(alloc, FIRST, &[3, 3])?, None);
     go_on(
         &mut behind,
         &newest,
         &painted(alloc, SECOND, &[7, 8])?,
-        false,
+        None,
     );
     assert!(rt; both(&behind) == [None, None]);
     Ok(())

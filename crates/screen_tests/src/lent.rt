@@ -65,7 +65,7 @@ pub fn applies(painter: &mut Painter, board: &mut Board) -> bool
 {
     match painter.patch() {
         Ok(patch) => {
-            board.apply(&patch, false);
+            board.apply(&patch, None);
             true
         }
         Err(_) => false,

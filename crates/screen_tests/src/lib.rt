@@ -13,6 +13,8 @@ mod coloured;
 #[cfg(test)]
 mod decoding;
 #[cfg(test)]
+mod encoded_areas;
+#[cfg(test)]
 mod formats;
 #[cfg(test)]
 mod host_faults;

@@ -108,7 +108,7 @@ fn apply_copy<R: Abort + AllocGlobal>(rt: &R, board: &mut Board, patch: &Patch)
     ensures number { board.new.number ≡ board.old.number + 1 }
 {
     let copied = patch.copy(rt.alloc()).expect(rt, "a copy");
-    board.apply(&copied, false);
+    board.apply(&copied, None);
 }
 
 /// Whether this is the board's text, and the number of its update.
@@ -125,10 +125,10 @@ fn counts_and_keeps<R: Abort + AllocGlobal>(rt: &R, board: &mut Board) -> bool
         && board.text().number().is_none()
         && board.colours() == [0, 0].as_slice();
     let bell = Patch::bell(2, 1);
-    board.apply(&bell, false);
+    board.apply(&bell, None);
     apply_copy(rt, board, &bell);
-    board.apply(&text(rt, 2, 1, &[7]), false);
-    board.apply(&bell, false);
+    board.apply(&text(rt, 2, 1, &[7]), None);
+    board.apply(&bell, None);
     is_new
         && board.number() == 4
         && board.bells() == 3
@@ -148,10 +148,10 @@ fn keeps_longest<R: Abort + AllocGlobal>(rt: &R, board: &mut Board, longest: &[u
     requires board { (board.old.width ≡ 1) × (board.old.height ≡ 1) × (board.old.number ≡ 0) }
     requires longest { length longest.now ≤ 65536 }
 {
-    board.apply(&text(rt, 1, 1, &[]), false);
+    board.apply(&text(rt, 1, 1, &[]), None);
     apply_copy(rt, board, &text(rt, 1, 1, longest));
     let is_kept = is_text(board, longest, 2);
-    board.apply(&text(rt, 1, 1, &[]), false);
+    board.apply(&text(rt, 1, 1, &[]), None);
     is_kept && is_text(board, &[], 3)
 }
 
@@ -179,7 +179,7 @@ fn copy_is_equal<R: Abort + AllocGlobal>(rt: &R, painter: &mut Painter, board: &
     requires board { (board.old.width ≡ 5) × (board.old.height ≡ 5) × (board.old.number ≡ 0) }
 {
     let patch = copied(rt, painter);
-    board.apply(&patch, false);
+    board.apply(&patch, None);
     patch.size() == (5, 5) && board.colours() == COUNTING.as_slice()
 }
 

@@ -1,13 +1,26 @@
-//! Whether it is worth making forms of tiles. No clause rests on it.
+//! Whether it is worth making forms of tiles and encoding areas, and in which format. No clause rests on it.
 
+use pixel_format::Format;
 use std::alloc::Global;
 use std::sync::Arc;
 use std::sync::atomic::{AtomicBool, AtomicUsize, Ordering};
 
-/// Counts the watchers for which forms of tiles are wanted.
+/// The format in which browsers draw: 32 bits, the least significant byte first, 8 bits a channel, red lowest (RFC
+/// 6143, 7.4).
+const BROWSERS: [u8; 16] = [32, 24, 0, 1, 0, 255, 0, 255, 0, 255, 0, 8, 16, 0, 0, 0];
+
+/// Whether this is the format in which browsers draw.
+fn is_browsers(format: Format) -> bool {
+    Format::read(&BROWSERS).is_ok_and(|browsers| browsers == format)
+}
+
+/// Counts the watchers for which forms of tiles are wanted: all of them, and those of the two formats in which most
+/// viewers draw.
 #[derive(Drop)]
 pub(crate) struct FormDemand {
     watchers: AtomicUsize,
+    in_hosts: AtomicUsize,
+    in_browsers: AtomicUsize,
 }
 
 impl FormDemand {
@@ -15,20 +28,45 @@ impl FormDemand {
     pub(crate) fn new() -> FormDemand {
         FormDemand {
             watchers: AtomicUsize::new(0),
+            in_hosts: AtomicUsize::new(0),
+            in_browsers: AtomicUsize::new(0),
         }
     }
 
-    /// Whether two watchers or more would share a form. A single one makes the form as quickly itself, as it writes.
-    pub(crate) fn is_shared(&self) -> bool {
-        self.watchers.load(Ordering::SeqCst) > 1
+    /// The format in which areas are to be encoded, where two watchers or more would share forms: the one of the two
+    /// that more of them want. A single watcher makes a form as quickly itself, as it writes.
+    pub(crate) fn format(&self) -> Option<Format> {
+        if self.watchers.load(Ordering::SeqCst) < 2 {
+            return None;
+        }
+        let in_browsers = self.in_browsers.load(Ordering::SeqCst);
+        if self.in_hosts.load(Ordering::SeqCst) < in_browsers {
+            return Format::read(&BROWSERS).ok();
+        }
+        Some(Format::HOST)
     }
 }
 
-/// What one watcher adds to the demand: one, where forms are wanted for it, or nothing.
+/// What one watcher adds to the demand.
 #[derive(Drop)]
 pub(crate) struct FormClaim {
     demand: Arc<FormDemand, Global>,
     is_made: AtomicBool,
+    is_in_hosts: AtomicBool,
+    is_in_browsers: AtomicBool,
+}
+
+/// Notes whether a watcher adds one to a count from now on.
+fn count(is_added: &AtomicBool, count: &AtomicUsize, adds: bool) {
+    if is_added.load(Ordering::SeqCst) == adds {
+        return;
+    }
+    is_added.store(adds, Ordering::SeqCst);
+    if adds {
+        count.fetch_add(1, Ordering::SeqCst);
+    } else {
+        count.fetch_sub(1, Ordering::SeqCst);
+    }
 }
 
 impl FormClaim {
@@ -37,20 +75,18 @@ impl FormClaim {
         FormClaim {
             demand,
             is_made: AtomicBool::new(false),
+            is_in_hosts: AtomicBool::new(false),
+            is_in_browsers: AtomicBool::new(false),
         }
     }
 
-    /// Notes whether forms are wanted for its watcher from now on.
-    pub(crate) fn set(&self, wants: bool) {
-        if self.is_made.load(Ordering::SeqCst) == wants {
-            return;
-        }
-        self.is_made.store(wants, Ordering::SeqCst);
+    /// Notes in which format forms are wanted for its watcher from now on, or that none are.
+    pub(crate) fn set(&self, format: Option<Format>) {
         let demand: &FormDemand = &self.demand;
-        if wants {
-            demand.watchers.fetch_add(1, Ordering::SeqCst);
-        } else {
-            demand.watchers.fetch_sub(1, Ordering::SeqCst);
-        }
+        let in_hosts = format == Some(Format::HOST);
+        let in_browsers = format.is_some_and(is_browsers);
+        count(&self.is_made, &demand.watchers, format.is_some());
+        count(&self.is_in_hosts, &demand.in_hosts, in_hosts);
+        count(&self.is_in_browsers, &demand.in_browsers, in_browsers);
     }
 }

@@ -15,3 +15,6 @@ pub use making::shared;
 pub use news::News;
 pub use publisher::Publisher;
 pub use watcher::Watcher;
+
+#[cfg(test)]
+mod tests;

@@ -112,8 +112,8 @@ impl<J: Naming + Publishes, R: Wait + Drop> Puts for Publisher<J, R> {
             return Err((Fault::Memory, patch));
         }
         // Everything that may be refused memory comes first, except the entry of the operation, whose room is kept.
-        let keeps = self.demand.is_shared();
-        let Ok(board) = self.spares.next(self.handle.published(), &patch, keeps) else {
+        let wanted = self.demand.format();
+        let Ok(board) = self.spares.next(self.handle.published(), &patch, wanted) else {
             return Err((Fault::Memory, patch));
         };
         self.raiser.put(&patch);

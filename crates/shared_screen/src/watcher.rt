@@ -14,6 +14,7 @@ use crate::demand::FormClaim;
 use crate::news::News;
 use crate::publisher::Publisher;
 use fault::Fault;
+use pixel_format::Format;
 use raster::Rect;
 use reflect_core::{Cut, ScreenSource};
 use screen_pair::{Eye, Publishes};
@@ -154,9 +155,9 @@ impl<J: Naming> ScreenSource for Watcher<J> {
         Ok(number)
     }
 
-    /// Notes whether forms are wanted for this watcher. Where two watchers or more want them, the publisher has forms
-    /// made of the tiles that change.
-    fn want_forms(&self, wants: bool) {
-        self.claim.set(wants);
+    /// Notes in which format forms and encoded areas are wanted for this watcher. Where two watchers or more want them,
+    /// the publisher has them made of what changes.
+    fn want_forms(&self, format: Option<Format>) {
+        self.claim.set(format);
     }
 }

@@ -4,6 +4,7 @@ ghost use Rattle.std.specs.Prelude.{◌≡◌, ◌≤◌};
 
 use crate::puts::{ALL, MANY, Reads, Room, beside, puts_many, puts_one};
 use fault::Fault;
+use pixel_format::Format;
 use reflect_core::ScreenSource;
 use screen_pair::Publishes;
 use shared_screen::{Publisher, Watcher, shared};
@@ -109,8 +110,8 @@ fn keeps_for_two<J: Naming + Publishes, R: Wait + Drop>(
     };
     let mut right = true;
     for n in 1..4u64 {
-        first.want_forms(n < 3);
-        second.want_forms(n > 1);
+        first.want_forms((n < 3).then_some(Format::HOST));
+        second.want_forms((n > 1).then_some(Format::HOST));
         let put = puts_one(alloc, publisher, n, false);
         let cut = second.cut(&ALL, &room.have, &mut room.cut);
         let is_kept = matches!(room.cut.forms().first(), Some(Some(_)));

@@ -1,10 +1,9 @@
 //! One rectangle of an answer (RFC 6143, 7.6.1 and 7.7).
 
-ghost use Rattle.std.specs.Prelude.{◌≡◌, ◌+◌, ◌*◌, ◌≤◌, ◌&&◌, true, false, length, IfSome, IfNone, IsTrue, Some};
-ghost use Rattle.pixel_format.specs.PixelFormat.{KeepsApart};
+ghost use Rattle.std.specs.Prelude.{◌≡◌, ◌+◌, ◌*◌, ◌≤◌, ◌&&◌, true, false, length, IfSome, IfNone, Some};
 ghost use Rattle.raster.specs.declared.encoding.Encoding.TheVariants.{Raw, Rre, Hextile};
 ghost use Rattle.raster.specs.Encoding.{form};
-ghost use Rattle.raster.specs.Screen.{Canvas, IsWithin, LooksLike, part_of};
+ghost use Rattle.raster.specs.Screen.{Canvas, IsWithin, LooksLike, part_of, value_at};
 ghost use Rattle.joined_runs.specs.Joined.{IsEncodedAs};
 ghost use Rattle.joined_runs.specs.Tinted.{tinted};
 ghost use Rattle.hextile_codec.specs.Kept.{AreKept};
@@ -16,10 +15,10 @@ ghost use Rattle.update_encoder.specs.Style.{style_in};
 ghost use Rattle.update_encoder.specs.Written.{IsFront, IsSaved};
 
 use crate::copied::repeats;
-use crate::kept::forms_in;
 use crate::style::Style;
 use hextile_codec::{PixelSource, TileForm};
 use joined_runs::Runs;
+use painter::AreaSource;
 use pixel_format::Format;
 use raster::{COPY_RECT, Encoding, Rect, tile_count, tint_rows, write_rows};
 use reflect_core::Cut;
@@ -42,24 +41,16 @@ fn write_copy(area: &Rect, above: &Rect, out: &mut [u8]) -> usize
     RECTANGLE_HEAD_LEN + 4
 }
 
-/// Whether a style writes with kept forms: Hextile of joined runs, in a format that keeps colours apart.
-fn uses_forms(style: &Style) -> bool
-    ensures { IsTrue result → KeepsApart style.now.format }
+/// The kept forms with which a style writes an area's pixel values in Hextile. There are none where it writes runs of
+/// rows.
+fn kept_forms<'a>(style: &Style, source: &AreaSource<'a>, area: &Rect) -> &'a [Option<TileForm>]
+    requires { IsWithin area.now source.now.width source.now.height }
+    ensures { (pixels : Canvas) → LooksLike area.now.w area.now.h pixels (tinted style.now.format (part_of area.now (value_at source.now.width source.now.colours.now))) → AreKept style.now.format area.now.w area.now.h pixels result.now }
 {
-    matches!(style.choice.kind, Encoding::Hextile)
-        && matches!(style.runs, Runs::Joined)
-        && style.format.keeps_apart()
-}
-
-/// The kept forms of an area's tiles with which a style writes their pixel values; none where it has no use for them.
-fn kept_forms<'a>(style: &Style, cut: &'a Cut, area: &Rect) -> &'a [Option<TileForm>]
-    requires { IsWithin area.now cut.now.width cut.now.height }
-    ensures { (pixels : Canvas) → LooksLike area.now.w area.now.h pixels (tinted style.now.format (part_of area.now (shown cut.now))) → AreKept style.now.format area.now.w area.now.h pixels result.now }
-{
-    if !uses_forms(style) {
-        return &[];
+    match style.runs {
+        Runs::OfRows => &[],
+        Runs::Joined => source.kept_forms(area, &style.format),
     }
-    forms_in(cut.forms(), cut.width, cut.height, area)
 }
 
 /// Makes the colours of an area the pixel values of a style, row after row.
@@ -105,29 +96,6 @@ fn have_all(forms: &[Option<TileForm>], area: &Rect) -> bool
     forms.len() as u64 == tile_count(area.w, area.h) && forms.iter().all(|form| form.is_some())
 }
 
-/// Writes the data of a rectangle in Hextile from the screen's colours, which are tinted only as they are put.
-fn encode_colours(
-    style: &Style,
-    cut: &Cut,
-    area: &Rect,
-    forms: &[Option<TileForm>],
-    out: &mut [u8],
-) -> Option<usize>
-    requires within { IsWithin area.now cut.now.width cut.now.height }
-    requires kept { AreKept style.now.format area.now.w area.now.h (tinted style.now.format (part_of area.now (shown cut.now))) forms.now }
-    requires room { 4 * (area.now.w * area.now.h) ≤ length out.old }
-    ensures { IsEncodedAs style.now.runs Hextile style.now.format area.now.w area.now.h (pixels_in style.now.format (shown cut.now) area.now) out.new result }
-{
-    let source = PixelSource {
-        numbers: cut.colours.as_slice(),
-        width: cut.width as usize,
-        height: cut.height as usize,
-        area: *area,
-        are_colours: true,
-    };
-    hextile_codec::encode_from(style.runs, &source, forms, &style.format, out)
-}
-
 /// Writes the data of a rectangle in Hextile from its pixel values, for which `values` is room.
 fn encode_values(
     style: &Style,
@@ -160,8 +128,24 @@ fn encode_values(
     hextile_codec::encode_from(style.runs, &source, forms, &style.format, out)
 }
 
+/// Copies the data of an area in Hextile, where it is encoded for all viewers in the form and format of a style.
+fn copy_encoded(style: &Style, cut: &Cut, area: &Rect, out: &mut [u8]) -> Option<usize>
+    requires within { IsWithin area.now cut.now.width cut.now.height }
+    requires room { 4 * (area.now.w * area.now.h) ≤ length out.old }
+    ensures { IfSome result (λ n. IsEncodedAs style.now.runs Hextile style.now.format area.now.w area.now.h (pixels_in style.now.format (shown cut.now) area.now) out.new (Some n)) }
+{
+    if style.runs != Runs::Joined {
+        return None;
+    }
+    let bytes = cut.encoded(area, &style.format)?;
+    let (front, _) = out.split_at_mut(bytes.len());
+    front.copy_from_slice(bytes);
+    Some(bytes.len())
+}
+
 /// Writes the data of a rectangle in Hextile in the form of a style, where that has fewer bytes than Raw (RFC 6143,
-/// 7.7.4): by the kept forms of its tiles where each has one, or from its pixel values, for which `values` is room.
+/// 7.7.4): as it is encoded for all viewers; or else by the kept forms of its tiles where each has one, or from its
+/// pixel values, for which `values` is room.
 fn encode_hextile(
     style: &Style,
     cut: &Cut,
@@ -174,9 +158,13 @@ fn encode_hextile(
     requires room { 4 * (area.now.w * area.now.h) ≤ length out.old }
     ensures { IsEncodedAs style.now.runs Hextile style.now.format area.now.w area.now.h (pixels_in style.now.format (shown cut.now) area.now) out.new result }
 {
-    let forms = kept_forms(style, cut, area);
+    if let Some(len) = copy_encoded(style, cut, area, out) {
+        return Some(len);
+    }
+    let source = cut.source();
+    let forms = kept_forms(style, &source, area);
     if have_all(forms, area) {
-        return encode_colours(style, cut, area, forms, out);
+        return source.encode(style.runs, area, forms, &style.format, out);
     }
     encode_values(style, cut, area, forms, values, out)
 }

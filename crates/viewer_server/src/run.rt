@@ -57,7 +57,7 @@ where
     let served = serve(
         rt, link, source, sink, session, &mut inbox, stop, rest, progress,
     );
-    source.want_forms(false);
+    source.want_forms(None);
     link.flush();
     match served {
         Ok(()) => leave(rt, sink, session, &mut inbox, stop, rest),

@@ -269,12 +269,13 @@ impl Session {
         self.asked.last_cut().unwrap_or(0)
     }
 
-    /// Whether answers would use the forms of tiles that a source lends: they are written in joined runs, in Hextile
-    /// and in a format that keeps colours apart. No clause speaks of it.
-    pub fn wants_forms(&self) -> bool {
-        self.runs == Runs::Joined
+    /// The format in which answers would use what a source lends, forms of tiles and encoded areas: they are written in
+    /// joined runs, in Hextile and in a format that keeps colours apart. No clause speaks of it.
+    pub fn wants_forms(&self) -> Option<Format> {
+        let uses = self.runs == Runs::Joined
             && self.choice.kind == Encoding::Hextile
-            && self.format.keeps_apart()
+            && self.format.keeps_apart();
+        uses.then_some(self.format)
     }
 
     /// Whether the viewer stands between two messages: its hello is done, there is no fault, and no byte was used since

@@ -89,7 +89,7 @@ fn make_source(alloc: Global, width: u64, height: u64, colours: &[u32]) -> Resul
     let patch = painter.patch()?;
     let mut board = Board::new(alloc, width, height)?;
     if board.number() == 0 {
-        board.apply(&patch, false);
+        board.apply(&patch, None);
     }
     let have = Have::new(alloc, width, height)?;
     Ok(Source { board, have })

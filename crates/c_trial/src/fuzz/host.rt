@@ -13,7 +13,7 @@ use std::alloc::Global;
 fn apply(board: &mut Board, patch: &Patch) -> bool {
     let is_one = board.size() == patch.size() && board.number() < LIMIT;
     if is_one {
-        board.apply(patch, false);
+        board.apply(patch, None);
     }
     is_one
 }

@@ -1,7 +1,6 @@
-use Rattle.std.proofs.Common.{◌≡◌, ℕ, ◌++◌, List, take, Some, refl, ap, ◌∙◌, subst}
+use Rattle.std.proofs.Common.{◌≡◌, ℕ, ◌++◌, List, take, Some, refl, ap, ◌∙◌}
 use Rattle.std.proofs.lemmas.List.{take-append-le}
 use Rattle.raster.specs.Encoding.{encoding_number}
-use Rattle.raster.specs.Screen.{value_at}
 use Rattle.joined_runs.specs.declared.runs.Runs.{Runs}
 use Rattle.joined_runs.specs.Joined.{IsEncodedAs, form_of}
 use Rattle.rfb_wire.specs.Writing.{rectangle_head_bytes}

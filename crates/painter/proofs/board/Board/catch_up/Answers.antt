@@ -1,4 +1,4 @@
-use Rattle.std.proofs.Common.{◌≡◌, ℕ, ◌+◌, ◌∷◌, [], ◌++◌, Bool, List, Option, take, ap, sym, subst, ◌∙◌, refl, arith}
+use Rattle.std.proofs.Common.{rules, length, ◌≡◌, ℕ, ◌+◌, ◌∷◌, [], ◌++◌, Bool, List, Option, take, ap, sym, subst, ◌∙◌, refl, arith}
 use Rattle.std.proofs.lemmas.List.{with_items_is}
 use Rattle.std.specs.Int.{from_bool}
 use Rattle.std.specs.Option.{option_copied}
@@ -6,17 +6,27 @@ use Rattle.std.specs.Vec.{with_items}
 use Rattle.hextile_codec.specs.declared.kept.TileForm.{TileForm}
 use Rattle.hextile_codec.specs.Kept.{AreFormsOf}
 use Rattle.raster.specs.Screen.{tile_count, tile_rect, value_at}
-use Rattle.raster.specs.Update.{NumberedText}
 use Rattle.tiles.specs.Grid.{IsTouched, is_lacked}
 use Rattle.tiles.specs.Touched.{touches}
 use Rattle.painter.specs.Board.{BoardStands, Posted}
+use Rattle.painter.specs.Encoded.{AreEncoded}
 use Rattle.painter.specs.Forms.{TookForms}
 use Rattle.painter.specs.Kept.{newer}
 use Rattle.painter.specs.Newer.{TookTiles}
 use Rattle.painter.specs.Patch.{ShowsOver, SizedUpdate, is_bell}
 use Rattle.painter.proofs.CaughtUp.{board_caught_up}
 use Rattle.painter.proofs.FormLaws.{forms_caught_up, stand_but}
+use Rattle.painter.proofs.ViewLaws.{stands_as}
 use Rattle.painter.proofs.board.Board.catch_up.Goals as goal
+
+pub renew-requires-clause-shown : goal.renew-requires-clause-shown
+renew-requires-clause-shown c =
+    let half = with_items c.self.inside.colours c.copy_lacked.new.into in
+    let painted : List ℕ = c.paint.new.colours in
+    let rows : (with_items half painted).items ≡ painted = with_items_is half painted (omega (arith, c.paint.auto.colours, c.as_mut_slice-2.ensures.len)) in (
+      c.as_mut_slice-2.result.now,
+      subst (λ (cs : List ℕ). ShowsOver c.args.patch.now c.as_mut_slice-2.result.now cs) (sym (c.as_slice-2.ensures.value ∙ rows)) c.paint.ensures,
+    )
 
 pub renew-requires-clause-others : goal.renew-requires-clause-others
 renew-requires-clause-others c =
@@ -75,11 +85,19 @@ returns-clause-stands c us stood stands =
     let all = board_caught_up behind ahead patch c.touch.new.grid c.catch_up.new.self c.tiles.result.0.now c.tiles.result.1.now mid new rung c.catch_up-2.new.self (option_copied c.text_bytes.result) us
     wide high c.newer.invariant.0.tiles.0 c.newer.invariant.0.tiles.1 c.self.invariant.0.tiles.0 c.self.invariant.0.tiles.1 size touched took c.tiles.ensures.paints shows c.catch_up.ensures c.catch_up-2.ensures refl c.text_bytes.ensures.text
     (subst (λ (b : Posted). BoardStands b (take b.number us)) (sym c.self.view_is) stood) (subst (λ (b : Posted). BoardStands b us) (sym c.newer.view_is) stands) in
-    let Stands : ℕ → List ℕ → ℕ → Option NumberedText → Type 0 =
-    λ k cs b t. BoardStands (record { width = s.width; height = s.height; number = k; colours = cs; grid = c.catch_up.new.self; bells = b; text = t }) (us ++ patch.update ∷ []) in
     let told : c.follow.new.self ≡ newer c.catch_up-2.new.self (n.number + 1) (option_copied c.text_bytes.result) =
     c.follow.ensures ∙ ap (λ (k : ℕ). newer c.catch_up-2.new.self k (option_copied c.text_bytes.result)) counted in
-    subst (λ (k : ℕ). Stands k (with_items (with_items s.colours mid) new).items c.counted-number.result.1 c.follow.new.self) (sym counted)
-    (subst (λ (b : ℕ). Stands (n.number + 1) (with_items (with_items s.colours mid) new).items b c.follow.new.self) (sym c.counted-number.ensures.bells)
-    (subst (λ (cs : List ℕ). Stands (n.number + 1) cs (n.bells + rung) c.follow.new.self) (sym rows)
-    (subst (λ (t : Option NumberedText). Stands (n.number + 1) new (n.bells + rung) t) (sym told) all)))
+    stands_as _ (us ++ patch.update ∷ []) _ _ _ _ counted rows c.counted-number.ensures.bells told all
+
+pub invariant_of-self : goal.invariant_of-self
+invariant_of-self c =
+    let s = c.self.inside in
+    let patch : SizedUpdate = c.args.patch.now in
+    let encoded = c.renew-2.new.self in
+    let wide : patch.width ≡ s.width = c.requires.size.0 ∙ ap (λ (b : Posted). b.width) (sym c.self.view_is) in
+    let high : patch.height ≡ s.height = c.requires.size.1 ∙ ap (λ (b : Posted). b.height) (sym c.self.view_is) in
+    let Are : ℕ → ℕ → List ℕ → Type 0 = λ w h colours. AreFormsOf w h (value_at w colours) c.renew.new.self.list.items in (
+      search rules,
+      subst (Are s.width s.height) c.as_slice-2.ensures.value (subst (λ h. Are s.width h c.as_slice-2.result.now) high (subst (λ w. Are w patch.height c.as_slice-2.result.now) wide c.renew.ensures)),
+      subst (λ colours. AreEncoded encoded.format (value_at s.width colours) (length encoded.bytes.items) encoded.bytes.items encoded.list.items) c.as_slice-3.ensures.value c.renew-2.ensures,
+    )

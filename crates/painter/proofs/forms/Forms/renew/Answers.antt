@@ -1,20 +1,26 @@
-use Rattle.std.proofs.Common.{ℕ, List, Option, sym, subst}
-use Rattle.raster.specs.Screen.{value_at}
+use Rattle.std.proofs.Common.{ℕ, List, Option, subst, arith}
+use Rattle.raster.specs.Screen.{Canvas, value_at}
 use Rattle.hextile_codec.specs.declared.kept.TileForm.{TileForm}
+use Rattle.hextile_codec.specs.Kept.{AreFormsOf}
 use Rattle.painter.specs.Forms.{AreFormsBut}
-use Rattle.painter.specs.Patch.{SizedUpdate}
-use Rattle.painter.proofs.FormLaws.{stands_longer, untouched_but}
+use Rattle.painter.specs.Patch.{ShowsTiles, SizedUpdate}
+use Rattle.painter.proofs.FormLaws.{patch_shown, stands_longer, untouched_but}
 use Rattle.painter.proofs.forms.Forms.renew.Goals as goal
 
-pub renew_tiles-requires-clause-others : goal.renew_tiles-requires-clause-others
-renew_tiles-requires-clause-others c =
+pub returns : goal.returns
+returns c =
     let patch : SizedUpdate = c.args.patch.now in
     let numbers : List ℕ = c.tiles.result.0.now in
+    let tiles : List ℕ = c.tiles.result.1.now in
+    let screen : Canvas = value_at patch.width c.args.colours.now in
     let old : List (Option TileForm) = c.args.self.now.list.items in
-    let new : List (Option TileForm) = c.begin.new.self.list.items in
-    let AreBut : ℕ → ℕ → Type 0 = λ w h. AreFormsBut numbers w h (value_at w c.args.colours.now) new in
-    let are : AreBut patch.width patch.height =
+    let begun : List (Option TileForm) = c.begin.new.self.list.items in
+    let new : List (Option TileForm) = c.renew_tiles.new.self.list.items in
+    let are : AreFormsBut numbers patch.width patch.height screen begun =
     (λ t there lt none.
-    stands_longer patch.width patch.height (value_at patch.width c.args.colours.now) old new t (c.begin.ensures t)
-    (λ was. c.requires.others t was lt (untouched_but patch t numbers c.tiles.result.1.now c.tiles.ensures.paints none))) in
-    subst (λ h. AreBut c.size-width.result.0 h) (sym c.size-width.ensures.1) (subst (λ w. AreBut w patch.height) (sym c.size-width.ensures.0) are)
+    stands_longer patch.width patch.height screen old begun t (c.begin.ensures t)
+    (λ was. c.requires.others t was lt (untouched_but patch t numbers tiles c.tiles.ensures.paints none))) in
+    let Renewed : ℕ → ℕ → Type 0 = λ w h. (s : Canvas) → ShowsTiles w h numbers tiles s → AreFormsBut numbers w h s begun → AreFormsOf w h s new in
+    let renewed : Renewed patch.width patch.height =
+    subst (λ h. Renewed patch.width h) c.size-width.ensures.1 (subst (λ w. Renewed w c.size-width.result.1) c.size-width.ensures.0 c.renew_tiles.ensures) in
+    renewed screen (patch_shown patch c.args.colours.now numbers tiles (omega (arith, c.requires.size.wide.0)) c.tiles.ensures.paints c.tiles.ensures.tiles c.requires.shown) are

@@ -10,7 +10,7 @@ use Rattle.raster.specs.Screen.{Canvas, IsWithin, part_of, tile_count, tile_rect
 use Rattle.hextile_codec.specs.declared.kept.TileForm.{TileForm}
 use Rattle.hextile_codec.specs.Kept.{AreFormsOf, FormStands}
 use Rattle.hextile_codec.proofs.KeptForms.{if_some}
-use Rattle.update_encoder.specs.Kept.{HasWholeTiles}
+use Rattle.painter.specs.WholeTiles.{HasWholeTiles}
 
 -- ---- one tile
 

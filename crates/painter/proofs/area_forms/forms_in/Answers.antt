@@ -1,9 +1,9 @@
 use Rattle.std.proofs.Common.{◌≡◌, ◌+◌, ◌-◌, ◌*◌, ◌/◌, ℕ, refl, ap, ◌∙◌, arith}
 use Rattle.raster.specs.Screen.{tiles_across}
 use Rattle.raster.proofs.Tiles.{across_is}
-use Rattle.update_encoder.specs.Kept.{HasWholeTiles}
-use Rattle.update_encoder.proofs.KeptTiles.{forms_of_area}
-use Rattle.update_encoder.proofs.kept.forms_in.Goals as goal
+use Rattle.painter.specs.WholeTiles.{HasWholeTiles}
+use Rattle.painter.proofs.KeptTiles.{forms_of_area}
+use Rattle.painter.proofs.area_forms.forms_in.Goals as goal
 
 pub returns : goal.returns
 returns c = λ colours are.

@@ -4,7 +4,7 @@ ghost use Rattle.std.specs.Prelude.{IsTrue};
 ghost use Rattle.raster.specs.Screen.{Canvas, IsWithin, part_of};
 ghost use Rattle.raster.specs.Size.{IsScreenSize};
 ghost use Rattle.hextile_codec.specs.Kept.{AreFormsOf};
-ghost use Rattle.update_encoder.specs.Kept.{HasWholeTiles};
+ghost use Rattle.painter.specs.WholeTiles.{HasWholeTiles};
 
 use hextile_codec::TileForm;
 use raster::{Rect, TILE_SIDE};
