@@ -5,6 +5,7 @@
  *   smallmax  the same as fast as the reflector asks
  *   noise     the whole screen, as fast as asked
  *   desktop   640 by 400 of letters, as fast as asked
+ *   paced     the same, 30 to 50 ms apart
  *   scroll    that page, moved by a line of 16 rows with CopyRect, and a new line
  *   photo     640 by 480 of smooth gradients, as fast as asked
  *   idle      nothing

@@ -65,11 +65,12 @@ int choose_script(const char *mode, int width, int height)
 {
     script.width = width;
     script.height = height;
-    script.paced = !strcmp(mode, "small");
-    script.small = script.paced || !strcmp(mode, "smallmax");
+    int is_paced_text = !strcmp(mode, "paced");
+    script.paced = is_paced_text || !strcmp(mode, "small");
+    script.small = !strcmp(mode, "small") || !strcmp(mode, "smallmax");
     script.full = !strcmp(mode, "noise");
     script.scroll = !strcmp(mode, "scroll");
-    script.text = script.scroll || !strcmp(mode, "desktop");
+    script.text = script.scroll || is_paced_text || !strcmp(mode, "desktop");
     script.photo = !strcmp(mode, "photo");
     script.idle = !strcmp(mode, "idle");
     if (!script.small && !script.full && !script.text && !script.photo && !script.idle) return -1;
