@@ -65,9 +65,10 @@ impl Format {
         least >= 255
     }
 
-    /// Whether pixel values are the colours themselves, in the host's order of bytes.
-    fn is_host(&self) -> bool
-        ensures { IsTrue result → self.now ≡ record host_format { depth = self.now.depth } }
+    /// Whether this is the format that the host is asked for, whatever the depth is: the pixel values of colours are
+    /// then the colours themselves, in the host's order of bytes.
+    pub fn is_host(&self) -> bool
+        ensures { IsTrue result ↔ self.now ≡ record host_format { depth = self.now.depth } }
     {
         self.bits_per_pixel == 32
             && !self.big_endian

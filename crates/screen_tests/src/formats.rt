@@ -209,21 +209,28 @@ fn values_of_colours(rt: HostRuntime) -> Result<(), Fail> {
     Ok(())
 }
 
-/// Formats, and whether no two colours have one pixel value in them.
-const APART: [([u8; 16], bool); 6] = [
-    (HOST, true),
-    (BIG_HOST, true),
-    (TURNED_HOST, true),
-    (RGB30, true),
-    (RGB565, false),
-    (BGR233, false),
+/// The host's with another depth.
+const DEEP_HOST: [u8; 16] = [
+    0x20, 0x20, 0x00, 0x01, 0x00, 0xFF, 0x00, 0xFF, 0x00, 0xFF, 0x10, 0x08, 0x00, 0, 0, 0,
+];
+
+/// Formats, whether no two colours have one pixel value in them, and whether they are the host's.
+const APART: [([u8; 16], bool, bool); 7] = [
+    (HOST, true, true),
+    (DEEP_HOST, true, true),
+    (BIG_HOST, true, false),
+    (TURNED_HOST, true, false),
+    (RGB30, true, false),
+    (RGB565, false, false),
+    (BGR233, false, false),
 ];
 
 #[test]
 fn colours_are_kept_apart(rt: HostRuntime) -> Result<(), Fail> {
-    for (i, (bytes, wanted)) in APART.iter().enumerate() {
+    for (i, (bytes, apart, of_host)) in APART.iter().enumerate() {
         let format = Format::read(bytes)?;
-        assert!(rt; format.keeps_apart() == *wanted, "format {i}");
+        assert!(rt; format.keeps_apart() == *apart, "format {i}");
+        assert!(rt; format.is_host() == *of_host, "format {i}");
     }
     Ok(())
 }
