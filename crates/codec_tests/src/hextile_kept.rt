@@ -232,18 +232,34 @@ fn is_written_with_edges(
     is_drawn_the_same(alloc, drawing, 32, 32, format)
 }
 
+/// Whether a drawing whose numbers have bits above a colour's 24 is written as its colours are.
+fn is_written_without_more_bits(
+    alloc: Global,
+    drawing: Drawing,
+    format: &Format,
+) -> Result<bool, AllocError> {
+    let colours = draw(alloc, drawing, 32, 20)?;
+    let mut values = vec![in alloc; 0; colours.as_slice().len()]?;
+    format.tint_values(colours.as_slice(), values.as_mut_slice());
+    let mut numbers = colours;
+    for (k, number) in numbers.as_mut_slice().iter_mut().enumerate() {
+        *number |= (k as u32 % 3) << 24;
+    }
+    let numbers = numbers.as_slice();
+    Ok(is_written_the_same(&[], numbers, values.as_slice(), 32, 20, format))
+}
+
+/// Also where tiles are cut, and where numbers aren't colours.
 #[test]
 fn kept_forms_are_written_the_same(rt: HostRuntime) -> Result<(), Fail> {
-    let (host, turned) = (Format::read(&HOST)?, Format::read(&TURNED)?);
-    for (i, drawing) in DRAWINGS.iter().enumerate() {
-        assert!(rt;
-            is_written_with_edges(rt.alloc(), *drawing, &host)?,
-            "drawing {i}"
-        );
-        assert!(rt;
-            is_written_with_edges(rt.alloc(), *drawing, &turned)?,
-            "drawing {i}, red lowest"
-        );
+    for (name, format) in [("the host's", &HOST), ("red lowest", &TURNED)] {
+        let format = Format::read(format)?;
+        for (i, drawing) in DRAWINGS.iter().enumerate() {
+            let is_cut_well = is_written_with_edges(rt.alloc(), *drawing, &format)?;
+            assert!(rt; is_cut_well, "{name}: drawing {i}");
+            let is_masked = is_written_without_more_bits(rt.alloc(), *drawing, &format)?;
+            assert!(rt; is_masked, "{name}: larger numbers of drawing {i}");
+        }
     }
     Ok(())
 }

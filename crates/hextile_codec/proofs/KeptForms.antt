@@ -1,5 +1,5 @@
 -- A form that is kept of a tile is that of the colours which the tile shows. So it is chosen by in place of a look.
-use Rattle.std.proofs.Common.{◌≡◌, ℕ, ◌<◌, ◌≤◌, List, length, Option, Some, None, refl, arith}
+use Rattle.std.proofs.Common.{◌≡◌, ℕ, ◌<◌, ◌≤◌, List, length, Option, Some, None, refl, subst, sym, arith}
 use Rattle.std.specs.Prelude.{IfNone, IfSome, slice_index_or}
 use Rattle.pixel_format.specs.PixelFormat.{PixelFormat}
 use Rattle.raster.specs.declared.rect.Rect.{Rect}
@@ -25,6 +25,12 @@ if_none P (Some x) h = tt
 pub none_is : {A : Type 0} (P : Type 0) (answer : Option A) → ((x : A) → answer ≡ Some x → ⊥) → IfNone answer P → P
 none_is P None none h = h
 none_is P (Some x) none h = absurd (none x refl)
+
+-- What holds of one of two lists holds of the list that is the one where there is an answer, and else the other.
+pub of_either : {A B : Type 0} (answer : Option A) (P : List B → Type 0) (X : Type 0) (x : X) (list : X → List B) (one : X → A → List B) (other : List B)
+    → IfSome answer (λ a. (y : X) → list y ≡ one y a) → IfNone answer ((y : X) → list y ≡ other) → IfSome answer (λ a. P (one x a)) → IfNone answer (P other) → P (list x)
+of_either (Some a) P X x list one other is none kept seen = subst P (sym (is x)) kept
+of_either None P X x list one other some is kept seen = subst P (sym (is x)) seen
 
 -- It has few subrectangles in both forms.
 pub few_counts : (form : TileForm) (w h : ℕ) (colours : Canvas) → 0 < w → w ≤ 16 → 0 < h → h ≤ 16 → FormStands form w h colours → (form.joined.count ≤ 255) × (form.rows.count ≤ 255)

@@ -33,6 +33,7 @@ pub mod Crowds
 pub mod PlainTile
 pub mod Searched
 pub mod Shown
+pub mod SourceTiles
 pub mod Buckets
 pub mod Heights
 pub mod Unbroken

@@ -1,7 +1,6 @@
 //! The form of a tile by its colours, which is kept for as long as they stay.
 
-ghost use Rattle.std.specs.Prelude.{◌≡◌, ℕ, ◌<◌, ◌≤◌, IfNone, IfSome, nat_lt, length, map, None, Some, slice_index_or};
-ghost use Rattle.std.specs.List.{list_all};
+ghost use Rattle.std.specs.Prelude.{◌≡◌, ℕ, ◌<◌, ◌≤◌, IfNone, IfSome, length, map, None, Some, slice_index_or};
 ghost use Rattle.pixel_format.specs.PixelFormat.{PixelFormat};
 ghost use Rattle.raster.specs.Screen.{Canvas, value_at, part_of};
 ghost use Rattle.joined_runs.specs.declared.runs.Runs.TheVariants.{OfRows, Joined};
@@ -15,16 +14,14 @@ ghost use Rattle.hextile_codec.specs.Kinds.{IsChosen, HasMany, subrect_of};
 ghost use Rattle.hextile_codec.specs.Marks.{LiesAmong};
 ghost use Rattle.hextile_codec.specs.Subrects.{subrects_in};
 
+use crate::coloured::is_coloured;
 use crate::joining::{TileRoom, find_both};
 use crate::kind::{Choices, Head, Heads, Kind, Said, heads_of};
 use crate::put::Subrects;
-use crate::rows::row_of;
 use crate::runs::{Run, TILE_AREA};
 use arrayvec::ArrayVec;
 use pixel_format::Format;
 use raster::{Rect, TILE_SIDE};
-use std::simd::cmp::SimdPartialOrd;
-use std::simd::u32x16;
 
 /// How many joined runs a kept form has at most. Most tiles of smooth letters have fewer, and no photo has.
 pub const MOST_KEPT: usize = 80;
@@ -35,17 +32,6 @@ pub struct TileForm {
     joined: Head,
     rows: Head,
     runs: ArrayVec<Run, MOST_KEPT>,
-}
-
-/// Whether each number of a row is a colour. A whole row of a tile is compared at once.
-fn are_colours(row: &[u32]) -> bool
-    ensures { result ≡ list_all (λ v. nat_lt v 16777216) row.now }
-{
-    if row.len() == TILE_SIDE as usize {
-        let end = u32x16::splat(1 << 24);
-        return u32x16::from_slice(row).simd_lt(end).all();
-    }
-    row.iter().all(|colour| *colour < 1 << 24)
 }
 
 impl Kind {
@@ -136,10 +122,8 @@ pub fn form_of_tile(colours: &[u32], w: usize, tile: &Rect, room: &mut TileRoom)
     requires h_most { tile.now.h ≤ TILE_SIDE }
     ensures stands { IfSome result (λ form. FormStands form tile.now.w tile.now.h (part_of tile.now (value_at w colours.now))) }
 {
-    for y in 0..tile.h as usize {
-        if !are_colours(row_of(colours, w, tile, y)) {
-            return None;
-        }
+    if !is_coloured(colours, w, tile) {
+        return None;
     }
     let found = find_both(colours, w, tile, MOST_KEPT + 1, room)?;
     let subrects = room.subrects.as_slice();

@@ -9,6 +9,7 @@
 
 mod breaks;
 mod chosen;
+mod coloured;
 mod colours;
 mod crowded;
 mod drawing;

@@ -108,6 +108,8 @@ fn put_coloured_runs(format: &Format, runs: &[Run], out: &mut [u8], used: usize)
     requires room { used + (pixel_len format.now + 2) * length runs.now ≤ length out.old }
     ensures { take (used + (pixel_len format.now + 2) * length runs.now) out.new ≡ take used out.old ++ flat_map (coloured_bytes format.now) (map subrect_of runs.now) }
 {
+    // A copy, which nothing that is written to `out` can change, so that it is looked at once.
+    let format = *format;
     let mut at = used;
     for run in runs {
         format.put_pixel(run.value, &mut out[at..]);
@@ -136,11 +138,13 @@ fn put_tinted_runs(format: &Format, runs: &[Run], out: &mut [u8], used: usize)
     requires room { used + (pixel_len format.now + 2) * length runs.now ≤ length out.old }
     ensures { take (used + (pixel_len format.now + 2) * length runs.now) out.new ≡ take used out.old ++ flat_map (coloured_bytes format.now) (map (subrect_in format.now true) runs.now) }
 {
+    // A copy, as above.
+    let format = *format;
     let mut at = used;
     let mut colour = 0;
     let mut value = format.tint(colour);
     for run in runs {
-        value = tint_next(format, colour, value, run.value);
+        value = tint_next(&format, colour, value, run.value);
         colour = run.value;
         format.put_pixel(value, &mut out[at..]);
         let place = at + format.bytes();

@@ -1,10 +1,12 @@
 //! Where the pixel values of a rectangle come from.
 
-ghost use Rattle.std.specs.Prelude.{◌≡◌, ◌+◌, ◌*◌, ◌<◌, ◌≤◌, true, length};
-ghost use Rattle.pixel_format.specs.PixelFormat.{PixelFormat};
-ghost use Rattle.raster.specs.Screen.{IsWithin, part_of, values_of};
-ghost use Rattle.hextile_codec.specs.Sources.{AreOfTile, SourceStands, shows};
+ghost use Rattle.std.specs.Prelude.{◌≡◌, ℕ, ◌+◌, ◌*◌, ◌<◌, ◌≤◌, if◌then◌else◌, true, false, length, IsTrue};
+ghost use Rattle.pixel_format.specs.PixelFormat.{tint};
+ghost use Rattle.raster.specs.Screen.{Canvas, IsWithin, part_of, value_at};
+ghost use Rattle.hextile_codec.specs.Marks.{LiesAmong};
+ghost use Rattle.hextile_codec.specs.Sources.{AreOfTile, AreRead, SourceStands, place_in, shows};
 
+use crate::coloured::is_coloured;
 use pixel_format::Format;
 use raster::{Rect, TILE_SIDE, tint_rows};
 
@@ -33,7 +35,7 @@ impl<'a> PixelSource<'a> {
     fn place_of(&self, tile: &Rect) -> Rect
         requires stands { SourceStands self.now }
         requires within { IsWithin tile.now self.now.area.w self.now.area.h }
-        ensures { result ≡ record { x = self.now.area.x + tile.now.x; y = self.now.area.y + tile.now.y; w = tile.now.w; h = tile.now.h } }
+        ensures { result ≡ place_in self.now tile.now }
     {
         Rect {
             x: self.area.x + tile.x,
@@ -43,53 +45,71 @@ impl<'a> PixelSource<'a> {
         }
     }
 
-    /// Has the pixel values of one of its tiles in `values`, row after row, unless they stand among its numbers.
-    pub(crate) fn read(&self, tile: &Rect, format: &Format, values: &mut [u32])
+    /// Whether the numbers at the place of a tile are its pixel values as they stand: where they aren't colours, and where
+    /// the format is the host's, in which a colour is its own pixel value.
+    fn has_values_at(&self, place: &Rect, format: &Format) -> bool
+        requires { LiesAmong self.now.numbers.now self.now.width place.now }
+        ensures stand { IsTrue result → (x y : ℕ) → x < place.now.w → y < place.now.h → let number = part_of place.now (value_at self.now.width self.now.numbers.now) x y in (if self.now.are_colours then tint format.now number else number) ≡ number }
+        ensures colours { result ≡ false → self.now.are_colours ≡ true }
+    {
+        !self.are_colours || (format.is_host() && is_coloured(self.numbers, self.width, place))
+    }
+
+    /// Has the pixel values of one of its tiles in `values`, row after row, unless they stand among its numbers; answers
+    /// whether it has.
+    pub(crate) fn read(&self, tile: &Rect, format: &Format, values: &mut [u32]) -> bool
         requires stands { SourceStands self.now }
         requires within { IsWithin tile.now self.now.area.w self.now.area.h }
         requires w_some { 0 < tile.now.w }
         requires room { length values.old ≡ tile.now.w * tile.now.h }
-        ensures { self.now.are_colours ≡ true → values.new ≡ values_of tile.now.w tile.now.h (part_of tile.now (shows format.now self.now)) }
+        ensures { AreRead result self.now tile.now (part_of tile.now (shows format.now self.now)) values.new }
     {
-        if self.are_colours {
-            let place = self.place_of(tile);
-            tint_rows(
-                self.numbers,
-                self.width,
-                self.height,
-                &place,
-                format,
-                values,
-            );
+        let place = self.place_of(tile);
+        if self.has_values_at(&place, format) {
+            return false;
         }
+        tint_rows(
+            self.numbers,
+            self.width,
+            self.height,
+            &place,
+            format,
+            values,
+        );
+        true
     }
 
     /// The pixel values of one of its tiles: where they were read, or where they stand among its numbers.
-    pub(crate) fn seen<'b>(&'b self, tile: &Rect, values: &'b [u32]) -> TileValues<'b>
+    pub(crate) fn seen<'b>(
+        &'b self,
+        is_read: bool,
+        tile: &Rect,
+        values: &'b [u32],
+    ) -> TileValues<'b>
         requires stands { SourceStands self.now }
         requires within { IsWithin tile.now self.now.area.w self.now.area.h }
         requires w_most { tile.now.w ≤ TILE_SIDE }
         requires h_most { tile.now.h ≤ TILE_SIDE }
         requires room { length values.now ≡ tile.now.w * tile.now.h }
-        ensures { (format : PixelFormat) → (self.now.are_colours ≡ true → values.now ≡ values_of tile.now.w tile.now.h (part_of tile.now (shows format self.now))) → AreOfTile result tile.now.w tile.now.h (part_of tile.now (shows format self.now)) }
+        ensures { (canvas : Canvas) → AreRead is_read self.now tile.now canvas values.now → AreOfTile result tile.now.w tile.now.h canvas }
     {
-        if self.are_colours {
-            let tile = Rect {
-                x: 0,
-                y: 0,
-                w: tile.w,
-                h: tile.h,
-            };
+        if !is_read {
             return TileValues {
-                values,
-                width: tile.w as usize,
-                tile,
+                values: self.numbers,
+                width: self.width,
+                tile: self.place_of(tile),
             };
         }
+        let tile = Rect {
+            x: 0,
+            y: 0,
+            w: tile.w,
+            h: tile.h,
+        };
         TileValues {
-            values: self.numbers,
-            width: self.width,
-            tile: self.place_of(tile),
+            values,
+            width: tile.w as usize,
+            tile,
         }
     }
 }

@@ -19,7 +19,7 @@ use crate::kind::{Said, TileChoice};
 use crate::put::Subrects;
 use crate::runs::TILE_AREA;
 use crate::source::PixelSource;
-use crate::tile::{choose_rows, choose_tile, put_chosen, put_kept, put_seen};
+use crate::tile::{choose_rows, choose_tile, joined_subrects, put_tile};
 use joined_runs::Runs;
 use pixel_format::Format;
 use raster::{Rect, tile_count, tile_rect};
@@ -47,7 +47,7 @@ fn put_rows(source: &PixelSource, format: &Format, out: &mut [u8]) -> Option<usi
             return None;
         }
         let subrects = Subrects::of_values(room.runs.as_slice());
-        put_seen(
+        put_tile(
             source, &tile, &format, &said, &choice, &subrects, values, out, used,
         );
         used += choice.len;
@@ -89,14 +89,14 @@ fn put_joined(
             }
             return put_rows(source, &format, out);
         }
-        put_chosen(
+        let subrects = joined_subrects(form, &room);
+        put_tile(
             source,
-            form,
             &tile,
             &format,
             &said.joined,
             &choices.joined,
-            &room,
+            &subrects,
             values,
             out,
             used,
@@ -137,8 +137,9 @@ fn put_all_chosen(
         let (values, _) = tile_values.split_at_mut((tile.w * tile.h) as usize);
         let form = form_at(forms, k as usize)?;
         let choice = chosen[k as usize];
-        put_kept(
-            source, form, &tile, &format, &said, &choice, values, out, used,
+        let subrects = form.subrects();
+        put_tile(
+            source, &tile, &format, &said, &choice, &subrects, values, out, used,
         );
         used += choice.len;
         said = choice.leaves();

@@ -1,11 +1,10 @@
-use Rattle.std.proofs.Common.{◌≡◌, ℕ, ◌+◌, ◌<◌, ◌∷◌, [], ◌++◌, List, length, length-append, inl, inr, sym, ap, ◌∙◌, arith}
+use Rattle.std.proofs.Common.{ℕ, ◌+◌, ◌<◌, ◌∷◌, [], length, length-append, inl, inr, sym, ap, ◌∙◌, arith}
 use Rattle.raster.specs.declared.rect.Rect.{Rect}
 use Rattle.raster.specs.Screen.{Canvas, part_of, tile_count}
 use Rattle.raster.specs.Encoding.{Carried}
 use Rattle.joined_runs.specs.declared.runs.Runs.TheVariants.{OfRows, Joined}
-use Rattle.hextile_codec.specs.declared.kind.TileChoice.{TileChoice}
 use Rattle.hextile_codec.specs.Carried.{carried_by}
-use Rattle.hextile_codec.specs.Chosen.{AreChosenBy, IsChosenBy}
+use Rattle.hextile_codec.specs.Chosen.{IsChosenBy}
 use Rattle.hextile_codec.specs.Sources.{shows}
 use Rattle.hextile_codec.proofs.Choices.{carried_on, chosen_at, one_more, when_err, when_ok}
 use Rattle.hextile_codec.proofs.KeptForms.{few_counts, if_none, kept_of}

@@ -49,7 +49,7 @@ pub returns-clause-len : goal.returns-clause-len
 returns-clause-len c =
     let tile : Rect = c.args.tile.now in
     let canvas : Canvas = part_of tile (shows c.args.format.now c.args.source.now) in
-    let of : AreOfTile c.seen-seen.result tile.w tile.h canvas = c.seen-seen.ensures c.args.format.now c.read.ensures in
+    let of : AreOfTile c.seen-seen.result tile.w tile.h canvas = c.seen-seen.ensures _ c.read-is_read.ensures in
     let is : IsChosen Joined c.args.format.now (carried_by c.args.said.now.joined) tile.w tile.h canvas (map subrect_of c.choose_both.new.room.subrects.items) c.choose_both.result.joined =
     of_tile Joined c.args.format.now (carried_by c.args.said.now.joined) c.seen-seen.result tile.w tile.h canvas c.requires.size.w_some c.requires.size.h_some of _ _ c.choose_both.ensures.joined in
     is.len
@@ -58,7 +58,7 @@ pub returns-clause-leaves : goal.returns-clause-leaves
 returns-clause-leaves c =
     let tile : Rect = c.args.tile.now in
     let canvas : Canvas = part_of tile (shows c.args.format.now c.args.source.now) in
-    let of : AreOfTile c.seen-seen.result tile.w tile.h canvas = c.seen-seen.ensures c.args.format.now c.read.ensures in
+    let of : AreOfTile c.seen-seen.result tile.w tile.h canvas = c.seen-seen.ensures _ c.read-is_read.ensures in
     let is : IsChosen Joined c.args.format.now (carried_by c.args.said.now.joined) tile.w tile.h canvas (map subrect_of c.choose_both.new.room.subrects.items) c.choose_both.result.joined =
     of_tile Joined c.args.format.now (carried_by c.args.said.now.joined) c.seen-seen.result tile.w tile.h canvas c.requires.size.w_some c.requires.size.h_some of _ _ c.choose_both.ensures.joined in
     is.leaves
@@ -74,14 +74,14 @@ pub returns-clause-seen : goal.returns-clause-seen
 returns-clause-seen c =
     let tile : Rect = c.args.tile.now in
     let canvas : Canvas = part_of tile (shows c.args.format.now c.args.source.now) in
-    let of : AreOfTile c.seen-seen.result tile.w tile.h canvas = c.seen-seen.ensures c.args.format.now c.read.ensures in
+    let of : AreOfTile c.seen-seen.result tile.w tile.h canvas = c.seen-seen.ensures _ c.read-is_read.ensures in
     if_none _ c.args.form (of_tile Joined c.args.format.now (carried_by c.args.said.now.joined) c.seen-seen.result tile.w tile.h canvas c.requires.size.w_some c.requires.size.h_some of _ _ c.choose_both.ensures.joined)
 
 pub returns-clause-rows : goal.returns-clause-rows
 returns-clause-rows c =
     let tile : Rect = c.args.tile.now in
     let canvas : Canvas = part_of tile (shows c.args.format.now c.args.source.now) in
-    let of : AreOfTile c.seen-seen.result tile.w tile.h canvas = c.seen-seen.ensures c.args.format.now c.read.ensures in
+    let of : AreOfTile c.seen-seen.result tile.w tile.h canvas = c.seen-seen.ensures _ c.read-is_read.ensures in
     let seen : Canvas = part_of c.seen-seen.result.tile (value_at c.seen-seen.result.width c.seen-seen.result.values.now) in
     let same : subrects_of OfRows tile.w tile.h canvas ≡ subrects_of OfRows tile.w tile.h seen = subrects_alike OfRows tile.w tile.h canvas seen c.requires.size.w_some c.requires.size.h_some of.looks in
     subst (λ found. IsChosen OfRows c.args.format.now (carried_by c.args.said.now.rows) tile.w tile.h canvas found c.choose_both.result.rows) (sym same)
@@ -89,25 +89,25 @@ returns-clause-rows c =
 
 pub choose_both-requires-clause-lies : goal.choose_both-requires-clause-lies
 choose_both-requires-clause-lies c =
-    let of : AreOfTile c.seen-seen.result c.args.tile.now.w c.args.tile.now.h (part_of c.args.tile.now (shows c.args.format.now c.args.source.now)) = c.seen-seen.ensures c.args.format.now c.read.ensures in
+    let of : AreOfTile c.seen-seen.result c.args.tile.now.w c.args.tile.now.h (part_of c.args.tile.now (shows c.args.format.now c.args.source.now)) = c.seen-seen.ensures _ c.read-is_read.ensures in
     of.lies
 
 pub choose_both-requires-clause-w_some : goal.choose_both-requires-clause-w_some
 choose_both-requires-clause-w_some c =
-    let of : AreOfTile c.seen-seen.result c.args.tile.now.w c.args.tile.now.h (part_of c.args.tile.now (shows c.args.format.now c.args.source.now)) = c.seen-seen.ensures c.args.format.now c.read.ensures in
+    let of : AreOfTile c.seen-seen.result c.args.tile.now.w c.args.tile.now.h (part_of c.args.tile.now (shows c.args.format.now c.args.source.now)) = c.seen-seen.ensures _ c.read-is_read.ensures in
     omega (arith, of.wide, c.requires.size.w_some)
 
 pub choose_both-requires-clause-w_most : goal.choose_both-requires-clause-w_most
 choose_both-requires-clause-w_most c =
-    let of : AreOfTile c.seen-seen.result c.args.tile.now.w c.args.tile.now.h (part_of c.args.tile.now (shows c.args.format.now c.args.source.now)) = c.seen-seen.ensures c.args.format.now c.read.ensures in
+    let of : AreOfTile c.seen-seen.result c.args.tile.now.w c.args.tile.now.h (part_of c.args.tile.now (shows c.args.format.now c.args.source.now)) = c.seen-seen.ensures _ c.read-is_read.ensures in
     omega (arith, of.wide, c.requires.size.w_most)
 
 pub choose_both-requires-clause-h_some : goal.choose_both-requires-clause-h_some
 choose_both-requires-clause-h_some c =
-    let of : AreOfTile c.seen-seen.result c.args.tile.now.w c.args.tile.now.h (part_of c.args.tile.now (shows c.args.format.now c.args.source.now)) = c.seen-seen.ensures c.args.format.now c.read.ensures in
+    let of : AreOfTile c.seen-seen.result c.args.tile.now.w c.args.tile.now.h (part_of c.args.tile.now (shows c.args.format.now c.args.source.now)) = c.seen-seen.ensures _ c.read-is_read.ensures in
     omega (arith, of.high, c.requires.size.h_some)
 
 pub choose_both-requires-clause-h_most : goal.choose_both-requires-clause-h_most
 choose_both-requires-clause-h_most c =
-    let of : AreOfTile c.seen-seen.result c.args.tile.now.w c.args.tile.now.h (part_of c.args.tile.now (shows c.args.format.now c.args.source.now)) = c.seen-seen.ensures c.args.format.now c.read.ensures in
+    let of : AreOfTile c.seen-seen.result c.args.tile.now.w c.args.tile.now.h (part_of c.args.tile.now (shows c.args.format.now c.args.source.now)) = c.seen-seen.ensures _ c.read-is_read.ensures in
     omega (arith, of.high, c.requires.size.h_most)

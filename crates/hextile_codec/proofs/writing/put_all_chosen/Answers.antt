@@ -30,24 +30,24 @@ split_at_mut-values-requires c =
     let of : IsTileOf c.args.source.now.area.w c.args.source.now.area.h c.loop-k.k c.tile_rect-tile.result = tile_of c.args.source.now.area.w c.args.source.now.area.h c.loop-k.k c.tile_count-k-end.result c.tile_rect-tile.result c.requires.wide.0 c.tile_count-k-end.ensures.value c.loop-k-test.true c.tile_rect-tile.ensures in
     omega (arith, tile_area c.tile_rect-tile.result.w c.tile_rect-tile.result.h of.size, c.tile_rect-tile.array_long)
 
-pub put_kept-requires-clause-within : goal.put_kept-requires-clause-within
-put_kept-requires-clause-within c =
+pub put_tile-requires-clause-within : goal.put_tile-requires-clause-within
+put_tile-requires-clause-within c =
     let of : IsTileOf c.args.source.now.area.w c.args.source.now.area.h c.loop-k.k c.tile_rect-tile.result = tile_of c.args.source.now.area.w c.args.source.now.area.h c.loop-k.k c.tile_count-k-end.result c.tile_rect-tile.result c.requires.wide.0 c.tile_count-k-end.ensures.value c.loop-k-test.true c.tile_rect-tile.ensures in
     of.within
 
-pub put_kept-requires-clause-size : goal.put_kept-requires-clause-size
-put_kept-requires-clause-size c =
+pub put_tile-requires-clause-size : goal.put_tile-requires-clause-size
+put_tile-requires-clause-size c =
     let of : IsTileOf c.args.source.now.area.w c.args.source.now.area.h c.loop-k.k c.tile_rect-tile.result = tile_of c.args.source.now.area.w c.args.source.now.area.h c.loop-k.k c.tile_count-k-end.result c.tile_rect-tile.result c.requires.wide.0 c.tile_count-k-end.ensures.value c.loop-k-test.true c.tile_rect-tile.ensures in
     of.size
 
-pub put_kept-requires-clause-chosen : goal.put_kept-requires-clause-chosen
-put_kept-requires-clause-chosen c =
+pub put_tile-requires-clause-chosen : goal.put_tile-requires-clause-chosen
+put_tile-requires-clause-chosen c =
     let of : IsTileOf c.args.source.now.area.w c.args.source.now.area.h c.loop-k.k c.tile_rect-tile.result = tile_of c.args.source.now.area.w c.args.source.now.area.h c.loop-k.k c.tile_count-k-end.result c.tile_rect-tile.result c.requires.wide.0 c.tile_count-k-end.ensures.value c.loop-k-test.true c.tile_rect-tile.ensures in
     let is = choice_at c.args.format.now c.args.source.now.area.w c.args.source.now.area.h c.loop-k.k (shows c.args.format.now c.args.source.now) (carried_by c.loop-k.said) c.tile_rect-tile.result c.args.forms.now c.in_ok-form.form.now c.args.chosen.now nothing_chosen c.requires.chosen c.requires.all of.inside c.tile_rect-tile.ensures c.loop-k.invariant.carried c.in_ok-form.ensures.some.1 in
-    is
+    rw (c.subrects-subrects.ensures c.args.format.now) (Joined, is)
 
-pub put_kept-requires-clause-room : goal.put_kept-requires-clause-room
-put_kept-requires-clause-room c =
+pub put_tile-requires-clause-room : goal.put_tile-requires-clause-room
+put_tile-requires-clause-room c =
     let of : IsTileOf c.args.source.now.area.w c.args.source.now.area.h c.loop-k.k c.tile_rect-tile.result = tile_of c.args.source.now.area.w c.args.source.now.area.h c.loop-k.k c.tile_count-k-end.result c.tile_rect-tile.result c.requires.wide.0 c.tile_count-k-end.ensures.value c.loop-k-test.true c.tile_rect-tile.ensures in
     let is = choice_at c.args.format.now c.args.source.now.area.w c.args.source.now.area.h c.loop-k.k (shows c.args.format.now c.args.source.now) (carried_by c.loop-k.said) c.tile_rect-tile.result c.args.forms.now c.in_ok-form.form.now c.args.chosen.now nothing_chosen c.requires.chosen c.requires.all of.inside c.tile_rect-tile.ensures c.loop-k.invariant.carried c.in_ok-form.ensures.some.1 in
     let long = too_long Joined c.args.format.now c.args.source.now.area.w c.args.source.now.area.h (shows c.args.format.now c.args.source.now) (carried_by c.loop-k.said) c.loop-k.k c.tile_rect-tile.result c.loop-k.used c.loop-k.out (hextile_bytes_as Joined c.args.format.now c.args.source.now.area.w c.args.source.now.area.h (shows c.args.format.now c.args.source.now)) c.tile_rect-tile.ensures of.inside c.loop-k.invariant.room c.loop-k.invariant.bytes in
@@ -70,11 +70,11 @@ loop-k-preserved c =
     let tile : Rect = c.tile_rect-tile.result in
     let before : Carried = carried_by c.loop-k.said in
     let len : ℕ = (slice_index_or c.args.chosen.now c.loop-k.k nothing_chosen).len in
-    let put : take (c.loop-k.used + len) c.put_kept.new.out ≡ take c.loop-k.used c.loop-k.out ++ (tile_written Joined format c.args.source.now.area.w c.args.source.now.area.h canvas before tile).0 = c.put_kept.ensures in
+    let put : take (c.loop-k.used + len) c.put_tile.new.out ≡ take c.loop-k.used c.loop-k.out ++ (tile_written Joined format c.args.source.now.area.w c.args.source.now.area.h canvas before tile).0 = c.put_tile.ensures Joined (rw (c.subrects-subrects.ensures c.args.format.now) is) in
     record {
-      room = omega (arith, long, is.len, c.requires.room, c.loop-k.auto.out, c.put_kept.auto.out);
+      room = omega (arith, long, is.len, c.requires.room, c.loop-k.auto.out, c.put_tile.auto.out);
       carried = c.leaves-said.ensures ∙ (is.leaves ∙ carried_on format c.args.source.now.area.w c.args.source.now.area.h c.loop-k.k canvas before tile c.tile_rect-tile.ensures c.loop-k.invariant.carried);
-      bytes = tile_is_put Joined format c.args.source.now.area.w c.args.source.now.area.h canvas before (carried_by c.leaves-said.result) c.loop-k.k tile c.loop-k.used (c.loop-k.used + len) c.loop-k.out c.put_kept.new.out (hextile_bytes_as Joined format c.args.source.now.area.w c.args.source.now.area.h canvas) c.tile_rect-tile.ensures of.inside put (c.leaves-said.ensures ∙ is.leaves) c.loop-k.invariant.bytes;
+      bytes = tile_is_put Joined format c.args.source.now.area.w c.args.source.now.area.h canvas before (carried_by c.leaves-said.result) c.loop-k.k tile c.loop-k.used (c.loop-k.used + len) c.loop-k.out c.put_tile.new.out (hextile_bytes_as Joined format c.args.source.now.area.w c.args.source.now.area.h canvas) c.tile_rect-tile.ensures of.inside put (c.leaves-said.ensures ∙ is.leaves) c.loop-k.invariant.bytes;
     }
 
 pub returns : goal.returns

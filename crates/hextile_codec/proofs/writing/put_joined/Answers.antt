@@ -1,15 +1,19 @@
-use Rattle.std.proofs.Common.{◌≡◌, ◌+◌, ◌*◌, ◌<◌, ◌≤◌, ◌++◌, ◌∙◌, ℕ, List, length, take, ap, arith}
+use Rattle.std.proofs.Common.{◌≡◌, ◌+◌, ◌<◌, ◌≤◌, ◌++◌, ◌∙◌, ℕ, List, Bor, length, map, take, ap, arith}
 use Rattle.std.proofs.lemmas.List.{length-take}
 use Rattle.pixel_format.specs.PixelFormat.{PixelFormat}
 use Rattle.raster.specs.declared.rect.Rect.{Rect}
-use Rattle.raster.specs.Screen.{Canvas, tile_count}
+use Rattle.raster.specs.Screen.{Canvas, part_of, tile_count}
 use Rattle.raster.specs.Encoding.{Carried}
 use Rattle.joined_runs.specs.declared.runs.Runs.TheVariants.{OfRows, Joined}
 use Rattle.joined_runs.specs.Joined.{hextile_bytes_as}
+use Rattle.joined_runs.specs.Tinted.{tinted_subrect}
+use Rattle.hextile_codec.specs.declared.kept.TileForm.{TileForm}
 use Rattle.hextile_codec.specs.Carried.{carried_by}
+use Rattle.hextile_codec.specs.Kinds.{IsChosen, subrect_of}
 use Rattle.hextile_codec.specs.Sources.{shows}
+use Rattle.hextile_codec.specs.Subrects.{subrects_in}
 use Rattle.hextile_codec.proofs.Encoded.{none_fits, second_fits, second_shorter, shorter_first}
-use Rattle.hextile_codec.proofs.KeptForms.{if_some, kept_of}
+use Rattle.hextile_codec.proofs.KeptForms.{if_some, kept_of, of_either}
 use Rattle.hextile_codec.proofs.Tiles.{IsTileOf, all_put, none_left, tile_area, tile_of, tile_written, rest_from, tile_is_put, too_long, left_len}
 use Rattle.hextile_codec.proofs.writing.put_joined.Goals as goal
 
@@ -45,13 +49,16 @@ loop-k-preserved c =
     let before : Carried = carried_by c.loop-k.said.joined in
     let len : ℕ = c.choose_tile-choices.result.joined.len in
     let of : IsTileOf c.args.source.now.area.w c.args.source.now.area.h c.loop-k.k c.tile_rect-tile.result = tile_of c.args.source.now.area.w c.args.source.now.area.h c.loop-k.k c.tile_count-k-end.result c.tile_rect-tile.result c.requires.wide.0 c.tile_count-k-end.ensures.value c.loop-k-test.true c.tile_rect-tile.ensures in
-    let put : take (c.loop-k.used + len) c.put_chosen.new.out ≡ take c.loop-k.used c.loop-k.out ++ (tile_written Joined format c.args.source.now.area.w c.args.source.now.area.h canvas before tile).0 = c.put_chosen.ensures in
+    let chosen : IsChosen Joined format before tile.w tile.h (part_of tile canvas) (subrects_in format c.joined_subrects-subrects.result) c.choose_tile-choices.result.joined =
+    of_either c.form_at-form.result (λ found. IsChosen Joined format before tile.w tile.h (part_of tile canvas) found c.choose_tile-choices.result.joined) PixelFormat format (λ f. subrects_in f c.joined_subrects-subrects.result) (λ f (form : Bor TileForm). map (tinted_subrect f) (map subrect_of form.now.runs.items)) (map subrect_of c.choose_tile-choices.new.room.subrects.items)
+    c.joined_subrects-subrects.ensures.kept c.joined_subrects-subrects.ensures.seen c.choose_tile-choices.ensures.kept c.choose_tile-choices.ensures.seen in
+    let put : take (c.loop-k.used + len) c.put_tile.new.out ≡ take c.loop-k.used c.loop-k.out ++ (tile_written Joined format c.args.source.now.area.w c.args.source.now.area.h canvas before tile).0 = c.put_tile.ensures Joined chosen in
     let left = left_len OfRows format c.args.source.now.area.w c.args.source.now.area.h canvas (carried_by c.loop-k.said.rows) c.loop-k.k tile c.choose_tile-choices.result.rows.len c.tile_rect-tile.ensures of.inside c.choose_tile-choices.ensures.rows.len in
     let leaves = ap (λ (b : Carried). length (rest_from OfRows format c.args.source.now.area.w c.args.source.now.area.h canvas b (c.loop-k.k + 1))) (c.leaves-said.ensures.rows ∙ c.choose_tile-choices.ensures.rows.leaves) in
     record {
-      room = omega (arith, c.put_chosen.auto.out, c.loop-k.auto.out, c.if-out-used.false, c.loop-k.invariant.room);
+      room = omega (arith, c.put_tile.auto.out, c.loop-k.auto.out, c.if-out-used.false, c.loop-k.invariant.room);
       bytes =
-          tile_is_put Joined format c.args.source.now.area.w c.args.source.now.area.h canvas before (carried_by c.leaves-said.result.joined) c.loop-k.k tile c.loop-k.used (c.loop-k.used + len) c.loop-k.out c.put_chosen.new.out (hextile_bytes_as Joined format c.args.source.now.area.w c.args.source.now.area.h canvas) c.tile_rect-tile.ensures of.inside put
+          tile_is_put Joined format c.args.source.now.area.w c.args.source.now.area.h canvas before (carried_by c.leaves-said.result.joined) c.loop-k.k tile c.loop-k.used (c.loop-k.used + len) c.loop-k.out c.put_tile.new.out (hextile_bytes_as Joined format c.args.source.now.area.w c.args.source.now.area.h canvas) c.tile_rect-tile.ensures of.inside put
           (c.leaves-said.ensures.joined ∙ c.choose_tile-choices.ensures.leaves) c.loop-k.invariant.bytes;
       rows = omega (arith, left, leaves, c.loop-k.invariant.rows);
       few = omega (arith, c.choose_tile-choices.ensures.few, c.loop-k.invariant.few);
@@ -67,13 +74,13 @@ split_at_mut-values-requires c =
     let of : IsTileOf c.args.source.now.area.w c.args.source.now.area.h c.loop-k.k c.tile_rect-tile.result = tile_of c.args.source.now.area.w c.args.source.now.area.h c.loop-k.k c.tile_count-k-end.result c.tile_rect-tile.result c.requires.wide.0 c.tile_count-k-end.ensures.value c.loop-k-test.true c.tile_rect-tile.ensures in
     omega (arith, tile_area c.tile_rect-tile.result.w c.tile_rect-tile.result.h of.size, c.form_at-form.array_long)
 
-pub put_chosen-requires-clause-within : goal.put_chosen-requires-clause-within
-put_chosen-requires-clause-within c =
+pub put_tile-requires-clause-within : goal.put_tile-requires-clause-within
+put_tile-requires-clause-within c =
     let of : IsTileOf c.args.source.now.area.w c.args.source.now.area.h c.loop-k.k c.tile_rect-tile.result = tile_of c.args.source.now.area.w c.args.source.now.area.h c.loop-k.k c.tile_count-k-end.result c.tile_rect-tile.result c.requires.wide.0 c.tile_count-k-end.ensures.value c.loop-k-test.true c.tile_rect-tile.ensures in
     of.within
 
-pub put_chosen-requires-clause-size : goal.put_chosen-requires-clause-size
-put_chosen-requires-clause-size c =
+pub put_tile-requires-clause-size : goal.put_tile-requires-clause-size
+put_tile-requires-clause-size c =
     let of : IsTileOf c.args.source.now.area.w c.args.source.now.area.h c.loop-k.k c.tile_rect-tile.result = tile_of c.args.source.now.area.w c.args.source.now.area.h c.loop-k.k c.tile_count-k-end.result c.tile_rect-tile.result c.requires.wide.0 c.tile_count-k-end.ensures.value c.loop-k-test.true c.tile_rect-tile.ensures in
     of.size
 
@@ -105,3 +112,14 @@ returns c =
     let size : c.loop-k.used ≡ length joined = omega (arith, ap length all, length-take c.loop-k.used c.loop-k.out, c.loop-k.invariant.room) in
     let le : length joined ≤ length rows = omega (arith, size, ap length none, c.loop-k.invariant.rows, c.if-rows-used.false) in
     rw (shorter_first joined rows le) (size, omega (arith, c.loop-k.invariant.room, c.loop-k.auto.out), all)
+
+pub put_tile-requires-clause-chosen : goal.put_tile-requires-clause-chosen
+put_tile-requires-clause-chosen c =
+    let format : PixelFormat = c.args.format.now in
+    let tile : Rect = c.tile_rect-tile.result in
+    let canvas : Canvas = part_of tile (shows format c.args.source.now) in
+    let before : Carried = carried_by c.loop-k.said.joined in (
+      Joined,
+      of_either c.form_at-form.result (λ found. IsChosen Joined format before tile.w tile.h canvas found c.choose_tile-choices.result.joined) PixelFormat format (λ f. subrects_in f c.joined_subrects-subrects.result) (λ f (form : Bor TileForm). map (tinted_subrect f) (map subrect_of form.now.runs.items)) (map subrect_of c.choose_tile-choices.new.room.subrects.items)
+          c.joined_subrects-subrects.ensures.kept c.joined_subrects-subrects.ensures.seen c.choose_tile-choices.ensures.kept c.choose_tile-choices.ensures.seen,
+    )
