@@ -144,8 +144,8 @@ fn copy_encoded(style: &Style, cut: &Cut, area: &Rect, out: &mut [u8]) -> Option
 }
 
 /// Writes the data of a rectangle in Hextile in the form of a style, where that has fewer bytes than Raw (RFC 6143,
-/// 7.7.4): as it is encoded for all viewers; or else by the kept forms of its tiles where each has one, or from its
-/// pixel values, for which `values` is room.
+/// 7.7.4): as it is encoded for all viewers; or else from its colours, where the format is the host's or each tile has a
+/// kept form; or from its pixel values, for which `values` is room.
 fn encode_hextile(
     style: &Style,
     cut: &Cut,
@@ -163,7 +163,7 @@ fn encode_hextile(
     }
     let source = cut.source();
     let forms = kept_forms(style, &source, area);
-    if have_all(forms, area) {
+    if style.format.is_host() || have_all(forms, area) {
         return source.encode(style.runs, area, forms, &style.format, out);
     }
     encode_values(style, cut, area, forms, values, out)
