@@ -1,16 +1,17 @@
 #!/usr/bin/env python3
 """Runs the gate on some processors, and says what it cost: bench/gate.py [--processors N] [WORD..]
 
-The gate (`rt ci`, or the words, as `tools/gate-of CRATE..`) runs in a copy of the last commit. Other guests of a
-machine slow it in two ways: they take its processors away for a while, which the system counts as stolen, and they
-share what lies behind a processor, so that the same work takes more of its time. So a check of a crate of one function
-runs beside the gate every 240 seconds, on the same processors. The minutes are reckoned to a machine that nobody else
-uses: less what was stolen, and by how much longer that check took than at its fastest, which is sought before the gate,
-too, or known (--fastest SECONDS).
+The gate (`rt ci`, or the words, as `tools/gate-of CRATE..`, or `rt ci --anew` where the kit keeps what earlier runs
+proved) runs in a copy of the last commit. Other guests of a machine slow it in two ways: they take its processors away
+for a while, which the system counts as stolen, and they share what lies behind a processor, so that the same work takes
+more of its time. So a check of a crate of one function runs beside the gate every 240 seconds, on the same processors.
+The minutes are reckoned to a machine that nobody else uses: less what was stolen, and by how much longer that check
+took than at its fastest, which is sought before the gate, too, or known (--fastest SECONDS).
 
 Printed are the gate's last line, minutes, CPU minutes, how far the processors were idle and stolen, how long the check
-took, and for each crate the CPU seconds of its proof, its tests and its edits, by sampling every two seconds, and the
-largest process.
+took, the most memory that all checks held at one time, and for each crate the CPU seconds of its proof, its tests, its
+wrong bodies and (of a program) its two builds, by sampling every two seconds, and the largest process. What is left of
+the CPU minutes is runs of tests and programs, linking, and the kit's own work.
 """
 
 import argparse
@@ -58,8 +59,10 @@ class Samples:
 
     def __init__(self):
         self.used = {}
+        self.together = 0
 
     def take(self):
+        held = 0
         for process in pathlib.Path("/proc").glob("[0-9]*"):
             try:
                 words = (process / "cmdline").read_bytes().decode().split("\0")
@@ -69,19 +72,27 @@ class Samples:
                 # rt checks a crate with an edit in a folder of this name.
                 is_edited = (process / "cwd").readlink().name.startswith("rt-edit-")
                 what = "edits" if is_edited else "tests" if "--test" in words else "proof"
+                # A program's two builds take what its check proved.
+                what = "programs" if "--crate-checked" in words else what
                 ticks = (process / "stat").read_text().rpartition(")")[2].split()
-                memory = (process / "status").read_text().partition("VmHWM:")[2].split()[0]
+                status = (process / "status").read_text()
+                memory = status.partition("VmHWM:")[2].split()[0]
+                held += int(status.partition("VmRSS:")[2].split()[0])
             except (OSError, IndexError):
                 continue
             self.used[process.name, ticks[19]] = crate, what, (int(ticks[11]) + int(ticks[12])) / TICKS, int(memory)
+        self.together = max(self.together, held)
 
     def print(self):
+        print(f"together at most {self.together / 1000:,.0f} MB")
         rows = collections.defaultdict(lambda: collections.defaultdict(float))
         for crate, what, seconds, memory in self.used.values():
             rows[crate][what] += seconds
             rows[crate]["memory"] = max(rows[crate]["memory"], memory / 1000)
-        for crate, row in rows.items():
-            print(f"| {crate} |", *(f"{row[it]:,.0f} |" for it in ("proof", "tests", "edits", "memory")))
+        kinds = "proof", "tests", "edits", "programs"
+        print("CPU minutes:", ", ".join(f"{it} {sum(row[it] for row in rows.values()) / 60:.0f}" for it in kinds))
+        for crate, row in sorted(rows.items()):
+            print(f"| {crate} |", *(f"{row[it]:,.0f} |" for it in (*kinds, "memory")))
 
 
 def run(room, words, processors):
