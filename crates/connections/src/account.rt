@@ -4,9 +4,8 @@ ghost use Rattle.std.specs.Prelude.{◌≡◌};
 ghost use Rattle.std.specs.IoError.{error_kind};
 ghost use Rattle.connections.specs.Answers.{gave_for, is_passing, took_for};
 
-use byte_record::Record;
 use fault::LIMIT;
-use link::{Gave, Took};
+use link::{Gave, Record, Took};
 use std::io;
 use std::io::ErrorKind;
 use std::marker::Model;

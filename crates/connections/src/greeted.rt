@@ -4,7 +4,7 @@ use crate::greeting::{VERSION, VERSION_LEN};
 use crate::noted::{Noted, note_both};
 use crate::socket::Socket;
 use arrayvec::ArrayVec;
-use byte_record::Record;
+use link::Record;
 use mio::event::Source;
 use mio::net::TcpStream;
 use mio::{Interest, Registry, Token};

@@ -5,7 +5,7 @@ ghost use Rattle.std.specs.Io.{WritesAtMost};
 ghost use Rattle.std.specs.Io.KnownBytes.{WriteAppends};
 
 use crate::socket::{HostSocket, Socket};
-use byte_record::Record;
+use link::Record;
 use mio::event::Source;
 use mio::{Interest, Registry, Token};
 use std::io;

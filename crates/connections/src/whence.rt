@@ -3,7 +3,7 @@
 ghost use Rattle.std.specs.Prelude.{◌≡◌, ◌↔◌, IsTrue};
 ghost use Rattle.connections.specs.Greetings.{IsFromProxy, IsTold};
 
-use byte_record::Record;
+use link::Record;
 use proxy_header::{HeaderReader, Origin, Refusal};
 use std::marker::Model;
 use std::net::{IpAddr, SocketAddr};

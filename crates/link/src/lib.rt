@@ -1,15 +1,18 @@
 //! A link to a peer, and the handshake with a host over it (RFC 6143, sections 7.1 to 7.3 and 7.5).
 //!
 //! A link takes bytes from its peer and gives it bytes, and says what came of each call. Only `MemoryLink::new` takes
-//! memory. `join_host` and `give_all` wait as their link does, so they take a handle that may wait; nothing else does.
+//! memory. `join_host` and `give_all` wait as their link does, so they take a handle that may wait; nothing else does. A
+//! `Record` has bytes that went over a link, for clauses alone.
 #![tactic(auto)]
 
+mod byte_record;
 mod give;
 mod join;
 mod link;
 mod memory_link;
 mod waiting;
 
+pub use byte_record::Record;
 pub use give::{Halt, give_all};
 pub use join::join_host;
 pub use link::{Gave, Link, Took};

@@ -4,9 +4,8 @@ ghost use Rattle.std.specs.Prelude.{◌≡◌};
 ghost use Rattle.run_traits.specs.Unused.{unused};
 
 use crate::peer::Peer;
-use byte_record::Record;
 use fault::LIMIT;
-use link::{Gave, Link, Took};
+use link::{Gave, Link, Record, Took};
 use std::marker::Model;
 
 /// A link to a peer in memory.

@@ -2,9 +2,9 @@
 
 use crate::incident::{Incident, gravity_of};
 use crate::quoted::Quoted;
-use byte_record::Record;
 use fault::Fault;
 use jiff::Timestamp;
+use link::Record;
 use notify::standard_error_has_room;
 use roles::Role;
 use run_reports::{Gravity, Ledger, Paper, prefix_of};

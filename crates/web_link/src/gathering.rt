@@ -2,9 +2,8 @@
 
 use crate::kept::Kept;
 use crate::web::WebLink;
-use byte_record::Record;
 use fault::LIMIT;
-use link::{Gave, Link, Took};
+use link::{Gave, Link, Record, Took};
 use std::alloc::{AllocError, Global};
 use std::marker::Model;
 

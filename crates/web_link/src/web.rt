@@ -3,9 +3,8 @@
 use crate::code::{NORMAL, code_of};
 use crate::saying::Saying;
 use crate::unsent::Unsent;
-use byte_record::Record;
 use fault::LIMIT;
-use link::{Gave, Link, Took};
+use link::{Gave, Link, Record, Took};
 use std::marker::Model;
 use web_frames::{FrameReader, Position, binary_head, control_frame};
 use websocket::protocol::frame::coding::Control;

@@ -1,6 +1,6 @@
 -- A record owns nothing, so it may go to another thread.
 use denote.Param.Send.{IsSend, owning_send, sendable}
-use Rattle.byte_record.specs.contracts.record.Record.{the_row, the_type}
+use Rattle.link.specs.contracts.byte_record.Record.{the_row, the_type}
 
 pub send : IsSend the_row
 send = owning_send the_type (search sendable, tt) (λ d. tt) (λ k x w. tt)
