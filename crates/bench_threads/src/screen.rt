@@ -3,15 +3,13 @@
 ghost use Rattle.std.specs.Prelude.{◌≡◌};
 
 use crate::{answered, beside, calls};
-use screen_pair::Publishes;
-use shared_screen::shared;
+use shared_screen::{Naming, Opened, Publishes, shared};
 use std::alloc::Global;
 use std::marker::Brand;
 use std::sync::Wait;
 use std::test::Fail;
 use std::thread::Threads;
 use std::time::Clock;
-use tally_word::{Naming, Opened};
 
 /// This many watchers may look at once.
 const PLACES: usize = 16;

@@ -13,14 +13,13 @@ use reflector::{InputCounts, Running, run_all};
 use rfb_wire::Joined;
 use roles::Role;
 use run_traits::{Door, NoAlarm};
-use screen_pair::Publishes;
+use shared_screen::{Naming, Opened, Publishes};
 use std::alloc::Global;
 use std::marker::Brand;
 use std::sync::{Arc, Wait};
 use std::test::Fail;
 use std::thread::Threads;
 use std::time::Clock;
-use tally_word::{Naming, Opened};
 
 /// A run over a history that J names. It answers whether the run ended without a fault, after its place did.
 fn over<J, D, R>(

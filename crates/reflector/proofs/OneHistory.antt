@@ -5,9 +5,9 @@ use Rattle.std.proofs.Math.Seq.{take-append_seam}
 use Rattle.std.proofs.lemmas.List.Elements.{filter-append}
 use Rattle.raster.specs.Update.{Update, View, view}
 use Rattle.reflect_core.specs.Sequential.{Shared, Step, Look, Cut, Leads, Begins, is_change}
-use Rattle.tally_word.specs.History.{Change, Put, Raise, puts_of, tally_from, TakeTurns, step_of}
-use Rattle.tally_word.specs.Reaches.{Reaches}
-use Rattle.tally_word.proofs.Reaching.{leads-append, led_to}
+use Rattle.shared_screen.specs.History.{Change, Put, Raise, puts_of, tally_from, TakeTurns, step_of}
+use Rattle.shared_screen.specs.Reaches.{Reaches}
+use Rattle.shared_screen.proofs.Reaching.{leads-append, led_to}
 use Rattle.viewer_session.specs.Acts.{Act, Bytes, Turn, Written, Passed}
 use Rattle.viewer_session.proofs.Parts.{begins_on}
 use Rattle.viewer_server.specs.Serving.{HasCut, IsShown}

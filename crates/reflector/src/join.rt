@@ -7,15 +7,13 @@ ghost use Rattle.reflect_core.specs.Sequential.{Begins, Shared};
 ghost use Rattle.reflector.specs.Promise.{IsServedWhole};
 ghost use Rattle.reflector.specs.Senders.{IsSameSender};
 ghost use Rattle.reflector.specs.Visits.{HasVisits, at, setup_of};
-ghost use Rattle.tally_word.specs.History.{puts_of};
+ghost use Rattle.shared_screen.specs.History.{puts_of};
 
 use crate::place::{Place, PlaceHandle};
 use run_traits::Door;
-use screen_pair::Publishes;
-use shared_screen::{Publisher, Watcher};
+use shared_screen::{Naming, Publisher, Publishes, Watcher};
 use std::sync::Wait;
 use std::thread::Threads;
-use tally_word::Naming;
 
 /// Waits for a place of a run, and lets its watcher meet the run's publisher.
 ///

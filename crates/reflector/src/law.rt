@@ -4,7 +4,7 @@ ghost use Rattle.std.specs.Prelude.{◌≡◌, ◌≤◌, ◌+◌, ◌∷◌, []
 ghost use Rattle.raster.specs.Update.{Update, view};
 ghost use Rattle.reflect_core.specs.Sequential.{Begins, Shared};
 ghost use Rattle.reflect_core.specs.Sequential as step;
-ghost use Rattle.tally_word.specs.Reaches.{Reaches};
+ghost use Rattle.shared_screen.specs.Reaches.{Reaches};
 ghost use Rattle.viewer_server.specs.Serving.{IsShown};
 ghost use Rattle.viewer_session.specs.Acts.{Act};
 ghost use Rattle.reflector.specs.History.{IsOneHistory, LooksFollow, own_steps};

@@ -7,12 +7,12 @@ ghost use Rattle.raster.specs.Size.{IsScreenSize};
 ghost use Rattle.input_relay.specs.Ends.{fresh, host_of, relay_of, strand_of, taken_of};
 ghost use Rattle.roles.specs.Strokes.{StrokesStand};
 ghost use Rattle.reflect_core.specs.Sequential as step;
-ghost use Rattle.tally_word.specs.Reaches.{Reaches};
+ghost use Rattle.shared_screen.specs.Reaches.{Reaches};
 ghost use Rattle.host_writer.specs.Dropping.{IsCounted, all_dropped};
 ghost use Rattle.host_writer.specs.Writing.{taken_from};
 ghost use Rattle.reflector.specs.Tellings.{AreToldInTurn, HasTold, TellsHosts, desk};
 ghost use Rattle.reflector.specs.Written.{links_in};
-ghost use Rattle.tally_word.specs.History.{puts_of};
+ghost use Rattle.shared_screen.specs.History.{puts_of};
 ghost use Rattle.host_turns.specs.Running.{HasRun, IsLinkOf, IsOver, goes_on};
 ghost use Rattle.reflector.specs.Visits.{IsOfScreen};
 
@@ -32,13 +32,11 @@ use reflect_core::{Puts, ScreenSource};
 use rfb_wire::Joined;
 use roles::{Role, Strokes};
 use run_traits::{Alarm, Door, Stop};
-use screen_pair::Publishes;
-use shared_screen::{Publisher, Watcher, shared};
+use shared_screen::{Naming, Opened, Publisher, Publishes, Watcher, shared};
 use std::alloc::Global;
 use std::sync::{Arc, Wait};
 use std::thread::Threads;
 use std::time::Clock;
-use tally_word::{Naming, Opened};
 
 /// What a run leaves.
 pub struct Running<L, H, P, S: ScreenSource, D: Door, R: Wait + Drop> {

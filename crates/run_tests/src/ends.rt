@@ -21,8 +21,7 @@ use reflector::{InputCounts, Place, Running, join_place, run_all};
 use rfb_wire::Joined;
 use roles::Role;
 use run_traits::{Door, NoAlarm, PlaceCount};
-use screen_pair::Publishes;
-use shared_screen::{Publisher, Watcher};
+use shared_screen::{Naming, Opened, Publisher, Publishes, Watcher};
 use std::alloc::Global;
 use std::marker::Brand;
 use std::sync::atomic::Ordering;
@@ -30,7 +29,6 @@ use std::sync::{Arc, Wait};
 use std::test::Fail;
 use std::thread::Threads;
 use std::time::Clock;
-use tally_word::{Naming, Opened};
 use tiles::Have;
 
 /// How a run is to end: with a fault of this number, or with none, 0; with this many links handed back; with this

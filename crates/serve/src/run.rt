@@ -29,15 +29,14 @@ use reflector::{InputCounts, Running, run_all};
 use rfb_wire::Joined;
 use roles::Role;
 use run_traits::{Alarm, Door, Log};
-use screen_pair::Publishes;
 use settings::{Settings, runs_of};
+use shared_screen::{Naming, Opened, Publishes};
 use std::alloc::{AllocError, Global};
 use std::marker::Brand;
 use std::rt::Files;
 use std::sync::{Arc, Wait};
 use std::thread::Threads;
 use std::time::Clock;
-use tally_word::{Naming, Opened};
 
 /// The run over a history that J names.
 fn over<J, L, H, D, B, W, R>(

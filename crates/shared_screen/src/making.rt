@@ -5,13 +5,20 @@ ghost use Rattle.fault.specs.declared.kinds.Fault.TheVariants.{Memory, NoPlace};
 ghost use Rattle.raster.specs.Size.{IsScreenSize};
 
 use crate::demand::{FormClaim, FormDemand};
+use crate::ends::{BESIDE_PLACES, eyes};
+use crate::eye::Eye;
+use crate::glance::Glance;
+use crate::naming::Naming;
+use crate::opening::Opened;
 use crate::publisher::Publisher;
+use crate::publishing::opened;
+use crate::raiser::tally;
+use crate::spares::Spares;
+use crate::stamped::Stamped;
 use crate::watcher::Watcher;
 use fault::Fault;
-use screen_pair::{BESIDE_PLACES, Eye, Spares, Stamped, eyes, opened};
 use std::alloc::Global;
 use std::sync::{Arc, Wait};
-use tally_word::{Glance, Naming, Opened, tally};
 
 /// Makes one watcher from each eye.
 fn watchers<J: Naming>(

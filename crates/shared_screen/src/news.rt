@@ -1,8 +1,9 @@
 //! The news of a publisher.
 
-use screen_pair::PairNews;
+use crate::naming::Naming;
+use crate::pair_news::PairNews;
+use crate::tally_news::TallyNews;
 use std::marker::Model;
-use tally_word::{Naming, TallyNews};
 
 /// What the publisher had put when it made the news. Contracts see the updates, and the tally, which is raised to their
 /// number. Any number of threads may read it.
@@ -15,7 +16,7 @@ pub struct News<J: Naming> {
 impl<J: Naming> Model for News<J> {
     ghost use Rattle.std.specs.Prelude.{◌≡◌, length};
     ghost use Rattle.reflect_core.specs.Sequential.{Shared};
-    ghost use Rattle.tally_word.specs.History.{tally_of};
+    ghost use Rattle.shared_screen.specs.History.{tally_of};
 
     ghost Value = { Shared };
 

@@ -3,19 +3,26 @@
 ghost use Rattle.std.specs.Prelude.{◌≡◌, ◌*◌, ◌+◌, ◌<◌, ◌≤◌, ◌^◌, ◌∷◌, ◌++◌, [], length, IfOk, IfErr};
 ghost use Rattle.left_right.specs.Handles.{published, pending};
 ghost use Rattle.reflect_core.specs.Plain.{IsPutRefusal};
-ghost use Rattle.tally_word.specs.History.{Put, Raise, puts_of};
+ghost use Rattle.shared_screen.specs.History.{Put, Raise, puts_of};
 
+use crate::change::Change;
 use crate::demand::FormDemand;
+use crate::front::HistoryFront;
+use crate::naming::Naming;
 use crate::news::News;
+use crate::published::Published;
+use crate::publishes::Publishes;
+use crate::publishing::{news_of, publish};
+use crate::raiser::Raiser;
+use crate::spares::Spares;
+use crate::stamped::Stamped;
 use fault::{Fault, LIMIT};
 use left_right::{Absorb, WriteHandle};
 use painter::Patch;
 use reflect_core::Puts;
-use screen_pair::{Published, Publishes, Spares, Stamped, news_of, publish};
 use std::alloc::Global;
 use std::marker::Model;
 use std::sync::{Arc, Wait};
-use tally_word::{Change, HistoryFront, Naming, Raiser};
 
 /// Puts updates, and raises the tally after each. Contracts see its history: all that was put and raised.
 #[derive(Drop)]
@@ -37,8 +44,8 @@ where
     ghost use Rattle.std.specs.Prelude.{◌≡◌, [], List, length};
     ghost use Rattle.left_right.specs.Handles.{published, pending};
     ghost use Rattle.reflect_core.specs.Sequential.{Begins};
-    ghost use Rattle.tally_word.specs.History as history;
-    ghost use Rattle.tally_word.specs.History.{puts_of, tally_of};
+    ghost use Rattle.shared_screen.specs.History as history;
+    ghost use Rattle.shared_screen.specs.History.{puts_of, tally_of};
 
     ghost Value = { List history.Change };
 

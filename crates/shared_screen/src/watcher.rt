@@ -7,20 +7,22 @@ ghost use Rattle.raster.specs.Update.{view};
 ghost use Rattle.reflect_core.specs.Sequential.{Begins};
 ghost use Rattle.reflect_core.specs.Sequential as step;
 ghost use Rattle.reflect_core.specs.Source.{IsCutOf};
-ghost use Rattle.tally_word.specs.Reaches.{Reaches};
-ghost use Rattle.tally_word.specs.History.{puts_of, ArePublished};
+ghost use Rattle.shared_screen.specs.Reaches.{Reaches};
+ghost use Rattle.shared_screen.specs.History.{puts_of, ArePublished};
 
 use crate::demand::FormClaim;
+use crate::eye::Eye;
+use crate::glance::Glance;
+use crate::naming::Naming;
 use crate::news::News;
 use crate::publisher::Publisher;
+use crate::publishes::Publishes;
 use fault::Fault;
 use pixel_format::Format;
 use raster::Rect;
 use reflect_core::{Cut, ScreenSource};
-use screen_pair::{Eye, Publishes};
 use std::marker::Model;
 use std::sync::Wait;
-use tally_word::{Glance, Naming};
 use tiles::Have;
 
 /// Looks at the tally without entering a copy, and cuts. Contracts see a state of the sequential screen: the updates
@@ -40,7 +42,7 @@ pub struct Watcher<J: Naming> {
 impl<J: Naming> Model for Watcher<J> {
     ghost use Rattle.std.specs.Prelude.{◌≡◌, ◌≤◌, ◌-◌, length, max};
     ghost use Rattle.reflect_core.specs.Sequential.{Shared};
-    ghost use Rattle.tally_word.specs.History.{tally_of};
+    ghost use Rattle.shared_screen.specs.History.{tally_of};
 
     ghost Value = { Shared };
 

@@ -1,4 +1,4 @@
-//! Tests of `screen_pair` and `shared_screen`.
+//! Tests of `shared_screen`.
 #![tactic(auto)]
 
 #[cfg(test)]

@@ -4,13 +4,12 @@ ghost use Rattle.std.specs.Prelude.{◌≡◌, ◌≤◌};
 
 use crate::puts::{ALL, Reads, Room, beside, puts_many};
 use fault::Fault;
-use screen_pair::{Eye, PairWriter, Publishes, pair};
+use shared_screen::{Eye, Naming, Opened, PairWriter, Publishes, pair, tally};
 use std::alloc::Global;
 use std::marker::Brand;
 use std::sync::{Arc, Wait};
 use std::test::*;
 use std::thread::Threads;
-use tally_word::{Naming, Opened, tally};
 
 impl<J: Naming> Reads for Eye<J> {
     ghost fits = { (4 ≡ J.width) × (4 ≡ J.height) };

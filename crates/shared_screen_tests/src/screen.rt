@@ -6,14 +6,12 @@ use crate::puts::{ALL, MANY, Reads, Room, beside, puts_many, puts_one};
 use fault::Fault;
 use pixel_format::Format;
 use reflect_core::ScreenSource;
-use screen_pair::Publishes;
-use shared_screen::{Publisher, Watcher, shared};
+use shared_screen::{Naming, Opened, Publisher, Publishes, Watcher, shared};
 use std::alloc::Global;
 use std::marker::Brand;
 use std::sync::Wait;
 use std::test::*;
 use std::thread::Threads;
-use tally_word::{Naming, Opened};
 
 impl<J: Naming> Reads for Watcher<J> {
     ghost fits = { (4 ≡ J.width) × (4 ≡ J.height) };

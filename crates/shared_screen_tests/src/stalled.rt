@@ -5,14 +5,12 @@ ghost use Rattle.std.specs.Prelude.{◌≡◌, ◌≤◌};
 use crate::puts::{ALL, Room, puts_one};
 use fault::Fault;
 use reflect_core::ScreenSource;
-use screen_pair::Publishes;
-use shared_screen::{Publisher, Watcher, shared};
+use shared_screen::{Naming, Opened, Publisher, Publishes, Watcher, shared};
 use std::alloc::Global;
 use std::marker::Brand;
 use std::sync::Wait;
 use std::test::*;
 use std::thread::Threads;
-use tally_word::{Naming, Opened};
 
 /// Puts patch n, which a watcher cuts. It says whether both were right.
 fn puts_and_cuts<J: Naming + Publishes, R: Wait + Drop>(

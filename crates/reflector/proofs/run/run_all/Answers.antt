@@ -4,7 +4,7 @@ use Rattle.std.specs.List.{All}
 use Rattle.std.proofs.lemmas.Result.{IfOk-weaker}
 use Rattle.reflect_core.specs.Sequential.{Shared, nothing_put}
 use Rattle.reflect_core.specs.Sequential as step
-use Rattle.tally_word.specs.Reaches.{Reaches}
+use Rattle.shared_screen.specs.Reaches.{Reaches}
 use Rattle.input_relay.specs.Ends.{taken_of}
 use Rattle.host_writer.specs.Writing.{taken_from}
 use Rattle.roles.specs.Strokes.{StrokesStand}

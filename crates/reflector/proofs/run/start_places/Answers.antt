@@ -1,5 +1,5 @@
 use Rattle.reflector.proofs.Places.{first_left, grown, grown_by, pair_of}
-use Rattle.screen_pair.proofs.Every.{all_snoc}
+use Rattle.shared_screen.proofs.Every.{all_snoc}
 use Rattle.std.proofs.Common.{◌<◌, ◌∙◌, ap, arith, length, rules}
 use Rattle.reflector.specs.Visits.{IsOfScreen, name_of}
 use Rattle.reflector.proofs.run.start_places.Goals as goal

@@ -2,7 +2,7 @@
 use Rattle.std.proofs.Common.{◌≡◌, ◌∙◌, ◌∷◌, arith, suc}
 use Rattle.std.specs.Vec.Iter.{into_iter_items}
 use Rattle.input_relay.specs.Ends.{host_of, relay_of}
-use Rattle.screen_pair.proofs.Every.{all_snoc}
+use Rattle.shared_screen.proofs.Every.{all_snoc}
 use Rattle.run_tests.proofs.ends.ends.Goals as goal
 
 pub loop-place-init : goal.loop-place-init

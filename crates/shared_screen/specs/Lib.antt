@@ -1,0 +1,6 @@
+pub mod History
+pub mod Named
+pub mod Shares
+pub mod Law
+pub mod Reaches
+pub mod Published

@@ -1,0 +1,23 @@
+//! What makes updates known to be published.
+
+ghost use Rattle.left_right.specs.Handles.{published};
+ghost use Rattle.shared_screen.specs.History.{puts_of};
+
+use crate::naming::{Naming, Publicity};
+use crate::published::Published;
+use crate::stamped::Stamped;
+use left_right::WriteHandle;
+use std::marker::Brand;
+use std::sync::Wait;
+
+/// A name by which updates count as published where a pair has published them. A body that is generic over the name
+/// learns this of no other updates, since only this call says it.
+pub trait Publishes: Publicity {
+    /// It does nothing. Its clause says that what this pair has published is published.
+    fn known_by<J: Naming, R: Wait + Drop>(handle: &WriteHandle<Published<J>, Stamped<J>, R>)
+        ensures { Self.published (puts_of (published handle.now)) };
+}
+
+impl Publishes for Brand {
+    fn known_by<J: Naming, R: Wait + Drop>(_handle: &WriteHandle<Published<J>, Stamped<J>, R>) {}
+}

@@ -1,6 +1,0 @@
-use denote.Param.Send.{IsSend}
-use Rattle.tally_word.specs.contracts.half.Half.{the_row}
-use Rattle.tally_word.proofs.Shares.{half_keyless}
-
-pub send : IsSend the_row
-send = record { owned = λ d vs. ((λ vss. (tt, ((λ uss. (tt, tt)), tt))), half_keyless d.names d.here d.number); leaving = λ k f vs. tt }
