@@ -5,7 +5,7 @@ use Rattle.http.specs.declared.request.Parts.{Parts}
 use Rattle.http1.specs.Fields.{Header}
 use Rattle.http_server.specs.Response.{IsResponse}
 use Rattle.http_server.specs.declared.response.Response.{Response}
-use Rattle.metrics_text.specs.Metrics.{metrics_of}
+use Rattle.run_reports.specs.Metrics.{metrics_of}
 use Rattle.roles.specs.declared.role.Role.{Role}
 use Rattle.roles.specs.declared.role.Role.TheVariants.{Full, View}
 use Rattle.run_reports.specs.Healths.{health_for, word_for}

@@ -2,7 +2,7 @@
 
 use crate::booth::answer_one;
 use crate::watched::Watched;
-use metrics_text::{ByRole, Counters, Lag};
+use run_reports::{ByRole, Counters, Lag};
 use std::hash::RandomState;
 use std::test::Fail;
 use std::time::{Duration, Instant};

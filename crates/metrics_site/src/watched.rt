@@ -9,9 +9,8 @@ ghost use Rattle.metrics_site.specs.Replies.{Replies, always, health_reply, metr
 use bytes::Bytes;
 use http::{HeaderName, HeaderValue, Request, StatusCode, header};
 use http_server::{Response, Service};
-use metrics_text::{Counters, metrics_text};
 use roles::Role;
-use run_reports::{Health, health_of, health_word};
+use run_reports::{Counters, Health, health_of, health_word, metrics_text};
 use std::alloc::{AllocError, Global};
 
 /// A run as it stood when a reader connected.

@@ -1,6 +1,6 @@
 -- What is counted of a run.
 use Rattle.std.specs.Prelude.{ℕ, ◌+◌, ◌-◌, ◌^◌, min, true, false}
-use Rattle.metrics_text.specs.declared.counters.ByRole.{ByRole}
+use Rattle.run_reports.specs.declared.counters.ByRole.{ByRole}
 use Rattle.roles.specs.declared.role.Role.{Role}
 use Rattle.roles.specs.declared.role.Role.TheVariants.{Full, View}
 use Rattle.run_reports.specs.declared.happenings.Happening.{Happening}

@@ -1,6 +1,6 @@
 -- What a balancer is told.
 use Rattle.std.specs.Prelude.{ℕ, Bool, true, false, List, ◌&&◌, nat_le, codes, Option, None, Some}
-use Rattle.metrics_text.specs.declared.counters.Counters.{Counters}
+use Rattle.run_reports.specs.declared.counters.Counters.{Counters}
 use Rattle.roles.specs.declared.role.Role.{Role}
 use Rattle.roles.specs.declared.role.Role.TheVariants as of
 use Rattle.run_reports.specs.declared.health.Health.{Health}

@@ -2,3 +2,5 @@ pub mod Healths
 pub mod Lines
 pub mod Notices
 pub mod Happenings
+pub mod State
+pub mod Metrics

@@ -3,7 +3,7 @@
 ghost use Rattle.std.specs.Prelude.{◌≡◌};
 ghost use Rattle.run_reports.specs.Happenings.{after, fewer, more, nothing};
 
-use metrics_text::ByRole;
+use crate::counters::ByRole;
 use roles::Role;
 
 /// What happens at the doors and at the host, as far as it is counted.

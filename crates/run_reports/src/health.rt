@@ -3,7 +3,7 @@
 ghost use Rattle.std.specs.Prelude.{◌≡◌};
 ghost use Rattle.run_reports.specs.Healths.{health_for, is_full, is_taken, word_for};
 
-use metrics_text::Counters;
+use crate::counters::Counters;
 use roles::Role;
 
 /// Whether a viewer that comes now would be served, and why not.

@@ -1,12 +1,12 @@
 //! Tests of texts as sd_notify(3), sd-daemon(3) and the pages of this repository have them, and of a log that isn't
 //! read.
 
+use crate::counters::{ByRole, Counters, Lag};
 use crate::gravity::{Gravity, prefix_of};
 use crate::happenings::{Happening, HappeningCounts};
 use crate::health::{health_of, health_word};
 use crate::ledger::{Ledger, Paper};
 use crate::notice::{Notice, Ready, notice_text};
-use metrics_text::{ByRole, Counters, Lag};
 use roles::Role;
 use std::alloc::Global;
 use std::cell::Cell;

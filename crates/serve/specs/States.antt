@@ -1,8 +1,8 @@
 -- What an operator is told of a run (own). Times are in milliseconds, ages in whole seconds.
 use Rattle.std.specs.Prelude.{◌≡◌, ◌-◌, ◌/◌, List, ℕ}
 use Rattle.std.specs.String.{string_bytes}
-use Rattle.run_state.specs.declared.report.HostReport.{HostReport}
-use Rattle.run_state.specs.declared.report.ViewerReport.{ViewerReport}
+use Rattle.run_reports.specs.declared.report.HostReport.{HostReport}
+use Rattle.run_reports.specs.declared.report.ViewerReport.{ViewerReport}
 use Rattle.connections.specs.declared.desk.RunCard.{RunCard}
 use Rattle.connections.specs.declared.desk.ViewerCard.{ViewerCard}
 use Rattle.connections.specs.declared.desk.HostCard.{HostCard}

@@ -1,10 +1,9 @@
 //! A run's numbers, from where they are counted.
 
 use connections::RunCard;
-use metrics_text::{ByRole, Counters, Lag};
 use reflector::InputCounts;
 use roles::Role;
-use run_reports::HappeningCounts;
+use run_reports::{ByRole, Counters, HappeningCounts, Lag};
 use settings::{Settings, places_of};
 use std::alloc::{AllocError, Global};
 use std::sync::Wait;

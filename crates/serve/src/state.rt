@@ -6,7 +6,7 @@ ghost use Rattle.serve.specs.States.{IsHostReport, IsViewerReport, seconds_from}
 use crate::control::Reach;
 use connections::{HostCard, RunCard, ViewerCard};
 use run_control::Form;
-use run_state::{HostReport, Report, ViewerReport, state_json, state_text};
+use run_reports::{HostReport, Report, ViewerReport, state_json, state_text};
 use std::alloc::{AllocError, Global};
 use std::net::SocketAddr;
 use std::sync::Wait;

@@ -3,10 +3,10 @@
 -- given.
 use Rattle.std.specs.Prelude.{ℕ, Bool, true, false, List, [], ◌++◌, codes}
 use Rattle.std.specs.Fmt.{decimal}
-use Rattle.metrics_text.specs.declared.counters.ByRole.{ByRole}
-use Rattle.metrics_text.specs.declared.counters.Lag.{Lag}
-use Rattle.metrics_text.specs.declared.counters.Counters.{Counters}
-use Rattle.metrics_text.specs.declared.families.Family.{Family}
+use Rattle.run_reports.specs.declared.counters.ByRole.{ByRole}
+use Rattle.run_reports.specs.declared.counters.Lag.{Lag}
+use Rattle.run_reports.specs.declared.counters.Counters.{Counters}
+use Rattle.run_reports.specs.declared.families.Family.{Family}
 
 abbrev pub after_comments : List ℕ → (name kind help : List ℕ) → List ℕ
 after_comments before name kind help =

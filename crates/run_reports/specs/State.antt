@@ -6,9 +6,9 @@ use Rattle.roles.specs.declared.role.Role.{Role}
 use Rattle.roles.specs.declared.role.Role.TheVariants.{Full, View}
 use Rattle.run_control.specs.declared.doors.Entry.{Entry}
 use Rattle.run_control.specs.declared.doors.Entry.TheVariants.{Open, Drained, Closed}
-use Rattle.run_state.specs.declared.report.HostReport.{HostReport}
-use Rattle.run_state.specs.declared.report.ViewerReport.{ViewerReport}
-use Rattle.run_state.specs.declared.report.Report.{Report}
+use Rattle.run_reports.specs.declared.report.HostReport.{HostReport}
+use Rattle.run_reports.specs.declared.report.ViewerReport.{ViewerReport}
+use Rattle.run_reports.specs.declared.report.Report.{Report}
 
 abbrev pub entry_word : Entry → List ℕ
 entry_word Open = codes "open"

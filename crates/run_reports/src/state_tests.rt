@@ -2,7 +2,7 @@
 
 use crate::json::state_json;
 use crate::report::{HostReport, Report, ViewerReport};
-use crate::text::state_text;
+use crate::state::state_text;
 use roles::Role;
 use run_control::Entry;
 use serde_json::Value;

@@ -1,7 +1,7 @@
 use Rattle.std.proofs.Common.{◌≡◌, take}
 use Rattle.std.specs.String.{string_bytes}
-use Rattle.run_state.specs.State.{after_viewers}
-use Rattle.run_state.proofs.text.put_viewers.Given as goal
+use Rattle.run_reports.specs.State.{after_viewers}
+use Rattle.run_reports.proofs.state.put_viewers.Given as goal
 
 -- The lines of the viewers so far were put.
 abbrev pub invariant-loop-viewer : goal.invariant-loop-viewer

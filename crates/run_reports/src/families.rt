@@ -1,8 +1,8 @@
-//! Families of numbers: a head that says what each is, and a line for each number.
+//! Families of numbers, as Prometheus reads them: a head that says what each is, and a line for each number.
 
 ghost use Rattle.std.specs.Prelude.{◌≡◌, [], OnOk};
 ghost use Rattle.std.specs.String.{string_bytes};
-ghost use Rattle.metrics_text.specs.Metrics.{after_by_role, after_head, after_sample, after_single};
+ghost use Rattle.run_reports.specs.Metrics.{after_by_role, after_head, after_sample, after_single};
 
 use crate::counters::ByRole;
 use itoa::Buffer;

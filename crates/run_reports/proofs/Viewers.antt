@@ -1,8 +1,8 @@
 -- Lines of viewers, one after the other. `put_viewers` puts them so.
 use Rattle.std.proofs.Common.{◌≡◌, ◌∙◌, ◌<◌, ◌+◌, ◌++◌, ◌∷◌, ap, get_or, length, refl, take, List, [], ℕ}
 use Rattle.std.proofs.lemmas.List.{take_more}
-use Rattle.run_state.specs.State.{after_viewer, after_viewers}
-use Rattle.run_state.specs.declared.report.ViewerReport.{ViewerReport}
+use Rattle.run_reports.specs.State.{after_viewer, after_viewers}
+use Rattle.run_reports.specs.declared.report.ViewerReport.{ViewerReport}
 
 viewers_behind : (before : List ℕ) (some more : List ViewerReport) → after_viewers before (some ++ more) ≡ after_viewers (after_viewers before some) more
 viewers_behind before [] more = refl

@@ -1,8 +1,8 @@
-//! The whole text.
+//! The numbers of a running reflector, in the text form that Prometheus reads (its text-based format, version 0.0.4).
 
 ghost use Rattle.std.specs.Prelude.{◌≡◌, [], IfOk, OnOk};
 ghost use Rattle.std.specs.String.{string_bytes};
-ghost use Rattle.metrics_text.specs.Metrics.{after_host, after_input, after_lag, after_places, after_sent, metrics_of};
+ghost use Rattle.run_reports.specs.Metrics.{after_host, after_input, after_lag, after_places, after_sent, metrics_of};
 
 use crate::counters::{Counters, Lag};
 use crate::families::{Family, put_by_role, put_head, put_sample, put_single};

@@ -1,9 +1,9 @@
-//! Parts of which lines are put together.
+//! Parts of which the lines are put together that say how a run stands.
 
 ghost use Rattle.std.specs.Prelude.{◌≡◌, ◌++◌, OnOk};
 ghost use Rattle.std.specs.String.{string_bytes};
 ghost use Rattle.std.specs.Fmt.{decimal};
-ghost use Rattle.run_state.specs.State.{entry_word, role_word, yes_word};
+ghost use Rattle.run_reports.specs.State.{entry_word, role_word, yes_word};
 
 use itoa::Buffer;
 use roles::Role;

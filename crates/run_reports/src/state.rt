@@ -2,7 +2,7 @@
 
 ghost use Rattle.std.specs.Prelude.{◌≡◌, IfOk, OnOk};
 ghost use Rattle.std.specs.String.{string_bytes};
-ghost use Rattle.run_state.specs.State.{after_counts, after_host, after_input, after_place, after_places, after_viewer, after_viewers, after_whoever, state_lines};
+ghost use Rattle.run_reports.specs.State.{after_counts, after_host, after_input, after_place, after_places, after_viewer, after_viewers, after_whoever, state_lines};
 
 use crate::lines::{entry_word, put_number, put_word, role_word, yes_word};
 use crate::report::{HostReport, Report, ViewerReport};
