@@ -11,6 +11,3 @@ mod watched;
 pub use booth::{MOST_HEAD, answer_one};
 pub use hasty::Hasty;
 pub use watched::Watched;
-
-#[cfg(test)]
-mod tests;

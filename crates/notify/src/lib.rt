@@ -9,6 +9,3 @@ mod room;
 pub use address::address_of;
 pub use notifier::Notifier;
 pub use room::standard_error_has_room;
-
-#[cfg(test)]
-mod tests;

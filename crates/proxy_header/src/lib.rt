@@ -13,6 +13,3 @@ mod state;
 pub use law::{bad_headers_are_refused, headers_are_read};
 pub use origin::{Origin, Refusal};
 pub use reader::HeaderReader;
-
-#[cfg(test)]
-mod tests;

@@ -15,6 +15,3 @@ pub use law::{
     whoever_is_there_stays,
 };
 pub use request::{Form, Request};
-
-#[cfg(test)]
-mod tests;

@@ -27,10 +27,3 @@ pub use metrics::metrics_text;
 pub use notice::{Notice, Ready, notice_text};
 pub use report::{HostReport, Report, ViewerReport};
 pub use state::state_text;
-
-#[cfg(test)]
-mod metrics_tests;
-#[cfg(test)]
-mod state_tests;
-#[cfg(test)]
-mod tests;

@@ -1,8 +1,7 @@
 //! Tests of addresses as unix(7) has them, and of a datagram that is heard.
 
-use crate::address::address_of;
-use crate::notifier::Notifier;
 use libc::net as c;
+use notify::{Notifier, address_of};
 use os::FromRawFd;
 use std::os::fd::{AsRawFd, OwnedFd};
 use std::process;

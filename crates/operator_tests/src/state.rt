@@ -1,10 +1,8 @@
 //! Tests of how a run stands, against texts that were written by hand.
 
-use crate::json::state_json;
-use crate::report::{HostReport, Report, ViewerReport};
-use crate::state::state_text;
 use roles::Role;
 use run_control::Entry;
+use run_reports::{HostReport, Report, ViewerReport, state_json, state_text};
 use serde_json::Value;
 use std::test::Fail;
 

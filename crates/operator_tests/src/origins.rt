@@ -1,7 +1,6 @@
 //! Headers that HAProxy 2.6 sent, and bytes that are no header, in pieces.
 
-use crate::origin::{Origin, Refusal};
-use crate::reader::HeaderReader;
+use proxy_header::{HeaderReader, Origin, Refusal};
 
 /// Bytes that follow a header, none of which may be taken.
 const RFB: [u8; 12] = *b"RFB 003.008\n";

@@ -1,7 +1,6 @@
 //! Tests of lines that are requests and of lines that aren't, and of a sequence of comings, leavings and requests.
 
-use crate::doors::{Doors, Entry, Outcome, Place};
-use crate::request::{Form, Request};
+use run_control::{Doors, Entry, Form, Outcome, Place, Request};
 use std::test::Fail;
 
 #[test]

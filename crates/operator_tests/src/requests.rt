@@ -1,7 +1,6 @@
 //! Tests of requests and their answers, as RFC 9110 and 9112 and the page on the port have them.
 
-use crate::booth::answer_one;
-use crate::watched::Watched;
+use metrics_site::{Watched, answer_one};
 use run_reports::{ByRole, Counters, Lag};
 use std::hash::RandomState;
 use std::test::Fail;

@@ -1,7 +1,6 @@
 //! A text for Prometheus, as it was written by hand after the rules of the format.
 
-use crate::counters::{ByRole, Counters, Lag};
-use crate::metrics::metrics_text;
+use run_reports::{ByRole, Counters, Lag, metrics_text};
 use std::test::Fail;
 
 const EXPECTED: &str = "# HELP reflectord_host_joined 1 while a host is joined.

@@ -1,13 +1,11 @@
 //! Tests of texts as sd_notify(3), sd-daemon(3) and the pages of this repository have them, and of a log that isn't
 //! read.
 
-use crate::counters::{ByRole, Counters, Lag};
-use crate::gravity::{Gravity, prefix_of};
-use crate::happenings::{Happening, HappeningCounts};
-use crate::health::{health_of, health_word};
-use crate::ledger::{Ledger, Paper};
-use crate::notice::{Notice, Ready, notice_text};
 use roles::Role;
+use run_reports::{
+    ByRole, Counters, Gravity, Happening, HappeningCounts, Lag, Ledger, Notice, Paper, Ready,
+    health_of, health_word, notice_text, prefix_of,
+};
 use std::alloc::Global;
 use std::cell::Cell;
 use std::test::Fail;
