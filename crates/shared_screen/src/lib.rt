@@ -59,6 +59,3 @@ pub use stamped::Stamped;
 pub use tally_news::TallyNews;
 pub use watcher::Watcher;
 pub use writer::PairWriter;
-
-#[cfg(test)]
-mod tests;
