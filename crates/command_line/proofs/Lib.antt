@@ -1,3 +1,10 @@
 pub mod Ends
 pub mod Lines
 pub mod Places
+mod Defaults
+mod Numbers
+mod Named
+mod Taken
+mod Options
+mod Set
+mod Texts

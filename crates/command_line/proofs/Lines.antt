@@ -2,7 +2,7 @@
 use Rattle.std.proofs.Common.{◌∙◌, ◌≡◌, ◌∷◌, ap, arith, inl, inr, subst, sym, List, [], ℕ}
 use Rattle.std.specs.Prelude.{codes}
 use Rattle.clap.specs.Words.{Text, fault_of}
-use Rattle.serve_options.specs.Serve.{IsBad, serve}
+use Rattle.command_line.specs.Serve.{IsBad, serve}
 use Rattle.command_line.specs.Tasks.{IsNoTask}
 
 -- the words after the first

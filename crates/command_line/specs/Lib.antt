@@ -1,1 +1,4 @@
 pub mod Tasks
+pub mod Serve
+pub mod Given
+pub mod Values

@@ -2,8 +2,8 @@
 use Rattle.std.specs.Prelude.{◌≡◌, ◌≢◌, ◌<◌, ◌≤◌, ◌⊎◌, ◌∷◌, List, [], codes, length, ℕ}
 use Rattle.clap.specs.Words.{Text, fault_of}
 use Rattle.serve.specs.Statuses.{IsStatus}
-use Rattle.serve_options.specs.Given.{AreSetBy}
-use Rattle.serve_options.specs.Serve.{IsBad, serve}
+use Rattle.command_line.specs.Given.{AreSetBy}
+use Rattle.command_line.specs.Serve.{IsBad, serve}
 use Rattle.settings.specs.declared.values.Settings.{Settings}
 use Rattle.command_line.specs.declared.task.Task.{Task}
 use Rattle.command_line.specs.declared.task.Task.TheVariants.{Replay, Serve, Control, Explain}

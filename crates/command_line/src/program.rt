@@ -9,9 +9,9 @@ ghost use Rattle.settings.specs.ByRole.{HasPlaces};
 ghost use Rattle.settings.specs.declared.values.Settings.{Settings as Told};
 
 use crate::asking::ask;
+use crate::bad_line::BadLine;
 use crate::task::{Task, task_of};
 use serve::{Ports, Runtime, serve};
-use serve_options::BadLine;
 use settings::Settings;
 use std::alloc::{AllocGlobal, Global};
 use std::env::Env;

@@ -4,7 +4,8 @@ ghost use Rattle.std.specs.Prelude.{map};
 ghost use Rattle.std.specs.String.{string_bytes};
 ghost use Rattle.command_line.specs.Tasks.{IsAsked};
 
-use serve_options::{BadLine, explain, settings};
+use crate::bad_line::{BadLine, explain};
+use crate::options::settings;
 use settings::Settings;
 use std::alloc::Global;
 

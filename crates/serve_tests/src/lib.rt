@@ -1,5 +1,5 @@
 //! Tests of `serve` over loopback alone, a host and a viewer in threads, and `serve` between them, in which each wait
-//! ends; of the pause that it makes; and of the lines that `serve_options` and `command_line` read.
+//! ends; of the pause that it makes; and of the lines that `command_line` reads.
 #![tactic(auto)]
 
 #[cfg(test)]

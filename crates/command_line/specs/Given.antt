@@ -1,0 +1,72 @@
+-- What a line sets.
+use Rattle.std.specs.Prelude.{◌≡◌, ◌≤◌, List, Option, Some, None, [], codes, map, option_map, unwrap_or, ℕ}
+use Rattle.std.specs.Str.{bytes_eq}
+use Rattle.std.specs.String.{string_bytes}
+use Rattle.std.specs.Str.Parse.{IsNumeral, digits_value, without_leading_plus}
+use Rattle.clap.specs.Words.{Rule, Text, all_of, built, first_of}
+use Rattle.clap.specs.Walk.{nothing_held, settled, walk}
+use Rattle.command_line.specs.Serve.{serve}
+use Rattle.settings.specs.declared.values.Settings.{Settings}
+
+-- the options of the command, with `--help` and `--version`, which clap adds
+abbrev pub known : List Rule
+known = (built serve).top.rules
+
+-- the text that the words give an option, or None: what clap's walk over the words leaves, before defaults are filled
+-- in
+abbrev pub given : List Text → Text → Option Text
+given words name = first_of name (settled known (walk known [] nothing_held words).held).rows
+
+-- the texts that the words give, in their order: each word that no option takes is one
+abbrev pub all_given : List Text → Text → List Text
+all_given words name = unwrap_or (all_of name (settled known (walk known [] nothing_held words).held).rows) []
+
+-- the text that the words give an option, or else its default
+abbrev pub text_of : List Text → Text → Text → Text
+text_of words name default = unwrap_or (given words name) default
+
+-- the text is decimal digits, perhaps after a plus, and they spell the number
+abbrev pub Spells : Text → ℕ → Type 0
+Spells text n = IsNumeral 10 (without_leading_plus text)
+    × (n ≡ digits_value 10 (without_leading_plus text))
+
+abbrev pub IsIn : ℕ → ℕ → ℕ → Type 0
+IsIn low high n = (low ≤ n) × (n ≤ high)
+
+-- the seconds that the text spells, from 1 to 3600, or none where there is no text
+abbrev pub IsPause : Option Text → Option ℕ → Type 0
+IsPause None again = again ≡ None
+IsPause (Some text) again = (seconds : ℕ) × (again ≡ Some seconds) × Spells text seconds × IsIn 1 3600 seconds
+
+-- the port that the text spells, or none where there is no text
+abbrev pub IsPort : Option Text → Option ℕ → Type 0
+IsPort None port = port ≡ None
+IsPort (Some text) port = (number : ℕ) × (port ≡ Some number) × Spells text number × IsIn 1 65535 number
+
+-- the settings are those that the words set; a flag that the words give has the text `true`, and can have no other
+pub record AreSetBy (words : List Text) (s : Settings) : Type 0 where
+  pub host : given words (codes "host") ≡ Some (string_bytes s.host)
+  pub bind : string_bytes s.bind ≡ text_of words (codes "bind") (codes "127.0.0.1")
+  pub full_bind : option_map string_bytes s.full_bind ≡ given words (codes "full-bind")
+  pub full : Spells (text_of words (codes "full") (codes "5900")) s.full
+  pub view : Spells (text_of words (codes "view") (codes "5901")) s.view
+  pub view_only : s.view_only ≡ bytes_eq (text_of words (codes "view-only") (codes "false")) (codes "true")
+  pub full_places : Spells (text_of words (codes "full-places") (codes "4")) s.full_places
+  pub view_places : Spells (text_of words (codes "view-places") (codes "4")) s.view_places
+  pub plain_runs : s.plain_runs ≡ bytes_eq (text_of words (codes "plain-runs") (codes "false")) (codes "true")
+  pub web_full : IsPort (given words (codes "web-full")) s.web_full
+  pub web_view : IsPort (given words (codes "web-view")) s.web_view
+  pub web_root : option_map string_bytes s.web_root ≡ given words (codes "web-root")
+  pub web_origins : map string_bytes s.web_origins.items ≡ all_given words (codes "web-origin")
+  pub metrics : option_map string_bytes s.metrics ≡ given words (codes "metrics")
+  pub proxy_from : option_map string_bytes s.proxy_from ≡ given words (codes "proxy-from")
+  pub log : s.log ≡ bytes_eq (text_of words (codes "log") (codes "false")) (codes "true")
+  pub again : IsPause (given words (codes "again")) s.again
+  pub stalled : Spells (text_of words (codes "stalled") (codes "60")) s.stalled
+  pub control : option_map string_bytes s.control ≡ given words (codes "control")
+  pub next : map string_bytes s.next.items ≡ all_given words (codes "next")
+  pub full_port : IsIn 1 65535 s.full
+  pub view_port : IsIn 1 65535 s.view
+  pub full_range : IsIn 1 32 s.full_places
+  pub view_range : IsIn 1 32 s.view_places
+  pub stalled_range : IsIn 10 600 s.stalled

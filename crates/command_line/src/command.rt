@@ -1,0 +1,285 @@
+//! The commands as clap has them.
+
+ghost use Rattle.std.specs.Prelude.{◌≡◌, IfOk, false, map};
+ghost use Rattle.std.specs.List.{AllByRecursion};
+ghost use Rattle.clap.specs.Words.{app_of, rule_of};
+ghost use Rattle.command_line.specs.Serve.{bind as bind_rule, flag as flag_rule, further as further_rule, host as host_rule};
+ghost use Rattle.command_line.specs.Serve.{option as option_rule, pause as pause_rule, places as places_rule, port as port_rule, repeated as repeated_rule, seconds as seconds_rule, web_port as web_port_rule};
+ghost use Rattle.command_line.specs.Serve.{options as option_rules, serve, serve_alone};
+
+use clap::{Arg, ArgAction, Command, value_parser};
+use std::alloc::{AllocError, Global};
+
+const VERSION: &str = "0.1.0";
+
+const EXAMPLES: &str = "Examples:
+  reflectord serve --host 192.0.2.7:5900
+  reflectord serve --host 127.0.0.1:5907 --bind 0.0.0.0 --view-only --view-places 32
+  reflectord serve --host 192.0.2.7:5900 192.0.2.8:5900 --again 5";
+
+/// The whole program, whose words are those after its name.
+pub(crate) fn program_command<'a>(alloc: Global) -> Result<Command<'a>, AllocError> {
+    let replay = Command::new(alloc, "replay").about(
+        "Plays a script from standard input, and prints what each viewer is sent",
+    );
+    Command::new(alloc, "reflectord")
+        .bin_name("reflectord")?
+        .no_binary_name(true)
+        .version(VERSION)
+        .propagate_version(true)
+        .about("A VNC reflector: one host's screen, served to many viewers")
+        .arg_required_else_help(true)
+        .subcommand_required(true)
+        .subcommand(serve_command(alloc)?)?
+        .subcommand(control_command(alloc)?)?
+        .subcommand(replay)
+}
+
+/// `reflectord control`, for its help.
+fn control_command<'a>(alloc: Global) -> Result<Command<'a>, AllocError> {
+    let path = Arg::new(alloc, "path")
+        .value_name("PATH")
+        .required(true)
+        .help("The path that the run was given by --control");
+    let request = Arg::new(alloc, "request")
+        .value_name("WORD")
+        .action(ArgAction::Append)
+        .num_args(1..)
+        .required(true)
+        .help("state, state json, drain, undrain, end PLACE or stop");
+    Command::new(alloc, "control")
+        .about("Asks something of a run that goes on, and prints the answer")
+        .arg(path)?
+        .arg(request)
+}
+
+/// `reflectord serve`, whose words are those after `serve`.
+pub(crate) fn serve_command<'a>(alloc: Global) -> Result<Command<'a>, AllocError>
+    ensures { IfOk result (λ command. app_of command ≡ serve) }
+{
+    without_options(alloc)?.args(options(alloc)?)
+}
+
+/// The options of `serve`, in the order in which its help names them.
+fn options<'a>(alloc: Global) -> Result<Vec<Arg<'a>>, AllocError>
+    ensures rules { IfOk result (λ options. map rule_of options.items ≡ option_rules) }
+    ensures local { IfOk result (λ options. AllByRecursion (λ option. option.global ≡ false) options.items) }
+{
+    let options = vec![in alloc;
+        host(alloc),
+        bind(alloc),
+        option(
+            alloc,
+            "full-bind",
+            "IP",
+            "The address to listen on for viewers with full control, in place of --bind"
+        ),
+        port(
+            alloc,
+            "full",
+            "5900",
+            "The port of viewers with full control"
+        ),
+        port(
+            alloc,
+            "view",
+            "5901",
+            "The port of viewers that only look on"
+        ),
+        flag(
+            alloc,
+            "view-only",
+            "Serve no viewers with full control: open no port for them"
+        ),
+        places(
+            alloc,
+            "full-places",
+            "How many viewers with full control, up to 32"
+        ),
+        places(
+            alloc,
+            "view-places",
+            "How many viewers that only look on, up to 32"
+        ),
+        flag(
+            alloc,
+            "plain-runs",
+            "Write RRE and Hextile as runs of one row, which have more bytes"
+        ),
+        web_port(alloc, "web-full", "A port for browsers with full control"),
+        web_port(alloc, "web-view", "A port for browsers that only look on"),
+        option(
+            alloc,
+            "web-root",
+            "DIR",
+            "The folder of noVNC, whose files browsers are sent"
+        ),
+        repeated(
+            alloc,
+            "web-origin",
+            "ORIGIN",
+            "Let pages of this origin connect, as https://lecture.example (more than one: once for each)",
+        ),
+        option(
+            alloc,
+            "metrics",
+            "IP:PORT",
+            "Answer /metrics for Prometheus, and /health for a balancer, at this address"
+        ),
+        option(
+            alloc,
+            "proxy-from",
+            "IP",
+            "Believe the proxy at this address, which says by PROXY protocol v2 from where viewers come"
+        ),
+        flag(
+            alloc,
+            "log",
+            "Log who comes and who leaves, on standard error"
+        ),
+        pause(
+            alloc,
+            "again",
+            "Try the first host again so long after the last has ended, up to 3600",
+        ),
+        seconds(
+            alloc,
+            "stalled",
+            "How long a viewer may take nothing of what it is sent, from 10 to 600"
+        ),
+        option(
+            alloc,
+            "control",
+            "PATH",
+            "Hear an operator at a socket of this path"
+        ),
+        further(alloc, "next", "Hosts that follow on the first one, up to 8"),
+    ]?;
+    Ok(options)
+}
+
+fn without_options<'a>(alloc: Global) -> Result<Command<'a>, AllocError>
+    ensures { IfOk result (λ command. app_of command ≡ serve_alone) }
+{
+    let command = Command::new(alloc, "serve")
+        .bin_name("reflectord serve")?
+        .display_name("reflectord")?
+        .no_binary_name(true)
+        .version(VERSION)
+        .about("Connects to a VNC host, and serves its screen to many viewers")
+        .after_help(EXAMPLES);
+    Ok(command)
+}
+
+fn host<'a>(alloc: Global) -> Arg<'a>
+    ensures rule { rule_of result ≡ host_rule }
+    ensures local { result.global ≡ false }
+{
+    option(
+        alloc,
+        "host",
+        "HOST:PORT",
+        "The VNC host, by its address or name",
+    )
+    .required(true)
+}
+
+fn bind<'a>(alloc: Global) -> Arg<'a>
+    ensures rule { rule_of result ≡ bind_rule }
+    ensures local { result.global ≡ false }
+{
+    option(alloc, "bind", "IP", "The address to listen on").default_value("127.0.0.1")
+}
+
+/// The port of one role of viewers.
+fn port<'a>(alloc: Global, name: &'a str, default: &'a str, help: &'a str) -> Arg<'a>
+    ensures rule { rule_of result ≡ port_rule name.entry.now default.entry.now }
+    ensures local { result.global ≡ false }
+{
+    option(alloc, name, "PORT", help)
+        .value_parser(value_parser!(u16).range(1..))
+        .default_value(default)
+}
+
+/// How many viewers of one role there may be at once.
+fn places<'a>(alloc: Global, name: &'a str, help: &'a str) -> Arg<'a>
+    ensures rule { rule_of result ≡ places_rule name.entry.now }
+    ensures local { result.global ≡ false }
+{
+    option(alloc, name, "N", help)
+        .value_parser(value_parser!(u64).range(1..=32))
+        .default_value("4")
+}
+
+/// How many seconds to wait, if at all.
+fn pause<'a>(alloc: Global, name: &'a str, help: &'a str) -> Arg<'a>
+    ensures rule { rule_of result ≡ pause_rule name.entry.now }
+    ensures local { result.global ≡ false }
+{
+    option(alloc, name, "SECONDS", help).value_parser(value_parser!(u64).range(1..=3600))
+}
+
+/// How many seconds something may last.
+fn seconds<'a>(alloc: Global, name: &'a str, help: &'a str) -> Arg<'a>
+    ensures rule { rule_of result ≡ seconds_rule name.entry.now }
+    ensures local { result.global ≡ false }
+{
+    option(alloc, name, "SECONDS", help)
+        .value_parser(value_parser!(u64).range(10..=600))
+        .default_value("60")
+}
+
+/// The port of browsers of one role, if there is to be one.
+fn web_port<'a>(alloc: Global, name: &'a str, help: &'a str) -> Arg<'a>
+    ensures rule { rule_of result ≡ web_port_rule name.entry.now }
+    ensures local { result.global ≡ false }
+{
+    option(alloc, name, "PORT", help).value_parser(value_parser!(u16).range(1..))
+}
+
+/// An option that takes one value each time that it is given.
+fn repeated<'a>(alloc: Global, name: &'a str, value_name: &'a str, help: &'a str) -> Arg<'a>
+    ensures rule { rule_of result ≡ repeated_rule name.entry.now }
+    ensures local { result.global ≡ false }
+{
+    Arg::new(alloc, name)
+        .long(name)
+        .action(ArgAction::Append)
+        .value_name(value_name)
+        .help(help)
+}
+
+/// Up to eight words that no option takes.
+fn further<'a>(alloc: Global, name: &'a str, help: &'a str) -> Arg<'a>
+    ensures rule { rule_of result ≡ further_rule name.entry.now 8 }
+    ensures local { result.global ≡ false }
+{
+    Arg::new(alloc, name)
+        .action(ArgAction::Set)
+        .num_args(..=8)
+        .value_name("HOST:PORT")
+        .help(help)
+}
+
+/// An option that takes no value.
+fn flag<'a>(alloc: Global, name: &'a str, help: &'a str) -> Arg<'a>
+    ensures rule { rule_of result ≡ flag_rule name.entry.now }
+    ensures local { result.global ≡ false }
+{
+    Arg::new(alloc, name)
+        .long(name)
+        .action(ArgAction::SetTrue)
+        .help(help)
+}
+
+/// An option that takes one value, under its long name.
+fn option<'a>(alloc: Global, name: &'a str, value_name: &'a str, help: &'a str) -> Arg<'a>
+    ensures rule { rule_of result ≡ option_rule name.entry.now }
+    ensures local { result.global ≡ false }
+{
+    Arg::new(alloc, name)
+        .long(name)
+        .action(ArgAction::Set)
+        .value_name(value_name)
+        .help(help)
+}

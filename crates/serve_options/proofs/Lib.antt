@@ -1,7 +1,0 @@
-mod Defaults
-mod Numbers
-mod Named
-mod Taken
-mod Options
-mod Set
-mod Texts

@@ -1,8 +1,0 @@
-use Rattle.std.proofs.lemmas.Result.{IfOk-weaker}
-use Rattle.serve_options.proofs.Options.{serve_made}
-use Rattle.serve_options.proofs.command.serve_command.Goals as goal
-
-pub returns : goal.returns
-returns c =
-    let options = c.in_ok-options in
-    IfOk-weaker c.args-2.result _ _ (λ command added. serve_made _ command _ c.in_ok-without_options.ensures options.ensures.rules options.ensures.local added) c.args-2.ensures
