@@ -17,7 +17,6 @@ use joined_runs::Runs;
 use link::{Gave, MemoryLink, Took};
 use painter::Painter;
 use reflect_core::PlainScreen;
-use replay_script::{script_bytes, shown};
 use roles::Role;
 use std::alloc::Global;
 use std::io::{self, Read};
@@ -44,7 +43,7 @@ const ROOM: usize = 4096;
 
 fn main(rt: HostRuntime) -> Result<(), Fail> {
     let text = io::read_to_string(rt.alloc(), rt.stdin())?;
-    let host = script_bytes(rt.alloc(), text.as_str().trim())?.ok_or("this is no hex")?;
+    let host = bytes_of(rt.alloc(), text.as_str().trim())?;
     let mut screen = PlainScreen::new(rt.alloc(), WIDTH, HEIGHT)?;
     let ended = put_updates(&rt, rt.alloc(), host, &mut screen)?;
     screen.raise();
@@ -52,6 +51,27 @@ fn main(rt: HostRuntime) -> Result<(), Fail> {
     let (ended, given) = serve_viewer(&rt, rt.alloc(), &mut screen)?;
     println!(rt; "viewer: {given}, fault: {}", number(ended))?;
     Ok(())
+}
+
+/// The bytes of words of hex digits, which are divided by one blank each.
+fn bytes_of(alloc: Global, text: &str) -> Result<Vec<u8>, Fail> {
+    let mut bytes = Vec::new(alloc);
+    for word in text.split(' ') {
+        bytes.extend_from_slice(hex::decode(alloc, word)?.as_slice())?;
+    }
+    Ok(bytes)
+}
+
+/// Bytes in upper-case hex, in words of four bytes each; the last word may be shorter.
+fn words_of(alloc: Global, bytes: &[u8]) -> Result<String, Fail> {
+    let mut text = String::new(alloc);
+    for word in bytes.chunks(4) {
+        if !text.is_empty() {
+            text.push(' ')?;
+        }
+        text.push_str(hex::encode_upper(alloc, word)?.as_str())?;
+    }
+    Ok(text)
 }
 
 /// A fault's number, or 0 where there is none.
@@ -81,7 +101,7 @@ fn put_updates<R: Wait>(
 }
 
 /// Serves a viewer that only looks on, and whose handshake is done: it asks, takes its answer and ends. It answers how
-/// serving ended, and the bytes that the viewer was given, as a script prints them.
+/// serving ended, and the bytes that the viewer was given, in hex.
 fn serve_viewer<R: Wait>(
     rt: &R,
     alloc: Global,
@@ -104,5 +124,5 @@ fn serve_viewer<R: Wait>(
         &NoRest,
         &NoProgress,
     );
-    Ok((ended, shown(alloc, link.given())?))
+    Ok((ended, words_of(alloc, link.given())?))
 }

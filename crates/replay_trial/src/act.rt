@@ -1,7 +1,7 @@
 //! Lines of worlds, of sessions and of what a viewer holds: what is done, and what is seen then.
 
 use fault::Fault;
-use replay_script::script_bytes;
+use replay::script_bytes;
 use roles::Input;
 use std::alloc::Global;
 

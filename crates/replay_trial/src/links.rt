@@ -1,8 +1,7 @@
 //! Readers and writers that fail, lines that are no text, and how a script spells bytes.
 
 use crate::case::plays;
-use replay::replay;
-use replay_script::{script_bytes, shown};
+use replay::{replay, script_bytes, shown};
 use std::alloc::Global;
 use std::io;
 use std::test::Fail;
