@@ -5,6 +5,6 @@ mod Defaults
 mod Numbers
 mod Named
 mod Taken
-mod Options
+mod Added
 mod Set
 mod Texts

@@ -1,5 +1,5 @@
 use Rattle.std.proofs.lemmas.Result.{IfOk-weaker}
-use Rattle.command_line.proofs.Options.{serve_made}
+use Rattle.command_line.proofs.Added.{serve_made}
 use Rattle.command_line.proofs.command.serve_command.Goals as goal
 
 pub returns : goal.returns
