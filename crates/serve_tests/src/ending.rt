@@ -1,25 +1,35 @@
 //! A host that ends while a place of each role waits for news, and the host's writer for something to tell.
 
-use crate::host::{Ending, Host};
-use crate::scene::{Scene, Told, play_all};
-use crate::viewer::Viewer;
+use crate::hosts::Host;
+use crate::room::Count;
+use crate::scene::{Scene, play_all};
+use crate::steps::{INIT, Step};
+use crate::visits::{ASKS_IN_VAIN, Entry, Visit};
 use std::test::*;
+
+/// A viewer asks for what is new of a black screen, where nothing is new, and is let go without a byte. A read that
+/// lasts too long is an error, so a place that isn't told of the end shows.
+const IS_LET_GO: &[Visit] = &[Visit {
+    entry: Entry::IsGreeted,
+    steps: &[&[Step::Hears(INIT), Step::IsClosedBeside], ASKS_IN_VAIN],
+    told: None,
+}];
 
 const SCENES: &[Scene] = &[
     Scene {
         name: "the end of a host lets both viewers go",
-        told: Told::First,
-        options: "",
+        words: "--host 127.0.0.1:|first|",
         is_taken: false,
         hosts: &[Host {
             at: 0,
-            from: 1,
-            to: 0,
-            is_told: false,
-            ending: Ending::ClosesInLull(2),
+            steps: &[
+                Step::IsJoined(INIT),
+                Step::Reaches(Count::Shown, 2),
+                Step::IsQuiet,
+            ],
         }],
-        full: Viewer::IsLetGo,
-        view: Viewer::IsLetGo,
+        full: IS_LET_GO,
+        view: IS_LET_GO,
         status: 0,
         lines: &[],
     },
@@ -27,18 +37,18 @@ const SCENES: &[Scene] = &[
     // machine's.
     Scene {
         name: "the end of a host lets the one go that looks on where there is no other",
-        told: Told::First,
-        options: "--view-only --full-bind 192.0.2.1",
+        words: "--view-only --full-bind 192.0.2.1 --host 127.0.0.1:|first|",
         is_taken: true,
         hosts: &[Host {
             at: 0,
-            from: 1,
-            to: 0,
-            is_told: false,
-            ending: Ending::ClosesInLull(1),
+            steps: &[
+                Step::IsJoined(INIT),
+                Step::Reaches(Count::Shown, 1),
+                Step::IsQuiet,
+            ],
         }],
-        full: Viewer::Nobody,
-        view: Viewer::IsLetGo,
+        full: &[],
+        view: IS_LET_GO,
         status: 0,
         lines: &[],
     },

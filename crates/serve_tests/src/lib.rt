@@ -5,15 +5,11 @@
 #[cfg(test)]
 mod control;
 #[cfg(test)]
-mod early;
-#[cfg(test)]
 mod ending;
 #[cfg(test)]
 mod forms;
 #[cfg(test)]
-mod host;
-#[cfg(test)]
-mod input;
+mod hosts;
 #[cfg(test)]
 mod journal;
 #[cfg(test)]
@@ -25,15 +21,21 @@ mod meeting;
 #[cfg(test)]
 mod names;
 #[cfg(test)]
+mod operator;
+#[cfg(test)]
 mod options;
 #[cfg(test)]
 mod pauses;
 #[cfg(test)]
 mod proxied;
 #[cfg(test)]
+mod refusals;
+#[cfg(test)]
 mod room;
 #[cfg(test)]
 mod scene;
+#[cfg(test)]
+mod steps;
 #[cfg(test)]
 mod surroundings;
 #[cfg(test)]
@@ -42,7 +44,5 @@ mod system;
 mod turns;
 #[cfg(test)]
 mod updates;
-#[cfg(test)]
-mod viewer;
 #[cfg(test)]
 mod visits;

@@ -1,17 +1,16 @@
 //! Sockets of loopback, and what is sent through them.
 
-use std::io::{ErrorKind, Write};
+use std::io::{ErrorKind, Read, Write};
 use std::net::{Ipv4Addr, Net, SocketAddr, TcpListener, TcpStream};
 use std::time::{Clock, Duration};
 use std::{io, thread};
 
-/// One update of 2 by 1, Raw: red and blue (RFC 6143, 7.6.1 and 7.7.1).
-const UPDATE: [u8; 24] = [
-    0, 0, 0, 1, 0, 0, 0, 0, 0, 2, 0, 1, 0, 0, 0, 0, 0, 0, 0xFF, 0, 0xFF, 0, 0, 0,
-];
+/// A version of the protocol, as each end gives it (RFC 6143, 7.1.1).
+pub(crate) const VERSION: &[u8] = b"RFB 003.008\n";
 
-/// The number of that update.
-pub(crate) const RED_AND_BLUE: u16 = u16::MAX;
+/// One update of 2 by 1, Raw: red and blue (RFC 6143, 7.6.1 and 7.7.1).
+pub(crate) const RED_AND_BLUE: &[u8; 24] =
+    b"\0\0\0\x01\0\0\0\0\0\x02\0\x01\0\0\0\0\0\0\xFF\0\xFF\0\0\0";
 
 /// A read that waits for this many seconds has failed.
 const LONG: u64 = 20;
@@ -19,17 +18,18 @@ const LONG: u64 = 20;
 /// A connection is tried this often, each time after ten milliseconds.
 const TRIES: u64 = 1_000;
 
-/// Update n: colour n all over, or red and blue where n is `RED_AND_BLUE`.
+/// At most this many bytes come at once.
+const MOST: usize = 64;
+
+/// Update n: colour n all over.
 pub(crate) fn update(n: u16) -> [u8; 24] {
-    let mut update = UPDATE;
-    if n != RED_AND_BLUE {
-        let [low, high] = n.to_le_bytes();
-        update[16] = low;
-        update[17] = high;
-        update[18] = 0;
-        update[20] = low;
-        update[21] = high;
-    }
+    let mut update = *RED_AND_BLUE;
+    let [low, high] = n.to_le_bytes();
+    update[16] = low;
+    update[17] = high;
+    update[18] = 0;
+    update[20] = low;
+    update[21] = high;
     update
 }
 
@@ -40,41 +40,67 @@ pub(crate) fn listen<R: Net<Stream = TcpStream, Listener = TcpListener>>(
     TcpListener::bind(rt, SocketAddr::from((Ipv4Addr::LOCALHOST, 0)))
 }
 
-/// A port that is free now.
-pub(crate) fn free_port<R: Net<Stream = TcpStream, Listener = TcpListener>>(
-    rt: &R,
-) -> io::Result<u16> {
-    Ok(listen(rt)?.local_addr()?.port())
+/// The port at which it listens, or 0 where that isn't known.
+pub(crate) fn port_at(listener: &TcpListener) -> u16 {
+    match listener.local_addr() {
+        Ok(address) => address.port(),
+        Err(_) => 0,
+    }
 }
 
-/// The next connection of a listener.
-pub(crate) fn accept(listener: &TcpListener) -> io::Result<TcpStream> {
-    let (stream, _) = listener.accept()?;
-    stream.set_read_timeout(Some(Duration::from_secs(LONG)))?;
-    Ok(stream)
+/// A port that is free now, or 0 where there is none.
+pub(crate) fn free_port<R: Net<Stream = TcpStream, Listener = TcpListener>>(rt: &R) -> u16 {
+    match listen(rt) {
+        Ok(listener) => port_at(&listener),
+        Err(_) => 0,
+    }
 }
 
 /// Connects as soon as a program listens at the port.
-pub(crate) fn connect<R: Net<Stream = TcpStream> + Clock>(
-    rt: &R,
-    port: u16,
-) -> io::Result<TcpStream> {
+pub(crate) fn connect<R: Net<Stream = TcpStream> + Clock>(rt: &R, port: u16) -> Option<TcpStream> {
     let address = SocketAddr::from((Ipv4Addr::LOCALHOST, port));
     for _ in 0..TRIES {
         if let Ok(stream) = TcpStream::connect(rt, address) {
-            stream.set_read_timeout(Some(Duration::from_secs(LONG)))?;
-            return Ok(stream);
+            let _ = is_patient(&stream);
+            return Some(stream);
         }
         thread::sleep(rt, Duration::from_millis(10));
     }
-    TcpStream::connect(rt, address)
+    None
 }
 
-/// A viewer that has connected, as soon as a program listens at the port, and has sent its version (RFC 6143, 7.1.1).
-pub(crate) fn come<R: Net<Stream = TcpStream> + Clock>(rt: &R, port: u16) -> io::Result<TcpStream> {
-    let mut stream = connect(rt, port)?;
-    stream.write_all(b"RFB 003.008\n")?;
-    Ok(stream)
+/// Whether reads of this connection fail that wait too long, from now on.
+pub(crate) fn is_patient(stream: &TcpStream) -> bool {
+    stream
+        .set_read_timeout(Some(Duration::from_secs(LONG)))
+        .is_ok()
+}
+
+/// From where it comes.
+pub(crate) fn address_of(stream: &TcpStream) -> SocketAddr {
+    match stream.local_addr() {
+        Ok(address) => address,
+        Err(_) => SocketAddr::from((Ipv4Addr::UNSPECIFIED, 0)),
+    }
+}
+
+/// Whether these bytes are sent.
+pub(crate) fn sends(stream: &mut TcpStream, bytes: &[u8]) -> bool {
+    stream.write_all(bytes).is_ok()
+}
+
+/// Whether these bytes come next.
+pub(crate) fn hears(stream: &mut TcpStream, wanted: &[u8]) -> bool {
+    let mut told = [0u8; MOST];
+    match told.get_mut(..wanted.len()) {
+        Some(told) => stream.read_exact(told).is_ok() && &*told == wanted,
+        None => false,
+    }
+}
+
+/// Whether this request is answered by so many bytes, which are read.
+pub(crate) fn asks(stream: &mut TcpStream, request: &[u8], answer: &mut [u8]) -> bool {
+    sends(stream, request) && stream.read_exact(answer).is_ok()
 }
 
 /// Whether nothing listens at this port on another address of this machine.

@@ -1,125 +1,95 @@
 //! Ports that are taken, and hosts that can't be met: `serve` ends with 3.
 
-use crate::host::{Ending, Host};
-use crate::scene::{FAULT, FIRST, Line, NOBODY, Scene, Told, play_all};
-use crate::viewer::Viewer;
+use crate::hosts::Host;
+use crate::scene::{FAULT, Scene, play_all};
+use crate::steps::{IS_SILENT, Step};
 use std::test::*;
+
+/// A version, no type of security, and a reason of 9 bytes (RFC 6143, 7.1.1 and 7.1.2).
+const REFUSAL: &[u8] = b"RFB 003.008\n\0\0\0\0\x09no\n\x1b room";
 
 const SCENES: &[Scene] = &[
     Scene {
         name: "a host of another protocol",
-        told: Told::First,
-        options: "",
+        words: "--host 127.0.0.1:|first|",
         is_taken: false,
         hosts: &[Host {
             at: 0,
-            from: 1,
-            to: 0,
-            is_told: false,
-            ending: Ending::OfAnotherProtocol,
+            steps: &[Step::Sends(b"HTTP/1.1 400 Bad Request\r\n\r\n")],
         }],
-        full: Viewer::Nobody,
-        view: Viewer::Nobody,
+        full: &[],
+        view: &[],
         status: FAULT,
         lines: &[
-            Line::Is("fault 1"),
-            Line::Of(
-                "reflectord: the host ",
-                FIRST,
-                ": the protocol version is not accepted: ",
-            ),
+            "fault 1",
+            "reflectord: the host 127.0.0.1:|first|: the protocol version is not accepted: ",
         ],
     },
     Scene {
         name: "a host that is not there",
-        told: Told::Nobody,
-        options: "",
+        words: "--host 127.0.0.1:|nobody|",
         is_taken: false,
         hosts: &[],
-        full: Viewer::Nobody,
-        view: Viewer::Nobody,
+        full: &[],
+        view: &[],
         status: FAULT,
         lines: &[
-            Line::Is("fault 21"),
-            Line::Of("reflectord: can't connect to the host ", NOBODY, ": "),
+            "fault 21",
+            "reflectord: can't connect to the host 127.0.0.1:|nobody|: ",
         ],
     },
     // It is told before the host is connected to.
     Scene {
         name: "a port that is taken",
-        told: Told::First,
-        options: "",
+        words: "--host 127.0.0.1:|first|",
         is_taken: true,
         hosts: &[],
-        full: Viewer::Nobody,
-        view: Viewer::Nobody,
+        full: &[],
+        view: &[],
         status: FAULT,
-        lines: &[
-            Line::Is("fault 21"),
-            Line::Is("reflectord: can't listen on 127.0.0.1 port "),
-        ],
+        lines: &["fault 21", "reflectord: can't listen on 127.0.0.1 port "],
     },
     Scene {
         name: "an address that is another machine's",
-        told: Told::First,
-        options: "--full-bind 192.0.2.1",
+        words: "--full-bind 192.0.2.1 --host 127.0.0.1:|first|",
         is_taken: false,
         hosts: &[],
-        full: Viewer::Nobody,
-        view: Viewer::Nobody,
+        full: &[],
+        view: &[],
         status: FAULT,
-        lines: &[
-            Line::Is("fault 21"),
-            Line::Is("reflectord: can't listen on 192.0.2.1 port "),
-        ],
+        lines: &["fault 21", "reflectord: can't listen on 192.0.2.1 port "],
     },
     // Its reason is told, and forges no line.
     Scene {
         name: "a host that refuses the connection",
-        told: Told::First,
-        options: "",
+        words: "--host 127.0.0.1:|first|",
         is_taken: false,
         hosts: &[Host {
             at: 0,
-            from: 1,
-            to: 0,
-            is_told: false,
-            ending: Ending::Refuses,
+            steps: &[Step::Sends(REFUSAL), Step::SeesItGo],
         }],
-        full: Viewer::Nobody,
-        view: Viewer::Nobody,
+        full: &[],
+        view: &[],
         status: FAULT,
         lines: &[
-            Line::Is("fault 2"),
-            Line::Of(
-                "reflectord: the host ",
-                FIRST,
-                ": the host refused the connection: it gave this reason: \"no\\n\\x1b room\"",
-            ),
+            "fault 2",
+            "reflectord: the host 127.0.0.1:|first|: the host refused the connection: it gave this reason: \"no\\n\\x1b room\"",
         ],
     },
     Scene {
         name: "a host that falls silent in its handshake",
-        told: Told::First,
-        options: "",
+        words: "--host 127.0.0.1:|first|",
         is_taken: false,
         hosts: &[Host {
             at: 0,
-            from: 1,
-            to: 0,
-            is_told: false,
-            ending: Ending::FallsSilent,
+            steps: IS_SILENT,
         }],
-        full: Viewer::Nobody,
-        view: Viewer::Nobody,
+        full: &[],
+        view: &[],
         status: FAULT,
         lines: &[
-            Line::Is("fault 21"),
-            Line::Of(
-                "reflectord: the host ",
-                FIRST,
-                ": the link failed: the connection broke, or its handshake took more than 10 seconds; ",
-            ),
+            "fault 21",
+            "reflectord: the host 127.0.0.1:|first|: the link failed: the connection broke, or its handshake took more than 10 seconds; ",
         ],
     },
 ];

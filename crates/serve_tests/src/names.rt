@@ -1,115 +1,131 @@
 //! Hosts by their names, words that name no host, and a first host that isn't there yet.
 
-use crate::host::{Ending, Host};
-use crate::scene::{FAULT, FIRST, FULL, Line, Scene, Told, VIEW, play_all};
-use crate::viewer::Viewer;
+use crate::hosts::Host;
+use crate::loopback::VERSION;
+use crate::refusals::NO_HOST;
+use crate::room::Count;
+use crate::scene::{FAULT, Scene, play_all};
+use crate::steps::{INIT, Step};
+use crate::visits::{Entry, Visit};
 use std::test::*;
+
+/// Longer than the time, in seconds, after which the log tells again of hosts that still aren't there.
+const A_MINUTE: u64 = 61;
+
+/// The host is at no address, and then at another machine's, on which nothing listens. Tries that fail are told once,
+/// and once more after a minute. Then the name has the right address, and the host is met.
+const COMES_EARLY: &[Step] = &[
+    Step::Sends(VERSION),
+    Step::IsRefused(NO_HOST),
+    Step::Reaches(Count::Lookups, 3),
+    Step::Marks(Count::Home, 2),
+    Step::IsNotTold("address=127.0.0.2"),
+    Step::PutsForward(A_MINUTE),
+    Step::IsTold("address=127.0.0.2"),
+    Step::Marks(Count::Home, 1),
+    Step::IsTold("host-joined"),
+];
 
 const SCENES: &[Scene] = &[
     Scene {
         name: "a host is met by its name",
-        told: Told::Named("localhost"),
-        options: "",
+        words: "--host localhost:|first|",
         is_taken: false,
         hosts: &[Host {
             at: 0,
-            from: 1,
-            to: 1,
-            is_told: false,
-            ending: Ending::Closes,
+            steps: &[Step::IsJoined(INIT), Step::Updates(1, 1)],
         }],
-        full: Viewer::Follows(1),
-        view: Viewer::Nobody,
+        full: &[Visit {
+            entry: Entry::IsGreeted,
+            steps: &[&[
+                Step::Hears(INIT),
+                Step::IsClosedBeside,
+                Step::IsShown(1),
+                Step::Marks(Count::Shown, 1),
+            ]],
+            told: None,
+        }],
+        view: &[],
         status: 0,
         lines: &[],
     },
     // Its name has no address at first, then another machine's, and then its own.
     Scene {
         name: "a first host that comes late is met, and viewers before it are told that there is none",
-        told: Told::Named("desk"),
-        options: "--log --again 1",
+        words: "--log --again 1 --host desk:|first|",
         is_taken: false,
         hosts: &[Host {
             at: 0,
-            from: 1,
-            to: 1,
-            is_told: false,
-            ending: Ending::EndsBadly,
+            steps: &[
+                Step::IsJoined(INIT),
+                Step::Update(1),
+                Step::IsTold("viewer-out "),
+                Step::Sends(b"\xFF"),
+                Step::SeesItGo,
+            ],
         }],
-        full: Viewer::ComesEarly,
-        view: Viewer::Nobody,
+        full: &[
+            Visit {
+                entry: Entry::Connects,
+                steps: &[COMES_EARLY],
+                told: None,
+            },
+            Visit {
+                entry: Entry::HasPlace(NO_HOST),
+                steps: &[&[Step::IsGreeted(INIT)]],
+                told: Some(" answers=0 bytes=43 why=\"ended\""),
+            },
+        ],
+        view: &[],
         status: FAULT,
         lines: &[
-            Line::Of("listening role=full address=", FULL, " places=1"),
-            Line::Of("listening role=view address=", VIEW, " places=1"),
-            Line::At("host-tried address=desk:", FIRST, " why=\"no address\""),
-            Line::At(
-                "host-tried address=127.0.0.2:",
-                FIRST,
-                " why=\"connection refused\"",
-            ),
-            Line::Of(
-                "host-joined address=",
-                FIRST,
-                " width=2 height=1 name=\"T\"",
-            ),
-            Line::Of(
-                "host-out address=",
-                FIRST,
-                " why=\"fault 6: unknown message type 255\"",
-            ),
-            Line::Is("fault 6"),
-            Line::At(
-                "reflectord: the host desk:",
-                FIRST,
-                ": unknown message type 255: ",
-            ),
+            "listening role=full address=127.0.0.1:|full| places=1",
+            "listening role=view address=127.0.0.1:|view| places=1",
+            "host-tried address=desk:|first| why=\"no address\"",
+            "host-tried address=127.0.0.2:|first| why=\"connection refused\"",
+            "host-joined address=127.0.0.1:|first| width=2 height=1 name=\"T\"",
+            "host-out address=127.0.0.1:|first| why=\"fault 6: unknown message type 255\"",
+            "fault 6",
+            "reflectord: the host desk:|first|: unknown message type 255: ",
         ],
     },
     Scene {
         name: "a name without an address",
-        told: Told::Named("desk"),
-        options: "",
+        words: "--host desk:|first|",
         is_taken: false,
         hosts: &[],
-        full: Viewer::Nobody,
-        view: Viewer::Nobody,
+        full: &[],
+        view: &[],
         status: FAULT,
         lines: &[
-            Line::Is("fault 21"),
-            Line::At(
-                "reflectord: there is no address for the host desk:",
-                FIRST,
-                ": ",
-            ),
+            "fault 21",
+            "reflectord: there is no address for the host desk:|first|: ",
         ],
     },
     Scene {
         name: "a text that says nowhere where a host is",
-        told: Told::As("127.0.0.1::5907"),
-        options: "--again 1",
+        words: "--again 1 --host 127.0.0.1::5907",
         is_taken: false,
         hosts: &[],
-        full: Viewer::Nobody,
-        view: Viewer::Nobody,
+        full: &[],
+        view: &[],
         status: FAULT,
         lines: &[
-            Line::Is("fault 21"),
-            Line::Is("reflectord: --host 127.0.0.1::5907 is no IP:PORT and no NAME:PORT, "),
+            "fault 21",
+            "reflectord: --host 127.0.0.1::5907 is no IP:PORT and no NAME:PORT, ",
         ],
     },
     Scene {
         name: "a further one that says nowhere",
-        told: Told::As("127.0.0.1:9 desk"),
-        options: "--again 1",
+        words: "--again 1 --host 127.0.0.1:9 desk",
         is_taken: false,
         hosts: &[],
-        full: Viewer::Nobody,
-        view: Viewer::Nobody,
+        full: &[],
+        view: &[],
         status: FAULT,
         lines: &[
-            Line::Is("fault 21"),
-            Line::Is("reflectord: desk is no IP:PORT and no NAME:PORT, "),
+            "fault 21",
+            "reflectord: desk is no IP:PORT and no NAME:PORT, ",
         ],
     },
 ];

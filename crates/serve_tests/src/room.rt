@@ -9,7 +9,7 @@ use std::os::fd::OwnedFd;
 use std::os::unix::net as unix;
 use std::os::unix::net::UnixStream;
 use std::sync::atomic::{AtomicU64, Ordering};
-use std::sync::{Mutex, Wait};
+use std::sync::{Mutex, MutexGuard, Wait};
 use std::thread::Threads;
 use std::time::{Clock, Duration};
 use std::{io, thread};
@@ -25,19 +25,30 @@ pub(crate) struct Room {
     /// The text on standard output.
     said: Mutex<String>,
     /// The lines that have to come on standard error.
-    wanted: Mutex<Vec<String>>,
-    /// How many seconds the clock is ahead.
+    wanted: Mutex<String>,
+    shown: AtomicU64,
+    asked: AtomicU64,
+    looked: AtomicU64,
+    lookups: AtomicU64,
+    home: AtomicU64,
     ahead: AtomicU64,
+}
+
+/// What is counted in a room.
+#[derive(Clone, Copy)]
+pub(crate) enum Count {
     /// The number of the last update that the viewer with full control was shown, or how many viewers wait for news.
-    pub(crate) shown: AtomicU64,
+    Shown,
     /// The number of the last update after which the host was asked anew.
-    pub(crate) asked: AtomicU64,
+    Asked,
     /// The number of the last update after which the viewer that only looks on has typed in vain.
-    pub(crate) looked: AtomicU64,
+    Looked,
     /// How often the system was asked for the addresses of `desk`.
-    pub(crate) lookups: AtomicU64,
+    Lookups,
     /// The last number of the address 127.0.0.N that this name has, or 0 where it has none.
-    pub(crate) home: AtomicU64,
+    Home,
+    /// How many seconds the clock is ahead.
+    Ahead,
 }
 
 /// The name of a machine whose address the room has. Each other name is the system's.
@@ -60,16 +71,28 @@ impl Room {
             Room {
                 text: Mutex::new(String::new(alloc)),
                 said: Mutex::new(String::new(alloc)),
-                wanted: Mutex::new(Vec::new(alloc)),
-                ahead: AtomicU64::new(0),
+                wanted: Mutex::new(String::new(alloc)),
                 shown: AtomicU64::new(0),
                 asked: AtomicU64::new(0),
                 looked: AtomicU64::new(0),
                 lookups: AtomicU64::new(0),
                 home: AtomicU64::new(0),
+                ahead: AtomicU64::new(0),
             },
         )?;
         Ok(Box::leak(room))
+    }
+
+    /// A count.
+    fn count(&self, count: Count) -> &AtomicU64 {
+        match count {
+            Count::Shown => &self.shown,
+            Count::Asked => &self.asked,
+            Count::Looked => &self.looked,
+            Count::Lookups => &self.lookups,
+            Count::Home => &self.home,
+            Count::Ahead => &self.ahead,
+        }
     }
 }
 
@@ -79,22 +102,41 @@ impl<R: Drop> Ear<R> {
         Ear { rt, alloc, room }
     }
 
-    /// The clock is this many seconds ahead from now on.
-    pub(crate) fn put_forward(&self, seconds: u64) {
-        self.room.ahead.store(seconds, Ordering::SeqCst);
+    /// The count is this one from now on. It answers true, as a step that went well.
+    pub(crate) fn marks(&self, count: Count, number: u64) -> bool {
+        self.room.count(count).store(number, Ordering::SeqCst);
+        true
+    }
+
+    /// The count is one more. It answers true, as a step that went well.
+    pub(crate) fn adds(&self, count: Count) -> bool {
+        let _ = self.room.count(count).fetch_add(1, Ordering::SeqCst);
+        true
     }
 }
 
 impl<R: Wait + Clock + Drop> Ear<R> {
-    /// This line has to come on standard error.
-    pub(crate) fn want(&self, line: String) -> Result<(), AllocError> {
-        self.room.wanted.lock(self).push(line)?;
-        Ok(())
+    /// The lines that have to come on standard error.
+    pub(crate) fn wanted(&self) -> MutexGuard<'_, String> {
+        self.room.wanted.lock(self)
+    }
+
+    /// Whether it is noted that this line has to come on standard error.
+    pub(crate) fn wants(&self, before: &str, address: SocketAddr, after: &str) -> bool {
+        write!(self.room.wanted.lock(self), "{before}{address}{after}\n").is_ok()
     }
 
     /// Whether this text is on standard error.
     pub(crate) fn has(&self, words: &str) -> bool {
         self.room.text.lock(self).as_str().contains(words)
+    }
+
+    /// Whether this text is on standard error.
+    pub(crate) fn has_of(&self, before: &str, address: SocketAddr, after: &str) -> bool {
+        match format!(in self.alloc; "{before}{address}{after}") {
+            Ok(words) => self.has(words.as_str()),
+            Err(_) => false,
+        }
     }
 
     /// Whether this text comes on standard error in time.
@@ -108,8 +150,17 @@ impl<R: Wait + Clock + Drop> Ear<R> {
         false
     }
 
-    /// Whether this number is reached in time.
-    pub(crate) fn reaches(&self, number: &AtomicU64, wanted: u64) -> bool {
+    /// Whether this text comes on standard error in time.
+    pub(crate) fn hears_of(&self, before: &str, address: SocketAddr, after: &str) -> bool {
+        match format!(in self.alloc; "{before}{address}{after}") {
+            Ok(words) => self.hears(words.as_str()),
+            Err(_) => false,
+        }
+    }
+
+    /// Whether the count is at least this one in time.
+    pub(crate) fn reaches(&self, count: Count, wanted: u64) -> bool {
+        let number = self.room.count(count);
         for _ in 0..TURNS {
             if wanted <= number.load(Ordering::SeqCst) {
                 return true;
@@ -134,12 +185,17 @@ impl<R: Wait + Clock + Drop> Ear<R> {
     fn has_all_lines(&self) -> bool {
         let text = self.room.text.lock(self);
         let wanted = self.room.wanted.lock(self);
-        let mut are_there = text.as_str().lines().count() == wanted.len();
-        for line in wanted.iter() {
-            are_there = are_there && stands_in(text.as_str(), line.as_str());
-        }
-        are_there
+        are_all_lines(text.as_str(), wanted.as_str())
     }
+}
+
+/// Whether the lines of a text are as many as are wanted, and each of these is there.
+fn are_all_lines(text: &str, wanted: &str) -> bool {
+    let mut are_there = text.lines().count() == wanted.lines().count();
+    for line in wanted.lines() {
+        are_there = are_there && stands_in(text, line);
+    }
+    are_there
 }
 
 /// Whether one of the lines of a text is as it is wanted.
@@ -155,26 +211,35 @@ fn stands_in(text: &str, wanted: &str) -> bool {
 /// Whether a line is the wanted one: of a line of the log, what comes after its time is compared, except its seconds;
 /// of any other, how it begins.
 fn fits(told: &str, wanted: &str) -> bool {
-    if told.starts_with(wanted) {
-        return true;
+    told.starts_with(wanted) || is_logged(told, wanted)
+}
+
+/// Whether a line of the log is the wanted one after its time.
+fn is_logged(told: &str, wanted: &str) -> bool {
+    match told.split_once("Z ") {
+        Some((_, line)) => line == wanted || is_timed(line, wanted),
+        None => false,
     }
-    let Some((time, line)) = told.split_once(' ') else {
-        return false;
-    };
-    let is_right = match line.split_once(" seconds=") {
+}
+
+/// Whether a line is the wanted one except its seconds.
+fn is_timed(line: &str, wanted: &str) -> bool {
+    match line.split_once(" seconds=") {
         Some((before, rest)) => match rest.split_once(' ') {
             Some((_, after)) => is_joint(wanted, before, after),
             None => false,
         },
-        None => line == wanted,
-    };
-    time.ends_with('Z') && is_right
+        None => false,
+    }
 }
 
 /// Whether these two, with a blank between them, are the line.
 fn is_joint(line: &str, before: &str, after: &str) -> bool {
     match line.strip_prefix(before) {
-        Some(rest) => rest.strip_prefix(' ') == Some(after),
+        Some(rest) => match rest.strip_prefix(' ') {
+            Some(rest) => rest == after,
+            None => false,
+        },
         None => false,
     }
 }
@@ -183,40 +248,38 @@ impl<R: Wait + Drop> Wait for Ear<R> {}
 
 impl<R: Threads + Drop> Threads for Ear<R> {}
 
-impl<R: Wait + Clock + Drop> Eprint for Ear<R> {
-    fn eprint<D: Display + Drop>(&self, value: D) -> io::Result<()> {
-        match write!(self.room.text.lock(self), "{value}") {
-            Ok(()) => Ok(()),
-            Err(_) => Err(io::Error::from(ErrorKind::OutOfMemory)),
-        }
-    }
-
-    fn eprintln<D: Display + Drop>(&self, value: D) -> io::Result<()> {
-        match write!(self.room.text.lock(self), "{value}\n") {
-            Ok(()) => Ok(()),
-            Err(_) => Err(io::Error::from(ErrorKind::OutOfMemory)),
-        }
-    }
-}
-
 impl<R: Wait + Clock + Drop> Ear<R> {
     /// Whether the text on standard output ends so.
     pub(crate) fn has_said(&self, words: &str) -> bool {
         self.room.said.lock(self).as_str().ends_with(words)
     }
-}
 
-impl<R: Wait + Clock + Drop> Print for Ear<R> {
-    fn print<D: Display + Drop>(&self, value: D) -> io::Result<()> {
-        match write!(self.room.said.lock(self), "{value}") {
+    /// Adds a value to a text of the room.
+    fn put<D: Display + Drop>(&self, text: &Mutex<String>, value: D, end: &str) -> io::Result<()> {
+        match write!(text.lock(self), "{value}{end}") {
             Ok(()) => Ok(()),
             Err(_) => Err(io::Error::from(ErrorKind::OutOfMemory)),
         }
     }
+}
+
+impl<R: Wait + Clock + Drop> Eprint for Ear<R> {
+    fn eprint<D: Display + Drop>(&self, value: D) -> io::Result<()> {
+        self.put(&self.room.text, value, "")
+    }
+
+    fn eprintln<D: Display + Drop>(&self, value: D) -> io::Result<()> {
+        self.put(&self.room.text, value, "\n")
+    }
+}
+
+impl<R: Wait + Clock + Drop> Print for Ear<R> {
+    fn print<D: Display + Drop>(&self, value: D) -> io::Result<()> {
+        self.put(&self.room.said, value, "")
+    }
 
     fn println<D: Display + Drop>(&self, value: D) -> io::Result<()> {
-        self.print(value)?;
-        self.print("\n")
+        self.put(&self.room.said, value, "\n")
     }
 
     fn write_all(&self, _bytes: &[u8]) -> io::Result<()> {

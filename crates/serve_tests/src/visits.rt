@@ -1,199 +1,160 @@
-//! Viewers that come one after another at a port whose role has one place, and leave in each way.
+//! Viewers that come one after another at the port of a role.
 
-use crate::host::FORGED;
-use crate::loopback::come;
-use crate::room::Ear;
-use crate::viewer::{ASK, is_greeted, is_let_go};
-use roles::Role;
-use std::alloc::AllocError;
-use std::io;
-use std::io::{ErrorKind, Read, Write};
-use std::net::{Net, TcpListener, TcpStream};
+use crate::loopback::{VERSION, address_of, asks, connect, sends};
+use crate::refusals::{NO_HOST, Refusal, is_refused};
+use crate::room::{Count, Ear};
+use crate::steps::{ASK, ASK_NEW, BLACK, CHOICE_AND_SHARED, GREETING, Step, plays};
+use crate::system::SocketFiles;
+use std::net::{Net, SocketAddr, TcpListener, TcpStream};
 use std::sync::Wait;
 use std::time::Clock;
 
-/// What a viewer is told that finds no place: version 3.8, no security type, and the reason with its length (RFC 6143,
-/// 7.1.1 and 7.1.2).
-const REFUSAL: &[u8] = b"RFB 003.008\n\0\0\0\0\x14all places are taken";
+/// At most this many viewers come before the doors are seen to be open, or a place which was left to be free.
+const TRIES: u64 = 10_000;
 
-/// More than a viewer's side of the handshake may take, in seconds.
-const TOO_LONG: u64 = 11;
+/// A viewer asks for the whole screen, which is black, and for what is new of it, where nothing is new, and is let go
+/// without a byte. It counts itself among the viewers that wait.
+pub(crate) const ASKS_IN_VAIN: &[Step] = &[
+    Step::Sends(ASK),
+    Step::Hears(BLACK),
+    Step::Sends(ASK_NEW),
+    Step::Adds(Count::Shown),
+    Step::IsLetGo,
+];
 
-/// At most this many viewers find that a place which was left isn't free yet.
-const TRIES: u64 = 1_000;
-
-/// How a viewer leaves.
-pub(crate) enum Leaving {
-    /// It closes.
-    Closes,
-    /// It sends a message that there isn't (RFC 6143, 7.5).
-    BreaksRules,
-    /// It closes with bytes unread, so that the system calls the connection broken.
-    BreaksOff,
-    /// It has sent its version and nothing more when its time is over, by the clock of the scene. The clock is put
-    /// forward once a viewer at the other port waits for news.
-    IsLate,
-    /// It waits for news until it is let go.
-    IsLetGo,
+/// A viewer.
+pub(crate) struct Visit {
+    pub(crate) entry: Entry,
+    /// What it does once it came in, in parts.
+    pub(crate) steps: &'static [&'static [Step]],
+    /// How the log ends its line of the viewer that has left, after the address, if a log is kept.
+    pub(crate) told: Option<&'static str>,
 }
 
-/// What the log tells of a viewer that leaves so, after its address and its seconds: how often it was answered, how
-/// many bytes it was given, of 60 for its greeting and 24 for its answer, and why it left.
-fn ending_of(leaving: &Leaving) -> &'static str {
-    match leaving {
-        Leaving::Closes => "answers=0 bytes=60 why=\"ended\"",
-        Leaving::BreaksRules => "answers=0 bytes=60 why=\"fault 6: unknown message type 255\"",
-        Leaving::BreaksOff => "answers=1 bytes=84 why=\"fault 21: the link failed\"",
-        Leaving::IsLate => "answers=0 bytes=14 why=\"late handshake\"",
-        Leaving::IsLetGo => "answers=1 bytes=84 why=\"host gone\"",
-    }
+/// How a viewer comes.
+#[derive(Clone, Copy)]
+pub(crate) enum Entry {
+    /// It connects.
+    Connects,
+    /// It is greeted up to its screen. One that is told that there is no host yet comes again.
+    IsGreeted,
+    /// The log tells that it has a place. One that is refused so comes again.
+    HasPlace(&'static Refusal),
 }
 
-/// How the log names a role, and the number of its one place: that of full control comes first.
-fn named(role: Role) -> (&'static str, u64) {
-    match role {
-        Role::Full => ("full", 1),
-        Role::View => ("view", 2),
-    }
+/// Where viewers of a role come, and what the log tells of the one that has its place.
+#[derive(Drop)]
+pub(crate) struct Door {
+    pub(crate) port: u16,
+    /// That it came, up to its address.
+    pub(crate) comes: &'static str,
+    /// That it left, up to its address.
+    pub(crate) leaves: &'static str,
 }
 
-/// Whether each of these viewers finds a place, and leaves so, while another that comes finds none. What the log has to
-/// tell of them is noted.
-pub(crate) fn are_visits_right<R>(
-    ear: &Ear<R>,
-    role: Role,
-    port: u16,
-    leavings: &[Leaving],
-) -> io::Result<bool>
+/// Whether each of these viewers comes in and is given what it should be, one after another.
+pub(crate) fn are_visits_right<R>(ear: &Ear<R>, door: &Door, visits: &[Visit]) -> bool
 where
-    R: Net<Stream = TcpStream, Listener = TcpListener> + Wait + Clock + Drop,
+    R: Net<Stream = TcpStream, Listener = TcpListener> + SocketFiles + Wait + Clock + Drop,
 {
-    for leaving in leavings {
-        let Some(mut stream) = enters(ear, role, port, leaving)? else {
-            return Ok(false);
-        };
-        let mut other = come(ear, port)?;
-        let finds_none = is_refused(ear, role, &mut other)? && is_told_so(&mut other)?;
-        if !finds_none || !leaves(ear, &mut stream, leaving)? {
-            return Ok(false);
-        }
-        let address = stream.local_addr()?;
-        drop(stream);
-        let (name, place) = named(role);
-        let line = format!(in ear.alloc;
-            "viewer-out place={place} role={name} address={address} "
-        )?;
-        if !ear.hears(line.as_str()) {
-            return Ok(false);
-        }
+    let mut are_right = true;
+    for visit in visits {
+        are_right = are_right && is_visit_right(ear, door, visit);
     }
-    Ok(true)
+    are_right
 }
 
-/// A viewer that finds a place, and what the log has to tell of it. Viewers that come before the place is seen to be
-/// free find none.
-fn enters<R>(
-    ear: &Ear<R>,
-    role: Role,
-    port: u16,
-    leaving: &Leaving,
-) -> io::Result<Option<TcpStream>>
+/// Whether this viewer comes in, is given what it should be, and is seen to leave.
+fn is_visit_right<R>(ear: &Ear<R>, door: &Door, visit: &Visit) -> bool
+where
+    R: Net<Stream = TcpStream, Listener = TcpListener> + SocketFiles + Wait + Clock + Drop,
+{
+    match enters(ear, door, visit.entry) {
+        Some(mut stream) => {
+            let address = address_of(&stream);
+            let is_right = wants_visit(ear, door, visit, address)
+                && stays(ear, door.port, &mut stream, visit.steps);
+            drop(stream);
+            is_right && is_seen_to_leave(ear, door, visit, address)
+        }
+        None => false,
+    }
+}
+
+/// Whether a viewer that came in is given what it should be.
+fn stays<R>(ear: &Ear<R>, port: u16, stream: &mut TcpStream, parts: &[&[Step]]) -> bool
+where
+    R: Net<Stream = TcpStream, Listener = TcpListener> + SocketFiles + Wait + Clock + Drop,
+{
+    let mut is_right = true;
+    for steps in parts {
+        is_right = is_right && plays(ear, port, stream, steps);
+    }
+    is_right
+}
+
+/// A viewer that comes in. Some before it may be sent back.
+fn enters<R>(ear: &Ear<R>, door: &Door, entry: Entry) -> Option<TcpStream>
 where
     R: Net<Stream = TcpStream, Listener = TcpListener> + Wait + Clock + Drop,
 {
     for _ in 0..TRIES {
-        let mut stream = come(ear, port)?;
-        if !is_refused(ear, role, &mut stream)? {
-            wants_visit(ear, role, &stream, leaving)?;
-            return Ok(Some(stream));
-        }
-        if !is_told_so(&mut stream)? {
-            return Ok(None);
+        let mut stream = connect(ear, door.port)?;
+        match is_sent_back(ear, entry, &mut stream) {
+            Some(true) => {}
+            Some(false) => return Some(stream),
+            None => return None,
         }
     }
-    Ok(None)
+    None
 }
 
-/// Whether the log tells that there is no place for a newcomer. Otherwise it tells that there is one.
-fn is_refused<R: Wait + Clock + Drop>(
-    ear: &Ear<R>,
-    role: Role,
-    stream: &mut TcpStream,
-) -> io::Result<bool> {
-    let address = stream.local_addr()?;
-    let (name, _) = named(role);
-    let line = format!(in ear.alloc; "no-place role={name} address={address}\n")?;
-    let end = format!(in ear.alloc; " address={address}\n")?;
-    let is_told = ear.hears(end.as_str());
-    let is_refused = ear.has(line.as_str());
-    if is_refused {
-        ear.want(format!(in ear.alloc; "no-place role={name} address={address}")?)?;
+/// Whether a viewer that has connected is sent back. There is no answer where it is told something else.
+fn is_sent_back<R>(ear: &Ear<R>, entry: Entry, stream: &mut TcpStream) -> Option<bool>
+where
+    R: Net<Stream = TcpStream, Listener = TcpListener> + Wait + Clock + Drop,
+{
+    match entry {
+        Entry::Connects => Some(false),
+        Entry::IsGreeted => is_early(stream),
+        Entry::HasPlace(refusal) => Some(
+            sends(stream, VERSION) && is_refused(ear, refusal, stream),
+        ),
     }
-    Ok(is_refused || !is_told)
 }
 
-/// Whether a viewer that finds no place is told so.
-fn is_told_so(stream: &mut TcpStream) -> io::Result<bool> {
-    let mut refusal = [0u8; 37];
-    stream.read_exact(&mut refusal)?;
-    Ok(refusal.as_slice() == REFUSAL)
+/// Whether a viewer is told that there is no host yet, or else is greeted.
+fn is_early(stream: &mut TcpStream) -> Option<bool> {
+    let mut told = [0u8; 18];
+    let is_told = sends(stream, VERSION) && asks(stream, CHOICE_AND_SHARED, &mut told);
+    if is_told && told.as_slice() == GREETING {
+        Some(false)
+    } else if is_told && NO_HOST.told.starts_with(&told) {
+        Some(true)
+    } else {
+        None
+    }
 }
 
 /// The log has to tell that a viewer came, and that it left so.
 fn wants_visit<R: Wait + Clock + Drop>(
     ear: &Ear<R>,
-    role: Role,
-    stream: &TcpStream,
-    leaving: &Leaving,
-) -> io::Result<()> {
-    let address = stream.local_addr()?;
-    let (name, place) = named(role);
-    let ending = ending_of(leaving);
-    let who = format!(in ear.alloc; "place={place} role={name} address={address}")?;
-    ear.want(format!(in ear.alloc; "viewer-in {who}")?)?;
-    ear.want(format!(in ear.alloc; "viewer-out {who} {ending}")?)?;
-    Ok(())
+    door: &Door,
+    visit: &Visit,
+    address: SocketAddr,
+) -> bool {
+    match visit.told {
+        Some(told) => ear.wants(door.comes, address, "") && ear.wants(door.leaves, address, told),
+        None => true,
+    }
 }
 
-/// Does what a viewer that leaves so does before it closes. It answers whether the viewer was served until then.
-fn leaves<R: Wait + Clock + Drop>(
+/// Whether the log tells in time that a viewer left.
+fn is_seen_to_leave<R: Wait + Clock + Drop>(
     ear: &Ear<R>,
-    stream: &mut TcpStream,
-    leaving: &Leaving,
-) -> io::Result<bool> {
-    if let Leaving::IsLate = leaving {
-        return is_late(ear, stream);
-    }
-    let is_greeted = is_greeted(stream, FORGED)?;
-    match leaving {
-        Leaving::Closes | Leaving::IsLate => Ok(is_greeted),
-        Leaving::BreaksRules => {
-            stream.write_all(b"\xFF")?;
-            Ok(is_greeted)
-        }
-        Leaving::BreaksOff => {
-            stream.write_all(ASK)?;
-            stream.read_exact(&mut [0])?;
-            Ok(is_greeted)
-        }
-        Leaving::IsLetGo => Ok(is_let_go(ear, stream)? && is_greeted),
-    }
-}
-
-/// Whether a viewer is let go whose time is over after its version.
-fn is_late<R: Wait + Clock + Drop>(ear: &Ear<R>, stream: &mut TcpStream) -> io::Result<bool> {
-    let mut told = [0u8; 14];
-    stream.read_exact(&mut told)?;
-    if !ear.reaches(&ear.room.shown, 1) {
-        return Ok(false);
-    }
-    ear.put_forward(TOO_LONG);
-    // One more byte ends a wait that began before the clock was put forward. If the server had looked at the clock
-    // already, it has broken the connection by then.
-    let _ = stream.write_all(b"\x01");
-    let is_over = match stream.read(&mut [0]) {
-        Ok(count) => count == 0,
-        Err(error) => error.kind() == ErrorKind::ConnectionReset,
-    };
-    Ok(is_over && told == *b"RFB 003.008\n\x01\x01")
+    door: &Door,
+    visit: &Visit,
+    address: SocketAddr,
+) -> bool {
+    visit.told.is_none() || ear.hears_of(door.leaves, address, " ")
 }
