@@ -2,13 +2,12 @@
 
 ghost use Rattle.std.specs.Prelude.{◌≡◌};
 
-use crate::watch::{ALWAYS, link_of, number};
+use crate::watch::{ALWAYS, AREA, link_of, number};
 use fault::Fault;
 use host_decoder::HostDecoder;
 use host_reader::run_host;
 use link::Took;
 use painter::{Painter, Patch};
-use raster::Rect;
 use reflect_core::{Cut, PlainScreen, Puts, ScreenSource};
 use std::alloc::Global;
 use std::sync::Wait;
@@ -30,11 +29,12 @@ const MAP_BELL_TEXT: [u8; 23] = [
     1, 0, 0, 0, 0, 1, 0, 0, 0, 0, 0, 0, 2, 3, 0, 0, 0, 0, 0, 0, 2, 0x48, 0x69,
 ];
 
-/// A publisher that is refused memory once it has taken this many updates.
+/// A publisher of a screen of 2 by 1 that is refused memory once it has taken this many updates.
 #[derive(Drop)]
 struct Limited {
     screen: PlainScreen,
     room: u64,
+    ghost is_small: { (screen.width ≡ 2) × (screen.height ≡ 1) },
 }
 
 impl Puts for Limited {
@@ -74,10 +74,7 @@ fn read<R: Wait>(
     alloc: Global,
     case: &Case<'_>,
     publisher: &mut Limited,
-) -> Result<u64, Fault>
-    requires { (publisher.old.screen.width ≡ 2) × (publisher.old.screen.height ≡ 1) }
-    ensures { (publisher.new.screen.width ≡ 2) × (publisher.new.screen.height ≡ 1) }
-{
+) -> Result<u64, Fault> {
     let mut link = link_of(alloc, case.sends, case.takes, &[])?;
     let mut painter = Painter::new(alloc, 2, 1)?;
     let mut decoder = HostDecoder::new(alloc, 2, 1);
@@ -85,25 +82,20 @@ fn read<R: Wait>(
     Ok(number(answer))
 }
 
-/// How many updates the screen shows, whether it is red and blue, and whether the second update told a Bell and the
-/// text "Hi".
-fn look_at(alloc: Global, screen: &mut PlainScreen) -> Result<(u64, bool, bool), Fault>
+/// Whether the screen shows as many updates as told, red and blue if told so, and a Bell and the text "Hi" with the
+/// second update if told so.
+fn is_seen(alloc: Global, case: &Case<'_>, screen: &mut PlainScreen) -> Result<bool, Fault>
     requires { (screen.old.width ≡ 2) × (screen.old.height ≡ 1) }
     ensures { (screen.new.width ≡ 2) × (screen.new.height ≡ 1) }
 {
     let have = Have::new(alloc, 2, 1)?;
     let mut cut = Cut::new(alloc, 2, 1)?;
-    let area = Rect {
-        x: 0,
-        y: 0,
-        w: 2,
-        h: 1,
-    };
-    let count = screen.cut(&area, &have, &mut cut)?;
+    let count = screen.cut(&AREA, &have, &mut cut);
+    let is_counted = matches!(count, Ok(count) if count == case.updates);
     let shows = cut.colours.as_slice() == [0xFF0000, 0x0000FF].as_slice();
     let is_second = cut.text.number() == Some(2);
     let tells = cut.bells == 1 && is_second && cut.text.bytes() == b"Hi".as_slice();
-    Ok((count, shows, tells))
+    Ok(is_counted && shows == case.shows && tells == case.tells)
 }
 
 /// Whether reading goes as told, with this publisher.
@@ -112,117 +104,35 @@ fn goes_on_as_told<R: Wait>(
     alloc: Global,
     case: &Case<'_>,
     publisher: &mut Limited,
-) -> Result<bool, Fault>
-    requires { (publisher.old.screen.width ≡ 2) × (publisher.old.screen.height ≡ 1) }
-    ensures { (publisher.new.screen.width ≡ 2) × (publisher.new.screen.height ≡ 1) }
-{
-    let fault = read(rt, alloc, case, publisher)?;
+) -> bool {
+    publisher.room = case.room;
+    let fault = read(rt, alloc, case, publisher);
     let updates = publisher.screen.updates();
-    let seen = look_at(alloc, &mut publisher.screen)?;
-    Ok(
-        fault == case.fault
-            && updates == case.updates
-            && seen == (case.updates, case.shows, case.tells),
-    )
+    let is_seen = is_seen(alloc, case, &mut publisher.screen);
+    matches!(fault, Ok(fault) if fault == case.fault)
+        && updates == case.updates
+        && matches!(is_seen, Ok(true))
 }
 
-/// Whether reading goes as told, with a screen to which nothing was put.
-fn goes_as_told<R: Wait>(rt: &R, alloc: Global, case: &Case<'_>) -> Result<bool, Fault> {
-    let screen = PlainScreen::new(alloc, 2, 1)?;
-    let mut publisher = Limited {
-        screen,
-        room: case.room,
-    };
-    goes_on_as_told(rt, alloc, case, &mut publisher)
-}
-
-/// The links end where a host may end or inside its message, or the bytes are at fault: what was whole before stays.
-/// Bells and texts are put, and colour maps aren't. What was put before memory was refused stays.
-const CASES: [Case<'static>; 7] = [
-    Case {
-        name: "ends inside a message",
-        sends: &[
-            0, 0, 0, 1, 0, 0, 0, 0, 0, 2, 0, 1, 0, 0, 0, 0, 0, 0, 0xFF, 0, 0xFF, 0, 0,
-        ],
-        takes: &[(Took::Nothing, 3), (Took::Bytes(23), 1)],
-        room: ALWAYS,
-        fault: 22,
-        updates: 0,
-        shows: false,
-        tells: false,
-    },
-    Case {
-        name: "ends at once",
-        sends: &UPDATE,
-        takes: &[(Took::Nothing, 1), (Took::End, 1)],
-        room: ALWAYS,
-        fault: 0,
-        updates: 0,
-        shows: false,
-        tells: false,
-    },
-    Case {
-        name: "what was whole before a fault stays",
-        sends: &UPDATE_AND_FAULT,
-        takes: &[(Took::Bytes(26), 1)],
-        room: ALWAYS,
-        fault: 6,
-        updates: 1,
-        shows: true,
-        tells: false,
-    },
-    Case {
-        name: "bells and texts are put and maps are not",
-        sends: &MAP_BELL_TEXT,
-        takes: &MAP_BELL_TEXT_IN_PIECES,
-        room: ALWAYS,
-        fault: 0,
-        updates: 2,
-        shows: false,
-        tells: true,
-    },
-    Case {
-        name: "room for 0",
-        sends: &MAP_BELL_TEXT,
-        takes: &MAP_BELL_TEXT_IN_PIECES,
-        room: 0,
-        fault: 20,
-        updates: 0,
-        shows: false,
-        tells: false,
-    },
-    Case {
-        name: "room for 1",
-        sends: &MAP_BELL_TEXT,
-        takes: &MAP_BELL_TEXT_IN_PIECES,
-        room: 1,
-        fault: 20,
-        updates: 1,
-        shows: false,
-        tells: false,
-    },
-    Case {
-        name: "room for 2",
-        sends: &MAP_BELL_TEXT,
-        takes: &MAP_BELL_TEXT_IN_PIECES,
-        room: 2,
-        fault: 0,
-        updates: 2,
-        shows: false,
-        tells: true,
-    },
-];
-
-const MAP_BELL_TEXT_IN_PIECES: [(Took, usize); 2] = [(Took::Bytes(5), 4), (Took::Bytes(3), 1)];
-
-#[test]
-fn host_is_read(rt: HostRuntime) -> Result<(), Fail> {
-    for case in &CASES {
-        if !goes_as_told(&rt, rt.alloc(), case)? {
-            return Err(Fail::new(case.name));
-        }
+/// Whether reading goes as told, one case after another, with this publisher.
+fn all_go_as_told<R: Wait>(
+    rt: &R,
+    alloc: Global,
+    cases: &[Case<'_>],
+    publisher: &mut Limited,
+) -> bool {
+    let mut right = true;
+    for case in cases {
+        right = goes_on_as_told(rt, alloc, case, publisher) && right;
     }
-    Ok(())
+    right
+}
+
+/// Whether reading goes as told, one case after another, from a screen on to which nothing was put.
+fn go_as_told<R: Wait>(rt: &R, alloc: Global, cases: &[Case<'_>]) -> Result<bool, Fault> {
+    let screen = PlainScreen::new(alloc, 2, 1)?;
+    let mut publisher = Limited { screen, room: 0 };
+    Ok(all_go_as_told(rt, alloc, cases, &mut publisher))
 }
 
 /// One update, whole.
@@ -249,20 +159,94 @@ const BYTE_BY_BYTE: Case<'static> = Case {
     tells: false,
 };
 
-/// The links end after a message. The second puts to the screen of the first.
-#[test]
-fn ends_behind_a_message(rt: HostRuntime) -> Result<(), Fail> {
-    let screen = PlainScreen::new(rt.alloc(), 2, 1)?;
-    let mut publisher = Limited {
-        screen,
+const MAP_BELL_TEXT_IN_PIECES: [(Took, usize); 2] = [(Took::Bytes(5), 4), (Took::Bytes(3), 1)];
+
+/// The links end where a host may end or inside its message, or the bytes are at fault: what was whole before stays.
+/// Bells and texts are put, and colour maps aren't. What was put before memory was refused stays. Of the last two the
+/// links end after a message, and the second puts to the screen of the first.
+static CASES: [&[Case<'static>]; 8] = [
+    &[Case {
+        name: "ends inside a message",
+        sends: &[
+            0, 0, 0, 1, 0, 0, 0, 0, 0, 2, 0, 1, 0, 0, 0, 0, 0, 0, 0xFF, 0, 0xFF, 0, 0,
+        ],
+        takes: &[(Took::Nothing, 3), (Took::Bytes(23), 1)],
         room: ALWAYS,
-    };
-    let is_whole = goes_on_as_told(&rt, rt.alloc(), &WHOLE, &mut publisher)?;
-    let is_more = goes_on_as_told(&rt, rt.alloc(), &BYTE_BY_BYTE, &mut publisher)?;
-    assert!(rt;
-        is_whole && is_more,
-        "whole {is_whole}, byte by byte {is_more}"
-    );
+        fault: 22,
+        updates: 0,
+        shows: false,
+        tells: false,
+    }],
+    &[Case {
+        name: "ends at once",
+        sends: &UPDATE,
+        takes: &[(Took::Nothing, 1), (Took::End, 1)],
+        room: ALWAYS,
+        fault: 0,
+        updates: 0,
+        shows: false,
+        tells: false,
+    }],
+    &[Case {
+        name: "what was whole before a fault stays",
+        sends: &UPDATE_AND_FAULT,
+        takes: &[(Took::Bytes(26), 1)],
+        room: ALWAYS,
+        fault: 6,
+        updates: 1,
+        shows: true,
+        tells: false,
+    }],
+    &[Case {
+        name: "bells and texts are put and maps are not",
+        sends: &MAP_BELL_TEXT,
+        takes: &MAP_BELL_TEXT_IN_PIECES,
+        room: ALWAYS,
+        fault: 0,
+        updates: 2,
+        shows: false,
+        tells: true,
+    }],
+    &[Case {
+        name: "room for 0",
+        sends: &MAP_BELL_TEXT,
+        takes: &MAP_BELL_TEXT_IN_PIECES,
+        room: 0,
+        fault: 20,
+        updates: 0,
+        shows: false,
+        tells: false,
+    }],
+    &[Case {
+        name: "room for 1",
+        sends: &MAP_BELL_TEXT,
+        takes: &MAP_BELL_TEXT_IN_PIECES,
+        room: 1,
+        fault: 20,
+        updates: 1,
+        shows: false,
+        tells: false,
+    }],
+    &[Case {
+        name: "room for 2",
+        sends: &MAP_BELL_TEXT,
+        takes: &MAP_BELL_TEXT_IN_PIECES,
+        room: 2,
+        fault: 0,
+        updates: 2,
+        shows: false,
+        tells: true,
+    }],
+    &[WHOLE, BYTE_BY_BYTE],
+];
+
+#[test]
+fn host_is_read(rt: HostRuntime) -> Result<(), Fail> {
+    for cases in &CASES {
+        if !go_as_told(&rt, rt.alloc(), cases)? {
+            return Err(Fail::new(cases[0].name));
+        }
+    }
     Ok(())
 }
 
@@ -283,7 +267,7 @@ fn fails_or_ends_at_each_call(rt: HostRuntime) -> Result<(), Fail> {
                 shows: is_whole,
                 tells: false,
             };
-            assert!(rt; goes_as_told(&rt, rt.alloc(), &case)?, "call {count}");
+            assert!(rt; go_as_told(&rt, rt.alloc(), &[case])?, "call {count}");
         }
     }
     Ok(())

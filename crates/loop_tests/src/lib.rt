@@ -1,10 +1,14 @@
-//! Tests of `host_reader`, `host_writer` and `viewer_server`, over links in memory.
+//! Tests of `host_reader`, `host_writer` and `viewer_server`, over links in memory, and of `shared_screen`.
 #![tactic(auto)]
 
 #[cfg(test)]
 mod host;
 #[cfg(test)]
-mod refused;
+mod pair;
+#[cfg(test)]
+mod puts;
+#[cfg(test)]
+mod screen;
 #[cfg(test)]
 mod viewer;
 #[cfg(test)]

@@ -1,6 +1,6 @@
 //! What a viewer is given, and what of its input is relayed.
 
-ghost use Rattle.std.specs.Prelude.{◌≡◌, ◌⊎◌};
+ghost use Rattle.std.specs.Prelude.{◌≡◌, ◌⊎◌, None};
 ghost use Rattle.fault.specs.declared.kinds.Fault.TheVariants.{QueueFull, NumbersOut};
 ghost use Rattle.input_relay.specs.Ends.{inputs_of};
 
@@ -9,6 +9,7 @@ use fault::Fault;
 use input_relay::{Sender, Taker, relay};
 use joined_runs::Runs;
 use link::{Gave, MemoryLink, Took};
+use reflect_core::PlainScreen;
 use roles::{Input, InputSink, Role};
 use std::alloc::Global;
 use std::sync::Wait;
@@ -17,21 +18,28 @@ use std::test::Fail;
 use viewer_server::{NoProgress, run_viewer};
 use viewer_session::Session;
 
-/// The end of a relay that is full for this many calls.
+/// The end of a relay that is full for this many calls, and refuses the input of this number for good. It counts what
+/// it is offered.
 #[derive(Drop)]
-struct FullFor<R: Wait + Drop> {
+struct Sink<R: Wait + Drop> {
     sender: Sender<R>,
-    calls: u64,
+    full: u64,
+    lost: u64,
+    offers: u64,
 }
 
-impl<R: Wait + Drop> InputSink for FullFor<R> {
+impl<R: Wait + Drop> InputSink for Sink<R> {
     ghost sent = { λ s. inputs_of s.sender };
 
     ghost may_refuse = { λ fault. (fault ≡ QueueFull) ⊎ (fault ≡ NumbersOut) };
 
     fn send(&mut self, input: Input) -> Result<(), (Fault, Input)> {
-        if self.calls > 0 {
-            self.calls -= 1;
+        self.offers = self.offers.wrapping_add(1);
+        if self.offers == self.lost {
+            return Err((Fault::NumbersOut, input));
+        }
+        if self.full > 0 {
+            self.full -= 1;
             return Err((Fault::QueueFull, input));
         }
         Sender::send(&mut self.sender, input)
@@ -47,51 +55,73 @@ struct Case<'a> {
     sends: &'a [u8],
     takes: &'a [(Took, usize)],
     gives: &'a [(Gave, usize)],
-    // For how many calls the relay is full, and how often the flag is asked before it is set.
+    // For how many calls the relay is full, which input it refuses for good, or 0, and how often the flag is asked
+    // before it is set.
     full: u64,
+    lost: u64,
     stop: u64,
-    // The number of the fault, or 0, and how often the loop rests, at least and at most.
+    // The number of the fault, or 0, how often the loop rests, at least and at most, and how often the relay is
+    // offered an input, at most.
     answer: u64,
     rests: (u64, u64),
+    offers: u64,
     // What the viewer is given, and the next inputs that are relayed, in order.
     given: &'a [u8],
     relayed: &'a [[u64; 4]],
 }
 
-/// Serves the viewer. It answers whether the answer and the rests are as told.
+/// Serves the viewer. It answers whether all comes of it as told, but what is relayed.
 fn serves<R: Wait + Drop>(
+    rt: &R,
+    case: &Case<'_>,
+    link: &mut MemoryLink,
+    sink: &mut Sink<R>,
+    screen: &mut PlainScreen,
+    session: &mut Session,
+) -> bool
+    requires screen { (screen.old.width ≡ session.old.width) × (screen.old.height ≡ session.old.height) }
+    requires uncut { session.old.asked.last ≡ None }
+{
+    let watch = make_watch(case.stop);
+    let answer = run_viewer(rt, link, screen, sink, session, &watch, &watch, &NoProgress);
+    let rests = watch.rests.load(Ordering::SeqCst);
+    let is_rested = case.rests.0 <= rests && rests <= case.rests.1;
+    let is_answered = number(answer) == case.answer && sink.offers <= case.offers;
+    is_answered && is_rested && link.given() == case.given
+}
+
+/// Serves a new viewer of a new screen.
+fn serves_anew<R: Wait + Drop>(
     rt: &R,
     alloc: Global,
     case: &Case<'_>,
     link: &mut MemoryLink,
-    sink: &mut FullFor<R>,
+    sink: &mut Sink<R>,
 ) -> Result<bool, Fault> {
     let mut screen = red_and_blue(alloc)?;
     let mut session = Session::ready(alloc, 2, 1, case.role, Runs::OfRows)?;
-    let watch = make_watch(case.stop);
-    let answer = run_viewer(
-        rt,
-        link,
-        &mut screen,
-        sink,
-        &mut session,
-        &watch,
-        &watch,
-        &NoProgress,
-    );
-    let rests = watch.rests.load(Ordering::SeqCst);
-    Ok(number(answer) == case.answer && case.rests.0 <= rests && rests <= case.rests.1)
+    Ok(serves(rt, case, link, sink, &mut screen, &mut session))
 }
 
-/// A relay for one viewer, which is full for this many calls.
-fn full_for<R: Wait + Drop + Copy>(
+/// A relay for one viewer.
+fn relay_of<R: Wait + Drop + Copy>(
     rt: R,
     alloc: Global,
-    calls: u64,
-) -> Result<(FullFor<R>, Taker<R>), Fault> {
+    case: &Case<'_>,
+) -> Result<(Sink<R>, Taker<R>), Fault> {
     let (mut senders, taker) = relay(rt, alloc, 1)?;
-    let sender = senders.pop().ok_or(Fault::Gone)?;
-    Ok((FullFor { sender, calls }, taker))
+    match senders.pop() {
+        Some(sender) => {
+            let sink = Sink {
+                sender,
+                full: case.full,
+                lost: case.lost,
+                offers: 0,
+            };
+            Ok((sink, taker))
+        }
+        None => Err(Fault::Gone),
+    }
 }
 
 /// Whether these are the next inputs that were relayed, each as four numbers, of which the first is the kind: 4 with
@@ -119,10 +149,10 @@ fn goes_as_told<R: Wait + Drop + Copy>(
     case: &Case<'_>,
 ) -> Result<bool, Fault> {
     let mut link = link_of(alloc, case.sends, case.takes, case.gives)?;
-    let (mut sink, mut taker) = full_for(rt, alloc, case.full)?;
-    let is_answered = serves(&rt, alloc, case, &mut link, &mut sink)?;
+    let (mut sink, mut taker) = relay_of(rt, alloc, case)?;
+    let is_served = serves_anew(&rt, alloc, case, &mut link, &mut sink);
     let is_relayed = relays(&mut taker, case.relayed);
-    Ok(is_answered && is_relayed && link.given() == case.given)
+    Ok(matches!(is_served, Ok(true)) && is_relayed)
 }
 
 const ASK: [u8; 10] = [3, 0, 0, 0, 0, 0, 0, 2, 0, 1];
@@ -156,9 +186,11 @@ const HAS_ITS_ANSWER: Case<'static> = Case {
     takes: &[(Took::Bytes(10), 1), (Took::Nothing, 100), (Took::End, 1)],
     gives: &[(Gave::Bytes(1), 40)],
     full: 0,
+    lost: 0,
     stop: ALWAYS,
     answer: 0,
     rests: (0, 0),
+    offers: ALWAYS,
     given: &ANSWER,
     relayed: &NO_INPUT,
 };
@@ -171,9 +203,11 @@ const ENDS_WITH_BYTES_UNSENT: Case<'static> = Case {
     takes: &[(Took::Bytes(10), 1), (Took::End, 1)],
     gives: &[(Gave::Bytes(3), 1), (Gave::Nothing, 2)],
     full: 0,
+    lost: 0,
     stop: ALWAYS,
     answer: 22,
     rests: (0, 0),
+    offers: ALWAYS,
     given: &[0, 0, 0],
     relayed: &NO_INPUT,
 };
@@ -186,9 +220,11 @@ const AT_FAULT: Case<'static> = Case {
     takes: &[(Took::Bytes(1), 1)],
     gives: &[],
     full: 0,
+    lost: 0,
     stop: ALWAYS,
     answer: 6,
     rests: (0, 0),
+    offers: ALWAYS,
     given: &[],
     relayed: &NO_INPUT,
 };
@@ -201,9 +237,11 @@ const INPUT_IS_RELAYED: Case<'static> = Case {
     takes: &[(Took::Bytes(24), 1), (Took::Nothing, 1), (Took::End, 1)],
     gives: &[(Gave::Bytes(30), 2)],
     full: 0,
+    lost: 0,
     stop: ALWAYS,
     answer: 0,
     rests: (0, 0),
+    offers: ALWAYS,
     given: &ANSWER,
     relayed: &RELAYED,
 };
@@ -217,9 +255,11 @@ const INPUT_WAITS: Case<'static> = Case {
     takes: &[(Took::Bytes(24), 1), (Took::Nothing, 1), (Took::End, 1)],
     gives: &[(Gave::Bytes(30), 2)],
     full: 3,
+    lost: 0,
     stop: ALWAYS,
     answer: 0,
     rests: (3, 3),
+    offers: ALWAYS,
     given: &ANSWER,
     relayed: &RELAYED,
 };
@@ -232,9 +272,11 @@ const VIEW_IS_NOT_RELAYED: Case<'static> = Case {
     takes: &[(Took::Bytes(24), 1), (Took::Nothing, 1), (Took::End, 1)],
     gives: &[(Gave::Bytes(30), 2)],
     full: 0,
+    lost: 0,
     stop: ALWAYS,
     answer: 0,
     rests: (0, 0),
+    offers: ALWAYS,
     given: &ANSWER,
     relayed: &NO_INPUT,
 };
@@ -248,9 +290,11 @@ const WAITING_INPUT_GOES_IN_FIRST: Case<'static> = Case {
     takes: &[(Took::Bytes(18), 1)],
     gives: &[(Gave::Bytes(3), 1), (Gave::Failed, 1)],
     full: 4,
+    lost: 0,
     stop: ALWAYS,
     answer: 21,
     rests: (0, 4),
+    offers: ALWAYS,
     given: &[0, 0, 0],
     relayed: &[[4, 1, 0x62, 0], [4, 0, 0x62, 0], [0; 4]],
 };
@@ -263,9 +307,11 @@ const SILENT_IS_LET_GO: Case<'static> = Case {
     takes: &[(Took::Nothing, 20), (Took::Failed, 1)],
     gives: &[],
     full: 0,
+    lost: 0,
     stop: 5,
     answer: 0,
     rests: (0, 0),
+    offers: ALWAYS,
     given: &[],
     relayed: &NO_INPUT,
 };
@@ -279,14 +325,37 @@ const FULL_SINK_IS_GIVEN_UP: Case<'static> = Case {
     takes: &[(Took::Bytes(18), 1)],
     gives: &[(Gave::Bytes(30), 1)],
     full: 50,
+    lost: 0,
     stop: 10,
     answer: 0,
     rests: (0, 10),
+    offers: ALWAYS,
     given: &[],
     relayed: &NO_INPUT,
 };
 
-const CASES: [Case<'static>; 9] = [
+/// The letters a and b are pressed.
+const TWO_KEYS: [u8; 16] = [4, 1, 0, 0, 0, 0, 0, 0x61, 4, 1, 0, 0, 0, 0, 0, 0x62];
+
+/// The first input is taken and the second is refused for good: then the sink is offered neither the second once more
+/// nor a release, though it would take both.
+const NOTHING_IS_OFFERED_AFTER_A_REFUSAL: Case<'static> = Case {
+    name: "nothing is offered after a refusal",
+    role: Role::Full,
+    sends: &TWO_KEYS,
+    takes: &[(Took::Bytes(16), 1), (Took::End, 1)],
+    gives: &[],
+    full: 0,
+    lost: 2,
+    stop: ALWAYS,
+    answer: 31,
+    rests: (0, ALWAYS),
+    offers: 2,
+    given: &[],
+    relayed: &[[4, 1, 0x61, 0], [0; 4]],
+};
+
+static CASES: [Case<'static>; 10] = [
     HAS_ITS_ANSWER,
     ENDS_WITH_BYTES_UNSENT,
     AT_FAULT,
@@ -296,6 +365,7 @@ const CASES: [Case<'static>; 9] = [
     WAITING_INPUT_GOES_IN_FIRST,
     SILENT_IS_LET_GO,
     FULL_SINK_IS_GIVEN_UP,
+    NOTHING_IS_OFFERED_AFTER_A_REFUSAL,
 ];
 
 /// Each case goes as it is told above.
@@ -339,9 +409,11 @@ fn is_served_until<R: Wait + Drop + Copy>(
         ],
         gives: &[(Gave::Bytes(1), count), (last.1, usize::from(is_giving))],
         full: 0,
+        lost: 0,
         stop: ALWAYS,
         answer,
         rests: (0, 0),
+        offers: ALWAYS,
         given: &ANSWER[..count],
         relayed: if call < 8 { &NO_INPUT } else { &pressed },
     };

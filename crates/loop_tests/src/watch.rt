@@ -11,7 +11,8 @@ use std::alloc::Global;
 use std::sync::Wait;
 use std::sync::atomic::{AtomicU64, Ordering};
 
-const AREA: Rect = Rect {
+/// The whole of a screen of 2 by 1.
+pub(crate) const AREA: Rect = Rect {
     x: 0,
     y: 0,
     w: 2,

@@ -119,10 +119,10 @@ fn relay_with<R: Wait + Drop + Copy>(
         relay(rt, alloc, 2)
     };
     let (mut senders, taker) = made?;
-    if send_all(alloc, senders.as_mut_slice(), case.inputs)? {
-        Ok(taker)
-    } else {
-        Err(Fault::QueueFull)
+    match send_all(alloc, senders.as_mut_slice(), case.inputs) {
+        Ok(true) => Ok(taker),
+        Ok(false) => Err(Fault::QueueFull),
+        Err(fault) => Err(fault),
     }
 }
 
@@ -144,15 +144,18 @@ impl DropCount for Untold {
 /// place and of both.
 fn tells<R: Wait + Drop>(
     rt: &R,
-    alloc: Global,
     case: &Case<'_>,
     link: &mut MemoryLink,
     taker: &mut Taker<R>,
-) -> Result<bool, Fault> {
-    let mut strokes = Strokes::new(alloc, 2)?;
+    strokes: &mut Strokes,
+    screen: PlainScreen,
+) -> bool
+    requires screen { (screen.width ≡ 2) × (screen.height ≡ 1) }
+    requires places { length strokes.old.counts ≡ 2 }
+{
     let watch = make_watch(case.stop);
     let mut source = TenLooks {
-        screen: red_and_blue(alloc)?,
+        screen,
         looks: 0,
         flag: &watch,
     };
@@ -162,7 +165,7 @@ fn tells<R: Wait + Drop>(
         link,
         &mut source,
         taker,
-        &mut strokes,
+        strokes,
         &mut untold,
         &watch,
         &watch,
@@ -172,7 +175,21 @@ fn tells<R: Wait + Drop>(
     let dropped = (strokes.dropped(0), strokes.dropped(1));
     let are_counted = dropped == case.dropped
         && untold.count == case.dropped.0.saturating_add(case.dropped.1);
-    Ok(number(answer) == case.answer && is_rested && are_counted)
+    let is_answered = number(answer) == case.answer && link.given() == case.given;
+    is_answered && is_rested && are_counted
+}
+
+/// Tells the host of a new screen what was relayed.
+fn tells_anew<R: Wait + Drop>(
+    rt: &R,
+    alloc: Global,
+    case: &Case<'_>,
+    link: &mut MemoryLink,
+    taker: &mut Taker<R>,
+) -> Result<bool, Fault> {
+    let screen = red_and_blue(alloc)?;
+    let mut strokes = Strokes::new(alloc, 2)?;
+    Ok(tells(rt, case, link, taker, &mut strokes, screen))
 }
 
 /// Whether the host is told as the case says.
@@ -183,8 +200,10 @@ fn goes_as_told<R: Wait + Drop + Copy>(
 ) -> Result<bool, Fault> {
     let mut taker = relay_with(rt, alloc, case)?;
     let mut link = link_of(alloc, &[], &[], case.gives)?;
-    let is_answered = tells(&rt, alloc, case, &mut link, &mut taker)?;
-    Ok(is_answered && link.given() == case.given)
+    Ok(matches!(
+        tells_anew(&rt, alloc, case, &mut link, &mut taker),
+        Ok(true)
+    ))
 }
 
 /// The letter a is pressed.
@@ -265,7 +284,7 @@ const STALLED_IS_LET_GO: Case<'static> = Case {
     dropped: (0, 0),
 };
 
-const CASES: [Case<'static>; 4] = [
+static CASES: [Case<'static>; 4] = [
     INPUT_AND_REQUEST,
     EACH_FORM,
     STROKES_ARE_WHOLE,

@@ -2,7 +2,7 @@
 
 ghost use Rattle.std.specs.Prelude.{◌≡◌, ◌≤◌};
 
-use crate::puts::{ALL, Reads, Room, beside, puts_many};
+use crate::puts::{ALL, MANY, Reads, Room, beside, puts_many};
 use fault::Fault;
 use shared_screen::{Eye, Naming, Opened, PairWriter, Publishes, pair, tally};
 use std::alloc::Global;
@@ -25,11 +25,12 @@ impl<J: Naming> Reads for Eye<J> {
     }
 }
 
-/// Whether each eye cuts the last update once it has met the writer.
+/// Whether each eye cuts the last update, of this number, once it has met the writer.
 fn all_cut_the_last<J: Naming + Publishes, R: Wait + Drop>(
     eyes: &mut [Eye<J>],
     writer: &PairWriter<J, R>,
     room: &mut Room,
+    last: u64,
 ) -> bool
     requires { (4 ≡ J.width) × (4 ≡ J.height) }
 {
@@ -37,7 +38,7 @@ fn all_cut_the_last<J: Naming + Publishes, R: Wait + Drop>(
     for eye in eyes {
         eye.meet(writer);
         let cut = eye.cut(&ALL, &room.have, &mut room.cut);
-        right = matches!(cut, Ok(1000)) && room.shows(1000) && right;
+        right = matches!(cut, Ok(number) if number == last) && room.shows(last) && right;
     }
     right
 }
@@ -55,64 +56,64 @@ fn are_gone<J: Naming>(eyes: &mut [Eye<J>], room: &mut Room) -> bool
     right
 }
 
-/// Whether all is right beside a thousand puts, and after the writer's end.
+/// Whether all is right beside a thousand puts, or after five where memory may be short, and after the writer's end.
 fn reads_beside<J: Naming + Publishes + Send + Sync, R: Threads + Wait + Sync + Send + Copy + Drop>(
     rt: R,
     alloc: Global,
     mut writer: PairWriter<J, R>,
     eyes: &mut [Eye<J>],
     room: &mut Room,
-) -> bool
+    is_short: bool,
+) -> Result<bool, Fault>
     requires { (4 ≡ J.width) × (4 ≡ J.height) }
 {
-    let put = beside(&rt, alloc, &mut writer, eyes);
-    let right = all_cut_the_last(eyes, &writer, room);
+    let put = if is_short {
+        puts_many(alloc, &mut writer, 1, 5, true)
+    } else {
+        Ok(beside(&rt, alloc, &mut writer, eyes))
+    };
+    let last = if is_short { 5 } else { MANY };
+    let right = all_cut_the_last(eyes, &writer, room, last);
     writer.end();
-    put && right && are_gone(eyes, room)
+    let right = are_gone(eyes, room) && right;
+    match put {
+        Ok(put) => Ok(put && right),
+        Err(fault) => Err(fault),
+    }
 }
 
-/// Whether all is right with a new pair of this many eyes, or, where memory may be short, whether five puts are
-/// answered.
-fn plays<J: Naming + Publishes + Send + Sync, R: Threads + Wait + Sync + Send + Copy + Drop>(
+/// A new pair of this many eyes.
+fn new_pair<J: Naming, R: Wait + Drop>(
     rt: R,
     alloc: Global,
     opened: Opened<J>,
     places: usize,
-    is_short: bool,
-) -> Result<bool, Fault>
+) -> Result<(PairWriter<J, R>, Vec<Eye<J>>), Fault>
+    requires named { (opened.seen.book ≡ J.book) × (4 ≡ J.width) × (4 ≡ J.height) }
+    requires places { (1 ≤ places) × (places ≤ 65) }
+{
+    let (change_count, author) = opened.named();
+    let change_count = Arc::new(alloc, change_count)?;
+    let (raiser, _glance) = tally(&change_count, author)?;
+    pair(rt, alloc, raiser, 4, 4, places)
+}
+
+/// Whether all is right with a new pair of this many eyes. It fails where memory is short.
+pub(crate) fn plays_pair<
+    J: Naming + Publishes + Send + Sync,
+    R: Threads + Wait + Sync + Send + Copy + Drop,
+>(rt: R, alloc: Global, opened: Opened<J>, places: usize, is_short: bool) -> Result<bool, Fault>
     requires named { (opened.seen.book ≡ J.book) × (4 ≡ J.width) × (4 ≡ J.height) }
     requires places { (1 ≤ places) × (places ≤ 65) }
 {
     let mut room = Room::new(alloc)?;
-    let (change_count, author) = opened.named();
-    let change_count = Arc::new(alloc, change_count)?;
-    let (raiser, _glance) = tally(&change_count, author)?;
-    let (mut writer, mut eyes) = pair(rt, alloc, raiser, 4, 4, places)?;
-    if is_short {
-        puts_many(alloc, &mut writer, 5, true)
-    } else {
-        let eyes = eyes.as_mut_slice();
-        Ok(reads_beside(rt, alloc, writer, eyes, &mut room))
-    }
+    let (writer, mut eyes) = new_pair(rt, alloc, opened, places)?;
+    reads_beside(rt, alloc, writer, eyes.as_mut_slice(), &mut room, is_short)
 }
 
 #[test]
 fn a_thousand_puts_beside_four_eyes(rt: HostRuntime) -> Result<(), Fail> {
-    let right = plays::<Brand, _>(rt, rt.alloc(), Opened::new(), 4, false)?;
+    let right = plays_pair::<Brand, _>(rt, rt.alloc(), Opened::new(), 4, false)?;
     assert!(rt; right);
     Ok(())
-}
-
-/// All is right, at once or the next time: where memory is refused that is what is answered (`Memory`), and nothing is
-/// amiss with the memory that is there then. `rt try --test --fail-alloc N` refuses the Nth allocation, and the gate
-/// none.
-#[test]
-fn pair_without_memory(rt: HostRuntime) {
-    let mut answer = Err(Fault::Memory);
-    for _ in 0..2u64 {
-        if matches!(answer, Err(Fault::Memory)) {
-            answer = plays::<Brand, _>(rt, rt.alloc(), Opened::new(), 2, true);
-        }
-    }
-    assert!(rt; matches!(answer, Ok(true)));
 }

@@ -1,4 +1,4 @@
-use Rattle.shared_screen_tests.proofs.screen.shared_screen_without_memory.Given as goal
+use Rattle.loop_tests.proofs.screen.screens_are_shared.Given as goal
 
 -- The history that was just opened, of a screen of that size.
 abbrev pub ghosts-plays : goal.ghosts-plays

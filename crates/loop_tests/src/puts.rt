@@ -48,10 +48,11 @@ pub fn puts_one<P: Puts>(alloc: Global, puts: &mut P, n: u64, is_short: bool) ->
     }
 }
 
-/// Puts patches 1 to this one, and says whether each is answered its number.
+/// Puts these patches, from the first to the last, and says whether each is answered its number.
 pub fn puts_many<P: Puts>(
     alloc: Global,
     puts: &mut P,
+    first: u64,
     last: u64,
     is_short: bool,
 ) -> Result<bool, Fault>
@@ -59,7 +60,7 @@ pub fn puts_many<P: Puts>(
     ensures { (P.width puts.new ≡ 4) × (P.height puts.new ≡ 4) }
 {
     let mut right = true;
-    for n in 1..=last {
+    for n in first..=last {
         right = puts_one(alloc, puts, n, is_short)? && right;
     }
     Ok(right)
@@ -155,7 +156,7 @@ pub fn beside<R: Threads + Sync, P: Puts + Send, E: Reads + Send>(
     let right = AtomicU64::new(0);
     let (put, ()) = join(
         rt,
-        || puts_many(alloc, puts, MANY, false),
+        || puts_many(alloc, puts, 1, MANY, false),
         ||
             requires { IsSync R.row × IsSend E.row × E.fits }
         { all_read(rt, alloc, ends, &right) },
