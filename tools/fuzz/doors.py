@@ -132,15 +132,17 @@ def make_frames(rng):
 
 def judge_frames(made, told):
     """Why a stream of frames isn't read as it has to be, or None."""
-    (_, lengths, sent), (taken, given, end) = made, told
+    (_, lengths, sent), (taken, given, end, failures) = made, told
     reading, found = Reading(sent), frames.answered(bytes.fromhex(given.decode()))
-    said = f"{sent.hex()} in pieces of {lengths.hex()}: taken {taken}, given {given}, {end}"
+    said = f"{sent.hex()} in pieces of {lengths.hex()}: taken {taken}, given {given}, {end}, failed {failures} times"
     if found is None or bytes.fromhex(taken.decode()) != reading.data:
         return said
     data, pongs, code = found
     codes = [reading.code] + [1002] * reading.maybe + [None] * (0 in lengths)
     ends = [b"failed" if one in (1002, 1003) else b"ended" for one in [reading.code] + [1002] * reading.maybe]
     if data != reading.data or code not in codes or end not in ends or not frames.is_among(pongs, reading.pings):
+        return said
+    if failures != (b"1" if end == b"failed" else b"0"):
         return said
     if code is None and 0 not in lengths and reading.pings and pongs[-1:] != reading.pings[-1:]:
         return said

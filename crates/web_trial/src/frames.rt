@@ -1,82 +1,99 @@
-//! Frames before a link of a WebSocket in memory.
+//! Frames before a link that gives each byte of their data back, and before their reader alone.
 
-use link::{Gave, Link, MemoryLink, Took};
-use std::alloc::{AllocError, Global};
+use crate::browsers::{Browser, Pieces, browser_of, take_all};
+use crate::words::{bytes_of, parted, print_bytes, print_first};
+use link::Link;
 use std::test::Fail;
-use web_link::{GatheringLink, WebLink};
-
-/// A link is taken from and flushed at most this many times.
-const MOST_TURNS: usize = 100_000;
+use web_frames::FrameReader;
+use web_link::refusal_frames;
 
 /// A browser is sent at most this many bytes for each byte that it sends, and this many besides.
 const TIMES: usize = 4;
 
 const BESIDE: usize = 400;
 
-/// What became of a stream of frames: the data in them, what the browser was sent, and how the link ended.
-#[derive(Drop)]
-pub(crate) struct Said {
-    pub(crate) taken: Vec<u8>,
-    pub(crate) given: Vec<u8>,
-    pub(crate) end: &'static str,
-}
+/// Of what a reader reads at most this many bytes are printed.
+const MOST_SHOWN: usize = 8;
 
-/// The answers of a peer that sends pieces of these lengths. Nothing comes where one is 0.
-fn takes_of(alloc: Global, lengths: &[u8], count: usize) -> Result<Vec<Took>, AllocError> {
-    let mut takes = Vec::new(alloc);
-    for length in lengths.iter().cycle().take(count) {
-        takes.push(match *length {
-            0 => Took::Nothing,
-            length => Took::Bytes(usize::from(length)),
-        })?;
-    }
-    Ok(takes)
-}
+/// A version and a reason have at most this many bytes each.
+const MOST_SAID: usize = 58;
 
-/// The answers of a peer that takes pieces of these lengths. It has no room where one is 0.
-fn gives_of(alloc: Global, lengths: &[u8], count: usize) -> Result<Vec<Gave>, AllocError> {
-    let mut gives = Vec::new(alloc);
-    for length in lengths.iter().cycle().take(count) {
-        gives.push(match *length {
-            0 => Gave::Nothing,
-            length => Gave::Bytes(usize::from(length)),
-        })?;
-    }
-    Ok(gives)
-}
-
-/// Takes all that comes, and gives back each byte. It answers how the link ended.
-fn echo<L: Link>(link: &mut L, taken: &mut Vec<u8>) -> Result<&'static str, AllocError> {
-    let mut into = [0u8; 64];
-    for _ in 0..MOST_TURNS {
-        match link.take(&mut into) {
-            Took::Bytes(count) => {
-                let (bytes, _) = into.split_at(count);
-                taken.extend_from_slice(bytes)?;
-                let _ = link.give(bytes);
-            }
-            Took::Nothing => {}
-            Took::End => return Ok("ended"),
-            Took::Failed => return Ok("failed"),
-        }
-    }
-    Ok("open")
-}
-
-/// What a browser is told where it sends this stream in pieces of these lengths, and each byte of its data is given
-/// back.
-pub(crate) fn talk(alloc: Global, lengths: &[u8], stream: Vec<u8>) -> Result<Said, Fail> {
-    let count = stream.len().saturating_mul(TIMES).saturating_add(BESIDE);
-    let most = count.saturating_mul(lengths.len());
-    let takes = takes_of(alloc, lengths, most)?;
-    let gives = gives_of(alloc, lengths, most)?;
-    let below = MemoryLink::new(alloc, stream, takes, gives)?;
-    let mut link = GatheringLink::new(alloc, WebLink::new(below))?;
-    let mut taken = Vec::new(alloc);
-    let end = echo(&mut link, &mut taken)?;
-    for _ in 0..lengths.len().saturating_mul(BESIDE) {
+/// Gives back each byte that comes. It prints the bytes, what the browser was sent, how the link ended, and how often
+/// it failed.
+fn echo(rt: &HostRuntime, link: &mut Browser, flushes: usize) -> Result<(), Fail> {
+    let mut taken = Vec::new(rt.alloc());
+    let end = take_all(link, &mut taken, true)?;
+    for _ in 0..flushes {
         link.flush();
     }
-    let given = link.below().below().given().to_vec(alloc)?;
-    Ok(Said { taken, given, end })
+    print_bytes(rt, taken.as_slice())?;
+    print!(rt; " ")?;
+    print_bytes(rt, link.below().below().given())?;
+    println!(rt; " {end} {}", link.failures())?;
+    Ok(())
+}
+
+/// Plays a line with the lengths of pieces, in which a stream comes and what is sent goes, and the stream.
+pub(crate) fn talk(rt: &HostRuntime, line: &str) -> Result<(), Fail> {
+    let alloc = rt.alloc();
+    let (lengths, stream) = parted(line);
+    let lengths = hex::decode(alloc, lengths)?;
+    let stream = hex::decode(alloc, stream)?;
+    let most = stream.len().saturating_mul(TIMES).saturating_add(BESIDE);
+    let pieces = Pieces {
+        lengths: lengths.as_slice(),
+        count: most.saturating_mul(lengths.len()),
+    };
+    let mut link = browser_of(alloc, stream, pieces, pieces)?;
+    echo(rt, &mut link, lengths.len().saturating_mul(BESIDE))
+}
+
+/// Prints where a reader stands, and what it has of pings, asked twice.
+fn print_reader(rt: &HostRuntime, reader: &mut FrameReader) -> Result<(), Fail> {
+    print!(rt; " {:?}", reader.position())?;
+    for _ in 0..2 {
+        print!(rt; " ")?;
+        match reader.take_ping() {
+            Some(ping) => print_bytes(rt, ping.as_slice())?,
+            None => print!(rt; "none")?,
+        }
+    }
+    println!(rt)?;
+    Ok(())
+}
+
+/// Plays a line with a name, whose frames these are, and the frames.
+pub(crate) fn read_frames(rt: &HostRuntime, line: &str) -> Result<(), Fail> {
+    let (name, line) = parted(line);
+    let (whose, frames) = parted(line);
+    print!(rt; "{name}:")?;
+    let mut frames = bytes_of(rt.alloc(), frames)?;
+    let mut reader = FrameReader::new(whose == "client");
+    let count = reader.read(frames.as_mut_slice());
+    let (data, _) = frames.as_slice().split_at(count);
+    print_first(rt, data, MOST_SHOWN)?;
+    print_reader(rt, &mut reader)
+}
+
+/// Prints the frames of a refusal.
+fn print_frames(rt: &HostRuntime, version: &[u8], reason: &[u8]) -> Result<(), Fail> {
+    if version.is_empty() || version.len() > MOST_SAID {
+        return Err(Fail::new("no such version"));
+    }
+    if reason.is_empty() || reason.len() > MOST_SAID {
+        return Err(Fail::new("no such reason"));
+    }
+    print_bytes(rt, refusal_frames(version, reason).as_slice())?;
+    println!(rt)?;
+    Ok(())
+}
+
+/// Plays a line with a name, a version and a reason.
+pub(crate) fn refuse(rt: &HostRuntime, line: &str) -> Result<(), Fail> {
+    let (name, line) = parted(line);
+    let (version, reason) = parted(line);
+    print!(rt; "{name}: ")?;
+    let version = bytes_of(rt.alloc(), version)?;
+    let reason = bytes_of(rt.alloc(), reason)?;
+    print_frames(rt, version.as_slice(), reason.as_slice())
 }

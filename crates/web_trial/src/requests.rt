@@ -1,54 +1,86 @@
-//! Requests before the site of a web port.
+//! Requests before a site.
 
-use bytes::Bytes;
-use std::alloc::{AllocError, Global};
+use crate::words::{length_at, parted, print_bytes};
+use std::alloc::Global;
 use std::hash::RandomState;
 use std::sync::Arc;
 use std::test::Fail;
-use web_site::{Admission, FileTable, Guest, Site};
+use std::{io, str};
+use web_site::{Guest, Site};
 
 /// A connection is advanced at most this many times.
 const MOST_TURNS: usize = 100_000;
 
-/// The files of the site.
-const FILES: [(&str, &[u8]); 3] = [
-    ("/vnc.html", b"<!DOCTYPE html>a page"),
-    ("/app/ui.js", b"let a;"),
-    ("/app/a b.css", b"p { }"),
-];
-
-/// The hosts and the origins under which it is known.
-const HOSTS: [&str; 2] = ["127.0.0.1:6080", "lecture.example"];
-
-const ORIGINS: [&str; 2] = ["http://127.0.0.1:6080", "https://lecture.example"];
-
-fn texts_of(alloc: Global, of: &[&str]) -> Result<Vec<String>, AllocError> {
-    let mut texts = Vec::new(alloc);
-    for text in of {
-        texts.push(String::from_str(alloc, text)?)?;
-    }
-    Ok(texts)
+fn write(guest: &mut Guest, answers: &mut Vec<u8>) -> io::Result<()> {
+    let _ = guest.write_to(answers)?;
+    Ok(())
 }
 
-/// The site that is asked.
-pub(crate) fn site_of(alloc: Global) -> Result<Arc<Site, Global>, Fail> {
-    let mut files = FileTable::new(alloc);
-    for (path, body) in FILES {
-        files.add(String::from_str(alloc, path)?, Bytes::from_static(body))?;
-    }
-    let admission = Admission {
-        hosts: texts_of(alloc, &HOSTS)?,
-        origins: texts_of(alloc, &ORIGINS)?,
-    };
-    let site = Site::new(alloc, Arc::new(alloc, files)?, admission, false)?;
-    Ok(Arc::new(alloc, site)?)
+fn read(guest: &mut Guest, mut piece: &[u8]) -> io::Result<()> {
+    let _ = guest.read_from(&mut piece)?;
+    Ok(())
 }
 
-/// What became of a connection: what it was answered, and whether it is let in as a link.
-#[derive(Drop)]
-pub(crate) struct Told {
-    pub(crate) answers: Vec<u8>,
-    pub(crate) is_let_in: bool,
+/// Has a connection say this stream, in pieces of these lengths, and puts what it is answered to the end.
+fn hear(guest: &mut Guest, lengths: &[u8], stream: &[u8], answers: &mut Vec<u8>) -> io::Result<()> {
+    let mut rest = stream;
+    let mut turn: usize = 0;
+    for _ in 0..MOST_TURNS {
+        if guest.is_done() {
+            break;
+        }
+        if guest.wants_write() {
+            write(guest, answers)?;
+        } else if guest.wants_read() {
+            let length = length_at(lengths, turn).max(1);
+            let (piece, behind) = rest.split_at(length.min(rest.len()));
+            read(guest, piece)?;
+            rest = behind;
+            turn = turn.saturating_add(1);
+        } else {
+            break;
+        }
+        guest.advance();
+    }
+    Ok(())
+}
+
+/// The bytes of a request whose lines are told with bars between them.
+fn request_of(alloc: Global, lines: &str) -> Result<Vec<u8>, Fail> {
+    let mut bytes = Vec::new(alloc);
+    for line in lines.split('|') {
+        bytes.extend_from_slice(line.as_bytes())?;
+        bytes.extend_from_slice(b"\r\n")?;
+    }
+    bytes.extend_from_slice(b"\r\n")?;
+    Ok(bytes)
+}
+
+/// The line of a head that has a field, or `none`.
+fn field_in<'a>(head: &'a str, field: &str) -> &'a str {
+    for line in head.split("\r\n") {
+        let (name, _) = line.split_once(':').unwrap_or(("", ""));
+        if name == field {
+            return line;
+        }
+    }
+    "none"
+}
+
+/// Prints the first line of an answer, those of some fields, and the body where that is told.
+fn print_answer(rt: &HostRuntime, fields: &str, answer: &[u8]) -> Result<(), Fail> {
+    let answer = str::from_utf8(answer)?;
+    let (head, body) = answer.split_once("\r\n\r\n").unwrap_or((answer, ""));
+    let (first, _) = head.split_once("\r\n").unwrap_or((head, ""));
+    print!(rt; "{first}")?;
+    for field in fields.split(',') {
+        match field {
+            "-" => {}
+            "body" => print!(rt; " | {body}")?,
+            _ => print!(rt; " | {}", field_in(head, field))?,
+        }
+    }
+    Ok(())
 }
 
 /// Asks a site.
@@ -63,29 +95,54 @@ impl Asker {
         Asker { site, keys }
     }
 
-    /// Asks the site with this stream, in pieces of these lengths.
-    pub(crate) fn ask(&self, alloc: Global, lengths: &[u8], stream: &[u8]) -> Result<Told, Fail> {
+    /// Asks another site from now on.
+    pub(crate) fn move_to(&mut self, site: Arc<Site, Global>) {
+        self.site = site;
+    }
+
+    /// Asks the site with this stream, in pieces of these lengths. It answers whether the connection is let in as a
+    /// link.
+    fn end(
+        &self,
+        alloc: Global,
+        lengths: &[u8],
+        stream: &[u8],
+        answers: &mut Vec<u8>,
+    ) -> Result<&'static str, Fail> {
         let mut guest = Guest::new(alloc, self.keys, Arc::try_clone(&self.site)?);
-        let mut rest = stream;
-        let mut lengths = lengths.iter().cycle();
+        hear(&mut guest, lengths, stream, answers)?;
+        Ok(if guest.is_done() && guest.is_let_in() {
+            "in"
+        } else {
+            "out"
+        })
+    }
+
+    /// Plays a line with the lengths of pieces and a stream. It prints the answers, and whether the connection is let
+    /// in.
+    pub(crate) fn play(&self, rt: &HostRuntime, line: &str) -> Result<(), Fail> {
+        let alloc = rt.alloc();
+        let (lengths, stream) = parted(line);
+        let lengths = hex::decode(alloc, lengths)?;
+        let stream = hex::decode(alloc, stream)?;
         let mut answers = Vec::new(alloc);
-        for _ in 0..MOST_TURNS {
-            if guest.is_done() {
-                break;
-            }
-            if guest.wants_write() {
-                let _ = guest.write_to(&mut answers)?;
-            } else if guest.wants_read() {
-                let length = usize::from(lengths.next().copied().unwrap_or(1)).max(1);
-                let (mut piece, behind) = rest.split_at(length.min(rest.len()));
-                let _ = guest.read_from(&mut piece)?;
-                rest = behind;
-            } else {
-                break;
-            }
-            guest.advance();
-        }
-        let is_let_in = guest.is_done() && guest.is_let_in();
-        Ok(Told { answers, is_let_in })
+        let end = self.end(alloc, lengths.as_slice(), stream.as_slice(), &mut answers)?;
+        print_bytes(rt, answers.as_slice())?;
+        println!(rt; " {end}")?;
+        Ok(())
+    }
+
+    /// Plays a line with a name, the fields of the answer that are printed, and a request.
+    pub(crate) fn ask(&self, rt: &HostRuntime, line: &str) -> Result<(), Fail> {
+        let alloc = rt.alloc();
+        let (name, line) = parted(line);
+        let (fields, request) = parted(line);
+        print!(rt; "{name}: ")?;
+        let request = request_of(alloc, request)?;
+        let mut answer = Vec::new(alloc);
+        let end = self.end(alloc, &[255], request.as_slice(), &mut answer)?;
+        print_answer(rt, fields, answer.as_slice())?;
+        println!(rt; " | {end}")?;
+        Ok(())
     }
 }
