@@ -1,6 +1,6 @@
 use Rattle.std.proofs.Common.{◌≡◌, length}
 use Rattle.update_encoder.specs.Coming.{AnswerStands}
-use Rattle.screen_tests.proofs.answers.is_told.Given as goal
+use Rattle.screen_trial.proofs.cuts.tell_answer.Given as goal
 
 abbrev pub invariant-loop-turn : goal.invariant-loop-turn
 invariant-loop-turn l =
