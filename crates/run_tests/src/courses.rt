@@ -4,7 +4,9 @@ use crate::board::Gate;
 use crate::bytes::{
     ASK, GREETING, HELLO, ONE, PRESS_97, PRESS_98, THREE, TWO, UNKNOWN, WELCOME, WIDER,
 };
+use crate::dead_links::{GOES_ON, IS_LEFT};
 use crate::ends::{Course, End, goes_right};
+use crate::leavings::EACH_LEAVES;
 use crate::painted::PAINTED;
 use crate::peer::{Act, Key, Script, Taking};
 use crate::picture::Picture;
@@ -381,7 +383,7 @@ const NO_HOST_LEFT: Course = Course {
     },
 };
 
-/// Each of the runs.
+/// Runs in which viewers and hosts come, stay and go.
 static COURSES: [Course; 9] = [
     HELD_VIEWER,
     STALLED_VIEWERS,
@@ -394,10 +396,24 @@ static COURSES: [Course; 9] = [
     PAINTED,
 ];
 
+/// Runs in which links fail while input is told, and viewers leave in each way.
+static FAILURES: [Course; 3] = [GOES_ON, IS_LEFT, EACH_LEAVES];
+
 /// Each of the runs goes as it should. The first that doesn't is named.
 #[test]
 fn runs_go_right(rt: HostRuntime) -> Result<(), Fail> {
     for course in &COURSES {
+        if !goes_right(rt, rt.alloc(), course)? {
+            return Err(Fail::new(course.name));
+        }
+    }
+    Ok(())
+}
+
+/// Each of these, too.
+#[test]
+fn runs_with_failures_go_right(rt: HostRuntime) -> Result<(), Fail> {
+    for course in &FAILURES {
         if !goes_right(rt, rt.alloc(), course)? {
             return Err(Fail::new(course.name));
         }

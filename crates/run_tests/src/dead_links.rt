@@ -3,9 +3,8 @@
 use crate::board::Gate;
 use crate::bytes::{HELLO, ONE, PRESS_97, THREE, WELCOME};
 use crate::courses::SMALL;
-use crate::ends::{Course, End, goes_right};
+use crate::ends::{Course, End};
 use crate::peer::{Act, Key, Script, Taking};
-use std::test::*;
 
 /// Keys 97 and 98 are pressed and released (RFC 6143, 7.5.4).
 const KEYS: [[Key; 2]; 2] = [
@@ -18,8 +17,8 @@ const OTHERS: &[u8] = b"\x04\0\0\0\0\0\0\x61\x04\x01\0\0\0\0\0\x62\x04\0\0\0\0\0
 
 /// The first host's link fails as the first of four key events is told: nothing more is told over it. The host ends
 /// after that. The next host is told the three others, and is asked for the screen.
-static GOES_ON: Course = Course {
-    name: "input goes on to the next host",
+pub(crate) const GOES_ON: Course = Course {
+    name: "input_goes_on_to_the_next_host",
     view: &SMALL,
     black: 2,
     places: &[&[Script {
@@ -68,8 +67,8 @@ static GOES_ON: Course = Course {
 
 /// The only host's link fails as the press of key 97 is told, and the host ends. The key is released as its viewer is
 /// left, and that release is never taken.
-static IS_LEFT: Course = Course {
-    name: "input is left at the end",
+pub(crate) const IS_LEFT: Course = Course {
+    name: "input_is_left_at_the_end",
     view: &SMALL,
     black: 0,
     places: &[&[Script {
@@ -95,13 +94,3 @@ static IS_LEFT: Course = Course {
         left: 1,
     },
 };
-
-#[test]
-fn input_goes_on_after_a_dead_link(rt: HostRuntime) -> Result<(), Fail> {
-    for course in [&GOES_ON, &IS_LEFT] {
-        if !goes_right(rt, rt.alloc(), course)? {
-            return Err(Fail::new(course.name));
-        }
-    }
-    Ok(())
-}

@@ -40,58 +40,96 @@ fn part(colour: u64, maximum: u64) -> u64 {
     (colour % 256).wrapping_mul(maximum).wrapping_add(127) / 255
 }
 
-/// Bytes, as far as they are read.
+/// Bytes that are read, pixels of them in this format. Past their end 0 is read.
 #[derive(Drop)]
 struct Bytes<'a> {
     left: &'a [u8],
-    read: usize,
+    format: &'a Format,
+    /// Whether it was read past the end, or what was read is nothing that a viewer can follow.
+    is_wrong: bool,
 }
 
 impl Bytes<'_> {
     /// The next byte.
-    fn byte(&mut self) -> Option<u64> {
-        let (first, left) = self.left.split_first()?;
-        self.left = left;
-        self.read = self.read.wrapping_add(1);
-        Some(u64::from(*first))
+    fn byte(&mut self) -> u64 {
+        match self.left.split_first() {
+            Some((first, left)) => {
+                self.left = left;
+                u64::from(*first)
+            }
+            None => {
+                self.is_wrong = true;
+                0
+            }
+        }
     }
 
     /// A number of this many bytes, the highest first.
-    fn number(&mut self, count: u64) -> Option<u64> {
+    fn number(&mut self, count: u64) -> u64 {
         let mut number: u64 = 0;
         for _ in 0..count {
-            number = number.wrapping_mul(256).wrapping_add(self.byte()?);
+            number = number.wrapping_mul(256).wrapping_add(self.byte());
         }
-        Some(number)
+        number
     }
 
     /// A number of this many bytes, the lowest first.
-    fn lowest_first(&mut self, count: u64) -> Option<u64> {
+    fn lowest_first(&mut self, count: u64) -> u64 {
         let mut number: u64 = 0;
         let mut unit: u64 = 1;
         for _ in 0..count {
-            number = number.wrapping_add(self.byte()?.wrapping_mul(unit));
+            number = number.wrapping_add(self.byte().wrapping_mul(unit));
             unit = unit.wrapping_mul(256);
         }
-        Some(number)
+        number
     }
 
-    fn pixel(&mut self, format: &Format) -> Option<u64> {
-        if format.is_big {
-            self.number(format.bytes)
+    fn pixel(&mut self) -> u64 {
+        if self.format.is_big {
+            self.number(self.format.bytes)
         } else {
-            self.lowest_first(format.bytes)
+            self.lowest_first(self.format.bytes)
         }
     }
 
-    /// A rectangle's position and size, each number in this many bytes.
-    fn area(&mut self, count: u64) -> Option<Area> {
-        let x = self.number(count)?;
-        let y = self.number(count)?;
-        let w = self.number(count)?;
-        let h = self.number(count)?;
-        Some(Area { x, y, w, h })
+    /// A rectangle's position and size.
+    fn area(&mut self) -> Area {
+        let x = self.number(2);
+        let y = self.number(2);
+        let w = self.number(2);
+        let h = self.number(2);
+        Area { x, y, w, h }
     }
+}
+
+/// What an area is painted with.
+#[derive(Clone, Copy)]
+enum Source {
+    /// One colour all over.
+    Colour(u64),
+    /// The pixels that come next, row after row.
+    Pixels,
+    /// What is held from this position on.
+    Held(u64, u64),
+}
+
+/// Encodings of rectangles: Raw, CopyRect, RRE and Hextile.
+#[derive(Clone, Copy)]
+pub(crate) struct Kinds {
+    pub(crate) raw: bool,
+    pub(crate) copy: bool,
+    pub(crate) rre: bool,
+    pub(crate) hextile: bool,
+}
+
+impl Kinds {
+    /// None of them.
+    pub(crate) const NONE: Kinds = Kinds {
+        raw: false,
+        copy: false,
+        rre: false,
+        hextile: false,
+    };
 }
 
 /// What a viewer holds of a screen, and in which encodings it came.
@@ -101,8 +139,8 @@ pub(crate) struct Follower {
     held: Vec<u64>,
     /// Whether what is read is held. Otherwise it is only read.
     is_held: bool,
-    /// Whether a rectangle came Raw, as a CopyRect, in RRE and in Hextile.
-    pub(crate) came: [bool; 4],
+    /// The encodings in which rectangles came.
+    pub(crate) came: Kinds,
 }
 
 impl Follower {
@@ -112,7 +150,7 @@ impl Follower {
             width: 0,
             held: Vec::new(alloc),
             is_held: false,
-            came: [false; 4],
+            came: Kinds::NONE,
         }
     }
 
@@ -133,227 +171,183 @@ impl Follower {
 
     fn set(&mut self, x: u64, y: u64, value: u64) {
         let index = y.wrapping_mul(self.width).wrapping_add(x) as usize;
-        if self.is_held
-            && x < self.width
-            && let Some(at) = self.held.get_mut(index)
-        {
-            *at = value;
+        let is_inside = x < self.width && index < self.held.len();
+        if self.is_held && is_inside {
+            self.held[index] = value;
         }
     }
 
-    fn fill_row(&mut self, area: Area, y: u64, value: u64) {
+    fn paint_row(&mut self, bytes: &mut Bytes, area: Area, row: u64, source: Source) {
         for column in 0..area.w {
-            self.set(area.x.wrapping_add(column), y, value);
-        }
-    }
-
-    fn fill(&mut self, area: Area, value: u64) {
-        for row in 0..area.h {
-            self.fill_row(area, area.y.wrapping_add(row), value);
-        }
-    }
-
-    fn raw_row(&mut self, bytes: &mut Bytes, format: &Format, area: Area, y: u64) -> Option<()> {
-        for column in 0..area.w {
-            let value = bytes.pixel(format)?;
-            self.set(area.x.wrapping_add(column), y, value);
-        }
-        Some(())
-    }
-
-    /// Pixels, row by row (7.7.1).
-    fn raw(&mut self, bytes: &mut Bytes, format: &Format, area: Area) -> Option<()> {
-        for row in 0..area.h {
-            self.raw_row(bytes, format, area, area.y.wrapping_add(row))?;
-        }
-        Some(())
-    }
-
-    fn copy_row(&mut self, area: Area, row: u64, x: u64, y: u64) {
-        for column in 0..area.w {
-            let value = self.at(x.wrapping_add(column), y.wrapping_add(row));
+            let value = match source {
+                Source::Colour(colour) => colour,
+                Source::Pixels => bytes.pixel(),
+                Source::Held(x, y) => self.at(x.wrapping_add(column), y.wrapping_add(row)),
+            };
             self.set(area.x.wrapping_add(column), area.y.wrapping_add(row), value);
         }
     }
 
-    /// A copy of another area of the screen (7.7.2), which has to lie apart.
-    fn copy(&mut self, bytes: &mut Bytes, area: Area) -> Option<()> {
-        let x = bytes.number(2)?;
-        let y = bytes.number(2)?;
+    fn paint(&mut self, bytes: &mut Bytes, area: Area, source: Source) {
         for row in 0..area.h {
-            self.copy_row(area, row, x, y);
+            if !bytes.is_wrong {
+                self.paint_row(bytes, area, row, source);
+            }
         }
-        Some(())
     }
 
     /// A background, and rectangles on it (7.7.3).
-    fn rre(&mut self, bytes: &mut Bytes, format: &Format, area: Area) -> Option<()> {
-        let count = bytes.number(4)?;
-        let background = bytes.pixel(format)?;
-        self.fill(area, background);
+    fn rre(&mut self, bytes: &mut Bytes, area: Area) {
+        let count = bytes.number(4).min(bytes.left.len() as u64);
+        let background = bytes.pixel();
+        self.paint(bytes, area, Source::Colour(background));
         for _ in 0..count {
-            let value = bytes.pixel(format)?;
-            let part = bytes.area(2)?;
-            self.fill(shifted(part, area.x, area.y), value);
+            let value = bytes.pixel();
+            let part = bytes.area();
+            self.paint(bytes, part.from(area), Source::Colour(value));
         }
-        Some(())
     }
 
     /// The rectangles on a tile, each of its own colour or of this one.
-    fn parts(
-        &mut self,
-        bytes: &mut Bytes,
-        format: &Format,
-        tile: Area,
-        is_coloured: bool,
-        foreground: u64,
-    ) -> Option<()> {
-        for _ in 0..bytes.byte()? {
+    fn parts(&mut self, bytes: &mut Bytes, tile: Area, is_coloured: bool, foreground: u64) {
+        for _ in 0..bytes.byte() {
             let value = if is_coloured {
-                bytes.pixel(format)?
+                bytes.pixel()
             } else {
                 foreground
             };
-            let place = bytes.byte()?;
-            let size = bytes.byte()?;
+            let place = bytes.byte();
+            let size = bytes.byte();
             let part = Area {
                 x: place / 16,
                 y: place % 16,
                 w: (size / 16).wrapping_add(1),
                 h: (size % 16).wrapping_add(1),
             };
-            self.fill(shifted(part, tile.x, tile.y), value);
+            self.paint(bytes, part.from(tile), Source::Colour(value));
         }
-        Some(())
     }
 
     /// A tile of Hextile, over the background and the foreground of those before it. It answers those that are left.
-    fn tile(
-        &mut self,
-        bytes: &mut Bytes,
-        format: &Format,
-        tile: Area,
-        colours: (u64, u64),
-    ) -> Option<(u64, u64)> {
+    fn tile(&mut self, bytes: &mut Bytes, tile: Area, colours: (u64, u64)) -> (u64, u64) {
         let (mut background, mut foreground) = colours;
-        let mask = bytes.byte()?;
+        let mask = bytes.byte();
         if mask % 2 == 1 {
-            self.raw(bytes, format, tile)?;
-            return Some((background, foreground));
+            self.paint(bytes, tile, Source::Pixels);
+            return colours;
         }
         if mask / 2 % 2 == 1 {
-            background = bytes.pixel(format)?;
+            background = bytes.pixel();
         }
         if mask / 4 % 2 == 1 {
-            foreground = bytes.pixel(format)?;
+            foreground = bytes.pixel();
         }
-        self.fill(tile, background);
+        self.paint(bytes, tile, Source::Colour(background));
         if mask / 8 % 2 == 1 {
-            self.parts(bytes, format, tile, mask / 16 % 2 == 1, foreground)?;
+            self.parts(bytes, tile, mask / 16 % 2 == 1, foreground);
         }
-        Some((background, foreground))
+        (background, foreground)
     }
 
     /// A row of tiles, each 16 wide but the last (7.7.4).
-    fn tiles(
-        &mut self,
-        bytes: &mut Bytes,
-        format: &Format,
-        row: Area,
-        colours: (u64, u64),
-    ) -> Option<(u64, u64)> {
+    fn tiles(&mut self, bytes: &mut Bytes, row: Area, colours: (u64, u64)) -> (u64, u64) {
         let mut colours = colours;
         for number in 0..row.w.wrapping_add(15) / 16 {
             let from = number.wrapping_mul(16);
             let tile = Area {
                 x: row.x.wrapping_add(from),
+                y: row.y,
                 w: row.w.wrapping_sub(from).min(16),
-                ..row
+                h: row.h,
             };
-            colours = self.tile(bytes, format, tile, colours)?;
+            colours = self.tile(bytes, tile, colours);
         }
-        Some(colours)
+        colours
     }
 
-    fn hextile(&mut self, bytes: &mut Bytes, format: &Format, area: Area) -> Option<()> {
+    fn hextile(&mut self, bytes: &mut Bytes, area: Area) {
         let mut colours = (UNKNOWN, UNKNOWN);
         for number in 0..area.h.wrapping_add(15) / 16 {
             let from = number.wrapping_mul(16);
             let row = Area {
+                x: area.x,
                 y: area.y.wrapping_add(from),
+                w: area.w,
                 h: area.h.wrapping_sub(from).min(16),
-                ..area
             };
-            colours = self.tiles(bytes, format, row, colours)?;
-        }
-        Some(())
-    }
-
-    /// A rectangle of this kind comes.
-    fn note(&mut self, kind: usize) {
-        if let Some(came) = self.came.get_mut(kind) {
-            *came = *came || self.is_held;
+            colours = self.tiles(bytes, row, colours);
         }
     }
 
-    /// One rectangle (7.6.1). It answers nothing where the encoding isn't one of the four.
-    fn rectangle(&mut self, bytes: &mut Bytes, format: &Format) -> Option<()> {
-        let area = bytes.area(2)?;
-        match bytes.number(4)? {
+    /// One rectangle (7.6.1), Raw, as a copy of another area of the screen (7.7.2), which has to lie apart, or in one
+    /// of two more encodings.
+    fn rectangle(&mut self, bytes: &mut Bytes) {
+        let area = bytes.area();
+        match bytes.number(4) {
             0 => {
-                self.note(0);
-                self.raw(bytes, format, area)
+                self.came.raw |= self.is_held;
+                self.paint(bytes, area, Source::Pixels);
             }
             1 => {
-                self.note(1);
-                self.copy(bytes, area)
+                self.came.copy |= self.is_held;
+                let x = bytes.number(2);
+                let y = bytes.number(2);
+                self.paint(bytes, area, Source::Held(x, y));
             }
             2 => {
-                self.note(2);
-                self.rre(bytes, format, area)
+                self.came.rre |= self.is_held;
+                self.rre(bytes, area);
             }
             5 => {
-                self.note(3);
-                self.hextile(bytes, format, area)
+                self.came.hextile |= self.is_held;
+                self.hextile(bytes, area);
             }
-            _ => None,
+            _ => bytes.is_wrong = true,
         }
     }
 
-    /// A FramebufferUpdate (7.6.1).
-    fn update(&mut self, bytes: &mut Bytes, format: &Format) -> Option<()> {
-        let kind = bytes.number(2)?;
-        let count = bytes.number(2)?;
-        for _ in 0..count {
-            self.rectangle(bytes, format)?;
+    /// Reads one FramebufferUpdate at the front of these bytes (7.6.1). It answers how many bytes it has, if it is
+    /// whole.
+    fn update(&mut self, bytes: &[u8], format: &Format) -> Option<usize> {
+        let mut bytes = Bytes {
+            left: bytes,
+            format,
+            is_wrong: false,
+        };
+        let whole = bytes.left.len();
+        bytes.is_wrong = bytes.number(2) != 0 || bytes.is_wrong;
+        for _ in 0..bytes.number(2) {
+            if !bytes.is_wrong {
+                self.rectangle(&mut bytes);
+            }
         }
-        if kind == 0 { Some(()) } else { None }
+        if bytes.is_wrong {
+            None
+        } else {
+            Some(whole.saturating_sub(bytes.left.len()))
+        }
     }
 
     /// Follows one whole FramebufferUpdate at the front of these bytes, and answers how many bytes it has. Where there
     /// is no whole one, nothing is followed.
     pub(crate) fn follow(&mut self, bytes: &[u8], format: &Format) -> Option<usize> {
         self.is_held = false;
-        let mut first = Bytes {
-            left: bytes,
-            read: 0,
-        };
-        self.update(&mut first, format)?;
+        if self.update(bytes, format).is_none() {
+            return None;
+        }
         self.is_held = true;
-        let mut whole = Bytes {
-            left: bytes,
-            read: 0,
-        };
-        self.update(&mut whole, format)?;
-        Some(whole.read)
+        self.update(bytes, format)
     }
 }
 
-/// The area, as it lies from this position.
-fn shifted(area: Area, x: u64, y: u64) -> Area {
-    Area {
-        x: area.x.wrapping_add(x),
-        y: area.y.wrapping_add(y),
-        ..area
+impl Area {
+    /// The area, as it lies from the position of the other.
+    fn from(self, other: Area) -> Area {
+        Area {
+            x: other.x.wrapping_add(self.x),
+            y: other.y.wrapping_add(self.y),
+            w: self.w,
+            h: self.h,
+        }
     }
 }

@@ -3,9 +3,8 @@
 use crate::board::Gate;
 use crate::bytes::{ASK, HELLO, ONE, PRESS_97, TWO};
 use crate::courses::SMALL;
-use crate::ends::{Course, End, goes_right};
+use crate::ends::{Course, End};
 use crate::peer::{Act, Key, Script, Taking};
-use std::test::*;
 
 /// Key 97 is released (RFC 6143, 7.5.4).
 const RELEASE_97: &[u8] = b"\x04\0\0\0\0\0\0\x61";
@@ -18,8 +17,8 @@ const KEYS: [[Key; 2]; 1] = [[[4, 1, 0, 0, 0, 0, 0, 97], [4, 0, 0, 0, 0, 0, 0, 9
 /// that fails, as bytes are taken and inside an answer (RFC 6143, 7.1 and 7.5). No viewer comes before the one before
 /// it was seen off, and each is seen off once. The last one types, is shown the second update, and stays until the host
 /// has ended.
-static EACH_LEAVES: Course = Course {
-    name: "a place is free once after each way of leaving",
+pub(crate) const EACH_LEAVES: Course = Course {
+    name: "place_is_free_once_after_each_leaving",
     view: &SMALL,
     black: 0,
     places: &[&[
@@ -90,12 +89,3 @@ static EACH_LEAVES: Course = Course {
         left: 0,
     },
 };
-
-#[test]
-fn place_is_free_once_after_each_leaving(rt: HostRuntime) -> Result<(), Fail> {
-    if goes_right(rt, rt.alloc(), &EACH_LEAVES)? {
-        Ok(())
-    } else {
-        Err(Fail::new(EACH_LEAVES.name))
-    }
-}

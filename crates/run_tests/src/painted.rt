@@ -6,7 +6,7 @@ use crate::board::Gate;
 use crate::bytes::HELLO;
 use crate::courses::IS_TOLD;
 use crate::ends::{Course, End};
-use crate::follower::{Area, Format};
+use crate::follower::{Area, Format, Kinds};
 use crate::peer::{Act, Script, Taking};
 use crate::picture::{Paint, Picture};
 use crate::sight::{Sight, View};
@@ -85,7 +85,10 @@ const TRUE_COLOUR: Script = Script {
             w: 34,
             h: 33,
         },
-        kinds: &[0],
+        kinds: Kinds {
+            raw: true,
+            ..Kinds::NONE
+        },
     }),
 };
 
@@ -113,7 +116,11 @@ const HIGH_COLOUR: Script = Script {
             w: 34,
             h: 33,
         },
-        kinds: &[1, 2],
+        kinds: Kinds {
+            copy: true,
+            rre: true,
+            ..Kinds::NONE
+        },
     }),
 };
 
@@ -141,7 +148,10 @@ const FEW_COLOURS: Script = Script {
             w: 20,
             h: 25,
         },
-        kinds: &[3],
+        kinds: Kinds {
+            hextile: true,
+            ..Kinds::NONE
+        },
     }),
 };
 
@@ -169,7 +179,11 @@ const FIVE_BITS: Script = Script {
             w: 34,
             h: 33,
         },
-        kinds: &[1, 3],
+        kinds: Kinds {
+            copy: true,
+            hextile: true,
+            ..Kinds::NONE
+        },
     }),
 };
 

@@ -1,6 +1,6 @@
 //! What a viewer asks for, and whether it was shown that.
 
-use crate::follower::{Area, Follower, Format};
+use crate::follower::{Area, Follower, Format, Kinds};
 use crate::picture::Picture;
 
 /// The screen of a run, how its viewers are greeted, and what its host paints, in no more updates than this.
@@ -31,12 +31,11 @@ impl View {
     }
 }
 
-/// A viewer that follows what it is given: its format, the area that it asks for, and the encodings that have to come,
-/// by their places in `came` of a follower.
+/// A viewer that follows what it is given: its format, the area that it asks for, and the encodings that have to come.
 pub(crate) struct Sight {
     pub(crate) format: Format,
     pub(crate) area: Area,
-    pub(crate) kinds: &'static [usize],
+    pub(crate) kinds: Kinds,
 }
 
 impl Sight {
@@ -73,11 +72,11 @@ impl Sight {
 
     /// Whether each of the encodings came.
     pub(crate) fn has_come(&self, follower: &Follower) -> bool {
-        for kind in self.kinds.iter() {
-            if follower.came.get(*kind) != Some(&true) {
-                return false;
-            }
-        }
-        true
+        let came = follower.came;
+        let kinds = &self.kinds;
+        (came.raw || !kinds.raw)
+            && (came.copy || !kinds.copy)
+            && (came.rre || !kinds.rre)
+            && (came.hextile || !kinds.hextile)
     }
 }
