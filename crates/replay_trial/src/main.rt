@@ -2,8 +2,8 @@
 //!
 //! `scripts` has whole scripts, and `real_hosts` has scripts with what real hosts sent. `bad_lines` has lines that no
 //! script may have, and `first_lines` has lines that no script may begin with. `examples` has the scripts that
-//! `examples/README.md` tells of, and `growths` has those that are played while memory is refused. `steps` has worlds
-//! and sessions, step by step.
+//! `examples/README.md` tells of, and `growths` has those that are played while memory is refused, which a word in the
+//! program's arguments leaves out. `steps` has worlds and sessions, step by step.
 #![tactic(auto)]
 
 mod act;
@@ -23,13 +23,18 @@ use case::{Case, FIRST, LATER, Place};
 use examples::play_examples;
 use links::play_links;
 use memory::refuse_growths;
-use std::fs;
 use std::test::Fail;
+use std::{env, fs};
 use steps::play_steps;
 
+/// The word that leaves out what takes all memory of the process.
+const WITHOUT_MEMORY: &str = "--without-memory";
+
 fn main(rt: HostRuntime) -> Result<(), Fail> {
-    // This comes first, while nothing else has used the heap.
-    refuse_growths(&rt, "growths")?;
+    if !has_word(&rt, WITHOUT_MEMORY)? {
+        // This comes first, while nothing else has used the heap.
+        refuse_growths(&rt, "growths")?;
+    }
     play_examples(&rt)?;
     play_scripts(&rt, "scripts")?;
     play_scripts(&rt, "real_hosts")?;
@@ -37,6 +42,11 @@ fn main(rt: HostRuntime) -> Result<(), Fail> {
     refuse_lines(&rt, "first_lines", &FIRST)?;
     play_links(&rt)?;
     play_steps(&rt, "steps")
+}
+
+/// Whether this is one of the words after the program's name.
+fn has_word(rt: &HostRuntime, wanted: &str) -> Result<bool, Fail> {
+    Ok(env::args(rt)?.skip(1).any(|word| word.as_str() == wanted))
 }
 
 /// Plays the scripts of a file, names those that do something else than they are told, and says how many scripts there
