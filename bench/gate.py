@@ -54,16 +54,40 @@ def shares(processors):
     return sum(it[3] + it[4] for it in numbers), sum(it[7] for it in numbers), sum(map(sum, numbers))
 
 
+def parents():
+    """The parent of each process."""
+    found = {}
+    for process in pathlib.Path("/proc").glob("[0-9]*"):
+        try:
+            found[process.name] = (process / "stat").read_text().rpartition(")")[2].split()[1]
+        except OSError:
+            continue
+    return found
+
+
+def under(gate):
+    """The processes that the gate has begun, which run now."""
+    above = parents()
+
+    def is_under(process):
+        while process in above and process != str(gate):
+            process = above[process]
+        return process == str(gate)
+
+    return [pathlib.Path("/proc", it) for it in above if is_under(it)]
+
+
 class Samples:
-    """What each check has used: the CPU seconds and the memory of each process, by its crate and what it does."""
+    """What each check of the gate has used: the CPU seconds and the memory of each process, by its crate and what it
+    does."""
 
     def __init__(self):
         self.used = {}
         self.together = 0
 
-    def take(self):
+    def take(self, gate):
         held = 0
-        for process in pathlib.Path("/proc").glob("[0-9]*"):
+        for process in under(gate):
             try:
                 words = (process / "cmdline").read_bytes().decode().split("\0")
                 if "--crate-name" not in words:
@@ -111,7 +135,7 @@ def run(room, words, processors):
     watching = threading.Thread(target=watch)
     watching.start()
     while gate.poll() is None:
-        samples.take()
+        samples.take(gate.pid)
         time.sleep(2)
     wall, now = time.monotonic() - began, shares(processors)
     is_over.set()
