@@ -26,6 +26,7 @@ use Rattle.host_decoder.specs.declared.event.HostEvent.{HostEvent}
 use Rattle.reflect_core.specs.Plain.{IsPutRefusal}
 use Rattle.reflect_core.specs.Sequential.{Begins}
 use Rattle.host_reader.specs.Running.{ArePut, AtFault, CanRead, EndsAt, EndsBetween, EndsWith, IsInside, HasRead, Stops, outcome}
+use Rattle.host_reader.specs.Moment.{EndsSo, HasReadSoFar, HasStopped, IsReadSoFar, IsRunning, ReadsSoFar, RunsOrEnds}
 
 -- ---- what a message brings
 
@@ -238,13 +239,6 @@ put_stops w h screen decoder painter is_between stream left whole old now next f
 
 -- ---- the loop over pieces
 
--- Since the link stood as old and the publisher had the updates old, these bytes more were taken, and all was read and
--- put. The link was given nothing, and neither failed nor ended.
-pub record IsRunning (w h : ℕ) (screen : Canvas) (decoder : Decoding) (painter : Painting) (is_between : Bool) (link_old link_now : LinkState) (old now : List Update) : Type 0 where
-  pub stream : List ℕ
-  pub took : link_now ≡ record link_old { taken = link_old.taken ++ stream }
-  pub read : HasRead w h screen decoder painter is_between stream old now
-
 pub running_begins : (screen : Canvas) (decoder : Decoding) (painter : Painting) (link : LinkState) (old : List Update) → Decodes decoder painter screen (host_message decoder.width decoder.height)
     → IsRunning decoder.width decoder.height screen decoder painter true link link old old
 running_begins screen decoder painter link old decodes =
@@ -359,25 +353,12 @@ running_ends_inside w h screen decoder painter link_old link_now link_next old n
 
 -- ---- one answer of the link
 
--- What ends nothing and brings no bytes changes nothing.
-pub waits_on : (answer : Took) (is_between : Bool) (ends : Option (Result (Unit {0}) Fault)) (old new : LinkState) (into : List ℕ)
-    → ends ≡ outcome answer is_between → ends ≡ None → ((count : ℕ) → answer ≡ took.Bytes count → ⊥) → TakesAs answer old new into → new ≡ old
-waits_on (took.Bytes count) is_between ends old new into is none never takes = absurd (never count refl)
-waits_on took.Nothing is_between ends old new into is none never takes = takes
-waits_on took.End true ends old new into is none never takes = absurd cc
-waits_on took.End false ends old new into is none never takes = absurd cc
-waits_on took.Failed is_between ends old new into is none never takes = absurd cc
-
 -- Whatever it answers, a link that takes is given nothing.
 pub gives_nothing : (said : Took) (old new : LinkState) (into : List ℕ) → TakesAs said old new into → new.given ≡ old.given
 gives_nothing (took.Bytes count) old new into takes = ap (λ (l : LinkState). l.given) takes.2
 gives_nothing took.Nothing old new into takes = ap (λ (l : LinkState). l.given) takes
 gives_nothing took.End old new into takes = ap (λ (l : LinkState). l.given) takes
 gives_nothing took.Failed old new into takes = ap (λ (l : LinkState). l.given) takes
-
--- Nor was it so far.
-pub running_given : (w h : ℕ) (screen : Canvas) (decoder : Decoding) (painter : Painting) (is_between : Bool) (link_old link_now : LinkState) (old now : List Update) → IsRunning w h screen decoder painter is_between link_old link_now old now → link_now.given ≡ link_old.given
-running_given w h screen decoder painter is_between link_old link_now old now running = ap (λ (l : LinkState). l.given) running.took
 
 -- What is wanted is what can be read.
 pub running_reads : (w h : ℕ) (screen : Canvas) (decoder : Decoding) (painter : Painting) (is_between : Bool) (link_old link_now : LinkState) (old now : List Update) → IsRunning w h screen decoder painter is_between link_old link_now old now → CanRead decoder painter
@@ -393,27 +374,125 @@ no_room w h screen link old =
       stops = inr (inl (record { put = []; added = sym (append-nil old); first = []; begins = (updates w h [], refl); same = none_each w h screen; why = inl refl }));
     }
 
--- What the run then answers, and what was put.
-pub record EndsSo (w h : ℕ) (Began : Canvas → Type 0) (link_old link_new : LinkState) (old new : List Update) (answer : Result (Unit {0}) Fault) : Type 0 where
-  pub ok : OnOk answer ((screen : Canvas) → Began screen → EndsBetween w h screen link_old link_new old new)
-  pub err : IfErr answer (λ fault. (screen : Canvas) → Began screen → EndsWith w h screen fault link_old link_new old new)
+-- What the run then answers, apart for each answer.
+pub ends_ok : (w h : ℕ) (Began : Canvas → Type 0) (answer : Result (Unit {0}) Fault) (link_old link_new : LinkState) (old new : List Update) → ((screen : Canvas) → Began screen → EndsSo w h screen answer link_old link_new old new)
+    → OnOk answer ((screen : Canvas) → Began screen → EndsBetween w h screen link_old link_new old new)
+ends_ok w h Began (Ok done) link_old link_new old new ends = ends
+ends_ok w h Began (Err fault) link_old link_new old new ends = tt
 
--- The link's answer ends the run.
-pub run_ends : (w h : ℕ) (Began : Canvas → Type 0) (decoder : Decoding) (painter : Painting) (said : Took) (is_between : Bool) (ends : Option (Result (Unit {0}) Fault)) (answer : Result (Unit {0}) Fault)
-    (link_old link_now link_next : LinkState) (into : List ℕ) (old now : List Update)
-    → ends ≡ outcome said is_between → ends ≡ Some answer → ((screen : Canvas) → Began screen → IsRunning w h screen decoder painter is_between link_old link_now old now) → TakesAs said link_now link_next into
-    → EndsSo w h Began link_old link_next old now answer
-run_ends w h Began decoder painter (took.Bytes count) is_between ends answer link_old link_now link_next into old now is ended running takes = absurd cc
-run_ends w h Began decoder painter took.Nothing is_between ends answer link_old link_now link_next into old now is ended running takes = absurd cc
-run_ends w h Began decoder painter took.End true ends answer link_old link_now link_next into old now is ended running takes =
-    let same : Ok tt ≡ answer = cc in
-    subst (EndsSo w h Began link_old link_next old now) same
-    (record { ok = λ screen began. running_ends w h screen decoder painter link_old link_now link_next old now (running screen began) takes; err = tt })
-run_ends w h Began decoder painter took.End false ends answer link_old link_now link_next into old now is ended running takes =
-    let same : Err LinkEnded ≡ answer = cc in
-    subst (EndsSo w h Began link_old link_next old now) same
-    (record { ok = tt; err = λ screen began. running_ends_inside w h screen decoder painter link_old link_now link_next old now (running screen began) takes })
-run_ends w h Began decoder painter took.Failed is_between ends answer link_old link_now link_next into old now is ended running takes =
-    let same : Err LinkFailed ≡ answer = cc in
-    subst (EndsSo w h Began link_old link_next old now) same
-    (record { ok = tt; err = λ screen began. running_fails w h screen decoder painter is_between link_old link_now link_next old now (running screen began) takes })
+pub ends_err : (w h : ℕ) (Began : Canvas → Type 0) (answer : Result (Unit {0}) Fault) (link_old link_new : LinkState) (old new : List Update) → ((screen : Canvas) → Began screen → EndsSo w h screen answer link_old link_new old new)
+    → IfErr answer (λ fault. (screen : Canvas) → Began screen → EndsWith w h screen fault link_old link_new old new)
+ends_err w h Began (Ok done) link_old link_new old new ends = tt
+ends_err w h Began (Err fault) link_old link_new old new ends = ends
+
+-- ---- an answer of the link that brings no bytes
+
+-- The run goes on, or ends as it is told.
+pub run_ends : (w h : ℕ) (screen : Canvas) (decoder : Decoding) (painter : Painting) (said : Took) (is_between : Bool) (ends : Option (Result (Unit {0}) Fault)) (link_old link_now link_next : LinkState) (into : List ℕ) (old now : List Update)
+    → ends ≡ outcome said is_between → ((count : ℕ) → said ≡ took.Bytes count → ⊥) → TakesAs said link_now link_next into → IsRunning w h screen decoder painter is_between link_old link_now old now
+    → RunsOrEnds ends w h screen decoder painter is_between link_old link_next old now
+run_ends w h screen decoder painter said is_between ends link_old link_now link_next into old now is never takes running =
+    subst (λ (e : Option (Result (Unit {0}) Fault)). RunsOrEnds e w h screen decoder painter is_between link_old link_next old now) (sym is) (ends_so said is_between never takes running)
+  where
+    ends_so : (said : Took) (is_between : Bool) → ((count : ℕ) → said ≡ took.Bytes count → ⊥) → TakesAs said link_now link_next into → IsRunning w h screen decoder painter is_between link_old link_now old now
+        → RunsOrEnds (outcome said is_between) w h screen decoder painter is_between link_old link_next old now
+    ends_so (took.Bytes count) is_between never takes running = absurd (never count refl)
+    ends_so took.Nothing is_between never takes running = record { stream = running.stream; took = takes ∙ running.took; read = running.read }
+    ends_so took.End true never takes running = running_ends w h screen decoder painter link_old link_now link_next old now running takes
+    ends_so took.End false never takes running = running_ends_inside w h screen decoder painter link_old link_now link_next old now running takes
+    ends_so took.Failed is_between never takes running = running_fails w h screen decoder painter is_between link_old link_now link_next old now running takes
+
+-- It goes on.
+pub runs_on : (ends : Option (Result (Unit {0}) Fault)) (w h : ℕ) (screen : Canvas) (decoder : Decoding) (painter : Painting) (is_between : Bool) (link_old link_new : LinkState) (old new : List Update) → ends ≡ None
+    → RunsOrEnds ends w h screen decoder painter is_between link_old link_new old new → IsRunning w h screen decoder painter is_between link_old link_new old new
+runs_on None w h screen decoder painter is_between link_old link_new old new is runs = runs
+runs_on (Some answer) w h screen decoder painter is_between link_old link_new old new is runs = absurd cc
+
+-- Nor were bytes taken.
+takes_nothing : (said : Took) (old new : LinkState) (into : List ℕ) → ((count : ℕ) → said ≡ took.Bytes count → ⊥) → TakesAs said old new into → new.taken ≡ old.taken
+takes_nothing (took.Bytes count) old new into never takes = absurd (never count refl)
+takes_nothing took.Nothing old new into never takes = ap (λ (l : LinkState). l.taken) takes
+takes_nothing took.End old new into never takes = ap (λ (l : LinkState). l.taken) takes
+takes_nothing took.Failed old new into never takes = ap (λ (l : LinkState). l.taken) takes
+
+-- ---- at every moment
+
+-- Nothing was taken yet.
+pub far_begins : (screen : Canvas) (decoder : Decoding) (painter : Painting) (link : LinkState) (old : List Update) → Decodes decoder painter screen (host_message decoder.width decoder.height)
+    → HasReadSoFar decoder.width decoder.height screen decoder painter true link link old old
+far_begins screen decoder painter link old decodes =
+    record {
+      stream = [];
+      taken = sym (append-nil link.taken);
+      read = record { reads = decodes; wants = refl; ends = refl; put = record { put = []; added = sym (append-nil old); same = none_each decoder.width decoder.height screen } };
+    }
+
+pub far_begins_at : (screen : Canvas) (decoder d : Decoding) (painter p : Painting) (link l : LinkState) (old us : List Update) → l ≡ link → d ≡ decoder → p ≡ painter → us ≡ old → Decodes d p screen (host_message d.width d.height)
+    → HasReadSoFar d.width d.height screen decoder painter true l link us old
+far_begins_at screen decoder d painter p link l old us el ed ep eu decodes =
+    subst (λ (v : List Update). HasReadSoFar d.width d.height screen decoder painter true l link us v) eu
+    (subst (λ (m : LinkState). HasReadSoFar d.width d.height screen decoder painter true l m us us) el
+    (subst (λ (q : Painting). HasReadSoFar d.width d.height screen decoder q true l l us us) ep
+    (subst (λ (e : Decoding). HasReadSoFar d.width d.height screen e p true l l us us) ed (far_begins screen d p l us decodes))))
+
+pub far_waits : (w h : ℕ) (screen : Canvas) (decoder : Decoding) (painter : Painting) (said : Took) (is_between : Bool) (link_old link_now link_next : LinkState) (into : List ℕ) (old now : List Update)
+    → ((count : ℕ) → said ≡ took.Bytes count → ⊥) → TakesAs said link_now link_next into → HasReadSoFar w h screen decoder painter is_between link_old link_now old now → HasReadSoFar w h screen decoder painter is_between link_old link_next old now
+far_waits w h screen decoder painter said is_between link_old link_now link_next into old now never takes far = record { stream = far.stream; taken = takes_nothing said link_now link_next into never takes ∙ far.taken; read = far.read }
+
+-- A piece more was taken.
+far_more : (old now next : LinkState) (stream piece : List ℕ) → now.taken ≡ old.taken ++ stream → next ≡ record now { taken = now.taken ++ piece } → next.taken ≡ old.taken ++ (stream ++ piece)
+far_more old now next stream piece first took = ap (λ (l : LinkState). l.taken) took ∙ (ap (λ (bs : List ℕ). bs ++ piece) first ∙ append_assoc old.taken stream piece)
+
+-- And read to its end.
+pub far_goes_on : (w h : ℕ) (screen : Canvas) (decoder new : Decoding) (painter other : Painting) (is_between goes_between : Bool) (link_old link_now link_next : LinkState) (piece : List ℕ) (old now next : List Update)
+    → decoder.width ≡ w → decoder.height ≡ h → HasReadSoFar w h screen decoder painter is_between link_old link_now old now → link_next ≡ record link_now { taken = link_now.taken ++ piece }
+    → ((stream : List ℕ) → (since : List Update) → HasRead decoder.width decoder.height screen decoder painter is_between stream since now → HasRead decoder.width decoder.height screen new other goes_between (stream ++ piece) since next)
+    → HasReadSoFar w h screen new other goes_between link_old link_next old next
+far_goes_on w h screen decoder new painter other is_between goes_between link_old link_now link_next piece old now next wide high far took puts =
+    let read = subst (λ a. HasRead a decoder.height screen decoder painter is_between far.stream old now) (sym wide) (subst (λ b. HasRead w b screen decoder painter is_between far.stream old now) (sym high) far.read) in
+    let more = puts far.stream old read in
+    record {
+      stream = far.stream ++ piece;
+      taken = far_more link_old link_now link_next far.stream piece far.taken took;
+      read = subst (λ a. HasRead a h screen new other goes_between (far.stream ++ piece) old next) wide (subst (λ b. HasRead decoder.width b screen new other goes_between (far.stream ++ piece) old next) high more);
+    }
+
+-- Or it wasn't.
+pub far_stops : (w h : ℕ) (screen : Canvas) (decoder : Decoding) (painter : Painting) (is_between : Bool) (link_old link_now link_next : LinkState) (piece : List ℕ) (old now next : List Update) (fault : Fault)
+    → decoder.width ≡ w → decoder.height ≡ h → HasReadSoFar w h screen decoder painter is_between link_old link_now old now → link_next ≡ record link_now { taken = link_now.taken ++ piece }
+    → ((stream : List ℕ) → (since : List Update) → HasRead decoder.width decoder.height screen decoder painter is_between stream since now → Stops decoder.width decoder.height screen fault (stream ++ piece) since next)
+    → HasStopped w h screen link_old link_next old next
+far_stops w h screen decoder painter is_between link_old link_now link_next piece old now next fault wide high far took stops =
+    let read = subst (λ a. HasRead a decoder.height screen decoder painter is_between far.stream old now) (sym wide) (subst (λ b. HasRead w b screen decoder painter is_between far.stream old now) (sym high) far.read) in
+    let stopped = stops far.stream old read in
+    record {
+      stream = far.stream ++ piece;
+      taken = far_more link_old link_now link_next far.stream piece far.taken took;
+      fault = fault;
+      stops = subst (λ a. Stops a h screen fault (far.stream ++ piece) old next) wide (subst (λ b. Stops decoder.width b screen fault (far.stream ++ piece) old next) high stopped);
+    }
+
+-- It isn't over.
+pub far_on : (is : Bool) (w h : ℕ) (screen : Canvas) (decoder : Decoding) (painter : Painting) (is_between : Bool) (link_old link_new : LinkState) (old new : List Update) → is ≡ false → IsReadSoFar is w h screen decoder painter is_between link_old link_new old new
+    → HasReadSoFar w h screen decoder painter is_between link_old link_new old new
+far_on true w h screen decoder painter is_between link_old link_new old new e far = absurd cc
+far_on false w h screen decoder painter is_between link_old link_new old new e far = far
+
+-- What a reading keeps is more than what it promises.
+pub far_promised : (is : Bool) (w h : ℕ) (screen : Canvas) (decoder : Decoding) (painter : Painting) (is_between : Bool) (link_old link_new : LinkState) (old new : List Update) → IsReadSoFar is w h screen decoder painter is_between link_old link_new old new
+    → ReadsSoFar w h screen link_old link_new old new
+far_promised true w h screen decoder painter is_between link_old link_new old new far = record { stream = far.stream; taken = far.taken; put = inr (far.fault, far.stops) }
+far_promised false w h screen decoder painter is_between link_old link_new old new far = record { stream = far.stream; taken = far.taken; put = inl far.read.put }
+
+-- A run over what the reading holds is one over what it was lent.
+abbrev pub EndsFor : Result (Unit {0}) Fault → Decoding → Painting → (link_old link_new : LinkState) → (old new : List Update) → Type 0
+EndsFor answer d p l m u v = (screen : Canvas) → Decodes d p screen (host_message d.width d.height) → EndsSo d.width d.height screen answer l m u v
+
+pub ends_at : (answer : Result (Unit {0}) Fault) (d0 d : Decoding) (p0 p : Painting) (l0 l m0 m : LinkState) (u0 u v0 v : List Update) → d ≡ d0 → p ≡ p0 → l ≡ l0 → m ≡ m0 → u ≡ u0 → v ≡ v0 → EndsFor answer d p l m u v → EndsFor answer d0 p0 l0 m0 u0 v0
+ends_at answer d0 d p0 p l0 l m0 m u0 u v0 v ed ep el em eu ev ends =
+    subst (λ (x : Decoding). EndsFor answer x p0 l0 m0 u0 v0) ed
+    (subst (λ (x : Painting). EndsFor answer d x l0 m0 u0 v0) ep
+    (subst (λ (x : LinkState). EndsFor answer d p x m0 u0 v0) el
+    (subst (λ (x : LinkState). EndsFor answer d p l x u0 v0) em
+    (subst (λ (x : List Update). EndsFor answer d p l m x v0) eu
+    (subst (λ (x : List Update). EndsFor answer d p l m u x) ev ends)))))

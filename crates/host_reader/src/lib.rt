@@ -5,6 +5,9 @@
 #![tactic(auto)]
 
 mod events;
+mod hear;
+mod reading;
 mod run;
 
-pub use run::run_host;
+pub use reading::{HostBeginning, Reading};
+pub use run::{read_on, run_host};

@@ -1,14 +1,15 @@
 //! The host's side of the reflector.
 
-ghost use Rattle.std.specs.Prelude.{◌≡◌, IfErr, OnOk};
+ghost use Rattle.std.specs.Prelude.{◌≡◌, Bool, true, false, IfErr, OnOk};
 ghost use Rattle.host_decoder.specs.Decoder.{Decodes, IsFor, host_message};
 ghost use Rattle.raster.specs.Screen.{Canvas};
-ghost use Rattle.host_reader.specs.Running.{EndsBetween, EndsWith, outcome};
+ghost use Rattle.host_reader.specs.Moment.{EndsSo};
+ghost use Rattle.host_reader.specs.Running.{EndsBetween, EndsWith};
 
-use crate::events::put_piece;
+use crate::reading::{HostBeginning, Reading};
 use fault::Fault;
 use host_decoder::HostDecoder;
-use link::{Link, Took};
+use link::Link;
 use painter::Painter;
 use reflect_core::Puts;
 use std::alloc::Global;
@@ -17,17 +18,28 @@ use std::sync::Wait;
 /// How many bytes are taken from the link at a time, at most.
 const PIECE: usize = 65536;
 
-/// What the run answers where this answer of the link ends it, and `None` where the run goes on.
-fn outcome(took: Took, is_between: bool) -> Option<Result<(), Fault>>
-    ensures { result ≡ outcome took is_between }
+/// Has the reading take the host's bytes, piece by piece, until the link ends or a fault comes. It is lent the reading
+/// and nothing else that matters, so all that it can do is to call the step.
+pub fn read_on<L: Link, P: Puts, R: Wait>(
+    rt: &R,
+    reading: &mut Reading<'_, L, P>,
+) -> Result<(), Fault>
+    requires begins { (screen : Canvas) × Decodes reading.old.decoder.now reading.old.painter.now screen (host_message reading.old.decoder.now.width reading.old.decoder.now.height) }
+    requires on { (reading.old.is_between ≡ true) × (reading.old.is_over ≡ false) }
+    ensures reads { (screen : Canvas) → Decodes reading.old.decoder.now reading.old.painter.now screen (host_message reading.old.decoder.now.width reading.old.decoder.now.height) → EndsSo reading.old.decoder.now.width reading.old.decoder.now.height screen result (L.state reading.old.link.now) (L.state reading.new.link.now) (P.updates reading.old.publisher.now) (P.updates reading.new.publisher.now) }
+    ensures given { (L.state reading.new.link.now).given ≡ (L.state reading.old.link.now).given }
+    ensures decoder { (reading.new.decoder.now.width ≡ reading.old.decoder.now.width) × (reading.new.decoder.now.height ≡ reading.old.decoder.now.height) }
+    ensures painter { IsFor reading.new.decoder.now reading.new.painter.now }
+    ensures publisher { (P.width reading.new.publisher.now ≡ P.width reading.old.publisher.now) × (P.height reading.new.publisher.now ≡ P.height reading.old.publisher.now) }
+    ensures same { (reading.new.link.ghost_name ≡ reading.old.link.ghost_name) × (reading.new.decoder.ghost_name ≡ reading.old.decoder.ghost_name) × (reading.new.painter.ghost_name ≡ reading.old.painter.ghost_name) × (reading.new.publisher.ghost_name ≡ reading.old.publisher.ghost_name) }
+    ensures first { reading.new.first ≡ reading.old.first }
 {
-    match took {
-        Took::Bytes(_) => None,
-        Took::Nothing => None,
-        Took::End if is_between => Some(Ok(())),
-        Took::End => Some(Err(Fault::LinkEnded)),
-        Took::Failed => Some(Err(Fault::LinkFailed)),
+    for _ in rt.forever() {
+        if let Some(answer) = reading.hear() {
+            return answer;
+        }
     }
+    unreachable!()
 }
 
 /// Takes the host's bytes from a link that has done its handshake, and puts the update of each whole message, in order,
@@ -58,16 +70,14 @@ pub fn run_host<L: Link, P: Puts, R: Wait>(
     ensures err { IfErr result (λ fault. (screen : Canvas) → Decodes decoder.old painter.old screen (host_message decoder.old.width decoder.old.height) → EndsWith decoder.old.width decoder.old.height screen fault (L.state link.old) (L.state link.new) (P.updates publisher.old) (P.updates publisher.new)) }
 {
     let mut buffer = vec![in alloc; 0u8; PIECE]?;
-    let mut is_between = true;
-    for _ in rt.forever() {
-        let took = link.take(buffer.as_mut_slice());
-        if let Some(answer) = outcome(took, is_between) {
-            return answer;
-        }
-        if let Took::Bytes(count) = took {
-            let (piece, _) = buffer.as_slice().split_at(count);
-            is_between = put_piece(decoder, painter, publisher, piece, is_between)?;
-        }
-    }
-    unreachable!()
+    let first = HostBeginning::of(link, decoder, painter, publisher);
+    let mut reading = Reading::new(
+        &first,
+        link,
+        decoder,
+        painter,
+        publisher,
+        buffer.as_mut_slice(),
+    );
+    read_on(rt, &mut reading)
 }

@@ -15,9 +15,14 @@ use Rattle.host_reader.specs.Running.{EndsBetween, EndsWith}
 
 -- A host's link was read over the opening screen of w by h, to the end that the answer tells. The updates of its
 -- messages were put, after the updates old.
-abbrev pub IsRead : ℕ → ℕ → Result (Unit {0}) Fault → (link_old link_new : LinkState) → (old new : List Update) → Type 0
-IsRead w h (Ok done) link_old link_new old new = EndsBetween w h opening link_old link_new old new
-IsRead w h (Err fault) link_old link_new old new = EndsWith w h opening fault link_old link_new old new
+abbrev pub IsReadOut : ℕ → ℕ → Result (Unit {0}) Fault → (link_old link_new : LinkState) → (old new : List Update) → Type 0
+IsReadOut w h (Ok done) link_old link_new old new = EndsBetween w h opening link_old link_new old new
+IsReadOut w h (Err fault) link_old link_new old new = EndsWith w h opening fault link_old link_new old new
+
+-- And the host was given nothing over that link.
+pub record IsRead (w h : ℕ) (answer : Result (Unit {0}) Fault) (link_old link_new : LinkState) (old new : List Update) : Type 0 where
+  pub out : IsReadOut w h answer link_old link_new old new
+  pub given : link_new.given ≡ link_old.given
 
 -- One update was put, which comes to the same as a switch, whatever was shown before.
 pub record IsSwitched (w h : ℕ) (old new : List Update) : Type 0 where

@@ -1,19 +1,24 @@
 //! Hands hosts to the thread that tells them.
 
+ghost use Rattle.std.specs.Prelude.{◌≡◌};
+ghost use Rattle.run_traits.specs.Unused.{unused};
+
+use link::Link;
 use run_traits::Alarm;
 use std::alloc::Global;
 use std::sync::atomic::{AtomicU64, Ordering};
 use std::sync::{Arc, Condvar, Mutex, Wait};
 
-/// The end of a connection on which a host is told, and the number of that host.
+/// The end of a connection on which a host is told, over which nothing was given yet, and the number of that host.
 #[derive(Drop)]
-pub struct NumberedLink<L: Drop> {
+pub struct NumberedLink<L: Link> {
     pub link: L,
     pub number: u64,
+    pub ghost fresh: { L.state link ≡ unused },
 }
 
 #[derive(Drop)]
-struct Post<L: Drop> {
+struct Post<L: Link> {
     // The host that is told next. A host that nobody took is dropped where another comes.
     next: Option<NumberedLink<L>>,
     is_over: bool,
@@ -22,7 +27,7 @@ struct Post<L: Drop> {
 /// Hands each host from the thread that reads it to the one that tells it. Hosts are numbered by how many were left
 /// before them.
 #[derive(Drop)]
-pub struct Handover<L: Drop, W: Alarm + Drop> {
+pub struct Handover<L: Link, W: Alarm + Drop> {
     post: Mutex<Post<L>>,
     came: Condvar,
     left: AtomicU64,
@@ -30,9 +35,11 @@ pub struct Handover<L: Drop, W: Alarm + Drop> {
     alarm: Arc<W, Global>,
 }
 
-impl<L: Drop, W: Alarm + Drop> Handover<L, W> {
+impl<L: Link, W: Alarm + Drop> Handover<L, W> {
     /// A handover that begins with the first host, over this link.
-    pub fn new(link: L, alarm: Arc<W, Global>) -> Handover<L, W> {
+    pub fn new(link: L, alarm: Arc<W, Global>) -> Handover<L, W>
+        requires { L.state link ≡ unused }
+    {
         let next = Some(NumberedLink { link, number: 0 });
         Handover {
             post: Mutex::new(Post {
@@ -46,7 +53,9 @@ impl<L: Drop, W: Alarm + Drop> Handover<L, W> {
     }
 
     /// From now on the host at the other end of this link is told.
-    pub(crate) fn give<R: Wait>(&self, rt: &R, link: L) {
+    pub(crate) fn give<R: Wait>(&self, rt: &R, link: L)
+        requires { L.state link ≡ unused }
+    {
         let number = self.left.load(Ordering::SeqCst);
         let mut guard = self.post.lock(rt);
         guard.next = Some(NumberedLink { link, number });

@@ -8,7 +8,8 @@ ghost use Rattle.raster.specs.Switch.{switch};
 ghost use Rattle.host_decoder.specs.Decoder.{Decodes, IsFor, host_message};
 ghost use Rattle.fault.specs.declared.kinds.Fault.TheVariants.{Memory};
 ghost use Rattle.link.specs.Links.{LinkState};
-ghost use Rattle.host_turns.specs.Running.{HasTurn, IsLinkOf, IsRead, IsMissed, IsSwitched, IsUnfit, IsWant, JoinsAt};
+ghost use Rattle.run_traits.specs.Unused.{unused};
+ghost use Rattle.host_turns.specs.Running.{HasTurn, IsLinkOf, IsRead, IsReadOut, IsMissed, IsSwitched, IsUnfit, IsWant, JoinsAt};
 
 use crate::handover::Handover;
 use crate::supply::Hosts;
@@ -44,7 +45,8 @@ fn read<L: Link, P: Puts, R: Wait>(
     requires pair { IsFor screen.decoder screen.painter }
     requires publisher { (P.width publisher.old ≡ screen.decoder.width) × (P.height publisher.old ≡ screen.decoder.height) }
     ensures publisher { (P.width publisher.new ≡ P.width publisher.old) × (P.height publisher.new ≡ P.height publisher.old) }
-    ensures read { IsRead screen.decoder.width screen.decoder.height result (L.state link.old) (L.state link.new) (P.updates publisher.old) (P.updates publisher.new) }
+    ensures read { IsReadOut screen.decoder.width screen.decoder.height result (L.state link.old) (L.state link.new) (P.updates publisher.old) (P.updates publisher.new) }
+    ensures given { (L.state link.new).given ≡ (L.state link.old).given }
 {
     let HostScreen {
         mut decoder,
@@ -167,6 +169,7 @@ pub(crate) fn take_turn<L: Link, H: Hosts<L>, P: Puts, W: Alarm + Drop, R: Wait>
     handover: &Handover<L, W>,
 ) -> Result<(), Fault>
     requires came { H.came ends.0 }
+    requires fresh { L.state ends.1 ≡ unused }
     requires publisher { (P.width publisher.old ≡ run_screen.now.width) × (P.height publisher.old ≡ run_screen.now.height) }
     ensures publisher { (P.width publisher.new ≡ P.width publisher.old) × (P.height publisher.new ≡ P.height publisher.old) }
     ensures again { H.again hosts.new ≡ H.again hosts.old }

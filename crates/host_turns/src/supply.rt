@@ -1,6 +1,7 @@
 //! Where further hosts come from.
 
 ghost use Rattle.std.specs.Prelude.{◌≡◌, None, IfSome, IsNone};
+ghost use Rattle.run_traits.specs.Unused.{unused};
 
 use fault::Fault;
 use link::Link;
@@ -21,11 +22,12 @@ pub trait Hosts<L: Link>: Drop {
     /// this. Where the first host has its turn again there is always a next host.
     ghost again: { Self → Option ℕ };
 
-    /// The connection to the next host, the end to be read and the end to be written, or `None` where no host is left.
-    /// It may wait without an end. The host is joined over the end to be read, so that link has to limit the time for
+    /// The connection to the next host, the end to be read and the end to be written, which was given nothing yet, or
+    /// `None` where no host is left. It may wait without an end. The host is joined over the end to be read, so that link has to limit the time for
     /// the handshake.
     fn next(&mut self) -> Option<(L, L)>
         ensures came { IfSome result (λ ends. came ends.0) }
+        ensures fresh { IfSome result (λ ends. L.state ends.1 ≡ unused) }
         ensures out { IsNone result → are_out self.new }
         ensures never { IsNone result → again self.old ≡ None }
         ensures again { again self.new ≡ again self.old };

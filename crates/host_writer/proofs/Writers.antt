@@ -1,9 +1,10 @@
 -- What a writer says, step by step. `run_writer` owes that the host is told each input once.
-use Rattle.std.proofs.Common.{◌≡◌, ℕ, ◌<◌, ◌≤◌, Bool, true, false, List, [], ◌∷◌, ◌++◌, length, Ok, length-append, inl, inr, refl, sym, ap, subst, ◌∙◌, arith, append_assoc, append-nil, cond, map}
-use Rattle.std.specs.Prelude.{nat_lt}
-use Rattle.std.proofs.lemmas.Bool.Decides.{nat_tests}
-use Rattle.std.proofs.lemmas.List.{map-append}
-use Rattle.link.specs.Links.{LinkState, HasRisen}
+use Rattle.std.proofs.Common.{◌≡◌, ℕ, ◌+◌, ◌<◌, ◌≤◌, ◌⊎◌, min, max, Bool, true, false, List, [], ◌∷◌, ◌++◌, length, take, drop, Result, Ok, length-drop, inl, inr, refl, sym, ap, subst, ◌∙◌, arith, append_assoc, append-nil, cond, map}
+use Rattle.std.specs.Prelude.{◌^◌, nat_lt}
+use Rattle.std.proofs.lemmas.Bool.{cases_lt}
+use Rattle.std.proofs.lemmas.List.{map-append, take-take, drop-drop, take-append-drop}
+use Rattle.fault.specs.declared.kinds.Fault.{Fault}
+use Rattle.link.specs.Links.{LinkState, HasRisen, with_end, with_failure}
 use Rattle.roles.specs.Held.{input_in}
 use Rattle.roles.specs.Spelling.{input_bytes}
 use Rattle.roles.specs.Strokes.{Taken, sent_by, unbroken, passes_after, StrokesKept, StrokesStand, IsPickedFrom}
@@ -12,113 +13,271 @@ use Rattle.roles.proofs.UnbrokenLaws.{picked}
 use Rattle.input_relay.specs.declared.queue.Message.{Message}
 use Rattle.link.specs.declared.give.Halt.{Halt}
 use Rattle.link.specs.declared.give.Halt.TheVariants as halt
-use Rattle.link.specs.Halting.{HaltsAt, IsWhy}
-use Rattle.host_writer.specs.Writing.{IsJudged, TellsInput, Tells, HaltsTelling, Did, Took, Saw, Looked, Writes, EndsWriting, answer_at, whole_request, taken_in, taken_from, all_taken, is_told, told, risen_to, says, said, last_said}
+use Rattle.link.specs.Halting.{IsWhy}
+use Rattle.host_writer.specs.Saying.{Speech, begun, left_of}
+use Rattle.host_writer.specs.Moment.{Gives, IsOpen, IsTelling, LooksOnce, StopsSaying, Takes, TakesInput, WritesSoFar}
+use Rattle.host_writer.specs.Writing.{IsJudged, Did, Took, Saw, Looked, Writes, EndsWriting, answer_at, whole_request, taken_in, taken_from, all_taken, is_told, told, risen_to, says, said}
 
--- What a link is once these bytes were given.
-abbrev pub with_given : LinkState → List ℕ → LinkState
-with_given link bytes = record link { given = link.given ++ bytes }
+-- ---- giving
 
-pub given_none : (link : LinkState) → link ≡ with_given link []
-given_none link = ap (λ t. record link { given = t }) (sym (append-nil link.given))
+-- No byte was given.
+pub gives_nothing : (speech : Speech) (old new : LinkState) → new.given ≡ old.given → new.taken ≡ old.taken → Gives speech speech old new
+gives_nothing speech old new e f = record { bytes = []; left = refl; said = refl; given = e ∙ sym (append-nil old.given); taken = f }
 
--- ---- giving in two parts
-
-longer_why : (was_set : Type 0) (h : Halt) (old new : LinkState) (left xs ys : List ℕ) → IsWhy was_set h old new left xs → IsWhy was_set h old new (left ++ ys) (xs ++ ys)
-longer_why was_set halt.Stopped old new left xs ys w = (w.0, w.1, w.2, omega (arith, w.3, length-append left ys, length-append xs ys))
-longer_why was_set halt.Before old new left xs ys w = (w.0, w.1, ap (λ t. t ++ ys) w.2, omega (arith, w.3, length-append xs ys))
-longer_why was_set halt.Inside old new left xs ys w = (w.0, omega (arith, w.1, length-append left ys), omega (arith, w.2, length-append left ys, length-append xs ys))
-longer_why was_set halt.Failed old new left xs ys w = (w.0, omega (arith, w.1, length-append left ys), omega (arith, w.2, length-append left ys, length-append xs ys))
-
--- It leaves off in the first part.
-pub halts_first : {was_set : Type 0} (h : Halt) (old new : LinkState) (xs ys : List ℕ) → HaltsAt was_set h old new xs → HaltsAt was_set h old new (xs ++ ys)
-halts_first h old new xs ys k =
+-- These were.
+pub gives_bytes : (speech next : Speech) (old new : LinkState) (front : List ℕ) (count : ℕ) → front ≡ take (length front) (left_of speech) → count ≤ length front → next ≡ record speech { given = speech.given + count }
+    → new ≡ record old { given = old.given ++ take count front } → Gives speech next old new
+gives_bytes speech next old new front count is le n e =
+    let left = left_of speech in
+    let first : take count front ≡ take count left = ap (take count) is ∙ take-take count (length front) left le in
+    let rest : left_of next ≡ drop count left = ap left_of n ∙ sym (drop-drop count speech.given speech.said) in
     record {
-      left = k.left ++ ys;
-      given = sym (append_assoc new.given k.left ys) ∙ (ap (λ t. t ++ ys) k.given ∙ append_assoc old.given xs ys);
-      taken = k.taken;
-      why = longer_why _ h old new k.left xs ys k.why;
+      bytes = take count front;
+      left = sym (ap (λ xs. xs ++ left_of next) first ∙ (ap (λ xs. take count left ++ xs) rest ∙ take-append-drop count left));
+      said = ap (λ (s : Speech). s.said) n;
+      given = ap (λ (l : LinkState). l.given) e;
+      taken = ap (λ (l : LinkState). l.taken) e;
     }
 
--- Where that is in the second part it is never before the first byte.
-abbrev pub later : Halt → Halt
-later halt.Stopped = halt.Stopped
-later halt.Before = halt.Inside
-later halt.Inside = halt.Inside
-later halt.Failed = halt.Failed
-
-later_why : (was_set : Type 0) (h : Halt) (old mid new : LinkState) (left xs ys : List ℕ) → mid ≡ with_given old xs → 0 < length xs → IsWhy was_set h mid new left ys → IsWhy was_set (later h) old new left (xs ++ ys)
-later_why was_set halt.Stopped old mid new left xs ys e some w = (w.0, w.1 ∙ ap (λ (l : LinkState). l.failed) e, w.2 ∙ ap (λ (l : LinkState). l.ended) e, omega (arith, w.3, length-append xs ys))
-later_why was_set halt.Before old mid new left xs ys e some w =
-    (subst (λ n. HasRisen n new.ended) (ap (λ (l : LinkState). l.ended) e) w.0, omega (arith, w.3, ap length w.2), omega (arith, some, ap length w.2, length-append xs ys))
-later_why was_set halt.Inside old mid new left xs ys e some w =
-    (subst (λ n. HasRisen n new.ended) (ap (λ (l : LinkState). l.ended) e) w.0, w.1, omega (arith, w.2, length-append xs ys))
-later_why was_set halt.Failed old mid new left xs ys e some w =
-    (subst (λ n. HasRisen n new.failed) (ap (λ (l : LinkState). l.failed) e) w.0, w.1, omega (arith, w.2, length-append xs ys))
-
-pub halts_second : {was_set : Type 0} (h : Halt) (old mid new : LinkState) (xs ys : List ℕ) → mid ≡ with_given old xs → 0 < length xs → HaltsAt was_set h mid new ys → HaltsAt was_set (later h) old new (xs ++ ys)
-halts_second h old mid new xs ys e some k =
+-- Some were given, and then more.
+pub gives_more : (one two three : Speech) (a b c : LinkState) → Gives one two a b → Gives two three b c → Gives one three a c
+gives_more one two three a b c x y =
     record {
-      left = k.left;
-      given = k.given ∙ (ap (λ (l : LinkState). l.given ++ ys) e ∙ append_assoc old.given xs ys);
-      taken = k.taken ∙ ap (λ (l : LinkState). l.taken) e;
-      why = later_why _ h old mid new k.left xs ys e some k.why;
+      bytes = x.bytes ++ y.bytes;
+      left = x.left ∙ (ap (λ xs. x.bytes ++ xs) y.left ∙ sym (append_assoc x.bytes y.bytes (left_of three)));
+      said = y.said ∙ x.said;
+      given = y.given ∙ (ap (λ xs. xs ++ y.bytes) x.given ∙ append_assoc a.given x.bytes y.bytes);
+      taken = y.taken ∙ x.taken;
     }
 
--- ---- the rounds
+pub open_more : (a b c : LinkState) → IsOpen a b → IsOpen b c → IsOpen a c
+open_more a b c x y = (y.0 ∙ x.0, y.1 ∙ x.1)
+
+pub open_at : (old now new : LinkState) → new ≡ now → IsOpen old now → IsOpen old new
+open_at old now new e x = (ap (λ (l : LinkState). l.failed) e ∙ x.0, ap (λ (l : LinkState). l.ended) e ∙ x.1)
+
+-- ---- where giving stops
+
+rises_by : (limit old new : ℕ) → new ≡ min limit (old + 1) → (old < limit) ⊎ (limit ≤ old) → (old < new) ⊎ (new ≡ limit)
+rises_by limit old new next (inl lt) = inl (omega (arith, next, lt))
+rises_by limit old new next (inr le) = inr (omega (arith, next, le))
+
+rises : (old new : ℕ) → new ≡ min (2 ^ 62) (old + 1) → HasRisen old new
+rises old new next = rises_by (2 ^ 62) old new next (cases_lt old (2 ^ 62))
+
+-- The link said that it ended, after a byte was given.
+pub ends_inside : (speech : Speech) (old new : LinkState) → new ≡ with_end old → 0 < speech.given → 0 < length (left_of speech) → StopsSaying ⊥ halt.Inside speech old new
+ends_inside speech old new e some left = (rises old.ended new.ended (ap (λ (l : LinkState). l.ended) e), left, omega (arith, some, left, length-drop speech.given speech.said))
+
+-- Or before that.
+pub ends_before : (speech : Speech) (old new : LinkState) → new ≡ with_end old → speech.given ≡ 0 → 0 < length (left_of speech) → StopsSaying ⊥ halt.Before speech old new
+ends_before speech old new e none left =
+    (rises old.ended new.ended (ap (λ (l : LinkState). l.ended) e), ap (λ (l : LinkState). l.failed) e, ap (λ n. drop n speech.said) none, omega (arith, left, length-drop speech.given speech.said))
+
+-- It failed.
+pub fails : (speech : Speech) (old new : LinkState) → new ≡ with_failure old → 0 < length (left_of speech) → StopsSaying ⊥ halt.Failed speech old new
+fails speech old new e left = (rises old.failed new.failed (ap (λ (l : LinkState). l.failed) e), left, omega (arith, length-drop speech.given speech.said))
+
+-- The flag was set.
+pub stops_by_flag : (was_set : Type 0) (speech : Speech) (old new : LinkState) → was_set → IsOpen old new → StopsSaying was_set halt.Stopped speech old new
+stops_by_flag was_set speech old new set is = (set, is.0, is.1, omega (arith, length-drop speech.given speech.said))
+
+-- Where a link stopped that was open before, it stopped since then.
+pub stops_since : (was_set : Type 0) (h : Halt) (speech : Speech) (old mid new : LinkState) → IsOpen old mid → StopsSaying ⊥ h speech mid new → StopsSaying was_set h speech old new
+stops_since was_set halt.Stopped speech old mid new is w = absurd w.0
+stops_since was_set halt.Before speech old mid new is w = (subst (λ n. HasRisen n new.ended) is.1 w.0, w.1 ∙ is.0, w.2, w.3)
+stops_since was_set halt.Inside speech old mid new is w = (subst (λ n. HasRisen n new.ended) is.1 w.0, w.1, w.2)
+stops_since was_set halt.Failed speech old mid new is w = (subst (λ n. HasRisen n new.failed) is.0 w.0, w.1, w.2)
+
+-- ---- the steps
 
 -- All that was taken, with one more.
 pub taken_more : (before : List Taken) (m : Message) (ds : List Did) → all_taken before (Took m ∷ ds) ≡ all_taken before ds ++ taken_from m ∷ []
 taken_more before m ds = ap (λ ts. before ++ ts) (map-append taken_from (taken_in ds) (m ∷ [])) ∙ sym (append_assoc before (map taken_from (taken_in ds)) (taken_from m ∷ []))
 
--- All that the writer said so far was given.
-pub record IsWriting {S : Type 0} (looks : S → ℕ → S → Type 0) (source_old source_new : S) (taken_old taken_new : List Message) (strokes_old strokes_new : StrokesKept) (w h asked : ℕ) (old new : LinkState) : Type 0 where
-  pub did : List Did
-  pub given : List ℕ
-  pub last : List ℕ
-  pub inputs : taken_new ≡ taken_old ++ taken_in did
-  pub strokes : (before : List Taken) → StrokesStand strokes_old before → StrokesStand strokes_new (all_taken before did)
-  pub looked : Looked looks source_old did source_new
-  pub state : new ≡ with_given old given
-  pub all : (before : List Taken) → StrokesStand strokes_old before → given ≡ said before w h did
-  pub lasts : (before : List Taken) → StrokesStand strokes_old before → last ≡ last_said before w h did
-  pub risen : asked ≡ risen_to did
-
-pub writing_begins : {S : Type 0} (looks : S → ℕ → S → Type 0) (source : S) (taken : List Message) (strokes : StrokesKept) (w h : ℕ) (link : LinkState) → IsWriting looks source source taken taken strokes strokes w h 0 link link
-writing_begins looks source taken strokes w h link =
+-- Nothing was done yet.
+pub telling_begins : {S : Type 0} (looks : S → ℕ → S → Type 0) (source : S) (taken : List Message) (strokes : StrokesKept) (w h : ℕ) (link : LinkState) → IsTelling looks source source taken taken strokes strokes w h 0 (begun []) link link
+telling_begins looks source taken strokes w h link =
     record {
       did = [];
-      given = [];
-      last = [];
+      all = [];
       inputs = sym (append-nil taken);
       strokes = λ before s. subst (λ ts. StrokesStand strokes ts) (sym (append-nil before)) s;
       looked = refl;
-      state = given_none link;
-      all = λ before s. refl;
-      lasts = λ before s. refl;
+      said = λ before s. (refl, refl);
       risen = refl;
+      given = refl;
+      taken = refl;
     }
 
--- The loops are to end.
-pub writing_ends : {S : Type 0} {was_set : Type 0} (looks : S → ℕ → S → Type 0) (a b : S) (t u : List Message) (p q : StrokesKept) (w h asked : ℕ) (old new : LinkState) → was_set → IsWriting looks a b t u p q w h asked old new → Writes looks was_set a b t u p q w h (Ok tt) old new
-writing_ends looks a b t u p q w h asked old new set k =
+pub telling_begins_at : {S : Type 0} (looks : S → ℕ → S → Type 0) (a b : S) (t u : List Message) (p q : StrokesKept) (w h : ℕ) (speech : Speech) (l m : LinkState) → a ≡ b → t ≡ u → p ≡ q → speech ≡ begun [] → l ≡ m → IsTelling looks a b t u p q w h 0 speech l m
+telling_begins_at looks a b t u p q w h speech l m ea et ep es el =
+    subst (λ x. IsTelling looks a x t u p q w h 0 speech l m) ea
+    (subst (λ x. IsTelling looks a a t x p q w h 0 speech l m) et
+    (subst (λ x. IsTelling looks a a t t p x w h 0 speech l m) ep
+    (subst (λ x. IsTelling looks a a t t p p w h 0 x l m) (sym es)
+    (subst (λ x. IsTelling looks a a t t p p w h 0 (begun []) l x) el (telling_begins looks a t p w h l)))))
+
+-- What is said of an input that passes or doesn't.
+judged : (p q : StrokesKept) (m : Message) (passed : Bool) → ((taken : List Taken) → StrokesStand p taken → passed ≡ passes_after (unbroken taken) (taken_from m)) → ((taken : List Taken) → StrokesStand p taken → StrokesStand q (taken ++ taken_from m ∷ []))
+    → IsJudged p q m (cond passed (input_bytes (input_in m.input)) [])
+judged p q m passed value stands = record { said = λ taken s. ap (λ c. cond c (input_bytes (input_in m.input)) []) (value taken s); stands = stands }
+
+pub takes_input : (t u : List Message) (p q : StrokesKept) (m : Message) (passed : Bool) (speech : Speech) → u ≡ t ++ m ∷ [] → ((taken : List Taken) → StrokesStand p taken → passed ≡ passes_after (unbroken taken) (taken_from m))
+    → ((taken : List Taken) → StrokesStand p taken → StrokesStand q (taken ++ taken_from m ∷ [])) → speech ≡ begun (cond passed (input_bytes (input_in m.input)) []) → TakesInput t u p q speech
+takes_input t u p q m passed speech took value stands begins =
+    record { message = m; bytes = cond passed (input_bytes (input_in m.input)) []; took = took; judged = judged p q m passed value stands; begins = begins }
+
+took_more : (t u v : List Message) (m : Message) (ds : List Did) → u ≡ t ++ taken_in ds → v ≡ u ++ m ∷ [] → v ≡ t ++ taken_in (Took m ∷ ds)
+took_more t u v m ds k e = e ∙ (ap (λ ms. ms ++ m ∷ []) k ∙ append_assoc t (taken_in ds) (m ∷ []))
+
+-- What it said, with what it says now.
+said_on : (now more all bytes : List ℕ) → all ≡ now → bytes ≡ more → all ++ bytes ≡ now ++ more
+said_on now more all bytes e f = ap (λ z. z ++ bytes) e ∙ ap (λ z. now ++ z) f
+
+-- All was given, and now this is to be said.
+given_on : (speech next : Speech) (old now : LinkState) (all bytes : List ℕ) → left_of speech ≡ [] → next ≡ begun bytes → now.given ++ left_of speech ≡ old.given ++ all → now.given ++ left_of next ≡ old.given ++ (all ++ bytes)
+given_on speech next old now all bytes idle begins given =
+    let whole : now.given ≡ old.given ++ all = sym (append-nil now.given) ∙ (ap (λ xs. now.given ++ xs) (sym idle) ∙ given) in
+    ap (λ xs. now.given ++ xs) (ap left_of begins) ∙ (ap (λ xs. xs ++ bytes) whole ∙ append_assoc old.given all bytes)
+
+-- An input was taken.
+telling_takes : {S : Type 0} (looks : S → ℕ → S → Type 0) (a b : S) (t u v : List Message) (p q r : StrokesKept) (w h asked : ℕ) (speech next : Speech) (old now : LinkState) → IsTelling looks a b t u p q w h asked speech old now
+    → left_of speech ≡ [] → TakesInput u v q r next → IsTelling looks a b t v p r w h asked next old now
+telling_takes looks a b t u v p q r w h asked speech next old now k idle e =
+    let says_it : (before : List Taken) → StrokesStand p before → e.bytes ≡ says before w h (Took e.message) k.did = λ before s. e.judged.said (all_taken before k.did) (k.strokes before s) in
+    record {
+      did = Took e.message ∷ k.did;
+      all = k.all ++ e.bytes;
+      inputs = took_more t u v e.message k.did k.inputs e.took;
+      strokes = λ before s. subst (λ ts. StrokesStand r ts) (sym (taken_more before e.message k.did)) (e.judged.stands (all_taken before k.did) (k.strokes before s));
+      looked = k.looked;
+      said = λ before s. (said_on (said before w h k.did) (says before w h (Took e.message) k.did) k.all e.bytes ((k.said before s).0) (says_it before s), ap (λ (x : Speech). x.said) e.begins ∙ says_it before s);
+      risen = k.risen;
+      given = given_on speech next old now k.all e.bytes idle e.begins k.given;
+      taken = k.taken;
+    }
+
+-- Or there was none.
+pub telling_took : {S : Type 0} (looks : S → ℕ → S → Type 0) (a b : S) (t u v : List Message) (p q r : StrokesKept) (w h asked : ℕ) (was_taken : Bool) (speech next : Speech) (old now : LinkState) → IsTelling looks a b t u p q w h asked speech old now
+    → left_of speech ≡ [] → Takes was_taken u v q r speech next → IsTelling looks a b t v p r w h asked next old now
+telling_took looks a b t u v p q r w h asked true speech next old now k idle e = telling_takes looks a b t u v p q r w h asked speech next old now k idle e
+telling_took looks a b t u v p q r w h asked false speech next old now k idle e =
     record {
       did = k.did;
-      all = k.given;
-      last = k.last;
-      left = [];
+      all = k.all;
+      inputs = e.0 ∙ k.inputs;
+      strokes = λ before s. subst (λ x. StrokesStand x (all_taken before k.did)) (sym e.1) (k.strokes before s);
+      looked = k.looked;
+      said = λ before s. ((k.said before s).0, ap (λ (x : Speech). x.said) e.2 ∙ (k.said before s).1);
+      risen = k.risen;
+      given = ap (λ (x : Speech). now.given ++ left_of x) e.2 ∙ k.given;
+      taken = k.taken;
+    }
+
+-- It looked.
+pub telling_looked : {S : Type 0} (looks : S → ℕ → S → Type 0) (a b c : S) (t u : List Message) (p q : StrokesKept) (w h asked risen : ℕ) (request : List ℕ) (speech next : Speech) (old now : LinkState) → IsTelling looks a b t u p q w h asked speech old now
+    → left_of speech ≡ [] → request ≡ whole_request w h → LooksOnce looks request b c asked risen next → IsTelling looks a c t u p q w h risen next old now
+telling_looked looks a b c t u p q w h asked risen request speech next old now k idle whole e =
+    let bytes : List ℕ = cond (nat_lt asked e.number) request [] in
+    let says_it : bytes ≡ cond (nat_lt (risen_to k.did) e.number) (whole_request w h) [] = ap (λ r. cond (nat_lt asked e.number) r []) whole ∙ ap (λ n. cond (nat_lt n e.number) (whole_request w h) []) k.risen in
+    record {
+      did = Saw e.number ∷ k.did;
+      all = k.all ++ bytes;
+      inputs = k.inputs;
+      strokes = k.strokes;
+      looked = (b, k.looked, e.looked);
+      said = λ before s. (said_on (said before w h k.did) (says before w h (Saw e.number) k.did) k.all bytes ((k.said before s).0) says_it, ap (λ (x : Speech). x.said) e.begins ∙ says_it);
+      risen = e.risen ∙ ap (λ n. max n e.number) k.risen;
+      given = given_on speech next old now k.all bytes idle e.begins k.given;
+      taken = k.taken;
+    }
+
+-- It gave.
+pub telling_gave : {S : Type 0} (looks : S → ℕ → S → Type 0) (a b : S) (t u : List Message) (p q : StrokesKept) (w h asked : ℕ) (speech next : Speech) (old now new : LinkState) → IsTelling looks a b t u p q w h asked speech old now → Gives speech next now new
+    → IsTelling looks a b t u p q w h asked next old new
+telling_gave looks a b t u p q w h asked speech next old now new k e =
+    record {
+      did = k.did;
+      all = k.all;
       inputs = k.inputs;
       strokes = k.strokes;
       looked = k.looked;
-      said = λ before s. (k.all before s, k.lasts before s);
-      given = append-nil new.given ∙ ap (λ (l : LinkState). l.given) k.state;
-      taken = ap (λ (l : LinkState). l.taken) k.state;
-      ends = inl (set, ap (λ (l : LinkState). l.failed) k.state, ap (λ (l : LinkState). l.ended) k.state, omega arith);
+      said = λ before s. ((k.said before s).0, e.said ∙ (k.said before s).1);
+      risen = k.risen;
+      given = ap (λ xs. xs ++ left_of next) e.given ∙ (append_assoc now.given e.bytes (left_of next) ∙ (ap (λ xs. now.given ++ xs) (sym e.left) ∙ k.given));
+      taken = e.taken ∙ k.taken;
     }
 
--- One thing more was done, and what it says was given.
-says_on : (old now new : LinkState) (before last : List ℕ) → now ≡ with_given old before → new ≡ with_given now last → new ≡ with_given old (before ++ last)
-says_on old now new before last e f = f ∙ (ap (λ l. with_given l last) e ∙ ap (λ t. record old { given = t }) (append_assoc old.given before last))
+-- What the other steps leave as it was.
+telling_at : {S : Type 0} (looks : S → ℕ → S → Type 0) (a b c : S) (t u v : List Message) (p q r : StrokesKept) (w h asked same : ℕ) (speech : Speech) (old now new : LinkState) → c ≡ b → v ≡ u → r ≡ q → same ≡ asked → new ≡ now
+    → IsTelling looks a b t u p q w h asked speech old now → IsTelling looks a c t v p r w h same speech old new
+telling_at looks a b c t u v p q r w h asked same speech old now new eb eu eq ea el k =
+    record {
+      did = k.did;
+      all = k.all;
+      inputs = eu ∙ k.inputs;
+      strokes = λ before s. subst (λ x. StrokesStand x (all_taken before k.did)) (sym eq) (k.strokes before s);
+      looked = subst (λ x. Looked looks a k.did x) (sym eb) k.looked;
+      said = k.said;
+      risen = ea ∙ k.risen;
+      given = ap (λ (l : LinkState). l.given ++ left_of speech) el ∙ k.given;
+      taken = ap (λ (l : LinkState). l.taken) el ∙ k.taken;
+    }
+
+-- An input was taken, or there was none, and bytes were given of what was left then.
+pub told_input : {S : Type 0} (looks : S → ℕ → S → Type 0) (a b c : S) (t u v x : List Message) (p q r s : StrokesKept) (w h asked same : ℕ) (was_taken : Bool) (speech mid next : Speech) (old now then_ new : LinkState) → IsTelling looks a b t u p q w h asked speech old now
+    → left_of speech ≡ [] → Takes was_taken u v q r speech mid → Gives mid next then_ new → then_ ≡ now → c ≡ b → x ≡ v → s ≡ r → same ≡ asked → IsTelling looks a c t x p s w h same next old new
+told_input looks a b c t u v x p q r s w h asked same was_taken speech mid next old now then_ new k idle takes gives el eb eu eq ea =
+    telling_gave looks a c t x p s w h same mid next old then_ new
+    (telling_at looks a b c t v x p r s w h asked same mid old now then_ eb eu eq ea el (telling_took looks a b t u v p q r w h asked was_taken speech mid old now k idle takes))
+    gives
+
+-- It looked, and bytes were given of what was left then.
+pub asked_once : {S : Type 0} (looks : S → ℕ → S → Type 0) (a b c d : S) (t u v : List Message) (p q r : StrokesKept) (w h asked risen same : ℕ) (request : List ℕ) (speech mid next : Speech) (old now then_ new : LinkState) → IsTelling looks a b t u p q w h asked speech old now
+    → left_of speech ≡ [] → request ≡ whole_request w h → LooksOnce looks request b c asked risen mid → Gives mid next then_ new → then_ ≡ now → d ≡ c → v ≡ u → r ≡ q → same ≡ risen → IsTelling looks a d t v p r w h same next old new
+asked_once looks a b c d t u v p q r w h asked risen same request speech mid next old now then_ new k idle whole looked gives el eb eu eq ea =
+    telling_gave looks a d t v p r w h same mid next old then_ new
+    (telling_at looks a c d t u v p q r w h risen same mid old now then_ eb eu eq ea el (telling_looked looks a b c t u p q w h asked risen request speech mid old now k idle whole looked))
+    gives
+
+-- What a telling keeps is more than what it promises.
+pub telling_promised : {S : Type 0} (looks : S → ℕ → S → Type 0) (a b : S) (t u : List Message) (p q : StrokesKept) (w h asked : ℕ) (speech : Speech) (old now : LinkState) → IsTelling looks a b t u p q w h asked speech old now
+    → WritesSoFar looks a b t u p q w h old now
+telling_promised looks a b t u p q w h asked speech old now k =
+    record {
+      did = k.did;
+      all = k.all;
+      last = speech.said;
+      left = left_of speech;
+      inputs = k.inputs;
+      strokes = k.strokes;
+      looked = k.looked;
+      said = k.said;
+      given = k.given;
+      within = omega (arith, length-drop speech.given speech.said);
+      taken = k.taken;
+    }
+
+-- ---- how it ends
+
+-- The loop is to end.
+pub telling_ends : {S : Type 0} {was_set : Type 0} (looks : S → ℕ → S → Type 0) (a b : S) (t u : List Message) (p q : StrokesKept) (w h asked : ℕ) (speech : Speech) (old now : LinkState) → was_set → IsTelling looks a b t u p q w h asked speech old now → IsOpen old now
+    → Writes looks was_set a b t u p q w h (Ok tt) old now
+telling_ends looks a b t u p q w h asked speech old now set k is =
+    record {
+      did = k.did;
+      all = k.all;
+      last = speech.said;
+      left = left_of speech;
+      inputs = k.inputs;
+      strokes = k.strokes;
+      looked = k.looked;
+      said = k.said;
+      given = k.given;
+      taken = k.taken;
+      ends = inl (set, is.0, is.1, omega (arith, length-drop speech.given speech.said));
+    }
 
 ends_by : (was_set : Type 0) (x : Halt) (old now new : LinkState) (left last : List ℕ) → now.failed ≡ old.failed → now.ended ≡ old.ended → IsWhy was_set x now new left last → EndsWriting was_set (answer_at x) old new left last
 ends_by was_set halt.Stopped old now new left last f e w = inl (w.0, w.1 ∙ f, w.2 ∙ e, w.3)
@@ -126,131 +285,36 @@ ends_by was_set halt.Before old now new left last f e w = inr (subst (λ n. HasR
 ends_by was_set halt.Inside old now new left last f e w = (subst (λ n. HasRisen n new.ended) e w.0, w.1, w.2)
 ends_by was_set halt.Failed old now new left last f e w = (subst (λ n. HasRisen n new.failed) f w.0, w.1, w.2)
 
--- Giving left off in what it says then.
-halts_by : {S : Type 0} {was_set : Type 0} (looks : S → ℕ → S → Type 0) (a b : S) (t u : List Message) (p q : StrokesKept) (w h : ℕ) (d : Did) (ds : List Did) (x : Halt) (old now new : LinkState) (given bytes : List ℕ)
-    → u ≡ t ++ taken_in (d ∷ ds) → ((before : List Taken) → StrokesStand p before → StrokesStand q (all_taken before (d ∷ ds))) → Looked looks a (d ∷ ds) b → now ≡ with_given old given
-    → ((before : List Taken) → StrokesStand p before → given ≡ said before w h ds) → ((before : List Taken) → StrokesStand p before → bytes ≡ says before w h d ds)
-    → HaltsAt was_set x now new bytes → Writes looks was_set a b t u p q w h (answer_at x) old new
-halts_by {was_set = was_set} looks a b t u p q w h d ds x old now new given bytes inputs strokes looked state all last k =
+-- Giving stopped.
+pub telling_stops : {S : Type 0} {was_set : Type 0} (looks : S → ℕ → S → Type 0) (a b : S) (t u : List Message) (p q : StrokesKept) (w h asked : ℕ) (speech : Speech) (x : Halt) (old now new : LinkState) → IsTelling looks a b t u p q w h asked speech old new → IsOpen old now
+    → StopsSaying was_set x speech now new → Writes looks was_set a b t u p q w h (answer_at x) old new
+telling_stops {was_set = was_set} looks a b t u p q w h asked speech x old now new k is why =
     record {
-      did = d ∷ ds;
-      all = given ++ bytes;
-      last = bytes;
-      left = k.left;
-      inputs = inputs;
-      strokes = strokes;
-      looked = looked;
-      said = λ before s. (ap (λ z. z ++ bytes) (all before s) ∙ ap (λ z. said before w h ds ++ z) (last before s), last before s);
-      given = k.given ∙ (ap (λ (l : LinkState). l.given ++ bytes) state ∙ append_assoc old.given given bytes);
-      taken = k.taken ∙ ap (λ (l : LinkState). l.taken) state;
-      ends = ends_by was_set x old now new k.left bytes (ap (λ (l : LinkState). l.failed) state) (ap (λ (l : LinkState). l.ended) state) k.why;
-    }
-
--- What is said of an input that passes or doesn't.
-judged : (p q : StrokesKept) (m : Message) (passed : Bool) → ((taken : List Taken) → StrokesStand p taken → passed ≡ passes_after (unbroken taken) (taken_from m)) → ((taken : List Taken) → StrokesStand p taken → StrokesStand q (taken ++ taken_from m ∷ []))
-    → IsJudged p q m (cond passed (input_bytes (input_in m.input)) [])
-judged p q m passed value stands = record { said = λ taken s. ap (λ c. cond c (input_bytes (input_in m.input)) []) (value taken s); stands = stands }
-
-pub tells_input : (t u : List Message) (p q : StrokesKept) (m : Message) (passed : Bool) (old new : LinkState) → u ≡ t ++ m ∷ [] → ((taken : List Taken) → StrokesStand p taken → passed ≡ passes_after (unbroken taken) (taken_from m))
-    → ((taken : List Taken) → StrokesStand p taken → StrokesStand q (taken ++ taken_from m ∷ [])) → new ≡ with_given old (cond passed (input_bytes (input_in m.input)) []) → TellsInput t u p q old new
-tells_input t u p q m passed old new took value stands state =
-    record { message = m; bytes = cond passed (input_bytes (input_in m.input)) []; took = took; judged = judged p q m passed value stands; state = state }
-
--- After all that was taken before it.
-judged_says : {S : Type 0} (looks : S → ℕ → S → Type 0) (a b : S) (t u : List Message) (p q r : StrokesKept) (m : Message) (bytes : List ℕ) (w h asked : ℕ) (old now : LinkState) (k : IsWriting looks a b t u p q w h asked old now) → IsJudged q r m bytes
-    → (before : List Taken) → StrokesStand p before → bytes ≡ says before w h (Took m) k.did
-judged_says looks a b t u p q r m bytes w h asked old now k j before s = j.said (all_taken before k.did) (k.strokes before s)
-
-judged_stands : {S : Type 0} (looks : S → ℕ → S → Type 0) (a b : S) (t u : List Message) (p q r : StrokesKept) (m : Message) (bytes : List ℕ) (w h asked : ℕ) (old now : LinkState) (k : IsWriting looks a b t u p q w h asked old now) → IsJudged q r m bytes
-    → (before : List Taken) → StrokesStand p before → StrokesStand r (all_taken before (Took m ∷ k.did))
-judged_stands looks a b t u p q r m bytes w h asked old now k j before s = subst (λ ts. StrokesStand r ts) (sym (taken_more before m k.did)) (j.stands (all_taken before k.did) (k.strokes before s))
-
-took_more : (t u v : List Message) (m : Message) (ds : List Did) → u ≡ t ++ taken_in ds → v ≡ u ++ m ∷ [] → v ≡ t ++ taken_in (Took m ∷ ds)
-took_more t u v m ds k e = e ∙ (ap (λ ms. ms ++ m ∷ []) k ∙ append_assoc t (taken_in ds) (m ∷ []))
-
--- What it said, with what it says now.
-said_on : (now more given bytes : List ℕ) → given ≡ now → bytes ≡ more → given ++ bytes ≡ now ++ more
-said_on now more given bytes e f = ap (λ z. z ++ bytes) e ∙ ap (λ z. now ++ z) f
-
--- An input was taken, and what is said of it was given.
-writing_took : {S : Type 0} (looks : S → ℕ → S → Type 0) (a b : S) (t u v : List Message) (p q r : StrokesKept) (w h asked : ℕ) (old now new : LinkState) → IsWriting looks a b t u p q w h asked old now
-    → TellsInput u v q r now new → IsWriting looks a b t v p r w h asked old new
-writing_took looks a b t u v p q r w h asked old now new k e =
-    record {
-      did = Took e.message ∷ k.did;
-      given = k.given ++ e.bytes;
-      last = e.bytes;
-      inputs = took_more t u v e.message k.did k.inputs e.took;
-      strokes = judged_stands looks a b t u p q r e.message e.bytes w h asked old now k e.judged;
+      did = k.did;
+      all = k.all;
+      last = speech.said;
+      left = left_of speech;
+      inputs = k.inputs;
+      strokes = k.strokes;
       looked = k.looked;
-      state = says_on old now new k.given e.bytes k.state e.state;
-      all = λ before s. said_on (said before w h k.did) (says before w h (Took e.message) k.did) k.given e.bytes (k.all before s) (judged_says looks a b t u p q r e.message e.bytes w h asked old now k e.judged before s);
-      lasts = judged_says looks a b t u p q r e.message e.bytes w h asked old now k e.judged;
-      risen = k.risen;
-    }
-
--- An input was told, or there was none.
-pub writing_told : {S : Type 0} (looks : S → ℕ → S → Type 0) (a b : S) (t u v : List Message) (p q r : StrokesKept) (w h asked : ℕ) (was_taken : Bool) (old now new : LinkState) → IsWriting looks a b t u p q w h asked old now
-    → Tells was_taken u v q r now new → IsWriting looks a b t v p r w h asked old new
-writing_told looks a b t u v p q r w h asked true old now new k e = writing_took looks a b t u v p q r w h asked old now new k e
-writing_told looks a b t u v p q r w h asked false old now new k e =
-    record { did = k.did; given = k.given; last = k.last; inputs = e.0 ∙ k.inputs; strokes = λ before s. rw e.1 (k.strokes before s); looked = k.looked; state = e.2 ∙ k.state; all = k.all; lasts = k.lasts; risen = k.risen }
-
-pub halts_telling : {S : Type 0} {was_set : Type 0} (looks : S → ℕ → S → Type 0) (a b : S) (t u v : List Message) (p q r : StrokesKept) (w h asked : ℕ) (x : Halt) (old now new : LinkState) → IsWriting looks a b t u p q w h asked old now
-    → HaltsTelling was_set x u v q r now new → Writes looks was_set a b t v p r w h (answer_at x) old new
-halts_telling looks a b t u v p q r w h asked x old now new k e =
-    halts_by looks a b t v p r w h (Took e.message) k.did x old now new k.given e.bytes (took_more t u v e.message k.did k.inputs e.took) (judged_stands looks a b t u p q r e.message e.bytes w h asked old now k e.judged) k.looked k.state k.all
-    (judged_says looks a b t u p q r e.message e.bytes w h asked old now k e.judged) e.halts
-
--- It looked.
-says_for : (before : List Taken) (w h asked looked : ℕ) (ds : List Did) (b : Bool) → asked ≡ risen_to ds → nat_lt asked looked ≡ b → says before w h (Saw looked) ds ≡ cond b (whole_request w h) []
-says_for before w h asked looked ds b e f = ap (λ c. cond c (whole_request w h) []) (ap (λ n. nat_lt n looked) (sym e) ∙ f)
-
-is_less : (a b : ℕ) → a < b → nat_lt a b ≡ true
-is_less a b l = grind (arith, nat_tests, l)
-
-isnt_less : (a b : ℕ) → b ≤ a → nat_lt a b ≡ false
-isnt_less a b l = grind (arith, nat_tests, l)
-
--- It hasn't risen.
-pub writing_saw : {S : Type 0} (looks : S → ℕ → S → Type 0) (a b c : S) (t u : List Message) (p q : StrokesKept) (w h asked looked : ℕ) (old now : LinkState) → IsWriting looks a b t u p q w h asked old now
-    → looks b looked c → looked ≤ asked → IsWriting looks a c t u p q w h asked old now
-writing_saw looks a b c t u p q w h asked looked old now k l le =
-    record {
-      did = Saw looked ∷ k.did;
+      said = k.said;
       given = k.given;
-      last = [];
-      inputs = k.inputs;
-      strokes = k.strokes;
-      looked = (b, k.looked, l);
-      state = k.state;
-      all = λ before s. k.all before s ∙ sym (ap (λ x. said before w h k.did ++ x) (says_for before w h asked looked k.did false k.risen (isnt_less asked looked le)) ∙ append-nil (said before w h k.did));
-      lasts = λ before s. sym (says_for before w h asked looked k.did false k.risen (isnt_less asked looked le));
-      risen = omega (arith, k.risen, le);
+      taken = k.taken;
+      ends = ends_by was_set x old now new (left_of speech) speech.said is.0 is.1 why;
     }
 
--- It has, and the request was given.
-pub writing_asked : {S : Type 0} (looks : S → ℕ → S → Type 0) (a b c : S) (t u : List Message) (p q : StrokesKept) (w h asked looked : ℕ) (request : List ℕ) (old now new : LinkState) → IsWriting looks a b t u p q w h asked old now
-    → looks b looked c → asked < looked → request ≡ whole_request w h → new ≡ with_given now request → IsWriting looks a c t u p q w h looked old new
-writing_asked looks a b c t u p q w h asked looked request old now new k l lt r e =
-    record {
-      did = Saw looked ∷ k.did;
-      given = k.given ++ request;
-      last = request;
-      inputs = k.inputs;
-      strokes = k.strokes;
-      looked = (b, k.looked, l);
-      state = says_on old now new k.given request k.state e;
-      all = λ before s. said_on (said before w h k.did) (says before w h (Saw looked) k.did) k.given request (k.all before s) (r ∙ sym (says_for before w h asked looked k.did true k.risen (is_less asked looked lt)));
-      lasts = λ before s. r ∙ sym (says_for before w h asked looked k.did true k.risen (is_less asked looked lt));
-      risen = omega (arith, k.risen, lt);
-    }
-
-pub halts_asking : {S : Type 0} {was_set : Type 0} (looks : S → ℕ → S → Type 0) (a b c : S) (t u : List Message) (p q : StrokesKept) (w h asked looked : ℕ) (request : List ℕ) (x : Halt) (old now new : LinkState) → IsWriting looks a b t u p q w h asked old now
-    → looks b looked c → asked < looked → request ≡ whole_request w h → HaltsAt was_set x now new request → Writes looks was_set a c t u p q w h (answer_at x) old new
-halts_asking looks a b c t u p q w h asked looked request x old now new k l lt r e =
-    halts_by looks a c t u p q w h (Saw looked) k.did x old now new k.given request k.inputs k.strokes (b, k.looked, l) k.state k.all
-    (λ before s. r ∙ sym (says_for before w h asked looked k.did true k.risen (is_less asked looked lt))) e
+-- A telling over what it was lent is one over what was lent to it.
+pub writes_at : {S : Type 0} {was_set : Type 0} (looks : S → ℕ → S → Type 0) (wide high : S → ℕ) (answer : Result (Unit {0}) Fault) (a a' b b' : S) (t t' u u' : List Message) (p p' q q' : StrokesKept) (l l' m m' : LinkState)
+    → a ≡ a' → b ≡ b' → t ≡ t' → u ≡ u' → p ≡ p' → q ≡ q' → l ≡ l' → m ≡ m' → Writes looks was_set a b t u p q (wide a) (high a) answer l m → Writes looks was_set a' b' t' u' p' q' (wide a') (high a') answer l' m'
+writes_at {was_set = was_set} looks wide high answer a a' b b' t t' u u' p p' q q' l l' m m' ea eb et eu ep eq el em k =
+    subst (λ x. Writes looks was_set x b' t' u' p' q' (wide x) (high x) answer l' m') ea
+    (subst (λ x. Writes looks was_set a x t' u' p' q' (wide a) (high a) answer l' m') eb
+    (subst (λ x. Writes looks was_set a b x u' p' q' (wide a) (high a) answer l' m') et
+    (subst (λ x. Writes looks was_set a b t x p' q' (wide a) (high a) answer l' m') eu
+    (subst (λ x. Writes looks was_set a b t u x q' (wide a) (high a) answer l' m') ep
+    (subst (λ x. Writes looks was_set a b t u p x (wide a) (high a) answer l' m') eq
+    (subst (λ x. Writes looks was_set a b t u p q (wide a) (high a) answer x m') el
+    (subst (λ x. Writes looks was_set a b t u p q (wide a) (high a) answer l x) em k)))))))
 
 -- ---- what is told is unbroken
 

@@ -1,2 +1,4 @@
 pub mod Dropping
+pub mod Moment
+pub mod Saying
 pub mod Writing

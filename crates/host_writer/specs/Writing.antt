@@ -1,6 +1,6 @@
 -- What the host is told once it is joined: the inputs taken of the relay that don't break into another place's stroke,
 -- and a request for each rise of a look (RFC 6143, 7.5.3 to 7.5.6; own).
-use Rattle.std.specs.Prelude.{◌≡◌, ℕ, ◌≤◌, ◌<◌, ◌⊎◌, max, nat_lt, if◌then◌else◌, Bool, true, false, List, [], ◌∷◌, ◌++◌, length, map, Result, Ok, Err}
+use Rattle.std.specs.Prelude.{◌≡◌, ℕ, ◌≤◌, ◌<◌, ◌⊎◌, max, nat_lt, if◌then◌else◌, Bool, true, List, [], ◌∷◌, ◌++◌, length, map, Result, Ok, Err}
 use Rattle.fault.specs.declared.kinds.Fault.{Fault}
 use Rattle.fault.specs.declared.kinds.Fault.TheVariants.{LinkEnded, LinkFailed}
 use Rattle.rfb_wire.specs.Writing.{request_bytes}
@@ -8,7 +8,6 @@ use Rattle.roles.specs.Held.{input_in}
 use Rattle.roles.specs.Spelling.{input_bytes}
 use Rattle.roles.specs.Strokes.{Taken, input_from, unbroken, passes_after, StrokesKept, StrokesStand}
 use Rattle.link.specs.Links.{LinkState, HasRisen}
-use Rattle.link.specs.Halting.{HaltsAt}
 use Rattle.link.specs.declared.give.Halt.{Halt}
 use Rattle.link.specs.declared.give.Halt.TheVariants as halt
 use Rattle.input_relay.specs.declared.queue.Message.{Message}
@@ -114,24 +113,3 @@ pub record Writes {S : Type 0} (looks : S → ℕ → S → Type 0) (was_set : T
 pub record IsJudged (strokes_old strokes_new : StrokesKept) (message : Message) (bytes : List ℕ) : Type 0 where
   pub said : (taken : List Taken) → StrokesStand strokes_old taken → bytes ≡ (if passes_after (unbroken taken) (taken_from message) then input_bytes (input_in message.input) else [])
   pub stands : (taken : List Taken) → StrokesStand strokes_old taken → StrokesStand strokes_new (taken ++ taken_from message ∷ [])
-
--- An input was taken, and what is said of it was given.
-pub record TellsInput (taken_old taken_new : List Message) (strokes_old strokes_new : StrokesKept) (old new : LinkState) : Type 0 where
-  pub message : Message
-  pub bytes : List ℕ
-  pub took : taken_new ≡ taken_old ++ message ∷ []
-  pub judged : IsJudged strokes_old strokes_new message bytes
-  pub state : new ≡ record old { given = old.given ++ bytes }
-
--- An input was taken and what is said of it was given, or there was no input.
-abbrev pub Tells : Bool → (taken_old taken_new : List Message) → (strokes_old strokes_new : StrokesKept) → (old new : LinkState) → Type 0
-Tells true taken_old taken_new strokes_old strokes_new old new = TellsInput taken_old taken_new strokes_old strokes_new old new
-Tells false taken_old taken_new strokes_old strokes_new old new = (taken_new ≡ taken_old) × (strokes_new ≡ strokes_old) × (new ≡ old)
-
--- Giving stopped inside what is said of an input that was taken.
-pub record HaltsTelling (was_set : Type 0) (halt : Halt) (taken_old taken_new : List Message) (strokes_old strokes_new : StrokesKept) (old new : LinkState) : Type 0 where
-  pub message : Message
-  pub bytes : List ℕ
-  pub took : taken_new ≡ taken_old ++ message ∷ []
-  pub judged : IsJudged strokes_old strokes_new message bytes
-  pub halts : HaltsAt was_set halt old new bytes

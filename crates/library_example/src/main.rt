@@ -22,7 +22,7 @@ use std::alloc::Global;
 use std::io::{self, Read};
 use std::sync::Wait;
 use std::test::Fail;
-use viewer_server::{NoProgress, run_viewer};
+use viewer_server::{Beginning, NoProgress, Visit, run_viewer};
 use viewer_session::Session;
 
 /// The width of the host's screen in pixels.
@@ -48,7 +48,7 @@ fn main(rt: HostRuntime) -> Result<(), Fail> {
     let ended = put_updates(&rt, rt.alloc(), host, &mut screen)?;
     screen.raise();
     println!(rt; "updates: {}, fault: {}", screen.updates(), number(ended))?;
-    let (ended, given) = serve_viewer(&rt, rt.alloc(), &mut screen)?;
+    let (ended, given) = serve_viewer(&rt, rt.alloc(), screen)?;
     println!(rt; "viewer: {given}, fault: {}", number(ended))?;
     Ok(())
 }
@@ -105,24 +105,18 @@ fn put_updates<R: Wait>(
 fn serve_viewer<R: Wait>(
     rt: &R,
     alloc: Global,
-    screen: &mut PlainScreen,
+    screen: PlainScreen,
 ) -> Result<(Result<(), Fault>, String), Fail>
-    requires { (screen.old.width ≡ WIDTH) × (screen.old.height ≡ HEIGHT) }
+    requires { (screen.width ≡ WIDTH) × (screen.height ≡ HEIGHT) }
 {
     let sends = Vec::from_slice(alloc, &VIEWER)?;
     let takes = vec![in alloc; Took::Bytes(VIEWER.len()), Took::End]?;
     let gives = Vec::from_elem(alloc, Gave::Bytes(ROOM), PIECES)?;
-    let mut link = MemoryLink::new(alloc, sends, takes, gives)?;
-    let mut session = Session::ready(alloc, WIDTH, HEIGHT, Role::View, Runs::Joined)?;
-    let ended = run_viewer(
-        rt,
-        &mut link,
-        screen,
-        &mut NoInput,
-        &mut session,
-        &NoStop,
-        &NoRest,
-        &NoProgress,
-    );
+    let link = MemoryLink::new(alloc, sends, takes, gives)?;
+    let session = Session::ready(alloc, WIDTH, HEIGHT, Role::View, Runs::Joined)?;
+    let first = Beginning::of(&link, &screen, &NoInput, &session);
+    let mut visit = Visit::new(&first, link, screen, NoInput, session);
+    let ended = run_viewer(rt, &mut visit, &NoStop, &NoRest, &NoProgress);
+    let (link, _, _, _) = visit.into_parts(());
     Ok((ended, words_of(alloc, link.given())?))
 }

@@ -15,7 +15,7 @@ use std::alloc::Global;
 use std::sync::Wait;
 use std::sync::atomic::Ordering;
 use std::test::Fail;
-use viewer_server::{NoProgress, run_viewer};
+use viewer_server::{Beginning, NoProgress, Visit, run_viewer};
 use viewer_session::Session;
 
 /// The end of a relay that is full for this many calls, and refuses the input of this number for good. It counts what
@@ -74,16 +74,19 @@ struct Case<'a> {
 fn serves<R: Wait + Drop>(
     rt: &R,
     case: &Case<'_>,
-    link: &mut MemoryLink,
-    sink: &mut Sink<R>,
-    screen: &mut PlainScreen,
-    session: &mut Session,
+    link: MemoryLink,
+    sink: Sink<R>,
+    screen: PlainScreen,
+    session: Session,
 ) -> bool
-    requires screen { (screen.old.width ≡ session.old.width) × (screen.old.height ≡ session.old.height) }
-    requires uncut { session.old.asked.last ≡ None }
+    requires screen { (screen.width ≡ session.width) × (screen.height ≡ session.height) }
+    requires uncut { session.asked.last ≡ None }
 {
     let watch = make_watch(case.stop);
-    let answer = run_viewer(rt, link, screen, sink, session, &watch, &watch, &NoProgress);
+    let first = Beginning::of(&link, &screen, &sink, &session);
+    let mut visit = Visit::new(&first, link, screen, sink, session);
+    let answer = run_viewer(rt, &mut visit, &watch, &watch, &NoProgress);
+    let (link, _, sink, _) = visit.into_parts(());
     let rests = watch.rests.load(Ordering::SeqCst);
     let is_rested = case.rests.0 <= rests && rests <= case.rests.1;
     let is_answered = number(answer) == case.answer && sink.offers <= case.offers;
@@ -95,12 +98,12 @@ fn serves_anew<R: Wait + Drop>(
     rt: &R,
     alloc: Global,
     case: &Case<'_>,
-    link: &mut MemoryLink,
-    sink: &mut Sink<R>,
+    link: MemoryLink,
+    sink: Sink<R>,
 ) -> Result<bool, Fault> {
-    let mut screen = red_and_blue(alloc)?;
-    let mut session = Session::ready(alloc, 2, 1, case.role, Runs::OfRows)?;
-    Ok(serves(rt, case, link, sink, &mut screen, &mut session))
+    let screen = red_and_blue(alloc)?;
+    let session = Session::ready(alloc, 2, 1, case.role, Runs::OfRows)?;
+    Ok(serves(rt, case, link, sink, screen, session))
 }
 
 /// A relay for one viewer.
@@ -148,9 +151,9 @@ fn goes_as_told<R: Wait + Drop + Copy>(
     alloc: Global,
     case: &Case<'_>,
 ) -> Result<bool, Fault> {
-    let mut link = link_of(alloc, case.sends, case.takes, case.gives)?;
-    let (mut sink, mut taker) = relay_of(rt, alloc, case)?;
-    let is_served = serves_anew(&rt, alloc, case, &mut link, &mut sink);
+    let link = link_of(alloc, case.sends, case.takes, case.gives)?;
+    let (sink, mut taker) = relay_of(rt, alloc, case)?;
+    let is_served = serves_anew(&rt, alloc, case, link, sink);
     let is_relayed = relays(&mut taker, case.relayed);
     Ok(matches!(is_served, Ok(true)) && is_relayed)
 }

@@ -6,6 +6,7 @@ use Rattle.fault.specs.declared.kinds.Fault.{Fault}
 use Rattle.fault.specs.declared.kinds.Fault.TheVariants.{LinkEnded, LinkFailed}
 use Rattle.roles.specs.Strokes.{StrokesKept, StrokesStand, Taken}
 use Rattle.link.specs.Links.{LinkState}
+use Rattle.run_traits.specs.Unused.{unused}
 use Rattle.host_writer.specs.Writing.{Did, EndsWriting, Writes, all_taken, last_said, said, says, taken_from, taken_in}
 use Rattle.input_relay.specs.declared.queue.Message.{Message}
 use Rattle.reflector.specs.Tellings.{AreTellings, AreToldInTurn, Desk, HasTold, IsToldOver, Telling, TellsHosts, desk}
@@ -41,15 +42,15 @@ last_within : (before : List Taken) (w h : ℕ) (did : List Did) → length (las
 last_within before w h [] = omega arith
 last_within before w h (d ∷ did) = let count = length-append (said before w h did) (says before w h d did) in omega (arith, count)
 
-told_over : {S : Type 0} (looks : S → ℕ → S → Type 0) (was_set : Type 0) (a b : S) (x y : List Message) (s t : StrokesKept) (w h : ℕ) (answer : Result (Unit {0}) Fault) (came left : LinkState) (before : List Taken) → StrokesStand s before
+told_over : {S : Type 0} (looks : S → ℕ → S → Type 0) (was_set : Type 0) (a b : S) (x y : List Message) (s t : StrokesKept) (w h : ℕ) (answer : Result (Unit {0}) Fault) (came left : LinkState) (before : List Taken) → StrokesStand s before → came ≡ unused
     → (k : Writes looks was_set a b x y s t w h answer came left) → IsToldOver w h before k.did came left
-told_over looks was_set a b x y s t w h answer came left before stand k =
+told_over looks was_set a b x y s t w h answer came left before stand fresh k =
     let says = k.said before stand in
     let first = left_within was_set answer came left k.left k.last k.ends in
     let last = last_within before w h k.did in
     let count = ap length says.0 in let count_last = ap length says.1 in
     let g = given_of came.given left.given k.left k.all k.given (omega (arith, first, last, count, count_last)) in
-    record { given = g.0; gave = g.1; begins = (k.left, sym says.0 ∙ g.2); heard = k.taken }
+    record { given = g.0; gave = g.1; begins = (k.left, sym says.0 ∙ g.2); heard = k.taken; fresh = fresh }
 
 -- One host more.
 told_on : (w h : ℕ) (before : List Taken) (links : List LinkState) (taken : List Message) (did : List Did) (came left : LinkState) → AreToldInTurn w h before links taken → IsToldOver w h (before ++ map taken_from taken) did came left
@@ -81,7 +82,7 @@ all_told looks w h source began [] new none k = subst (λ (d : Desk _). AreTold 
 all_told looks w h source began (before ∷ befores) new none k =
     let t = k.1 in
     let so = all_told looks w h source began befores before none k.0 in
-    let over = told_over looks ⊤ _ _ _ _ _ _ w h t.answer t.came t.left (map taken_from before.taken) so.1 t.writes in
+    let over = told_over looks ⊤ _ _ _ _ _ _ w h t.answer t.came t.left (map taken_from before.taken) so.1 t.fresh t.writes in
     let longer : AreToldInTurn w h [] (before.links ++ t.came ∷ t.left ∷ []) (before.taken ++ taken_in t.writes.did) = told_on w h [] before.links before.taken t.writes.did t.came t.left so.0 over in (
       subst (λ (ls : List LinkState). AreToldInTurn w h [] ls new.taken) (sym t.links) (subst (λ (ms : List Message). AreToldInTurn w h [] (before.links ++ t.came ∷ t.left ∷ []) ms) (sym t.writes.inputs) longer),
       subst (λ (ts : List Taken). StrokesStand new.strokes ts) (sym (map-append taken_from before.taken (taken_in t.writes.did)) ∙ ap (λ ms. map taken_from ms) (sym t.writes.inputs)) (t.writes.strokes (map taken_from before.taken) so.1),

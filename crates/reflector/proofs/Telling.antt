@@ -6,6 +6,7 @@ use Rattle.fault.specs.declared.kinds.Fault.{Fault}
 use Rattle.fault.specs.declared.kinds.Fault.TheVariants.{LinkEnded, LinkFailed}
 use Rattle.roles.specs.Strokes.{StrokesKept, StrokesStand}
 use Rattle.link.specs.Links.{LinkState}
+use Rattle.run_traits.specs.Unused.{unused}
 use Rattle.host_writer.specs.Writing.{Writes, EndsWriting}
 use Rattle.input_relay.specs.declared.queue.Message.{Message}
 use Rattle.reflector.specs.Tellings.{Desk, desk, Telling, AreTellings, HasTold, TellsHosts}
@@ -27,10 +28,10 @@ IsTelling {S} looks width height old now = (befores : List (Desk S)) × AreTelli
 
 module _ {S : Type 0} (looks : S → ℕ → S → Type 0) (width height : S → ℕ) where
   -- A link came and went.
-  pub telling_on : (was_set : Type 0) (old before : Desk S) (met links : List LinkState) (source : S) (taken : List Message) (strokes : StrokesKept) (came left : LinkState) (answer : Result (Unit {0}) Fault) → IsTelling looks width height old before → met ≡ before.links ++ came ∷ []
+  pub telling_on : (was_set : Type 0) (old before : Desk S) (met links : List LinkState) (source : S) (taken : List Message) (strokes : StrokesKept) (came left : LinkState) (answer : Result (Unit {0}) Fault) → IsTelling looks width height old before → met ≡ before.links ++ came ∷ [] → came ≡ unused
       → Writes looks was_set before.source source before.taken taken before.strokes strokes (width before.source) (height before.source) answer came left → links ≡ met ++ left ∷ [] → IsTelling looks width height old (desk links source taken strokes)
-  telling_on was_set old before met links source taken strokes came left answer k handed writes back =
-      (before ∷ k.0, (k.1, record { came = came; left = left; answer = answer; links = back ∙ (ap (λ ls. ls ++ left ∷ []) handed ∙ append_assoc before.links (came ∷ []) (left ∷ [])); writes = writes_any looks was_set _ _ _ _ _ _ _ _ _ _ _ writes }))
+  telling_on was_set old before met links source taken strokes came left answer k handed fresh writes back =
+      (before ∷ k.0, (k.1, record { came = came; left = left; answer = answer; links = back ∙ (ap (λ ls. ls ++ left ∷ []) handed ∙ append_assoc before.links (came ∷ []) (left ∷ [])); fresh = fresh; writes = writes_any looks was_set _ _ _ _ _ _ _ _ _ _ _ writes }))
 
   -- No other came.
   pub told_all : (old : Desk S) (links : List LinkState) (source : S) (taken : List Message) (strokes : StrokesKept) (now : List LinkState) → IsTelling looks width height old (desk links source taken strokes) → now ≡ links → HasTold looks width height old now taken strokes

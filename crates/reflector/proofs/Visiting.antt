@@ -1,6 +1,7 @@
 -- The visits of a place, as far as they have come. `serve_viewers` owes all of them.
-use Rattle.std.proofs.Common.{◌≡◌, ℕ, Bool, true, false, List, [], ◌∷◌, Result, refl, subst, inl, inr}
+use Rattle.std.proofs.Common.{◌≡◌, ℕ, Bool, true, false, List, [], ◌∷◌, Result, Err, refl, ap, subst, inl, inr}
 use Rattle.fault.specs.declared.kinds.Fault.{Fault}
+use Rattle.fault.specs.declared.kinds.Fault.TheVariants.{Memory}
 use Rattle.raster.specs.Update.{Update}
 use Rattle.roles.specs.Allowed.{Input}
 use Rattle.roles.specs.declared.role.Role.{Role}
@@ -9,7 +10,7 @@ use Rattle.run_traits.specs.Unused.{unused}
 use Rattle.reflect_core.specs.Sequential.{Begins}
 use Rattle.viewer_session.specs.Viewer.{Setup, new_viewer}
 use Rattle.viewer_server.specs.Serving.{Serves}
-use Rattle.reflector.specs.Visits.{At, at, IsReceived, AreVisits, HasVisits}
+use Rattle.reflector.specs.Visits.{At, at, IsReceived, AreVisits, IsVisiting, HasVisits}
 
 -- A viewer whose link had done nothing was served.
 pub received_served : {S : Type 0} (looks cuts : S → ℕ → S → Type 0) (may_end was_set : Type 0) (may_refuse : Fault → Type 0) (known : S → List Update) (s : Setup) (role : Role) (a b : S) (x y : List Input) (why : Result (Unit {0}) Fault) (old left : LinkState) → old ≡ unused
@@ -17,9 +18,10 @@ pub received_served : {S : Type 0} (looks cuts : S → ℕ → S → Type 0) (ma
 received_served looks cuts may_end was_set may_refuse known s role a b x y why old left fresh k grows =
     inl (record { serves = subst (λ (l : LinkState). Serves looks cuts may_end was_set may_refuse a b (known b) s (new_viewer role true) x y why l left) fresh k; grows = grows })
 
--- These states lie behind it.
-abbrev pub IsVisiting : {D S : Type 0} → (lets_in : D → Bool → D → Type 0) → (sees_off : D → LinkState → Result (Unit {0}) Fault → D → Type 0) → (receives : S → S → List Input → List Input → Result (Unit {0}) Fault → LinkState → Type 0) → At D S → At D S → Type 0
-IsVisiting {D} {S} lets_in sees_off receives old now = (befores : List (At D S)) × AreVisits lets_in sees_off receives old befores now
+-- A viewer for which memory was refused was let go.
+pub received_none : {S : Type 0} (looks cuts : S → ℕ → S → Type 0) (may_end was_set : Type 0) (may_refuse : Fault → Type 0) (known : S → List Update) (s : Setup) (role : Role) (a : S) (x : List Input) (fault : Fault) (left : LinkState) → fault ≡ Memory → left ≡ unused
+    → IsReceived looks cuts may_end was_set may_refuse known s role a a x x (Err fault) left
+received_none looks cuts may_end was_set may_refuse known s role a x fault left refused fresh = inr (record { memory = ap (λ f. Err f) refused; link = fresh; source = refl; sent = refl })
 
 module _ {D S : Type 0} (lets_in : D → Bool → D → Type 0) (sees_off : D → LinkState → Result (Unit {0}) Fault → D → Type 0) (receives : S → S → List Input → List Input → Result (Unit {0}) Fault → LinkState → Type 0) where
   pub visiting_begins : (old : At D S) → IsVisiting lets_in sees_off receives old old

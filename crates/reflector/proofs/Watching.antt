@@ -1,5 +1,6 @@
--- A place of viewers that only look on sends nothing: nothing of their input is allowed. `join_place` tells it.
-use Rattle.std.proofs.Common.{◌≡◌, Bool, true, List, [], ◌∷◌, ◌++◌, length, Result, refl, ap, subst, ◌∙◌, append-nil, arith}
+-- A place of viewers that only look on sends nothing: nothing of their input is allowed. `join_place` tells it, and
+-- `show_viewers` owes it.
+use Rattle.std.proofs.Common.{◌≡◌, ◌≤◌, Bool, true, List, [], ◌∷◌, ◌++◌, length, ℕ, Result, refl, ap, subst, ◌∙◌, append-nil, arith}
 use Rattle.fault.specs.declared.kinds.Fault.{Fault}
 use Rattle.raster.specs.Update.{Update}
 use Rattle.roles.specs.Allowed.{Input, allowed}
@@ -10,8 +11,10 @@ use Rattle.reflect_core.specs.Sequential.{Begins}
 use Rattle.viewer_session.specs.Acts.{viewer_after}
 use Rattle.viewer_session.specs.Record.{messages_in}
 use Rattle.viewer_session.specs.Viewer.{Setup, new_viewer}
-use Rattle.reflector.specs.Visits.{At, AreVisits, HasVisits}
+use Rattle.viewer_session.proofs.Parts.{begins_same}
+use Rattle.reflector.specs.Visits.{At, AreVisits, HasVisits, IsReceived, at}
 use Rattle.reflector.specs.Promise.{IsServedWhole}
+use Rattle.reflector.proofs.Promising.{keeps_promise}
 
 -- What begins nothing is nothing.
 begins_nothing : {X : Type 0} (xs : List X) → Begins xs [] → xs ≡ []
@@ -30,3 +33,11 @@ module _ {D S : Type 0} (lets_in : D → Bool → D → Type 0) (sees_off : D �
 
   pub sends_nothing : (old new : At D S) → HasVisits lets_in sees_off (λ source_old source_new sent_old sent_new why left. IsServedWhole us s role sent_old sent_new left) old new → new.sent ≡ old.sent
   sends_nothing old new k = k.sent ∙ visits_send_nothing old k.befores k.last k.visits
+
+pub looks_on : {D S : Type 0} (lets_in : D → Bool → D → Type 0) (sees_off : D → LinkState → Result (Unit {0}) Fault → D → Type 0) (looks cuts : S → ℕ → S → Type 0) (may_end was_set : Type 0) (may_refuse : Fault → Type 0) (known : S → List Update) (s : Setup) (role : Role)
+    (old new : At D S) → s.w ≤ 4096 → s.h ≤ 4096 → role ≡ View → HasVisits lets_in sees_off (λ source_old source_new sent_old sent_new why left. IsReceived looks cuts may_end was_set may_refuse known s role source_old source_new sent_old sent_new why left) old new
+    → HasVisits lets_in sees_off (λ source_old source_new sent_old sent_new why left. IsReceived looks cuts may_end was_set may_refuse known s role source_old source_new sent_old sent_new why left) old (at new.door new.source old.sent)
+looks_on lets_in sees_off looks cuts may_end was_set may_refuse known s role old new lw lh view k =
+    let promise = keeps_promise lets_in sees_off looks cuts may_end was_set may_refuse known s role old new lw lh k in
+    subst (λ (sent : List Input). HasVisits lets_in sees_off (λ source_old source_new sent_old sent_new why left. IsReceived looks cuts may_end was_set may_refuse known s role source_old source_new sent_old sent_new why left) old (at new.door new.source sent))
+    (sends_nothing lets_in sees_off (known new.source) s role view old new (promise (known new.source) (begins_same _))) k

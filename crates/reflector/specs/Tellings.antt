@@ -4,6 +4,7 @@ use Rattle.reflect_core.specs.Sequential.{Begins}
 use Rattle.fault.specs.declared.kinds.Fault.{Fault}
 use Rattle.roles.specs.Strokes.{StrokesKept, StrokesStand, Taken}
 use Rattle.link.specs.Links.{LinkState}
+use Rattle.run_traits.specs.Unused.{unused}
 use Rattle.host_writer.specs.Writing.{Did, Writes, all_taken, said, taken_in}
 use Rattle.input_relay.specs.declared.queue.Message.{Message}
 
@@ -18,12 +19,13 @@ pub record Desk (S : Type 0) : Type 0 where
 abbrev pub desk : {S : Type 0} → List LinkState → S → List Message → StrokesKept → Desk S
 desk links source taken strokes = record { links = links; source = source; taken = taken; strokes = strokes }
 
--- One more host was told, over one more link, to which was written what Writes says.
+-- One more host was told, over one more link, which came unused, and to which was written what Writes says.
 pub record Telling {S : Type 0} (looks : S → ℕ → S → Type 0) (width height : S → ℕ) (old new : Desk S) : Type 0 where
   pub came : LinkState
   pub left : LinkState
   pub answer : Result (Unit {0}) Fault
   pub links : new.links ≡ old.links ++ came ∷ left ∷ []
+  pub fresh : came ≡ unused
   pub writes : Writes looks ⊤ old.source new.source old.taken new.taken old.strokes new.strokes (width old.source) (height old.source) answer came left
 
 -- Hosts were told one after another. The list says how telling stood before each of them, the latest first.
@@ -47,12 +49,13 @@ pub record TellsHosts {S : Type 0} (looks : S → ℕ → S → Type 0) (width h
 -- ---- in plain words
 
 -- Where this input was taken before, a host was told what is said for these acts, the inputs that pass and the
--- requests, or a beginning of that. The host's link came and was left so.
+-- requests, or a beginning of that, and nothing before it. The host's link came and was left so.
 pub record IsToldOver (w h : ℕ) (before : List Taken) (did : List Did) (came left : LinkState) : Type 0 where
   pub given : List ℕ
   pub gave : left.given ≡ came.given ++ given
   pub begins : Begins given (said before w h did)
   pub heard : left.taken ≡ came.taken
+  pub fresh : came ≡ unused
 
 -- One host after another was told in this way, over these links, each as it came and then as it was left. The input
 -- taken is divided between the hosts: no host is told anything that was taken for another.

@@ -76,6 +76,10 @@ abbrev pub AreVisits : {D S : Type 0} → (lets_in : D → Bool → D → Type 0
 AreVisits {D} {S} lets_in sees_off receives old [] new = new ≡ old
 AreVisits {D} {S} lets_in sees_off receives old (before ∷ befores) new = AreVisits lets_in sees_off receives old befores before × Visit lets_in sees_off receives before new
 
+-- Visits led so far from the old state of the place to this one.
+abbrev pub IsVisiting : {D S : Type 0} → (lets_in : D → Bool → D → Type 0) → (sees_off : D → LinkState → Result (Unit {0}) Fault → D → Type 0) → (receives : S → S → List Input → List Input → Result (Unit {0}) Fault → LinkState → Type 0) → At D S → At D S → Type 0
+IsVisiting {D} {S} lets_in sees_off receives old now = (befores : List (At D S)) × AreVisits lets_in sees_off receives old befores now
+
 -- These were all visits of the place: after them it asked for no further viewer, or its door let none in.
 pub record HasVisits {D S : Type 0} (lets_in : D → Bool → D → Type 0) (sees_off : D → LinkState → Result (Unit {0}) Fault → D → Type 0) (receives : S → S → List Input → List Input → Result (Unit {0}) Fault → LinkState → Type 0) (old new : At D S) : Type 0 where
   pub befores : List (At D S)

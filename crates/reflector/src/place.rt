@@ -3,22 +3,23 @@
 ghost use Rattle.std.specs.Prelude.{◌≡◌, ◌⊎◌, ⊤, IfOk, IfErr};
 ghost use Rattle.fault.specs.declared.kinds.Fault.TheVariants.{Memory, NumbersOut, QueueFull};
 ghost use Rattle.input_relay.specs.Ends.{inputs_of, place_of, relay_of};
-ghost use Rattle.run_traits.specs.Unused.{unused};
+ghost use Rattle.roles.specs.declared.role.Role.TheVariants.{View};
 ghost use Rattle.reflector.specs.Promise.{KeepsPromise};
 ghost use Rattle.reflector.specs.Senders.{IsSameSender};
 ghost use Rattle.reflector.specs.Visits.{HasVisits, IsReceived, at, setup_of};
 
 use crate::context::RunContext;
-use crate::counted::Counted;
+use crate::no_sender::NoSender;
 use crate::seated::{Seat, Seated};
 use crate::session_maker::SessionMaker;
+use crate::stages::{FreePlace, LeftPlace, PlaceBeginning};
 use fault::Fault;
 use input_relay::Sender;
 use joined_runs::Runs;
-use link::{Link, Rest, StopFlag};
+use link::{Rest, StopFlag};
 use reflect_core::ScreenSource;
 use roles::{InputSink, Role};
-use run_traits::{Alarm, Door, PlaceCount, Ringing, Stop};
+use run_traits::{Alarm, Door, Ringing, Stop};
 use std::alloc::Global;
 use std::marker::Brand;
 use std::snapshot::Snapshot;
@@ -87,55 +88,40 @@ impl<R: Clock + Drop> Rest for Nap<R> {
     }
 }
 
-/// Serves one viewer, and answers how many answers were begun and how serving ended. A viewer for which memory is
-/// refused is let go (`Memory`).
-fn receive<L: Link, S: ScreenSource, K: InputSink, F: StopFlag, Z: Rest, R: Wait>(
+/// Serves one viewer after another, until no more come or the flag is set. It is lent nothing that matters but the
+/// place, and then the visit of each viewer.
+fn serve_viewers<'a, D, S, K, F, T, Z, R>(
     rt: &R,
-    maker: &SessionMaker,
-    link: &mut L,
-    source: &mut S,
-    sink: &mut K,
-    stop: &F,
+    place: FreePlace<'a, D, S, K, F, T>,
     rest: &Z,
-    count: &PlaceCount,
-) -> (u64, Result<(), Fault>)
-    requires screen { (s : S) → (S.width s ≡ maker.now.width) × (S.height s ≡ maker.now.height) }
-    requires fresh { L.state link.old ≡ unused }
-    ensures { IsReceived S.looks S.cuts S.may_end (F.was_set stop.now) K.may_refuse S.known (setup_of maker.now.width maker.now.height maker.now.name.items maker.now.runs) maker.now.role source.old source.new (K.sent sink.old) (K.sent sink.new) result.1 (L.state link.new) }
+) -> LeftPlace<'a, D, S, K, F, T>
+where
+    D: Door,
+    S: ScreenSource,
+    K: InputSink,
+    F: StopFlag,
+    T: Drop,
+    Z: Rest,
+    R: Wait,
+    ensures { HasVisits D.lets_in D.sees_off (λ source_old source_new sent_old sent_new why left. IsReceived S.looks S.cuts S.may_end (F.was_set place.entry.stop.now) K.may_refuse S.known (setup_of place.entry.maker.now.width place.entry.maker.now.height place.entry.maker.now.name.items place.entry.maker.now.runs) place.entry.maker.now.role source_old source_new sent_old sent_new why left) (at place.entry.door place.entry.source (K.sent place.entry.sink)) (at result.door result.source (K.sent result.sink)) }
 {
-    match maker.open() {
-        Ok(mut session) => {
-            let progress = Counted { count };
-            let why = run_viewer(rt, link, source, sink, &mut session, stop, rest, &progress);
-            (session.answers(), why)
-        }
-        Err(fault) => (0, Err(fault)),
-    }
-}
-
-/// Serves one viewer after another, until no more come or the flag is set.
-fn serve_viewers<S: ScreenSource, K: InputSink, D: Door, F: StopFlag, Z: Rest, R: Wait>(
-    rt: &R,
-    maker: &SessionMaker,
-    door: &mut D,
-    source: &mut S,
-    sink: &mut K,
-    stop: &F,
-    rest: &Z,
-)
-    requires { (s : S) → (S.width s ≡ maker.now.width) × (S.height s ≡ maker.now.height) }
-    ensures { HasVisits D.lets_in D.sees_off (λ source_old source_new sent_old sent_new why left. IsReceived S.looks S.cuts S.may_end (F.was_set stop.now) K.may_refuse S.known (setup_of maker.now.width maker.now.height maker.now.name.items maker.now.runs) maker.now.role source_old source_new sent_old sent_new why left) (at door.old source.old (K.sent sink.old)) (at door.new source.new (K.sent sink.new)) }
-{
+    let mut free = place;
     for _ in rt.forever() {
-        if stop.is_set() {
-            return;
+        if free.stop().is_set() {
+            return free.leave();
         }
-        let Some(mut link) = door.next() else {
-            return;
+        let met = match free.meet() {
+            Ok(Ok(met)) => met,
+            Ok(Err(place)) => {
+                free = place;
+                continue;
+            }
+            Err(left) => return left,
         };
-        let count = door.count();
-        let (answers, why) = receive(rt, maker, &mut link, source, sink, stop, rest, count);
-        door.left(link, answers, why);
+        let began = met.beginning();
+        let (busy, mut visit) = met.open(&began);
+        let why = run_viewer(rt, &mut visit, busy.stop(), rest, &busy.progress());
+        free = busy.close(visit, why);
     }
     unreachable!()
 }
@@ -152,31 +138,55 @@ fn serve_from<
 >(
     rt: &R,
     maker: &SessionMaker,
-    door: &mut D,
-    source: &mut S,
+    door: D,
+    source: S,
     sender: Sender<R>,
     alarm: W,
     stop: &F,
     rest: &Z,
-) -> Sender<R>
+) -> (D, Sender<R>, S)
     requires screen { (s : S) → (S.width s ≡ maker.now.width) × (S.height s ≡ maker.now.height) }
     requires named { (relay_of sender ≡ T.relay) × (place_of sender ≡ T.place) }
-    ensures named { (relay_of result ≡ T.relay) × (place_of result ≡ T.place) }
-    ensures visits { HasVisits D.lets_in D.sees_off (λ source_old source_new sent_old sent_new why left. IsReceived S.looks S.cuts S.may_end (F.was_set stop.now) (λ fault. (fault ≡ QueueFull) ⊎ (fault ≡ NumbersOut)) S.known (setup_of maker.now.width maker.now.height maker.now.name.items maker.now.runs) maker.now.role source_old source_new sent_old sent_new why left) (at door.old source.old (inputs_of sender)) (at door.new source.new (inputs_of result)) }
+    ensures named { (relay_of result.1 ≡ T.relay) × (place_of result.1 ≡ T.place) }
+    ensures visits { HasVisits D.lets_in D.sees_off (λ source_old source_new sent_old sent_new why left. IsReceived S.looks S.cuts S.may_end (F.was_set stop.now) (λ fault. (fault ≡ QueueFull) ⊎ (fault ≡ NumbersOut)) S.known (setup_of maker.now.width maker.now.height maker.now.name.items maker.now.runs) maker.now.role source_old source_new sent_old sent_new why left) (at door source (inputs_of sender)) (at result.0 result.2 (inputs_of result.1)) }
 {
     let inner: Seated<T, R> = Seated::new(sender);
-    let mut sink = Ringing { inner, alarm };
-    serve_viewers(rt, maker, door, source, &mut sink, stop, rest);
+    let sink = Ringing { inner, alarm };
+    let first = PlaceBeginning::of(&door, &source, &sink);
+    let place = FreePlace::new(&first, maker, stop, door, source, sink);
+    let left = serve_viewers(rt, place, rest);
+    let (door, source, sink) = left.into_parts(());
     let Ringing { inner, alarm: _ } = sink;
-    inner.into_sender()
+    (door, inner.into_sender(), source)
+}
+
+/// The same where viewers only look on: their place has no sender, so that none of their input can go on.
+fn show_viewers<S: ScreenSource, D: Door, F: StopFlag, Z: Rest, Q: Wait + Drop, R: Wait>(
+    rt: &R,
+    maker: &SessionMaker,
+    door: D,
+    source: S,
+    sink: NoSender<Q>,
+    stop: &F,
+    rest: &Z,
+) -> (D, S)
+    requires screen { (s : S) → (S.width s ≡ maker.now.width) × (S.height s ≡ maker.now.height) }
+    requires role { maker.now.role ≡ View }
+    ensures { HasVisits D.lets_in D.sees_off (λ source_old source_new sent_old sent_new why left. IsReceived S.looks S.cuts S.may_end (F.was_set stop.now) (λ fault. (fault ≡ QueueFull) ⊎ (fault ≡ NumbersOut)) S.known (setup_of maker.now.width maker.now.height maker.now.name.items maker.now.runs) maker.now.role source_old source_new sent_old sent_new why left) (at door source (inputs_of sink.of.value)) (at result.0 result.1 (inputs_of sink.of.value)) }
+{
+    let first = PlaceBeginning::of(&door, &source, &sink);
+    let place = FreePlace::new(&first, maker, stop, door, source, sink);
+    let left = serve_viewers(rt, place, rest);
+    let (door, source, _) = left.into_parts(());
+    (door, source)
 }
 
 /// Keeps a place until no more viewers come or the flag is set.
 fn keep<S: ScreenSource, D: Door, W: Alarm + Drop, F: StopFlag, R: Wait + Clock + Copy + Drop>(
     rt: R,
     maker: SessionMaker,
-    mut door: D,
-    mut watcher: S,
+    door: D,
+    watcher: S,
     sender: Sender<R>,
     alarm: W,
     stop: &F,
@@ -187,21 +197,27 @@ fn keep<S: ScreenSource, D: Door, W: Alarm + Drop, F: StopFlag, R: Wait + Clock 
     ensures promise { KeepsPromise D.lets_in D.sees_off S.known (setup_of maker.width maker.height maker.name.items maker.runs) maker.role (at door watcher (inputs_of sender)) (at result.door result.watcher (inputs_of result.sender)) }
 {
     let rest = Nap { clock: rt };
-    // A brand names this one sender, so that the sink which comes back is known to be it.
-    let sender = serve_from::<Brand, S, D, W, F, Nap<R>, R>(
-        &rt,
-        &maker,
-        &mut door,
-        &mut watcher,
-        sender,
-        alarm,
-        stop,
-        &rest,
-    );
-    Place {
-        door,
-        watcher,
-        sender,
+    match maker.role {
+        Role::View => {
+            let sink = NoSender::of(&sender);
+            let (door, watcher) = show_viewers(&rt, &maker, door, watcher, sink, stop, &rest);
+            Place {
+                door,
+                watcher,
+                sender,
+            }
+        }
+        Role::Full => {
+            // A brand names this one sender, so that the sink which comes back is known to be it.
+            let (door, sender, watcher) = serve_from::<Brand, S, D, W, F, Nap<R>, R>(
+                &rt, &maker, door, watcher, sender, alarm, stop, &rest,
+            );
+            Place {
+                door,
+                watcher,
+                sender,
+            }
+        }
     }
 }
 

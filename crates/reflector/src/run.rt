@@ -14,6 +14,7 @@ ghost use Rattle.reflector.specs.Tellings.{AreToldInTurn, HasTold, TellsHosts, d
 ghost use Rattle.reflector.specs.Written.{links_in};
 ghost use Rattle.shared_screen.specs.History.{puts_of};
 ghost use Rattle.host_turns.specs.Running.{HasRun, IsLinkOf, IsOver, goes_on};
+ghost use Rattle.run_traits.specs.Unused.{unused};
 ghost use Rattle.reflector.specs.Visits.{IsOfScreen};
 
 use crate::context::RunContext;
@@ -256,6 +257,7 @@ where
     requires publisher { (P.width publisher ≡ joined.now.w) × (P.height publisher ≡ joined.now.h) }
     requires screen { (s : S) → (S.width s ≡ joined.now.w) × (S.height s ≡ joined.now.h) }
     requires doors { (1 ≤ vec_len doors) × (vec_len doors ≤ 64) × (vec_len watchers ≡ vec_len doors + 1) }
+    requires writer { L.state links.1 ≡ unused }
     ensures run { IfOk result (λ run. HasRun joined.now.w joined.now.h (IsLinkOf L.state H.came) run.result (L.state links.0) (map L.state run.links.items) (P.updates publisher) (P.updates run.publisher)) }
     ensures over { IfOk result (λ run. IsOver H.are_out run.hosts run.result) }
     ensures never { IfOk result (λ run. goes_on run.result ≡ true → H.again hosts ≡ None) }
@@ -299,6 +301,8 @@ where
 /// or ended. Every other fault ends the run, and so does the end of the supply, with the last answer. The supply has no
 /// end where the first host has its turn again.
 ///
+/// The link over which the first host is told was given nothing yet, as those of the hosts after it.
+///
 /// Each door is for the role that stands beside it, in which its place serves its viewers. All viewers are answered in
 /// the same one of the two forms (`joined_runs`).
 ///
@@ -335,6 +339,7 @@ where
     requires size { IsScreenSize joined.w joined.h × (joined.w ≡ J.width) × (joined.h ≡ J.height) }
     requires doors { (1 ≤ vec_len doors) × (vec_len doors ≤ 64) }
     requires roles { All (λ door. D.is_for door.1 door.0) doors.items }
+    requires writer { L.state writer ≡ unused }
     ensures run { IfOk result (λ run. HasRun J.width J.height (IsLinkOf L.state H.came) run.result (L.state reader) (map L.state run.links.items) [] (puts_of run.publisher)) }
     ensures over { IfOk result (λ run. IsOver H.are_out run.hosts run.result) }
     ensures never { IfOk result (λ run. goes_on run.result ≡ true → H.again hosts ≡ None) }

@@ -16,10 +16,10 @@ use viewer_session::Session;
 /// The name of a screen whose host has none. A viewer is told at least one byte.
 const NO_NAME: &[u8] = b"reflectord";
 
-/// The size and the name of the screen that the viewers of a place are shown, their role, and the form in which they are
-/// answered.
+/// The size and the name of the screen that the viewers of a place are shown, their role, and the form in which they
+/// are answered.
 #[derive(Drop)]
-pub(crate) struct SessionMaker {
+pub struct SessionMaker {
     alloc: Global,
     pub(crate) width: u64,
     pub(crate) height: u64,

@@ -2,6 +2,7 @@
 
 ghost use Rattle.std.specs.Prelude.{◌≡◌, [], ◌∷◌, ◌++◌, IfSome, IsNone};
 ghost use Rattle.link.specs.Links.{LinkState};
+ghost use Rattle.run_traits.specs.Unused.{unused};
 ghost use Rattle.reflector.specs.Written.{links_in};
 
 use crate::written::Written;
@@ -19,9 +20,11 @@ pub(crate) trait LinkTurns<L: Link>: StopFlag + Drop {
     /// The links that it handed out and took back: each as it came, and then as it was left.
     ghost links: { Self → List LinkState };
 
-    /// The link of the next host that is told, or `None` where no more come. It may wait without an end.
+    /// The link of the next host that is told, which was given nothing yet, or `None` where no more come. It may wait
+    /// without an end.
     fn next<R: Wait>(&mut self, rt: &R) -> Option<L>
         ensures came { IfSome result (λ link. links self.new ≡ links self.old ++ L.state link ∷ []) }
+        ensures fresh { IfSome result (λ link. L.state link ≡ unused) }
         ensures none { IsNone result → links self.new ≡ links self.old };
 
     /// Takes back the link of a host that was told until it was left.

@@ -1,7 +1,10 @@
 //! Meeting hosts.
 
 ghost use Rattle.std.specs.Prelude.{◌≡◌, IfOk, false};
+ghost use Rattle.connections.specs.Wires.{joining_state};
+ghost use Rattle.link.specs.Joins.{Joins};
 ghost use Rattle.raster.specs.Size.{IsScreenSize};
+ghost use Rattle.run_traits.specs.Unused.{unused};
 
 use crate::trouble::{Stage, Trouble};
 use connections::{HostLink, JoiningLink};
@@ -19,12 +22,15 @@ const CONNECT_SECONDS: u64 = 5;
 /// The most addresses of a host's name that are tried, one after the other.
 const MOST_ADDRESSES: usize = 4;
 
-/// A host that was joined: the ends of its connection, one to be read and one to be written.
+/// A host that was joined: the ends of its connection, one to be read, over which it was joined, and one to be written,
+/// over which nothing was given yet.
 #[derive(Drop)]
 pub(crate) struct Met<R: Clock + Drop> {
     pub(crate) reader: JoiningLink<R>,
     pub(crate) writer: JoiningLink<R>,
     pub(crate) joined: Joined,
+    pub(crate) ghost joins: { ∥ Joins unused (joining_state reader) joined ∥₁ },
+    pub(crate) ghost fresh: { joining_state writer ≡ unused },
 }
 
 /// Connects to a host: the end to be read, over which the handshake has ten seconds, and the end to be written.
@@ -32,7 +38,8 @@ fn connect<R: Net<Stream = TcpStream> + Clock + Copy + Drop>(
     rt: R,
     address: SocketAddr,
 ) -> io::Result<Reached<R>>
-    ensures { IfOk result (λ reached. reached.writer.has_deadline ≡ false) }
+    ensures untimed { IfOk result (λ reached. reached.writer.has_deadline ≡ false) }
+    ensures fresh { IfOk result (λ reached. (joining_state reached.reader ≡ unused) × (joining_state reached.writer ≡ unused)) }
 {
     let patience = Duration::from_secs(CONNECT_SECONDS);
     let stream = TcpStream::connect_timeout(&rt, &address, patience)?;
@@ -79,7 +86,8 @@ pub(crate) fn connect_by_text<R: Net<Stream = TcpStream> + Clock + Copy + Drop>(
     rt: R,
     host: &str,
 ) -> Result<Reached<R>, Missed>
-    ensures { IfOk result (λ reached. reached.writer.has_deadline ≡ false) }
+    ensures untimed { IfOk result (λ reached. reached.writer.has_deadline ≡ false) }
+    ensures fresh { IfOk result (λ reached. (joining_state reached.reader ≡ unused) × (joining_state reached.writer ≡ unused)) }
 {
     let addresses = match host.to_socket_addrs(&rt) {
         Ok(addresses) => addresses,
@@ -117,7 +125,8 @@ pub(crate) fn join<R>(
 ) -> Result<Met<R>, Trouble>
 where
     R: Net<Stream = TcpStream> + Wait + Clock + Copy + Drop,
-    requires { ends.1.has_deadline ≡ false }
+    requires untimed { ends.1.has_deadline ≡ false }
+    requires fresh { (joining_state ends.0 ≡ unused) × (joining_state ends.1 ≡ unused) }
     ensures size { IfOk result (λ met. IsScreenSize met.joined.w met.joined.h) }
     ensures untimed { IfOk result (λ met. (met.reader.has_deadline ≡ false) × (met.writer.has_deadline ≡ false)) }
 {

@@ -3,6 +3,8 @@
 ghost use Rattle.std.specs.Prelude.{◌≡◌, ◌≤◌, true, false, None, All, OnOk, is_some, length};
 ghost use Rattle.raster.specs.Size.{IsScreenSize};
 ghost use Rattle.host_turns.specs.Running.{goes_on};
+ghost use Rattle.link.specs.Joins.{Joins};
+ghost use Rattle.run_traits.specs.Unused.{unused};
 ghost use Rattle.settings.specs.ByRole.{HasPlaces};
 ghost use Rattle.serve.specs.Turns.{MayEnd, endless};
 ghost use Rattle.serve.specs.Doors.{AreDoorsFor, AreBoth};
@@ -38,7 +40,8 @@ use std::sync::{Arc, Wait};
 use std::thread::Threads;
 use std::time::Clock;
 
-/// The run over a history that J names.
+/// The run over a history that J names. Its first host was joined over the end that is read, and given nothing over
+/// the other.
 fn over<J, L, H, D, B, W, R>(
     rt: R,
     alloc: Global,
@@ -64,6 +67,8 @@ where
     requires size { IsScreenSize joined.w joined.h × (joined.w ≡ J.width) × (joined.h ≡ J.height) }
     requires doors { (1 ≤ length doors.items) × (length doors.items ≤ 64) }
     requires roles { All (λ door. D.is_for door.1 door.0) doors.items }
+    requires joins { ∥ Joins unused (L.state ends.0) joined ∥₁ }
+    requires writer { L.state ends.1 ≡ unused }
     ensures { goes_on result ≡ true → H.again hosts ≡ None }
 {
     let (reader, writer_end) = ends;

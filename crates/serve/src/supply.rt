@@ -1,6 +1,8 @@
 //! The hosts that follow on one that has ended.
 
 ghost use Rattle.std.specs.Prelude.{◌≡◌, ◌⊎◌, ◌-◌, ◌≤◌, ⊤, IfOk, IfSome, IsNone, None, false, is_some, length, true};
+ghost use Rattle.connections.specs.Wires.{joining_state};
+ghost use Rattle.run_traits.specs.Unused.{unused};
 ghost use Rattle.serve.specs.Turns.{endless, turn_of};
 ghost use Rattle.serve.specs.Stops.{IsOut};
 
@@ -131,9 +133,18 @@ impl<
             Err(missed) => return Err(missed.trouble()),
         };
         match join(&self.rt, number, ends) {
-            Ok(mut met) => {
-                self.joined(&mut met.reader, &met.joined);
-                Ok(met)
+            Ok(met) => {
+                let Met {
+                    mut reader,
+                    writer,
+                    joined,
+                } = met;
+                self.joined(&mut reader, &joined);
+                Ok(Met {
+                    reader,
+                    writer,
+                    joined,
+                })
             }
             Err(trouble) => {
                 self.note_out(Err(trouble.fault));
@@ -154,7 +165,7 @@ impl<
 
     /// The ends of a connection to a host that is read from now on.
     fn take_up(&self, reached: Reached<R>) -> (JoiningLink<R>, JoiningLink<R>)
-        ensures { result.1 ≡ reached.writer }
+        ensures { (result.0 ≡ reached.reader) × (result.1 ≡ reached.writer) }
     {
         let Reached {
             address: _,
@@ -171,6 +182,7 @@ impl<
     /// Tries to connect to the host of this number, whose turn it is, and tells the log how the try ended.
     fn reach(&mut self, number: usize) -> Result<(JoiningLink<R>, JoiningLink<R>), Missed>
         ensures untimed { IfOk result (λ ends. ends.1.has_deadline ≡ false) }
+        ensures fresh { IfOk result (λ ends. (joining_state ends.0 ≡ unused) × (joining_state ends.1 ≡ unused)) }
         ensures turns { self.new.turns ≡ self.old.turns }
         ensures texts { self.new.texts ≡ self.old.texts }
         ensures lifeline { self.new.lifeline ≡ self.old.lifeline }

@@ -4,3 +4,4 @@ pub mod Leaving
 pub mod Following
 pub mod Servings
 pub mod Served
+pub mod Visited

@@ -18,7 +18,7 @@ use Rattle.viewer_server.specs.declared.breaks.Break.TheVariants.{At, Refused}
 use Rattle.viewer_server.proofs.Leaving.{first_waits}
 
 -- What the sink took while the viewer was served, what waited, and the releases are all that is allowed.
-allowed_in_all : (s : Setup) (st : State) (q : Viewer) (box : Unpassed) (sent : List Input) → Stands s st (without_input q) → q.waiting ≡ box.waiting → HasPassed q sent → all_allowed q ≡ sent ++ (waiting_list box.waiting ++ left_in st.held)
+pub allowed_in_all : (s : Setup) (st : State) (q : Viewer) (box : Unpassed) (sent : List Input) → Stands s st (without_input q) → q.waiting ≡ box.waiting → HasPassed q sent → all_allowed q ≡ sent ++ (waiting_list box.waiting ++ left_in st.held)
 allowed_in_all s st q box sent k waits passed =
     let held : HeldStands q.role st.held (messages_in q.entries) = subst (λ r. HeldStands r st.held (messages_in q.entries)) (sym k.serves.role) k.relays.held in
     all_released q.role st.held (messages_in q.entries) held
@@ -58,7 +58,7 @@ refused_at may_refuse fault s st q box sent k waits passed refused some =
     let first = first_waits box.waiting some in
     record { refused = refused; input = first.0; rest = left_in st.held; left = allowed_in_all s st q box sent k waits passed ∙ ap (λ t. sent ++ (t ++ left_in st.held)) first.1 }
 
-unread_by : (q : Viewer) (box : Unpassed) → q.waiting ≡ box.waiting → WaitsIfLeft box → (box.unread ≡ []) ⊎ (is_some q.waiting ≡ true)
+pub unread_by : (q : Viewer) (box : Unpassed) → q.waiting ≡ box.waiting → WaitsIfLeft box → (box.unread ≡ []) ⊎ (is_some q.waiting ≡ true)
 unread_by q box waits (inl none) = inl none
 unread_by q box waits (inr some) = inr (ap is_some waits ∙ some)
 

@@ -25,6 +25,7 @@ use Rattle.viewer_session.specs.Session.{State, Stands, Turns, CutsAt, HasCounte
 use Rattle.viewer_session.proofs.SessionLaws.{fault_stands, stands_saw, unsent_left}
 use Rattle.viewer_session.proofs.Stands.{numbers_more}
 use Rattle.viewer_server.specs.Serving.{EachAnswerHolds, CutsWell, MayBe, AllMayBe, IsShown, bytes_in, has_turned, HaltsBy, LinkHalts}
+use Rattle.viewer_server.specs.Moment.{IsTurned, IsServing}
 use Rattle.viewer_server.specs.Steps.{Unpassed, all_passed, WaitsIfLeft, Passes, ReadsTo, Reads, ReadsIfAny, GoesOn, Says, Offers, HasHeard, HeardSo, Hears, EndsSo, HasServed}
 use Rattle.viewer_server.specs.declared.breaks.Break.{Break}
 use Rattle.viewer_server.specs.declared.breaks.Break.TheVariants.{At, Refused}
@@ -129,27 +130,6 @@ numbers_began m n None es le k = (le, k)
 numbers_began m n (Some found) es le k = (le, (le, k))
 
 -- ---- a viewer that is served
-
--- Where a turn was offered with nothing unsent, one was had if the viewer is between two messages.
-abbrev pub IsTurned : Bool → Setup → Viewer → Type 0
-IsTurned true s p = IsBetween p → has_turned p.entries ≡ true
-IsTurned false s p = Unit {0}
-
-pub record IsServing {S : Type 0} (looks cuts : S → ℕ → S → Type 0) (source_old source_new : S) (us : List Update) (most : ℕ) (s : Setup) (p : Viewer) (st : State) (box : Unpassed) (sent_old sent_new : List Input) (is_offered : Bool) (old new : LinkState) : Type 0 where
-  pub begun : (role : Role) × (greet : Bool) × (p ≡ new_viewer role greet)
-  pub acts : List Act
-  pub sent : List Input
-  pub may_be : AllMayBe s us p acts
-  pub shown : IsShown looks cuts source_old acts source_new
-  pub taken : new.taken ≡ old.taken ++ (bytes_in acts ++ box.unread)
-  pub given : new.given ≡ old.given ++ take (viewer_after s us p acts).written (out_bytes s (viewer_after s us p acts))
-  pub stands : Stands s st (without_input (viewer_after s us p acts))
-  pub waiting : (viewer_after s us p acts).waiting ≡ box.waiting
-  pub took : sent_new ≡ sent_old ++ sent
-  pub passed : HasPassed (viewer_after s us p acts) sent
-  pub numbers : NumbersUpTo most (viewer_after s us p acts).entries
-  pub counted : HasCounted st us
-  pub turned : IsTurned is_offered s (viewer_after s us p acts)
 
 pub serving_begins : {S : Type 0} (looks cuts : S → ℕ → S → Type 0) (source : S) (us : List Update) (most : ℕ) (s : Setup) (role : Role) (greet : Bool) (st : State) (box : Unpassed) (sent : List Input) (link : LinkState)
     → st.asked.last ≡ None → box ≡ all_passed → Stands s st (new_viewer role greet) → IsServing looks cuts source source us most s (new_viewer role greet) st box sent sent false link link
@@ -349,7 +329,7 @@ serving_turns looks cuts a b c us known most now_most s p st next box x y true o
     }
 
 -- The same over more updates, of a source and a session that are the same.
-serving_known : {S : Type 0} (looks cuts : S → ℕ → S → Type 0) (a b c : S) (us known : List Update) (most now_most : ℕ) (s : Setup) (p : Viewer) (st next : State) (box : Unpassed) (x y : List Input) (is_offered : Bool) (old now : LinkState)
+pub serving_known : {S : Type 0} (looks cuts : S → ℕ → S → Type 0) (a b c : S) (us known : List Update) (most now_most : ℕ) (s : Setup) (p : Viewer) (st next : State) (box : Unpassed) (x y : List Input) (is_offered : Bool) (old now : LinkState)
     → IsServing looks cuts a b us most s p st box x y is_offered old now → Begins us known → next ≡ st → c ≡ b → now_most ≡ most → IsServing looks cuts a c known now_most s p next box x y is_offered old now
 serving_known looks cuts a b c us known most now_most s p st next box x y is_offered old now k begins still there rises =
     let same : viewer_after s known p k.acts ≡ viewer_after s us p k.acts = after_same s us known p k.acts begins k.may_be in
@@ -489,7 +469,7 @@ serving_heard looks cuts a b us most s p st next box after x y is_offered answer
 
 -- ---- the end
 
-held_by : (s : Setup) (us : List Update) (p : Viewer) (acts : List Act) (st : State) → s.w ≤ 4096 → s.h ≤ 4096 → ((role : Role) × (greet : Bool) × (p ≡ new_viewer role greet)) → AllMayBe s us p acts → Stands s st (without_input (viewer_after s us p acts))
+pub held_by : (s : Setup) (us : List Update) (p : Viewer) (acts : List Act) (st : State) → s.w ≤ 4096 → s.h ≤ 4096 → ((role : Role) × (greet : Bool) × (p ≡ new_viewer role greet)) → AllMayBe s us p acts → Stands s st (without_input (viewer_after s us p acts))
     → EachAnswerHolds s us (viewer_after s us p acts)
 held_by s us p acts st lw lh begun may stands =
     subst (λ (q : Viewer). EachAnswerHolds s us (viewer_after s us q acts)) (sym begun.2)

@@ -1,3 +1,4 @@
 pub mod Serving
 pub mod Steps
+pub mod Moment
 pub mod Following

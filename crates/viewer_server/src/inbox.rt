@@ -127,6 +127,7 @@ impl Inbox {
         requires { self.old.waiting ≡ None }
         ensures next { left_in session.old.held ≡ waiting_list self.new.waiting ++ left_in session.new.held }
         ensures none { result ≡ false → (self.new.waiting ≡ None) × (left_in session.new.held ≡ []) }
+        ensures others { session.new ≡ record session.old { held = session.new.held } }
     {
         self.waiting = session.leave();
         self.waits()

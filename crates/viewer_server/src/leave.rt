@@ -1,34 +1,44 @@
 //! What still goes to the sink once a viewer has left: its input that waits, and then the releases.
 
-ghost use Rattle.std.specs.Prelude.{◌++◌};
+ghost use Rattle.std.specs.Prelude.{◌≡◌, ◌++◌, false};
 ghost use Rattle.roles.specs.Held.{left_in};
 ghost use Rattle.viewer_server.specs.Steps.{Leaves};
 ghost use Rattle.viewer_session.specs.Acts.{waiting_list};
 
-use crate::inbox::Inbox;
+use crate::visit::Visit;
 use fault::Fault;
-use link::{Rest, StopFlag};
+use link::{Link, Rest, StopFlag};
+use reflect_core::ScreenSource;
 use roles::InputSink;
 use std::sync::Wait;
-use viewer_session::Session;
 
 /// Passes the input that waits to the sink, and then one release after another. Where the sink is full it rests and
 /// tries again, until the flag is set. It fails where the sink refuses an input for good.
-pub(crate) fn leave<K: InputSink, F: StopFlag, Z: Rest, R: Wait>(
+pub(crate) fn leave<L, S, K, T, F, Z, R>(
     rt: &R,
-    sink: &mut K,
-    session: &mut Session,
-    inbox: &mut Inbox,
+    visit: &mut Visit<'_, L, S, K, T>,
     stop: &F,
     rest: &Z,
 ) -> Result<(), Fault>
-    ensures { Leaves (F.was_set stop.now) K.may_refuse (waiting_list inbox.old.waiting ++ left_in session.old.held) (K.sent sink.old) (K.sent sink.new) result }
+where
+    L: Link,
+    S: ScreenSource,
+    K: InputSink,
+    T: Drop,
+    F: StopFlag,
+    Z: Rest,
+    R: Wait,
+    requires { visit.old.is_served ≡ false }
+    ensures first { visit.new.first ≡ visit.old.first }
+    ensures link { visit.new.link ≡ visit.old.link }
+    ensures source { visit.new.source ≡ visit.old.source }
+    ensures leaves { Leaves (F.was_set stop.now) K.may_refuse (waiting_list visit.old.inbox.waiting ++ left_in visit.old.session.held) (K.sent visit.old.sink) (K.sent visit.new.sink) result }
 {
     for _ in rt.forever() {
-        if !inbox.waits() && !inbox.release(session) {
+        if !visit.waits() && !visit.release() {
             return Ok(());
         }
-        let is_full = inbox.pass(sink)?;
+        let is_full = visit.pass()?;
         if is_full {
             if stop.is_set() {
                 return Ok(());

@@ -12,7 +12,9 @@ mod leave;
 mod progress;
 mod run;
 mod serve;
+mod visit;
 
 pub use law::viewer_holds_each_answer;
 pub use progress::{NoProgress, Progress};
 pub use run::run_viewer;
+pub use visit::{Beginning, Visit};

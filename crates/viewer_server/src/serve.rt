@@ -1,6 +1,6 @@
 //! Serves one viewer until it leaves.
 
-ghost use Rattle.std.specs.Prelude.{◌≡◌, Bool, None};
+ghost use Rattle.std.specs.Prelude.{◌≡◌, Bool, None, true};
 ghost use Rattle.reflect_core.specs.Sequential.{Begins};
 ghost use Rattle.roles.specs.declared.role.Role as roles;
 ghost use Rattle.viewer_session.specs.Session.{IsSameSession, Stands};
@@ -10,6 +10,7 @@ ghost use Rattle.viewer_server.specs.Steps.{GoesOn, HasServed, Hears, Offers, Sa
 use crate::breaks::Break;
 use crate::inbox::Inbox;
 use crate::progress::Progress;
+use crate::visit::Visit;
 use fault::Fault;
 use link::{Gave, Link, Rest, StopFlag, Took};
 use reflect_core::ScreenSource;
@@ -19,7 +20,7 @@ use viewer_session::Session;
 
 /// Unless bytes are unsent, the session has a turn. Then `progress` is told how far the viewer is, and the source
 /// whether to lend forms for it. It answers whether no bytes were unsent.
-fn offer<S: ScreenSource, P: Progress>(
+pub(crate) fn offer<S: ScreenSource, P: Progress>(
     source: &mut S,
     session: &mut Session,
     progress: &P,
@@ -40,7 +41,7 @@ fn offer<S: ScreenSource, P: Progress>(
 }
 
 /// Gives the link as many of the unsent bytes as it takes now.
-fn say<L: Link>(link: &mut L, session: &mut Session) -> Result<(), Fault>
+pub(crate) fn say<L: Link>(link: &mut L, session: &mut Session) -> Result<(), Fault>
     ensures says { Says session.old session.new (L.state link.old) (L.state link.new) }
     ensures why { SaysNoMore result session.new (L.state link.old) (L.state link.new) }
 {
@@ -56,7 +57,7 @@ fn say<L: Link>(link: &mut L, session: &mut Session) -> Result<(), Fault>
 }
 
 /// Passes on an input that waits, and reads the bytes after it. It answers whether the sink is full.
-fn relay<K: InputSink>(
+pub(crate) fn relay<K: InputSink>(
     sink: &mut K,
     session: &mut Session,
     inbox: &mut Inbox,
@@ -77,7 +78,11 @@ fn relay<K: InputSink>(
 
 /// Takes the bytes that have come and lets the session read them. It answers whether more may come: false where the
 /// link ended between two messages with nothing unsent.
-fn hear<L: Link>(link: &mut L, session: &mut Session, inbox: &mut Inbox) -> Result<bool, Fault>
+pub(crate) fn hear<L: Link>(
+    link: &mut L,
+    session: &mut Session,
+    inbox: &mut Inbox,
+) -> Result<bool, Fault>
     requires { inbox.old ≡ all_passed }
     ensures same { IsSameSession session.old session.new }
     ensures hears { Hears result session.old session.new inbox.new (L.state link.old) (L.state link.new) }
@@ -103,13 +108,9 @@ fn hear<L: Link>(link: &mut L, session: &mut Session, inbox: &mut Inbox) -> Resu
 /// where nothing is unsent, gives the link what the session sends, and takes the viewer's bytes. Where the sink is full
 /// it rests instead of taking bytes, so that updates go on. Bytes are taken only after a turn, or while others are
 /// unsent.
-pub(crate) fn serve<L, S, K, F, Z, P, R>(
+pub(crate) fn serve<L, S, K, T, F, Z, P, R>(
     rt: &R,
-    link: &mut L,
-    source: &mut S,
-    sink: &mut K,
-    session: &mut Session,
-    inbox: &mut Inbox,
+    visit: &mut Visit<'_, L, S, K, T>,
     stop: &F,
     rest: &Z,
     progress: &P,
@@ -118,32 +119,34 @@ where
     L: Link,
     S: ScreenSource,
     K: InputSink,
+    T: Drop,
     F: StopFlag,
     Z: Rest,
     P: Progress,
     R: Wait,
-    requires screen { (S.width source.old ≡ session.old.width) × (S.height source.old ≡ session.old.height) }
-    requires uncut { session.old.asked.last ≡ None }
-    requires empty { inbox.old ≡ all_passed }
-    ensures grows { Begins (S.known source.old) (S.known source.new) }
-    ensures serves { (s : Setup) (role : roles.Role) (greet : Bool) → Stands s session.old (new_viewer role greet)
-        → HasServed S.looks S.cuts S.may_end (F.was_set stop.now) K.may_refuse source.old source.new (S.known source.new) s (new_viewer role greet) session.new inbox.new (K.sent sink.old) (K.sent sink.new) result (L.state link.old) (L.state link.new) }
+    requires served { visit.old.is_served ≡ true }
+    requires uncut { visit.old.session.asked.last ≡ None }
+    requires empty { visit.old.inbox ≡ all_passed }
+    ensures first { visit.new.first ≡ visit.old.first }
+    ensures grows { Begins (S.known visit.old.source) (S.known visit.new.source) }
+    ensures serves { (s : Setup) (role : roles.Role) (greet : Bool) → Stands s visit.old.session (new_viewer role greet)
+        → HasServed S.looks S.cuts S.may_end (F.was_set stop.now) K.may_refuse visit.old.source visit.new.source (S.known visit.new.source) s (new_viewer role greet) visit.new.session visit.new.inbox (K.sent visit.old.sink) (K.sent visit.new.sink) result (L.state visit.old.link) (L.state visit.new.link) }
 {
     for _ in rt.forever() {
         if stop.is_set() {
             return Ok(());
         }
-        let is_full = relay(sink, session, inbox)?;
-        if !is_full && inbox.waits() {
+        let is_full = visit.relay()?;
+        if !is_full && visit.waits() {
             continue;
         }
-        let is_offered = offer(source, session, progress)?;
-        say(link, session)?;
+        let is_offered = visit.offer(progress)?;
+        visit.say()?;
         if is_full {
-            link.flush();
+            visit.flush();
             rest.rest(rt);
-        } else if is_offered || !session.out().is_empty() {
-            let goes_on = hear(link, session, inbox)?;
+        } else if is_offered || visit.has_unsent() {
+            let goes_on = visit.hear()?;
             if !goes_on {
                 return Ok(());
             }

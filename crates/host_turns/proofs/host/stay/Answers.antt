@@ -25,5 +25,5 @@ returns-clause-read g c =
       left,
       ap (map state) pushed ∙ map-append state c.args.links.now.items (c.left.new.reader ∷ []),
       at_size (λ v k. IsRead v k c.read-answer.result (state c.args.link) left (g.P.Puts.updates c.args.publisher.now) (g.P.Puts.updates c.read-answer.new.publisher)) screen.decoder.width screen.decoder.height c.args.run_screen.now.width c.args.run_screen.now.height size.0 size.1
-          (subst over (sym c.left.ensures.link) c.read-answer.ensures.read),
+          (subst over (sym c.left.ensures.link) (record { out = c.read-answer.ensures.read; given = c.read-answer.ensures.given })),
     )

@@ -1,49 +1,28 @@
-use Rattle.std.proofs.Common.{refl, ap, ◌∙◌}
-use Rattle.host_writer.specs.Writing.{whole_request}
-use Rattle.host_writer.proofs.Writers.{writing_begins, writing_ends, writing_told, writing_saw, writing_asked, halts_telling, halts_asking}
+-- What the telling holds at its end is what was lent.
+use Rattle.std.proofs.Common.{ap, sym, ◌∙◌, length}
+use Rattle.roles.specs.Strokes.{StrokesKept}
+use Rattle.input_relay.specs.Ends.{host_of, taken_of}
+use Rattle.host_writer.proofs.Drops.{counted_at}
+use Rattle.host_writer.proofs.Writers.{writes_at}
 use Rattle.host_writer.proofs.run.run_writer.Goals as goal
 
-pub loop-init : goal.loop-init
-loop-init g c = (tt, tt, record { request = c.request_of-request.ensures ∙ (ap (λ w. whole_request w c.size-width.result.1) c.size-width.ensures.0 ∙ ap (whole_request (g.S.ScreenSource.width c.args.source.now)) c.size-width.ensures.1); relay = refl; places = refl; counted = λ k. k; writing = writing_begins _ _ _ _ _ _ _ })
+pub write_on-requires-clause-whole : goal.write_on-requires-clause-whole
+write_on-requires-clause-whole g c = rw c.new-telling.ensures.source.0 c.new-telling.ensures.begins.2
 
-pub returns-then-is_set-clause-writes : goal.returns-then-is_set-clause-writes
-returns-then-is_set-clause-writes g c = writing_ends _ _ _ _ _ _ _ _ _ _ _ _ (c.is_set.ensures c.if-is_set.true) c.loop.invariant.2.writing
+pub returns-clause-relay : goal.returns-clause-relay
+returns-clause-relay g c = ap host_of (c.taker-1.given.1 (sym (c.write_on.ensures.same.2 ∙ c.new-telling.ensures.taker.1))) ∙ (c.write_on.ensures.relay ∙ ap host_of c.new-telling.ensures.taker.0)
 
-pub returns-in-Err-clause-writes : goal.returns-in-Err-clause-writes
-returns-in-Err-clause-writes g c = rw c.answer_at.ensures (halts_telling _ _ _ _ _ _ _ _ _ _ _ _ _ _ _ _ c.loop.invariant.2.writing c.in-Err.ensures.err)
+pub returns-clause-places : goal.returns-clause-places
+returns-clause-places g c =
+    ap (λ (s : StrokesKept). length s.counts) (c.strokes-1.given.1 (sym (c.write_on.ensures.same.3 ∙ c.new-telling.ensures.strokes.1))) ∙ (c.write_on.ensures.places ∙ ap (λ (s : StrokesKept). length s.counts) c.new-telling.ensures.strokes.0)
 
-pub returns-in-Err-give_all-clause-writes : goal.returns-in-Err-give_all-clause-writes
-returns-in-Err-give_all-clause-writes g c =
-    let told = writing_told g.S.ScreenSource.looks _ _ _ _ _ _ _ _ _ _ _ c.in-Ok.was_taken _ _ _ c.loop.invariant.2.writing c.in-Ok.ensures.ok in
-    rw c.answer_at-in-Err-give_all.ensures
-    (halts_asking g.S.ScreenSource.looks _ _ _ _ _ _ _ _ _ _ _ _ _ _ _ _ told c.look-looked.ensures.looks c.if-asked-looked.true c.loop.invariant.2.request c.in-Err-give_all.ensures.err)
+pub returns-clause-counted : goal.returns-clause-counted
+returns-clause-counted g c =
+    counted_at _ _ _ _ _ _ _ _ _ _ _ _ (ap taken_of c.new-telling.ensures.taker.0) (ap taken_of (sym (c.taker-1.given.1 (sym (c.write_on.ensures.same.2 ∙ c.new-telling.ensures.taker.1))))) c.new-telling.ensures.strokes.0 (sym (c.strokes-1.given.1 (sym (c.write_on.ensures.same.3 ∙ c.new-telling.ensures.strokes.1))))
+    (ap g.D.DropCount.dropped c.new-telling.ensures.drops.0) (ap g.D.DropCount.dropped (sym (c.drops-1.given.1 (sym (c.write_on.ensures.same.4 ∙ c.new-telling.ensures.drops.1))))) c.write_on.ensures.counted
 
-pub loop-preserved-in-Ok-give_all : goal.loop-preserved-in-Ok-give_all
-loop-preserved-in-Ok-give_all g c =
-    let told = writing_told g.S.ScreenSource.looks _ _ _ _ _ _ _ _ _ _ _ c.in-Ok.was_taken _ _ _ c.loop.invariant.2.writing c.in-Ok.ensures.ok in (
-      tt,
-      tt,
-      record {
-        request = c.loop.invariant.2.request;
-        relay = c.tell_input.ensures.relay ∙ c.loop.invariant.2.relay;
-        places = c.tell_input.ensures.places ∙ c.loop.invariant.2.places;
-        counted = λ k. c.tell_input.ensures.counted (c.loop.invariant.2.counted k);
-        writing = writing_asked g.S.ScreenSource.looks _ _ _ _ _ _ _ _ _ _ _ _ _ _ _ told c.look-looked.ensures.looks c.if-asked-looked.true c.loop.invariant.2.request c.in-Ok-give_all.ensures.ok;
-      },
-    )
-
-pub loop-preserved-then-not-was_taken : goal.loop-preserved-then-not-was_taken
-loop-preserved-then-not-was_taken g c =
-    let told = writing_told g.S.ScreenSource.looks _ _ _ _ _ _ _ _ _ _ _ c.in-Ok.was_taken _ _ _ c.loop.invariant.2.writing c.in-Ok.ensures.ok in (
-      tt,
-      tt,
-      record { request = c.loop.invariant.2.request; relay = c.tell_input.ensures.relay ∙ c.loop.invariant.2.relay; places = c.tell_input.ensures.places ∙ c.loop.invariant.2.places; counted = λ k. c.tell_input.ensures.counted (c.loop.invariant.2.counted k); writing = writing_saw g.S.ScreenSource.looks _ _ _ _ _ _ _ _ _ _ _ _ _ told c.look-looked.ensures.looks c.if-asked-looked.false },
-    )
-
-pub loop-preserved : goal.loop-preserved
-loop-preserved g c =
-    let told = writing_told g.S.ScreenSource.looks _ _ _ _ _ _ _ _ _ _ _ c.in-Ok.was_taken _ _ _ c.loop.invariant.2.writing c.in-Ok.ensures.ok in (
-      tt,
-      tt,
-      record { request = c.loop.invariant.2.request; relay = c.tell_input.ensures.relay ∙ c.loop.invariant.2.relay; places = c.tell_input.ensures.places ∙ c.loop.invariant.2.places; counted = λ k. c.tell_input.ensures.counted (c.loop.invariant.2.counted k); writing = writing_saw g.S.ScreenSource.looks _ _ _ _ _ _ _ _ _ _ _ _ _ told c.look-looked.ensures.looks c.if-asked-looked.false },
-    )
+pub returns-clause-writes : goal.returns-clause-writes
+returns-clause-writes g c =
+    writes_at g.S.ScreenSource.looks g.S.ScreenSource.width g.S.ScreenSource.height c.write_on.result _ _ _ _ _ _ _ _ _ _ _ _ _ _ _ _ c.new-telling.ensures.source.0 (sym (c.source-1.given.1 (sym (c.write_on.ensures.same.1 ∙ c.new-telling.ensures.source.1)))) (ap taken_of c.new-telling.ensures.taker.0)
+    (ap taken_of (sym (c.taker-1.given.1 (sym (c.write_on.ensures.same.2 ∙ c.new-telling.ensures.taker.1))))) c.new-telling.ensures.strokes.0 (sym (c.strokes-1.given.1 (sym (c.write_on.ensures.same.3 ∙ c.new-telling.ensures.strokes.1)))) (ap g.L.Link.state c.new-telling.ensures.link.0)
+    (ap g.L.Link.state (sym (c.link-1.given.1 (sym (c.write_on.ensures.same.0 ∙ c.new-telling.ensures.link.1))))) c.write_on.ensures.writes

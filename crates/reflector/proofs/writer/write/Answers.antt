@@ -8,4 +8,4 @@ returns-in_default-clause-told g c = told_all _ _ _ _ _ _ _ _ _ c.loop.invariant
 
 pub loop-preserved : goal.loop-preserved
 loop-preserved g c =
-    (tt, tt, c.run_writer.ensures.relay ∙ c.loop.invariant.2, λ k. c.run_writer.ensures.counted (c.loop.invariant.3 k), telling_on _ _ _ _ _ _ _ _ _ _ _ _ _ _ c.loop.invariant.4 c.in-Some-next.ensures.came c.run_writer.ensures.writes c.told.ensures)
+    (tt, tt, c.run_writer.ensures.relay ∙ c.loop.invariant.2, λ k. c.run_writer.ensures.counted (c.loop.invariant.3 k), telling_on _ _ _ _ _ _ _ _ _ _ _ _ _ _ c.loop.invariant.4 c.in-Some-next.ensures.came c.in-Some-next.ensures.fresh c.run_writer.ensures.writes c.told.ensures)

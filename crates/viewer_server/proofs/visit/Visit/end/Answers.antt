@@ -1,0 +1,8 @@
+-- Once it is served no longer, what waits and the releases are what is left.
+use Rattle.std.proofs.Math.Logic.{∥∥₁_map}
+use Rattle.viewer_server.proofs.Visited.{visited_ended}
+use Rattle.viewer_server.proofs.visit.Visit.end.Goals as goal
+
+pub invariant_of-self-clause-lawful : goal.invariant_of-self-clause-lawful
+invariant_of-self-clause-lawful g c = ∥∥₁_map c.args.self.now.lawful (λ f. λ s role greet k.
+    visited_ended g.S.ScreenSource.looks g.S.ScreenSource.cuts _ s _ _ _ _ _ _ c.args.self.now.is_served _ _ _ _ _ c.flush.ensures (f s role greet k))

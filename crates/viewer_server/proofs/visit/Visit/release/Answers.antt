@@ -1,0 +1,8 @@
+-- The next release waits.
+use Rattle.std.proofs.Math.Logic.{∥∥₁_map}
+use Rattle.viewer_server.proofs.Visited.{visited_released}
+use Rattle.viewer_server.proofs.visit.Visit.release.Goals as goal
+
+pub invariant_of-self-clause-lawful : goal.invariant_of-self-clause-lawful
+invariant_of-self-clause-lawful g c = ∥∥₁_map c.args.self.now.lawful (λ f. λ s role greet k.
+    visited_released g.S.ScreenSource.looks g.S.ScreenSource.cuts _ s _ _ _ _ _ _ c.args.self.now.is_served _ _ _ _ _ _ c.requires.served (f s role greet k) c.requires.none c.release.ensures.next)
