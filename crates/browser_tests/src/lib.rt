@@ -3,11 +3,17 @@
 #![tactic(auto)]
 
 #[cfg(test)]
+mod asks;
+#[cfg(test)]
 mod browser;
+#[cfg(test)]
+mod clock;
 #[cfg(test)]
 mod host;
 #[cfg(test)]
 mod loopback;
+#[cfg(test)]
+mod port;
 #[cfg(test)]
 mod ports;
 #[cfg(test)]

@@ -1,27 +1,23 @@
-//! A web port before one place: files, strangers, a browser that finds no place, and one that comes after another.
+//! A web port before one place: files, strangers, a browser that finds no place, and one that comes after another. A
+//! browser that asks slowly, by a clock that is put forward by hand.
 
-use crate::browser::{Browser, are_strangers_refused, is_told};
-use crate::loopback::{hears, listen};
-use bytes::Bytes;
-use connections::{Desk, Lobby, RoleListener, Seat, TcpDoor, WebEntry, WebPorter};
+use crate::asks::{Ask, NOT_FOUND, PORT, are_strangers_refused, is_answered, is_told};
+use crate::browser::Browser;
+use crate::clock::{ByHand, no_millis, puts_forward};
+use crate::loopback::{connect, hears, is_let_go, reads, sends};
+use crate::port::{AROUND, FOUND, WebPort, seat};
+use connections::{Lobby, Seat, TcpDoor, WebPorter};
 use link::{Gave, Link, Took};
 use roles::Role;
 use run_traits::{Door, NoLog};
 use std::alloc::Global;
-use std::hash::RandomState;
-use std::io::ErrorKind;
-use std::net::{Net, SocketAddr, TcpListener, TcpStream};
+use std::net::TcpStream;
+use std::sync::atomic::AtomicU64;
 use std::sync::{Arc, Wait};
 use std::test::*;
 use std::thread::Threads;
 use std::time::Clock;
 use std::{io, thread};
-use web_site::{Admission, FileTable, Site};
-
-/// A file, and its path.
-const FILE: &[u8] = b"let a;";
-
-const PATH: &str = "/app/ui.js";
 
 /// What a browser is told that finds no place: a message of 12 bytes, the version; one of 25, no security type and a
 /// reason of 20 bytes; and a close frame with 1013, try again later (RFC 6143, 7.1.1 and 7.1.2; RFC 6455, 5.2 and
@@ -33,8 +29,59 @@ const REFUSAL: &[u8] =
 /// the same close frame.
 const EARLY: &[u8] = b"\x82\x0CRFB 003.008\n\x82\x10\0\0\0\0\x0Bno host yet\x88\x02\x03\xF5";
 
+/// What a browser is told that finds a place: a message of one byte.
+const WELCOME: &[u8] = b"\x82\x01R";
+
 /// At most this many find that a place which was left isn't free yet.
 const TRIES: u64 = 1_000;
+
+/// Nothing is had under this path.
+const NOWHERE: Ask = Ask {
+    request: &["GET /none HTTP/1.1\r\nHost: 127.0.0.1:", PORT, "\r\n\r\n"],
+    status: NOT_FOUND,
+    line: b"",
+    body: b"",
+};
+
+/// A request for that path begins so, and goes on so.
+const BEGINNING: &[u8] = b"GET /none HTTP/1.1\r\n";
+
+const REST: Ask = Ask {
+    request: &["Host: 127.0.0.1\r\n\r\n"],
+    status: NOT_FOUND,
+    line: b"",
+    body: b"",
+};
+
+/// Who comes to a port.
+#[derive(Clone, Copy)]
+enum Visitors {
+    /// Browsers of which one finds the place, and another comes after it.
+    Browsers,
+    /// A caller that asks slowly, and others.
+    Slow,
+}
+
+/// A new port, and its one place.
+struct Scene {
+    /// The name that is printed where the scene goes otherwise.
+    name: &'static str,
+    role: Role,
+    visitors: Visitors,
+    /// Whether the port's clock stands until it is put forward.
+    is_standing: bool,
+    /// How many viewers come to the place.
+    came: u64,
+}
+
+/// A port, as its visitors find it.
+#[derive(Clone, Copy)]
+struct House<'a> {
+    net: &'a HostRuntime,
+    port: u16,
+    lobby: &'a Lobby,
+    millis: &'static AtomicU64,
+}
 
 /// Greets each viewer with a byte and then serves it until it ends. It answers how many viewers came.
 fn greets<D: Door>(door: &mut D) -> u64 {
@@ -56,131 +103,191 @@ fn greets<D: Door>(door: &mut D) -> u64 {
     u64::MAX
 }
 
-/// What the port answers at this address.
-pub(crate) fn site(alloc: Global, address: SocketAddr) -> io::Result<Arc<Site, Global>> {
-    let mut files = FileTable::new(alloc);
-    if files
-        .add(String::from_str(alloc, PATH)?, Bytes::from_static(FILE))
-        .is_err()
-    {
-        return Err(io::Error::from(ErrorKind::OutOfMemory));
-    }
-    let mut hosts = Vec::new(alloc);
-    hosts.push(format!(in alloc; "{address}")?)?;
-    let mut origins = Vec::new(alloc);
-    origins.push(format!(in alloc; "http://{address}")?)?;
-    let files = Arc::new(alloc, files)?;
-    let site = Site::new(alloc, files, Admission { hosts, origins }, false)?;
-    Ok(Arc::new(alloc, site)?)
-}
-
 /// Whether a file is given, and neither another site's page nor a request for another host is let in.
-fn asks(net: &HostRuntime, port: u16) -> io::Result<bool> {
-    let is_given = is_told(net, port, PATH, b"HTTP/1.1 200 ", FILE)?;
-    let is_none = is_told(net, port, "/app/../app/ui.js", b"HTTP/1.1 404 ", b"")?;
-    Ok(is_given && is_none && are_strangers_refused(net, port)?)
+fn are_asks_right(house: &House<'_>) -> bool {
+    is_told(house.net, house.port, &FOUND)
+        && is_told(house.net, house.port, &AROUND)
+        && are_strangers_refused(house.net, house.port)
 }
 
 /// Whether a browser that comes is told these bytes once a WebSocket is opened.
-fn is_refused(net: &HostRuntime, port: u16, refusal: &[u8]) -> io::Result<bool> {
-    match Browser::open(net, port)? {
+fn is_refused(house: &House<'_>, refusal: &[u8]) -> bool {
+    match Browser::open(house.net, house.port) {
         Some(mut browser) => hears(browser.stream(), refusal),
-        None => Ok(false),
+        None => false,
     }
 }
 
-/// Whether a browser that comes finds the place.
-fn is_let_in(net: &HostRuntime, port: u16) -> io::Result<bool> {
-    match Browser::open(net, port)? {
-        Some(mut browser) => hears(browser.stream(), b"\x82\x01R"),
-        None => Ok(false),
+/// Whether a browser that comes finds the place. There is no answer where it is told nothing.
+fn is_let_in(house: &House<'_>) -> Option<bool> {
+    let mut told = [0u8; 3];
+    let mut browser = Browser::open(house.net, house.port)?;
+    if reads(browser.stream(), &mut told) {
+        Some(told.as_slice() == WELCOME)
+    } else {
+        None
     }
 }
 
-/// One browser comes in, a second is told why it can't, while files are given, and once the first has left there is a
-/// place again.
-fn visits(net: &HostRuntime, port: u16) -> io::Result<bool> {
-    let Some(mut first) = Browser::open(net, port)? else {
-        return Ok(false);
-    };
-    let is_greeted = first.hears(b"R")?;
-    let is_right = is_greeted && asks(net, port)? && is_refused(net, port, REFUSAL)?;
-    drop(first);
-    if !is_right {
-        return Ok(false);
-    }
+/// Whether a browser finds the place once the one before has left.
+fn is_free_again(house: &House<'_>) -> bool {
     for _ in 0..TRIES {
-        if is_let_in(net, port)? {
-            return Ok(true);
+        match is_let_in(house) {
+            Some(true) => return true,
+            Some(false) => {}
+            None => return false,
         }
     }
-    Ok(false)
+    false
 }
 
-/// Whether all is right before there is a host, and once there is one. The lobby is closed at the end.
-fn comes<R: Wait>(rt: &R, net: &HostRuntime, port: u16, lobby: &Lobby) -> bool {
-    let is_early = asks(net, port).unwrap_or(false)
-        && is_refused(net, port, EARLY).unwrap_or(false);
-    lobby.hold(rt, false);
-    let is_right = visits(net, port).unwrap_or(false);
-    lobby.close(rt);
-    is_early && is_right
+/// Whether one browser comes in, and a second is told why it can't, while files are given.
+fn is_full(house: &House<'_>) -> bool {
+    match Browser::open(house.net, house.port) {
+        Some(mut first) => {
+            first.hears(b"R") && are_asks_right(house) && is_refused(house, REFUSAL)
+        }
+        None => false,
+    }
 }
 
-/// How many viewers came to the door while the port was kept, and whether each was told what it should be.
-fn serves<R, D>(
-    rt: &R,
-    net: &HostRuntime,
-    entry: WebEntry,
-    lobby: &Lobby,
-    port: u16,
-    door: &mut D,
-) -> io::Result<(u64, bool)>
+/// Whether all is right before there is a host, and once there is one.
+fn are_browsers_met<R: Wait>(rt: &R, house: &House<'_>) -> bool {
+    house.lobby.hold(rt, true);
+    let is_early = are_asks_right(house) && is_refused(house, EARLY);
+    house.lobby.hold(rt, false);
+    is_early && is_full(house) && is_free_again(house)
+}
+
+/// Whether another request is answered. If so, the porter is done with all that came before.
+fn is_other_answered(house: &House<'_>) -> bool {
+    is_told(house.net, house.port, &NOWHERE)
+}
+
+/// Whether a request that has begun is answered once the rest is sent, just before it is late. The second of the others
+/// is answered after the porter has looked at the clock.
+fn is_in_time(house: &House<'_>, slow: &mut TcpStream) -> bool {
+    is_other_answered(house)
+        && puts_forward(house.millis, 9_999)
+        && is_other_answered(house)
+        && is_other_answered(house)
+        && is_answered(house.net.alloc(), slow, house.port, &REST)
+}
+
+/// Whether a request that has begun is late ten seconds after the last answer, and its caller let go.
+fn is_late(house: &House<'_>, slow: &mut TcpStream) -> bool {
+    is_other_answered(house) && puts_forward(house.millis, 10_000) && is_let_go(slow)
+}
+
+/// Whether a caller that asks slowly is let go ten seconds after its last answer, and not before.
+fn is_slow_one_met(house: &House<'_>) -> bool {
+    match connect(house.net, house.port) {
+        Some(mut slow) => {
+            sends(&mut slow, BEGINNING)
+                && is_in_time(house, &mut slow)
+                && sends(&mut slow, BEGINNING)
+                && is_late(house, &mut slow)
+        }
+        None => false,
+    }
+}
+
+/// Whether these visitors are met as they should be. The lobby is closed at the end.
+fn visits<R: Wait>(rt: &R, house: &House<'_>, visitors: Visitors) -> bool {
+    let is_right = match visitors {
+        Visitors::Browsers => are_browsers_met(rt, house),
+        Visitors::Slow => is_slow_one_met(house),
+    };
+    house.lobby.close(rt);
+    is_right
+}
+
+/// How many viewers came to the door while the port was kept.
+fn keeps<R, D>(hand: &ByHand<R>, porter: WebPorter, door: &mut D) -> u64
 where
-    R: Net<Stream = TcpStream, Listener = TcpListener> + Threads + Wait + Clock + Send + Sync,
+    R: Threads + Wait + Clock + Drop + Send + Sync,
     D: Door + Send,
 {
-    let alloc = net.alloc();
-    let keys = RandomState::new(net)?;
-    let mut entries = Vec::new(alloc);
-    entries.push(entry)?;
     let seats: [Arc<Seat, Global>; 0] = [];
-    let porter = WebPorter::new(net, alloc, entries, keys)?;
-    let ((came, _), right) = thread::join(
-        rt,
-        || thread::join(rt, || greets(door), move || porter.keep(rt, &seats, &NoLog)),
-        || comes(rt, net, port, lobby),
+    let (came, ()) = thread::join(
+        &hand.rt,
+        || greets(door),
+        || porter.keep(hand, &seats, &NoLog),
     );
-    Ok((came, right))
+    came
 }
 
-/// What `serves` answers with a new lobby of one place, to which no viewer is let yet.
-fn opens<R>(rt: R, net: &HostRuntime) -> io::Result<(u64, bool)>
+/// How many viewers came to the door while the port was kept, and whether its visitors were met as they should be.
+fn serves<R, D>(
+    hand: &ByHand<R>,
+    house: &House<'_>,
+    porter: WebPorter,
+    door: &mut D,
+    visitors: Visitors,
+) -> (u64, bool)
 where
-    R: Net<Stream = TcpStream, Listener = TcpListener>
-        + Threads
-        + Wait
-        + Clock
-        + Copy
-        + Drop
-        + Send
-        + Sync,
+    R: Threads + Wait + Clock + Drop + Send + Sync,
+    D: Door + Send,
 {
-    let alloc = net.alloc();
-    let listener = RoleListener::new(listen(net)?, Role::Full);
-    let address = listener.socket().local_addr()?;
-    let desk = Arc::new(alloc, Desk::new(alloc, 1)?)?;
-    let lobby = Arc::new(alloc, Lobby::new(alloc, Role::Full, 1, 60, desk)?)?;
-    lobby.hold(&rt, true);
-    let entry = WebEntry::new(listener, site(alloc, address)?, Arc::try_clone(&lobby)?)?;
-    let seat = Arc::new(alloc, Seat::new(net, alloc)?)?;
-    let shared = Arc::try_clone(&lobby)?;
-    let mut door = TcpDoor::new(rt, alloc, shared, seat, 1, NoLog);
-    serves(&rt, net, entry, &lobby, address.port(), &mut door)
+    let (is_right, came) = thread::join(
+        &hand.rt,
+        || visits(&hand.rt, house, visitors),
+        || keeps(hand, porter, door),
+    );
+    (came, is_right)
 }
+
+/// Whether a scene goes as it should at a new port.
+fn is_right<R>(hand: &ByHand<R>, net: &HostRuntime, scene: &Scene) -> io::Result<bool>
+where
+    R: Threads + Wait + Clock + Copy + Drop + Send + Sync,
+{
+    let seat = seat(net)?;
+    let WebPort {
+        lobby,
+        porter,
+        port,
+    } = WebPort::open(net, scene.role)?;
+    let shared = Arc::try_clone(&lobby)?;
+    let mut door = TcpDoor::new(hand.rt, net.alloc(), shared, seat, 1, NoLog);
+    let house = House {
+        net,
+        port,
+        lobby: &lobby,
+        millis: hand.millis,
+    };
+    let (came, is_right) = serves(hand, &house, porter, &mut door, scene.visitors);
+    Ok(is_right && came == scene.came)
+}
+
+const SCENES: &[Scene] = &[
+    Scene {
+        name: "a port answers requests, and lets in one browser after another",
+        role: Role::Full,
+        visitors: Visitors::Browsers,
+        is_standing: false,
+        came: 2,
+    },
+    Scene {
+        name: "a browser that asks too slowly is let go",
+        role: Role::View,
+        visitors: Visitors::Slow,
+        is_standing: true,
+        came: 0,
+    },
+];
 
 #[test]
-fn web_port_answers_requests_and_lets_in(rt: HostRuntime) -> Result<(), Fail> {
-    assert_eq!(rt; opens(rt, &rt)?, (2, true));
+fn web_port_meets_its_visitors(rt: HostRuntime) -> Result<(), Fail> {
+    for scene in SCENES {
+        let hand = ByHand {
+            rt,
+            millis: no_millis(rt.alloc())?,
+            is_standing: scene.is_standing,
+        };
+        if !is_right(&hand, &rt, scene).unwrap_or(false) {
+            return Err(Fail::new(scene.name));
+        }
+    }
     Ok(())
 }
