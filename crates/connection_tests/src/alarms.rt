@@ -105,6 +105,23 @@ fn ends_both<R: Threads + Wait + Send + Sync, L: Link + Send>(
     !was_set && right && stop.is_set()
 }
 
+/// The alarm of a writer and of one place.
+fn everyone(
+    alloc: Global,
+    writer: &Arc<WriterSeat, Global>,
+    seat: &Arc<Seat, Global>,
+) -> io::Result<Everyone> {
+    let count = Arc::new(alloc, HostCount::new())?;
+    let writer = Arc::try_clone(writer)?;
+    let mut seats = Vec::new(alloc);
+    seats.push(Arc::try_clone(seat)?)?;
+    Ok(Everyone {
+        count,
+        writer,
+        seats,
+    })
+}
+
 /// Whether a new flag, with the alarm of a writer and of one place, does so.
 pub(crate) fn ends_each_wait<R: Threads + Wait + Send + Sync, L: Link + Send>(
     rt: &R,
@@ -112,13 +129,7 @@ pub(crate) fn ends_each_wait<R: Threads + Wait + Send + Sync, L: Link + Send>(
     seat: &Arc<Seat, Global>,
     link: &mut L,
 ) -> io::Result<bool> {
-    let mut seats = Vec::new(alloc);
-    seats.push(Arc::try_clone(seat)?)?;
     let writer = Arc::new(alloc, WriterSeat::new())?;
-    let stop = Stop::new(Everyone {
-        count: Arc::new(alloc, HostCount::new())?,
-        writer: Arc::try_clone(&writer)?,
-        seats,
-    });
+    let stop = Stop::new(everyone(alloc, &writer, seat)?);
     Ok(ends_both(rt, &stop, &writer, seat, link))
 }

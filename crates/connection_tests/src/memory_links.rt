@@ -1,9 +1,7 @@
 //! Links over a socket in memory, where each byte that goes either way can be seen.
 
-ghost use Rattle.std.specs.Prelude.{◌≡◌, [], IfOk};
-
 use crate::memory_socket::{MemorySocket, Turn};
-use crate::sockets::make_seat;
+use crate::sockets::{VERSION, make_seat};
 use connections::{HostLink, JoiningLink, ViewerTcpLink};
 use link::{Gave, Link, Took};
 use run_traits::{Alarm, Parting};
@@ -17,11 +15,159 @@ use std::time::Clock;
 /// A viewer's side of a handshake of version 3.8 (RFC 6143, 7.1).
 const HELLO: &[u8] = b"RFB 003.008\n\x01\x01";
 
-/// What a link is given first.
-const VERSION: &[u8] = b"RFB 003.008\n";
-
 /// A slice of 16,384 bytes isn't kept, but sent from where it lies.
 const LARGE: usize = 20_000;
+
+/// What is done with a link, and what has to come of it.
+#[derive(Clone, Copy)]
+enum Act {
+    /// These bytes are given once, and the link answers so.
+    Gives(&'static [u8], Gave),
+    /// The large slice is given once, from here on, and the link answers so.
+    GivesLarge(usize, Gave),
+    /// All of these bytes are given.
+    GivesAll(&'static [u8]),
+    /// All of the large slice is given.
+    GivesAllLarge,
+    /// What is kept is sent on.
+    Flushes,
+    /// A take brings exactly these bytes.
+    Brings(&'static [u8]),
+    /// A take answers so.
+    Takes(Took),
+    /// Since this was last seen the socket has sent exactly these bytes.
+    HasSent(&'static [u8]),
+    /// Since this was last seen the socket has sent exactly these bytes, and then the large slice between these two.
+    HasSentLarge(&'static [u8], usize, usize),
+}
+
+/// What a socket does, what is done with a viewer's link over it, and how the link stands then.
+#[derive(Clone, Copy)]
+struct Case {
+    name: &'static str,
+    comes: &'static [u8],
+    sends: &'static [Turn],
+    receives: &'static [Turn],
+    acts: &'static [Act],
+    failures: u64,
+    stands: Parting,
+}
+
+/// Small slices that are kept, and then a large one, go out in order and once, through short sends and sends that find
+/// no room.
+const GIVEN_IN_ORDER: Case = Case {
+    name: "viewer is given each byte in order once",
+    comes: b"",
+    sends: &[
+        Turn::AtMost(3),
+        Turn::Fails(ErrorKind::WouldBlock),
+        Turn::AtMost(1),
+        Turn::Fails(ErrorKind::Interrupted),
+        Turn::AtMost(7_000),
+        Turn::Fails(ErrorKind::WouldBlock),
+        Turn::AtMost(100),
+    ],
+    receives: &[],
+    acts: &[
+        Act::Gives(b"RFB 003.", Gave::Bytes(8)),
+        Act::Gives(b"008\n", Gave::Bytes(4)),
+        Act::HasSent(b""),
+        Act::Flushes,
+        Act::HasSent(b"RFB"),
+        Act::Flushes,
+        Act::HasSent(b" "),
+        Act::Flushes,
+        Act::HasSent(b"003.008\n"),
+        Act::GivesAllLarge,
+        Act::HasSentLarge(b"", 0, LARGE),
+    ],
+    failures: 0,
+    stands: Parting::Open,
+};
+
+/// What is kept and a large slice go out in one send, in order and once: some of what is kept, the rest of it, ten
+/// bytes of the slice, and then all that is left.
+const LARGE_BEHIND_KEPT: Case = Case {
+    name: "large slice goes out with what is kept",
+    comes: b"",
+    sends: &[Turn::AtMost(5), Turn::AtMost(7), Turn::AtMost(10)],
+    receives: &[],
+    acts: &[
+        Act::Gives(VERSION, Gave::Bytes(12)),
+        Act::GivesLarge(0, Gave::Nothing),
+        Act::GivesLarge(0, Gave::Nothing),
+        Act::HasSent(VERSION),
+        Act::GivesLarge(0, Gave::Bytes(10)),
+        Act::HasSentLarge(b"", 0, 10),
+        Act::Gives(VERSION, Gave::Bytes(12)),
+        Act::GivesLarge(10, Gave::Bytes(LARGE - 10)),
+        Act::HasSentLarge(VERSION, 10, LARGE),
+    ],
+    failures: 0,
+    stands: Parting::Open,
+};
+
+/// What a viewer's socket brings is taken in order and once, in whatever pieces, and its end is seen.
+const TAKEN_IN_ORDER: Case = Case {
+    name: "viewer is taken each byte in order once",
+    comes: HELLO,
+    sends: &[],
+    receives: &[
+        Turn::AtMost(5),
+        Turn::Fails(ErrorKind::WouldBlock),
+        Turn::AtMost(8),
+        Turn::AtMost(1),
+    ],
+    acts: &[
+        Act::Brings(b"RFB 0"),
+        Act::Takes(Took::Nothing),
+        Act::Brings(b"03.008\n\x01"),
+        Act::Brings(b"\x01"),
+        Act::Takes(Took::End),
+    ],
+    failures: 0,
+    stands: Parting::Closed,
+};
+
+static CASES: [Case; 3] = [GIVEN_IN_ORDER, LARGE_BEHIND_KEPT, TAKEN_IN_ORDER];
+
+/// What the system says of a connection that it gave up for want of confirmations, of one that its peer has closed, and
+/// of another error, and how the connection stands then.
+const PARTINGS: [(&[Turn], Parting); 4] = [
+    (&[Turn::Fails(ErrorKind::TimedOut)], Parting::Stalled),
+    (&[Turn::Fails(ErrorKind::ConnectionReset)], Parting::Closed),
+    (&[Turn::Fails(ErrorKind::BrokenPipe)], Parting::Closed),
+    (&[Turn::Fails(ErrorKind::HostUnreachable)], Parting::Broken),
+];
+
+/// A read that fails, and a write that fails.
+const READS: &[Act] = &[Act::Takes(Took::Failed)];
+
+const WRITES: &[Act] = &[Act::Gives(VERSION, Gave::Bytes(12)), Act::Flushes];
+
+/// What a host's socket does: three bytes go in two sends, and a fourth fails.
+const HOST_SENDS: &[Turn] = &[
+    Turn::AtMost(2),
+    Turn::Fails(ErrorKind::WouldBlock),
+    Turn::AtMost(9),
+    Turn::Fails(ErrorKind::BrokenPipe),
+];
+
+const HOST_RECEIVES: &[Turn] = &[Turn::AtMost(4), Turn::Fails(ErrorKind::WouldBlock)];
+
+/// What is given to a host, what is taken from it, and what comes of both once its link is closed.
+const HOST_TOLD: &[Act] = &[
+    Act::GivesAll(b"\x01\x02\x03"),
+    Act::Gives(b"\x04", Gave::Failed),
+];
+
+const HOST_READ: &[Act] = &[
+    Act::Brings(b"RFB "),
+    Act::Takes(Took::Nothing),
+    Act::Brings(b"003.008\n"),
+];
+
+const HOST_CLOSED: &[Act] = &[Act::Takes(Took::Failed), Act::Gives(b"\x05", Gave::Failed)];
 
 fn large() -> [u8; LARGE] {
     let mut bytes = [0u8; LARGE];
@@ -31,19 +177,12 @@ fn large() -> [u8; LARGE] {
     bytes
 }
 
-/// A socket that brings these bytes, with these turns.
-fn socket(
-    alloc: Global,
-    comes: &[u8],
-    sends: Vec<Turn>,
-    receives: Vec<Turn>,
-) -> io::Result<MemorySocket>
-    ensures sent { IfOk result (λ socket. socket.sent.items ≡ []) }
-    ensures received { IfOk result (λ socket. socket.received.items ≡ []) }
-{
-    let mut all = Vec::new(alloc);
-    all.extend_from_slice(comes)?;
-    Ok(MemorySocket::new(alloc, all, sends, receives))
+/// Gives these bytes, and says whether the link answers so. Where there are none it says false.
+fn gives<L: Link>(link: &mut L, bytes: &[u8], gave: Gave) -> bool {
+    if bytes.is_empty() {
+        return false;
+    }
+    link.give(bytes) == gave
 }
 
 /// Gives all of these bytes, and sends on what is kept. It answers false where the link fails, or gives nothing for
@@ -64,85 +203,6 @@ fn gives_all<L: Link>(link: &mut L, bytes: &[u8]) -> bool {
     false
 }
 
-/// Short sends, and sends that find no room.
-fn narrow(alloc: Global) -> io::Result<Vec<Turn>> {
-    Ok(vec![in alloc;
-        Turn::AtMost(3),
-        Turn::Fails(ErrorKind::WouldBlock),
-        Turn::AtMost(1),
-        Turn::Fails(ErrorKind::Interrupted),
-        Turn::AtMost(7_000),
-        Turn::Fails(ErrorKind::WouldBlock),
-        Turn::AtMost(100),
-    ]?)
-}
-
-/// Whether a flush leaves exactly this many bytes of the version sent.
-fn has_sent<R: Wait + Clock + Drop>(
-    link: &mut ViewerTcpLink<R, MemorySocket>,
-    count: usize,
-) -> bool {
-    link.flush();
-    VERSION.get(..count) == Some(link.socket().sent.as_slice())
-}
-
-/// Whether the version that it was given in two slices, which are kept, goes out in turns.
-fn sends_in_turns<R: Wait + Clock + Drop>(link: &mut ViewerTcpLink<R, MemorySocket>) -> bool {
-    let gave = [link.give(b"RFB 003."), link.give(b"008\n")];
-    let is_kept = gave == [Gave::Bytes(8), Gave::Bytes(4)] && link.socket().sent.is_empty();
-    is_kept && has_sent(link, 3) && has_sent(link, 4) && has_sent(link, 12)
-}
-
-/// Small slices that are kept, and then a large one, go out in order and once, through short sends and sends that find
-/// no room.
-#[test]
-fn viewer_is_given_each_byte_in_order_once(rt: HostRuntime) -> Result<(), Fail> {
-    let alloc = rt.alloc();
-    let seat = make_seat(&rt)?;
-    let below = socket(alloc, b"", narrow(alloc)?, Vec::new(alloc))?;
-    let mut link = ViewerTcpLink::over(&rt, alloc, below, &seat)?;
-    let bytes = large();
-    let is_right = sends_in_turns(&mut link) && gives_all(&mut link, &bytes);
-    assert!(rt; is_right);
-    let sent = link.socket().sent.as_slice();
-    let is_whole = sent.get(..12) == Some(VERSION) && sent.get(12..) == Some(bytes.as_slice());
-    assert!(rt; is_whole);
-    Ok(())
-}
-
-/// Whether a large slice that is given goes out after what is kept, in turns: some of what is kept, the rest of it, and
-/// ten bytes of the slice.
-fn sends_behind<R: Wait + Clock + Drop>(
-    link: &mut ViewerTcpLink<R, MemorySocket>,
-    bytes: &[u8; LARGE],
-) -> bool {
-    let is_kept = link.give(VERSION) == Gave::Bytes(12);
-    let waits = [link.give(bytes), link.give(bytes)] == [Gave::Nothing; 2];
-    is_kept
-        && waits
-        && link.socket().sent.as_slice() == VERSION
-        && link.give(bytes) == Gave::Bytes(10)
-}
-
-/// What is kept and a large slice go out in one send, in order and once.
-#[test]
-fn large_slice_goes_out_with_what_is_kept(rt: HostRuntime) -> Result<(), Fail> {
-    let alloc = rt.alloc();
-    let sends = vec![in alloc; Turn::AtMost(5), Turn::AtMost(7), Turn::AtMost(10)]?;
-    let seat = make_seat(&rt)?;
-    let below = socket(alloc, b"", sends, Vec::new(alloc))?;
-    let mut link = ViewerTcpLink::over(&rt, alloc, below, &seat)?;
-    let bytes = large();
-    let is_sent = sends_behind(&mut link, &bytes);
-    let (first, rest) = bytes.split_at(10);
-    let is_kept = link.give(VERSION) == Gave::Bytes(12);
-    let is_given = link.give(rest) == Gave::Bytes(LARGE - 10);
-    assert!(rt; is_sent && is_kept && is_given);
-    let wanted = [VERSION, first, VERSION, rest].concat(alloc)?;
-    assert!(rt; link.socket().sent.as_slice() == wanted.as_slice());
-    Ok(())
-}
-
 /// Whether the next take brings exactly these bytes.
 fn brings<L: Link>(link: &mut L, bytes: &[u8]) -> bool {
     let mut into = [0u8; 64];
@@ -158,83 +218,151 @@ fn answers<L: Link>(link: &mut L, took: Took) -> bool {
     link.take(&mut into) == took
 }
 
-/// What a viewer's socket brings is taken in order and once, in whatever pieces, and its end is seen.
-#[test]
-fn viewer_is_taken_each_byte_in_order_once(rt: HostRuntime) -> Result<(), Fail> {
-    let alloc = rt.alloc();
-    let receives = vec![in alloc;
-        Turn::AtMost(5),
-        Turn::Fails(ErrorKind::WouldBlock),
-        Turn::AtMost(8),
-        Turn::AtMost(1),
-    ]?;
-    let seat = make_seat(&rt)?;
-    let below = socket(alloc, HELLO, Vec::new(alloc), receives)?;
-    let mut link = ViewerTcpLink::over(&rt, alloc, below, &seat)?;
-    // So that the take that finds nothing doesn't wait.
+/// The bytes between these two places, or none where there are no such places.
+fn part(bytes: &[u8], from: usize, to: usize) -> &[u8] {
+    bytes.get(from..to).unwrap_or(b"")
+}
+
+/// Whether what comes of this act is as told. What was sent is seen elsewhere.
+fn does<L: Link>(link: &mut L, act: Act, large: &[u8]) -> bool {
+    match act {
+        Act::Gives(bytes, gave) => gives(link, bytes, gave),
+        Act::GivesLarge(from, gave) => gives(link, part(large, from, large.len()), gave),
+        Act::GivesAll(bytes) => gives_all(link, bytes),
+        Act::GivesAllLarge => gives_all(link, large),
+        Act::Flushes => {
+            link.flush();
+            true
+        }
+        Act::Brings(bytes) => brings(link, bytes),
+        Act::Takes(took) => answers(link, took),
+        Act::HasSent(_) | Act::HasSentLarge(..) => false,
+    }
+}
+
+/// Whether what was sent from this place on is exactly the one after the other.
+fn is_next(sent: &[u8], seen: usize, first: &[u8], second: &[u8]) -> bool {
+    let (_, new) = sent.split_at(seen.min(sent.len()));
+    let (front, back) = new.split_at(first.len().min(new.len()));
+    front == first && back == second
+}
+
+/// Whether the socket has sent what this act says, since this many bytes were seen.
+fn has_sent(socket: &MemorySocket, seen: usize, act: Act, large: &[u8]) -> bool {
+    let sent = socket.sent.as_slice();
+    match act {
+        Act::HasSent(bytes) => is_next(sent, seen, bytes, b""),
+        Act::HasSentLarge(bytes, from, to) => is_next(sent, seen, bytes, part(large, from, to)),
+        _ => false,
+    }
+}
+
+/// Whether what comes of each act is as told, and of all of them.
+fn does_all<R: Wait + Clock + Drop>(
+    link: &mut ViewerTcpLink<R, MemorySocket>,
+    case: &Case,
+) -> bool {
+    let large = large();
+    let mut seen: usize = 0;
+    let mut is_right = true;
+    for act in case.acts {
+        if matches!(act, Act::HasSent(_) | Act::HasSentLarge(..)) {
+            is_right = is_right && has_sent(link.socket(), seen, *act, &large);
+            seen = link.socket().sent.len();
+        } else {
+            is_right = is_right && does(link, *act, &large);
+        }
+    }
+    is_right && link.failures() == case.failures && link.parting() == case.stands
+}
+
+/// Whether a case goes as told, over a link of its own.
+fn goes_as_told<R: Wait + Clock + Drop>(rt: R, net: &HostRuntime, case: &Case) -> io::Result<bool> {
+    let seat = make_seat(net)?;
+    let below = MemorySocket::new(net.alloc(), case.comes, case.sends, case.receives)?;
+    let mut link = ViewerTcpLink::over(rt, net.alloc(), below, &seat)?;
+    // So that a take that finds nothing doesn't wait.
     seat.ring();
-    let is_begun = brings(&mut link, b"RFB 0") && answers(&mut link, Took::Nothing);
-    let is_taken = brings(&mut link, b"03.008\n\x01") && brings(&mut link, b"\x01");
-    let has_ended = answers(&mut link, Took::End) && link.failures() == 0;
-    assert!(rt; is_begun && is_taken && has_ended);
+    Ok(does_all(&mut link, case))
+}
+
+/// Whether a link whose socket reports this at once, as the link reads or as it writes, stands so.
+fn says_how_it_stands<R: Wait + Clock + Copy + Drop>(
+    rt: R,
+    net: &HostRuntime,
+    turns: &'static [Turn],
+    stands: Parting,
+) -> io::Result<bool> {
+    let read = Case {
+        name: "a link says how it stands",
+        comes: HELLO,
+        sends: &[],
+        receives: turns,
+        acts: READS,
+        failures: 1,
+        stands,
+    };
+    let written = Case {
+        sends: turns,
+        receives: &[],
+        acts: WRITES,
+        failures: 0,
+        ..read
+    };
+    Ok(goes_as_told(rt, net, &read)? && goes_as_told(rt, net, &written)?)
+}
+
+/// Each case goes as told. One that doesn't is named.
+#[test]
+fn each_byte_goes_in_order_once(rt: HostRuntime) -> Result<(), Fail> {
+    for case in &CASES {
+        if !goes_as_told(rt, &rt, case)? {
+            return Err(Fail::new(case.name));
+        }
+    }
     Ok(())
 }
 
-/// Whether a host's link gives three bytes in two sends and fails once, and then takes what comes in its pieces.
+/// A link says how its connection stands, whether the system reported that as the link read or as it wrote.
+#[test]
+fn viewers_link_says_how_it_stands(rt: HostRuntime) -> Result<(), Fail> {
+    for (turns, stands) in PARTINGS {
+        assert!(rt; says_how_it_stands(rt, &rt, turns, stands)?);
+    }
+    Ok(())
+}
+
+/// Whether each of these acts comes out as told.
+fn all_come_out<L: Link>(link: &mut L, acts: &[Act]) -> bool {
+    let mut is_right = true;
+    for act in acts {
+        is_right = is_right && does(link, *act, b"");
+    }
+    is_right
+}
+
+/// Whether a host's link gives three bytes in two sends and fails once, then takes what comes in its pieces, and fails
+/// once it is closed.
 fn is_told_and_read<R: Clock + Drop>(link: &mut JoiningLink<R, MemorySocket>) -> bool {
-    let is_told = gives_all(link, b"\x01\x02\x03") && link.give(b"\x04") == Gave::Failed;
+    let is_told = all_come_out(link, HOST_TOLD);
     let has_sent = link.below().socket().sent.as_slice() == b"\x01\x02\x03".as_slice();
     let is_lifted = link.lift().is_ok();
-    let is_read = brings(link, b"RFB ") && answers(link, Took::Nothing);
-    let is_whole = brings(link, b"003.008\n") && link.failures() == 1;
-    is_told && has_sent && is_lifted && is_read && is_whole
+    let is_read = all_come_out(link, HOST_READ) && link.failures() == 1;
+    link.close();
+    let is_closed = all_come_out(link, HOST_CLOSED) && link.failures() == 3;
+    is_told && has_sent && is_lifted && is_read && is_closed
+}
+
+/// Whether this is so of a new link.
+fn host_is_told<R: Clock + Drop>(rt: R, alloc: Global) -> io::Result<bool> {
+    let below = MemorySocket::new(alloc, VERSION, HOST_SENDS, HOST_RECEIVES)?;
+    let mut link = JoiningLink::new(rt, HostLink::over(below))?;
+    Ok(is_told_and_read(&mut link))
 }
 
 /// A host is given and taken each byte in order and once; what fails is counted, and after the close all fails.
 #[test]
 fn host_is_told_each_byte_until_it_is_closed(rt: HostRuntime) -> Result<(), Fail> {
-    let alloc = rt.alloc();
-    let sends = vec![in alloc;
-        Turn::AtMost(2),
-        Turn::Fails(ErrorKind::WouldBlock),
-        Turn::AtMost(9),
-        Turn::Fails(ErrorKind::BrokenPipe),
-    ]?;
-    let receives = vec![in alloc; Turn::AtMost(4), Turn::Fails(ErrorKind::WouldBlock)]?;
-    let below = socket(alloc, VERSION, sends, receives)?;
-    let mut link = JoiningLink::new(&rt, HostLink::over(below))?;
-    let is_right = is_told_and_read(&mut link);
-    link.close();
-    let is_closed = answers(&mut link, Took::Failed) && link.give(b"\x05") == Gave::Failed;
-    assert!(rt; is_right && is_closed && link.failures() == 3);
-    Ok(())
-}
-
-/// What the system says of a connection that it gave up for want of confirmations, of one that its peer has closed, and
-/// of another error, and how the connection stands then.
-const PARTINGS: [(ErrorKind, Parting); 4] = [
-    (ErrorKind::TimedOut, Parting::Stalled),
-    (ErrorKind::ConnectionReset, Parting::Closed),
-    (ErrorKind::BrokenPipe, Parting::Closed),
-    (ErrorKind::HostUnreachable, Parting::Broken),
-];
-
-/// A link says how its connection stands, whether the system reported that as the link read or as it wrote.
-#[test]
-fn viewers_link_says_how_it_stands(rt: HostRuntime) -> Result<(), Fail> {
-    let alloc = rt.alloc();
-    let seat = make_seat(&rt)?;
-    for (kind, parting) in PARTINGS {
-        let turns = vec![in alloc; Turn::Fails(kind)]?;
-        let below = socket(alloc, HELLO, Vec::new(alloc), turns)?;
-        let mut read = ViewerTcpLink::over(&rt, alloc, below, &seat)?;
-        let is_told = answers(&mut read, Took::Failed) && read.parting() == parting;
-        let turns = vec![in alloc; Turn::Fails(kind)]?;
-        let below = socket(alloc, HELLO, turns, Vec::new(alloc))?;
-        let mut written = ViewerTcpLink::over(&rt, alloc, below, &seat)?;
-        let is_kept = written.give(VERSION) == Gave::Bytes(12);
-        written.flush();
-        assert!(rt; is_told && is_kept && written.parting() == parting);
-    }
+    assert!(rt; host_is_told(rt, rt.alloc())?);
     Ok(())
 }

@@ -55,18 +55,22 @@ pub(crate) struct MemorySocket {
 }
 
 impl MemorySocket {
-    ghost use Rattle.std.specs.Prelude.{◌≡◌, []};
+    ghost use Rattle.std.specs.Prelude.{◌≡◌, [], IfOk};
 
+    /// A socket that brings these bytes, with these turns.
     pub(crate) fn new(
         alloc: Global,
-        comes: Vec<u8>,
-        sends: Vec<Turn>,
-        receives: Vec<Turn>,
-    ) -> MemorySocket
-        ensures sent { result.sent.items ≡ [] }
-        ensures received { result.received.items ≡ [] }
+        comes: &[u8],
+        sends: &[Turn],
+        receives: &[Turn],
+    ) -> io::Result<MemorySocket>
+        ensures sent { IfOk result (λ socket. socket.sent.items ≡ []) }
+        ensures received { IfOk result (λ socket. socket.received.items ≡ []) }
     {
-        MemorySocket {
+        let comes = comes.to_vec(alloc)?;
+        let sends = sends.to_vec(alloc)?;
+        let receives = receives.to_vec(alloc)?;
+        Ok(MemorySocket {
             alloc,
             comes,
             came: 0,
@@ -75,7 +79,7 @@ impl MemorySocket {
             is_closed: false,
             sent: Vec::new(alloc),
             received: Vec::new(alloc),
-        }
+        })
     }
 
     fn check(&self) -> io::Result<()> {

@@ -3,7 +3,7 @@
 use connections::Seat;
 use std::alloc::Global;
 use std::io;
-use std::io::Write;
+use std::io::{Read, Write};
 use std::net::{Ipv4Addr, SocketAddr, TcpListener, TcpStream};
 use std::sync::Arc;
 use std::time::Duration;
@@ -12,7 +12,10 @@ use std::time::Duration;
 pub(crate) const VERSION: &[u8] = b"RFB 003.008\n";
 
 /// A read that waits for this many seconds has failed.
-const LONG: u64 = 20;
+pub(crate) const LONG: u64 = 20;
+
+/// More bytes than a viewer is told.
+const MOST: usize = 128;
 
 pub(crate) fn listen(rt: &HostRuntime) -> io::Result<TcpListener> {
     TcpListener::bind(rt, SocketAddr::from((Ipv4Addr::LOCALHOST, 0)))
@@ -29,6 +32,16 @@ pub(crate) fn come(rt: &HostRuntime, address: SocketAddr) -> io::Result<TcpStrea
     let mut stream = connect(rt, address)?;
     stream.write_all(VERSION)?;
     Ok(stream)
+}
+
+/// Whether a viewer is told these bytes next. As many are read.
+pub(crate) fn hears(stream: &mut TcpStream, wanted: &[u8]) -> io::Result<bool> {
+    let mut told = [0u8; MOST];
+    let Some(room) = told.get_mut(..wanted.len()) else {
+        return Ok(false);
+    };
+    stream.read_exact(room)?;
+    Ok(told.get(..wanted.len()) == Some(wanted))
 }
 
 /// The two ends of a connection: the one that connected, and the one that was accepted.

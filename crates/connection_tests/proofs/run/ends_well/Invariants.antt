@@ -1,4 +1,4 @@
-use Rattle.memory_tests.proofs.run.ends_well.Given as goal
+use Rattle.connection_tests.proofs.run.ends_well.Given as goal
 
 -- The history that was just opened, of the tests' screen.
 abbrev pub ghosts-over : goal.ghosts-over

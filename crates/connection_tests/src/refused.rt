@@ -3,15 +3,15 @@
 ghost use Rattle.roles.specs.declared.role.Role.TheVariants.{Full};
 
 use crate::board::Board;
+use crate::keeper::{Keeper, come_all};
+use crate::port::{make_door, make_lobby, make_porter};
 use crate::run::ends_well;
-use crate::tcp::{Keeper, come};
-use crate::viewers::Viewers;
+use crate::three_viewers::Viewers;
 use crate::wire::VIEWERS;
-use connections::{Desk, Lobby, RoleListener, Seat, TcpDoor, TcpEntry, TcpPorter};
-use roles::Role;
+use connections::{Lobby, TcpPorter};
 use run_traits::{Door, NoLog, PlaceCount};
 use std::alloc::Global;
-use std::net::{Ipv4Addr, SocketAddr, TcpListener};
+use std::net::SocketAddr;
 use std::sync::atomic::Ordering;
 use std::sync::{Arc, Wait};
 use std::test::*;
@@ -27,20 +27,18 @@ fn expect_loose_counting(rt: &HostRuntime) -> Result<(), Fail> {
     }
 }
 
-#[test]
-fn viewer_without_memory_is_let_go(rt: HostRuntime) -> Result<(), Fail> {
-    expect_loose_counting(&rt)?;
-    let board = Board::new(rt.alloc())?;
+/// Whether a run ends well whose viewers come over links in memory.
+fn runs_in_memory<R>(rt: R, alloc: Global, board: &Arc<Board, Global>) -> Result<bool, Fail>
+where
+    R: Threads + Wait + Clock + Copy + Drop + Send + 'static,
+{
     let viewers = Viewers {
-        alloc: rt.alloc(),
-        board: Arc::try_clone(&board)?,
+        alloc,
+        board: Arc::try_clone(board)?,
         hoard: None,
         count: PlaceCount::new(),
     };
-    let is_right = ends_well(rt, rt.alloc(), viewers, &board)?;
-    assert!(rt; is_right);
-    assert_eq!(rt; board.left.load(Ordering::SeqCst), VIEWERS);
-    Ok(())
+    ends_well(rt, alloc, viewers, board)
 }
 
 /// Whether a run with this door ends well, while the port is kept.
@@ -83,31 +81,54 @@ where
     let (address, lobby) = place;
     let (came, ended) = thread::join(
         &rt,
-        || come(&rt, net, address, lobby, board),
+        || come_all(&rt, net, address, lobby, board),
         ||
             requires { D.is_for door Full }
         { runs(rt, net, porter, door, board) },
     );
-    Ok(ended? && came?)
+    Ok(ended? && came)
 }
 
+/// Whether a run ends well whose viewers come over TCP, and each of them is given what it should be.
+fn runs_over_tcp<R>(rt: R, net: &HostRuntime, board: &Arc<Board, Global>) -> Result<bool, Fail>
+where
+    R: Threads + Wait + Clock + Copy + Drop + Send + Sync + 'static,
+{
+    let log = Keeper::new(rt, net.alloc(), Arc::try_clone(board)?);
+    let lobby = make_lobby(net.alloc())?;
+    let door = make_door(rt, net, &lobby, log)?;
+    let (address, porter) = make_porter(net, &lobby, None)?;
+    serves(rt, net, porter, (address, &lobby), door, board)
+}
+
+/// Whether all viewers leave a run as they should, the second of which finds no memory.
+fn second_is_let_go<R>(rt: R, net: &HostRuntime, is_over_tcp: bool) -> Result<bool, Fail>
+where
+    R: Threads + Wait + Clock + Copy + Drop + Send + Sync + 'static,
+{
+    let board = Board::new(net.alloc())?;
+    let ended = if is_over_tcp {
+        runs_over_tcp(rt, net, &board)
+    } else {
+        runs_in_memory(rt, net.alloc(), &board)
+    };
+    Ok(ended? && board.left.load(Ordering::SeqCst) == VIEWERS)
+}
+
+/// How the viewers come.
+const WAYS: [(&str, bool); 2] = [
+    ("viewer without memory is let go", false),
+    ("viewer without memory is let go over TCP", true),
+];
+
+/// Over links in memory, and over TCP. A way that doesn't end so is named.
 #[test]
-fn viewer_without_memory_is_let_go_over_tcp(rt: HostRuntime) -> Result<(), Fail> {
+fn viewer_without_memory_is_let_go(rt: HostRuntime) -> Result<(), Fail> {
     expect_loose_counting(&rt)?;
-    let board = Board::new(rt.alloc())?;
-    let listener = TcpListener::bind(&rt, SocketAddr::from((Ipv4Addr::LOCALHOST, 0)))?;
-    let address = listener.local_addr()?;
-    let listener = RoleListener::new(listener, Role::Full);
-    let desk = Arc::new(rt.alloc(), Desk::new(rt.alloc(), 1)?)?;
-    let lobby = Lobby::new(rt.alloc(), Role::Full, 1, 60, desk)?;
-    let lobby = Arc::new(rt.alloc(), lobby)?;
-    let seat = Arc::new(rt.alloc(), Seat::new(&rt, rt.alloc())?)?;
-    let log = Keeper::new(rt, rt.alloc(), Arc::try_clone(&board)?);
-    let door = TcpDoor::new(rt, rt.alloc(), Arc::try_clone(&lobby)?, seat, 1, log);
-    let entry = TcpEntry::new(listener, Arc::try_clone(&lobby)?)?;
-    let porter = TcpPorter::new(&rt, rt.alloc(), entry)?;
-    let is_right = serves(rt, &rt, porter, (address, &lobby), door, &board)?;
-    assert!(rt; is_right);
-    assert_eq!(rt; board.left.load(Ordering::SeqCst), VIEWERS);
+    for (name, is_over_tcp) in WAYS {
+        if !second_is_let_go(rt, &rt, is_over_tcp)? {
+            return Err(Fail::new(name));
+        }
+    }
     Ok(())
 }

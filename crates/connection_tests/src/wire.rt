@@ -33,6 +33,17 @@ pub(crate) enum Peer {
     HostTold,
 }
 
+/// A link in memory to a peer that sends these bytes and ends.
+fn link_to(alloc: Global, sends: &[u8]) -> Result<MemoryLink, Fault>
+    ensures { IfOk result (λ link. link ≡ unused) }
+{
+    let mut takes = [Took::Nothing; PAUSES];
+    takes[0] = Took::Bytes(sends.len());
+    let takes = takes.to_vec(alloc)?;
+    let gives = vec![in alloc; Gave::Bytes(ROOM); GIVES]?;
+    MemoryLink::new(alloc, sends.to_vec(alloc)?, takes, gives)
+}
+
 /// A link to such a peer.
 #[derive(Drop)]
 pub(crate) struct Wire {
@@ -59,16 +70,9 @@ impl Wire {
     ) -> Result<Wire, Fault>
         ensures { IfOk result (λ wire. wire ≡ unused) }
     {
-        let sends = sends.to_vec(alloc)?;
-        let mut takes = Vec::new(alloc);
-        takes.push(Took::Bytes(sends.len()))?;
-        takes.resize(PAUSES, Took::Nothing)?;
-        let gives = vec![in alloc; Gave::Bytes(ROOM); GIVES]?;
-        Ok(Wire {
-            link: MemoryLink::new(alloc, sends, takes, gives)?,
-            peer,
-            board: Arc::try_clone(board)?,
-        })
+        let board = Arc::try_clone(board)?;
+        let link = link_to(alloc, sends)?;
+        Ok(Wire { link, peer, board })
     }
 
     /// What its peer was given.

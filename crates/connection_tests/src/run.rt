@@ -1,12 +1,14 @@
 //! A run of one place.
 
-ghost use Rattle.std.specs.Prelude.{◌≡◌};
+ghost use Rattle.std.specs.Prelude.{◌≡◌, IfOk};
 ghost use Rattle.roles.specs.declared.role.Role.TheVariants.{Full};
+ghost use Rattle.run_traits.specs.Unused.{unused};
 
 use crate::board::Board;
 use crate::bytes::{HEIGHT, UPDATE, WIDTH};
 use crate::wire::{Peer, Wire};
 use arrayvec::ArrayVec;
+use fault::Fault;
 use host_turns::NoHosts;
 use joined_runs::Runs;
 use reflector::{InputCounts, Running, run_all};
@@ -14,12 +16,40 @@ use rfb_wire::Joined;
 use roles::Role;
 use run_traits::{Door, NoAlarm};
 use shared_screen::{Naming, Opened, Publishes};
-use std::alloc::Global;
+use std::alloc::{AllocError, Global};
 use std::marker::Brand;
 use std::sync::{Arc, Wait};
 use std::test::Fail;
 use std::thread::Threads;
 use std::time::Clock;
+
+/// The two ends of the host's link: the one that is read, and the one that is told.
+fn host_ends(alloc: Global, board: &Arc<Board, Global>) -> Result<(Wire, Wire), Fault>
+    ensures { IfOk result (λ ends. (ends.0 ≡ unused) × (ends.1 ≡ unused)) }
+{
+    let reader = Wire::new(alloc, Peer::HostRead, UPDATE, board)?;
+    let writer = Wire::new(alloc, Peer::HostTold, b"", board)?;
+    Ok((reader, writer))
+}
+
+/// What counts a run's input, and the alarms of everyone and of the writer, which nobody hears.
+#[derive(Drop)]
+struct Means {
+    input: Arc<InputCounts, Global>,
+    everyone: Arc<NoAlarm, Global>,
+    alarm: Arc<NoAlarm, Global>,
+}
+
+fn make_means(alloc: Global) -> Result<Means, AllocError> {
+    let input = Arc::new(alloc, InputCounts::new())?;
+    let everyone = Arc::new(alloc, NoAlarm)?;
+    let alarm = Arc::new(alloc, NoAlarm)?;
+    Ok(Means {
+        input,
+        everyone,
+        alarm,
+    })
+}
 
 /// A run over a history that J names. It answers whether the run ended without a fault, after its place did.
 fn over<J, D, R>(
@@ -41,14 +71,18 @@ where
     name.push(b'T');
     let mut doors = Vec::new(alloc);
     doors.push((Role::Full, door))?;
-    let everyone = Arc::new(alloc, NoAlarm)?;
-    let alarm = Arc::new(alloc, NoAlarm)?;
+    let (reader, writer) = host_ends(alloc, board)?;
+    let Means {
+        input,
+        everyone,
+        alarm,
+    } = make_means(alloc)?;
     let running = run_all::<J, Wire, NoHosts, D, NoAlarm, NoAlarm, R>(
         rt,
         alloc,
         history,
-        Wire::new(alloc, Peer::HostRead, UPDATE, board)?,
-        Wire::new(alloc, Peer::HostTold, b"", board)?,
+        reader,
+        writer,
         Joined {
             w: WIDTH,
             h: HEIGHT,
@@ -59,7 +93,7 @@ where
         Runs::Joined,
         everyone,
         alarm,
-        Arc::new(alloc, InputCounts::new())?,
+        input,
     )?;
     let Running {
         result,

@@ -1,8 +1,9 @@
-//! The same viewers over TCP.
+//! The three viewers over TCP, and a log that keeps memory from one of them.
 
 use crate::board::{Board, hold};
 use crate::hoard::Hoard;
-use crate::viewers::{ends_right, given_to, sent_by};
+use crate::sockets::{LONG, VERSION, connect, hears};
+use crate::three_viewers::{ends_right, given_to, sent_by};
 use crate::wire::VIEWERS;
 use connections::Lobby;
 use run_traits::{Event, Log};
@@ -12,15 +13,6 @@ use std::io::{Read, Write};
 use std::net::{SocketAddr, TcpStream};
 use std::sync::{Arc, Mutex, Wait};
 use std::time::{Clock, Duration};
-
-/// No read waits longer than this many seconds.
-const LONG: u64 = 20;
-
-/// The version of both sides (RFC 6143, 7.1.1).
-const VERSION: &[u8] = b"RFB 003.008\n";
-
-/// More bytes than a viewer is given.
-const MOST: usize = 128;
 
 /// A log that keeps memory from the second viewer while that viewer has the place.
 #[derive(Drop)]
@@ -63,36 +55,37 @@ impl<R: Wait + Drop> Log for Keeper<R> {
     }
 }
 
-/// Whether a viewer is given what it should be. A viewer that is let go has sent its version and was sent one, and
-/// nothing more. The others leave by themselves.
-fn visits(net: &HostRuntime, address: SocketAddr, viewer: u64) -> io::Result<bool> {
-    let mut stream = TcpStream::connect(net, address)?;
-    stream.set_read_timeout(Some(Duration::from_secs(LONG)))?;
-    let wanted = given_to(viewer);
-    if wanted.is_empty() {
-        stream.write_all(VERSION)?;
-        let mut version = [0u8; 12];
-        stream.read_exact(&mut version)?;
-        return Ok(version.as_slice() == VERSION && stream.read(&mut [0])? == 0);
-    }
+/// Whether a viewer that is let go has sent its version and was sent one, and nothing more.
+fn is_let_go(stream: &mut TcpStream) -> io::Result<bool> {
+    stream.write_all(VERSION)?;
+    Ok(hears(stream, VERSION)? && stream.read(&mut [0])? == 0)
+}
+
+/// Whether a viewer that sends what it has to is given what it should be.
+fn is_given(stream: &mut TcpStream, viewer: u64) -> io::Result<bool> {
     stream.write_all(sent_by(viewer))?;
-    let mut given = [0u8; MOST];
-    let Some(room) = given.get_mut(..wanted.len()) else {
-        return Ok(false);
-    };
-    stream.read_exact(room)?;
-    Ok(given.get(..wanted.len()) == Some(wanted))
+    hears(stream, given_to(viewer))
+}
+
+/// Whether a viewer is let go, or given what it should be. Then it leaves by itself.
+fn visits(net: &HostRuntime, address: SocketAddr, viewer: u64) -> io::Result<bool> {
+    let mut stream = connect(net, address)?;
+    if given_to(viewer).is_empty() {
+        is_let_go(&mut stream)
+    } else {
+        is_given(&mut stream, viewer)
+    }
 }
 
 /// The viewers come once the host was asked for more, and each once the place is free. Then the lobby is closed, which
 /// the thread that keeps the port sees soon.
-pub(crate) fn come<R: Wait + Clock>(
+pub(crate) fn come_all<R: Wait + Clock>(
     rt: &R,
     net: &HostRuntime,
     address: SocketAddr,
     lobby: &Lobby,
     board: &Board,
-) -> io::Result<bool> {
+) -> bool {
     hold(&board.told, 1);
     let mut is_right = true;
     for number in 0..VIEWERS {
@@ -100,5 +93,5 @@ pub(crate) fn come<R: Wait + Clock>(
         lobby.await_empty(rt, Duration::from_secs(LONG));
     }
     lobby.close(rt);
-    Ok(is_right)
+    is_right
 }

@@ -1,0 +1,140 @@
+//! A port with one place, as its visitors find it: its clock, its log and its desk.
+
+use crate::sockets::{VERSION, come, connect};
+use connections::Lobby;
+use run_control::{Outcome, Request};
+use run_traits::{Event, Log};
+use std::alloc::Global;
+use std::io;
+use std::io::Write;
+use std::net::{SocketAddr, TcpStream};
+use std::sync::atomic::{AtomicU64, Ordering};
+use std::sync::{Arc, Mutex, Wait};
+use std::time::{Clock, Duration};
+
+/// What a viewer is told that is let in: the version, and a byte after it.
+pub(crate) const GREETING: &[u8] = b"RFB 003.008\nR";
+
+/// A runtime whose clock goes on, or stands until it is put forward.
+#[derive(Clone, Copy, Drop)]
+pub(crate) struct ByHand<'a, R: Drop> {
+    pub(crate) rt: R,
+    pub(crate) stands: bool,
+    pub(crate) millis: &'a AtomicU64,
+}
+
+impl<R: Wait + Drop> Wait for ByHand<'_, R> {}
+
+impl<R: Clock + Drop> Clock for ByHand<'_, R> {
+    fn monotonic(&self) -> io::Result<Duration> {
+        if self.stands {
+            Ok(Duration::from_millis(self.millis.load(Ordering::SeqCst)))
+        } else {
+            self.rt.monotonic()
+        }
+    }
+
+    fn since_1970(&self) -> io::Result<Duration> {
+        self.rt.since_1970()
+    }
+
+    fn sleep(&self, duration: Duration) {
+        self.rt.sleep(duration)
+    }
+}
+
+/// A log that counts the events that it is told and the newcomers that lacked a header, and keeps the address of the
+/// viewer that came last.
+#[derive(Drop)]
+pub(crate) struct Notebook<R: Drop> {
+    pub(crate) rt: R,
+    count: AtomicU64,
+    lacking: AtomicU64,
+    last: Mutex<Option<SocketAddr>>,
+}
+
+/// A log that was told nothing yet.
+pub(crate) fn make_notebook<R: Drop>(rt: R, alloc: Global) -> io::Result<Arc<Notebook<R>, Global>> {
+    let log = Notebook {
+        rt,
+        count: AtomicU64::new(0),
+        lacking: AtomicU64::new(0),
+        last: Mutex::new(None),
+    };
+    Ok(Arc::new(alloc, log)?)
+}
+
+impl<R: Wait + Drop> Log for Notebook<R> {
+    fn note(&self, event: &Event<'_>) {
+        self.count.fetch_add(1, Ordering::SeqCst);
+        match event {
+            Event::ViewerIn { address, .. } => *self.last.lock(&self.rt) = *address,
+            Event::NoHeader { .. } => {
+                self.lacking.fetch_add(1, Ordering::SeqCst);
+            }
+            _ => {}
+        }
+    }
+}
+
+/// What the visitors of a port with one place find there.
+#[derive(Drop)]
+pub(crate) struct House<'a, R: Drop> {
+    pub(crate) net: &'a HostRuntime,
+    pub(crate) address: SocketAddr,
+    pub(crate) lobby: &'a Lobby,
+    pub(crate) millis: &'a AtomicU64,
+    pub(crate) log: &'a Notebook<R>,
+}
+
+impl<R: Wait + Drop> House<'_, R> {
+    /// A newcomer that sends nothing yet.
+    pub(crate) fn connect(&self) -> io::Result<TcpStream> {
+        connect(self.net, self.address)
+    }
+
+    /// A newcomer that sends its version.
+    pub(crate) fn come(&self) -> io::Result<TcpStream> {
+        come(self.net, self.address)
+    }
+
+    /// A newcomer that sends these bytes before its version, byte by byte.
+    pub(crate) fn come_behind(&self, header: &[u8]) -> io::Result<TcpStream> {
+        let mut viewer = self.connect()?;
+        for byte in header {
+            viewer.write_all(&[*byte])?;
+        }
+        viewer.write_all(VERSION)?;
+        Ok(viewer)
+    }
+
+    /// Puts the clock forward.
+    pub(crate) fn pass(&self, millis: u64) {
+        self.millis.fetch_add(millis, Ordering::SeqCst);
+    }
+
+    /// How many places have no viewer.
+    pub(crate) fn free(&self) -> usize {
+        self.lobby.desk().free(&self.log.rt)
+    }
+
+    /// What the desk answers an operator who asks this.
+    pub(crate) fn ask(&self, request: Request) -> Outcome {
+        self.lobby.desk().ask(&self.log.rt, request)
+    }
+
+    /// Whether no viewer is at the place, and the log was told nothing.
+    pub(crate) fn is_quiet(&self) -> bool {
+        self.free() == 1 && self.log.count.load(Ordering::SeqCst) == 0
+    }
+
+    /// Whether the log was told of this many newcomers that lacked a header.
+    pub(crate) fn have_lacked(&self, count: u64) -> bool {
+        self.log.lacking.load(Ordering::SeqCst) == count
+    }
+
+    /// Whether the log was told last that a viewer came from there.
+    pub(crate) fn has_come(&self, address: SocketAddr) -> bool {
+        *self.log.last.lock(&self.log.rt) == Some(address)
+    }
+}
