@@ -112,8 +112,7 @@ pub(crate) fn plays_pair<
 }
 
 #[test]
-fn a_thousand_puts_beside_four_eyes(rt: HostRuntime) -> Result<(), Fail> {
-    let right = plays_pair::<Brand, _>(rt, rt.alloc(), Opened::new(), 4, false)?;
-    assert!(rt; right);
-    Ok(())
+fn a_thousand_puts_beside_four_eyes(rt: HostRuntime) {
+    let right = plays_pair::<Brand, _>(rt, rt.alloc(), Opened::new(), 4, false);
+    assert!(rt; matches!(right, Ok(true)));
 }

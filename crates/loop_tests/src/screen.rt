@@ -61,37 +61,25 @@ enum Drawing {
     Other,
 }
 
-/// Each of them with its format.
-const DRAWINGS: [(Drawing, [u8; 16]); 3] = [
-    (
-        Drawing::Hosts,
-        [32, 24, 0, 1, 0, 255, 0, 255, 0, 255, 16, 8, 0, 0, 0, 0],
-    ),
-    (
-        Drawing::Browsers,
-        [32, 24, 0, 1, 0, 255, 0, 255, 0, 255, 0, 8, 16, 0, 0, 0],
-    ),
-    (
-        Drawing::Other,
-        [32, 24, 1, 1, 0, 255, 0, 255, 0, 255, 0, 8, 16, 0, 0, 0],
-    ),
-];
-
 /// The format of who draws.
 fn format_of(drawing: Drawing) -> Option<Format> {
-    let (_, bytes) = DRAWINGS.iter().find(|(it, _)| *it == drawing)?;
-    Format::read(bytes).ok()
+    let bytes = match drawing {
+        Drawing::Hosts => [32, 24, 0, 1, 0, 255, 0, 255, 0, 255, 16, 8, 0, 0, 0, 0],
+        Drawing::Browsers => [32, 24, 0, 1, 0, 255, 0, 255, 0, 255, 0, 8, 16, 0, 0, 0],
+        Drawing::Other => [32, 24, 1, 1, 0, 255, 0, 255, 0, 255, 0, 8, 16, 0, 0, 0],
+    };
+    Format::read(&bytes).ok()
 }
 
 /// Whether what a cut shows was encoded in the format of this viewer alone, or in none.
 fn is_encoded(cut: &Cut, wanted: Option<Drawing>) -> bool {
     let mut right = true;
-    for (drawing, bytes) in &DRAWINGS {
-        let has = match Format::read(bytes) {
-            Ok(format) => cut.encoded(&ALL, &format).is_some(),
-            Err(_) => return false,
+    for drawing in [Drawing::Hosts, Drawing::Browsers, Drawing::Other] {
+        let has = match format_of(drawing) {
+            Some(format) => cut.encoded(&ALL, &format).is_some(),
+            None => return false,
         };
-        right = right && has == (wanted == Some(*drawing));
+        right = right && has == (wanted == Some(drawing));
     }
     right
 }
@@ -174,8 +162,8 @@ const KEPT: Trial = Trial {
     last: 3,
 };
 
-/// One watcher alone shares nothing. Of the two formats of hosts and browsers the one that more watchers want is chosen,
-/// and the host's where as many want either, or none of them.
+/// One watcher alone shares nothing. Of the two formats of hosts and browsers the one that more watchers want is
+/// chosen, and the host's where as many want either, or none of them.
 const CHOSEN: Trial = Trial {
     name: "areas are encoded in the format of most watchers",
     places: 3,
@@ -475,7 +463,7 @@ fn plays<J: Naming + Publishes + Send + Sync, R: Threads + Wait + Sync + Send + 
 #[test]
 fn screens_are_shared(rt: HostRuntime) -> Result<(), Fail> {
     for trial in &TRIALS {
-        if !plays::<Brand, _>(rt, rt.alloc(), Opened::new(), trial)? {
+        if !plays::<Brand, _>(rt, rt.alloc(), Opened::new(), trial).unwrap_or(false) {
             return Err(Fail::new(trial.name));
         }
     }

@@ -375,7 +375,7 @@ static CASES: [Case<'static>; 10] = [
 #[test]
 fn viewer_is_served(rt: HostRuntime) -> Result<(), Fail> {
     for case in &CASES {
-        if !goes_as_told(rt, rt.alloc(), case)? {
+        if !goes_as_told(rt, rt.alloc(), case).unwrap_or(false) {
             return Err(Fail::new(case.name));
         }
     }
@@ -424,22 +424,21 @@ fn is_served_until<R: Wait + Drop + Copy>(
 }
 
 /// A link that fails at any of its calls is `LinkFailed`. A link that ends at any of its calls is `LinkEnded`, except
-/// between two messages with nothing unsent.
+/// between two messages with nothing unsent. The first call at which it goes otherwise is printed.
 #[test]
 fn viewer_fails_or_ends_at_each_call(rt: HostRuntime) -> Result<(), Fail> {
     for call in 0..=CALLS {
         let at_failure = if call < CALLS { 21 } else { 0 };
         let is_between = call == 0 || call == 8 || call >= 42;
         let at_end = if is_between { 0 } else { 22 };
-        let fails = is_served_until(
-            rt,
-            rt.alloc(),
-            call,
-            (Took::Failed, Gave::Failed),
-            at_failure,
-        )?;
-        let ends = is_served_until(rt, rt.alloc(), call, (Took::End, Gave::End), at_end)?;
-        assert!(rt; fails && ends, "call {call}: {fails} where it fails");
+        for (last, answer) in [
+            ((Took::Failed, Gave::Failed), at_failure),
+            ((Took::End, Gave::End), at_end),
+        ] {
+            if !is_served_until(rt, rt.alloc(), call, last, answer).unwrap_or(false) {
+                return Err(Fail::new(call));
+            }
+        }
     }
     Ok(())
 }
