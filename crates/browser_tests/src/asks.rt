@@ -65,6 +65,14 @@ const STRANGERS_PAGE: Ask = Ask {
     body: b"",
 };
 
+/// Nor can a page without an origin of its own, such as a file or a frame in a sandbox (RFC 6454, section 7.1).
+const NOBODYS_PAGE: Ask = Ask {
+    request: &[OPENS, "127.0.0.1:", PORT, FROM, "null", WITH_KEY],
+    status: b"HTTP/1.1 403 ",
+    line: b"",
+    body: b"",
+};
+
 /// Nor can the port's own page under another host.
 const STRANGERS_HOST: Ask = Ask {
     request: &[
@@ -145,7 +153,10 @@ pub(crate) fn is_told(net: &HostRuntime, port: u16, ask: &Ask) -> bool {
     }
 }
 
-/// Whether a page of another site can't open a WebSocket at this port, nor can the port's own page under another host.
+/// Whether neither a page of another site nor one of none can open a WebSocket at this port, nor the port's own page
+/// under another host.
 pub(crate) fn are_strangers_refused(net: &HostRuntime, port: u16) -> bool {
-    is_told(net, port, &STRANGERS_PAGE) && is_told(net, port, &STRANGERS_HOST)
+    is_told(net, port, &STRANGERS_PAGE)
+        && is_told(net, port, &NOBODYS_PAGE)
+        && is_told(net, port, &STRANGERS_HOST)
 }

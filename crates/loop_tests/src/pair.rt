@@ -56,7 +56,7 @@ fn are_gone<J: Naming>(eyes: &mut [Eye<J>], room: &mut Room) -> bool
     right
 }
 
-/// Whether all is right beside a thousand puts, or after five where memory may be short, and after the writer's end.
+/// Whether all is right beside very many puts, or after five where memory may be short, and after the writer's end.
 fn reads_beside<J: Naming + Publishes + Send + Sync, R: Threads + Wait + Sync + Send + Copy + Drop>(
     rt: R,
     alloc: Global,
@@ -112,7 +112,7 @@ pub(crate) fn plays_pair<
 }
 
 #[test]
-fn a_thousand_puts_beside_four_eyes(rt: HostRuntime) {
+fn very_many_puts_beside_four_eyes(rt: HostRuntime) {
     let right = plays_pair::<Brand, _>(rt, rt.alloc(), Opened::new(), 4, false);
     assert!(rt; matches!(right, Ok(true)));
 }

@@ -20,7 +20,7 @@ pub const ALL: Rect = Rect {
 };
 
 /// This many patches are put.
-pub const MANY: u64 = 1000;
+pub const MANY: u64 = 2_500;
 
 /// Patch n.
 fn painted(alloc: Global, n: u64) -> Result<Patch, Fault>

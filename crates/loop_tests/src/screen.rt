@@ -91,7 +91,7 @@ struct Turn(usize, usize, &'static [Act]);
 enum Course {
     /// These turns are taken.
     Turns(&'static [Turn]),
-    /// All watchers but the last read beside a thousand puts, and each looks at the last number then, including the one
+    /// All watchers but the last read beside very many puts, and each looks at the last number then, including the one
     /// that never looked.
     Beside,
     /// Five patches are put, where memory may be short.
@@ -246,12 +246,15 @@ const CHOSEN: Trial = Trial {
     last: 8,
 };
 
+/// The number of the put after very many.
+const LAST: u64 = MANY + 1;
+
 /// Four threads read beside one that puts.
 const BESIDE: Trial = Trial {
-    name: "a thousand puts beside four watchers",
+    name: "very many puts beside four watchers",
     places: 5,
     course: Course::Beside,
-    last: MANY,
+    last: LAST,
 };
 
 /// Each of four places holds a cut of another update. Then puts go on, and change none of these cuts. Where one place
@@ -376,8 +379,17 @@ fn turns_come_right<J: Naming + Publishes, R: Wait + Drop>(
     right
 }
 
-/// Whether all is right where all watchers but the last read beside a thousand puts, and each watcher then looks at the
-/// last number, including the one that never looked.
+/// Whether each watcher looks at this number.
+fn all_look<J: Naming>(watchers: &mut [Watcher<J>], number: u64) -> bool {
+    let mut right = true;
+    for watcher in watchers {
+        right = watcher.look() == number && right;
+    }
+    right
+}
+
+/// Whether all is right where all watchers but the last read beside very many puts. Each watcher looks at the last
+/// number then, including the one that never looked, and once more after one more put.
 fn reads_beside<J: Naming + Publishes + Send + Sync, R: Threads + Wait + Sync + Send + Copy + Drop>(
     rt: R,
     alloc: Global,
@@ -386,14 +398,13 @@ fn reads_beside<J: Naming + Publishes + Send + Sync, R: Threads + Wait + Sync + 
 ) -> bool
     requires { (4 ≡ J.width) × (4 ≡ J.height) }
 {
-    let mut right = match watchers.split_last_mut() {
+    let is_read = match watchers.split_last_mut() {
         Some((_, readers)) => beside(&rt, alloc, publisher, readers),
         None => false,
     };
-    for watcher in watchers {
-        right = watcher.look() == MANY && right;
-    }
-    right
+    let is_seen = all_look(watchers, MANY);
+    let is_put = matches!(puts_one(alloc, publisher, LAST, false), Ok(true));
+    is_read && is_seen && is_put && all_look(watchers, LAST)
 }
 
 /// Whether the course comes out right. It fails where memory is short.

@@ -8,7 +8,7 @@ use std::sync::atomic::{AtomicU64, Ordering};
 use std::thread;
 
 /// A call that is held fails after this many turns.
-const TURNS: u64 = 1_000_000;
+const TURNS: u64 = 20_000_000;
 
 /// What each place was shown, what its viewers handed out, what the host was told, and what went wrong.
 #[derive(Drop)]

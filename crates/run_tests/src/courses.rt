@@ -6,7 +6,7 @@ use crate::bytes::{
 };
 use crate::dead_links::{GOES_ON, IS_LEFT};
 use crate::ends::{Course, End, goes_right};
-use crate::leavings::EACH_LEAVES;
+use crate::leavings::{EACH_LEAVES, VERY_MANY_COME};
 use crate::painted::PAINTED;
 use crate::peer::{Act, Key, Script, Taking};
 use crate::picture::Picture;
@@ -125,6 +125,7 @@ const HELD_VIEWER: Course = Course {
     view: &SMALL,
     black: 0,
     places: &[&[AT_ONCE], &[HELD], &[AT_ONCE], &[AT_ONCE]],
+    again: 0,
     hosts: &[SENDS_THREE, IS_TOLD],
     may_end: true,
     end: End {
@@ -142,6 +143,7 @@ const STALLED_VIEWERS: Course = Course {
     view: &SMALL,
     black: 0,
     places: &[&[AT_ONCE], &[STALLED], &[STALLED], &[STALLED]],
+    again: 0,
     hosts: &[SENDS_THREE, IS_TOLD],
     may_end: true,
     end: End {
@@ -169,6 +171,7 @@ const FULL_RELAY: Course = Course {
         ],
         taking: Taking::AtOnce,
     }]],
+    again: 0,
     hosts: &[
         Script {
             acts: &[
@@ -211,6 +214,7 @@ const PLACE_AGAIN: Course = Course {
             taking: Taking::AtOnce,
         },
     ]],
+    again: 0,
     hosts: &[
         Script {
             acts: &[Act::Says(ONE), Act::Waits(Gate::Told(4)), Act::Ends],
@@ -263,6 +267,7 @@ const STROKE_IS_KEPT: Course = Course {
             },
         ],
     ],
+    again: 0,
     hosts: &[
         Script {
             acts: &[Act::Says(ONE), Act::Waits(Gate::Told(2)), Act::Ends],
@@ -291,6 +296,7 @@ const WIDER_THIRD: Course = Course {
     view: &SMALL,
     black: BLACK,
     places: &[&[WATCHES]],
+    again: 0,
     hosts: &[
         SENDS_ONE,
         IS_TOLD,
@@ -338,6 +344,7 @@ const HOST_AT_FAULT: Course = Course {
     view: &SMALL,
     black: BLACK,
     places: &[&[WATCHES]],
+    again: 0,
     hosts: &[
         Script {
             acts: &[
@@ -372,6 +379,7 @@ const NO_HOST_LEFT: Course = Course {
     view: &SMALL,
     black: BLACK,
     places: &[&[WATCHES]],
+    again: 0,
     hosts: &[SENDS_ONE, IS_TOLD, ENDS, IS_TOLD],
     may_end: true,
     end: End {
@@ -396,8 +404,8 @@ static COURSES: [Course; 9] = [
     PAINTED,
 ];
 
-/// Runs in which links fail while input is told, and viewers leave in each way.
-static FAILURES: [Course; 3] = [GOES_ON, IS_LEFT, EACH_LEAVES];
+/// Runs in which links fail while input is told, viewers leave in each way, and very many come.
+static FAILURES: [Course; 4] = [GOES_ON, IS_LEFT, EACH_LEAVES, VERY_MANY_COME];
 
 /// Each of the runs goes as it should. The first that doesn't is named.
 #[test]

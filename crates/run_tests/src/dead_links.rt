@@ -31,6 +31,7 @@ pub(crate) const GOES_ON: Course = Course {
         ],
         taking: Taking::AtOnce,
     }]],
+    again: 0,
     hosts: &[
         Script {
             acts: &[Act::Says(ONE), Act::Waits(Gate::Told(1)), Act::Ends],
@@ -75,6 +76,7 @@ pub(crate) const IS_LEFT: Course = Course {
         acts: &[Act::Says(HELLO), Act::AsksFor(1), Act::Says(PRESS_97)],
         taking: Taking::AtOnce,
     }]],
+    again: 0,
     hosts: &[
         Script {
             acts: &[Act::Says(ONE), Act::Waits(Gate::Told(1)), Act::Ends],

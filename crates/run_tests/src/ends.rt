@@ -48,6 +48,8 @@ pub(crate) struct Course {
     pub(crate) view: &'static View,
     pub(crate) black: u64,
     pub(crate) places: &'static [&'static [Script]],
+    /// How often the first viewer of each place comes again before the one after it.
+    pub(crate) again: u64,
     pub(crate) hosts: &'static [Script],
     /// Whether another host may be asked for after the last.
     pub(crate) may_end: bool,
@@ -152,6 +154,7 @@ fn doors_of(
             board: Arc::try_clone(board)?,
             place,
             scripts,
+            again: course.again,
             may_end: true,
             count: PlaceCount::new(),
         };
@@ -187,6 +190,7 @@ where
         board: Arc::try_clone(board)?,
         place: 0,
         scripts: course.hosts,
+        again: 0,
         may_end: course.may_end,
         count: PlaceCount::new(),
     };

@@ -1,4 +1,4 @@
-//! A place whose viewers leave in each way.
+//! A place whose viewers leave in each way, and one to which very many come.
 
 use crate::board::Gate;
 use crate::bytes::{ASK, HELLO, ONE, PRESS_97, TWO};
@@ -64,6 +64,7 @@ pub(crate) const EACH_LEAVES: Course = Course {
             taking: Taking::AtOnce,
         },
     ]],
+    again: 0,
     hosts: &[
         Script {
             acts: &[
@@ -85,6 +86,43 @@ pub(crate) const EACH_LEAVES: Course = Course {
         fault: 0,
         links: 1,
         last: 2,
+        dropped: 0,
+        left: 0,
+    },
+};
+
+/// So many viewers come to one place, and leave once they were greeted, that a place which served only a thousand would
+/// show nothing to the last one.
+pub(crate) const VERY_MANY_COME: Course = Course {
+    name: "place_serves_very_many",
+    view: &SMALL,
+    black: 0,
+    places: &[&[
+        Script {
+            acts: &[Act::Says(HELLO), Act::Ends],
+            taking: Taking::Leaves(0),
+        },
+        Script {
+            acts: &[Act::Says(HELLO), Act::AsksFor(1)],
+            taking: Taking::AtOnce,
+        },
+    ]],
+    again: 1_099,
+    hosts: &[
+        Script {
+            acts: &[Act::Says(ONE), Act::Waits(Gate::Shown(0, 1)), Act::Ends],
+            taking: Taking::Told(Gate::Open, &[]),
+        },
+        Script {
+            acts: &[Act::Ends],
+            taking: Taking::Told(Gate::Open, &[]),
+        },
+    ],
+    may_end: true,
+    end: End {
+        fault: 0,
+        links: 1,
+        last: 1,
         dropped: 0,
         left: 0,
     },

@@ -1,7 +1,7 @@
 //! Tests of `reflector` over links in memory: viewers that stall, a relay that is full, and places that are used again
 //! after each way of leaving.
 //! Update n paints colour n all over a screen of 2 by 1, or rectangles of one of 34 by 33, which viewers follow by code
-//! of their own. A call that is held counts its turns, and fails at 1,000,000.
+//! of their own. A call that is held counts its turns, and fails at 20,000,000.
 #![tactic(auto)]
 
 #[cfg(test)]

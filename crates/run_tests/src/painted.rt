@@ -193,6 +193,7 @@ pub(crate) const PAINTED: Course = Course {
     view: &SCREEN,
     black: 0,
     places: &[&[TRUE_COLOUR], &[HIGH_COLOUR], &[FEW_COLOURS], &[FIVE_BITS]],
+    again: 0,
     hosts: &[
         Script {
             acts: &[

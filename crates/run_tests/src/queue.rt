@@ -19,6 +19,8 @@ pub(crate) struct Queue {
     pub(crate) board: Arc<Board, Global>,
     pub(crate) place: usize,
     pub(crate) scripts: &'static [Script],
+    /// How often the next peer comes again before the one after it.
+    pub(crate) again: u64,
     /// Whether another host may be asked for where none is left.
     pub(crate) may_end: bool,
     pub(crate) count: PlaceCount,
@@ -33,7 +35,10 @@ impl Queue {
         ensures { IfSome result (λ wire. wire ≡ unused) }
     {
         let (script, later) = self.scripts.split_first()?;
-        self.scripts = later;
+        match self.again.checked_sub(1) {
+            Some(again) => self.again = again,
+            None => self.scripts = later,
+        }
         let board = Arc::try_clone(&self.board).ok()?;
         Some(Wire::new(Peer {
             board,

@@ -25,6 +25,8 @@ const TYPED_6: &[u8] = b"\x06\0\0\0\0\0\0\x01x\x04\x01\0\0\0\0\0\x62\x04\0\0\0\0
 const TYPED_7: &[u8] =
     b"\x05\x04\0\0\0\0\x05\0\0\x01\0\0\x04\x01\0\0\0\0\0\x63\x04\0\0\0\0\0\0\x63";
 
+const TYPED_8: &[u8] = b"\x04\x01\0\0\0\0\0\x64\x04\0\0\0\0\0\0\x64";
+
 /// What a viewer that only looks on gives after each update, of which a host is told nothing: a key and a button that
 /// go down and stay there, and a text.
 const IN_VAIN: &[u8] = b"\x04\x01\0\0\0\0\0\x76\x05\x01\0\x01\0\0\x06\0\0\0\0\0\0\x02no";
@@ -74,6 +76,12 @@ const TYPES: &[&[Step]] = &[
         Step::Reaches(Count::Looked, 7),
         Step::Sends(TYPED_7),
     ],
+    &[
+        Step::IsShown(8),
+        Step::Reaches(Count::Asked, 8),
+        Step::Reaches(Count::Looked, 8),
+        Step::Sends(TYPED_8),
+    ],
 ];
 
 /// It types after each update where the host may be told nothing of it. The answer that comes after it shows that it
@@ -122,6 +130,12 @@ const TYPES_IN_VAIN: &[&[Step]] = &[
         Step::Asks(ASK, 7),
         Step::Marks(Count::Looked, 7),
     ],
+    &[
+        Step::IsShown(8),
+        Step::Sends(IN_VAIN),
+        Step::Asks(ASK, 8),
+        Step::Marks(Count::Looked, 8),
+    ],
 ];
 
 /// The hosts are told what is typed after each update, and nothing before it. A host that comes after another is asked
@@ -166,16 +180,28 @@ const HOSTS: &[Host] = &[
             Step::IsLetGo,
         ],
     },
+    // The first host again, as the fourth that is joined.
+    Host {
+        at: 0,
+        steps: &[
+            Step::IsJoined(INIT),
+            Step::Hears(ASK_NEW),
+            Step::Update(8),
+            Step::Hears(TYPED_8),
+            Step::ShutsDown,
+            Step::IsLetGo,
+        ],
+    },
 ];
 
 /// The viewer keeps its connection from one host to the next, and is shown what each sends.
 const SCENES: &[Scene] = &[
-    // A host that isn't there is passed over, and the others are met in their order. The second breaks off. The hosts
+    // Hosts that aren't there are passed over, and the others are met in their order. The second breaks off. The hosts
     // are told each byte that full control types, and none that is typed in vain. The run ends without a fault, with
     // the last host.
     Scene {
         name: "viewers type from host to host",
-        words: "--host 127.0.0.1:|first| 127.0.0.1:|nobody| 127.0.0.1:|second| 127.0.0.1:|third|",
+        words: "--host 127.0.0.1:|first| 127.0.0.1:|nobody| 127.0.0.1:|second| 127.0.0.1:|nobody| 127.0.0.1:|nobody| 127.0.0.1:|third| 127.0.0.1:|first|",
         is_taken: false,
         hosts: HOSTS,
         full: &[Visit {

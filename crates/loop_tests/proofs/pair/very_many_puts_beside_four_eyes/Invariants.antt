@@ -1,4 +1,4 @@
-use Rattle.loop_tests.proofs.pair.a_thousand_puts_beside_four_eyes.Given as goal
+use Rattle.loop_tests.proofs.pair.very_many_puts_beside_four_eyes.Given as goal
 
 -- The history that was just opened, of a screen of that size.
 abbrev pub ghosts-plays_pair : goal.ghosts-plays_pair
