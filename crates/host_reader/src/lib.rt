@@ -10,4 +10,4 @@ mod reading;
 mod run;
 
 pub use reading::{HostBeginning, Reading};
-pub use run::{read_on, run_host};
+pub use run::{ReadsOn, read_host, read_on, run_host};

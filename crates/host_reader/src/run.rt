@@ -18,6 +18,22 @@ use std::sync::Wait;
 /// How many bytes are taken from the link at a time, at most.
 const PIECE: usize = 65536;
 
+/// What has a reading take the host's bytes until it ends, as `read_on` does. It is lent the reading and nothing else
+/// that matters, so all that it can do is to call the step.
+pub trait ReadsOn<L: Link, P: Puts> {
+    /// Reads on until the link ends or a fault comes.
+    fn read_on(&self, reading: &mut Reading<'_, L, P>) -> Result<(), Fault>
+        requires begins { (screen : Canvas) × Decodes reading.old.decoder.now reading.old.painter.now screen (host_message reading.old.decoder.now.width reading.old.decoder.now.height) }
+        requires on { (reading.old.is_between ≡ true) × (reading.old.is_over ≡ false) }
+        ensures reads { (screen : Canvas) → Decodes reading.old.decoder.now reading.old.painter.now screen (host_message reading.old.decoder.now.width reading.old.decoder.now.height) → EndsSo reading.old.decoder.now.width reading.old.decoder.now.height screen result (L.state reading.old.link.now) (L.state reading.new.link.now) (P.updates reading.old.publisher.now) (P.updates reading.new.publisher.now) }
+        ensures given { (L.state reading.new.link.now).given ≡ (L.state reading.old.link.now).given }
+        ensures decoder { (reading.new.decoder.now.width ≡ reading.old.decoder.now.width) × (reading.new.decoder.now.height ≡ reading.old.decoder.now.height) }
+        ensures painter { IsFor reading.new.decoder.now reading.new.painter.now }
+        ensures publisher { (P.width reading.new.publisher.now ≡ P.width reading.old.publisher.now) × (P.height reading.new.publisher.now ≡ P.height reading.old.publisher.now) }
+        ensures same { (reading.new.link.ghost_name ≡ reading.old.link.ghost_name) × (reading.new.decoder.ghost_name ≡ reading.old.decoder.ghost_name) × (reading.new.painter.ghost_name ≡ reading.old.painter.ghost_name) × (reading.new.publisher.ghost_name ≡ reading.old.publisher.ghost_name) }
+        ensures first { reading.new.first ≡ reading.old.first };
+}
+
 /// Has the reading take the host's bytes, piece by piece, until the link ends or a fault comes. It is lent the reading
 /// and nothing else that matters, so all that it can do is to call the step.
 pub fn read_on<L: Link, P: Puts, R: Wait>(
@@ -40,6 +56,50 @@ pub fn read_on<L: Link, P: Puts, R: Wait>(
         }
     }
     unreachable!()
+}
+
+/// The same as `run_host`, with `by` in place of a handle: no other call in it waits, so it has none itself.
+pub fn read_host<L: Link, P: Puts, F: ReadsOn<L, P>>(
+    by: &F,
+    alloc: Global,
+    link: &mut L,
+    decoder: &mut HostDecoder,
+    painter: &mut Painter,
+    publisher: &mut P,
+) -> Result<(), Fault>
+    requires begins { (screen : Canvas) × Decodes decoder.old painter.old screen (host_message decoder.old.width decoder.old.height) }
+    requires painter { IsFor decoder.old painter.old }
+    requires publisher { (P.width publisher.old ≡ decoder.old.width) × (P.height publisher.old ≡ decoder.old.height) }
+    ensures decoder { (decoder.new.width ≡ decoder.old.width) × (decoder.new.height ≡ decoder.old.height) }
+    ensures painter { IsFor decoder.new painter.new }
+    ensures publisher { (P.width publisher.new ≡ P.width publisher.old) × (P.height publisher.new ≡ P.height publisher.old) }
+    ensures given { (L.state link.new).given ≡ (L.state link.old).given }
+    ensures ok { OnOk result ((screen : Canvas) → Decodes decoder.old painter.old screen (host_message decoder.old.width decoder.old.height) → EndsBetween decoder.old.width decoder.old.height screen (L.state link.old) (L.state link.new) (P.updates publisher.old) (P.updates publisher.new)) }
+    ensures err { IfErr result (λ fault. (screen : Canvas) → Decodes decoder.old painter.old screen (host_message decoder.old.width decoder.old.height) → EndsWith decoder.old.width decoder.old.height screen fault (L.state link.old) (L.state link.new) (P.updates publisher.old) (P.updates publisher.new)) }
+{
+    let mut buffer = vec![in alloc; 0u8; PIECE]?;
+    let first = HostBeginning::of(link, decoder, painter, publisher);
+    let mut reading = Reading::new(
+        &first,
+        link,
+        decoder,
+        painter,
+        publisher,
+        buffer.as_mut_slice(),
+    );
+    by.read_on(&mut reading)
+}
+
+/// Reads on by a handle that may wait.
+#[derive(Drop)]
+struct Waiting<'a, R: Wait> {
+    rt: &'a R,
+}
+
+impl<'a, L: Link, P: Puts, R: Wait> ReadsOn<L, P> for Waiting<'a, R> {
+    fn read_on(&self, reading: &mut Reading<'_, L, P>) -> Result<(), Fault> {
+        read_on(self.rt, reading)
+    }
 }
 
 /// Takes the host's bytes from a link that has done its handshake, and puts the update of each whole message, in order,
@@ -69,15 +129,5 @@ pub fn run_host<L: Link, P: Puts, R: Wait>(
     ensures ok { OnOk result ((screen : Canvas) → Decodes decoder.old painter.old screen (host_message decoder.old.width decoder.old.height) → EndsBetween decoder.old.width decoder.old.height screen (L.state link.old) (L.state link.new) (P.updates publisher.old) (P.updates publisher.new)) }
     ensures err { IfErr result (λ fault. (screen : Canvas) → Decodes decoder.old painter.old screen (host_message decoder.old.width decoder.old.height) → EndsWith decoder.old.width decoder.old.height screen fault (L.state link.old) (L.state link.new) (P.updates publisher.old) (P.updates publisher.new)) }
 {
-    let mut buffer = vec![in alloc; 0u8; PIECE]?;
-    let first = HostBeginning::of(link, decoder, painter, publisher);
-    let mut reading = Reading::new(
-        &first,
-        link,
-        decoder,
-        painter,
-        publisher,
-        buffer.as_mut_slice(),
-    );
-    read_on(rt, &mut reading)
+    read_host(&Waiting { rt }, alloc, link, decoder, painter, publisher)
 }

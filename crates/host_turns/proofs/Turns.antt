@@ -1,10 +1,10 @@
 -- A run grows by one turn. The loop over the hosts keeps that all turns so far are a run.
-use Rattle.std.proofs.Common.{◌≡◌, ℕ, true, List, ◌∷◌, refl, ap, subst, ◌∙◌}
-use Rattle.std.specs.Prelude.{Result}
+use Rattle.std.proofs.Common.{◌≡◌, ℕ, true, List, [], ◌∷◌, ◌++◌, length, Result, Err, refl, ap, subst, inl, inr, ◌∙◌}
 use Rattle.fault.specs.declared.kinds.Fault.{Fault}
 use Rattle.raster.specs.Update.{Update}
 use Rattle.link.specs.Links.{LinkState}
-use Rattle.host_turns.specs.Running.{HasRun, HasTurn, IsLinkOf, IsMissed, IsTurn, goes_on, links_with, put_with}
+use Rattle.host_turns.specs.Moment.{IsBegun}
+use Rattle.host_turns.specs.Running.{HasRun, HasTurn, IsMissed, IsRead, IsSwitched, IsTurn, JoinsAt, Missed, Read, goes_on, links_with, put_with}
 
 pub one_more : (w h : ℕ) (comes : LinkState → Type 0) (before result : Result (Unit {0}) Fault) (link : LinkState) (links_old links_new : List LinkState) (old now new : List Update)
     → HasRun w h comes before link links_old old now → goes_on before ≡ true → HasTurn w h comes result links_old links_new now new → HasRun w h comes result link links_new old new
@@ -20,7 +20,32 @@ one_more w h comes before result link links_old links_new old now new run on tur
       put = turn.put ∙ ap (λ us. put_with us turn.turn) run.put;
     }
 
--- A host that was missed came over a link of the supply.
-pub missed : {L : Type 0} (w h : ℕ) (state : L → LinkState) (came : L → Type 0) (end : L) (fault : Fault) (count : ℕ)
-    → came end → IsMissed w h count fault (state end) → (link : LinkState) × IsLinkOf state came link × IsMissed w h count fault link
-missed w h state came end fault count there why = (state end, (end, there, refl), why)
+-- The host that is joined is read to its end, and so the run has one stay more.
+pub stayed : (w h : ℕ) (comes : LinkState → Type 0) (answer : Result (Unit {0}) Fault) (link joined left : LinkState) (links : List LinkState) (old now put : List Update)
+    → IsBegun w h comes link joined links old now → IsRead w h answer joined left now put → HasRun w h comes answer link (links ++ left ∷ []) old put
+stayed w h comes answer link joined left links old now put (inl k) read =
+    record {
+      first = record { answer = answer; joined = link; left = left; put = put };
+      begins = refl;
+      read = subst (λ (l : LinkState). IsRead w h answer l left old put) k.same (subst (λ us. IsRead w h answer joined left us put) k.unput read);
+      turns = [];
+      in_turn = tt;
+      last = refl;
+      handed = ap (λ ls. ls ++ left ∷ []) k.none;
+      put = refl;
+    }
+stayed w h comes answer link joined left links old now put (inr k) read =
+    one_more w h comes k.last answer link links (links ++ left ∷ []) old k.shown put k.run k.on
+    (record { turn = Read (record { answer = answer; joined = joined; left = left; put = put }); is = (k.joins, (now, k.switched, read)); answer = refl; handed = refl; put = refl })
+
+-- A host came that is missed. Nothing was put.
+pub missed : (w h : ℕ) (comes : LinkState → Type 0) (before result : Result (Unit {0}) Fault) (link came : LinkState) (links : List LinkState) (old now : List Update)
+    → HasRun w h comes before link links old now → goes_on before ≡ true → comes came → (fault : Fault) × (result ≡ Err fault) × IsMissed w h (length now) fault came → HasRun w h comes result link links old now
+missed w h comes before result link came links old now run on there why =
+    one_more w h comes before result link links links old now now run on (record { turn = Missed why.0; is = (came, there, why.2); answer = why.1; handed = refl; put = refl })
+
+-- A host came and was joined, and the switch was put.
+pub begun : (w h : ℕ) (comes : LinkState → Type 0) (last : Result (Unit {0}) Fault) (link came joined : LinkState) (links : List LinkState) (old shown now : List Update)
+    → HasRun w h comes last link links old shown → goes_on last ≡ true → comes came → JoinsAt w h came joined → IsSwitched w h shown now → IsBegun w h comes link joined links old now
+begun w h comes last link came joined links old shown now run on there joins switched =
+    inr (record { last = last; shown = shown; run = run; on = on; joins = (came, there, joins); switched = switched })

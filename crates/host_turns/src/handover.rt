@@ -9,6 +9,29 @@ use std::alloc::Global;
 use std::sync::atomic::{AtomicU64, Ordering};
 use std::sync::{Arc, Condvar, Mutex, Wait};
 
+/// The end of a connection on which a host is to be told, sealed: nothing was given over it, and until `Handover::take`
+/// opens it nobody can give anything.
+#[derive(Drop)]
+pub struct SealedEnd<L: Link> {
+    link: L,
+    ghost fresh: { L.state link ≡ unused },
+}
+
+impl<L: Link> SealedEnd<L> {
+    /// Seals an end over which nothing was given.
+    pub fn new(link: L) -> SealedEnd<L>
+        requires { L.state link ≡ unused }
+    {
+        SealedEnd { link }
+    }
+
+    /// Opens the seal, for the thread that tells the host of this number. It takes no handle.
+    fn open(self, number: u64) -> NumberedLink<L> {
+        let SealedEnd { link } = self;
+        NumberedLink { link, number }
+    }
+}
+
 /// The end of a connection on which a host is told, over which nothing was given yet, and the number of that host.
 #[derive(Drop)]
 pub struct NumberedLink<L: Link> {
@@ -17,10 +40,17 @@ pub struct NumberedLink<L: Link> {
     pub ghost fresh: { L.state link ≡ unused },
 }
 
+/// The sealed end of the host of this number.
+#[derive(Drop)]
+struct NumberedEnd<L: Link> {
+    end: SealedEnd<L>,
+    number: u64,
+}
+
 #[derive(Drop)]
 struct Post<L: Link> {
     // The host that is told next. A host that nobody took is dropped where another comes.
-    next: Option<NumberedLink<L>>,
+    next: Option<NumberedEnd<L>>,
     is_over: bool,
 }
 
@@ -40,7 +70,8 @@ impl<L: Link, W: Alarm + Drop> Handover<L, W> {
     pub fn new(link: L, alarm: Arc<W, Global>) -> Handover<L, W>
         requires { L.state link ≡ unused }
     {
-        let next = Some(NumberedLink { link, number: 0 });
+        let end = SealedEnd::new(link);
+        let next = Some(NumberedEnd { end, number: 0 });
         Handover {
             post: Mutex::new(Post {
                 next,
@@ -53,12 +84,10 @@ impl<L: Link, W: Alarm + Drop> Handover<L, W> {
     }
 
     /// From now on the host at the other end of this link is told.
-    pub(crate) fn give<R: Wait>(&self, rt: &R, link: L)
-        requires { L.state link ≡ unused }
-    {
+    pub(crate) fn give<R: Wait>(&self, rt: &R, end: SealedEnd<L>) {
         let number = self.left.load(Ordering::SeqCst);
         let mut guard = self.post.lock(rt);
-        guard.next = Some(NumberedLink { link, number });
+        guard.next = Some(NumberedEnd { end, number });
         self.came.notify_all();
     }
 
@@ -76,7 +105,7 @@ impl<L: Link, W: Alarm + Drop> Handover<L, W> {
         self.came.notify_all();
     }
 
-    /// Waits for the next host that is to be told. It answers `None` where no other comes.
+    /// Waits for the next host that is to be told, and opens its end. It answers `None` where no other comes.
     pub fn take<R: Wait>(&self, rt: &R) -> Option<NumberedLink<L>> {
         let guard = self.post.lock(rt);
         let mut guard = self
@@ -86,7 +115,8 @@ impl<L: Link, W: Alarm + Drop> Handover<L, W> {
         if post.is_over {
             return None;
         }
-        post.next.take()
+        let NumberedEnd { end, number } = post.next.take()?;
+        Some(end.open(number))
     }
 
     /// Whether the host of this number was left.

@@ -1,28 +1,23 @@
-//! The turn of one host.
+//! What is done with one host: it is joined, its switch is put, and it is read. Nothing here takes a handle.
 
-ghost use Rattle.std.specs.Prelude.{◌≡◌, ◌⊎◌, ◌<◌, [], ◌∷◌, ◌++◌, length, map, vec_capacity, vec_len, IfErr, IfOk, OnErr, OnOk};
+ghost use Rattle.std.specs.Prelude.{◌≡◌, ◌⊎◌, ◌<◌, [], ◌∷◌, ◌++◌, length, vec_capacity, vec_len, IfErr, IfOk, OnErr, OnOk};
 ghost use Rattle.painter.specs.Same.{AreSameUpdates};
 ghost use Rattle.raster.specs.Screen.{Canvas, opening};
 ghost use Rattle.raster.specs.Size.{IsScreenSize};
 ghost use Rattle.raster.specs.Switch.{switch};
 ghost use Rattle.host_decoder.specs.Decoder.{Decodes, IsFor, host_message};
 ghost use Rattle.fault.specs.declared.kinds.Fault.TheVariants.{Memory};
-ghost use Rattle.link.specs.Links.{LinkState};
-ghost use Rattle.run_traits.specs.Unused.{unused};
-ghost use Rattle.host_turns.specs.Running.{HasTurn, IsLinkOf, IsRead, IsReadOut, IsMissed, IsSwitched, IsUnfit, IsWant, JoinsAt};
+ghost use Rattle.host_turns.specs.Running.{IsMissed, IsReadOut, IsSwitched, IsUnfit, IsWant, JoinsAt, goes_on};
 
-use crate::handover::Handover;
 use crate::supply::Hosts;
 use fault::Fault;
 use host_decoder::HostScreen;
-use host_reader::run_host;
-use link::{Link, join_host};
+use host_reader::{ReadsOn, read_host};
+use link::{JoinsOn, Link, join_by};
 use painter::Patch;
 use reflect_core::Puts;
 use rfb_wire::Joined;
-use run_traits::Alarm;
 use std::alloc::Global;
-use std::sync::Wait;
 
 /// What all hosts of a run have in common: the size of the screen in pixels.
 #[derive(Clone, Copy, Drop)]
@@ -33,9 +28,27 @@ pub struct RunScreen {
     pub ghost size: { IsScreenSize width height },
 }
 
-/// Reads a host over a black screen to its end.
-fn read<L: Link, P: Puts, R: Wait>(
-    rt: &R,
+/// Whether the next host is taken after this answer of reading or of joining one.
+pub(crate) fn goes_on(answer: &Result<(), Fault>) -> bool
+    ensures { result ≡ goes_on answer.now }
+{
+    match answer {
+        Ok(()) => true,
+        Err(
+            Fault::BadVersion
+            | Fault::HostRefused(_)
+            | Fault::NoNone
+            | Fault::SecurityFailed
+            | Fault::LinkFailed
+            | Fault::LinkEnded,
+        ) => true,
+        Err(_) => false,
+    }
+}
+
+/// Reads a host over a black screen to its end. No handle is beside its link and the publisher.
+pub(crate) fn read<L: Link, P: Puts, F: ReadsOn<L, P>>(
+    by: &F,
     alloc: Global,
     link: &mut L,
     screen: HostScreen,
@@ -52,46 +65,19 @@ fn read<L: Link, P: Puts, R: Wait>(
         mut decoder,
         mut painter,
     } = screen;
-    run_host(rt, alloc, link, &mut decoder, &mut painter, publisher)
-}
-
-/// Reads a host that was joined to its end. After that the host is told nothing more, and its link is added to the
-/// others.
-pub(crate) fn stay<L: Link, H: Hosts<L>, P: Puts, W: Alarm + Drop, R: Wait>(
-    rt: &R,
-    run_screen: &RunScreen,
-    mut link: L,
-    screen: HostScreen,
-    hosts: &mut H,
-    links: &mut Vec<L>,
-    publisher: &mut P,
-    handover: &Handover<L, W>,
-) -> Result<(), Fault>
-    requires room { vec_len links.old < vec_capacity links.old }
-    requires size { (screen.decoder.width ≡ run_screen.now.width) × (screen.decoder.height ≡ run_screen.now.height) }
-    requires begins { Decodes screen.decoder screen.painter opening (host_message run_screen.now.width run_screen.now.height) }
-    requires pair { IsFor screen.decoder screen.painter }
-    requires publisher { (P.width publisher.old ≡ run_screen.now.width) × (P.height publisher.old ≡ run_screen.now.height) }
-    ensures publisher { (P.width publisher.new ≡ P.width publisher.old) × (P.height publisher.new ≡ P.height publisher.old) }
-    ensures again { H.again hosts.new ≡ H.again hosts.old }
-    ensures read { (left : LinkState) × (map L.state links.new.items ≡ map L.state links.old.items ++ left ∷ []) × IsRead run_screen.now.width run_screen.now.height result (L.state link) left (P.updates publisher.old) (P.updates publisher.new) }
-{
-    let answer = read(rt, run_screen.alloc, &mut link, screen, publisher);
-    handover.leave();
-    // The answer is also returned: the kit's borrow checker wants its copy made before the call.
-    let told = answer;
-    hosts.left(&mut link, told);
-    // This isn't refused, since the room was taken before.
-    let _ = links.push(link);
-    answer
+    read_host(by, alloc, link, &mut decoder, &mut painter, publisher)
 }
 
 /// Joins a host. It fails with `BadScreen` where the host's screen isn't of the run's size.
-fn join_at<L: Link, R: Wait>(rt: &R, run_screen: &RunScreen, link: &mut L) -> Result<Joined, Fault>
+fn join_at<L: Link, F: JoinsOn<L>>(
+    by: &F,
+    run_screen: &RunScreen,
+    link: &mut L,
+) -> Result<Joined, Fault>
     ensures ok { OnOk result (JoinsAt run_screen.now.width run_screen.now.height (L.state link.old) (L.state link.new)) }
     ensures err { IfErr result (λ fault. IsUnfit run_screen.now.width run_screen.now.height fault (L.state link.old) (L.state link.new)) }
 {
-    let joined = join_host(rt, link)?;
+    let joined = join_by(by, link)?;
     if joined.w != run_screen.width || joined.h != run_screen.height {
         return Err(Fault::BadScreen);
     }
@@ -128,8 +114,8 @@ fn make_ready<L>(run_screen: &RunScreen, links: &mut Vec<L>) -> Result<(HostScre
 }
 
 /// Joins a host at the screen's size, and then puts the switch. The link has room among those that were read.
-fn meet<L: Link, H: Hosts<L>, P: Puts, R: Wait>(
-    rt: &R,
+pub(crate) fn meet<L: Link, H: Hosts<L>, P: Puts, F: JoinsOn<L>>(
+    by: &F,
     run_screen: &RunScreen,
     hosts: &mut H,
     link: &mut L,
@@ -149,45 +135,9 @@ fn meet<L: Link, H: Hosts<L>, P: Puts, R: Wait>(
     ensures err { IfErr result (λ fault. IsMissed run_screen.now.width run_screen.now.height (length (P.updates publisher.old)) fault (L.state link.old)) }
     ensures unput { OnErr result (P.updates publisher.new ≡ P.updates publisher.old) }
 {
-    let joined = join_at(rt, run_screen, link)?;
+    let joined = join_at(by, run_screen, link)?;
     hosts.joined(link, &joined);
     let (screen, patch) = make_ready(run_screen, links)?;
     put_switch(patch, publisher)?;
     Ok(screen)
-}
-
-/// The turn of a further host, over the two ends of its connection. Either the host is joined, the switch is put, and
-/// the host is read to its end; or it is missed. While the host is read, the thread that tells the hosts tells this
-/// one.
-pub(crate) fn take_turn<L: Link, H: Hosts<L>, P: Puts, W: Alarm + Drop, R: Wait>(
-    rt: &R,
-    run_screen: &RunScreen,
-    ends: (L, L),
-    hosts: &mut H,
-    links: &mut Vec<L>,
-    publisher: &mut P,
-    handover: &Handover<L, W>,
-) -> Result<(), Fault>
-    requires came { H.came ends.0 }
-    requires fresh { L.state ends.1 ≡ unused }
-    requires publisher { (P.width publisher.old ≡ run_screen.now.width) × (P.height publisher.old ≡ run_screen.now.height) }
-    ensures publisher { (P.width publisher.new ≡ P.width publisher.old) × (P.height publisher.new ≡ P.height publisher.old) }
-    ensures again { H.again hosts.new ≡ H.again hosts.old }
-    ensures turn { HasTurn run_screen.now.width run_screen.now.height (IsLinkOf L.state H.came) result (map L.state links.old.items) (map L.state links.new.items) (P.updates publisher.old) (P.updates publisher.new) }
-{
-    let (mut reader, writer) = ends;
-    match meet(rt, run_screen, hosts, &mut reader, links, publisher) {
-        Ok(screen) => {
-            handover.give(rt, writer);
-            stay(
-                rt, run_screen, reader, screen, hosts, links, publisher, handover,
-            )
-        }
-        Err(fault) => {
-            // The fault is also returned, so it is copied first.
-            let why = fault;
-            hosts.left(&mut reader, Err(why));
-            Err(fault)
-        }
-    }
 }

@@ -7,9 +7,11 @@
 mod handover;
 mod host;
 mod hosts;
+mod stages;
 mod supply;
 
-pub use handover::{Handover, NumberedLink};
+pub use handover::{Handover, NumberedLink, SealedEnd};
 pub use host::RunScreen;
 pub use hosts::read_all;
+pub use stages::{EndedRun, IdleRun, JoinedRun, MetRun, RunBeginning};
 pub use supply::{Hosts, NoHosts};

@@ -23,8 +23,8 @@ pub trait Hosts<L: Link>: Drop {
     ghost again: { Self → Option ℕ };
 
     /// The connection to the next host, the end to be read and the end to be written, which was given nothing yet, or
-    /// `None` where no host is left. It may wait without an end. The host is joined over the end to be read, so that link has to limit the time for
-    /// the handshake.
+    /// `None` where no host is left. It may wait without an end. The host is joined over the end to be read, so that
+    /// link has to limit the time for the handshake.
     fn next(&mut self) -> Option<(L, L)>
         ensures came { IfSome result (λ ends. came ends.0) }
         ensures fresh { IfSome result (λ ends. L.state ends.1 ≡ unused) }

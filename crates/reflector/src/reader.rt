@@ -8,7 +8,7 @@ ghost use Rattle.host_turns.specs.Running.{HasRun, IsLinkOf, IsOver, goes_on};
 
 use fault::Fault;
 use host_decoder::HostScreen;
-use host_turns::{Handover, Hosts, RunScreen, read_all};
+use host_turns::{Handover, Hosts, JoinedRun, RunBeginning, RunScreen, read_all};
 use link::Link;
 use reflect_core::Puts;
 use run_traits::{Alarm, Ringing};
@@ -62,7 +62,7 @@ struct Begun<L: Link> {
 fn read<L: Link, H: Hosts<L>, P: Puts + Drop, B: Alarm + Drop, W: Alarm + Drop, R: Wait>(
     rt: &R,
     begun: Begun<L>,
-    mut hosts: H,
+    hosts: H,
     publisher: P,
     alarm: B,
     handover: &Handover<L, W>,
@@ -80,22 +80,25 @@ fn read<L: Link, H: Hosts<L>, P: Puts + Drop, B: Alarm + Drop, W: Alarm + Drop, 
         run_screen,
         link,
         screen,
-        mut links,
+        links,
     } = begun;
-    let mut ringing = Ringing {
+    let ringing = Ringing {
         inner: publisher,
         alarm,
     };
-    let result = read_all(
-        rt,
+    let first = RunBeginning::of(&link, &hosts, &ringing);
+    let run = JoinedRun::new(
+        &first,
         &run_screen,
+        handover,
         link,
         screen,
-        &mut hosts,
-        &mut links,
-        &mut ringing,
-        handover,
+        hosts,
+        links,
+        ringing,
     );
+    let ended = read_all(rt, run);
+    let (result, hosts, links, ringing) = ended.into_parts(());
     let Ringing { inner, alarm: _ } = ringing;
     HostsRead {
         result,

@@ -1,21 +1,76 @@
--- The first host's stay is a run without turns.
-use Rattle.std.proofs.Common.{[], ◌∷◌, ◌++◌, map, ap, refl, ◌∙◌}
-use Rattle.host_turns.specs.Running.{HasRun, IsLinkOf}
+-- The first host's stay is a run without turns, and each further host is a turn more.
+use Rattle.std.proofs.Common.{map, ap, refl, inl, ◌∙◌}
+use Rattle.host_turns.specs.Running.{IsLinkOf}
+use Rattle.host_turns.proofs.Turns.{begun, missed, stayed}
 use Rattle.host_turns.proofs.hosts.read_all.Goals as goal
 
-pub returns-clause-run : goal.returns-clause-run
-returns-clause-run g c =
+pub loop-init : goal.loop-init
+loop-init g c =
     let state = g.L.Link.state in
-    let read = c.stay-answer.ensures.read in
-    let put = g.P.Puts.updates c.stay-answer.new.publisher in
-    let begun : HasRun c.args.run_screen.now.width c.args.run_screen.now.height (IsLinkOf state g.H.Hosts.came) c.stay-answer.result (state c.args.first) (map state c.stay-answer.new.links.items) (g.P.Puts.updates c.args.publisher.now) put = record {
-      first = record { answer = c.stay-answer.result; joined = state c.args.first; left = read.0; put = put };
-      begins = refl;
-      read = read.2;
-      turns = [];
-      in_turn = tt;
-      last = refl;
-      handed = read.1 ∙ ap (λ items. map state items ++ read.0 ∷ []) c.requires.room.0;
-      put = refl;
-    } in
-    c.read_others-last.ensures.run (state c.args.first) (g.P.Puts.updates c.args.publisher.now) begun
+    let put = g.P.Puts.updates in
+    let run = c.args.run in
+    let idle = c.read-idle.result in
+    let read = c.read-idle.ensures.read in
+    let lent = c.read-idle.ensures.lent in (
+      tt,
+      tt,
+      lent.1,
+      lent.0,
+      rw read.1
+          (stayed run.run_screen.now.width run.run_screen.now.height (IsLinkOf state g.H.Hosts.came) idle.last (state run.reader) (state run.reader) read.0 (map state run.links.items) (put run.publisher) (put run.publisher) (put idle.publisher)
+          (inl (record { same = refl; none = ap (map state) c.requires.none; unput = refl })) read.2),
+    )
+
+-- The host that came is missed.
+pub loop-preserved-in-Err-join : goal.loop-preserved-in-Err-join
+loop-preserved-in-Err-join g c =
+    let state = g.L.Link.state in
+    let put = g.P.Puts.updates in
+    let run = c.args.run in
+    let idle = c.loop.idle in
+    let inv = c.loop.invariant in
+    let met = c.in-Ok.ensures.met in
+    let unread = c.in-Err-join.ensures.unread in
+    let on = rw met.0 at c.in-Ok.met.on in
+    let why = rw (met.4, inv.2, met.2) at c.in-Err-join.ensures.missed in (
+      tt,
+      tt,
+      unread.3 ∙ met.4 ∙ inv.2,
+      unread.2 ∙ met.3 ∙ inv.3,
+      rw (unread.0, unread.1, met.1, met.2)
+          (missed run.run_screen.now.width run.run_screen.now.height (IsLinkOf state g.H.Hosts.came) idle.last c.in-Err-join.missed.last (state run.reader) (state c.in-Ok.met.reader) (map state idle.links.items) (put run.publisher) (put idle.publisher) inv.4 on
+          (c.in-Ok.met.reader, c.in-Ok.ensures.came, refl) why),
+    )
+
+-- What a host's decoder begins with is of the run's size.
+pub read-idle-requires-in-loop : goal.read-idle-requires-in-loop
+read-idle-requires-in-loop g c = rw c.in-Ok-join.ensures.joined.2 c.in-Ok-join.ensures.begins
+
+-- The host that came is joined and read.
+pub loop-preserved : goal.loop-preserved
+loop-preserved g c =
+    let state = g.L.Link.state in
+    let put = g.P.Puts.updates in
+    let run = c.args.run in
+    let idle = c.loop.idle in
+    let inv = c.loop.invariant in
+    let met = c.in-Ok.ensures.met in
+    let join = c.in-Ok-join.ensures in
+    let joined = c.in-Ok-join.joined.0 in
+    let next = c.read-idle-in-loop.result in
+    let read = c.read-idle-in-loop.ensures.read in
+    let lent = c.read-idle-in-loop.ensures.lent in
+    let on = rw met.0 at c.in-Ok.met.on in
+    let joins = rw (met.4, inv.2) at join.joins in
+    let switched = rw (met.4, inv.2, met.2) at join.switched in
+    let is = rw (join.joined.2, met.4, inv.2) at read.2 in
+    let begins =
+    begun run.run_screen.now.width run.run_screen.now.height (IsLinkOf state g.H.Hosts.came) idle.last (state run.reader) (state c.in-Ok.met.reader) (state joined.reader) (map state idle.links.items) (put run.publisher) (put idle.publisher) (put joined.publisher) inv.4 on
+    (c.in-Ok.met.reader, c.in-Ok.ensures.came, refl) joins switched in (
+      tt,
+      tt,
+      lent.1 ∙ join.joined.2 ∙ met.4 ∙ inv.2,
+      lent.0 ∙ join.joined.1 ∙ met.3 ∙ inv.3,
+      rw (read.1, join.joined.0, met.1)
+          (stayed run.run_screen.now.width run.run_screen.now.height (IsLinkOf state g.H.Hosts.came) next.last (state run.reader) (state joined.reader) read.0 (map state idle.links.items) (put run.publisher) (put joined.publisher) (put next.publisher) begins is),
+    )

@@ -3,7 +3,7 @@ use Rattle.std.proofs.lemmas.Result.{err_from_is_err_and}
 use Rattle.host_decoder.specs.Decoder.{Decodes, Decoding, IsFor, host_message}
 use Rattle.painter.specs.Painter.{Painting}
 use Rattle.host_reader.proofs.Steps.{ends_at, ends_err, ends_ok, no_room}
-use Rattle.host_reader.proofs.run.run_host.Goals as goal
+use Rattle.host_reader.proofs.run.read_host.Goals as goal
 
 pub returns-in_err-buffer-clause-err : goal.returns-in_err-buffer-clause-err
 returns-in_err-buffer-clause-err g c =
