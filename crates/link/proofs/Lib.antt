@@ -1,3 +1,3 @@
 pub mod Sizes
-pub mod Hearing
-pub mod Telling
+pub mod Handshaking
+pub mod FirstMessages

@@ -1,5 +1,5 @@
 -- Joining a host over a link.
-use Rattle.std.specs.Prelude.{◌≡◌, ◌≤◌, ◌⊎◌, ℕ, false, List, [], ◌∷◌, ◌++◌}
+use Rattle.std.specs.Prelude.{◌≡◌, ◌⊎◌, ℕ, false, List, [], ◌∷◌, ◌++◌}
 use Rattle.pixel_format.specs.PixelFormat.{host_format}
 use Rattle.byte_reading.specs.Reading.{Faulty, after, Spells}
 use Rattle.fault.specs.declared.kinds.Fault.{Fault}
@@ -13,19 +13,6 @@ use Rattle.link.specs.Links.{LinkState, HasRisen}
 abbrev pub first_messages : Joined → List ℕ
 first_messages joined =
     set_pixel_format_bytes host_format ++ set_encodings_bytes (1 ∷ 5 ∷ 2 ∷ 0 ∷ []) ++ request_bytes false (record { x = 0; y = 0; w = joined.w; h = joined.h })
-
--- One whole handshake of the host was taken, and the client's side was given.
-pub record Hears (old new : LinkState) (joined : Joined) : Type 0 where
-  pub heard : List ℕ
-  pub taken : new.taken ≡ old.taken ++ heard
-  pub spells : Spells host_hello heard joined
-  pub given : new.given ≡ old.given ++ version ++ 1 ∷ 1 ∷ []
-  pub failed : new.failed ≡ old.failed
-  pub ended : new.ended ≡ old.ended
-  pub across : 1 ≤ joined.w
-  pub most_across : joined.w ≤ 4096
-  pub down : 1 ≤ joined.h
-  pub most_down : joined.h ≤ 4096
 
 -- One whole handshake of the host was taken, and the client's side and the first messages were given. The link neither
 -- failed nor ended.

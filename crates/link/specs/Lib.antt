@@ -1,3 +1,4 @@
 pub mod Links
 pub mod Halting
 pub mod Joins
+pub mod Moment

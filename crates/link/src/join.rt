@@ -1,66 +1,104 @@
 //! Joining a host.
 
-ghost use Rattle.std.specs.Prelude.{◌≡◌, ◌+◌, ◌≤◌, ◌++◌, [], ◌∷◌, ℕ, List, length, IfOk, IfErr, OnOk};
-ghost use Rattle.link.specs.Joins.{Hears, Joins, LinkFails, FailsAs};
+ghost use Rattle.std.specs.Prelude.{◌≡◌, ◌≤◌, true, false, IfOk, IfErr, MatchResult, OnOk, length};
+ghost use Rattle.rfb_wire.specs.Handshake.{Joined};
+ghost use Rattle.link.specs.Joins.{FailsAs, Joins, LinkFails, first_messages};
+ghost use Rattle.link.specs.Links.{LinkState};
+ghost use Rattle.link.specs.Moment.{IsHeard, IsTelling, IsUnheard};
 
-use crate::give::{Halt, give_all};
-use crate::link::{Link, Took};
-use crate::waiting::NeverSet;
+use crate::joining::Joining;
+use crate::link::Link;
 use fault::Fault;
-use pixel_format::Format;
-use raster::{COPY_RECT, Encoding, Rect};
-use rfb_wire::{HostHello, Joined, write_request, write_set_encodings, write_set_pixel_format};
+use rfb_wire::Joined;
+use std::snapshot::Snapshot;
 use std::sync::Wait;
 
-/// Gives all of these bytes. No flag ends a join.
-fn give_bytes<L: Link, R: Wait>(rt: &R, link: &mut L, bytes: &[u8]) -> Result<(), Fault>
-    ensures given { OnOk result (L.state link.new ≡ record (L.state link.old) { given = (L.state link.old).given ++ bytes.now }) }
-    ensures taken { (L.state link.new).taken ≡ (L.state link.old).taken }
-    ensures err { IfErr result (λ fault. LinkFails fault (L.state link.old) (L.state link.new)) }
-{
-    match give_all(rt, link, &NeverSet, bytes) {
-        Ok(()) => Ok(()),
-        Err(Halt::Failed) => Err(Fault::LinkFailed),
-        Err(Halt::Stopped | Halt::Before | Halt::Inside) => Err(Fault::LinkEnded),
-    }
+/// What has a join go on until the host is joined or a fault comes, as `join_on` does. It is lent the join and nothing
+/// else that matters, so all that it can do is to call the steps.
+pub trait JoinsOn<L: Link> {
+    /// Joins on to the end.
+    fn join_on(&self, joining: &mut Joining<'_, L>) -> Result<Joined, Fault>
+        requires { (joining.old.is_heard ≡ false) × IsUnheard joining.old.hello }
+        ensures joined { IfOk result (λ joined. Joins (L.state joining.old.link.now) (L.state joining.new.link.now) joined) }
+        ensures err { IfErr result (λ fault. FailsAs fault (L.state joining.old.link.now) (L.state joining.new.link.now)) }
+        ensures same { joining.new.link.ghost_name ≡ joining.old.link.ghost_name }
+        ensures first { joining.new.first ≡ joining.old.first };
 }
 
-/// Takes the next byte. A handshake is short, and what comes after it is left to others.
-fn take_byte<L: Link, R: Wait>(rt: &R, link: &mut L) -> Result<u8, Fault>
-    ensures taken { IfOk result (λ byte. L.state link.new ≡ record (L.state link.old) { taken = (L.state link.old).taken ++ byte ∷ [] }) }
-    ensures given { (L.state link.new).given ≡ (L.state link.old).given }
-    ensures err { IfErr result (λ fault. LinkFails fault (L.state link.old) (L.state link.new)) }
+/// Has the host's handshake heard, up to its end and no byte further, and the client's side given.
+fn hear_on<L: Link, R: Wait>(rt: &R, joining: &mut Joining<'_, L>) -> Result<Joined, Fault>
+    requires { (joining.old.is_heard ≡ false) × IsUnheard joining.old.hello }
+    ensures heard { IfOk result (λ joined. IsHeard (L.state joining.old.link.now) (L.state joining.new.link.now) joining.new.hello joined) }
+    ensures size { IfOk result (λ joined. (joined.w ≤ 4096) × (joined.h ≤ 4096)) }
+    ensures err { IfErr result (λ fault. FailsAs fault (L.state joining.old.link.now) (L.state joining.new.link.now)) }
+    ensures hears { joining.new.is_heard ≡ false }
+    ensures same { joining.new.link.ghost_name ≡ joining.old.link.ghost_name }
+    ensures first { joining.new.first ≡ joining.old.first }
 {
-    let mut byte = [0];
     for _ in rt.forever() {
-        match link.take(&mut byte) {
-            Took::Bytes(_) => return Ok(byte[0]),
-            Took::Nothing => {}
-            Took::End => return Err(Fault::LinkEnded),
-            Took::Failed => return Err(Fault::LinkFailed),
+        if joining.is_owing() {
+            joining.say()?;
+            continue;
+        }
+        match joining.told() {
+            Some(joined) => return Ok(joined),
+            None => joining.hear()?,
         }
     }
     unreachable!()
 }
 
-/// Hears the host's handshake, up to its end and no byte further, and gives the client's side.
-fn hear<L: Link, R: Wait>(rt: &R, link: &mut L) -> Result<Joined, Fault>
-    ensures joined { IfOk result (λ joined. Hears (L.state link.old) (L.state link.new) joined) }
+/// Has the first messages told to their end.
+fn tell_on<L: Link, R: Wait>(rt: &R, joining: &mut Joining<'_, L>) -> Result<(), Fault>
+    requires { joining.old.is_heard ≡ true }
+    ensures tells { (start : LinkState) (joined : Joined) → IsTelling start (L.state joining.old.link.now) joined joining.old.messages joining.old.given → MatchResult result (λ _. IsTelling start (L.state joining.new.link.now) joined joining.new.messages joining.new.given) (λ fault. LinkFails fault start (L.state joining.new.link.now)) }
+    ensures whole { OnOk result (length joining.new.messages ≤ joining.new.given) }
+    ensures same { joining.new.link.ghost_name ≡ joining.old.link.ghost_name }
+    ensures first { joining.new.first ≡ joining.old.first }
+{
+    for _ in rt.forever() {
+        if joining.is_told() {
+            return Ok(());
+        }
+        joining.tell()?;
+    }
+    unreachable!()
+}
+
+/// Has the join go on until the host is joined or a fault comes. It is lent the join and nothing else that matters.
+pub fn join_on<L: Link, R: Wait>(rt: &R, joining: &mut Joining<'_, L>) -> Result<Joined, Fault>
+    requires { (joining.old.is_heard ≡ false) × IsUnheard joining.old.hello }
+    ensures joined { IfOk result (λ joined. Joins (L.state joining.old.link.now) (L.state joining.new.link.now) joined) }
+    ensures err { IfErr result (λ fault. FailsAs fault (L.state joining.old.link.now) (L.state joining.new.link.now)) }
+    ensures same { joining.new.link.ghost_name ≡ joining.old.link.ghost_name }
+    ensures first { joining.new.first ≡ joining.old.first }
+{
+    let joined = hear_on(rt, joining)?;
+    joining.begin_messages(&joined);
+    tell_on(rt, joining)?;
+    Ok(joined)
+}
+
+/// The same as `join_host`, with `by` in place of a handle: no other call in it waits, so it has none itself.
+pub fn join_by<L: Link, F: JoinsOn<L>>(by: &F, link: &mut L) -> Result<Joined, Fault>
+    ensures joined { IfOk result (λ joined. Joins (L.state link.old) (L.state link.new) joined) }
     ensures err { IfErr result (λ fault. FailsAs fault (L.state link.old) (L.state link.new)) }
 {
-    let mut hello = HostHello::new();
-    for _ in rt.forever() {
-        give_bytes(rt, link, hello.out())?;
-        let count = hello.out().len();
-        hello.sent(count);
-        match hello.done() {
-            Some(joined) => return Ok(joined),
-            None => {}
-        }
-        let byte = take_byte(rt, link)?;
-        hello.feed(&[byte])?;
+    let first = Snapshot::of(&*link);
+    let mut joining = Joining::new(&first, link);
+    by.join_on(&mut joining)
+}
+
+/// Joins on by a handle that may wait.
+#[derive(Drop)]
+struct Waiting<'a, R: Wait> {
+    rt: &'a R,
+}
+
+impl<'a, L: Link, R: Wait> JoinsOn<L> for Waiting<'a, R> {
+    fn join_on(&self, joining: &mut Joining<'_, L>) -> Result<Joined, Fault> {
+        join_on(self.rt, joining)
     }
-    unreachable!()
 }
 
 /// Joins the host at the other end: takes its handshake and no byte further, gives the client's side of it, and then
@@ -72,27 +110,5 @@ pub fn join_host<L: Link, R: Wait>(rt: &R, link: &mut L) -> Result<Joined, Fault
     ensures joined { IfOk result (λ joined. Joins (L.state link.old) (L.state link.new) joined) }
     ensures err { IfErr result (λ fault. FailsAs fault (L.state link.old) (L.state link.new)) }
 {
-    let joined = hear(rt, link)?;
-    let mut format = [0; 20];
-    write_set_pixel_format(&Format::HOST, &mut format);
-    give_bytes(rt, link, &format)?;
-    let mut encodings = [0; 20];
-    let numbers = [
-        COPY_RECT,
-        Encoding::Hextile.number(),
-        Encoding::Rre.number(),
-        Encoding::Raw.number(),
-    ];
-    write_set_encodings(&numbers, &mut encodings);
-    give_bytes(rt, link, &encodings)?;
-    let screen = Rect {
-        x: 0,
-        y: 0,
-        w: joined.w,
-        h: joined.h,
-    };
-    let mut request = [0; 10];
-    write_request(false, &screen, &mut request);
-    give_bytes(rt, link, &request)?;
-    Ok(joined)
+    join_by(&Waiting { rt }, link)
 }

@@ -14,17 +14,6 @@ pub trait StopFlag {
         ensures { IsTrue result → was_set self.now };
 }
 
-/// A flag that is never set.
-pub(crate) struct NeverSet;
-
-impl StopFlag for NeverSet {
-    ghost was_set = { λ _. ⊥ };
-
-    fn is_set(&self) -> bool {
-        false
-    }
-}
-
 /// How a loop waits until there may be more to do. No clause rests on it.
 pub trait Rest {
     /// Returns once there may be more to do, or earlier.

@@ -1,0 +1,31 @@
+-- The handshake is heard to its end, or there is a fault.
+use Rattle.std.proofs.Common.{sym, refl, ◌∙◌}
+use Rattle.std.proofs.lemmas.Result.{err_from_is_err_and}
+use Rattle.byte_reading.proofs.ReadingLaws.{wants_from}
+use Rattle.rfb_wire.specs.Joining.{ahead}
+use Rattle.link.proofs.Handshaking.{heard_size, is_hearing_begins}
+use Rattle.link.proofs.join.hear_on.Goals as goal
+
+pub loop-init : goal.loop-init
+loop-init g c = (tt, tt, c.requires.0, refl, refl, is_hearing_begins _ _ c.requires.1)
+
+pub returns-in_err-say-clause-err : goal.returns-in_err-say-clause-err
+returns-in_err-say-clause-err g c =
+    let p = err_from_is_err_and c.from_residual.result c.from_residual.ensures.1 in
+    rw (p.1, p.2) (c.in_err-say.ensures.keeps _ c.loop.invariant.5)
+
+pub loop-preserved-then-is_owing : goal.loop-preserved-then-is_owing
+loop-preserved-then-is_owing g c =
+    let inv = c.loop.invariant in
+    (tt, tt, c.say.ensures.hears, c.say.ensures.same ∙ inv.3, c.say.ensures.first ∙ inv.4, c.in_ok-say.ensures.keeps _ inv.5)
+
+pub returns-in-Some-told-clause-size : goal.returns-in-Some-told-clause-size
+returns-in-Some-told-clause-size g c = heard_size _ _ _ _ c.loop.invariant.5 (sym c.told.ensures ∙ c.in-Some-told.is)
+
+pub hear-requires-clause-open : goal.hear-requires-clause-open
+hear-requires-clause-open g c = wants_from (ahead c.loop.joining.hello) (sym c.told.ensures ∙ c.in-None-told.is) c.loop.invariant.5.fine
+
+pub loop-preserved : goal.loop-preserved
+loop-preserved g c =
+    let inv = c.loop.invariant in
+    (tt, tt, c.hear.ensures.hears, c.hear.ensures.same ∙ inv.3, c.hear.ensures.first ∙ inv.4, c.in_ok-hear-in-None-told.ensures.keeps _ inv.5)
