@@ -38,10 +38,3 @@ counted_more old new p q m passed number next took value stands counts k =
       counted = counts ∙ (ap (λ b. cond b number (min LIMIT (number + 1))) (value all k.stands)
           ∙ (ap (λ n. cond (passes_after (unbroken all) (taken_from m)) n (min LIMIT (n + 1))) k.counted ∙ (sym (dropped_more all (taken_from m)) ∙ ap all_dropped (sym more))));
     }
-
--- What is counted of what was lent is counted of what is given back.
-pub counted_at : (t t' u u' : List Message) (p p' q q' : StrokesKept) (m m' n n' : ℕ) → t ≡ t' → u ≡ u' → p ≡ p' → q ≡ q' → m ≡ m' → n ≡ n' → (IsCounted t p m → IsCounted u q n) → IsCounted t' p' m' → IsCounted u' q' n'
-counted_at t t' u u' p p' q q' m m' n n' et eu ep eq em en f k =
-    subst (λ x. IsCounted x q' n') eu
-    (subst (λ x. IsCounted u x n') eq
-    (subst (λ x. IsCounted u q x) en (f (subst (λ x. IsCounted x p m) (sym et) (subst (λ x. IsCounted t' x m) (sym ep) (subst (λ x. IsCounted t' p' x) (sym em) k))))))

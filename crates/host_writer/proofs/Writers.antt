@@ -1,9 +1,8 @@
 -- What a writer says, step by step. `run_writer` owes that the host is told each input once.
-use Rattle.std.proofs.Common.{◌≡◌, ℕ, ◌+◌, ◌<◌, ◌≤◌, ◌⊎◌, min, max, Bool, true, false, List, [], ◌∷◌, ◌++◌, length, take, drop, Result, Ok, length-drop, inl, inr, refl, sym, ap, subst, ◌∙◌, arith, append_assoc, append-nil, cond, map}
+use Rattle.std.proofs.Common.{◌≡◌, ℕ, ◌+◌, ◌<◌, ◌≤◌, ◌⊎◌, min, max, Bool, true, false, List, [], ◌∷◌, ◌++◌, length, take, drop, Ok, length-drop, inl, inr, refl, sym, ap, subst, ◌∙◌, arith, append_assoc, append-nil, cond, map}
 use Rattle.std.specs.Prelude.{◌^◌, nat_lt}
 use Rattle.std.proofs.lemmas.Bool.{cases_lt}
 use Rattle.std.proofs.lemmas.List.{map-append, take-take, drop-drop, take-append-drop}
-use Rattle.fault.specs.declared.kinds.Fault.{Fault}
 use Rattle.link.specs.Links.{LinkState, HasRisen, with_end, with_failure}
 use Rattle.roles.specs.Held.{input_in}
 use Rattle.roles.specs.Spelling.{input_bytes}
@@ -15,8 +14,8 @@ use Rattle.link.specs.declared.give.Halt.{Halt}
 use Rattle.link.specs.declared.give.Halt.TheVariants as halt
 use Rattle.link.specs.Halting.{IsWhy}
 use Rattle.host_writer.specs.Saying.{Speech, begun, left_of}
-use Rattle.host_writer.specs.Moment.{Gives, IsOpen, IsTelling, LooksOnce, StopsSaying, Takes, TakesInput, WritesSoFar}
-use Rattle.host_writer.specs.Writing.{IsJudged, Did, Took, Saw, Looked, Writes, EndsWriting, answer_at, whole_request, taken_in, taken_from, all_taken, is_told, told, risen_to, says, said}
+use Rattle.host_writer.specs.Moment.{Gives, IsOpen, IsTelling, LooksOnce, StopsSaying, Takes, TakesInput}
+use Rattle.host_writer.specs.Writing.{IsJudged, Did, Took, Saw, Looked, Writes, WritesSoFar, EndsWriting, answer_at, whole_request, taken_in, taken_from, all_taken, is_told, told, risen_to, says, said}
 
 -- ---- giving
 
@@ -264,18 +263,10 @@ telling_promised looks a b t u p q w h asked speech old now k =
 -- The loop is to end.
 pub telling_ends : {S : Type 0} {was_set : Type 0} (looks : S → ℕ → S → Type 0) (a b : S) (t u : List Message) (p q : StrokesKept) (w h asked : ℕ) (speech : Speech) (old now : LinkState) → was_set → IsTelling looks a b t u p q w h asked speech old now → IsOpen old now
     → Writes looks was_set a b t u p q w h (Ok tt) old now
+unfolding telling_promised
 telling_ends looks a b t u p q w h asked speech old now set k is =
     record {
-      did = k.did;
-      all = k.all;
-      last = speech.said;
-      left = left_of speech;
-      inputs = k.inputs;
-      strokes = k.strokes;
-      looked = k.looked;
-      said = k.said;
-      given = k.given;
-      taken = k.taken;
+      so_far = telling_promised looks a b t u p q w h asked speech old now k;
       ends = inl (set, is.0, is.1, omega (arith, length-drop speech.given speech.said));
     }
 
@@ -288,33 +279,12 @@ ends_by was_set halt.Failed old now new left last f e w = (subst (λ n. HasRisen
 -- Giving stopped.
 pub telling_stops : {S : Type 0} {was_set : Type 0} (looks : S → ℕ → S → Type 0) (a b : S) (t u : List Message) (p q : StrokesKept) (w h asked : ℕ) (speech : Speech) (x : Halt) (old now new : LinkState) → IsTelling looks a b t u p q w h asked speech old new → IsOpen old now
     → StopsSaying was_set x speech now new → Writes looks was_set a b t u p q w h (answer_at x) old new
+unfolding telling_promised
 telling_stops {was_set = was_set} looks a b t u p q w h asked speech x old now new k is why =
     record {
-      did = k.did;
-      all = k.all;
-      last = speech.said;
-      left = left_of speech;
-      inputs = k.inputs;
-      strokes = k.strokes;
-      looked = k.looked;
-      said = k.said;
-      given = k.given;
-      taken = k.taken;
+      so_far = telling_promised looks a b t u p q w h asked speech old new k;
       ends = ends_by was_set x old now new (left_of speech) speech.said is.0 is.1 why;
     }
-
--- A telling over what it was lent is one over what was lent to it.
-pub writes_at : {S : Type 0} {was_set : Type 0} (looks : S → ℕ → S → Type 0) (wide high : S → ℕ) (answer : Result (Unit {0}) Fault) (a a' b b' : S) (t t' u u' : List Message) (p p' q q' : StrokesKept) (l l' m m' : LinkState)
-    → a ≡ a' → b ≡ b' → t ≡ t' → u ≡ u' → p ≡ p' → q ≡ q' → l ≡ l' → m ≡ m' → Writes looks was_set a b t u p q (wide a) (high a) answer l m → Writes looks was_set a' b' t' u' p' q' (wide a') (high a') answer l' m'
-writes_at {was_set = was_set} looks wide high answer a a' b b' t t' u u' p p' q q' l l' m m' ea eb et eu ep eq el em k =
-    subst (λ x. Writes looks was_set x b' t' u' p' q' (wide x) (high x) answer l' m') ea
-    (subst (λ x. Writes looks was_set a x t' u' p' q' (wide a) (high a) answer l' m') eb
-    (subst (λ x. Writes looks was_set a b x u' p' q' (wide a) (high a) answer l' m') et
-    (subst (λ x. Writes looks was_set a b t x p' q' (wide a) (high a) answer l' m') eu
-    (subst (λ x. Writes looks was_set a b t u x q' (wide a) (high a) answer l' m') ep
-    (subst (λ x. Writes looks was_set a b t u p x (wide a) (high a) answer l' m') eq
-    (subst (λ x. Writes looks was_set a b t u p q (wide a) (high a) answer x m') el
-    (subst (λ x. Writes looks was_set a b t u p q (wide a) (high a) answer l x) em k)))))))
 
 -- ---- what is told is unbroken
 

@@ -1,6 +1,5 @@
--- What is true at every moment of what a host is told: what the writer did so far, and what its link was given of it by
--- now (own).
-use Rattle.std.specs.Prelude.{◌≡◌, ℕ, ◌≤◌, max, nat_lt, if◌then◌else◌, Bool, true, false, List, [], ◌∷◌, ◌++◌, length}
+-- What a telling keeps at every moment, and what its steps do (own).
+use Rattle.std.specs.Prelude.{◌≡◌, ℕ, max, nat_lt, if◌then◌else◌, Bool, true, false, List, [], ◌∷◌, ◌++◌}
 use Rattle.roles.specs.Strokes.{Taken, StrokesKept, StrokesStand}
 use Rattle.link.specs.Links.{LinkState}
 use Rattle.link.specs.declared.give.Halt.{Halt}
@@ -9,26 +8,9 @@ use Rattle.input_relay.specs.declared.queue.Message.{Message}
 use Rattle.host_writer.specs.Saying.{Speech, begun, left_of}
 use Rattle.host_writer.specs.Writing.{Did, IsJudged, Looked, all_taken, last_said, risen_to, said, taken_in}
 
--- ---- what is promised
-
--- The host was given all that the writer says, but for the end of what it said last. Where the strokes stood for the
--- inputs taken before, they stand for all that were taken, and they decide what is said. No byte was taken of the link.
-pub record WritesSoFar {S : Type 0} (looks : S → ℕ → S → Type 0) (source_old source_new : S) (taken_old taken_new : List Message) (strokes_old strokes_new : StrokesKept) (w h : ℕ) (old new : LinkState) : Type 0 where
-  pub did : List Did
-  pub all : List ℕ
-  pub last : List ℕ
-  pub left : List ℕ
-  pub inputs : taken_new ≡ taken_old ++ taken_in did
-  pub strokes : (before : List Taken) → StrokesStand strokes_old before → StrokesStand strokes_new (all_taken before did)
-  pub looked : Looked looks source_old did source_new
-  pub said : (before : List Taken) → StrokesStand strokes_old before → (all ≡ said before w h did) × (last ≡ last_said before w h did)
-  pub given : new.given ++ left ≡ old.given ++ all
-  pub within : length left ≤ length last
-  pub taken : new.taken ≡ old.taken
-
 -- ---- what a telling keeps
 
--- The same, where the speech is what is said last, and this number the greatest reply of a look.
+-- WritesSoFar, where the speech is what is said last, and this number the greatest reply of a look.
 pub record IsTelling {S : Type 0} (looks : S → ℕ → S → Type 0) (source_old source_new : S) (taken_old taken_new : List Message) (strokes_old strokes_new : StrokesKept) (w h asked : ℕ) (speech : Speech) (old new : LinkState) : Type 0 where
   pub did : List Did
   pub all : List ℕ

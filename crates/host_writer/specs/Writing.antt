@@ -92,9 +92,10 @@ answer_at halt.Before = Ok tt
 answer_at halt.Inside = Err LinkEnded
 answer_at halt.Failed = Err LinkFailed
 
--- The host was given all that the writer says, but for the end of what it said last. Where the strokes stood for the
--- inputs taken before, they stand for all that were taken, and they decide what is said.
-pub record Writes {S : Type 0} (looks : S → ℕ → S → Type 0) (was_set : Type 0) (source_old source_new : S) (taken_old taken_new : List Message) (strokes_old strokes_new : StrokesKept) (w h : ℕ) (answer : Result (Unit {0}) Fault) (old new : LinkState) : Type 0 where
+-- So it is at every moment: the host was given all that the writer says, but for the end of what it said last. Where
+-- the strokes stood for the inputs taken before, they stand for all that were taken, and they decide what is said. No
+-- byte was taken of the link.
+pub record WritesSoFar {S : Type 0} (looks : S → ℕ → S → Type 0) (source_old source_new : S) (taken_old taken_new : List Message) (strokes_old strokes_new : StrokesKept) (w h : ℕ) (old new : LinkState) : Type 0 where
   pub did : List Did
   pub all : List ℕ
   pub last : List ℕ
@@ -104,8 +105,13 @@ pub record Writes {S : Type 0} (looks : S → ℕ → S → Type 0) (was_set : T
   pub looked : Looked looks source_old did source_new
   pub said : (before : List Taken) → StrokesStand strokes_old before → (all ≡ said before w h did) × (last ≡ last_said before w h did)
   pub given : new.given ++ left ≡ old.given ++ all
+  pub within : length left ≤ length last
   pub taken : new.taken ≡ old.taken
-  pub ends : EndsWriting was_set answer old new left last
+
+-- The same, and how the run ended.
+pub record Writes {S : Type 0} (looks : S → ℕ → S → Type 0) (was_set : Type 0) (source_old source_new : S) (taken_old taken_new : List Message) (strokes_old strokes_new : StrokesKept) (w h : ℕ) (answer : Result (Unit {0}) Fault) (old new : LinkState) : Type 0 where
+  pub so_far : WritesSoFar looks source_old source_new taken_old taken_new strokes_old strokes_new w h old new
+  pub ends : EndsWriting was_set answer old new so_far.left so_far.last
 
 -- ---- on the way
 

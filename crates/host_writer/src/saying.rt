@@ -19,7 +19,7 @@ pub(crate) const REQUEST_LEN: usize = 10;
 /// A spelling that is given from where it lies: its first bytes, and then those of a text, which needn't be copied.
 /// Contracts see the whole spelling, and how many of its bytes were given.
 #[derive(Drop)]
-pub struct Saying {
+pub(crate) struct Saying {
     head: [u8; REQUEST_LEN],
     len: usize,
     text: Option<Text>,
@@ -66,7 +66,7 @@ pub(crate) fn request_of(width: u64, height: u64) -> [u8; REQUEST_LEN]
 
 impl Saying {
     /// Nothing is said.
-    pub fn nothing() -> Self
+    pub(crate) fn nothing() -> Self
         ensures { result ≡ begun [] }
     {
         Saying::of_head([0; REQUEST_LEN], 0, None)

@@ -4,7 +4,7 @@ ghost use Rattle.std.specs.Prelude.{◌≡◌, length};
 
 use crate::watch::{ALWAYS, Watch, link_of, make_watch, number, red_and_blue};
 use fault::{Fault, LIMIT};
-use host_writer::{DropCount, run_writer};
+use host_writer::{DropCount, TellBeginning, Telling, run_writer};
 use input_relay::{Sender, Taker, relay};
 use link::{Gave, MemoryLink};
 use raster::Rect;
@@ -145,31 +145,25 @@ impl DropCount for Untold {
 fn tells<R: Wait + Drop>(
     rt: &R,
     case: &Case<'_>,
-    link: &mut MemoryLink,
-    taker: &mut Taker<R>,
-    strokes: &mut Strokes,
+    link: MemoryLink,
+    taker: Taker<R>,
+    strokes: Strokes,
     screen: PlainScreen,
 ) -> bool
     requires screen { (screen.width ≡ 2) × (screen.height ≡ 1) }
-    requires places { length strokes.old.counts ≡ 2 }
+    requires places { length strokes.counts ≡ 2 }
 {
     let watch = make_watch(case.stop);
-    let mut source = TenLooks {
+    let source = TenLooks {
         screen,
         looks: 0,
         flag: &watch,
     };
-    let mut untold = Untold { count: 0 };
-    let answer = run_writer(
-        rt,
-        link,
-        &mut source,
-        taker,
-        strokes,
-        &mut untold,
-        &watch,
-        &watch,
-    );
+    let untold = Untold { count: 0 };
+    let first = TellBeginning::of(&link, &source, &taker, &strokes, &untold);
+    let mut telling = Telling::new(&first, link, source, taker, strokes, untold);
+    let answer = run_writer(rt, &mut telling, &watch, &watch);
+    let (link, _, _, strokes, untold) = telling.into_parts(());
     let rests = watch.rests.load(Ordering::SeqCst);
     let is_rested = case.rests.0 <= rests && rests <= case.rests.1;
     let dropped = (strokes.dropped(0), strokes.dropped(1));
@@ -179,31 +173,17 @@ fn tells<R: Wait + Drop>(
     is_answered && is_rested && are_counted
 }
 
-/// Tells the host of a new screen what was relayed.
-fn tells_anew<R: Wait + Drop>(
-    rt: &R,
-    alloc: Global,
-    case: &Case<'_>,
-    link: &mut MemoryLink,
-    taker: &mut Taker<R>,
-) -> Result<bool, Fault> {
-    let screen = red_and_blue(alloc)?;
-    let mut strokes = Strokes::new(alloc, 2)?;
-    Ok(tells(rt, case, link, taker, &mut strokes, screen))
-}
-
-/// Whether the host is told as the case says.
+/// Whether the host of a new screen is told as the case says.
 fn goes_as_told<R: Wait + Drop + Copy>(
     rt: R,
     alloc: Global,
     case: &Case<'_>,
 ) -> Result<bool, Fault> {
-    let mut taker = relay_with(rt, alloc, case)?;
-    let mut link = link_of(alloc, &[], &[], case.gives)?;
-    Ok(matches!(
-        tells_anew(&rt, alloc, case, &mut link, &mut taker),
-        Ok(true)
-    ))
+    let taker = relay_with(rt, alloc, case)?;
+    let link = link_of(alloc, &[], &[], case.gives)?;
+    let screen = red_and_blue(alloc)?;
+    let strokes = Strokes::new(alloc, 2)?;
+    Ok(tells(&rt, case, link, taker, strokes, screen))
 }
 
 /// The letter a is pressed.

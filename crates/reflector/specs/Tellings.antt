@@ -33,6 +33,10 @@ abbrev pub AreTellings : {S : Type 0} → (looks : S → ℕ → S → Type 0) �
 AreTellings {S} looks width height old [] new = new ≡ old
 AreTellings {S} looks width height old (before ∷ befores) new = AreTellings looks width height old befores before × Telling looks width height before new
 
+-- Hosts were told so far, and telling stands so.
+abbrev pub IsTelling : {S : Type 0} → (looks : S → ℕ → S → Type 0) → (width height : S → ℕ) → Desk S → Desk S → Type 0
+IsTelling {S} looks width height old now = (befores : List (Desk S)) × AreTellings looks width height old befores now
+
 -- From this state on hosts were told over these links. In the end this input was taken, and the strokes stood so.
 pub record HasTold {S : Type 0} (looks : S → ℕ → S → Type 0) (width height : S → ℕ) (old : Desk S) (links : List LinkState) (taken : List Message) (strokes : StrokesKept) : Type 0 where
   pub befores : List (Desk S)

@@ -1,93 +1,91 @@
-//! Which hosts are told, and over which links.
+//! Which hosts are told, in turn, and the links over which they are told.
 
-ghost use Rattle.std.specs.Prelude.{◌≡◌, [], ◌∷◌, ◌++◌, IfSome, IsNone};
-ghost use Rattle.link.specs.Links.{LinkState};
+ghost use Rattle.std.specs.Prelude.{◌≡◌};
 ghost use Rattle.run_traits.specs.Unused.{unused};
-ghost use Rattle.reflector.specs.Written.{links_in};
 
-use crate::written::Written;
+use crate::teller::TellerKey;
 use host_turns::{Handover, NumberedLink};
+use host_writer::TellBeginning;
 use link::{Link, StopFlag};
+use roles::Strokes;
 use run_traits::Alarm;
 use std::alloc::Global;
 use std::sync::{Arc, Wait};
 
-/// Where the hosts come from that are told, one after another. It is also the flag of the host that is told, and is set
-/// once that host was left.
-pub(crate) trait LinkTurns<L: Link>: StopFlag + Drop {
-    ghost use Rattle.std.specs.Prelude.{List};
-
-    /// The links that it handed out and took back: each as it came, and then as it was left.
-    ghost links: { Self → List LinkState };
-
-    /// The link of the next host that is told, which was given nothing yet, or `None` where no more come. It may wait
-    /// without an end.
-    fn next<R: Wait>(&mut self, rt: &R) -> Option<L>
-        ensures came { IfSome result (λ link. links self.new ≡ links self.old ++ L.state link ∷ []) }
-        ensures fresh { IfSome result (λ link. L.state link ≡ unused) }
-        ensures none { IsNone result → links self.new ≡ links self.old };
-
-    /// Takes back the link of a host that was told until it was left.
-    fn told(&mut self, link: L)
-        ensures { links self.new ≡ links self.old ++ L.state link ∷ [] };
-}
-
-/// The hosts of a handover, in turn.
+/// The link of a host that is to be told, over which nothing was given yet. It is sealed: only a teller opens it, with
+/// a key that nobody else can make, so that nobody else gives anything over it.
 #[derive(Drop)]
-pub(crate) struct Round<L: Link, W: Alarm + Drop> {
-    handover: Arc<Handover<L, W>, Global>,
+pub struct CameLink<L: Link> {
+    link: L,
     number: u64,
-    written: Written<L>,
+    ghost fresh: { L.state link ≡ unused },
 }
 
-impl<L: Link, W: Alarm + Drop> Round<L, W> {
-    /// The hosts of this handover, before any link has come.
-    pub(crate) fn new(handover: Arc<Handover<L, W>, Global>) -> Round<L, W>
-        ensures { links_in L.state result.written ≡ [] }
+impl<L: Link> CameLink<L> {
+    /// How telling this host begins, by these.
+    pub(crate) fn beginning<S, K, D>(
+        &self,
+        source: &S,
+        taker: &K,
+        strokes: &Strokes,
+        drops: &D,
+    ) -> TellBeginning<L, S, K, D>
+        ensures fresh { L.state result.link.value ≡ unused }
+        ensures parts { (result.link.value ≡ self.now.link) × (result.source.value ≡ source.now) × (result.taker.value ≡ taker.now) × (result.strokes.value ≡ strokes.now) × (result.drops.value ≡ drops.now) }
     {
-        Round {
-            handover,
-            number: 0,
-            written: Written::new(),
+        TellBeginning::of(&self.link, source, taker, strokes, drops)
+    }
+
+    /// The link, for a teller.
+    pub(crate) fn open(self, _key: TellerKey) -> L
+        ensures { result ≡ self.link }
+    {
+        let CameLink { link, number: _ } = self;
+        link
+    }
+}
+
+/// The turns of a handover's hosts, one after another.
+#[derive(Drop)]
+pub(crate) struct Turns<L: Link, W: Alarm + Drop> {
+    handover: Arc<Handover<L, W>, Global>,
+}
+
+/// The flag of one host, which is set once that host was left.
+#[derive(Drop)]
+pub(crate) struct Turn<'a, L: Link, W: Alarm + Drop> {
+    handover: &'a Handover<L, W>,
+    number: u64,
+}
+
+impl<L: Link, W: Alarm + Drop> Turns<L, W> {
+    /// The turns of this handover's hosts.
+    pub(crate) fn new(handover: Arc<Handover<L, W>, Global>) -> Turns<L, W> {
+        Turns { handover }
+    }
+
+    /// Waits for the link of the next host that is told, and seals it. It answers `None` where no more come. No clause
+    /// says which links come.
+    pub(crate) fn next<R: Wait>(&self, rt: &R) -> Option<CameLink<L>> {
+        let NumberedLink { link, number } = self.handover.take(rt)?;
+        Some(CameLink { link, number })
+    }
+
+    /// The flag of the host whose link this is.
+    pub(crate) fn turn_of(&self, came: &CameLink<L>) -> Turn<'_, L, W> {
+        Turn {
+            handover: &*self.handover,
+            number: came.number,
         }
     }
-
-    /// The links of all hosts that were told.
-    pub(crate) fn into_written(self) -> Written<L>
-        ensures { result ≡ self.written }
-    {
-        let Round {
-            handover: _,
-            number: _,
-            written,
-        } = self;
-        written
-    }
 }
 
-impl<L: Link, W: Alarm + Drop> StopFlag for Round<L, W> {
+impl<'a, L: Link, W: Alarm + Drop> StopFlag for Turn<'a, L, W> {
     ghost use Rattle.std.specs.Prelude.{⊤};
 
     ghost was_set = { λ _. ⊤ };
 
     fn is_set(&self) -> bool {
         self.handover.is_left(self.number)
-    }
-}
-
-impl<L: Link, W: Alarm + Drop> LinkTurns<L> for Round<L, W> {
-    // No clause says which links come over a handover.
-    ghost links = { λ round. links_in L.state round.written };
-
-    fn next<R: Wait>(&mut self, rt: &R) -> Option<L> {
-        let NumberedLink { link, number } = self.handover.take(rt)?;
-        self.number = number;
-        self.written.note(&link);
-        Some(link)
-    }
-
-    fn told(&mut self, link: L) {
-        self.written.note(&link);
-        drop(link);
     }
 }

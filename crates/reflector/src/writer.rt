@@ -10,11 +10,12 @@ ghost use Rattle.reflector.specs.Written.{links_in};
 
 use crate::context::RunContext;
 use crate::input_counts::{InputCounts, Untold};
-use crate::turns::{LinkTurns, Round};
+use crate::teller::{FreeTeller, TellerBeginning};
+use crate::turns::Turns;
 use crate::written::Written;
 use fault::Fault;
 use host_turns::Handover;
-use host_writer::{DropCount, run_writer};
+use host_writer::{DropCount, InputSource, run_writer};
 use input_relay::Taker;
 use link::{Link, Rest};
 use reflect_core::ScreenSource;
@@ -60,46 +61,48 @@ pub(crate) type WriterHandle<L, S, R> = PromisedHandle<HostsTold<L, R>, OfTaker<
 
 /// Tells one host after another, each until it is left or its link ends. The rest of the input goes on to the next
 /// host. A fault of a link isn't answered here, since the reader's link shows it.
-fn write<L: Link, E: LinkTurns<L>, S: ScreenSource + Drop, D: DropCount, Z: Rest, R: Wait + Drop>(
+///
+/// It is given nothing that matters but the teller, and then lent the telling of each host.
+fn write<'a, L, W, S, K, D, T, Z, R>(
     rt: &R,
-    turns: &mut E,
-    mut source: S,
-    taker: &mut Taker<R>,
-    strokes: &mut Strokes,
-    drops: &mut D,
+    free: FreeTeller<'a, L, S, K, D, T>,
+    turns: &Turns<L, W>,
     rest: &Z,
-)
-    requires { (s : S) → IsScreenSize (S.width s) (S.height s) }
-    ensures relay { host_of taker.new ≡ host_of taker.old }
-    ensures counted { IsCounted (taken_of taker.old) strokes.old (D.dropped drops.old) → IsCounted (taken_of taker.new) strokes.new (D.dropped drops.new) }
-    ensures told { HasTold S.looks S.width S.height (desk (E.links turns.old) source (taken_of taker.old) strokes.old) (E.links turns.new) (taken_of taker.new) strokes.new }
+) -> FreeTeller<'a, L, S, K, D, T>
+where
+    L: Link,
+    W: Alarm + Drop,
+    S: ScreenSource,
+    K: InputSource,
+    D: DropCount,
+    T: Drop,
+    Z: Rest,
+    R: Wait,
+    ensures relay { K.relay result.taker ≡ K.relay free.entry.taker }
+    ensures counted { IsCounted (K.taken free.entry.taker) free.entry.strokes (D.dropped free.entry.drops) → IsCounted (K.taken result.taker) result.strokes (D.dropped result.drops) }
+    ensures told { HasTold S.looks S.width S.height (desk (links_in L.state free.entry.written) free.entry.source (K.taken free.entry.taker) free.entry.strokes) (links_in L.state result.written) (K.taken result.taker) result.strokes }
 {
+    let mut idle = free;
     for _ in rt.forever() {
-        let Some(mut link) = turns.next(rt) else {
-            return;
+        let Some(came) = turns.next(rt) else {
+            return idle;
         };
-        let _ = run_writer(
-            rt,
-            &mut link,
-            &mut source,
-            taker,
-            strokes,
-            drops,
-            &*turns,
-            rest,
-        );
-        turns.told(link);
+        let turn = turns.turn_of(&came);
+        let began = idle.beginning(&came);
+        let (busy, mut telling) = idle.meet(came, &began);
+        let why = run_writer(rt, &mut telling, &turn, rest);
+        idle = busy.close(telling, why);
     }
     unreachable!()
 }
 
-/// Tells the hosts of a handover, as `write` does.
+/// Tells the hosts whose turns these are, as `write` does.
 fn tell<L: Link, W: Alarm + Drop, S: ScreenSource + Drop, Z: Rest, R: Wait + Drop>(
     rt: &R,
-    handover: Arc<Handover<L, W>, Global>,
+    turns: Turns<L, W>,
     source: S,
-    mut taker: Taker<R>,
-    mut strokes: Strokes,
+    taker: Taker<R>,
+    strokes: Strokes,
     input: Arc<InputCounts, Global>,
     rest: &Z,
 ) -> HostsTold<L, R>
@@ -108,30 +111,24 @@ fn tell<L: Link, W: Alarm + Drop, S: ScreenSource + Drop, Z: Rest, R: Wait + Dro
     ensures counted { IsCounted (taken_of taker) strokes 0 → IsCounted (taken_of result.taker) result.strokes result.dropped }
     ensures told { HasTold S.looks S.width S.height (desk [] source (taken_of taker) strokes) (links_in L.state result.written) (taken_of result.taker) result.strokes }
 {
-    let mut turns = Round::new(handover);
-    let mut untold = Untold::new(input);
-    write(
-        rt,
-        &mut turns,
-        source,
-        &mut taker,
-        &mut strokes,
-        &mut untold,
-        rest,
-    );
+    let untold = Untold::new(input);
+    let first = TellerBeginning::of(&source, &taker, &strokes, &untold);
+    let free = FreeTeller::new(&first, source, taker, strokes, untold);
+    let left = write(rt, free, &turns, rest);
+    let (_, taker, strokes, untold, written) = left.into_parts(());
     HostsTold {
-        written: turns.into_written(),
+        written,
         taker,
         strokes,
         dropped: untold.count,
     }
 }
 
-/// A thread that tells the hosts of a handover. It fails where no thread can be made (`Memory`).
+/// A thread that tells the hosts whose turns these are. It fails where no thread can be made (`Memory`).
 fn tell_beside<L, S, Z, W, R>(
     rt: R,
     rest: Arc<Z, Global>,
-    handover: Arc<Handover<L, W>, Global>,
+    turns: Turns<L, W>,
     source: S,
     taker: Taker<R>,
     strokes: Strokes,
@@ -160,7 +157,7 @@ where
             ensures relay { host_of result.taker ≡ host_of taker }
             ensures counted { IsCounted (taken_of taker) strokes 0 → IsCounted (taken_of result.taker) result.strokes result.dropped }
             ensures told { HasTold S.looks S.width S.height (desk [] source (taken_of taker) strokes) (links_in L.state result.written) (taken_of result.taker) result.strokes }
-        { tell(&rt, handover, source, taker, strokes, input, &*rest) },
+        { tell(&rt, turns, source, taker, strokes, input, &*rest) },
     );
     match started {
         Ok(handle) => Ok(handle),
@@ -188,5 +185,6 @@ where
 {
     let rest = Arc::try_clone(&context.writer)?;
     let input = Arc::try_clone(&context.input)?;
-    tell_beside(context.rt, rest, handover, source, taker, strokes, input)
+    let turns = Turns::new(handover);
+    tell_beside(context.rt, rest, turns, source, taker, strokes, input)
 }

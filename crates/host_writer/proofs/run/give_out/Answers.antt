@@ -17,8 +17,6 @@ loop-init g c = (
     request = refl;
     asked = refl;
     first = refl;
-    link_name = refl;
-    saying_name = refl;
   },
 )
 
@@ -29,4 +27,4 @@ pub returns-in_err-was_given-clause-stops : goal.returns-in_err-was_given-clause
 returns-in_err-was_given-clause-stops g c =
     let p = err_from_is_err_and c.from_residual.result c.from_residual.ensures.1 in
     rw (p.1, p.2)
-    (stops_since (g.F.StopFlag.was_set c.args.stop.now) _ c.give.new.self.saying.now (g.L.Link.state c.args.telling.now.link.now) (g.L.Link.state c.loop.telling.link.now) (g.L.Link.state c.give.new.self.link.now) c.loop.invariant.2.is_open c.in_err-was_given.ensures.stops)
+    (stops_since (g.F.StopFlag.was_set c.args.stop.now) _ c.give.new.self.saying (g.L.Link.state c.args.telling.now.link) (g.L.Link.state c.loop.telling.link) (g.L.Link.state c.give.new.self.link) c.loop.invariant.2.is_open c.in_err-was_given.ensures.stops)

@@ -6,8 +6,8 @@ abbrev pub invariant-loop : goal.invariant-loop
 invariant-loop g l =
     (goal.iterator-loop g).can_next l.iterator' × (goal.iterator-loop g).is_finite l.iterator'
     × record {
-      gives : Gives l.fn.telling.saying.now l.telling.saying.now (g.L.Link.state l.fn.telling.link.now) (g.L.Link.state l.telling.link.now);
-      is_open : IsOpen (g.L.Link.state l.fn.telling.link.now) (g.L.Link.state l.telling.link.now);
+      gives : Gives l.fn.telling.saying l.telling.saying (g.L.Link.state l.fn.telling.link) (g.L.Link.state l.telling.link);
+      is_open : IsOpen (g.L.Link.state l.fn.telling.link) (g.L.Link.state l.telling.link);
       source : l.telling.source ≡ l.fn.telling.source;
       taker : l.telling.taker ≡ l.fn.telling.taker;
       strokes : l.telling.strokes ≡ l.fn.telling.strokes;
@@ -15,6 +15,4 @@ invariant-loop g l =
       request : l.telling.request ≡ l.fn.telling.request;
       asked : l.telling.asked ≡ l.fn.telling.asked;
       first : l.telling.first ≡ l.fn.telling.first;
-      link_name : l.telling.link.ghost_name ≡ l.fn.telling.link.ghost_name;
-      saying_name : l.telling.saying.ghost_name ≡ l.fn.telling.saying.ghost_name;
     }

@@ -1,28 +1,123 @@
--- What the telling holds at its end is what was lent.
-use Rattle.std.proofs.Common.{ap, sym, ◌∙◌, length}
-use Rattle.roles.specs.Strokes.{StrokesKept}
-use Rattle.input_relay.specs.Ends.{host_of, taken_of}
-use Rattle.host_writer.proofs.Drops.{counted_at}
-use Rattle.host_writer.proofs.Writers.{writes_at}
+use Rattle.std.proofs.Common.{ap, refl, ◌∙◌, length}
+use Rattle.host_writer.proofs.Writers.{asked_once, open_at, open_more, telling_begins, telling_ends, telling_stops, told_input}
 use Rattle.host_writer.proofs.run.run_writer.Goals as goal
 
-pub write_on-requires-clause-whole : goal.write_on-requires-clause-whole
-write_on-requires-clause-whole g c = rw c.new-telling.ensures.source.0 c.new-telling.ensures.begins.2
+pub loop-init : goal.loop-init
+loop-init g c = (
+  tt,
+  tt,
+  record {
+    idle = rw c.requires.begins.0 refl;
+    whole = c.requires.whole;
+    relay = refl;
+    places = refl;
+    counted = λ k. k;
+    is_open = (refl, refl);
+    telling = rw (c.requires.begins.0, c.requires.begins.1) (telling_begins _ _ _ _ _ _ _);
+    first = refl;
+  },
+)
 
-pub returns-clause-relay : goal.returns-clause-relay
-returns-clause-relay g c = ap host_of (c.taker-1.given.1 (sym (c.write_on.ensures.same.2 ∙ c.new-telling.ensures.taker.1))) ∙ (c.write_on.ensures.relay ∙ ap host_of c.new-telling.ensures.taker.0)
+pub returns-then-is_set-clause-writes : goal.returns-then-is_set-clause-writes
+returns-then-is_set-clause-writes g c =
+    telling_ends _ _ _ _ _ _ _ _ _ _ _ (g.L.Link.state c.args.telling.now.link) (g.L.Link.state c.loop.telling.link) (c.is_set.ensures c.if-is_set.true) c.loop.invariant.2.telling c.loop.invariant.2.is_open
 
-pub returns-clause-places : goal.returns-clause-places
-returns-clause-places g c =
-    ap (λ (s : StrokesKept). length s.counts) (c.strokes-1.given.1 (sym (c.write_on.ensures.same.3 ∙ c.new-telling.ensures.strokes.1))) ∙ (c.write_on.ensures.places ∙ ap (λ (s : StrokesKept). length s.counts) c.new-telling.ensures.strokes.0)
+pub returns-in-Err-clause-writes : goal.returns-in-Err-clause-writes
+returns-in-Err-clause-writes g c =
+    let inv = c.loop.invariant.2 in
+    let told = told_input g.S.ScreenSource.looks _ _ _ _ _ _ _ _ _ _ _ _ _ _ _ c.take_input-was_taken.result _ _ _ (g.L.Link.state c.args.telling.now.link) (g.L.Link.state c.loop.telling.link) (g.L.Link.state c.take_input-was_taken.new.self.link) (g.L.Link.state c.give_out.new.telling.link) inv.telling inv.idle c.take_input-was_taken.ensures.takes c.give_out.ensures.gives (ap g.L.Link.state c.take_input-was_taken.ensures.others.0)
+    (c.give_out.ensures.others.0 ∙ c.take_input-was_taken.ensures.others.1) (ap g.K.InputSource.taken c.give_out.ensures.others.1) (c.give_out.ensures.others.2) (c.give_out.ensures.others.5 ∙ c.take_input-was_taken.ensures.others.3) in
+    let since = open_at (g.L.Link.state c.args.telling.now.link) (g.L.Link.state c.loop.telling.link) (g.L.Link.state c.take_input-was_taken.new.self.link) (ap g.L.Link.state c.take_input-was_taken.ensures.others.0) inv.is_open in
+    rw c.answer_at.ensures (telling_stops g.S.ScreenSource.looks _ _ _ _ _ _ _ _ _ _ c.in-Err.halt (g.L.Link.state c.args.telling.now.link) (g.L.Link.state c.take_input-was_taken.new.self.link) (g.L.Link.state c.give_out.new.telling.link) told since c.in-Err.ensures.stops)
 
-pub returns-clause-counted : goal.returns-clause-counted
-returns-clause-counted g c =
-    counted_at _ _ _ _ _ _ _ _ _ _ _ _ (ap taken_of c.new-telling.ensures.taker.0) (ap taken_of (sym (c.taker-1.given.1 (sym (c.write_on.ensures.same.2 ∙ c.new-telling.ensures.taker.1))))) c.new-telling.ensures.strokes.0 (sym (c.strokes-1.given.1 (sym (c.write_on.ensures.same.3 ∙ c.new-telling.ensures.strokes.1))))
-    (ap g.D.DropCount.dropped c.new-telling.ensures.drops.0) (ap g.D.DropCount.dropped (sym (c.drops-1.given.1 (sym (c.write_on.ensures.same.4 ∙ c.new-telling.ensures.drops.1))))) c.write_on.ensures.counted
+pub returns-in-Err-clause-relay : goal.returns-in-Err-clause-relay
+returns-in-Err-clause-relay g c =
+    ap g.K.InputSource.relay (c.give_out.ensures.others.1) ∙ (c.take_input-was_taken.ensures.relay ∙ c.loop.invariant.2.relay)
 
-pub returns-clause-writes : goal.returns-clause-writes
-returns-clause-writes g c =
-    writes_at g.S.ScreenSource.looks g.S.ScreenSource.width g.S.ScreenSource.height c.write_on.result _ _ _ _ _ _ _ _ _ _ _ _ _ _ _ _ c.new-telling.ensures.source.0 (sym (c.source-1.given.1 (sym (c.write_on.ensures.same.1 ∙ c.new-telling.ensures.source.1)))) (ap taken_of c.new-telling.ensures.taker.0)
-    (ap taken_of (sym (c.taker-1.given.1 (sym (c.write_on.ensures.same.2 ∙ c.new-telling.ensures.taker.1))))) c.new-telling.ensures.strokes.0 (sym (c.strokes-1.given.1 (sym (c.write_on.ensures.same.3 ∙ c.new-telling.ensures.strokes.1)))) (ap g.L.Link.state c.new-telling.ensures.link.0)
-    (ap g.L.Link.state (sym (c.link-1.given.1 (sym (c.write_on.ensures.same.0 ∙ c.new-telling.ensures.link.1))))) c.write_on.ensures.writes
+pub returns-in-Err-clause-places : goal.returns-in-Err-clause-places
+returns-in-Err-clause-places g c =
+    ap (λ r. length r.counts) (c.give_out.ensures.others.2) ∙ (c.take_input-was_taken.ensures.places ∙ c.loop.invariant.2.places)
+
+pub returns-in-Err-clause-counted : goal.returns-in-Err-clause-counted
+returns-in-Err-clause-counted g c =
+    λ k. rw (c.give_out.ensures.others.1, c.give_out.ensures.others.2, c.give_out.ensures.others.3) (c.take_input-was_taken.ensures.counted (c.loop.invariant.2.counted k))
+
+pub returns-in-Err-clause-first : goal.returns-in-Err-clause-first
+returns-in-Err-clause-first g c =
+    c.give_out.ensures.others.6 ∙ (c.take_input-was_taken.ensures.others.4 ∙ c.loop.invariant.2.first)
+
+pub returns-in-Err-give_out-clause-writes : goal.returns-in-Err-give_out-clause-writes
+returns-in-Err-give_out-clause-writes g c =
+    let inv = c.loop.invariant.2 in
+    let told = told_input g.S.ScreenSource.looks _ _ _ _ _ _ _ _ _ _ _ _ _ _ _ c.take_input-was_taken.result _ _ _ (g.L.Link.state c.args.telling.now.link) (g.L.Link.state c.loop.telling.link) (g.L.Link.state c.take_input-was_taken.new.self.link) (g.L.Link.state c.give_out.new.telling.link) inv.telling inv.idle c.take_input-was_taken.ensures.takes c.give_out.ensures.gives (ap g.L.Link.state c.take_input-was_taken.ensures.others.0)
+    (c.give_out.ensures.others.0 ∙ c.take_input-was_taken.ensures.others.1) (ap g.K.InputSource.taken c.give_out.ensures.others.1) (c.give_out.ensures.others.2) (c.give_out.ensures.others.5 ∙ c.take_input-was_taken.ensures.others.3) in
+    let since = open_at (g.L.Link.state c.args.telling.now.link) (g.L.Link.state c.loop.telling.link) (g.L.Link.state c.take_input-was_taken.new.self.link) (ap g.L.Link.state c.take_input-was_taken.ensures.others.0) inv.is_open in
+    let on = open_more (g.L.Link.state c.args.telling.now.link) (g.L.Link.state c.take_input-was_taken.new.self.link) (g.L.Link.state c.give_out.new.telling.link) since c.in_default.ensures.stops.0 in
+    let asked = asked_once g.S.ScreenSource.looks _ _ _ _ _ _ _ _ _ _ _ _ _ _ _ _ _ _ _ (g.L.Link.state c.args.telling.now.link) (g.L.Link.state c.give_out.new.telling.link) (g.L.Link.state c.look-has_risen.new.self.link) (g.L.Link.state c.give_out-in-loop.new.telling.link) told c.in_default.ensures.stops.1 (c.give_out.ensures.others.4 ∙ (c.take_input-was_taken.ensures.others.2 ∙ inv.whole)) c.look-has_risen.ensures.looks c.give_out-in-loop.ensures.gives (ap g.L.Link.state c.look-has_risen.ensures.others.0)
+    (c.give_out-in-loop.ensures.others.0) (ap g.K.InputSource.taken (c.give_out-in-loop.ensures.others.1 ∙ c.look-has_risen.ensures.others.1)) (c.give_out-in-loop.ensures.others.2 ∙ c.look-has_risen.ensures.others.2) c.give_out-in-loop.ensures.others.5 in
+    let later = open_at (g.L.Link.state c.args.telling.now.link) (g.L.Link.state c.give_out.new.telling.link) (g.L.Link.state c.look-has_risen.new.self.link) (ap g.L.Link.state c.look-has_risen.ensures.others.0) on in
+    rw c.answer_at-in-Err-give_out.ensures (telling_stops g.S.ScreenSource.looks _ _ _ _ _ _ _ _ _ _ c.in-Err-give_out.halt (g.L.Link.state c.args.telling.now.link) (g.L.Link.state c.look-has_risen.new.self.link) (g.L.Link.state c.give_out-in-loop.new.telling.link) asked later c.in-Err-give_out.ensures.stops)
+
+pub returns-in-Err-give_out-clause-relay : goal.returns-in-Err-give_out-clause-relay
+returns-in-Err-give_out-clause-relay g c =
+    ap g.K.InputSource.relay (c.give_out-in-loop.ensures.others.1 ∙ (c.look-has_risen.ensures.others.1 ∙ c.give_out.ensures.others.1)) ∙ (c.take_input-was_taken.ensures.relay ∙ c.loop.invariant.2.relay)
+
+pub returns-in-Err-give_out-clause-places : goal.returns-in-Err-give_out-clause-places
+returns-in-Err-give_out-clause-places g c =
+    ap (λ r. length r.counts) (c.give_out-in-loop.ensures.others.2 ∙ (c.look-has_risen.ensures.others.2 ∙ c.give_out.ensures.others.2)) ∙ (c.take_input-was_taken.ensures.places ∙ c.loop.invariant.2.places)
+
+pub returns-in-Err-give_out-clause-counted : goal.returns-in-Err-give_out-clause-counted
+returns-in-Err-give_out-clause-counted g c =
+    λ k. rw (c.give_out-in-loop.ensures.others.1 ∙ (c.look-has_risen.ensures.others.1 ∙ c.give_out.ensures.others.1), c.give_out-in-loop.ensures.others.2 ∙ (c.look-has_risen.ensures.others.2 ∙ c.give_out.ensures.others.2), c.give_out-in-loop.ensures.others.3 ∙ (c.look-has_risen.ensures.others.3 ∙ c.give_out.ensures.others.3)) (c.take_input-was_taken.ensures.counted (c.loop.invariant.2.counted k))
+
+pub returns-in-Err-give_out-clause-first : goal.returns-in-Err-give_out-clause-first
+returns-in-Err-give_out-clause-first g c =
+    c.give_out-in-loop.ensures.others.6 ∙ (c.look-has_risen.ensures.others.5 ∙ (c.give_out.ensures.others.6 ∙ (c.take_input-was_taken.ensures.others.4 ∙ c.loop.invariant.2.first)))
+
+pub loop-preserved : goal.loop-preserved
+loop-preserved g c =
+    let inv = c.loop.invariant.2 in
+    let told = told_input g.S.ScreenSource.looks _ _ _ _ _ _ _ _ _ _ _ _ _ _ _ c.take_input-was_taken.result _ _ _ (g.L.Link.state c.args.telling.now.link) (g.L.Link.state c.loop.telling.link) (g.L.Link.state c.take_input-was_taken.new.self.link) (g.L.Link.state c.give_out.new.telling.link) inv.telling inv.idle c.take_input-was_taken.ensures.takes c.give_out.ensures.gives (ap g.L.Link.state c.take_input-was_taken.ensures.others.0)
+    (c.give_out.ensures.others.0 ∙ c.take_input-was_taken.ensures.others.1) (ap g.K.InputSource.taken c.give_out.ensures.others.1) (c.give_out.ensures.others.2) (c.give_out.ensures.others.5 ∙ c.take_input-was_taken.ensures.others.3) in
+    let since = open_at (g.L.Link.state c.args.telling.now.link) (g.L.Link.state c.loop.telling.link) (g.L.Link.state c.take_input-was_taken.new.self.link) (ap g.L.Link.state c.take_input-was_taken.ensures.others.0) inv.is_open in
+    let on = open_more (g.L.Link.state c.args.telling.now.link) (g.L.Link.state c.take_input-was_taken.new.self.link) (g.L.Link.state c.give_out.new.telling.link) since c.in_default.ensures.stops.0 in
+    let asked = asked_once g.S.ScreenSource.looks _ _ _ _ _ _ _ _ _ _ _ _ _ _ _ _ _ _ _ (g.L.Link.state c.args.telling.now.link) (g.L.Link.state c.give_out.new.telling.link) (g.L.Link.state c.look-has_risen.new.self.link) (g.L.Link.state c.give_out-in-loop.new.telling.link) told c.in_default.ensures.stops.1 (c.give_out.ensures.others.4 ∙ (c.take_input-was_taken.ensures.others.2 ∙ inv.whole)) c.look-has_risen.ensures.looks c.give_out-in-loop.ensures.gives (ap g.L.Link.state c.look-has_risen.ensures.others.0)
+    (c.give_out-in-loop.ensures.others.0) (ap g.K.InputSource.taken (c.give_out-in-loop.ensures.others.1 ∙ c.look-has_risen.ensures.others.1)) (c.give_out-in-loop.ensures.others.2 ∙ c.look-has_risen.ensures.others.2) c.give_out-in-loop.ensures.others.5 in
+    let later = open_at (g.L.Link.state c.args.telling.now.link) (g.L.Link.state c.give_out.new.telling.link) (g.L.Link.state c.look-has_risen.new.self.link) (ap g.L.Link.state c.look-has_risen.ensures.others.0) on in (
+      tt,
+      tt,
+      record {
+        idle = c.in_default-give_out.ensures.stops.1;
+        whole = c.give_out-in-loop.ensures.others.4 ∙ (c.look-has_risen.ensures.others.4 ∙ (c.give_out.ensures.others.4 ∙ (c.take_input-was_taken.ensures.others.2 ∙ inv.whole)));
+        relay = ap g.K.InputSource.relay (c.give_out-in-loop.ensures.others.1 ∙ (c.look-has_risen.ensures.others.1 ∙ c.give_out.ensures.others.1)) ∙ (c.take_input-was_taken.ensures.relay ∙ c.loop.invariant.2.relay);
+        places = ap (λ r. length r.counts) (c.give_out-in-loop.ensures.others.2 ∙ (c.look-has_risen.ensures.others.2 ∙ c.give_out.ensures.others.2)) ∙ (c.take_input-was_taken.ensures.places ∙ c.loop.invariant.2.places);
+        counted = λ k. rw (c.give_out-in-loop.ensures.others.1 ∙ (c.look-has_risen.ensures.others.1 ∙ c.give_out.ensures.others.1), c.give_out-in-loop.ensures.others.2 ∙ (c.look-has_risen.ensures.others.2 ∙ c.give_out.ensures.others.2), c.give_out-in-loop.ensures.others.3 ∙ (c.look-has_risen.ensures.others.3 ∙ c.give_out.ensures.others.3)) (c.take_input-was_taken.ensures.counted (c.loop.invariant.2.counted k));
+        is_open = open_more (g.L.Link.state c.args.telling.now.link) (g.L.Link.state c.look-has_risen.new.self.link) (g.L.Link.state c.give_out-in-loop.new.telling.link) later c.in_default-give_out.ensures.stops.0;
+        telling = asked;
+        first = c.give_out-in-loop.ensures.others.6 ∙ (c.look-has_risen.ensures.others.5 ∙ (c.give_out.ensures.others.6 ∙ (c.take_input-was_taken.ensures.others.4 ∙ c.loop.invariant.2.first)));
+      },
+    )
+
+pub loop-preserved-then-not-has_risen : goal.loop-preserved-then-not-has_risen
+loop-preserved-then-not-has_risen g c =
+    let inv = c.loop.invariant.2 in
+    let told = told_input g.S.ScreenSource.looks _ _ _ _ _ _ _ _ _ _ _ _ _ _ _ c.take_input-was_taken.result _ _ _ (g.L.Link.state c.args.telling.now.link) (g.L.Link.state c.loop.telling.link) (g.L.Link.state c.take_input-was_taken.new.self.link) (g.L.Link.state c.give_out.new.telling.link) inv.telling inv.idle c.take_input-was_taken.ensures.takes c.give_out.ensures.gives (ap g.L.Link.state c.take_input-was_taken.ensures.others.0)
+    (c.give_out.ensures.others.0 ∙ c.take_input-was_taken.ensures.others.1) (ap g.K.InputSource.taken c.give_out.ensures.others.1) (c.give_out.ensures.others.2) (c.give_out.ensures.others.5 ∙ c.take_input-was_taken.ensures.others.3) in
+    let since = open_at (g.L.Link.state c.args.telling.now.link) (g.L.Link.state c.loop.telling.link) (g.L.Link.state c.take_input-was_taken.new.self.link) (ap g.L.Link.state c.take_input-was_taken.ensures.others.0) inv.is_open in
+    let on = open_more (g.L.Link.state c.args.telling.now.link) (g.L.Link.state c.take_input-was_taken.new.self.link) (g.L.Link.state c.give_out.new.telling.link) since c.in_default.ensures.stops.0 in
+    let asked = asked_once g.S.ScreenSource.looks _ _ _ _ _ _ _ _ _ _ _ _ _ _ _ _ _ _ _ (g.L.Link.state c.args.telling.now.link) (g.L.Link.state c.give_out.new.telling.link) (g.L.Link.state c.look-has_risen.new.self.link) (g.L.Link.state c.give_out-in-loop.new.telling.link) told c.in_default.ensures.stops.1 (c.give_out.ensures.others.4 ∙ (c.take_input-was_taken.ensures.others.2 ∙ inv.whole)) c.look-has_risen.ensures.looks c.give_out-in-loop.ensures.gives (ap g.L.Link.state c.look-has_risen.ensures.others.0)
+    (c.give_out-in-loop.ensures.others.0) (ap g.K.InputSource.taken (c.give_out-in-loop.ensures.others.1 ∙ c.look-has_risen.ensures.others.1)) (c.give_out-in-loop.ensures.others.2 ∙ c.look-has_risen.ensures.others.2) c.give_out-in-loop.ensures.others.5 in
+    let later = open_at (g.L.Link.state c.args.telling.now.link) (g.L.Link.state c.give_out.new.telling.link) (g.L.Link.state c.look-has_risen.new.self.link) (ap g.L.Link.state c.look-has_risen.ensures.others.0) on in (
+      tt,
+      tt,
+      record {
+        idle = c.in_default-give_out.ensures.stops.1;
+        whole = c.give_out-in-loop.ensures.others.4 ∙ (c.look-has_risen.ensures.others.4 ∙ (c.give_out.ensures.others.4 ∙ (c.take_input-was_taken.ensures.others.2 ∙ inv.whole)));
+        relay = ap g.K.InputSource.relay (c.give_out-in-loop.ensures.others.1 ∙ (c.look-has_risen.ensures.others.1 ∙ c.give_out.ensures.others.1)) ∙ (c.take_input-was_taken.ensures.relay ∙ c.loop.invariant.2.relay);
+        places = ap (λ r. length r.counts) (c.give_out-in-loop.ensures.others.2 ∙ (c.look-has_risen.ensures.others.2 ∙ c.give_out.ensures.others.2)) ∙ (c.take_input-was_taken.ensures.places ∙ c.loop.invariant.2.places);
+        counted = λ k. rw (c.give_out-in-loop.ensures.others.1 ∙ (c.look-has_risen.ensures.others.1 ∙ c.give_out.ensures.others.1), c.give_out-in-loop.ensures.others.2 ∙ (c.look-has_risen.ensures.others.2 ∙ c.give_out.ensures.others.2), c.give_out-in-loop.ensures.others.3 ∙ (c.look-has_risen.ensures.others.3 ∙ c.give_out.ensures.others.3)) (c.take_input-was_taken.ensures.counted (c.loop.invariant.2.counted k));
+        is_open = open_more (g.L.Link.state c.args.telling.now.link) (g.L.Link.state c.look-has_risen.new.self.link) (g.L.Link.state c.give_out-in-loop.new.telling.link) later c.in_default-give_out.ensures.stops.0;
+        telling = asked;
+        first = c.give_out-in-loop.ensures.others.6 ∙ (c.look-has_risen.ensures.others.5 ∙ (c.give_out.ensures.others.6 ∙ (c.take_input-was_taken.ensures.others.4 ∙ c.loop.invariant.2.first)));
+      },
+    )
