@@ -1,5 +1,6 @@
 -- What an eye knows after it was told, or saw. An eye's list only grows by it.
-use Rattle.std.proofs.Common.{◌≡◌, ℕ, ◌≤◌, List, length, take, drop, ap, sym, ◌∙◌, subst, arith}
+use Rattle.std.proofs.Common.{◌≡◌, ℕ, ◌<◌, ◌≤◌, ◌⊎◌, inl, inr, ⊎_elim, List, length, take, drop, ap, sym, ◌∙◌, subst, arith}
+use Rattle.std.proofs.lemmas.Bool.{cases_lt}
 use Rattle.std.proofs.lemmas.List.{length-take-le, take-append-drop}
 use Rattle.raster.specs.Update.{Update}
 use Rattle.reflect_core.specs.Sequential.{Begins}
@@ -24,3 +25,13 @@ goes_on old mine again copy front both n m is fits same is_copy p q count le =
     let all : length (puts_of front) ≡ m = ap (λ (l : List Change). length (puts_of l)) is_copy ∙ sym count in
     let more = first_more mine front both n m fits (omega arith) (subst (λ (l : List Change). Begins l both) same p) q le in
     (subst (λ (l : List Update). Begins l (take m (puts_of front))) is more, sym (length-take-le m (puts_of front) (omega arith)))
+
+-- Two lists that begin the updates of beginnings of one history: one of the two begins the other.
+pub one_begins : (xs ys : List Update) (mine theirs both : List Change) → Begins xs (puts_of mine) → Begins ys (puts_of theirs) → Begins mine both → Begins theirs both → Begins xs ys ⊎ Begins ys xs
+one_begins xs ys mine theirs both p q m t =
+    let a = begins_trans xs (puts_of mine) (puts_of both) p (begins_puts mine both m) in
+    let b = begins_trans ys (puts_of theirs) (puts_of both) q (begins_puts theirs both t) in
+    ⊎_elim
+    (λ (less : length xs < length ys). inl (begins_shorter xs ys (puts_of both) a b (omega arith)))
+    (λ (more : length ys ≤ length xs). inr (begins_shorter ys xs (puts_of both) b a more))
+    (cases_lt (length xs) (length ys))

@@ -60,6 +60,13 @@ impl<J: Naming> Eye<J> {
         self.number
     }
 
+    /// A beginning of the history, which has all updates that the eye knows.
+    pub(crate) fn front(&self) -> HistoryFront<J>
+        ensures { Begins self.now (puts_of result) }
+    {
+        self.front.again()
+    }
+
     /// It does nothing. Its clause says that all updates that it knows, but for the last, were raised and so are
     /// published.
     pub fn is_published(&self)

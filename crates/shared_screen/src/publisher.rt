@@ -87,6 +87,13 @@ impl<J: Naming, R: Wait + Drop> Publisher<J, R> {
         }
     }
 
+    /// The beginning of the history that it has put and raised.
+    pub(crate) fn front(&self) -> HistoryFront<J>
+        ensures { result ≡ self.now }
+    {
+        self.front.again()
+    }
+
     /// Ends the publisher: no copy can be entered from now on. It may wait for a watcher that is inside one.
     pub fn end(self) {
         drop(self)
@@ -102,6 +109,10 @@ impl<J: Naming + Publishes, R: Wait + Drop> Puts for Publisher<J, R> {
 
     /// Publishes the update, and then raises the tally to its number. It may wait for a watcher that is still inside
     /// the copy from before the last put.
+    ///
+    /// Where it answers `Memory`, each later put may answer that, too: if room for the update was refused once the
+    /// history had it, nothing can be put behind it. Contracts don't tell the two apart. That room is kept from the
+    /// beginning on, so this isn't seen to happen; but no clause of the pair says that it is enough.
     fn put(&mut self, patch: Patch) -> Result<u64, (Fault, Patch)>
         requires { (patch.width ≡ J.width) × (patch.height ≡ J.height) }
         ensures history { IfOk result (λ n. self.new ≡ (self.old ++ Put patch.update ∷ []) ++ Raise n ∷ []) }

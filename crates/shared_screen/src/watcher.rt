@@ -100,6 +100,26 @@ impl<J: Naming> Watcher<J> {
     {
         self.learn(&publisher.news());
     }
+
+    /// It changes nothing and learns nothing. Its clause says that watcher and publisher are of one list of updates:
+    /// one of the two that they know begins the other.
+    pub fn is_of<R: Wait + Drop>(&self, publisher: &Publisher<J, R>)
+        ensures { Begins self.now.updates (puts_of publisher.now) ⊎ Begins (puts_of publisher.now) self.now.updates }
+    {
+        // Nothing reads `both`. Its clauses say that the two are beginnings of one history, which the proof needs.
+        let mut both = self.eye.front();
+        both.learn(&publisher.front());
+    }
+
+    /// It changes nothing and learns nothing. Its clause says that both watchers are of one list of updates: one of the
+    /// two that they know begins the other.
+    pub fn is_beside(&self, other: &Watcher<J>)
+        ensures { Begins self.now.updates other.now.updates ⊎ Begins other.now.updates self.now.updates }
+    {
+        // As in `is_of`.
+        let mut both = self.eye.front();
+        both.learn(&other.eye.front());
+    }
 }
 
 impl<J: Naming> ScreenSource for Watcher<J> {
