@@ -1,5 +1,6 @@
 //! Rings end waits. A ring that was lost shows after ten seconds, since the viewer's handshake is late by then.
 
+use crate::sockets::make_seat;
 use connections::{Everyone, Seat, WriterSeat};
 use link::{Link, Rest, StopFlag, Took};
 use run_traits::{Alarm, HostCount, Stop};
@@ -105,15 +106,18 @@ fn ends_both<R: Threads + Wait + Send + Sync, L: Link + Send>(
     !was_set && right && stop.is_set()
 }
 
-/// The alarm of a writer and of one place.
+/// The alarm of a writer and of three places, the last of which is this one. Nobody waits at the others.
 fn everyone(
-    alloc: Global,
+    net: &HostRuntime,
     writer: &Arc<WriterSeat, Global>,
     seat: &Arc<Seat, Global>,
 ) -> io::Result<Everyone> {
+    let alloc = net.alloc();
     let count = Arc::new(alloc, HostCount::new())?;
     let writer = Arc::try_clone(writer)?;
     let mut seats = Vec::new(alloc);
+    seats.push(make_seat(net)?)?;
+    seats.push(make_seat(net)?)?;
     seats.push(Arc::try_clone(seat)?)?;
     Ok(Everyone {
         count,
@@ -122,14 +126,14 @@ fn everyone(
     })
 }
 
-/// Whether a new flag, with the alarm of a writer and of one place, does so.
+/// Whether a new flag, with the alarm of a writer and of this place, does so.
 pub(crate) fn ends_each_wait<R: Threads + Wait + Send + Sync, L: Link + Send>(
     rt: &R,
-    alloc: Global,
+    net: &HostRuntime,
     seat: &Arc<Seat, Global>,
     link: &mut L,
 ) -> io::Result<bool> {
-    let writer = Arc::new(alloc, WriterSeat::new())?;
-    let stop = Stop::new(everyone(alloc, &writer, seat)?);
+    let writer = Arc::new(net.alloc(), WriterSeat::new())?;
+    let stop = Stop::new(everyone(net, &writer, seat)?);
     Ok(ends_both(rt, &stop, &writer, seat, link))
 }

@@ -6,7 +6,7 @@ use std::io;
 use std::sync::Wait;
 
 /// Version 3.8, no security type, and the reason with its length (RFC 6143, 7.1.1 and 7.1.2).
-const REFUSAL: &[u8] = b"RFB 003.008\n\x00\x00\x00\x00\x14all places are taken";
+pub(crate) const REFUSAL: &[u8] = b"RFB 003.008\n\x00\x00\x00\x00\x14all places are taken";
 
 /// Whether a viewer that comes is told these bytes. All bytes of a refusal are read.
 pub(crate) fn is_told<R: Wait + Drop>(house: &House<'_, R>, wanted: &[u8]) -> io::Result<bool> {

@@ -1,13 +1,14 @@
 //! What comes to a port with one place, evening after evening: viewers and an operator, and newcomers that never become
 //! viewers.
 
+use crate::board::hold;
 use crate::doors::place_is_free_again;
 use crate::house::{ByHand, House, make_notebook};
 use crate::newcomers::{
     checks_leave_nothing, header_of_another_is_no_header, headers_are_believed,
     silent_ones_make_room,
 };
-use crate::orders::orders_are_obeyed;
+use crate::orders::{drained_one_gives_its_place_back, orders_are_obeyed};
 use crate::port::{make_door, make_lobby, make_porter};
 use crate::sockets::VERSION;
 use connections::TcpPorter;
@@ -28,6 +29,8 @@ enum Visitors {
     Rivals,
     /// Viewers whom an operator turns away and sends away.
     Ordered,
+    /// A viewer that is on its way to the place when the doors are drained, and others after it.
+    Drained,
     /// Newcomers that leave, or are silent, before their version is whole.
     Checks,
     /// As many silent newcomers as the port keeps.
@@ -39,9 +42,14 @@ enum Visitors {
 }
 
 /// The evenings, and how many viewers come to the place at each.
-const EVENINGS: [(&str, Visitors, u64); 6] = [
+const EVENINGS: [(&str, Visitors, u64); 7] = [
     ("full lobby refuses and is free again", Visitors::Rivals, 2),
     ("viewers are refused and sent away", Visitors::Ordered, 3),
+    (
+        "who is drained on its way gives its place back",
+        Visitors::Drained,
+        1,
+    ),
     (
         "a newcomer leaving before its version leaves nothing",
         Visitors::Checks,
@@ -86,6 +94,12 @@ fn serve<L: Link>(link: &mut L, count: &mut Count) {
     }
 }
 
+/// Serves the viewers that come to a door, once it is opened, until no more come.
+fn serve_from<D: Door>(opened: &AtomicU64, door: &mut D) -> Count {
+    hold(opened, 1);
+    serve_all(door)
+}
+
 /// Serves the viewers that come to a door, until no more come.
 fn serve_all<D: Door>(door: &mut D) -> Count {
     let mut count = Count {
@@ -110,6 +124,7 @@ fn visits<R: Wait + Clock + Drop>(house: &House<'_, R>, visitors: Visitors) -> b
     let is_right = match visitors {
         Visitors::Rivals => place_is_free_again(house),
         Visitors::Ordered => orders_are_obeyed(house),
+        Visitors::Drained => drained_one_gives_its_place_back(house),
         Visitors::Checks => checks_leave_nothing(house),
         Visitors::Crowd => silent_ones_make_room(house),
         Visitors::Proxied => headers_are_believed(house),
@@ -135,7 +150,11 @@ where
     let (is_right, (count, _)) = thread::join(
         &rt,
         || visits(house, visitors),
-        || thread::join(&rt, || serve_all(door), || porter.keep(hand, house.log)),
+        || thread::join(
+            &rt,
+            || serve_from(house.opened, door),
+            || porter.keep(hand, house.log),
+        ),
     );
     (is_right, count)
 }
@@ -161,14 +180,23 @@ where
     let millis = AtomicU64::new(0);
     let hand = ByHand {
         rt,
-        stands: !matches!(visitors, Visitors::Rivals | Visitors::Ordered),
+        stands: !matches!(
+            visitors,
+            Visitors::Rivals | Visitors::Ordered | Visitors::Drained
+        ),
         millis: &millis,
     };
+    let opened = AtomicU64::new(if matches!(visitors, Visitors::Drained) {
+        0
+    } else {
+        1
+    });
     let house = House {
         net,
         address,
         lobby: &lobby,
         millis: &millis,
+        opened: &opened,
         log: &log,
     };
     Ok(serves(rt, &hand, &house, porter, &mut door, visitors))

@@ -84,6 +84,8 @@ pub(crate) struct House<'a, R: Drop> {
     pub(crate) address: SocketAddr,
     pub(crate) lobby: &'a Lobby,
     pub(crate) millis: &'a AtomicU64,
+    /// 0 until viewers are let to the place.
+    pub(crate) opened: &'a AtomicU64,
     pub(crate) log: &'a Notebook<R>,
 }
 
@@ -106,6 +108,11 @@ impl<R: Wait + Drop> House<'_, R> {
         }
         viewer.write_all(VERSION)?;
         Ok(viewer)
+    }
+
+    /// Viewers are let to the place from now on.
+    pub(crate) fn open(&self) {
+        self.opened.store(1, Ordering::SeqCst);
     }
 
     /// Puts the clock forward.

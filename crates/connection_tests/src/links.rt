@@ -57,7 +57,7 @@ const TRIALS: [(&str, Trial); 8] = [
 
 fn plays<R: Threads + Wait + Clock + Send + Sync, L: Link + Send>(
     rt: &R,
-    alloc: Global,
+    net: &HostRuntime,
     trial: Trial,
     seat: &Arc<Seat, Global>,
     link: &mut L,
@@ -65,7 +65,7 @@ fn plays<R: Threads + Wait + Clock + Send + Sync, L: Link + Send>(
 ) -> io::Result<bool> {
     match trial {
         Trial::EarlyRing => Ok(keeps_early_rings(rt, seat, link)),
-        Trial::RingsAndStop => ends_each_wait(rt, alloc, seat, link),
+        Trial::RingsAndStop => ends_each_wait(rt, net, seat, link),
         Trial::BothWays => passes_both_ways(link, &mut far),
         Trial::SmallSlices => keeps_small_slices(link, &mut far),
         Trial::ClosedPeer => sees_the_end(link, far),
@@ -83,7 +83,7 @@ fn is_right<R: Threads + Wait + Clock + Copy + Drop + Send + Sync>(
     let seat = make_seat(net)?;
     let (far, near) = pair(net)?;
     let mut link = ViewerTcpLink::new(rt, net.alloc(), near, &seat, 60)?;
-    plays(&rt, net.alloc(), trial, &seat, &mut link, far)
+    plays(&rt, net, trial, &seat, &mut link, far)
 }
 
 /// Each trial comes out right, over its own link. A trial that doesn't is named.
