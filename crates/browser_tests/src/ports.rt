@@ -9,7 +9,7 @@ use crate::port::{AROUND, FOUND, WebPort, seat};
 use connections::{Lobby, Seat, TcpDoor, WebPorter};
 use link::{Gave, Link, Took};
 use roles::Role;
-use run_traits::{Door, NoLog};
+use run_traits::{Door, LeftLink, NoLog};
 use std::alloc::Global;
 use std::net::TcpStream;
 use std::sync::atomic::AtomicU64;
@@ -98,7 +98,7 @@ fn greets<D: Door>(door: &mut D) -> u64 {
                 break;
             }
         }
-        door.left(link, 0, Ok(()));
+        door.left(LeftLink::new(link), 0, Ok(()));
     }
     u64::MAX
 }

@@ -13,7 +13,7 @@ use crate::port::{make_door, make_lobby, make_porter};
 use crate::sockets::VERSION;
 use connections::TcpPorter;
 use link::{Gave, Link, Took};
-use run_traits::Door;
+use run_traits::{Door, LeftLink};
 use std::net::IpAddr;
 use std::sync::atomic::AtomicU64;
 use std::sync::{Arc, Wait};
@@ -113,7 +113,7 @@ fn serve_all<D: Door>(door: &mut D) -> Count {
             break;
         };
         serve(&mut link, &mut count);
-        door.left(link, 0, Ok(()));
+        door.left(LeftLink::new(link), 0, Ok(()));
     }
     count
 }

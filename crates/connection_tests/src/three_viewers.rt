@@ -5,7 +5,7 @@ use crate::bytes::{GREETING_AND_UPDATE, GREETING_LEN, HELLO_AND_ASK, HELLO_LEN};
 use crate::hoard::Hoard;
 use crate::wire::{Peer, Wire};
 use fault::Fault;
-use run_traits::{Door, PlaceCount};
+use run_traits::{Door, LeftLink, PlaceCount};
 use std::alloc::Global;
 use std::sync::Arc;
 
@@ -69,9 +69,12 @@ impl Door for Viewers {
         &self.count
     }
 
-    fn left(&mut self, link: Wire, _answers: u64, why: Result<(), Fault>) {
+    fn left(&mut self, viewer: LeftLink<Wire>, _answers: u64, why: Result<(), Fault>)
+        ensures { ⊤ }
+    {
         self.hoard = None;
-        let viewer = self.board.number();
-        self.board.leave(ends_right(viewer, &why) && link.given() == given_to(viewer));
+        let number = self.board.number();
+        let is_given = viewer.look().given() == given_to(number);
+        self.board.leave(ends_right(number, &why) && is_given);
     }
 }

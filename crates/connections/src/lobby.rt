@@ -13,7 +13,7 @@ use fault::Fault;
 use link::Link;
 use roles::Role;
 use run_control::Entry;
-use run_traits::{Door, Event, Log, Parting, PlaceCount, PlaceId, Visit, Way};
+use run_traits::{Door, Event, LeftLink, Log, Parting, PlaceCount, PlaceId, Visit, Way};
 use std::alloc::{AllocError, Global};
 use std::io;
 use std::net::SocketAddr;
@@ -367,13 +367,16 @@ impl<R: Wait + Clock + Drop + Copy + Send, G: Log + Drop + Send> Door for TcpDoo
     }
 
     /// Closes the connection before the place becomes free.
-    fn left(&mut self, mut viewer: ViewerLink<R>, answers: u64, why: Result<(), Fault>) {
+    fn left(&mut self, mut viewer: LeftLink<ViewerLink<R>>, answers: u64, why: Result<(), Fault>)
+        ensures { ⊤ }
+    {
         // This sends the answer to a browser's close frame.
         viewer.flush();
-        let connection = connection_of(&viewer);
+        let link = viewer.look();
+        let connection = connection_of(link);
         let visit = Visit {
             why,
-            parting: parting_of(&viewer),
+            parting: parting_of(link),
             served: connection.age(),
             answers,
             bytes: connection.sent(),

@@ -4,5 +4,6 @@ mod OneHistory
 mod Places
 mod Promising
 mod Telling
+mod Trailing
 mod Visiting
 mod Watching

@@ -3,4 +3,4 @@ pub mod Tellings
 pub mod Visits
 pub mod Promise
 pub mod History
-pub mod Written
+pub mod Links

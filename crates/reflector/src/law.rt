@@ -1,6 +1,8 @@
 //! Laws about the visits of a place.
 
-ghost use Rattle.std.specs.Prelude.{◌≡◌, ◌≤◌, ◌+◌, ◌∷◌, [], List, length};
+ghost use Rattle.std.specs.Prelude.{◌≡◌, ◌≤◌, ◌+◌, ◌++◌, ◌∷◌, [], List, length};
+ghost use Rattle.link.specs.Links.{LinkState};
+ghost use Rattle.run_traits.specs.Trails.{KeepsTrail};
 ghost use Rattle.raster.specs.Update.{Update, view};
 ghost use Rattle.reflect_core.specs.Sequential.{Begins, Shared};
 ghost use Rattle.reflect_core.specs.Sequential as step;
@@ -11,7 +13,8 @@ ghost use Rattle.reflector.specs.History.{IsOneHistory, LooksFollow, own_steps};
 ghost use Rattle.roles.specs.declared.role.Role as roles;
 ghost use Rattle.roles.specs.declared.role.Role.TheVariants.{View};
 ghost use Rattle.viewer_session.specs.Viewer.{Setup};
-ghost use Rattle.reflector.specs.Promise.{KeepsPromise};
+ghost use Rattle.reflector.specs.Promise.{IsServedWhole, KeepsPromise};
+ghost use Rattle.reflector.specs.Links.{AreReceivedOver};
 ghost use Rattle.reflector.specs.Visits.{AllBegin, AreVisits, At, HasVisits, IsReceived};
 
 use link::StopFlag;
@@ -32,6 +35,18 @@ pub fn visits_keep_the_promise<S: ScreenSource, K: InputSink, D: Door, F: StopFl
     ensures { (stop : F) (s : Setup) (role : roles.Role) (old new : At D S) → s.w ≤ 4096 → s.h ≤ 4096
         → HasVisits D.lets_in D.sees_off (λ source_old source_new sent_old sent_new why left. IsReceived S.looks S.cuts S.may_end (F.was_set stop) K.may_refuse S.known s role source_old source_new sent_old sent_new why left) old new
         → KeepsPromise D.lets_in D.sees_off S.known s role old new }
+{}
+
+/// Where the door of a place keeps a trail of its viewers' links, the visits of the place are over those links: the trail
+/// of the door that is given back goes on with two links for each visit, the link as it came, unused, and then as it was
+/// left. This is so of what was done in each visit, and of the promise that is kept.
+pub fn visits_are_over_the_links_of_the_trail<S: ScreenSource, K: InputSink, D: Door, F: StopFlag>()
+    ensures received { (trail : D → List LinkState) (stop : F) (s : Setup) (role : roles.Role) (old new : At D S) → KeepsTrail D.lets_in D.sees_off trail
+        → HasVisits D.lets_in D.sees_off (λ source_old source_new sent_old sent_new why left. IsReceived S.looks S.cuts S.may_end (F.was_set stop) K.may_refuse S.known s role source_old source_new sent_old sent_new why left) old new
+        → (links : List LinkState) × (trail new.door ≡ trail old.door ++ links) × AreReceivedOver (λ source_old source_new sent_old sent_new why left. IsReceived S.looks S.cuts S.may_end (F.was_set stop) K.may_refuse S.known s role source_old source_new sent_old sent_new why left) old.source old.sent links new.source new.sent }
+    ensures whole { (trail : D → List LinkState) (us : List Update) (s : Setup) (role : roles.Role) (old new : At D S) → KeepsTrail D.lets_in D.sees_off trail
+        → HasVisits D.lets_in D.sees_off (λ source_old source_new sent_old sent_new why left. IsServedWhole us s role sent_old sent_new left) old new
+        → (links : List LinkState) × (trail new.door ≡ trail old.door ++ links) × AreReceivedOver (λ source_old source_new sent_old sent_new why left. IsServedWhole us s role sent_old sent_new left) old.source old.sent links new.source new.sent }
 {}
 
 /// A place that keeps the promise to viewers that only look on sends nothing of their input, nor a release.

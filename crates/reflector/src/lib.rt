@@ -21,18 +21,17 @@ mod stages;
 mod teller;
 mod turns;
 mod writer;
-mod written;
 
 pub use input_counts::InputCounts;
 pub use join::join_place;
 pub use law::{
     looks_and_cuts_are_one_history, viewers_that_look_on_send_nothing, visits_are_of_one_list,
-    visits_keep_the_promise,
+    visits_are_over_the_links_of_the_trail, visits_keep_the_promise,
 };
 pub use place::{OfPlace, Place, PlaceHandle};
 pub use run::{Running, run_all};
+pub use run_traits::Written;
 pub use session_maker::SessionMaker;
 pub use stages::{BusyPlace, FreePlace, Key, LeftPlace, MetPlace, PlaceBeginning};
 pub use teller::{BusyTeller, FreeTeller, TellerBeginning, TellerKey};
 pub use turns::CameLink;
-pub use written::Written;

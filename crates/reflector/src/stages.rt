@@ -15,7 +15,7 @@ use fault::Fault;
 use link::StopFlag;
 use reflect_core::ScreenSource;
 use roles::InputSink;
-use run_traits::Door;
+use run_traits::{Door, LeftLink};
 use std::marker::PhantomData;
 use std::snapshot::Snapshot;
 use viewer_server::{Beginning, Visit};
@@ -213,7 +213,7 @@ impl<'a, D: Door, S: ScreenSource, K: InputSink, F: StopFlag, T: Drop> FreePlace
                 key,
             })),
             Err(fault) => {
-                door.left(link, 0, Err(fault));
+                door.left(LeftLink::new(link), 0, Err(fault));
                 Ok(Err(FreePlace {
                     maker,
                     stop,
@@ -351,7 +351,7 @@ impl<'a, 'b, D: Door, S: ScreenSource, K: InputSink, F: StopFlag, T: Drop> BusyP
         } = self;
         let answers = visit.answers();
         let (link, source, sink, _) = visit.into_parts(visit_key);
-        door.left(link, answers, why);
+        door.left(LeftLink::new(link), answers, why);
         FreePlace {
             maker,
             stop,

@@ -10,15 +10,15 @@ ghost use Rattle.host_writer.specs.Dropping.{IsCounted};
 ghost use Rattle.host_writer.specs.Saying.{begun};
 ghost use Rattle.host_writer.specs.Writing.{Writes, whole_request};
 ghost use Rattle.reflector.specs.Tellings.{AreToldInTurn, HasTold, IsTelling, desk};
-ghost use Rattle.reflector.specs.Written.{links_in};
+ghost use Rattle.run_traits.specs.Written.{links_in};
 
 use crate::turns::CameLink;
-use crate::written::Written;
 use fault::Fault;
 use host_writer::{DropCount, InputSource, TellBeginning, Telling};
 use link::Link;
 use reflect_core::ScreenSource;
 use roles::Strokes;
+use run_traits::Written;
 use std::marker::PhantomData;
 use std::snapshot::Snapshot;
 

@@ -6,13 +6,12 @@ ghost use Rattle.raster.specs.Size.{IsScreenSize};
 ghost use Rattle.input_relay.specs.Ends.{host_of, taken_of};
 ghost use Rattle.host_writer.specs.Dropping.{IsCounted};
 ghost use Rattle.reflector.specs.Tellings.{HasTold, desk};
-ghost use Rattle.reflector.specs.Written.{links_in};
+ghost use Rattle.run_traits.specs.Written.{links_in};
 
 use crate::context::RunContext;
 use crate::input_counts::{InputCounts, Untold};
 use crate::teller::{FreeTeller, TellerBeginning};
 use crate::turns::Turns;
-use crate::written::Written;
 use fault::Fault;
 use host_turns::Handover;
 use host_writer::{DropCount, InputSource, run_writer};
@@ -20,7 +19,7 @@ use input_relay::Taker;
 use link::{Link, Rest};
 use reflect_core::ScreenSource;
 use roles::Strokes;
-use run_traits::Alarm;
+use run_traits::{Alarm, Written};
 use std::alloc::Global;
 use std::snapshot::Snapshot;
 use std::sync::{Arc, Wait};
@@ -51,7 +50,7 @@ impl<L: Link, S: ScreenSource, R: Wait + Drop> Promise<HostsTold<L, R>> for OfTa
     ghost use Rattle.input_relay.specs.Ends.{host_of, taken_of};
     ghost use Rattle.host_writer.specs.Dropping.{IsCounted};
     ghost use Rattle.reflector.specs.Tellings.{HasTold, desk};
-    ghost use Rattle.reflector.specs.Written.{links_in};
+    ghost use Rattle.run_traits.specs.Written.{links_in};
 
     ghost kept_by = { λ promise told. (host_of told.taker ≡ host_of promise.taker.value) × (IsCounted (taken_of promise.taker.value) promise.strokes.value 0 → IsCounted (taken_of told.taker) told.strokes told.dropped) × HasTold S.looks S.width S.height (desk [] promise.source.value (taken_of promise.taker.value) promise.strokes.value) (links_in L.state told.written) (taken_of told.taker) told.strokes };
 }

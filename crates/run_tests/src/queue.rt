@@ -7,7 +7,7 @@ use crate::wire::Wire;
 use fault::Fault;
 use host_turns::Hosts;
 use rfb_wire::Joined;
-use run_traits::{Door, PlaceCount};
+use run_traits::{Door, LeftLink, PlaceCount};
 use std::alloc::Global;
 use std::sync::Arc;
 
@@ -96,9 +96,11 @@ impl Door for Queue {
         &self.count
     }
 
-    fn left(&mut self, viewer: Wire, _answers: u64, why: Result<(), Fault>) {
+    fn left(&mut self, viewer: LeftLink<Wire>, _answers: u64, why: Result<(), Fault>)
+        ensures { ⊤ }
+    {
         let greeting = self.board.view.greeting;
-        let is_right = goes_right(&viewer.peer, greeting, &why);
+        let is_right = goes_right(&viewer.look().peer, greeting, &why);
         self.board.check(is_right);
         self.board.leave(self.place);
     }

@@ -1,1 +1,3 @@
+pub mod Trails
 pub mod Unused
+pub mod Written

@@ -7,6 +7,7 @@ ghost use Rattle.roles.specs.declared.role.Role.{Role};
 ghost use Rattle.run_traits.specs.Unused.{unused};
 
 use crate::count::PlaceCount;
+use crate::left_link::LeftLink;
 use fault::Fault;
 use link::Link;
 
@@ -35,7 +36,7 @@ pub trait Door: Drop {
     fn count(&self) -> &PlaceCount;
 
     /// Takes back the link of a viewer that was served to its end, and is told how many answers were begun for it and
-    /// how serving ended.
-    fn left(&mut self, viewer: Self::Viewer, answers: u64, why: Result<(), Fault>)
-        ensures { sees_off self.old (Self.Viewer.state viewer) why self.new };
+    /// how serving ended. No more is given over that link.
+    fn left(&mut self, viewer: LeftLink<Self::Viewer>, answers: u64, why: Result<(), Fault>)
+        ensures { sees_off self.old (Self.Viewer.state viewer.link) why self.new };
 }

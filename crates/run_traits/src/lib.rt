@@ -9,12 +9,16 @@ mod alarm;
 mod count;
 mod door;
 mod event;
+mod left_link;
 mod ringing;
 mod stop;
+mod written;
 
 pub use alarm::{Alarm, NoAlarm};
 pub use count::{HostCount, PlaceCount, clock_millis};
 pub use door::Door;
 pub use event::{Event, Log, NoLog, Parting, PlaceId, Visit, Way};
+pub use left_link::LeftLink;
 pub use ringing::Ringing;
 pub use stop::Stop;
+pub use written::Written;

@@ -9,7 +9,7 @@ use Rattle.input_relay.specs.Ends.{taken_of}
 use Rattle.host_writer.specs.Writing.{taken_from}
 use Rattle.roles.specs.Strokes.{StrokesStand}
 use Rattle.reflector.specs.Tellings.{AreToldInTurn, TellsHosts}
-use Rattle.reflector.specs.Written.{links_in}
+use Rattle.run_traits.specs.Written.{links_in}
 use Rattle.reflector.proofs.InTurn.{in_turn}
 use Rattle.reflector.proofs.Telling.{tells_from}
 use Rattle.reflector.proofs.Places.{all_but_first, all_of_senders}

@@ -3,8 +3,8 @@ use denote.Param.Send.{IsSend, sendable}
 use denote.RattleType.{RattleType}
 use denote.Param.SendFields.{as_row_send, declared_send}
 use Rattle.std.specs.contracts.snapshot.Snapshot as snapshot
-use Rattle.reflector.specs.contracts.written.Trail as trail
-use Rattle.reflector.specs.contracts.written.Written as written
+use Rattle.run_traits.specs.contracts.written.Trail as trail
+use Rattle.run_traits.specs.contracts.written.Written as written
 use Rattle.reflector.specs.contracts.writer.HostsTold as told
 use Rattle.input_relay.specs.contracts.queue.Taker as taken
 use Rattle.input_relay.proofs.queue.Taker.TheSendSync as taker

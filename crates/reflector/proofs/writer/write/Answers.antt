@@ -2,7 +2,7 @@
 use Rattle.std.proofs.Common.{refl, ap, sym, ◌∙◌}
 use Rattle.run_traits.specs.Unused.{unused}
 use Rattle.reflector.specs.Tellings.{desk}
-use Rattle.reflector.specs.Written.{links_in}
+use Rattle.run_traits.specs.Written.{links_in}
 use Rattle.reflector.proofs.Telling.{noted_twice, telling_on, told_all}
 use Rattle.reflector.proofs.writer.write.Goals as goal
 

@@ -1,7 +1,7 @@
 use Rattle.std.proofs.Common.{◌≡◌}
 use Rattle.host_writer.specs.Dropping.{IsCounted}
 use Rattle.reflector.specs.Tellings.{IsTelling, desk}
-use Rattle.reflector.specs.Written.{links_in}
+use Rattle.run_traits.specs.Written.{links_in}
 use Rattle.reflector.proofs.writer.write.Given as goal
 
 -- The taker stays one of the same relay, whichever host is told, and the hosts so far were told what it took.

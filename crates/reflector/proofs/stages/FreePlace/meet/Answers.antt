@@ -17,7 +17,7 @@ invariant_of-result-in-Ok-clause-lawful g c = ∥∥₁_map c.args.self.lawful (
 pub invariant_of-result-in-Err-clause-lawful : goal.invariant_of-result-in-Err-clause-lawful
 invariant_of-result-in-Err-clause-lawful g c = ∥∥₁_map c.args.self.lawful (λ k.
     visiting_on _ _ _ _ _ _ _ _ _ _ _ k c.in-Some.ensures.lets_in
-    (received_none g.S.ScreenSource.looks g.S.ScreenSource.cuts g.S.ScreenSource.may_end _ g.K.InputSink.may_refuse g.S.ScreenSource.known _ _ _ _ _ _ c.in-Err.ensures.err c.in-Some.ensures.came) c.left.ensures)
+    (received_none g.S.ScreenSource.looks g.S.ScreenSource.cuts g.S.ScreenSource.may_end _ g.K.InputSink.may_refuse g.S.ScreenSource.known _ _ _ _ _ _ c.in-Err.ensures.err c.in-Some.ensures.came) (rw c.new.ensures at c.left.ensures))
 
 pub returns-in-Ok-clause-session : goal.returns-in-Ok-clause-session
 returns-in-Ok-clause-session g c = let maker = c.args.self.maker.now in c.in-Ok.ensures.stands (setup_of maker.width maker.height maker.name.items maker.runs) refl refl refl refl

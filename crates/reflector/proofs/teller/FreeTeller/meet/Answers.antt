@@ -1,6 +1,6 @@
 -- The link that came is noted, and the telling begins with what the teller had.
 use Rattle.std.proofs.Math.Logic.{∥∥₁_map}
-use Rattle.reflector.specs.Written.{links_in}
+use Rattle.run_traits.specs.Written.{links_in}
 use Rattle.reflector.proofs.teller.FreeTeller.meet.Goals as goal
 
 pub invariant_of-busy-clause-fresh : goal.invariant_of-busy-clause-fresh

@@ -1,10 +1,10 @@
--- The links that hosts were told over, as they were noted (own).
+-- The links that were noted, one after another (own).
 use Rattle.std.specs.Prelude.{List, [], ◌∷◌, ◌++◌}
 use Rattle.link.specs.Links.{LinkState}
-use Rattle.reflector.specs.declared.written.Trail.{Trail}
-use Rattle.reflector.specs.declared.written.Trail.TheOpen.{Trail-F, Nothing, Then}
-use Rattle.reflector.specs.declared.written.Trail.TheFolds.{fold-Trail}
-use Rattle.reflector.specs.declared.written.Written.{Written}
+use Rattle.run_traits.specs.declared.written.Trail.{Trail}
+use Rattle.run_traits.specs.declared.written.Trail.TheOpen.{Trail-F, Nothing, Then}
+use Rattle.run_traits.specs.declared.written.Trail.TheFolds.{fold-Trail}
+use Rattle.run_traits.specs.declared.written.Written.{Written}
 
 module _ {L : Type 0} (state : L → LinkState) where
   -- The links with one more, after those before it.

@@ -1,7 +1,7 @@
-//! What the hosts' links were given, for clauses.
+//! What links were given, for clauses.
 
 ghost use Rattle.std.specs.Prelude.{◌≡◌, [], ◌∷◌, ◌++◌};
-ghost use Rattle.reflector.specs.Written.{links_in};
+ghost use Rattle.run_traits.specs.Written.{links_in};
 
 use link::Link;
 use std::mem;
@@ -16,8 +16,8 @@ enum Trail<L> {
     Then(Snapshot<Trail<L>>, Snapshot<L>),
 }
 
-/// The links over which hosts were told, one after another: each as it came, and then as it was left. At run time it
-/// has no bytes: only clauses read it (`links_in`).
+/// The links over which hosts were told, or viewers were served, one after another: each as it came, and then as it was
+/// left. At run time it has no bytes: only clauses read it (`links_in`).
 #[derive(Drop)]
 pub struct Written<L> {
     trail: Snapshot<Trail<L>>,
@@ -25,7 +25,7 @@ pub struct Written<L> {
 
 impl<L: Link> Written<L> {
     /// No link was noted yet.
-    pub(crate) fn new() -> Written<L>
+    pub fn new() -> Written<L>
         ensures { links_in L.state result ≡ [] }
     {
         Written {
@@ -34,7 +34,7 @@ impl<L: Link> Written<L> {
     }
 
     /// Notes this link, as it is now, after those before.
-    pub(crate) fn note(&mut self, link: &L)
+    pub fn note(&mut self, link: &L)
         ensures { links_in L.state self.new ≡ links_in L.state self.old ++ L.state link.now ∷ [] }
     {
         let before = mem::replace(&mut self.trail, Snapshot::of(&Trail::Nothing));
