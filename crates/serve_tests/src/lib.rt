@@ -1,9 +1,22 @@
-//! Tests of `serve` over loopback alone, a host and a viewer in threads, and `serve` between them, in which each wait
-//! ends; of the pause that it makes; and of the lines that `command_line` reads.
+//! Tests of `serve` over loopback alone, in which each wait ends: scenes, with a host and a viewer in threads and
+//! `serve` between them; plays, in which one thread is several viewers, browsers, machines, an operator and systemd;
+//! the pause that it makes; and the lines that `command_line` reads.
 #![tactic(auto)]
 
 #[cfg(test)]
+mod actors;
+#[cfg(test)]
+mod again;
+#[cfg(test)]
+mod asks;
+#[cfg(test)]
+mod binds;
+#[cfg(test)]
+mod company;
+#[cfg(test)]
 mod control;
+#[cfg(test)]
+mod deeds;
 #[cfg(test)]
 mod ending;
 #[cfg(test)]
@@ -21,11 +34,17 @@ mod meeting;
 #[cfg(test)]
 mod names;
 #[cfg(test)]
+mod notices;
+#[cfg(test)]
 mod operator;
 #[cfg(test)]
 mod options;
 #[cfg(test)]
+mod origins;
+#[cfg(test)]
 mod pauses;
+#[cfg(test)]
+mod play;
 #[cfg(test)]
 mod proxied;
 #[cfg(test)]
@@ -34,6 +53,10 @@ mod refusals;
 mod room;
 #[cfg(test)]
 mod scene;
+#[cfg(test)]
+mod service;
+#[cfg(test)]
+mod sockets;
 #[cfg(test)]
 mod steps;
 #[cfg(test)]

@@ -56,9 +56,11 @@ pub(crate) fn free_port<R: Net<Stream = TcpStream, Listener = TcpListener>>(rt: 
     }
 }
 
-/// Connects as soon as a program listens at the port.
-pub(crate) fn connect<R: Net<Stream = TcpStream> + Clock>(rt: &R, port: u16) -> Option<TcpStream> {
-    let address = SocketAddr::from((Ipv4Addr::LOCALHOST, port));
+/// Connects as soon as a program listens at this address.
+fn connect_to<R: Net<Stream = TcpStream> + Clock>(
+    rt: &R,
+    address: SocketAddr,
+) -> Option<TcpStream> {
     for _ in 0..TRIES {
         if let Ok(stream) = TcpStream::connect(rt, address) {
             let _ = is_patient(&stream);
@@ -67,6 +69,24 @@ pub(crate) fn connect<R: Net<Stream = TcpStream> + Clock>(rt: &R, port: u16) -> 
         thread::sleep(rt, Duration::from_millis(10));
     }
     None
+}
+
+/// Connects as soon as a program listens at the port.
+pub(crate) fn connect<R: Net<Stream = TcpStream> + Clock>(rt: &R, port: u16) -> Option<TcpStream> {
+    connect_to(rt, SocketAddr::from((Ipv4Addr::LOCALHOST, port)))
+}
+
+/// Another address of this machine, with this port.
+fn beside(port: u16) -> SocketAddr {
+    SocketAddr::from((Ipv4Addr::new(127, 0, 0, 2), port))
+}
+
+/// Connects as soon as a program listens at the port on another address of this machine.
+pub(crate) fn connect_beside<R: Net<Stream = TcpStream> + Clock>(
+    rt: &R,
+    port: u16,
+) -> Option<TcpStream> {
+    connect_to(rt, beside(port))
 }
 
 /// Whether reads of this connection fail that wait too long, from now on.
@@ -103,11 +123,27 @@ pub(crate) fn asks(stream: &mut TcpStream, request: &[u8], answer: &mut [u8]) ->
     sends(stream, request) && stream.read_exact(answer).is_ok()
 }
 
-/// Whether nothing listens at this port on another address of this machine.
-pub(crate) fn is_closed_beside<R: Net<Stream = TcpStream>>(rt: &R, port: u16) -> bool {
-    let beside = SocketAddr::from((Ipv4Addr::new(127, 0, 0, 2), port));
-    match TcpStream::connect(rt, beside) {
+/// Whether nothing listens at this address.
+fn is_closed<R: Net<Stream = TcpStream>>(rt: &R, address: SocketAddr) -> bool {
+    match TcpStream::connect(rt, address) {
         Ok(_) => false,
         Err(error) => error.kind() == ErrorKind::ConnectionRefused,
     }
+}
+
+/// Whether nothing listens at this port on another address of this machine.
+pub(crate) fn is_closed_beside<R: Net<Stream = TcpStream>>(rt: &R, port: u16) -> bool {
+    is_closed(rt, beside(port))
+}
+
+/// Whether nothing listens at this port in time.
+pub(crate) fn is_closed_here<R: Net<Stream = TcpStream> + Clock>(rt: &R, port: u16) -> bool {
+    let address = SocketAddr::from((Ipv4Addr::LOCALHOST, port));
+    for _ in 0..TRIES {
+        if is_closed(rt, address) {
+            return true;
+        }
+        thread::sleep(rt, Duration::from_millis(10));
+    }
+    false
 }

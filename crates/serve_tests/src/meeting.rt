@@ -59,6 +59,45 @@ const SCENES: &[Scene] = &[
         status: FAULT,
         lines: &["fault 21", "reflectord: can't listen on 192.0.2.1 port "],
     },
+    Scene {
+        name: "an address that is another machine's, for all",
+        words: "--bind 192.0.2.1 --host 127.0.0.1:|first|",
+        is_taken: false,
+        hosts: &[],
+        full: &[],
+        view: &[],
+        status: FAULT,
+        lines: &[
+            "fault 21",
+            "reflectord: can't listen on 192.0.2.1 port |full| for viewers with full control: ",
+        ],
+    },
+    Scene {
+        name: "an address that is another machine's, for those that look on",
+        words: "--bind 192.0.2.1 --full-bind 127.0.0.1 --host 127.0.0.1:|first|",
+        is_taken: false,
+        hosts: &[],
+        full: &[],
+        view: &[],
+        status: FAULT,
+        lines: &[
+            "fault 21",
+            "reflectord: can't listen on 192.0.2.1 port |view| for viewers that only look on: ",
+        ],
+    },
+    Scene {
+        name: "an address that is another machine's, for machines",
+        words: "--metrics 192.0.2.1:9100 --host 127.0.0.1:|first|",
+        is_taken: false,
+        hosts: &[],
+        full: &[],
+        view: &[],
+        status: FAULT,
+        lines: &[
+            "fault 21",
+            "reflectord: can't listen on 192.0.2.1:9100 for machines: ",
+        ],
+    },
     // Its reason is told, and forges no line.
     Scene {
         name: "a host that refuses the connection",

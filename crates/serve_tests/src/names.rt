@@ -102,6 +102,23 @@ const SCENES: &[Scene] = &[
             "reflectord: there is no address for the host desk:|first|: ",
         ],
     },
+    // The host is at the fifth of its addresses, of which four are tried.
+    Scene {
+        name: "a name of five addresses",
+        words: "--log --host desks:|first|",
+        is_taken: false,
+        hosts: &[],
+        full: &[],
+        view: &[],
+        status: FAULT,
+        lines: &[
+            "listening role=full address=127.0.0.1:|full| places=1",
+            "listening role=view address=127.0.0.1:|view| places=1",
+            "host-tried address=127.0.0.5:|first| why=\"connection refused\"",
+            "fault 21",
+            "reflectord: can't connect to the host desks:|first|: ",
+        ],
+    },
     Scene {
         name: "a text that says nowhere where a host is",
         words: "--again 1 --host 127.0.0.1::5907",

@@ -18,7 +18,7 @@ const LONG: u64 = 20;
 
 /// A connection to the run that has this port, where an operator is heard: at a file of the folder that the test runs
 /// in.
-fn connect<R>(ear: &Ear<R>, port: u16) -> io::Result<UnixStream>
+pub(crate) fn connect<R>(ear: &Ear<R>, port: u16) -> io::Result<UnixStream>
 where
     R: Net<Stream = TcpStream, Listener = TcpListener> + Drop,
 {
@@ -36,7 +36,7 @@ fn is_read(mut stream: &UnixStream, text: &str, answer: &mut Vec<u8>) -> bool {
 }
 
 /// The answer to this text between bars.
-fn answer<R>(ear: &Ear<R>, port: u16, text: &str) -> Result<String, AllocError>
+pub(crate) fn answer<R>(ear: &Ear<R>, port: u16, text: &str) -> Result<String, AllocError>
 where
     R: Net<Stream = TcpStream, Listener = TcpListener> + Drop,
 {

@@ -33,6 +33,12 @@ pub(crate) const NO_HOST: &Refusal = &Refusal {
     told: b"RFB 003.008\n\0\0\0\0\x0Bno host yet",
 };
 
+/// It would only look on, and comes before there is a host.
+pub(crate) const NO_HOST_TO_VIEW: &Refusal = &Refusal {
+    line: "no-host role=view address=",
+    told: b"RFB 003.008\n\0\0\0\0\x0Bno host yet",
+};
+
 /// It comes while no viewer is let in.
 pub(crate) const NO_ENTRY: &Refusal = &Refusal {
     line: "no-entry role=full address=",

@@ -25,9 +25,14 @@ pub(crate) const FAULT: u8 = 3;
 /// How each line begins by which `serve` is told of a scene.
 const BEGIN: &str = "serve --full |full| --view |view| --full-places 1 --view-places 1 ";
 
-/// How the texts of a scene name its ports: those of the listeners of three hosts, one at which nothing listens, and
-/// those at which `serve` listens for viewers of each role.
-const NAMES: &[&str] = &["first", "second", "third", "nobody", "full", "view"];
+/// How many ports a scene has.
+pub(crate) const PORTS: usize = 9;
+
+/// How the texts of a scene name its ports: those of the listeners of three hosts, one at which nothing listens, those
+/// at which `serve` listens for viewers of each role, those for browsers, and the one for machines.
+const NAMES: &[&str] = &[
+    "first", "second", "third", "nobody", "full", "view", "web_full", "web_view", "metrics",
+];
 
 /// What `serve` is told, whom it meets, how it ends, and what it says. In its texts the name of a port stands for the
 /// port, between bars.
@@ -52,18 +57,18 @@ pub(crate) struct Scene {
 
 /// Three hosts that listen, and the ports in the order of their names.
 #[derive(Drop)]
-struct Stage {
-    hosts: [TcpListener; 3],
-    ports: [u16; 6],
+pub(crate) struct Stage {
+    pub(crate) hosts: [TcpListener; 3],
+    pub(crate) ports: [u16; PORTS],
 }
 
-/// Sets a stage for a scene.
-fn set<R: Net<Stream = TcpStream, Listener = TcpListener>>(
+/// Sets a stage, on which the port of full control may be taken.
+pub(crate) fn set<R: Net<Stream = TcpStream, Listener = TcpListener>>(
     rt: &R,
-    scene: &Scene,
+    is_taken: bool,
 ) -> io::Result<Stage> {
     let hosts = [listen(rt)?, listen(rt)?, listen(rt)?];
-    let ports = ports(rt, &hosts, scene.is_taken);
+    let ports = ports(rt, &hosts, is_taken);
     Ok(Stage { hosts, ports })
 }
 
@@ -72,7 +77,7 @@ fn ports<R: Net<Stream = TcpStream, Listener = TcpListener>>(
     rt: &R,
     hosts: &[TcpListener; 3],
     is_taken: bool,
-) -> [u16; 6] {
+) -> [u16; PORTS] {
     let [first, second, third] = hosts;
     let full = if is_taken {
         port_at(second)
@@ -86,11 +91,14 @@ fn ports<R: Net<Stream = TcpStream, Listener = TcpListener>>(
         free_port(rt),
         full,
         free_port(rt),
+        free_port(rt),
+        free_port(rt),
+        free_port(rt),
     ]
 }
 
 /// The port of this name.
-fn port_of(ports: &[u16; 6], name: &str) -> Option<u16> {
+pub(crate) fn port_of(ports: &[u16; PORTS], name: &str) -> Option<u16> {
     for (port, named) in ports.iter().zip(NAMES) {
         if *named == name {
             return Some(*port);
@@ -100,7 +108,7 @@ fn port_of(ports: &[u16; 6], name: &str) -> Option<u16> {
 }
 
 /// Whether a text is added to this one, with its ports.
-fn is_filled(ports: &[u16; 6], text: &str, out: &mut String) -> bool {
+pub(crate) fn is_filled(ports: &[u16; PORTS], text: &str, out: &mut String) -> bool {
     let mut is_filled = true;
     for piece in text.split('|') {
         let is_added = match port_of(ports, piece) {
@@ -113,7 +121,7 @@ fn is_filled(ports: &[u16; 6], text: &str, out: &mut String) -> bool {
 }
 
 /// Whether the lines are noted that have to come on standard error.
-fn are_noted(ports: &[u16; 6], lines: &[&str], out: &mut String) -> bool {
+pub(crate) fn are_noted(ports: &[u16; PORTS], lines: &[&str], out: &mut String) -> bool {
     let mut are_noted = true;
     for line in lines {
         are_noted = are_noted && is_filled(ports, line, out) && out.push_str("\n").is_ok();
@@ -160,7 +168,7 @@ where
         + Sync
         + 'static,
 {
-    match set(&rt, scene) {
+    match set(&rt, scene.is_taken) {
         Ok(stage) => is_played(rt, alloc, room, scene, &stage),
         Err(_) => false,
     }
@@ -206,7 +214,7 @@ where
         + Send
         + 'static,
 {
-    let [.., full, view] = stage.ports;
+    let [_, _, _, _, full, view, ..] = stage.ports;
     match part {
         0 => are_hosts_right(ear, scene.hosts, &stage.hosts),
         1 => are_visits_right(ear, &full_door(full), scene.full),
@@ -234,7 +242,13 @@ fn view_door(port: u16) -> Door {
 }
 
 /// Whether `serve` ends with its status.
-fn is_served<R>(rt: R, alloc: Global, room: &'static Room, scene: &Scene, ports: &[u16; 6]) -> bool
+fn is_served<R>(
+    rt: R,
+    alloc: Global,
+    room: &'static Room,
+    scene: &Scene,
+    ports: &[u16; PORTS],
+) -> bool
 where
     R: Net<Stream = TcpStream, Listener = TcpListener>
         + Threads
@@ -254,7 +268,7 @@ where
 }
 
 /// Whether no client connects to these hosts.
-fn are_left_alone(hosts: &[TcpListener]) -> bool {
+pub(crate) fn are_left_alone(hosts: &[TcpListener]) -> bool {
     let mut are_left_alone = true;
     for listener in hosts {
         let is_called = listener.set_nonblocking(true).is_err() || listener.accept().is_ok();

@@ -1,5 +1,6 @@
 //! What one end of a connection does, step by step.
 
+use crate::asks::reads_up_to;
 use crate::loopback::{VERSION, asks, hears, is_closed_beside, sends, update};
 use crate::operator::{is_answered, is_answered_of, is_done, is_removed};
 use crate::refusals::{Refusal, is_another_refused, is_refused};
@@ -54,6 +55,8 @@ pub(crate) enum Step {
     Slips(&'static [u8]),
     /// Is sent these bytes next.
     Hears(&'static [u8]),
+    /// Is sent bytes that end so at last.
+    HearsUpTo(&'static [u8]),
     /// As a host, with this screen at the end, meets a client that joins as it should.
     IsJoined(&'static [u8]),
     /// As a host, sends this update, and is asked anew.
@@ -68,6 +71,8 @@ pub(crate) enum Step {
     Asks(&'static [u8], u16),
     /// As a viewer, asks for what is new each time, and is shown the updates from this one to that one.
     Follows(u16, u16),
+    /// As a viewer that has asked for what is new, is shown this update, and asks anew.
+    Sees(u16),
     /// As a viewer, asks so each time until the answer isn't this black screen. It is the last of these then.
     AsksUntil(&'static [u8], &'static [u8], &'static [u8]),
     /// As a viewer, is told so that it isn't let in.
@@ -136,7 +141,7 @@ where
 }
 
 /// Whether this step goes as it should.
-fn is_taken<R>(ear: &Ear<R>, port: u16, stream: &mut TcpStream, step: &Step) -> bool
+pub(crate) fn is_taken<R>(ear: &Ear<R>, port: u16, stream: &mut TcpStream, step: &Step) -> bool
 where
     R: Net<Stream = TcpStream, Listener = TcpListener> + SocketFiles + Wait + Clock + Drop,
 {
@@ -156,6 +161,7 @@ where
         Step::Updates(from, to) => are_sent(ear, stream, from, to),
         Step::Follows(from, to) => follows(ear, stream, from, to),
         Step::IsQuiet => is_quiet(ear, stream),
+        Step::HearsUpTo(bytes) => reads_up_to(ear, stream, bytes),
         _ => match is_counted(ear, step) {
             Some(is_right) => is_right,
             None => is_said(stream, step),
@@ -188,6 +194,7 @@ fn is_said(stream: &mut TcpStream, step: &Step) -> bool {
         Step::IsGreeted(init) => is_greeted(stream, init),
         Step::IsShown(number) => is_shown(stream, number),
         Step::Asks(request, number) => is_update(stream, request, number),
+        Step::Sees(number) => hears(stream, &update(number)) && sends(stream, ASK_NEW),
         Step::AsksUntil(request, black, wanted) => asks_until(stream, request, black, wanted),
         Step::ShutsDown => stream.shutdown(Shutdown::Write).is_ok(),
         Step::IsLetGo => is_let_go(stream, false),

@@ -1,14 +1,15 @@
-//! What a runtime in a room hands on as it is: memory, random bytes and sockets that are files. It has no other files.
+//! What a runtime in a room hands on as it is: memory, random bytes and sockets that are files. It opens no
+//! other files.
 
 use crate::room::Ear;
 use std::alloc::{Allocator, Global};
 use std::fs::{File, Metadata, OpenOptions};
-use std::io;
 use std::io::ErrorKind;
 use std::os::fd::BorrowedFd;
 use std::os::unix::net::SocketAddr;
 use std::random::RandomSource;
 use std::rt::Files;
+use std::{fs, io};
 
 impl<R: Drop> Alloc for Ear<R> {
     type A = Global;
@@ -37,8 +38,14 @@ pub(crate) trait SocketFiles {
     /// What stands at this path.
     fn find(&self, path: &str) -> io::Result<Metadata>;
 
+    /// What a path leads to.
+    fn look(&self, path: &str) -> io::Result<Metadata>;
+
     /// Removes it.
     fn remove(&self, path: &str) -> io::Result<()>;
+
+    /// Puts a file of these bytes there.
+    fn put(&self, path: &str, bytes: &[u8]) -> io::Result<()>;
 }
 
 impl SocketFiles for HostRuntime {
@@ -50,8 +57,16 @@ impl SocketFiles for HostRuntime {
         self.symlink_metadata(path)
     }
 
+    fn look(&self, path: &str) -> io::Result<Metadata> {
+        self.metadata(path)
+    }
+
     fn remove(&self, path: &str) -> io::Result<()> {
         self.remove_file(path)
+    }
+
+    fn put(&self, path: &str, bytes: &[u8]) -> io::Result<()> {
+        fs::write(self, path, bytes)
     }
 }
 
@@ -68,8 +83,8 @@ impl<R: SocketFiles + Drop> Files for Ear<R> {
         none()
     }
 
-    fn metadata(&self, _path: &str) -> io::Result<Metadata> {
-        none()
+    fn metadata(&self, path: &str) -> io::Result<Metadata> {
+        self.rt.look(path)
     }
 
     fn symlink_metadata(&self, path: &str) -> io::Result<Metadata> {

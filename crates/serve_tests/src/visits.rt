@@ -69,7 +69,7 @@ fn is_visit_right<R>(ear: &Ear<R>, door: &Door, visit: &Visit) -> bool
 where
     R: Net<Stream = TcpStream, Listener = TcpListener> + SocketFiles + Wait + Clock + Drop,
 {
-    match enters(ear, door, visit.entry) {
+    match enters(ear, door.port, visit.entry) {
         Some(mut stream) => {
             let address = address_of(&stream);
             let is_right = wants_visit(ear, door, visit, address)
@@ -94,12 +94,12 @@ where
 }
 
 /// A viewer that comes in. Some before it may be sent back.
-fn enters<R>(ear: &Ear<R>, door: &Door, entry: Entry) -> Option<TcpStream>
+pub(crate) fn enters<R>(ear: &Ear<R>, port: u16, entry: Entry) -> Option<TcpStream>
 where
     R: Net<Stream = TcpStream, Listener = TcpListener> + Wait + Clock + Drop,
 {
     for _ in 0..TRIES {
-        let mut stream = connect(ear, door.port)?;
+        let mut stream = connect(ear, port)?;
         match is_sent_back(ear, entry, &mut stream) {
             Some(true) => {}
             Some(false) => return Some(stream),
