@@ -6,7 +6,7 @@ use crate::asks::{Ask, PORT, are_strangers_refused, is_told};
 use crate::browser::Browser;
 use crate::host::{INIT, KEY, UPDATE, VERSION, is_told_a_key};
 use crate::loopback::{free_port, listen};
-use serve::{Ports, serve};
+use serve::{Ports, Served, serve};
 use settings::Settings;
 use std::alloc::{AllocGlobal, Global};
 use std::env::Env;
@@ -172,7 +172,12 @@ where
     let host = format!(in alloc; "{}", host.local_addr()?)?;
     let bind = String::from_str(alloc, "127.0.0.1")?;
     let settings = settings(alloc, host, bind, ports);
-    Ok(serve(rt, alloc, &settings, &mut Ports::new(alloc)))
+    let Served {
+        status,
+        ran: _,
+        stopped: _,
+    } = serve(rt, alloc, &settings, &mut Ports::new(alloc));
+    Ok(status)
 }
 
 /// Whether the host is told what it should be, each browser is, and the run ends well.

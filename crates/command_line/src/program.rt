@@ -11,7 +11,7 @@ ghost use Rattle.settings.specs.declared.values.Settings.{Settings as Told};
 use crate::asking::ask;
 use crate::bad_line::BadLine;
 use crate::task::{Task, task_of};
-use serve::{Ports, Runtime, serve};
+use serve::{Ports, Runtime, Served, serve};
 use settings::Settings;
 use std::alloc::{AllocGlobal, Global};
 use std::env::Env;
@@ -85,7 +85,14 @@ where
         move |settings: Settings| -> u8
             requires { HasPlaces settings }
             ensures { IsStatus result }
-        { serve(rt, alloc, &settings, &mut Ports::new(alloc)) },
+        {
+            let Served {
+                status,
+                ran: _,
+                stopped: _,
+            } = serve(rt, alloc, &settings, &mut Ports::new(alloc));
+            status
+        },
         move || -> u8
             ensures { MayEndAScript result }
         { replay::replay(alloc, reader, writer) },

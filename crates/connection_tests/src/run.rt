@@ -96,6 +96,7 @@ where
         input,
     )?;
     let Running {
+        ran: _,
         result,
         links: _,
         hosts: _,

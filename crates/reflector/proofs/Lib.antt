@@ -1,3 +1,4 @@
+pub mod Courses
 mod Growing
 mod InTurn
 mod OneHistory

@@ -4,3 +4,4 @@ pub mod Visits
 pub mod Promise
 pub mod History
 pub mod Links
+pub mod Course

@@ -13,6 +13,7 @@ mod join;
 mod law;
 mod no_sender;
 mod place;
+mod ran;
 mod reader;
 mod run;
 mod seated;
@@ -29,6 +30,7 @@ pub use law::{
     visits_are_over_the_links_of_the_trail, visits_keep_the_promise,
 };
 pub use place::{OfPlace, Place, PlaceHandle};
+pub use ran::Ran;
 pub use run::{Running, run_all};
 pub use run_traits::Written;
 pub use session_maker::SessionMaker;

@@ -20,6 +20,7 @@ ghost use Rattle.reflector.specs.Visits.{IsOfScreen};
 use crate::context::RunContext;
 use crate::input_counts::InputCounts;
 use crate::place::{PlaceHandle, start_place};
+use crate::ran::{Ran, Told};
 use crate::reader::{HostsRead, ReaderHandle, start_reader};
 use crate::session_maker::SessionMaker;
 use crate::writer::{HostsTold, WriterHandle, start_writer};
@@ -34,12 +35,16 @@ use roles::{Role, Strokes};
 use run_traits::{Alarm, Door, Stop, Written};
 use shared_screen::{Naming, Opened, Publisher, Publishes, Watcher, shared};
 use std::alloc::Global;
+use std::marker::Brand;
+use std::snapshot::Snapshot;
 use std::sync::{Arc, Wait};
 use std::thread::Threads;
 use std::time::Clock;
 
 /// What a run leaves.
 pub struct Running<L, H, P, S: ScreenSource, D: Door, R: Wait + Drop> {
+    /// What shows that it was run, for whoever isn't handed the rest.
+    pub ran: Ran,
     /// The answer with which the run ended: of reading the last host, or of joining one.
     pub result: Result<(), Fault>,
     /// The link that each host was read of, in turn.
@@ -58,6 +63,27 @@ pub struct Running<L, H, P, S: ScreenSource, D: Door, R: Wait + Drop> {
     pub dropped: u64,
     /// The places, by their numbers. Each is still to be joined, and then gives back its watcher and its sender.
     pub places: Vec<PlaceHandle<S, D, R>>,
+}
+
+/// What the threads of a run leave: the fields of `Running`.
+struct Left<L, H, P, S: ScreenSource, D: Door, R: Wait + Drop> {
+    result: Result<(), Fault>,
+    links: Vec<L>,
+    hosts: H,
+    publisher: P,
+    written: Written<L>,
+    taker: Taker<R>,
+    strokes: Strokes,
+    dropped: u64,
+    places: Vec<PlaceHandle<S, D, R>>,
+}
+
+/// What a run begins with, for clauses: the first host, the doors with their roles, and the link that is read.
+#[derive(Drop)]
+struct Beginning<L, D> {
+    host: Snapshot<Joined>,
+    doors: Snapshot<Vec<(Role, D)>>,
+    link: Snapshot<L>,
 }
 
 /// The threads of a run.
@@ -162,7 +188,7 @@ where
 fn end_all<L, H, P, S, D, B, W, R>(
     context: &RunContext<R, B, W>,
     started: Started<L, H, P, S, D, R>,
-) -> Running<L, H, P, S, D, R>
+) -> Left<L, H, P, S, D, R>
 where
     L: Link,
     H: Hosts<L>,
@@ -198,7 +224,7 @@ where
         strokes,
         dropped,
     } = writer.join(&context.rt);
-    Running {
+    Left {
         result,
         links,
         hosts,
@@ -242,7 +268,7 @@ fn run_over<L, H, P, S, D, B, W, R>(
     doors: Vec<(Role, D)>,
     publisher: P,
     watchers: Vec<S>,
-) -> Result<Running<L, H, P, S, D, R>, Fault>
+) -> Result<Left<L, H, P, S, D, R>, Fault>
 where
     L: Link + Send + 'static,
     H: Hosts<L> + Send + 'static,
@@ -285,6 +311,56 @@ where
     }
 }
 
+/// Hands out what the threads of a run left, with what shows that it was run. `C` names what the run was.
+fn shown<C, J, L, H, D, R>(
+    began: &Beginning<L, D>,
+    runs: Runs,
+    left: Left<L, H, Publisher<J, R>, Watcher<J>, D, R>,
+) -> Running<L, H, Publisher<J, R>, Watcher<J>, D, R>
+where
+    C: Told,
+    J: Naming + Publishes,
+    L: Link,
+    H: Hosts<L>,
+    D: Door,
+    R: Wait + Drop,
+    requires { C.course ≡ record { host = began.now.host.value; form = runs; roles = map (λ door. door.0) began.now.doors.value.items; answer = left.result; link = L.state began.now.link.value; links = map L.state left.links.items; told = links_in L.state left.written; taken = taken_of left.taker; updates = puts_of left.publisher } }
+    ensures ran { result.ran.course ≡ C.course }
+    ensures result { result.result ≡ left.result }
+    ensures links { result.links ≡ left.links }
+    ensures hosts { result.hosts ≡ left.hosts }
+    ensures publisher { result.publisher ≡ left.publisher }
+    ensures written { result.written ≡ left.written }
+    ensures taker { result.taker ≡ left.taker }
+    ensures strokes { result.strokes ≡ left.strokes }
+    ensures dropped { result.dropped ≡ left.dropped }
+    ensures places { result.places ≡ left.places }
+{
+    let Left {
+        result,
+        links,
+        hosts,
+        publisher,
+        written,
+        taker,
+        strokes,
+        dropped,
+        places,
+    } = left;
+    Running {
+        ran: Ran::new::<C>(),
+        result,
+        links,
+        hosts,
+        publisher,
+        written,
+        taker,
+        strokes,
+        dropped,
+        places,
+    }
+}
+
 /// Runs a reflector: a first host that was joined, over its two links, then the hosts of a supply in turn, and the
 /// places of their viewers, each behind its door.
 ///
@@ -309,9 +385,13 @@ where
 /// is rung after each input. The hosts' writer goes on with each host that is read; what was cut short at the end of
 /// one host isn't written again. Meanwhile `input` tells how many inputs wait, and how many weren't told.
 ///
+/// No other call hands out what shows that a run was run. So a caller further up, which is handed that alone, knows
+/// that there was a run, and what it was (`ran`).
+///
 /// It fails with `Memory` where memory is refused or a thread can't be made, and with `NoPlace` where the shared screen
-/// has no place. Then nothing was put, and the threads that were started are told to end and aren't waited for. Once
-/// all threads are there, refused memory is an answer of the run.
+/// has no place. Then nothing was put, since the thread that reads the hosts is made last; no clause says so, because
+/// the publisher ends with what that thread was to do. The threads that were started are told to end and aren't waited
+/// for. Once all threads are there, refused memory is an answer of the run.
 pub fn run_all<J, L, H, D, B, W, R>(
     rt: R,
     alloc: Global,
@@ -351,8 +431,14 @@ where
     ensures doors { IfOk result (λ run. map (λ place. (place.promise.role, place.promise.door.value)) run.places.items ≡ doors.items) }
     ensures watchers { IfOk result (λ run. All (λ place. place.promise.watcher.value ≡ nothing_put) run.places.items) }
     ensures screen { IfOk result (λ run. All (λ place. IsOfScreen joined.w joined.h joined.name runs place.promise.width place.promise.height place.promise.name.value.items place.promise.runs) run.places.items) }
+    ensures ran { IfOk result (λ run. run.ran.course ≡ record { host = joined; form = runs; roles = map (λ door. door.0) doors.items; answer = run.result; link = L.state reader; links = map L.state run.links.items; told = links_in L.state run.written; taken = taken_of run.taker; updates = puts_of run.publisher }) }
     ensures err { IfErr result (λ fault. (fault ≡ Memory) ⊎ (fault ≡ NoPlace)) }
 {
+    let began = Beginning {
+        host: Snapshot::of(&joined),
+        doors: Snapshot::of(&doors),
+        link: Snapshot::of(&reader),
+    };
     let stop = Arc::new(alloc, Stop::new(Arc::try_clone(&everyone)?))?;
     let context = RunContext {
         rt,
@@ -371,7 +457,7 @@ where
         joined.h,
         doors.len() + 1,
     )?;
-    run_over(
+    let left = run_over(
         &context,
         (reader, writer),
         &joined,
@@ -379,5 +465,6 @@ where
         doors,
         publisher,
         watchers,
-    )
+    )?;
+    Ok(shown::<Brand, J, L, H, D, R>(&began, runs, left))
 }

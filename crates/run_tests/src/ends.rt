@@ -107,6 +107,7 @@ where
     requires relay { All (λ place. relay_of place.promise.sender.value ≡ host_of running.taker) running.places.items }
 {
     let Running {
+        ran: _,
         result,
         links,
         publisher,

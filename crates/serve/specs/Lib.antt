@@ -2,6 +2,7 @@ pub mod Browsers
 pub mod Doors
 pub mod Gravities
 pub mod Ports
+pub mod Runs
 pub mod States
 pub mod Statuses
 pub mod Stops

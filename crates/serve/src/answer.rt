@@ -1,22 +1,25 @@
 //! What `serve` says and answers.
 
-ghost use Rattle.std.specs.Prelude.{◌≡◌, Err, IfOk, MatchResult, OnOk, Result};
+ghost use Rattle.std.specs.Prelude.{◌≡◌, IfOk, IfSome, Result};
 ghost use Rattle.settings.specs.ByRole.{HasPlaces};
 ghost use Rattle.serve.specs.Statuses.{IsStatus, status_for};
 ghost use Rattle.serve.specs.Turns.{MayEnd};
 ghost use Rattle.serve.specs.Doors.{AreBoth};
 ghost use Rattle.serve.specs.Ports.{AsksForAll};
+ghost use Rattle.serve.specs.Runs.{IsEndBy, IsRunFor, IsServed, IsToldBy};
+ghost use Rattle.serve.specs.declared.ended.Ended.{Ended as End};
 ghost use Rattle.serve.specs.declared.trouble.Trouble.{Trouble as Failure};
 
 use crate::advice::Advice;
 use crate::bound::Ports;
+use crate::ended::{Ended, Served};
 use crate::journal::Journal;
 use crate::metrics::{open_ports, run_watched};
 use crate::runtime::Runtime;
 use crate::sentry::Sentry;
 use crate::status::status_of;
 use crate::surroundings::Surroundings;
-use crate::trouble::Trouble;
+use crate::trouble::{Stage, Trouble};
 use fault::Fault;
 use run_reports::Gravity;
 use settings::Settings;
@@ -39,54 +42,87 @@ fn say<R: Eprint + Clock + Wait + Drop>(
     journal.say(Gravity::Fault, format_args!("reflectord: {advice}"));
 }
 
-/// Runs, says what went wrong, if something did, and answers the exit status for how it ended.
-fn answer<R, F>(journal: &Journal<R>, settings: &Settings, runs: F) -> u8
-where
-    R: Eprint + Clock + Wait + Drop,
-    F: FnOnce() -> Result<(), Trouble>,
-    requires { F.pre runs }
-    ensures status { (ended : Result (Unit {0}) Failure) × F.post runs ended × MatchResult ended (λ _. result ≡ 0) (λ trouble. result ≡ status_for (Err trouble.fault)) }
-    ensures range { IsStatus result }
+/// The exit status for how a run ended. What went wrong in it is said, if something did.
+fn status_after<R: Eprint + Clock + Wait + Drop>(
+    journal: &Journal<R>,
+    settings: &Settings,
+    why: Result<(), Fault>,
+) -> u8
+    ensures { result ≡ status_for why }
 {
-    match runs() {
+    match why {
         Ok(()) => status_of(&Ok(())),
-        Err(trouble) => {
+        Err(fault) => {
+            let trouble = Trouble::new(Stage::Run, fault);
             say(journal, settings, &trouble);
             status_of(&Err(trouble.fault))
         }
     }
 }
 
-/// Reflects a host until it ends, and answers the exit status: 0 where the host ended between two messages, 4 where
-/// memory was refused, and 3 for every other fault, also where a port can't be bound or the host can't be reached or
-/// joined. What was at fault is said on standard error: `fault N`, and a line of plain words. Where the first host is
-/// to be tried again (`again`), it is never 0, unless an operator may stop the run (`control`).
+/// Runs, says what went wrong, if something did, and hands out the exit status for how it ended.
+fn answer<R, F>(journal: &Journal<R>, settings: &Settings, runs: F) -> Served
+where
+    R: Eprint + Clock + Wait + Drop,
+    F: FnOnce() -> Result<Ended, Trouble>,
+    requires { F.pre runs }
+    ensures { (ended : Result End Failure) × F.post runs ended × IsServed ended result }
+{
+    match runs() {
+        Ok(ended) => {
+            let Ended { why, ran, stopped } = ended;
+            Served {
+                status: status_after(journal, settings, why),
+                ran,
+                stopped,
+            }
+        }
+        Err(trouble) => {
+            say(journal, settings, &trouble);
+            Served::without_a_run(trouble.fault)
+        }
+    }
+}
+
+/// Reflects a host until it ends, and hands out the exit status: 0 where the host ended between two messages, or where
+/// an operator has stopped the run, 4 where memory was refused, and 3 for every other fault, also where a port can't be
+/// bound or the host can't be reached or joined. What was at fault is said on standard error: `fault N`, and a line of
+/// plain words. Where the first host is to be tried again (`again`), it is never 0, unless an operator may stop the run
+/// (`control`).
+///
+/// With the status it hands out what shows that `reflector::run_all` has run, and with what: with places of the roles
+/// that the settings ask for, in the form that they ask for, and a first host whose handshake was read of the link that
+/// was read then; its updates are those of the hosts' bytes, and the hosts were told in turn (`run`). Where the status
+/// is 0 there is such a run, unless an operator has stopped it, which is shown, too. Else the status is that of the
+/// run's answer, or, where there was none, 3 or 4 (`told`).
 ///
 /// The ports that it asks the system for are added to `ports`: that of viewers with full control, that of those who
 /// only look on, then those of browsers, and that of machines.
 #[tactic(auto, using(crate::proofs::Asking::nobody))]
-pub fn serve<R>(rt: R, alloc: Global, settings: &Settings, ports: &mut Ports) -> u8
+pub fn serve<R>(rt: R, alloc: Global, settings: &Settings, ports: &mut Ports) -> Served
 where
     R: Runtime + Files + AllocGlobal + Env + Eprint,
     requires { HasPlaces settings.now }
     ensures ports { AsksForAll settings.now ports.old ports.new }
-    ensures status { IsStatus result }
-    ensures ended { result ≡ 0 → MayEnd settings.now }
+    ensures status { IsStatus result.status }
+    ensures ended { result.status ≡ 0 → MayEnd settings.now }
+    ensures run { IfSome result.ran (λ ran. IsRunFor settings.now ran.course) }
+    ensures told { IsToldBy settings.now result.status result.ran result.stopped }
 {
     let surroundings = Surroundings::of(&rt, alloc);
     let Ok(log) = Sentry::new(rt, alloc, settings, &surroundings) else {
-        return status_of(&Err(Fault::Memory));
+        return Served::without_a_run(Fault::Memory);
     };
     let Ok(journal) = log.journal().clone() else {
-        return status_of(&Err(Fault::Memory));
+        return Served::without_a_run(Fault::Memory);
     };
     let opened = open_ports(&rt, alloc, settings, ports, &log);
     answer(
         &journal,
         settings,
-        move || -> Result<(), Trouble>
+        move || -> Result<Ended, Trouble>
             requires { HasPlaces settings.now × IfOk opened (λ opened. AreBoth settings.now opened.entrances.full opened.entrances.view) }
-            ensures { OnOk result (MayEnd settings.entry.now) }
+            ensures { IfOk result (λ ended. IsEndBy settings.entry.now ended) }
         { run_watched(rt, alloc, settings, opened?, &log) },
     )
 }

@@ -11,6 +11,7 @@ mod answer;
 mod bound;
 mod control;
 mod counters;
+mod ended;
 mod entries;
 mod halls;
 mod host_text;
@@ -40,5 +41,7 @@ mod writer_reach;
 
 pub use answer::serve;
 pub use bound::Ports;
+pub use ended::Served;
+pub use lifeline::Cut;
 pub use rested::Rested;
 pub use runtime::Runtime;

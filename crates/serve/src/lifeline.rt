@@ -8,7 +8,9 @@ use std::time::{Clock, Duration};
 
 /// What shows that a run was asked to stop: only a lifeline that was cut gives one.
 #[derive(Clone, Copy, Drop)]
-pub(crate) struct Cut {}
+pub struct Cut {
+    only_here: (),
+}
 
 #[derive(Drop)]
 struct Line {
@@ -71,7 +73,7 @@ impl Lifeline {
     /// Whether it was cut.
     pub(crate) fn is_cut<R: Wait>(&self, rt: &R) -> Option<Cut> {
         if self.line.lock(rt).is_cut {
-            Some(Cut {})
+            Some(Cut { only_here: () })
         } else {
             None
         }

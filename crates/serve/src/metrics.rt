@@ -1,13 +1,14 @@
 //! Where machines read a run's numbers.
 
-ghost use Rattle.std.specs.Prelude.{◌≡◌, IfOk, OnOk, is_some};
+ghost use Rattle.std.specs.Prelude.{◌≡◌, IfOk, is_some};
 ghost use Rattle.settings.specs.ByRole.{HasPlaces};
-ghost use Rattle.serve.specs.Turns.{MayEnd};
 ghost use Rattle.serve.specs.Doors.{AreBoth};
 ghost use Rattle.serve.specs.Ports.{AsksForAll, AsksForMetrics};
+ghost use Rattle.serve.specs.Runs.{IsEndBy};
 
 use crate::bound::Ports;
 use crate::counters::{counters_of, places_by_role};
+use crate::ended::Ended;
 use crate::entries::{Entrances, open_all};
 use crate::incident::{Incident, RunLog};
 use crate::run::run;
@@ -194,12 +195,12 @@ pub(crate) fn run_watched<R>(
     settings: &Settings,
     opened: Opened<'_>,
     log: &Sentry<R>,
-) -> Result<(), Trouble>
+) -> Result<Ended, Trouble>
 where
     R: Runtime + Eprint + Files,
     requires places { HasPlaces settings.now }
     requires entries { AreBoth settings.now opened.entrances.full opened.entrances.view }
-    ensures { OnOk result (MayEnd settings.now) }
+    ensures { IfOk result (λ ended. IsEndBy settings.now ended) }
 {
     let Opened {
         entrances,

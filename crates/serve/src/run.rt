@@ -1,19 +1,23 @@
 //! A run, from its first port to its end.
 
-ghost use Rattle.std.specs.Prelude.{◌≡◌, ◌≤◌, true, false, None, All, OnOk, is_some, length};
+ghost use Rattle.std.specs.Prelude.{◌≡◌, ◌≤◌, true, false, None, All, IfOk, is_some, length, map};
 ghost use Rattle.raster.specs.Size.{IsScreenSize};
 ghost use Rattle.host_turns.specs.Running.{goes_on};
 ghost use Rattle.link.specs.Joins.{Joins};
 ghost use Rattle.run_traits.specs.Unused.{unused};
 ghost use Rattle.settings.specs.ByRole.{HasPlaces};
-ghost use Rattle.serve.specs.Turns.{MayEnd, endless};
+ghost use Rattle.reflector.specs.Course.{IsReflected};
+ghost use Rattle.serve.specs.Turns.{endless};
+ghost use Rattle.serve.specs.Runs.{IsEndBy, IsRunBy};
 ghost use Rattle.serve.specs.Doors.{AreDoorsFor, AreBoth};
 
 use crate::control::Control;
+use crate::ended::{Ended, Reflected};
 use crate::entries::Entrances;
 use crate::halls::welcome;
 use crate::host_text::texts_of;
 use crate::incident::RunLog;
+use crate::lifeline::Cut;
 use crate::meet::Met;
 use crate::rooms::{Rooms, everyone_of, rooms_of};
 use crate::runtime::Runtime;
@@ -41,7 +45,7 @@ use std::thread::Threads;
 use std::time::Clock;
 
 /// The run over a history that J names. Its first host was joined over the end that is read, and given nothing over
-/// the other.
+/// the other. What J names doesn't leave this call: what is handed out says in plain lists what the run was.
 fn over<J, L, H, D, B, W, R>(
     rt: R,
     alloc: Global,
@@ -54,7 +58,7 @@ fn over<J, L, H, D, B, W, R>(
     everyone: Arc<B, Global>,
     writer: Arc<W, Global>,
     input: Arc<InputCounts, Global>,
-) -> Result<(), Fault>
+) -> Result<Reflected, Fault>
 where
     J: Naming + Publishes + Send + Sync + 'static,
     L: Link + Send + 'static,
@@ -69,10 +73,15 @@ where
     requires roles { All (λ door. D.is_for door.1 door.0) doors.items }
     requires joins { ∥ Joins unused (L.state ends.0) joined ∥₁ }
     requires writer { L.state ends.1 ≡ unused }
-    ensures { goes_on result ≡ true → H.again hosts ≡ None }
+    ensures reflected { IfOk result (λ run. IsReflected run.ran.course) }
+    ensures roles { IfOk result (λ run. run.ran.course.roles ≡ map (λ door. door.0) doors.items) }
+    ensures form { IfOk result (λ run. run.ran.course.form ≡ runs) }
+    ensures why { IfOk result (λ run. run.why ≡ run.ran.course.answer) }
+    ensures never { IfOk result (λ run. goes_on run.why ≡ true → H.again hosts ≡ None) }
 {
     let (reader, writer_end) = ends;
     let Running {
+        ran,
         result,
         links: _links,
         hosts: _hosts,
@@ -85,12 +94,13 @@ where
     } = run_all::<J, L, H, D, B, W, R>(
         rt, alloc, history, reader, writer_end, joined, hosts, doors, runs, everyone, writer, input,
     )?;
-    result
+    Ok(Reflected { why: result, ran })
 }
 
-/// Starts all threads, with the places that the settings say, and waits until the last host has ended. It answers what
-/// reading or joining that host answered. Where the first host is to be tried again, no end of a host is the last. The
-/// first host's links have no deadline; with one, the run would end ten seconds after it began.
+/// Starts all threads, with the places that the settings say, and waits until the last host has ended. It hands out
+/// what reading or joining that host answered, with what shows that the run was run. Where the first host is to be
+/// tried again, no end of a host is the last. The first host's links have no deadline; with one, the run would end ten
+/// seconds after it began.
 fn reflect<G, R>(
     rt: R,
     alloc: Global,
@@ -99,7 +109,7 @@ fn reflect<G, R>(
     met: Met<R>,
     rooms: Rooms<R, G>,
     writer: WriterReach,
-) -> Result<(), Fault>
+) -> Result<Reflected, Fault>
 where
     G: RunLog + Drop + Send + 'static,
     R: Runtime,
@@ -108,7 +118,7 @@ where
     requires places { HasPlaces settings.now }
     requires doors { AreDoorsFor settings.now rooms.doors.items }
     requires again { endless (is_some supply.lifeline) supply.turns.again ≡ endless (is_some settings.now.control) settings.now.again }
-    ensures { goes_on result ≡ true → MayEnd settings.now }
+    ensures { IfOk result (λ run. IsRunBy settings.now run) }
 {
     let Rooms { doors, seats } = rooms;
     let WriterReach { seat, input } = writer;
@@ -140,23 +150,23 @@ fn reflect_all<G, R>(
     control: Option<Control>,
     writer: WriterReach,
     log: &G,
-) -> Result<(), Trouble>
+) -> Result<Reflected, Trouble>
 where
     G: RunLog + Clone + Drop + Send + 'static,
     R: Runtime,
     requires places { HasPlaces settings.now }
     requires doors { AreDoorsFor settings.now rooms.doors.items }
     requires again { endless (is_some supply.lifeline) supply.turns.again ≡ endless (is_some settings.now.control) settings.now.again }
-    ensures { OnOk result (MayEnd settings.now) }
+    ensures { IfOk result (λ run. IsRunBy settings.now run) }
 {
     let Ok(seats) = shared(alloc, rooms.seats.as_slice()) else {
         return Err(Trouble::new(Stage::Start, Fault::Memory));
     };
     let (met, halls) = welcome(rt, alloc, &mut supply, entrances, seats, control, log)?;
-    let why = reflect(rt, alloc, settings, supply, met, rooms, writer);
+    let reflected = reflect(rt, alloc, settings, supply, met, rooms, writer);
     halls.close(&rt);
-    match why {
-        Ok(()) => Ok(()),
+    match reflected {
+        Ok(reflected) => Ok(reflected),
         Err(fault) => Err(Trouble::new(Stage::Run, fault)),
     }
 }
@@ -187,8 +197,39 @@ impl<G: Log + Clone + Drop> Common<G> {
     }
 }
 
+/// How a run ended: as an operator has stopped it, if one has, or as it ended by itself.
+fn end_of(
+    settings: &Settings,
+    reflected: Result<Reflected, Trouble>,
+    stopped: Option<Cut>,
+) -> Result<Ended, Trouble>
+    requires run { IfOk reflected (λ run. IsRunBy settings.now run) }
+    requires socket { is_some stopped ≡ true → is_some settings.now.control ≡ true }
+    ensures { IfOk result (λ ended. IsEndBy settings.now ended) }
+{
+    let _settings = settings;
+    let Some(cut) = stopped else {
+        let Reflected { why, ran } = reflected?;
+        return Ok(Ended {
+            why,
+            ran: Some(ran),
+            stopped: None,
+        });
+    };
+    let ran = match reflected {
+        Ok(Reflected { why: _, ran }) => Some(ran),
+        Err(_) => None,
+    };
+    Ok(Ended {
+        why: Ok(()),
+        ran,
+        stopped: Some(cut),
+    })
+}
+
 /// Reflects the hosts of the settings, for viewers who come in by these entries, one for each role that is served,
 /// until the last host ends or an operator stops the run, if one can. `input` tells how much of their input waits.
+/// It hands out how the run ended, or fails where there was trouble before.
 #[tactic(auto, using(crate::proofs::Stopping::stopped))]
 pub(crate) fn run<G, R>(
     rt: R,
@@ -197,13 +238,13 @@ pub(crate) fn run<G, R>(
     entrances: Entrances<'_>,
     input: Arc<InputCounts, Global>,
     log: &G,
-) -> Result<(), Trouble>
+) -> Result<Ended, Trouble>
 where
     G: RunLog + Clone + Drop + Send + 'static,
     R: Runtime + Files,
     requires places { HasPlaces settings.now }
     requires entries { AreBoth settings.now entrances.full entrances.view }
-    ensures { OnOk result (MayEnd settings.now) }
+    ensures { IfOk result (λ ended. IsEndBy settings.now ended) }
 {
     let hosts = texts_of(alloc, settings)?;
     let rooms = rooms_of(rt, alloc, settings, &entrances.full, &entrances.view, log)?;
@@ -221,11 +262,9 @@ where
     let lifeline = lifeline_of(&control)?;
     let held = lifeline_of(&control)?;
     let supply = Supply::new(rt, alloc, theirs, desk, hosts, settings.again, held);
-    let why = reflect_all(
+    let reflected = reflect_all(
         rt, alloc, settings, supply, entrances, rooms, control, writer, log,
     );
-    if was_cut(&rt, &lifeline) {
-        return Ok(());
-    }
-    why
+    let stopped = was_cut(&rt, &lifeline);
+    end_of(settings, reflected, stopped)
 }

@@ -4,7 +4,7 @@ ghost use Rattle.std.specs.Prelude.{◌≡◌, IfOk, is_some, true};
 
 use crate::control::{Control, Reach, keep_control, listen};
 use crate::halls::Halls;
-use crate::lifeline::Lifeline;
+use crate::lifeline::{Cut, Lifeline};
 use crate::runtime::{Runtime, STACK};
 use crate::trouble::{Stage, Trouble};
 use crate::writer_reach::WriterReach;
@@ -77,16 +77,16 @@ pub(crate) fn lifeline_of(
     }
 }
 
-/// Notes that the run has ended: an operator that has stopped it waits for that. The result says whether one has.
-pub(crate) fn was_cut<R: Wait>(rt: &R, lifeline: &Option<Arc<Lifeline, Global>>) -> bool
-    ensures { result ≡ true → is_some lifeline.now ≡ true }
+/// Notes that the run has ended: an operator that has stopped it waits for that. The result shows it where one has.
+pub(crate) fn was_cut<R: Wait>(rt: &R, lifeline: &Option<Arc<Lifeline, Global>>) -> Option<Cut>
+    ensures { is_some result ≡ true → is_some lifeline.now ≡ true }
 {
     match lifeline {
         Some(lifeline) => {
             lifeline.end(rt);
-            lifeline.is_cut(rt).is_some()
+            lifeline.is_cut(rt)
         }
-        None => false,
+        None => None,
     }
 }
 

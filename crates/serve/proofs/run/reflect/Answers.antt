@@ -1,6 +1,7 @@
--- There are as many doors as the settings have places.
+-- There are as many doors as the settings have places, and the run is one by the settings.
 use Rattle.std.proofs.Common.{sym, ◌∙◌}
 use Rattle.serve.proofs.Counts.{counted}
+use Rattle.serve.proofs.Endings.{run_by}
 use Rattle.serve.proofs.Stopping.{may_end}
 use Rattle.serve.proofs.run.reflect.Goals as goal
 
@@ -8,4 +9,7 @@ pub over-requires-clause-doors : goal.over-requires-clause-doors
 over-requires-clause-doors g c κs _ = counted (λ door. door.0) c.args.rooms.doors.items c.args.settings.now c.requires.doors c.requires.places
 
 pub returns : goal.returns
-returns g c ends = may_end c.args.settings.now (sym c.requires.again ∙ c.over.ensures ends)
+returns g c =
+    let over = c.over.ensures in
+    run_by c.args.settings.now c.over.result _ _ _ over.reflected over.roles over.form over.why over.never c.requires.doors c.runs_of.ensures
+    (λ none. may_end c.args.settings.now (sym c.requires.again ∙ none))

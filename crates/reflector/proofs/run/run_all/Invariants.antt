@@ -1,0 +1,21 @@
+-- What the run was, in what its threads left and what it began with.
+use Rattle.std.proofs.Common.{map}
+use Rattle.input_relay.specs.Ends.{taken_of}
+use Rattle.shared_screen.specs.History.{puts_of}
+use Rattle.run_traits.specs.Written.{links_in}
+use Rattle.reflector.proofs.run.run_all.Given as goal
+
+abbrev pub ghosts-shown : goal.ghosts-shown
+ghosts-shown g a = record {
+  course = record {
+    host = a.began.now.host.value;
+    form = a.runs;
+    roles = map (λ door. door.0) a.began.now.doors.value.items;
+    answer = a.left.result;
+    link = g.L.Link.state a.began.now.link.value;
+    links = map g.L.Link.state a.left.links.items;
+    told = links_in g.L.Link.state a.left.written;
+    taken = taken_of a.left.taker;
+    updates = puts_of a.left.publisher;
+  };
+}

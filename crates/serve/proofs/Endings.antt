@@ -1,0 +1,102 @@
+-- How the exit status says how a run ended. A run that didn't end well has another status than 0.
+use Rattle.std.proofs.Common.{◌≡◌, ◌⊎◌, inl, inr, ⊎_elim, ℕ, List, Option, Some, None, Result, Ok, Err, refl, sym, ap, subst, ◌∙◌, arith, true}
+use Rattle.std.specs.Prelude.{IfOk, IfSome}
+use Rattle.fault.specs.declared.kinds.Fault.{Fault}
+use Rattle.fault.specs.declared.kinds.Fault.TheVariants as fault
+use Rattle.joined_runs.specs.declared.runs.Runs.{Runs}
+use Rattle.roles.specs.declared.role.Role.{Role}
+use Rattle.settings.specs.ByRole.{runs_for}
+use Rattle.settings.specs.declared.values.Settings.{Settings}
+use Rattle.host_turns.specs.Running.{goes_on}
+use Rattle.reflector.specs.Course.{IsReflected}
+use Rattle.reflector.specs.declared.ran.Ran.{Ran}
+use Rattle.serve.specs.Runs.{IsEnd, IsEndBy, IsRunBy, IsRunFor, IsServed, IsToldBy, roles_for}
+use Rattle.serve.specs.Statuses.{IsStatus, status_for}
+use Rattle.serve.specs.Turns.{MayEnd}
+use Rattle.serve.specs.declared.ended.Ended.{Ended}
+use Rattle.serve.specs.declared.ended.Reflected.{Reflected}
+use Rattle.serve.specs.declared.ended.Served.{Served}
+use Rattle.serve.specs.declared.lifeline.Cut.{Cut}
+use Rattle.serve.specs.declared.trouble.Trouble.{Trouble}
+
+-- ---- the status
+
+failed : (f : Fault) → (status_for (Err f) ≡ 3) ⊎ (status_for (Err f) ≡ 4)
+failed fault.BadVersion = inl refl
+failed (fault.HostRefused reason) = inl refl
+failed fault.NoNone = inl refl
+failed fault.SecurityFailed = inl refl
+failed fault.BadScreen = inl refl
+failed (fault.UnknownMessage kind) = inl refl
+failed fault.RectOutside = inl refl
+failed fault.UnknownEncoding = inl refl
+failed fault.SubrectOutside = inl refl
+failed fault.NoBackground = inl refl
+failed fault.NoForeground = inl refl
+failed fault.BadFormat = inl refl
+failed fault.BadChoice = inl refl
+failed fault.CopyOutside = inl refl
+failed fault.Memory = inr refl
+failed fault.LinkFailed = inl refl
+failed fault.LinkEnded = inl refl
+failed fault.Gone = inl refl
+failed fault.NoPlace = inl refl
+failed fault.QueueFull = inl refl
+failed fault.NumbersOut = inl refl
+
+isnt_nought : {A : Type 0} (f : Fault) → status_for (Err f) ≡ 0 → A
+isnt_nought f e = ⊎_elim (λ (t : status_for (Err f) ≡ 3). absurd (omega (arith, t, e))) (λ (t : status_for (Err f) ≡ 4). absurd (omega (arith, t, e))) (failed f)
+
+-- Where the status is 0 the next host would have been taken.
+went_well : (why : Result (Unit {0}) Fault) → status_for why ≡ 0 → goes_on why ≡ true
+went_well (Ok done) e = refl
+went_well (Err f) e = isnt_nought f e
+
+-- ---- a run
+
+-- What `over` says of a run, with the roles and the form of the settings.
+pub run_by : {A : Type 0} (settings : Settings) (result : Result Reflected Fault) (roles : List Role) (form : Runs) (again : Option A) → IfOk result (λ run. IsReflected run.ran.course) → IfOk result (λ run. run.ran.course.roles ≡ roles)
+    → IfOk result (λ run. run.ran.course.form ≡ form) → IfOk result (λ run. run.why ≡ run.ran.course.answer) → IfOk result (λ run. goes_on run.why ≡ true → again ≡ None) → roles ≡ roles_for settings → form ≡ runs_for settings
+    → (again ≡ None → MayEnd settings) → IfOk result (λ run. IsRunBy settings run)
+run_by settings (Ok run) roles form again reflected has_roles has_form why never same_roles same_form ends = record {
+  is = record { reflected = reflected; roles = has_roles ∙ same_roles; form = has_form ∙ same_form };
+  why = why;
+  ends = λ on. ends (never on);
+}
+run_by settings (Err f) roles form again reflected has_roles has_form why never same_roles same_form ends = tt
+
+-- A run that ended by itself.
+pub by_itself : (settings : Settings) (why : Result (Unit {0}) Fault) (ran : Ran) (run : Reflected) → run ≡ record { why = why; ran = ran } → IsRunBy settings run → IsEndBy settings (record { why = why; ran = Some ran; stopped = None })
+by_itself settings why ran run same by =
+    let is : IsRunBy settings (record { why = why; ran = ran }) = subst (IsRunBy settings) same by in
+    record { end = is.why; run = is.is; ends = is.ends }
+
+-- What is handed out at an end, or after trouble before any run.
+told : (settings : Settings) (why : Result (Unit {0}) Fault) (status : ℕ) (ran : Option Ran) (stopped : Option Cut) → status ≡ status_for why → IsEnd settings why ran stopped → IsToldBy settings status ran stopped
+told settings why status ran (Some cut) is end = (is ∙ ap status_for end.0, end.1)
+told settings why status (Some ran) None is end = is ∙ ap status_for end
+told settings why status None None is end = absurd end
+
+pub ended_well : (settings : Settings) (ended : Result Ended Trouble) (served : Served) → IfOk ended (λ e. IsEndBy settings e) → IsServed ended served → served.status ≡ 0 → MayEnd settings
+ended_well settings (Ok e) served by is nought = by.ends (went_well e.why (sym is.0 ∙ nought))
+ended_well settings (Err trouble) served by is nought = isnt_nought trouble.fault (sym is.0 ∙ nought)
+
+pub was_run : (settings : Settings) (ended : Result Ended Trouble) (served : Served) → IfOk ended (λ e. IsEndBy settings e) → IsServed ended served → IfSome served.ran (λ ran. IsRunFor settings ran.course)
+was_run settings (Ok e) served by is = subst (λ (r : Option Ran). IfSome r (λ ran. IsRunFor settings ran.course)) (sym is.1) by.run
+was_run settings (Err trouble) served by is = subst (λ (r : Option Ran). IfSome r (λ ran. IsRunFor settings ran.course)) (sym is.1) tt
+
+pub status_tells : (settings : Settings) (ended : Result Ended Trouble) (served : Served) → IfOk ended (λ e. IsEndBy settings e) → IsServed ended served → IsToldBy settings served.status served.ran served.stopped
+status_tells settings (Ok e) served by is =
+    told settings e.why served.status served.ran served.stopped is.0
+    (subst (λ (r : Option Ran). IsEnd settings e.why r served.stopped) (sym is.1) (subst (λ (s : Option Cut). IsEnd settings e.why e.ran s) (sym is.2) by.end))
+status_tells settings (Err trouble) served by is =
+    let no_run : IsToldBy settings served.status None None = ⊎_elim (λ (t : status_for (Err trouble.fault) ≡ 3). inl (is.0 ∙ t)) (λ (t : status_for (Err trouble.fault) ≡ 4). inr (is.0 ∙ t)) (failed trouble.fault) in
+    subst (λ (r : Option Ran). IsToldBy settings served.status r served.stopped) (sym is.1) (subst (λ (s : Option Cut). IsToldBy settings served.status None s) (sym is.2) no_run)
+
+status_in : (why : Result (Unit {0}) Fault) (status : ℕ) → status ≡ status_for why → IsStatus status
+status_in (Ok done) status is = inl is
+status_in (Err f) status is = inr (⊎_elim (λ (t : status_for (Err f) ≡ 3). inl (is ∙ t)) (λ (t : status_for (Err f) ≡ 4). inr (is ∙ t)) (failed f))
+
+pub in_range : (ended : Result Ended Trouble) (served : Served) → IsServed ended served → IsStatus served.status
+in_range (Ok e) served is = status_in e.why served.status is.0
+in_range (Err trouble) served is = status_in (Err trouble.fault) served.status is.0

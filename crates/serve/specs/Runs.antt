@@ -1,0 +1,59 @@
+-- What is known of a run that `serve` ran, and how its exit status says how the run ended (own).
+use Rattle.std.specs.Prelude.{◌≡◌, ◌⊎◌, ◌++◌, ℕ, List, Option, Some, None, IfSome, Result, Ok, Err, is_some, replicate, true}
+use Rattle.fault.specs.declared.kinds.Fault.{Fault}
+use Rattle.roles.specs.declared.role.Role.{Role}
+use Rattle.roles.specs.declared.role.Role.TheVariants.{Full, View}
+use Rattle.settings.specs.ByRole.{places_for, runs_for}
+use Rattle.settings.specs.declared.values.Settings.{Settings}
+use Rattle.host_turns.specs.Running.{goes_on}
+use Rattle.reflector.specs.Course.{Course, IsReflected}
+use Rattle.reflector.specs.declared.ran.Ran.{Ran}
+use Rattle.serve.specs.Statuses.{status_for}
+use Rattle.serve.specs.Turns.{MayEnd}
+use Rattle.serve.specs.declared.ended.Ended.{Ended}
+use Rattle.serve.specs.declared.ended.Reflected.{Reflected}
+use Rattle.serve.specs.declared.ended.Served.{Served}
+use Rattle.serve.specs.declared.lifeline.Cut.{Cut}
+use Rattle.serve.specs.declared.trouble.Trouble.{Trouble}
+
+-- The roles of the places: as many of each as the settings say, and those with full control come first.
+abbrev pub roles_for : Settings → List Role
+roles_for settings = replicate (places_for Full settings) Full ++ replicate settings.view_places View
+
+-- A run by these settings: its places have their roles, and its viewers are answered in their form.
+pub record IsRunFor (settings : Settings) (course : Course) : Type 0 where
+  pub reflected : IsReflected course
+  pub roles : course.roles ≡ roles_for settings
+  pub form : course.form ≡ runs_for settings
+
+-- What the exit status says. If an operator has stopped the run, it is 0, and the settings have a socket for one. If
+-- none has, it is the one for the answer with which the run ended, and 3 or 4 where none was run.
+abbrev pub IsToldBy : Settings → ℕ → Option Ran → Option Cut → Type 0
+IsToldBy settings status ran (Some cut) = (status ≡ 0) × (is_some settings.control ≡ true)
+IsToldBy settings status (Some ran) None = status ≡ status_for ran.course.answer
+IsToldBy settings status None None = (status ≡ 3) ⊎ (status ≡ 4)
+
+-- ---- on the way
+
+-- A run by these settings was run, and ended with this answer.
+pub record IsRunBy (settings : Settings) (run : Reflected) : Type 0 where
+  pub is : IsRunFor settings run.ran.course
+  pub why : run.why ≡ run.ran.course.answer
+  pub ends : goes_on run.why ≡ true → MayEnd settings
+
+-- How a run ended: as an operator has stopped it, which only one with a socket can, or with the answer of a run that
+-- was run.
+abbrev pub IsEnd : Settings → Result (Unit {0}) Fault → Option Ran → Option Cut → Type 0
+IsEnd settings why ran (Some cut) = (why ≡ Ok tt) × (is_some settings.control ≡ true)
+IsEnd settings why (Some ran) None = why ≡ ran.course.answer
+IsEnd settings why None None = ⊥
+
+pub record IsEndBy (settings : Settings) (ended : Ended) : Type 0 where
+  pub end : IsEnd settings ended.why ended.ran ended.stopped
+  pub run : IfSome ended.ran (λ ran. IsRunFor settings ran.course)
+  pub ends : goes_on ended.why ≡ true → MayEnd settings
+
+-- What is handed out at such an end, or after trouble before any run.
+abbrev pub IsServed : Result Ended Trouble → Served → Type 0
+IsServed (Ok ended) served = (served.status ≡ status_for ended.why) × (served.ran ≡ ended.ran) × (served.stopped ≡ ended.stopped)
+IsServed (Err trouble) served = (served.status ≡ status_for (Err trouble.fault)) × (served.ran ≡ None) × (served.stopped ≡ None)

@@ -1,0 +1,51 @@
+//! How a run came to its end.
+
+ghost use Rattle.std.specs.Prelude.{◌≡◌, Err, None};
+ghost use Rattle.serve.specs.Statuses.{status_for};
+
+use crate::lifeline::Cut;
+use crate::status::status_of;
+use fault::Fault;
+use reflector::Ran;
+
+/// A run that was run.
+#[derive(Drop)]
+pub(crate) struct Reflected {
+    /// What reading or joining its last host answered.
+    pub(crate) why: Result<(), Fault>,
+    /// What shows that it was run.
+    pub(crate) ran: Ran,
+}
+
+/// How a run ended that was run, or that an operator has stopped, it may be before its first host was joined.
+#[derive(Drop)]
+pub(crate) struct Ended {
+    pub(crate) why: Result<(), Fault>,
+    pub(crate) ran: Option<Ran>,
+    pub(crate) stopped: Option<Cut>,
+}
+
+/// What `serve` came to.
+#[derive(Drop)]
+pub struct Served {
+    /// The exit status.
+    pub status: u8,
+    /// What shows that a run was run, and what it was, if one was.
+    pub ran: Option<Ran>,
+    /// What shows that an operator has asked the run to stop, if one has.
+    pub stopped: Option<Cut>,
+}
+
+impl Served {
+    /// No run was run, because of this fault.
+    pub(crate) fn without_a_run(fault: Fault) -> Served
+        ensures status { result.status ≡ status_for (Err fault) }
+        ensures none { (result.ran ≡ None) × (result.stopped ≡ None) }
+    {
+        Served {
+            status: status_of(&Err(fault)),
+            ran: None,
+            stopped: None,
+        }
+    }
+}
