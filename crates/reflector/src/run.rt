@@ -324,7 +324,7 @@ where
     H: Hosts<L>,
     D: Door,
     R: Wait + Drop,
-    requires { C.course ≡ record { host = began.now.host.value; form = runs; roles = map (λ door. door.0) began.now.doors.value.items; answer = left.result; link = L.state began.now.link.value; links = map L.state left.links.items; told = links_in L.state left.written; taken = taken_of left.taker; updates = puts_of left.publisher } }
+    requires { C.course ≡ record { host = began.now.host.value; form = runs; roles = map (λ door. door.0) began.now.doors.value.items; answer = left.result; link = L.state began.now.link.value; links = map L.state left.links.items; told = links_in L.state left.written; taken = taken_of left.taker; updates = puts_of left.publisher.changes } }
     ensures ran { result.ran.course ≡ C.course }
     ensures result { result.result ≡ left.result }
     ensures links { result.links ≡ left.links }
@@ -419,7 +419,7 @@ where
     requires doors { (1 ≤ vec_len doors) × (vec_len doors ≤ 64) }
     requires roles { All (λ door. D.is_for door.1 door.0) doors.items }
     requires writer { L.state writer ≡ unused }
-    ensures run { IfOk result (λ run. HasRun J.width J.height (IsLinkOf L.state H.came) run.result (L.state reader) (map L.state run.links.items) [] (puts_of run.publisher)) }
+    ensures run { IfOk result (λ run. HasRun J.width J.height (IsLinkOf L.state H.came) run.result (L.state reader) (map L.state run.links.items) [] (puts_of run.publisher.changes)) }
     ensures over { IfOk result (λ run. IsOver H.are_out run.hosts run.result) }
     ensures never { IfOk result (λ run. goes_on run.result ≡ true → H.again hosts ≡ None) }
     ensures places { IfOk result (λ run. map (λ place. strand_of place.promise.sender.value) run.places.items ≡ fresh (vec_len doors)) }
@@ -431,7 +431,7 @@ where
     ensures doors { IfOk result (λ run. map (λ place. (place.promise.role, place.promise.door.value)) run.places.items ≡ doors.items) }
     ensures watchers { IfOk result (λ run. All (λ place. place.promise.watcher.value ≡ nothing_put) run.places.items) }
     ensures screen { IfOk result (λ run. All (λ place. IsOfScreen joined.w joined.h joined.name runs place.promise.width place.promise.height place.promise.name.value.items place.promise.runs) run.places.items) }
-    ensures ran { IfOk result (λ run. run.ran.course ≡ record { host = joined; form = runs; roles = map (λ door. door.0) doors.items; answer = run.result; link = L.state reader; links = map L.state run.links.items; told = links_in L.state run.written; taken = taken_of run.taker; updates = puts_of run.publisher }) }
+    ensures ran { IfOk result (λ run. run.ran.course ≡ record { host = joined; form = runs; roles = map (λ door. door.0) doors.items; answer = run.result; link = L.state reader; links = map L.state run.links.items; told = links_in L.state run.written; taken = taken_of run.taker; updates = puts_of run.publisher.changes }) }
     ensures err { IfErr result (λ fault. (fault ≡ Memory) ⊎ (fault ≡ NoPlace)) }
 {
     let began = Beginning {

@@ -4,3 +4,4 @@ pub mod Shares
 pub mod Law
 pub mod Reaches
 pub mod Published
+pub mod Publishing

@@ -3,6 +3,7 @@
 ghost use Rattle.std.specs.Prelude.{◌≡◌, ◌⊎◌, ◌≤◌, [], length, vec_len, All, IfOk, IfErr};
 ghost use Rattle.fault.specs.declared.kinds.Fault.TheVariants.{Memory, NoPlace};
 ghost use Rattle.raster.specs.Size.{IsScreenSize};
+ghost use Rattle.shared_screen.specs.Publishing.{opening};
 
 use crate::demand::{FormClaim, FormDemand};
 use crate::ends::{BESIDE_PLACES, eyes};
@@ -56,7 +57,7 @@ pub fn shared<J: Naming, R: Wait + Drop + Copy>(
     requires history { history.seen.book ≡ J.book }
     requires size { IsScreenSize width height × (width ≡ J.width) × (height ≡ J.height) }
     requires places { (1 ≤ places) × (places ≤ 65) }
-    ensures publisher { IfOk result (λ ends. ends.0 ≡ []) }
+    ensures publisher { IfOk result (λ ends. ends.0 ≡ opening) }
     ensures count { IfOk result (λ ends. vec_len ends.1 ≡ places) }
     ensures watchers { IfOk result (λ ends. All (λ w. w ≡ record { updates = []; tally = 0 }) ends.1.items) }
     ensures err { IfErr result (λ fault. (fault ≡ Memory) ⊎ (fault ≡ NoPlace)) }

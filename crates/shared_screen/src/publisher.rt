@@ -4,6 +4,7 @@ ghost use Rattle.std.specs.Prelude.{◌≡◌, ◌*◌, ◌+◌, ◌<◌, ◌≤
 ghost use Rattle.left_right.specs.Handles.{published, pending};
 ghost use Rattle.reflect_core.specs.Plain.{IsPutRefusal};
 ghost use Rattle.shared_screen.specs.History.{Put, Raise, puts_of};
+ghost use Rattle.shared_screen.specs.Publishing.{IsLeftByRefusal, opening};
 
 use crate::change::Change;
 use crate::demand::FormDemand;
@@ -24,7 +25,8 @@ use std::alloc::Global;
 use std::marker::Model;
 use std::sync::{Arc, Wait};
 
-/// Puts updates, and raises the tally after each. Contracts see its history: all that was put and raised.
+/// Puts updates, and raises the tally after each. Contracts see its history: all that was put and raised, and whether
+/// an update was refused its publish once the history had it.
 #[derive(Drop)]
 pub struct Publisher<J: Naming, R: Wait + Drop>
 where
@@ -41,15 +43,15 @@ impl<J: Naming, R: Wait + Drop> Model for Publisher<J, R>
 where
     Published<J>: Absorb<Stamped<J>, State = [Change; 0]>,
 {
-    ghost use Rattle.std.specs.Prelude.{◌≡◌, [], List, length};
+    ghost use Rattle.std.specs.Prelude.{◌≡◌, [], length};
     ghost use Rattle.left_right.specs.Handles.{published, pending};
     ghost use Rattle.reflect_core.specs.Sequential.{Begins};
-    ghost use Rattle.shared_screen.specs.History as history;
     ghost use Rattle.shared_screen.specs.History.{puts_of, tally_of};
+    ghost use Rattle.shared_screen.specs.Publishing.{Publishing, publishing};
 
-    ghost Value = { List history.Change };
+    ghost Value = { Publishing };
 
-    ghost view = { λ p. p.front };
+    ghost view = { λ p. publishing p.front p.raiser };
 
     ghost invariant = { λ p. (pending p.handle ≡ []) × (puts_of (published p.handle) ≡ puts_of p.front) × (tally_of p.front ≡ length (puts_of p.front)) × Begins p.front p.raiser };
 }
@@ -63,7 +65,7 @@ impl<J: Naming, R: Wait + Drop> Publisher<J, R> {
         demand: Arc<FormDemand, Global>,
     ) -> Self
         requires { (published handle ≡ []) × (pending handle ≡ []) × (raiser ≡ []) }
-        ensures { result ≡ [] }
+        ensures { result ≡ opening }
     {
         let front = raiser.front();
         Publisher {
@@ -79,7 +81,7 @@ impl<J: Naming, R: Wait + Drop> Publisher<J, R> {
     pub fn news(&self) -> News<J>
     where
         J: Publishes,
-        ensures { result ≡ record { updates = puts_of self.now; tally = length (puts_of self.now) } }
+        ensures { result ≡ record { updates = puts_of self.now.changes; tally = length (puts_of self.now.changes) } }
     {
         News {
             pair: news_of(&self.handle),
@@ -89,7 +91,7 @@ impl<J: Naming, R: Wait + Drop> Publisher<J, R> {
 
     /// The beginning of the history that it has put and raised.
     pub(crate) fn front(&self) -> HistoryFront<J>
-        ensures { result ≡ self.now }
+        ensures { result ≡ self.now.changes }
     {
         self.front.again()
     }
@@ -101,7 +103,7 @@ impl<J: Naming, R: Wait + Drop> Publisher<J, R> {
 }
 
 impl<J: Naming + Publishes, R: Wait + Drop> Puts for Publisher<J, R> {
-    ghost updates = { λ p. puts_of p };
+    ghost updates = { λ p. puts_of p.changes };
 
     ghost width = { λ p. J.width };
 
@@ -111,13 +113,15 @@ impl<J: Naming + Publishes, R: Wait + Drop> Puts for Publisher<J, R> {
     /// the copy from before the last put.
     ///
     /// Where it answers `Memory`, each later put may answer that, too: if room for the update was refused once the
-    /// history had it, nothing can be put behind it. Contracts don't tell the two apart. That room is kept from the
-    /// beginning on, so this isn't seen to happen; but no clause of the pair says that it is enough.
+    /// history had it, nothing can be put behind it (`first`, `refused`). That room is kept from the beginning on, so
+    /// this isn't seen to happen; but no clause of the pair says that it is enough.
     fn put(&mut self, patch: Patch) -> Result<u64, (Fault, Patch)>
         requires { (patch.width ≡ J.width) × (patch.height ≡ J.height) }
-        ensures history { IfOk result (λ n. self.new ≡ (self.old ++ Put patch.update ∷ []) ++ Raise n ∷ []) }
-        ensures ok { IfOk result (λ n. (length (puts_of self.old) < 2 ^ 62) × (puts_of self.new ≡ puts_of self.old ++ patch.update ∷ []) × (n ≡ length (puts_of self.new))) }
-        ensures err { IfErr result (λ refused. IsPutRefusal (length (puts_of self.old)) refused.0 × (refused.1 ≡ patch) × (self.new ≡ self.old)) }
+        ensures history { IfOk result (λ n. self.new.changes ≡ (self.old.changes ++ Put patch.update ∷ []) ++ Raise n ∷ []) }
+        ensures ok { IfOk result (λ n. (length (puts_of self.old.changes) < 2 ^ 62) × (puts_of self.new.changes ≡ puts_of self.old.changes ++ patch.update ∷ []) × (n ≡ length (puts_of self.new.changes))) }
+        ensures first { IfOk result (λ n. (self.old.refused ≡ []) × (self.new.refused ≡ [])) }
+        ensures err { IfErr result (λ refused. IsPutRefusal (length (puts_of self.old.changes)) refused.0 × (refused.1 ≡ patch) × (self.new.changes ≡ self.old.changes)) }
+        ensures refused { IfErr result (λ refused. IsLeftByRefusal patch.update refused.0 self.old self.new) }
     {
         let number = news_of(&self.handle).number();
         if number >= LIMIT {

@@ -92,10 +92,10 @@ impl<J: Naming> Watcher<J> {
     pub fn meet<R: Wait + Drop>(&mut self, publisher: &Publisher<J, R>)
     where
         J: Publishes,
-        ensures one { (self.new.updates ≡ self.old.updates) ⊎ (self.new.updates ≡ puts_of publisher.now) }
+        ensures one { (self.new.updates ≡ self.old.updates) ⊎ (self.new.updates ≡ puts_of publisher.now.changes) }
         ensures mine { Begins self.old.updates self.new.updates }
-        ensures told { Begins (puts_of publisher.now) self.new.updates }
-        ensures rises { (self.old.tally ≤ self.new.tally) × (length (puts_of publisher.now) ≤ self.new.tally) }
+        ensures told { Begins (puts_of publisher.now.changes) self.new.updates }
+        ensures rises { (self.old.tally ≤ self.new.tally) × (length (puts_of publisher.now.changes) ≤ self.new.tally) }
         ensures history { Reaches self.old [] self.new }
     {
         self.learn(&publisher.news());
@@ -104,7 +104,7 @@ impl<J: Naming> Watcher<J> {
     /// It changes nothing and learns nothing. Its clause says that watcher and publisher are of one list of updates:
     /// one of the two that they know begins the other.
     pub fn is_of<R: Wait + Drop>(&self, publisher: &Publisher<J, R>)
-        ensures { Begins self.now.updates (puts_of publisher.now) ⊎ Begins (puts_of publisher.now) self.now.updates }
+        ensures { Begins self.now.updates (puts_of publisher.now.changes) ⊎ Begins (puts_of publisher.now.changes) self.now.updates }
     {
         // Nothing reads `both`. Its clauses say that the two are beginnings of one history, which the proof needs.
         let mut both = self.eye.front();

@@ -16,6 +16,6 @@ ghosts-shown g a = record {
     links = map g.L.Link.state a.left.links.items;
     told = links_in g.L.Link.state a.left.written;
     taken = taken_of a.left.taker;
-    updates = puts_of a.left.publisher;
+    updates = puts_of a.left.publisher.changes;
   };
 }

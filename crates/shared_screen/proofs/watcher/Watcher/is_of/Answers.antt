@@ -11,6 +11,6 @@ pub returns : goal.returns
 returns g c =
     let ours : Begins c.args.self.now.updates (puts_of c.front-both.result) =
     subst (λ (l : List Update). Begins l (puts_of c.front-both.result)) (ap (λ (v : Shared). v.updates) c.self.view_is) c.front-both.ensures in
-    let theirs : Begins (puts_of c.args.publisher.now) (puts_of c.front.result) =
-    subst (λ (l : List Change). Begins (puts_of c.args.publisher.now) (puts_of l)) (sym c.front.ensures) (begins_self (puts_of c.args.publisher.now)) in
-    one_begins c.args.self.now.updates (puts_of c.args.publisher.now) c.front-both.result c.front.result c.learn-2.new.self ours theirs c.learn-2.ensures.mine c.learn-2.ensures.told
+    let theirs : Begins (puts_of c.args.publisher.now.changes) (puts_of c.front.result) =
+    subst (λ (l : List Change). Begins (puts_of c.args.publisher.now.changes) (puts_of l)) (sym c.front.ensures) (begins_self (puts_of c.args.publisher.now.changes)) in
+    one_begins c.args.self.now.updates (puts_of c.args.publisher.now.changes) c.front-both.result c.front.result c.learn-2.new.self ours theirs c.learn-2.ensures.mine c.learn-2.ensures.told
