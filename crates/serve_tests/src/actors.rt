@@ -22,6 +22,8 @@ pub(crate) struct Actor {
     pub(crate) stream: Option<TcpStream>,
     /// Where it hears notices.
     pub(crate) notices: Option<OwnedFd>,
+    /// Where standard error could be read, if the actor has put a socket in its place.
+    pub(crate) told: Option<OwnedFd>,
     /// From where it comes.
     pub(crate) address: SocketAddr,
     /// The number of its place, or 0 where it has none.
@@ -35,6 +37,7 @@ pub(crate) fn make_actors(alloc: Global) -> Result<Vec<Actor>, AllocError> {
         actors.push(Actor {
             stream: None,
             notices: None,
+            told: None,
             address: SocketAddr::from((Ipv4Addr::UNSPECIFIED, 0)),
             place: 0,
         })?;

@@ -194,6 +194,30 @@ const IS_STOPPED_BETWEEN: &[Act] = &[Act {
     ],
 }];
 
+/// What a viewer is told that comes before there is a host (RFC 6143, 7.1.1 and 7.1.2).
+const TOLD: &[u8] = b"RFB 003.008\n\0\0\0\0\x0Bno host yet";
+
+/// Nobody reads the log, and viewers are told all the same. The next line that has room says how many had none, and the
+/// one after it says nothing of that.
+const NOBODY_READS: &[Act] = &[Act {
+    who: EARLY,
+    deeds: &[
+        Deed::IsTold(" host-tried address="),
+        Deed::Fills,
+        Deed::Connects("full"),
+        Deed::Does(Step::Sends(VERSION)),
+        Deed::Does(Step::Hears(TOLD)),
+        Deed::Connects("view"),
+        Deed::Does(Step::Sends(VERSION)),
+        Deed::Does(Step::Hears(TOLD)),
+        Deed::Empties,
+        Deed::Connects("view"),
+        Deed::Does(Step::Sends(VERSION)),
+        Deed::Does(Step::Hears(TOLD)),
+        Deed::Wants("no-host role=view address=|me| left-out=2"),
+    ],
+}];
+
 /// No host is there, and no viewer is let in, when an operator stops the run.
 const IS_STOPPED_ALONE: &[Act] = &[Act {
     who: EARLY,
@@ -245,7 +269,7 @@ const PLAYS: &[Play<'static>] = &[
         name: "a run is stopped while nobody is there",
         words: "--log --again 3600 --host 127.0.0.1:|nobody| --full-places 1 --view-places 1 --control control-|full|",
         notify: "",
-        acts: &[IS_STOPPED_ALONE],
+        acts: &[NOBODY_READS, IS_STOPPED_ALONE],
         status: 0,
         lines: &[
             "listening role=full address=127.0.0.1:|full| places=1",

@@ -377,11 +377,15 @@ fn machines_are_told() -> &'static [Act] {
     MACHINES_ARE_TOLD
 }
 
-/// A stop lets all go that wait for news. After it nothing listens at the ports.
+/// A stop lets all go that wait for news. The run doesn't end before all of its lines are written, though each takes a
+/// while. After it nothing listens at the ports.
 const ALL_ARE_SENT_AWAY: &[Act] = &[
     Act {
         who: HOST,
-        deeds: &[Deed::IsObeyed("stop\n", "|done\n|")],
+        deeds: &[
+            Deed::Does(Step::StopsTheClock),
+            Deed::IsObeyed("stop\n", "|done\n|"),
+        ],
     },
     Act {
         who: STAYING,

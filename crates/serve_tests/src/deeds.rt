@@ -6,7 +6,6 @@ use crate::lines::status_of;
 use crate::loopback::{
     address_of, connect, connect_beside, is_closed_beside, is_closed_here, is_patient, sends,
 };
-use crate::notices;
 use crate::operator::{answer, connect as connect_operator};
 use crate::refusals::Refusal;
 use crate::room::{Ear, Room};
@@ -15,6 +14,7 @@ use crate::sockets::{Asked, is_asked_for};
 use crate::steps::{Step, is_taken};
 use crate::system::SocketFiles;
 use crate::visits::{Entry, enters};
+use crate::{notices, standard_error};
 use std::net::{Net, TcpListener, TcpStream};
 use std::os::fd::OwnedFd;
 use std::os::unix::net::UnixStream;
@@ -51,6 +51,10 @@ pub(crate) enum Deed {
     Wants(&'static str),
     /// This text comes on standard error in time.
     IsTold(&'static str),
+    /// Puts a socket that nobody reads in the place of standard error, so that there is no room for a line.
+    Fills,
+    /// Reads all of it, so that there is room again.
+    Empties,
     /// As an operator, is answered so to this request.
     IsObeyed(&'static str, &'static str),
     /// As an operator, says nothing and goes on.
@@ -176,6 +180,14 @@ fn is_asked_in_time<R: Clock + Drop>(ear: &Ear<R>, stream: &TcpStream, asked: &A
 fn keeps<R: Clock + Drop>(ear: &Ear<R>, actor: &Actor, asked: &Asked) -> bool {
     match &actor.stream {
         Some(stream) => is_asked_in_time(ear, stream, asked),
+        None => false,
+    }
+}
+
+/// Whether standard error has room again.
+fn empties(actor: &Actor) -> bool {
+    match &actor.told {
+        Some(told) => standard_error::empty(told),
         None => false,
     }
 }
@@ -351,6 +363,10 @@ where
         }
         Deed::Does(step) => Some(does(ear, stage, actor, &step)),
         Deed::Listens(name) => Some(listens(ear, stage, actor, name)),
+        Deed::Fills => {
+            actor.told = standard_error::fill();
+            Some(actor.told.is_some())
+        }
         Deed::Leaves => {
             actor.stream = None;
             actor.place = 0;
@@ -388,6 +404,7 @@ where
         Deed::Reads(path, parts) => reads(ear, stage, path, parts),
         Deed::IsNotified(text) => is_notified(ear, stage, actor, text),
         Deed::Keeps(asked) => keeps(ear, actor, &asked),
+        Deed::Empties => empties(actor),
         Deed::Puts(path) => puts(ear, stage, actor, path),
         Deed::Finds(path) => finds(ear, stage, actor, path),
         Deed::Runs(line, told, status) => runs(ear, stage, line, told, status),

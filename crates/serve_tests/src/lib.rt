@@ -58,6 +58,8 @@ mod service;
 #[cfg(test)]
 mod sockets;
 #[cfg(test)]
+mod standard_error;
+#[cfg(test)]
 mod steps;
 #[cfg(test)]
 mod surroundings;

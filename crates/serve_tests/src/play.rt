@@ -219,7 +219,9 @@ where
         + 'static,
 {
     let mut line = String::new(alloc);
-    is_filled(ports, BEGIN, &mut line)
+    let is_served = is_filled(ports, BEGIN, &mut line)
         && is_filled(ports, play.words, &mut line)
-        && status_of(rt, alloc, room, line.as_str()) == play.status
+        && status_of(rt, alloc, room, line.as_str()) == play.status;
+    Ear::new(rt, alloc, room).ends();
+    is_served
 }

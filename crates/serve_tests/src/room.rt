@@ -19,6 +19,9 @@ use std::{io, thread};
 /// A wait has this many turns of a millisecond.
 const TURNS: u64 = 20_000;
 
+/// A text on standard error takes this many milliseconds while the clock stands.
+const SLOW_MILLIS: u64 = 100;
+
 /// What the parts of a scene share.
 #[derive(Drop)]
 pub(crate) struct Room {
@@ -37,6 +40,8 @@ pub(crate) struct Room {
     home: AtomicU64,
     ahead: AtomicU64,
     rested: AtomicU64,
+    standing: AtomicU64,
+    is_over: AtomicU64,
 }
 
 /// What is counted in a room.
@@ -56,6 +61,10 @@ pub(crate) enum Count {
     Ahead,
     /// How many pauses of a second were made.
     Rested,
+    /// What the clock shows while it stands, in milliseconds, or 0 while it goes on.
+    Standing,
+    /// 1 once the run has ended and what it says later is lost.
+    Over,
 }
 
 /// The name of a machine whose address the room has, and one of machines at 127.0.0.2 to 127.0.0.5 and then at
@@ -67,7 +76,7 @@ const DESKS: &str = "desks";
 /// The last numbers of the addresses of those machines.
 const MANY: [u8; 5] = [2, 3, 4, 5, 1];
 
-/// A runtime whose standard output and error stand in a room, and whose clock the room puts forward. The name `desk`
+/// A runtime whose standard output and error stand in a room, and whose clock the room puts forward or stops. The name `desk`
 /// moves with it.
 #[derive(Clone, Copy, Drop)]
 pub(crate) struct Ear<R: Drop> {
@@ -93,6 +102,8 @@ impl Room {
                 home: AtomicU64::new(0),
                 ahead: AtomicU64::new(0),
                 rested: AtomicU64::new(0),
+                standing: AtomicU64::new(0),
+                is_over: AtomicU64::new(0),
             },
         )?;
         Ok(Box::leak(room))
@@ -108,6 +119,8 @@ impl Room {
             Count::Home => &self.home,
             Count::Ahead => &self.ahead,
             Count::Rested => &self.rested,
+            Count::Standing => &self.standing,
+            Count::Over => &self.is_over,
         }
     }
 }
@@ -280,13 +293,52 @@ impl<R: Wait + Clock + Drop> Ear<R> {
     }
 }
 
+impl<R: Wait + Clock + Drop> Ear<R> {
+    /// Whether the clock stands.
+    fn stands(&self) -> bool {
+        self.room.standing.load(Ordering::SeqCst) > 0
+    }
+
+    /// The clock stands from now on. Then whoever waits for so long at most waits as long as it takes, and each text on
+    /// standard error takes a while. It answers whether the clock could be read.
+    pub(crate) fn stops_the_clock(&self) -> bool {
+        match self.monotonic() {
+            Ok(now) => {
+                let millis = now.as_secs().saturating_mul(1_000);
+                let millis = millis.saturating_add(u64::from(now.subsec_millis()));
+                self.marks(Count::Standing, millis.max(1))
+            }
+            Err(_) => false,
+        }
+    }
+
+    /// The run has ended. Where the clock stands, all that it had to say was said by then, so what comes later is lost,
+    /// as it is where a program has ended.
+    pub(crate) fn ends(&self) {
+        if self.stands() {
+            let _ = self.marks(Count::Over, 1);
+        }
+    }
+
+    /// Adds a value to the text on standard error.
+    fn say<D: Display + Drop>(&self, value: D, end: &str) -> io::Result<()> {
+        if self.stands() {
+            thread::sleep(&self.rt, Duration::from_millis(SLOW_MILLIS));
+        }
+        if self.room.is_over.load(Ordering::SeqCst) > 0 {
+            return Ok(());
+        }
+        self.put(&self.room.text, value, end)
+    }
+}
+
 impl<R: Wait + Clock + Drop> Eprint for Ear<R> {
     fn eprint<D: Display + Drop>(&self, value: D) -> io::Result<()> {
-        self.put(&self.room.text, value, "")
+        self.say(value, "")
     }
 
     fn eprintln<D: Display + Drop>(&self, value: D) -> io::Result<()> {
-        self.put(&self.room.text, value, "\n")
+        self.say(value, "\n")
     }
 }
 
@@ -306,6 +358,10 @@ impl<R: Wait + Clock + Drop> Print for Ear<R> {
 
 impl<R: Clock + Drop> Clock for Ear<R> {
     fn monotonic(&self) -> io::Result<Duration> {
+        let standing = self.room.standing.load(Ordering::SeqCst);
+        if standing > 0 {
+            return Ok(Duration::from_millis(standing));
+        }
         let ahead = Duration::from_secs(self.room.ahead.load(Ordering::SeqCst));
         Ok(self.rt.monotonic()?.saturating_add(ahead))
     }

@@ -89,6 +89,8 @@ pub(crate) enum Step {
     Reaches(Count, u64),
     /// The clock is this many seconds ahead from now on.
     PutsForward(u64),
+    /// The clock stands from now on.
+    StopsTheClock,
     /// This text comes on standard error in time.
     IsTold(&'static str),
     /// This text is not on standard error.
@@ -176,6 +178,7 @@ fn is_counted<R: Wait + Clock + Drop>(ear: &Ear<R>, step: &Step) -> Option<bool>
         Step::Adds(count) => Some(ear.adds(count)),
         Step::Reaches(count, number) => Some(ear.reaches(count, number)),
         Step::PutsForward(seconds) => Some(ear.marks(Count::Ahead, seconds)),
+        Step::StopsTheClock => Some(ear.stops_the_clock()),
         Step::IsTold(words) => Some(ear.hears(words)),
         Step::IsNotTold(words) => Some(!ear.has(words)),
         _ => None,
