@@ -14,4 +14,6 @@ mod viewer;
 #[cfg(test)]
 mod watch;
 #[cfg(test)]
+mod wishes;
+#[cfg(test)]
 mod writer;

@@ -1,0 +1,138 @@
+//! What a viewer's loop tells the source of the forms that its answers would use, and for how long.
+
+ghost use Rattle.std.specs.Prelude.{◌≡◌, length};
+
+use crate::watch::{ALWAYS, link_of, make_watch, red_and_blue};
+use fault::Fault;
+use input_relay::relay;
+use joined_runs::Runs;
+use link::{Gave, Took};
+use pixel_format::Format;
+use raster::Rect;
+use reflect_core::{Cut, PlainScreen, ScreenSource};
+use roles::Role;
+use std::alloc::Global;
+use std::sync::Wait;
+use std::sync::atomic::{AtomicU64, Ordering};
+use std::test::Fail;
+use tiles::Have;
+use viewer_server::{Beginning, NoProgress, Visit, run_viewer};
+use viewer_session::Session;
+
+/// No forms were wanted yet, or only of nobody.
+const NONE: u64 = 0;
+
+/// Forms in the host's format are wanted.
+const WANTED: u64 = 1;
+
+/// They were wanted, and aren't any more.
+const NO_LONGER: u64 = 2;
+
+/// Something else was wanted than is told here.
+const OTHERWISE: u64 = 3;
+
+/// A screen that is told in which format forms are wanted.
+#[derive(Drop)]
+struct Told {
+    screen: PlainScreen,
+    wish: AtomicU64,
+}
+
+/// What was wanted with this wish after that one.
+fn after(before: u64, format: Option<Format>) -> u64 {
+    match format {
+        None if before == WANTED => NO_LONGER,
+        None => before,
+        Some(format) if format.is_host() && before < NO_LONGER => WANTED,
+        Some(_) => OTHERWISE,
+    }
+}
+
+impl ScreenSource for Told {
+    ghost known = { λ s. s.screen.updates };
+
+    ghost answered = { λ s. length s.screen.updates };
+
+    ghost width = { λ s. s.screen.width };
+
+    ghost height = { λ s. s.screen.height };
+
+    ghost may_end = { ⊥ };
+
+    ghost looks = { λ old reply new. (reply ≡ old.screen.tally) × (new.screen ≡ old.screen) };
+
+    ghost cuts = { λ old number new. (number ≡ length old.screen.updates) × (new ≡ old) };
+
+    fn size(&self) -> (u64, u64) {
+        self.screen.size()
+    }
+
+    fn look(&mut self) -> u64 {
+        self.screen.look()
+    }
+
+    fn cut(&mut self, area: &Rect, have: &Have, into: &mut Cut) -> Result<u64, Fault> {
+        self.screen.cut(area, have, into)
+    }
+
+    fn want_forms(&self, format: Option<Format>) {
+        let before = self.wish.load(Ordering::SeqCst);
+        self.wish.store(after(before, format), Ordering::SeqCst);
+    }
+}
+
+/// A viewer lists Hextile, asks for the whole screen, and ends (RFC 6143, 7.5.2 and 7.5.3).
+const TAKES_HEXTILE: &[u8] = b"\x02\0\0\x01\0\0\0\x05\x03\0\0\0\0\0\0\x02\0\x01";
+
+/// One that lists Raw does so.
+const TAKES_RAW: &[u8] = b"\x02\0\0\x01\0\0\0\0\x03\0\0\0\0\0\0\x02\0\x01";
+
+/// What two viewers send, in which form they are answered, and what was wanted in the end: an answer in Hextile in the
+/// host's format and in joined runs uses forms (docs/DECISIONS.md).
+const WISHES: [(&[u8], Runs, u64); 3] = [
+    (TAKES_HEXTILE, Runs::Joined, NO_LONGER),
+    (TAKES_HEXTILE, Runs::OfRows, NONE),
+    (TAKES_RAW, Runs::Joined, NONE),
+];
+
+/// What was wanted in the end for a viewer that sends this and is answered in this form.
+fn wish_for<R: Wait + Drop + Copy>(
+    rt: R,
+    alloc: Global,
+    sends: &[u8],
+    runs: Runs,
+) -> Result<u64, Fault> {
+    let takes = [
+        (Took::Bytes(sends.len()), 1),
+        (Took::Nothing, 1),
+        (Took::End, 1),
+    ];
+    let link = link_of(alloc, sends, &takes, &[(Gave::Bytes(64), 4)])?;
+    let (mut senders, _taker) = relay(rt, alloc, 1)?;
+    let Some(sink) = senders.pop() else {
+        return Err(Fault::Gone);
+    };
+    let source = Told {
+        screen: red_and_blue(alloc)?,
+        wish: AtomicU64::new(NONE),
+    };
+    let session = Session::ready(alloc, 2, 1, Role::View, runs)?;
+    let watch = make_watch(ALWAYS);
+    let first = Beginning::of(&link, &source, &sink, &session);
+    let mut visit = Visit::new(&first, link, source, sink, session);
+    let _ = run_viewer(&rt, &mut visit, &watch, &watch, &NoProgress);
+    let (_link, source, _sink, _session) = visit.into_parts(());
+    Ok(source.wish.load(Ordering::SeqCst))
+}
+
+/// While a viewer is served its source is told in which format its answers would use forms, and then that they no longer
+/// do.
+#[test]
+fn forms_are_wanted_while_they_are_used(rt: HostRuntime) -> Result<(), Fail> {
+    for (sends, runs, wanted) in WISHES {
+        if wish_for(rt, rt.alloc(), sends, runs).unwrap_or(OTHERWISE) != wanted {
+            return Err(Fail::new(wanted));
+        }
+    }
+    Ok(())
+}
