@@ -198,7 +198,7 @@ const IS_STOPPED_BETWEEN: &[Act] = &[Act {
 const TOLD: &[u8] = b"RFB 003.008\n\0\0\0\0\x0Bno host yet";
 
 /// Nobody reads the log, and viewers are told all the same. The next line that has room says how many had none, and the
-/// one after it says nothing of that.
+/// one after it says nothing of that. Four addresses of the host's name were tried by then, in the system's order.
 const NOBODY_READS: &[Act] = &[Act {
     who: EARLY,
     deeds: &[
@@ -215,6 +215,7 @@ const NOBODY_READS: &[Act] = &[Act {
         Deed::Does(Step::Sends(VERSION)),
         Deed::Does(Step::Hears(TOLD)),
         Deed::Wants("no-host role=view address=|me| left-out=2"),
+        Deed::Does(Step::Reaches(Count::Tried, 5_432)),
     ],
 }];
 
@@ -267,14 +268,14 @@ const PLAYS: &[Play<'static>] = &[
     },
     Play {
         name: "a run is stopped while nobody is there",
-        words: "--log --again 3600 --host 127.0.0.1:|nobody| --full-places 1 --view-places 1 --control control-|full|",
+        words: "--log --again 3600 --host desks:|nobody| --full-places 1 --view-places 1 --control control-|full|",
         notify: "",
         acts: &[NOBODY_READS, IS_STOPPED_ALONE],
         status: 0,
         lines: &[
             "listening role=full address=127.0.0.1:|full| places=1",
             "listening role=view address=127.0.0.1:|view| places=1",
-            "host-tried address=127.0.0.1:|nobody| why=\"connection refused\"",
+            "host-tried address=127.0.0.2:|nobody| why=\"connection refused\"",
         ],
     },
 ];

@@ -16,7 +16,7 @@ use std::time::Clock;
 const BAD_COMMAND: u8 = 2;
 
 /// The exit status where memory is refused.
-const NO_MEMORY: u8 = 4;
+pub(crate) const NO_MEMORY: u8 = 4;
 
 /// No word, a word too many, a path without a request, a word that is no command, a host that isn't told, a port that is
 /// no number, an option that there isn't.

@@ -1,6 +1,7 @@
-//! Ports that are taken, and hosts that can't be met: `serve` ends with 3.
+//! Ports that are taken, and hosts that can't be met: `serve` ends with 3. Where memory is refused it ends with 4.
 
 use crate::hosts::Host;
+use crate::lines::NO_MEMORY;
 use crate::scene::{FAULT, Scene, play_all};
 use crate::steps::{IS_SILENT, Step};
 use std::test::*;
@@ -48,6 +49,16 @@ const SCENES: &[Scene] = &[
         view: &[],
         status: FAULT,
         lines: &["fault 21", "reflectord: can't listen on 127.0.0.1 port "],
+    },
+    Scene {
+        name: "a system without memory",
+        words: "--bind 127.0.0.9 --host 127.0.0.1:|first|",
+        is_taken: false,
+        hosts: &[],
+        full: &[],
+        view: &[],
+        status: NO_MEMORY,
+        lines: &["fault 20", "reflectord: memory was refused; "],
     },
     Scene {
         name: "an address that is another machine's",

@@ -114,7 +114,7 @@ const SCENES: &[Scene] = &[
         lines: &[
             "listening role=full address=127.0.0.1:|full| places=1",
             "listening role=view address=127.0.0.1:|view| places=1",
-            "host-tried address=127.0.0.5:|first| why=\"connection refused\"",
+            "host-tried address=127.0.0.2:|first| why=\"connection refused\"",
             "fault 21",
             "reflectord: can't connect to the host desks:|first|: ",
         ],

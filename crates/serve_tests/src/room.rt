@@ -6,7 +6,7 @@ use std::alloc::{AllocError, Global};
 use std::boxed::Box;
 use std::fmt::Display;
 use std::io::ErrorKind;
-use std::net::{Ipv4Addr, Net, SocketAddr, TcpListener, TcpStream};
+use std::net::{IpAddr, Ipv4Addr, Net, SocketAddr, TcpListener, TcpStream};
 use std::os::fd::OwnedFd;
 use std::os::unix::net as unix;
 use std::os::unix::net::UnixStream;
@@ -40,6 +40,7 @@ pub(crate) struct Room {
     home: AtomicU64,
     ahead: AtomicU64,
     rested: AtomicU64,
+    tried: AtomicU64,
     standing: AtomicU64,
     is_over: AtomicU64,
 }
@@ -61,20 +62,28 @@ pub(crate) enum Count {
     Ahead,
     /// How many pauses of a second were made.
     Rested,
+    /// The last numbers of the addresses that were tried for as long as a host's may be, one digit after another.
+    Tried,
     /// What the clock shows while it stands, in milliseconds, or 0 while it goes on.
     Standing,
     /// 1 once the run has ended and what it says later is lost.
     Over,
 }
 
-/// The name of a machine whose address the room has, and one of machines at 127.0.0.2 to 127.0.0.5 and then at
+/// The name of a machine whose address the room has, and one of machines at 127.0.0.5 to 127.0.0.2 and then at
 /// 127.0.0.1. Each other name is the system's.
 const DESK: &str = "desk";
 
 const DESKS: &str = "desks";
 
 /// The last numbers of the addresses of those machines.
-const MANY: [u8; 5] = [2, 3, 4, 5, 1];
+const MANY: [u8; 5] = [5, 4, 3, 2, 1];
+
+/// For how many seconds one address of a host is tried (docs/OPERATING.md, "How long it waits").
+const PATIENCE_SECONDS: u64 = 5;
+
+/// At this address the system has no memory for a port.
+const SHORT: [u8; 4] = [127, 0, 0, 9];
 
 /// A runtime whose standard output and error stand in a room, and whose clock the room puts forward or stops. The name `desk`
 /// moves with it.
@@ -102,6 +111,7 @@ impl Room {
                 home: AtomicU64::new(0),
                 ahead: AtomicU64::new(0),
                 rested: AtomicU64::new(0),
+                tried: AtomicU64::new(0),
                 standing: AtomicU64::new(0),
                 is_over: AtomicU64::new(0),
             },
@@ -119,6 +129,7 @@ impl Room {
             Count::Home => &self.home,
             Count::Ahead => &self.ahead,
             Count::Rested => &self.rested,
+            Count::Tried => &self.tried,
             Count::Standing => &self.standing,
             Count::Over => &self.is_over,
         }
@@ -378,6 +389,25 @@ impl<R: Clock + Drop> Clock for Ear<R> {
     }
 }
 
+/// The last number of an address, or 0 where it isn't one of IPv4.
+fn last_number(address: SocketAddr) -> u64 {
+    match address {
+        SocketAddr::V4(address) => {
+            let [_, _, _, last] = address.ip().octets();
+            u64::from(last)
+        }
+        SocketAddr::V6(_) => 0,
+    }
+}
+
+impl<R: Drop> Ear<R> {
+    /// Notes that this address is tried.
+    fn note_try(&self, address: SocketAddr) {
+        let tried = self.room.tried.load(Ordering::SeqCst).saturating_mul(10);
+        let _ = self.marks(Count::Tried, tried.saturating_add(last_number(address)));
+    }
+}
+
 /// The addresses of many machines at this port, as far as there is room for them, and how many these are.
 fn find_many(port: u16, found: &mut [SocketAddr]) -> usize
     ensures { result ≤ length found.new }
@@ -394,6 +424,9 @@ impl<R: Net<Stream = TcpStream, Listener = TcpListener> + Drop> Net for Ear<R> {
     type Listener = TcpListener;
 
     fn bind(&self, address: SocketAddr) -> io::Result<TcpListener> {
+        if address.ip() == IpAddr::from(SHORT) {
+            return Err(io::Error::from(ErrorKind::OutOfMemory));
+        }
         self.rt.bind(address)
     }
 
@@ -402,6 +435,9 @@ impl<R: Net<Stream = TcpStream, Listener = TcpListener> + Drop> Net for Ear<R> {
     }
 
     fn connect_timeout(&self, address: SocketAddr, timeout: Duration) -> io::Result<TcpStream> {
+        if timeout == Duration::from_secs(PATIENCE_SECONDS) {
+            self.note_try(address);
+        }
         self.rt.connect_timeout(address, timeout)
     }
 
