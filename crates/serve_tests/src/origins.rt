@@ -21,6 +21,9 @@ const OUT: &str = "HTTP/1.1 403 ";
 /// What the system is asked for at the end of a viewer (docs/OPERATING.md, "How long it waits").
 const OF_A_VIEWER: Asked = [1, 60, 15, 4, 60_000, 1];
 
+/// The same where a viewer may take nothing for twenty seconds.
+const OF_ONE_FOR_TWENTY: Asked = [1, 20, 5, 4, 20_000, 1];
+
 /// The header of a proxy that was connected to from 192.0.2.7, port 4711 (the PROXY protocol, 2.2).
 const HEADER: &[u8] =
     b"\r\n\r\n\0\r\nQUIT\n\x21\x11\0\x0C\xC0\0\x02\x07\x0A\0\0\x01\x12\x67\x17\x0C";
@@ -107,6 +110,7 @@ const OF_NAMED: &[Act] = &[
         deeds: &[
             Deed::Connects("web_view"),
             Deed::Opens("lecture.example", "https://lecture.example", IN),
+            Deed::Keeps(OF_ONE_FOR_TWENTY),
             Deed::Connects("web_view"),
             Deed::Opens("second.example:8080", "http://second.example:8080", IN),
             Deed::Connects("web_view"),
@@ -190,7 +194,7 @@ const PLAYS: &[Play<'static>] = &[
     },
     Play {
         name: "the pages that are named are let in",
-        words: "--host 127.0.0.1:|first| --web-full |web_full| --web-view |web_view| --web-origin https://lecture.example --web-origin http://second.example:8080",
+        words: "--host 127.0.0.1:|first| --web-full |web_full| --web-view |web_view| --web-origin https://lecture.example --web-origin http://second.example:8080 --stalled 20",
         notify: "",
         acts: &[OF_NAMED],
         status: 0,
