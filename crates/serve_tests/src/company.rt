@@ -259,9 +259,17 @@ const COUNTED_ANEW: &[&str] = &[
     "\nreflectord_viewer_lag_updates{share=\"0.5\"} 0\n",
 ];
 
+/// By how many updates six viewers are behind, while one of them has been shown none of two: half of them by none, and
+/// nine tenths of them by up to two.
+const LAG: &[&str] = &[
+    "\nreflectord_viewer_lag_updates{share=\"0.5\"} 0\n",
+    "\nreflectord_viewer_lag_updates{share=\"0.9\"} 2\n",
+    "\nreflectord_viewer_lag_updates{share=\"1\"} 2\n",
+];
+
 /// The state says the same of each viewer. The second is sent away by the number of its place, and another comes to
-/// that place, of which only the beginning of its greeting was counted by then. A further one finds none. The next
-/// update reaches all that are there.
+/// that place, of which only the beginning of its greeting was counted by then, and which is behind. A further one finds
+/// none. The next update reaches all that are there.
 const ONE_IS_SENT_AWAY: &[Act] = &[
     Act {
         who: FULL,
@@ -302,8 +310,9 @@ const ONE_IS_SENT_AWAY: &[Act] = &[
         deeds: &[
             Deed::Sees(
                 "viewer place=|place| role=full address=|me| seconds=",
-                " updates=0 bytes=14 ",
+                " updates=0 bytes=14 behind=2 ",
             ),
+            Deed::Reads("/metrics", LAG),
             Deed::Does(Step::IsGreeted(INIT)),
             Deed::Sees(
                 "viewer place=|place| role=full address=|me| seconds=",
