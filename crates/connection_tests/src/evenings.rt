@@ -168,13 +168,14 @@ fn proxy_for(visitors: Visitors) -> Option<IpAddr> {
     }
 }
 
-/// What `serves` answers with a new port. Its clock goes on only where viewers wait for a place.
+/// What `serves` answers with a new port, where nothing was counted of each viewer as it came. The port's clock goes on
+/// only where viewers wait for a place.
 fn opens<R>(rt: R, net: &HostRuntime, visitors: Visitors) -> io::Result<(bool, Count)>
 where
     R: Threads + Wait + Clock + Copy + Drop + Send + Sync,
 {
     let lobby = make_lobby(net.alloc())?;
-    let log = make_notebook(rt, net.alloc())?;
+    let log = make_notebook(rt, net.alloc(), &lobby)?;
     let (address, porter) = make_porter(net, &lobby, proxy_for(visitors))?;
     let mut door = make_door(rt, net, &lobby, Arc::try_clone(&log)?)?;
     let millis = AtomicU64::new(0);
@@ -199,7 +200,8 @@ where
         opened: &opened,
         log: &log,
     };
-    Ok(serves(rt, &hand, &house, porter, &mut door, visitors))
+    let (is_right, count) = serves(rt, &hand, &house, porter, &mut door, visitors);
+    Ok((is_right && log.all_were_new(), count))
 }
 
 /// Whether this many viewers came, and each was greeted. Of rivals the version came at once, and the links of viewers

@@ -1,7 +1,7 @@
 //! A port with one place, as its visitors find it: its clock, its log and its desk.
 
 use crate::sockets::{VERSION, come, connect};
-use connections::Lobby;
+use connections::{Desk, Lobby};
 use run_control::{Outcome, Request};
 use run_traits::{Event, Log};
 use std::alloc::Global;
@@ -43,32 +43,65 @@ impl<R: Clock + Drop> Clock for ByHand<'_, R> {
     }
 }
 
-/// A log that counts the events that it is told and the newcomers that lacked a header, and keeps the address of the
-/// viewer that came last.
+/// A log that counts the events that it is told, the newcomers that lacked a header, and the viewers of which something
+/// was counted before they came. It keeps the address of the viewer that came last.
 #[derive(Drop)]
 pub(crate) struct Notebook<R: Drop> {
     pub(crate) rt: R,
+    alloc: Global,
+    desk: Arc<Desk, Global>,
     count: AtomicU64,
     lacking: AtomicU64,
+    counted: AtomicU64,
     last: Mutex<Option<SocketAddr>>,
 }
 
-/// A log that was told nothing yet.
-pub(crate) fn make_notebook<R: Drop>(rt: R, alloc: Global) -> io::Result<Arc<Notebook<R>, Global>> {
+/// A log that was told nothing yet, of what happens at the doors of this lobby.
+pub(crate) fn make_notebook<R: Drop>(
+    rt: R,
+    alloc: Global,
+    lobby: &Lobby,
+) -> io::Result<Arc<Notebook<R>, Global>> {
     let log = Notebook {
         rt,
+        alloc,
+        desk: Arc::try_clone(lobby.desk())?,
         count: AtomicU64::new(0),
         lacking: AtomicU64::new(0),
+        counted: AtomicU64::new(0),
         last: Mutex::new(None),
     };
     Ok(Arc::new(alloc, log)?)
 }
 
-impl<R: Wait + Drop> Log for Notebook<R> {
+impl<R: Wait + Clock + Drop> Notebook<R> {
+    /// Whether nothing was counted of the viewer that is there.
+    fn is_new(&self) -> bool {
+        match self.desk.look(&self.rt, self.alloc) {
+            Ok(run_card) => match run_card.viewers.first() {
+                Some(viewer) => viewer.updates == 0 && viewer.shown == 0 && viewer.bytes == 0,
+                None => false,
+            },
+            Err(_) => false,
+        }
+    }
+
+    /// Whether nothing was counted of each viewer as it came.
+    pub(crate) fn all_were_new(&self) -> bool {
+        self.counted.load(Ordering::SeqCst) == 0
+    }
+}
+
+impl<R: Wait + Clock + Drop> Log for Notebook<R> {
     fn note(&self, event: &Event<'_>) {
         self.count.fetch_add(1, Ordering::SeqCst);
         match event {
-            Event::ViewerIn { address, .. } => *self.last.lock(&self.rt) = *address,
+            Event::ViewerIn { address, .. } => {
+                *self.last.lock(&self.rt) = *address;
+                if !self.is_new() {
+                    self.counted.fetch_add(1, Ordering::SeqCst);
+                }
+            }
             Event::NoHeader { .. } => {
                 self.lacking.fetch_add(1, Ordering::SeqCst);
             }
