@@ -1,4 +1,5 @@
-//! Tests of what browsers are told: of the web ports of `connections`, and of `serve` behind them, over loopback alone.
+//! Tests of what browsers are told: of the web ports of `connections`, of `serve` behind them, over loopback alone, and
+//! of the files that `web_root` reads for them.
 //! They are in their own crate so that what they test is proved once.
 #![tactic(auto)]
 
@@ -8,6 +9,8 @@ mod asks;
 mod browser;
 #[cfg(test)]
 mod clock;
+#[cfg(test)]
+mod files;
 #[cfg(test)]
 mod host;
 #[cfg(test)]
