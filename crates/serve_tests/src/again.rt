@@ -219,17 +219,77 @@ const NOBODY_READS: &[Act] = &[Act {
     ],
 }];
 
-/// No host is there, and no viewer is let in, when an operator stops the run.
+/// No host is there, and no viewer is let in, when an operator stops the run. The system has refused an operator's
+/// connection before.
 const IS_STOPPED_ALONE: &[Act] = &[Act {
     who: EARLY,
     deeds: &[
         Deed::Connects("full"),
         Deed::Does(Step::Sends(VERSION)),
         Deed::Does(Step::IsRefused(NO_HOST)),
+        Deed::Hurries,
+        Deed::IsObeyed("undrain\n", "|done\n|"),
+        Deed::IsObeyed("undrain\n", "|done\n|"),
         Deed::IsObeyed("stop\n", "|done\n|"),
         Deed::Does(Step::Removes),
     ],
 }];
+
+/// The screen is 512 by 512, of 32 bits a pixel, named T (RFC 6143, 7.3.2 and 7.4). An answer of all of it has 1 MiB,
+/// more than the system keeps for a viewer that it is asked to keep little for.
+const LARGE: &[u8] = b"\x02\0\x02\0\x20\x18\0\x01\0\xFF\0\xFF\0\xFF\x10\x08\0\0\0\0\0\0\0\x01T";
+
+/// What a client gives that joins the host of this screen (RFC 6143, 7.5.1 to 7.5.3).
+const ASKED: &[u8] = b"\0\0\0\0\x20\x18\0\x01\0\xFF\0\xFF\0\xFF\x10\x08\0\0\0\0\
+      \x02\0\0\x04\0\0\0\x01\0\0\0\x05\0\0\0\x02\0\0\0\0\
+      \x03\0\0\0\0\0\x02\0\x02\0";
+
+/// A viewer asks for the whole screen, and its answer begins with this (RFC 6143, 7.5.3 and 7.6.1).
+const ASK_ALL: &[u8] = b"\x03\0\0\0\0\0\x02\0\x02\0";
+
+const BEGINS: &[u8] = b"\0\0";
+
+/// A viewer takes the beginning of its answer and nothing more. A stop sends it away at once: the clock stands, so that
+/// waiting for it would have no end.
+const ONE_TAKES_NOTHING: &[Act] = &[
+    Act {
+        who: HOST,
+        deeds: &[
+            Deed::IsMet(0),
+            Deed::Does(Step::Sends(VERSION)),
+            Deed::Does(Step::Hears(VERSION)),
+            Deed::Does(Step::Sends(b"\x01\x01")),
+            Deed::Does(Step::Hears(b"\x01")),
+            Deed::Does(Step::Sends(b"\0\0\0\0")),
+            Deed::Does(Step::Hears(b"\x01")),
+            Deed::Does(Step::Sends(LARGE)),
+            Deed::Does(Step::Hears(ASKED)),
+        ],
+    },
+    Act {
+        who: VIEWER,
+        deeds: &[
+            Deed::ComesAfter("full", NO_HOST),
+            Deed::HasPlace("full", &[1], ""),
+            Deed::Wants("viewer-in place=1 role=full address=|me|"),
+            Deed::Does(Step::IsGreeted(LARGE)),
+            Deed::IsKeptLittle,
+            Deed::Does(Step::Sends(ASK_ALL)),
+            Deed::Does(Step::Hears(BEGINS)),
+            Deed::Wants("viewer-out place=1 role=full address=|me| *"),
+        ],
+    },
+    Act {
+        who: HOST,
+        deeds: &[
+            Deed::Does(Step::StopsTheClock),
+            Deed::IsObeyed("stop\n", "|done\n|"),
+            Deed::IsTold(" why=\"sent away\"\n"),
+            Deed::Does(Step::IsLetGo),
+            Deed::Does(Step::Removes),
+        ],
+    },
+];
 
 const PLAYS: &[Play<'static>] = &[
     Play {
@@ -264,6 +324,20 @@ const PLAYS: &[Play<'static>] = &[
             "host-tried address=127.0.0.1:|first| why=\"connected\"",
             "host-joined address=127.0.0.1:|first| width=2 height=1 name=\"\\x80\\x9b\\\"\\x9fT\"",
             "host-out address=127.0.0.1:|first| why=\"ended\"",
+        ],
+    },
+    Play {
+        name: "a run is stopped while a viewer takes nothing",
+        words: "--log --again 3600 --host 127.0.0.1:|first| --full-places 1 --view-places 1 --control control-|full|",
+        notify: "",
+        acts: &[ONE_TAKES_NOTHING],
+        status: 0,
+        lines: &[
+            "listening role=full address=127.0.0.1:|full| places=1",
+            "listening role=view address=127.0.0.1:|view| places=1",
+            "host-tried address=127.0.0.1:|first| why=\"connected\"",
+            "host-joined address=127.0.0.1:|first| width=512 height=512 name=\"T\"",
+            "host-out address=127.0.0.1:|first| why=\"stopped\"",
         ],
     },
     Play {

@@ -10,7 +10,7 @@ use crate::operator::{answer, connect as connect_operator};
 use crate::refusals::Refusal;
 use crate::room::{Ear, Room};
 use crate::scene::{Stage, is_filled, port_of};
-use crate::sockets::{Asked, is_asked_for};
+use crate::sockets::{Asked, is_asked_for, is_hurried, is_kept_little};
 use crate::steps::{Step, is_taken};
 use crate::system::SocketFiles;
 use crate::visits::{Entry, enters};
@@ -59,6 +59,9 @@ pub(crate) enum Deed {
     IsObeyed(&'static str, &'static str),
     /// As an operator, says nothing and goes on.
     IsSilent,
+    /// Has the system refuse the run an operator's connection again and again, from the one after the next on, until one
+    /// is there.
+    Hurries,
     /// As an operator, is told in time that the state has a line that begins so and has this part.
     Sees(&'static str, &'static str),
     /// As a machine, is told each of these in time where it asks for this path.
@@ -68,6 +71,8 @@ pub(crate) enum Deed {
     Opens(&'static str, &'static str, &'static str),
     /// The system is asked for this in time at the other end of its connection.
     Keeps(Asked),
+    /// From now on the system keeps little of what is sent to it and not taken.
+    IsKeptLittle,
     /// As systemd, hears notices at this name from now on.
     Listens(&'static str),
     /// The next notice is this one.
@@ -184,6 +189,14 @@ fn keeps<R: Clock + Drop>(ear: &Ear<R>, actor: &Actor, asked: &Asked) -> bool {
     }
 }
 
+/// Whether the system keeps little from now on of what is sent to the actor.
+fn is_choked(actor: &Actor) -> bool {
+    match &actor.stream {
+        Some(stream) => is_kept_little(stream),
+        None => false,
+    }
+}
+
 /// Whether standard error has room again.
 fn empties(actor: &Actor) -> bool {
     match &actor.told {
@@ -279,6 +292,14 @@ where
     match answer(ear, port(stage, "full"), "state\n") {
         Ok(answer) => silent.is_some() && answer.as_str().starts_with("|entry "),
         Err(_) => false,
+    }
+}
+
+/// Whether the system refuses the run an operator's connection that isn't there.
+fn hurries<R: Drop>(ear: &Ear<R>, stage: &Stage, actor: &Actor) -> bool {
+    match filled(ear.alloc, &stage.ports, actor, "control-|full|") {
+        Some(path) => is_hurried(path.as_str()),
+        None => false,
     }
 }
 
@@ -398,6 +419,7 @@ where
         Deed::IsTold(text) => hears(ear, stage, actor, text),
         Deed::IsObeyed(request, wanted) => is_obeyed(ear, stage, actor, request, wanted),
         Deed::IsSilent => is_silent(ear, stage),
+        Deed::Hurries => hurries(ear, stage, actor),
         Deed::Sees(begins, part) => {
             is_standing(ear, &stage.ports, actor, port(stage, "full"), begins, part)
         }
@@ -405,6 +427,7 @@ where
         Deed::IsNotified(text) => is_notified(ear, stage, actor, text),
         Deed::Keeps(asked) => keeps(ear, actor, &asked),
         Deed::Empties => empties(actor),
+        Deed::IsKeptLittle => is_choked(actor),
         Deed::Puts(path) => puts(ear, stage, actor, path),
         Deed::Finds(path) => finds(ear, stage, actor, path),
         Deed::Runs(line, told, status) => runs(ear, stage, line, told, status),

@@ -1,7 +1,9 @@
-//! What the system was asked for at the other end of a connection, which `serve` has in the same process.
+//! What the system was asked for at the other end of a connection, which `serve` has in the same process, and what it
+//! refuses where `serve` listens.
 
 use libc::net as c;
 use std::net::{Ipv4Addr, SocketAddr, TcpStream};
+use std::os::fd::AsRawFd;
 
 /// The descriptors among which the other end is looked for.
 const MOST_DESCRIPTORS: i32 = 1_024;
@@ -32,8 +34,8 @@ fn is_from(fd: i32, address: &[u8; ADDRESS]) -> bool {
     status == 0 && raw.starts_with(address)
 }
 
-/// Whether this descriptor is a connection to this address.
-fn is_to(fd: i32, address: &[u8; ADDRESS]) -> bool {
+/// Whether this descriptor is a connection to an address that begins so.
+fn is_to(fd: i32, address: &[u8]) -> bool {
     let mut raw = [0u8; c::_SS_SIZE];
     let mut len: u32 = 128;
     let status = unsafe { c::getpeername(fd, &mut raw, &mut len) };
@@ -107,6 +109,49 @@ fn other_end(here: SocketAddr, there: SocketAddr) -> Option<i32> {
         }
     }
     None
+}
+
+/// Whether the system keeps as little as it can from now on of what the other end of a connection sends and this one
+/// doesn't take.
+pub(crate) fn is_kept_little(stream: &TcpStream) -> bool {
+    let (Ok(here), Ok(there)) = (stream.local_addr(), stream.peer_addr()) else {
+        return false;
+    };
+    let Some(far) = other_end(here, there) else {
+        return false;
+    };
+    let none = [0u8; 16];
+    let sent = unsafe { c::setsockopt(far, c::SOL_SOCKET, c::SO_SNDBUF, &none, 4) };
+    let near = stream.as_raw_fd();
+    let taken = unsafe { c::setsockopt(near, c::SOL_SOCKET, c::SO_RCVBUF, &none, 4) };
+    sent == 0 && taken == 0
+}
+
+/// Whether this descriptor is a socket of this path that isn't connected.
+fn is_listener_at(fd: i32, path: &[u8]) -> bool {
+    let mut raw = [0u8; c::_SS_SIZE];
+    let mut len: u32 = 128;
+    let status = unsafe { c::getsockname(fd, &mut raw, &mut len) };
+    let [family, no_family] = (c::AF_UNIX as u16).to_ne_bytes();
+    let is_there = match raw.strip_prefix(&[family, no_family]) {
+        Some(named) => match named.strip_prefix(path) {
+            Some(rest) => rest.first() == Some(&0),
+            None => false,
+        },
+        None => false,
+    };
+    status == 0 && is_there && !is_to(fd, &[])
+}
+
+/// Has the system refuse each connection at the listener of this path that it would have to wait for. It answers
+/// whether there is such a listener.
+pub(crate) fn is_hurried(path: &str) -> bool {
+    for fd in 0..MOST_DESCRIPTORS {
+        if is_listener_at(fd, path.as_bytes()) {
+            return os::set_nonblocking(fd, true) == 0;
+        }
+    }
+    false
 }
 
 /// Whether the system was asked for this at the other end of a connection.
