@@ -6,4 +6,5 @@ pub mod Runs
 pub mod States
 pub mod Statuses
 pub mod Stops
+pub mod Troubles
 pub mod Turns

@@ -52,11 +52,13 @@ pub(crate) struct Trouble {
 }
 
 impl Trouble {
-    ghost use Rattle.std.specs.Prelude.{◌≡◌};
+    ghost use Rattle.std.specs.Prelude.{◌≡◌, None, Some};
+    ghost use Rattle.std.specs.IoError.{error_kind};
+    ghost use Rattle.serve.specs.Troubles.{fault_for, is_final_fault};
 
     /// A fault that the system says nothing of.
     pub(crate) fn new(stage: Stage, fault: Fault) -> Trouble
-        ensures { (result.fault ≡ fault) × (result.stage ≡ stage) }
+        ensures { (result.fault ≡ fault) × (result.stage ≡ stage) × (result.error ≡ None) }
     {
         Trouble {
             fault,
@@ -66,13 +68,17 @@ impl Trouble {
     }
 
     /// Whether no host has its turn after it: memory was refused, or a host's screen can't be shown.
-    pub(crate) fn is_final(&self) -> bool {
+    pub(crate) fn is_final(&self) -> bool
+        ensures { result ≡ is_final_fault self.now.fault }
+    {
         matches!(self.fault, Fault::Memory | Fault::BadScreen)
     }
 
     /// What the system refused: memory, or a connection.
     pub(crate) fn of(stage: Stage, error: io::Error) -> Trouble
-        ensures { result.stage ≡ stage }
+        ensures fault { result.fault ≡ fault_for (error_kind error) }
+        ensures stage { result.stage ≡ stage }
+        ensures error { result.error ≡ Some error }
     {
         let fault = if error.kind() == ErrorKind::OutOfMemory {
             Fault::Memory
