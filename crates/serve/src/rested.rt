@@ -1,6 +1,7 @@
 //! A pause that was made.
 
-ghost use Rattle.std.specs.Prelude.{◌≡◌, IfOk};
+ghost use Rattle.std.specs.Prelude.{◌≡◌, ◌*◌, IfOk};
+ghost use Rattle.std.specs.Duration.{as_nanos};
 
 use std::thread;
 use std::time::{Clock, Duration};
@@ -21,12 +22,19 @@ pub struct Rested {
     seconds: u64,
 }
 
+/// So many seconds.
+fn seconds_long(seconds: u64) -> Duration
+    ensures { as_nanos result ≡ seconds * 1_000_000_000 }
+{
+    Duration::from_secs(seconds)
+}
+
 impl Rested {
     /// Lets so many seconds pass.
     pub fn after<R: Clock>(rt: &R, seconds: u64) -> Rested
         ensures { result.seconds ≡ seconds }
     {
-        thread::sleep(rt, Duration::from_secs(seconds));
+        thread::sleep(rt, seconds_long(seconds));
         Rested { seconds }
     }
 
@@ -42,7 +50,7 @@ impl Rested {
             if let Some(order) = caller.order() {
                 return Err(order);
             }
-            thread::sleep(rt, Duration::from_secs(1));
+            thread::sleep(rt, seconds_long(1));
         }
         Ok(Rested { seconds })
     }
