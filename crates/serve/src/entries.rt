@@ -1,7 +1,8 @@
 //! Where the viewers of both roles come in.
 
-ghost use Rattle.std.specs.Prelude.{◌≡◌, IfOk, true};
+ghost use Rattle.std.specs.Prelude.{◌≡◌, All, IfOk, true};
 ghost use Rattle.roles.specs.declared.role.Role.TheVariants.{Full};
+ghost use Rattle.serve.specs.Browsers.{LetsNullIn};
 ghost use Rattle.serve.specs.Doors.{AreBoth, IsFullEntry};
 ghost use Rattle.serve.specs.Ports.{AsksForPeople, AsksFor, AsksForViewers};
 
@@ -92,6 +93,7 @@ where
     G: Log,
     ensures asked { AsksForPeople settings.now ports.old ports.new }
     ensures both { IfOk result (λ entrances. AreBoth settings.now entrances.full entrances.view) }
+    ensures null { IfOk result (λ entrances. All (λ entry. ¬ (LetsNullIn entry)) entrances.web.items) }
 {
     let files = files_of(*rt, alloc, settings)?;
     let (full, view) = open_both(rt, alloc, settings, ports, log)?;

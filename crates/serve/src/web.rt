@@ -1,10 +1,12 @@
 //! The ports for browsers.
 
-ghost use Rattle.std.specs.Prelude.{◌≡◌, ◌++◌, ◌∷◌, [], IfOk, IfSome, MatchOption, None, OnOk};
+ghost use Rattle.std.specs.Prelude.{◌≡◌, ◌++◌, ◌∷◌, [], All, IfOk, IfSome, MatchOption, None, OnOk};
+ghost use Rattle.std.specs.String.{string_bytes};
 ghost use Rattle.std.specs.Arc.{arc_value};
 ghost use Rattle.roles.specs.declared.role.Role.TheVariants.{Full};
 ghost use Rattle.serve.specs.Browsers.{AreWebEntries, IsSiteFor, IsWebEntryFor, looks_only};
 ghost use Rattle.serve.specs.Doors.{AreBoth, IsEntryFor, IsFullEntry};
+ghost use Rattle.serve.specs.Origins.{IsAnOrigin};
 ghost use Rattle.serve.specs.Ports.{AsksForBrowsers, AsksForWeb};
 
 use crate::bound::{Bound, Ports};
@@ -51,7 +53,8 @@ pub(crate) fn files_of<R: Files + AllocGlobal + Copy + Drop>(
     alloc: Global,
     settings: &Settings,
 ) -> Result<Arc<FileTable, Global>, Trouble>
-    ensures { settings.now.web_root ≡ None → IfOk result (λ files. arc_value files ≡ []) }
+    ensures files { settings.now.web_root ≡ None → IfOk result (λ files. arc_value files ≡ []) }
+    ensures origins { IfOk result (λ _. All (λ origin. IsAnOrigin (string_bytes origin)) settings.now.web_origins.items) }
 {
     if let Some(number) = first_bad(settings.web_origins.as_slice()) {
         return Err(Trouble::new(Stage::ReadOrigin(number), Fault::LinkFailed));
@@ -81,7 +84,7 @@ fn site_of(
     address: SocketAddr,
     files: &Arc<FileTable, Global>,
 ) -> Result<Arc<Site, Global>, AllocError>
-    ensures { IfOk result (λ site. IsSiteFor role settings.now (arc_value files.now) (arc_value site)) }
+    ensures { IfOk result (λ site. IsSiteFor role settings.now (arc_value files.now) address (arc_value site)) }
 {
     let admission = admission_of(alloc, address, settings.web_origins.as_slice())?;
     let files = Arc::try_clone(files)?;
@@ -173,7 +176,7 @@ fn open_full_web<R: Net<Stream = TcpStream, Listener = TcpListener>, G: Log>(
 }
 
 /// Listens for the browsers with full control, and then for those that only look on, where there are ports for them.
-#[tactic(auto, using(crate::proofs::Asking::first_web_alone, crate::proofs::Asking::both_webs, crate::proofs::Browsers::both))]
+#[tactic(auto, using(crate::proofs::Asking::first_web_alone, crate::proofs::Asking::both_webs))]
 pub(crate) fn open_webs<R: Net<Stream = TcpStream, Listener = TcpListener>, G: Log>(
     rt: &R,
     alloc: Global,
