@@ -1,6 +1,6 @@
 -- The entries and the doors of a run (own).
-use Rattle.std.specs.Prelude.{◌≡◌, ◌++◌, List, MatchOption, Option, false, map, replicate, true}
-use Rattle.std.specs.List.{All}
+use Rattle.std.specs.Prelude.{◌≡◌, ◌++◌, List, MatchOption, Option, false, length, map, replicate, true}
+use Rattle.std.specs.List.{All, range_with_len}
 use Rattle.std.specs.Arc.{arc_value}
 use Rattle.roles.specs.declared.role.Role.{Role}
 use Rattle.roles.specs.declared.role.Role.TheVariants.{Full, View}
@@ -27,6 +27,10 @@ module _ {R G : Type 0} where
   -- Beside each door stands the role of the lobby that its viewers come from.
   abbrev pub HaveTheirRoles : List (Role × TcpDoor R G) → Type 0
   HaveTheirRoles doors = All (λ door. door.0 ≡ role_behind door.1) doors
+
+  -- Their places have the numbers from 1 on, in order.
+  abbrev pub AreNumbered : List (Role × TcpDoor R G) → Type 0
+  AreNumbered doors = map (λ door. door.1.place) doors ≡ range_with_len 1 (length doors)
 
   -- The roles beside the doors.
   abbrev pub roles_in : List (Role × TcpDoor R G) → List Role

@@ -3,9 +3,13 @@ use Rattle.std.specs.Prelude.{◌≡◌, ◌-◌, ◌/◌, List, ℕ}
 use Rattle.std.specs.String.{string_bytes}
 use Rattle.run_reports.specs.declared.report.HostReport.{HostReport}
 use Rattle.run_reports.specs.declared.report.ViewerReport.{ViewerReport}
+use Rattle.roles.specs.declared.role.Role.TheVariants.{Full, View}
+use Rattle.settings.specs.ByRole.{places_for}
+use Rattle.settings.specs.declared.values.Settings.{Settings}
 use Rattle.connections.specs.declared.desk.RunCard.{RunCard}
 use Rattle.connections.specs.declared.desk.ViewerCard.{ViewerCard}
 use Rattle.connections.specs.declared.desk.HostCard.{HostCard}
+use Rattle.serve.specs.declared.control.Control.{Control}
 
 abbrev pub seconds_from : ℕ → ℕ → ℕ
 seconds_from since now = (now - since) / 1000
@@ -32,3 +36,7 @@ pub record IsHostReport (card : HostCard) (address : List ℕ) (run_card : RunCa
   pub seconds : report.seconds ≡ seconds_from card.since run_card.now
   pub silent : report.silent ≡ seconds_from run_card.heard run_card.now
   pub updates : report.updates ≡ run_card.updates
+
+-- An operator is told of as many places of each role as the settings say.
+abbrev pub HasPlacesFor : Settings → Control → Type 0
+HasPlacesFor settings control = (control.full_places ≡ places_for Full settings) × (control.view_places ≡ places_for View settings)

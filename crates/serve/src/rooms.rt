@@ -5,7 +5,7 @@ ghost use Rattle.std.specs.Arc.{arc_value};
 ghost use Rattle.fault.specs.declared.kinds.Fault.TheVariants.{Memory};
 ghost use Rattle.settings.specs.ByRole.{HasPlaces, places_for};
 ghost use Rattle.roles.specs.declared.role.Role.TheVariants.{Full};
-ghost use Rattle.serve.specs.Doors.{AreDoorsFor, AreBoth, HaveTheirRoles, IsFullEntry, roles_in};
+ghost use Rattle.serve.specs.Doors.{AreDoorsFor, AreBoth, AreNumbered, HaveTheirRoles, IsFullEntry, roles_in};
 
 use crate::open::Entry;
 use crate::runtime::{Runtime, STACK};
@@ -31,12 +31,14 @@ pub(crate) struct Rooms<R: Wait + Clock + Drop, G: Log + Drop> {
     pub(crate) doors: Vec<(Role, TcpDoor<R, G>)>,
     pub(crate) seats: Vec<Arc<Seat, Global>>,
     pub(crate) ghost told: { HaveTheirRoles doors.items },
+    pub(crate) ghost numbered: { AreNumbered doors.items },
 }
 
 impl<R: Wait + Clock + Drop + Copy + Net, G: Log + Clone + Drop> Rooms<R, G> {
     /// Rooms without any place.
     pub(crate) fn new(alloc: Global) -> Rooms<R, G>
-        ensures { result.doors.items ≡ [] }
+        ensures doors { result.doors.items ≡ [] }
+        ensures seats { result.seats.items ≡ [] }
     {
         Rooms {
             doors: Vec::new(alloc),
@@ -45,7 +47,7 @@ impl<R: Wait + Clock + Drop + Copy + Net, G: Log + Clone + Drop> Rooms<R, G> {
     }
 
     /// Adds a place, whose thread waits at this seat.
-    #[tactic(auto, using(crate::proofs::Roles::one_more))]
+    #[tactic(auto, using(crate::proofs::Roles::one_more, crate::proofs::Numbered::one_more))]
     fn add(
         &mut self,
         rt: R,
@@ -56,6 +58,7 @@ impl<R: Wait + Clock + Drop + Copy + Net, G: Log + Clone + Drop> Rooms<R, G> {
     ) -> Result<(), Fault>
         requires { length self.old.doors.items < 64 }
         ensures count { OnOk result (length self.new.doors.items ≡ length self.old.doors.items + 1) }
+        ensures seats { OnOk result (length self.new.seats.items ≡ length self.old.seats.items + 1) }
         ensures roles { OnOk result (roles_in self.new.doors.items ≡ roles_in self.old.doors.items ++ (arc_value entry.now.lobby).role ∷ []) }
     {
         let place = self.doors.len() as u64 + 1;
@@ -82,6 +85,7 @@ impl<R: Wait + Clock + Drop + Copy + Net, G: Log + Clone + Drop> Rooms<R, G> {
         requires entry { IsFullEntry settings.now full.now }
         requires places { HasPlaces settings.now }
         ensures count { OnOk result (length self.new.doors.items ≡ places_for Full settings.now) }
+        ensures seats { OnOk result (length self.new.seats.items ≡ length self.old.seats.items + places_for Full settings.now) }
         ensures roles { OnOk result (roles_in self.new.doors.items ≡ replicate (places_for Full settings.now) Full) }
     {
         let _settings = settings;
@@ -101,6 +105,7 @@ impl<R: Wait + Clock + Drop + Copy + Net, G: Log + Clone + Drop> Rooms<R, G> {
     ) -> Result<(), Trouble>
         requires { length self.old.doors.items + places_for (arc_value entry.now.lobby).role entry.now.settings.now < 65 }
         ensures count { OnOk result (length self.new.doors.items ≡ length self.old.doors.items + places_for (arc_value entry.now.lobby).role entry.now.settings.now) }
+        ensures seats { OnOk result (length self.new.seats.items ≡ length self.old.seats.items + places_for (arc_value entry.now.lobby).role entry.now.settings.now) }
         ensures roles { OnOk result (roles_in self.new.doors.items ≡ roles_in self.old.doors.items ++ replicate (places_for (arc_value entry.now.lobby).role entry.now.settings.now) (arc_value entry.now.lobby).role) }
     {
         let places = places_of(entry.settings, entry.lobby.role());
@@ -129,7 +134,9 @@ pub(crate) fn rooms_of<R: Wait + Clock + Drop + Copy + Net, G: Log + Clone + Dro
 ) -> Result<Rooms<R, G>, Trouble>
     requires entries { AreBoth settings.now full.now view.now }
     requires places { HasPlaces settings.now }
-    ensures { IfOk result (λ rooms. AreDoorsFor settings.now rooms.doors.items) }
+    ensures doors { IfOk result (λ rooms. AreDoorsFor settings.now rooms.doors.items) }
+    ensures numbers { IfOk result (λ rooms. AreNumbered rooms.doors.items) }
+    ensures seats { IfOk result (λ rooms. length rooms.seats.items ≡ length rooms.doors.items) }
 {
     let mut rooms = Rooms::new(alloc);
     rooms.add_full(rt, alloc, settings, full, log)?;

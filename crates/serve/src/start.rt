@@ -1,6 +1,7 @@
 //! Starting the thread that hears an operator.
 
-ghost use Rattle.std.specs.Prelude.{◌≡◌, IfOk, is_some, true};
+ghost use Rattle.std.specs.Prelude.{◌≡◌, IfOk, IfSome, is_some, true};
+ghost use Rattle.serve.specs.States.{HasPlacesFor};
 
 use crate::control::{Control, Reach, keep_control, listen};
 use crate::halls::Halls;
@@ -27,7 +28,9 @@ fn prepared(
     settings: &Settings,
     desk: &Arc<Desk, Global>,
     writer: &WriterReach,
-) -> Result<Control, AllocError> {
+) -> Result<Control, AllocError>
+    ensures { IfOk result (λ control. HasPlacesFor settings.now control) }
+{
     Ok(Control {
         listener,
         desk: Arc::try_clone(desk)?,
@@ -47,7 +50,8 @@ pub(crate) fn control_of<R: Files + Net>(
     desk: &Arc<Desk, Global>,
     writer: &WriterReach,
 ) -> Result<Option<Control>, Trouble>
-    ensures { IfOk result (λ control. is_some control ≡ is_some settings.now.control) }
+    ensures heard { IfOk result (λ control. is_some control ≡ is_some settings.now.control) }
+    ensures places { IfOk result (λ control. IfSome control (λ c. HasPlacesFor settings.now c)) }
 {
     let Some(path) = &settings.control else {
         return Ok(None);
