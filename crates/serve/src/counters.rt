@@ -1,6 +1,9 @@
 //! A run's numbers, from where they are counted.
 
-use connections::RunCard;
+ghost use Rattle.std.specs.Prelude.{◌≡◌, ◌≤◌, IfOk};
+ghost use Rattle.serve.specs.Numbers.{AreCounters, IsLag, places_by_role, tenths_of, updates_behind, viewers_by_role, viewers_of};
+
+use connections::{RunCard, ViewerCard};
 use reflector::InputCounts;
 use roles::Role;
 use run_reports::{ByRole, Counters, HappeningCounts, Lag};
@@ -9,15 +12,36 @@ use std::alloc::{AllocError, Global};
 use std::sync::Wait;
 
 /// How many places there are for each role.
-pub(crate) fn places_by_role(settings: &Settings) -> ByRole {
+pub(crate) fn places_by_role(settings: &Settings) -> ByRole
+    ensures { result ≡ places_by_role settings.now }
+{
     ByRole {
         full: places_of(settings, Role::Full),
         view: places_of(settings, Role::View),
     }
 }
 
+/// How many inputs of viewers wait for the host now, and how many were dropped on their way to a host.
+#[derive(Clone, Copy)]
+pub(crate) struct Inputs {
+    waiting: u64,
+    dropped: u64,
+}
+
+/// The inputs that are counted here, as they are now. No clause says that these numbers are up to date.
+pub(crate) fn inputs_of<R: Wait>(rt: &R, counts: &InputCounts) -> Inputs
+    ensures { result.waiting ≤ 256 }
+{
+    Inputs {
+        waiting: counts.waiting(rt) as u64,
+        dropped: counts.dropped(),
+    }
+}
+
 /// Of these numbers, which are in order, the one that so many tenths of them don't exceed; 0 where there are none.
-fn tenths(behind: &[u64], tenths: usize) -> u64 {
+fn tenths(behind: &[u64], tenths: usize) -> u64
+    ensures { tenths ≤ 10 → result ≡ tenths_of behind.now tenths }
+{
     let rank = behind.len().saturating_mul(tenths).div_ceil(10);
     match behind.get(rank.saturating_sub(1)) {
         Some(number) => *number,
@@ -26,7 +50,9 @@ fn tenths(behind: &[u64], tenths: usize) -> u64 {
 }
 
 /// By how many updates viewers are behind. It fails where memory is refused for them.
-fn lag_of(alloc: Global, run_card: &RunCard) -> Result<Lag, AllocError> {
+fn lag_of(alloc: Global, run_card: &RunCard) -> Result<Lag, AllocError>
+    ensures { IfOk result (λ lag. IsLag (updates_behind run_card.entry.now) lag) }
+{
     let mut behind = Vec::with_capacity(alloc, run_card.viewers.len())?;
     for viewer in &run_card.viewers {
         behind.push(run_card.updates.saturating_sub(viewer.shown))?;
@@ -40,41 +66,50 @@ fn lag_of(alloc: Global, run_card: &RunCard) -> Result<Lag, AllocError> {
     })
 }
 
-/// How many of those that have a place are of each role.
-fn viewers_of(run_card: &RunCard) -> ByRole {
-    let mut viewers = ByRole { full: 0, view: 0 };
-    for viewer in &run_card.viewers {
-        match viewer.comer.role {
-            Role::Full => viewers.full = viewers.full.saturating_add(1),
-            Role::View => viewers.view = viewers.view.saturating_add(1),
-        }
-    }
+/// How many of these viewers are of a role.
+fn viewers_of(viewers: &[ViewerCard], role: Role) -> u64
+    ensures { result ≡ viewers_of role viewers.now }
+{
     viewers
+        .iter()
+        .filter(|viewer| viewer.comer.role == role)
+        .count() as u64
 }
 
-/// The numbers of a run with these places and these counts of its viewers' input. It fails where memory is refused for
-/// them.
-pub(crate) fn counters_of<R: Wait>(
-    rt: &R,
+/// How many of those that have a place are of each role.
+fn viewers_by_role(viewers: &[ViewerCard]) -> ByRole
+    ensures { result ≡ viewers_by_role viewers.now }
+{
+    ByRole {
+        full: viewers_of(viewers, Role::Full),
+        view: viewers_of(viewers, Role::View),
+    }
+}
+
+/// The numbers of a run that stands so, in which that has happened, with these places, and with these counts of its
+/// viewers' input. It fails where memory is refused for them.
+pub(crate) fn counters_of(
     alloc: Global,
     run_card: &RunCard,
     counts: &HappeningCounts,
     places: ByRole,
-    input: &InputCounts,
-) -> Result<Counters, AllocError> {
+    inputs: Inputs,
+) -> Result<Counters, AllocError>
+    ensures { IfOk result (λ counters. AreCounters run_card.entry.now counts.now places inputs counters) }
+{
     Ok(Counters {
         is_joined: run_card.host.is_some(),
         silent_seconds: run_card.now.saturating_sub(run_card.heard) / 1_000,
         joins: counts.joins,
         places,
-        viewers: viewers_of(run_card),
+        viewers: viewers_by_role(run_card.viewers.as_slice()),
         came: counts.came,
         refused: counts.refused,
         updates: run_card.updates,
         answers: run_card.totals.updates,
         bytes: run_card.totals.bytes,
-        waiting: input.waiting(rt) as u64,
-        dropped: input.dropped(),
+        waiting: inputs.waiting,
+        dropped: inputs.dropped,
         lag: lag_of(alloc, run_card)?,
     })
 }

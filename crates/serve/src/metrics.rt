@@ -7,7 +7,7 @@ ghost use Rattle.serve.specs.Ports.{AsksForAll, AsksForMetrics};
 ghost use Rattle.serve.specs.Runs.{IsEndBy};
 
 use crate::bound::Ports;
-use crate::counters::{counters_of, places_by_role};
+use crate::counters::{Inputs, counters_of, inputs_of, places_by_role};
 use crate::ended::Ended;
 use crate::entries::{Entrances, open_all};
 use crate::incident::{Incident, RunLog};
@@ -15,14 +15,14 @@ use crate::run::run;
 use crate::runtime::{REQUEST_STACK, Runtime};
 use crate::sentry::Sentry;
 use crate::trouble::{Stage, Trouble};
-use connections::Desk;
+use connections::{Desk, RunCard};
 use fault::Fault;
 use metrics_site::{Watched, answer_one};
 use reflector::InputCounts;
 use run_control::Entry;
-use run_reports::ByRole;
+use run_reports::{ByRole, HappeningCounts};
 use settings::{Settings, metrics_address_of};
-use std::alloc::{AllocGlobal, Global};
+use std::alloc::{AllocError, AllocGlobal, Global};
 use std::hash::RandomState;
 use std::net::{Net, TcpListener, TcpStream};
 use std::random::RandomSource;
@@ -95,6 +95,20 @@ where
     })
 }
 
+/// What a machine is answered from, of a run that stands so, in which that has happened, with these places and inputs.
+/// It fails where memory is refused for that.
+fn watched_of(
+    alloc: Global,
+    run_card: &RunCard,
+    counts: &HappeningCounts,
+    places: ByRole,
+    inputs: Inputs,
+) -> Result<Watched, AllocError> {
+    let counters = counters_of(alloc, run_card, counts, places, inputs)?;
+    let is_drained = run_card.entry != Entry::Open;
+    Ok(Watched::new(alloc, counters, is_drained))
+}
+
 /// What machines are answered from.
 #[derive(Drop)]
 struct Sources<R: Eprint + Clock + Wait + Drop> {
@@ -111,9 +125,8 @@ impl<R: Eprint + Clock + Wait + Drop> Sources<R> {
     fn look(&self, rt: &R) -> io::Result<Watched> {
         let run_card = self.desk.look(rt, self.alloc)?;
         let counts = self.sentry.counts();
-        let counters = counters_of(rt, self.alloc, &run_card, &counts, self.places, &self.input)?;
-        let is_drained = run_card.entry != Entry::Open;
-        Ok(Watched::new(self.alloc, counters, is_drained))
+        let inputs = inputs_of(rt, &self.input);
+        Ok(watched_of(self.alloc, &run_card, &counts, self.places, inputs)?)
     }
 
     /// Answers one machine that has connected.
