@@ -1,16 +1,18 @@
--- A run's numbers, of what was counted (own).
-use Rattle.std.specs.Prelude.{◌≡◌, ◌+◌, ◌-◌, ◌*◌, ◌/◌, Bool, true, false, is_some, length, List, map, ℕ, slice_index}
+-- A run's numbers, of what was counted, and what a machine is told of them (own).
+use Rattle.std.specs.Prelude.{◌≡◌, ◌+◌, ◌-◌, ◌*◌, ◌/◌, Bool, true, false, not, is_some, length, List, map, ℕ, slice_index}
 use Rattle.std.specs.List.{filter}
 use Rattle.std.specs.List.Sorted.{IsPermutation, IsSorted}
 use Rattle.std.specs.Ordering.{nat_cmp}
 use Rattle.roles.specs.declared.role.Role.{Role}
 use Rattle.roles.specs.declared.role.Role.TheVariants.{Full, View}
+use Rattle.run_control.specs.Doors.{is_open}
 use Rattle.run_reports.specs.declared.counters.ByRole.{ByRole}
 use Rattle.run_reports.specs.declared.counters.Counters.{Counters}
 use Rattle.run_reports.specs.declared.counters.Lag.{Lag}
 use Rattle.run_reports.specs.declared.happenings.HappeningCounts.{HappeningCounts}
 use Rattle.settings.specs.ByRole.{places_for}
 use Rattle.settings.specs.declared.values.Settings.{Settings}
+use Rattle.metrics_site.specs.declared.watched.Watched.{Watched}
 use Rattle.connections.specs.declared.desk.RunCard.{RunCard}
 use Rattle.connections.specs.declared.desk.ViewerCard.{ViewerCard}
 use Rattle.serve.specs.declared.counters.Inputs.{Inputs}
@@ -66,3 +68,8 @@ pub record AreCounters (run_card : RunCard) (counts : HappeningCounts) (places :
   pub waiting : counters.waiting ≡ inputs.waiting
   pub dropped : counters.dropped ≡ inputs.dropped
   pub lag : IsLag (updates_behind run_card) counters.lag
+
+-- What a machine is answered from: these numbers, and whether an operator lets nobody in.
+pub record IsWatched (run_card : RunCard) (counts : HappeningCounts) (places : ByRole) (inputs : Inputs) (watched : Watched) : Type 0 where
+  pub counters : AreCounters run_card counts places inputs watched.counters
+  pub is_drained : watched.is_drained ≡ not (is_open run_card.entry)

@@ -3,6 +3,7 @@
 ghost use Rattle.std.specs.Prelude.{◌≡◌, IfOk, is_some};
 ghost use Rattle.settings.specs.ByRole.{HasPlaces};
 ghost use Rattle.serve.specs.Doors.{AreBoth};
+ghost use Rattle.serve.specs.Numbers.{IsWatched};
 ghost use Rattle.serve.specs.Ports.{AsksForAll, AsksForMetrics};
 ghost use Rattle.serve.specs.Runs.{IsEndBy};
 
@@ -103,7 +104,9 @@ fn watched_of(
     counts: &HappeningCounts,
     places: ByRole,
     inputs: Inputs,
-) -> Result<Watched, AllocError> {
+) -> Result<Watched, AllocError>
+    ensures { IfOk result (λ watched. IsWatched run_card.entry.now counts.now places inputs watched) }
+{
     let counters = counters_of(alloc, run_card, counts, places, inputs)?;
     let is_drained = run_card.entry != Entry::Open;
     Ok(Watched::new(alloc, counters, is_drained))
