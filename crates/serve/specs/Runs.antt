@@ -13,7 +13,7 @@ use Rattle.serve.specs.Turns.{MayEnd}
 use Rattle.serve.specs.declared.ended.Ended.{Ended}
 use Rattle.serve.specs.declared.ended.Reflected.{Reflected}
 use Rattle.serve.specs.declared.ended.Served.{Served}
-use Rattle.serve.specs.declared.lifeline.Cut.{Cut}
+use Rattle.serve.specs.declared.order.Cut.{Cut}
 use Rattle.serve.specs.declared.trouble.Trouble.{Trouble}
 
 -- The roles of the places: as many of each as the settings say, and those with full control come first.

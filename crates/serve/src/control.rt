@@ -2,6 +2,7 @@
 
 use crate::halls::Halls;
 use crate::lifeline::Lifeline;
+use crate::order::Cut;
 use crate::state::state;
 use crate::writer_reach::WriterReach;
 use connections::Desk;
@@ -50,7 +51,7 @@ pub(crate) struct Control {
     /// How many places there are for viewers of each role.
     pub(crate) full_places: u64,
     pub(crate) view_places: u64,
-    pub(crate) lifeline: Arc<Lifeline, Global>,
+    pub(crate) lifeline: Arc<Lifeline<Cut>, Global>,
 }
 
 /// What a request reaches.
@@ -131,12 +132,12 @@ fn await_last_words<R: Wait + Clock>(rt: &R, reach: &Reach) {
 
 /// Ends the run: all viewers leave, and the host is told what they held up to then. After that no host is read. Whoever
 /// asked for it is kept until the run has ended.
-fn stop<R: Net + Wait + Clock>(rt: &R, reach: &Reach, stream: &UnixStream) {
+fn stop<R: Net + Wait + Clock>(rt: &R, reach: &Reach, stream: &UnixStream, cut: Cut) {
     reach.halls.close(rt);
     await_last_words(rt, reach);
     let _ = (&mut &*stream).write_all(b"done\n");
     let lifeline = &reach.control.lifeline;
-    lifeline.cut(rt);
+    lifeline.cut(rt, cut);
     lifeline.await_end(rt, Duration::from_millis(END_MILLIS));
 }
 
@@ -149,14 +150,14 @@ fn answer<R: Net + Wait + Clock>(
 ) -> io::Result<()> {
     let mut out = stream;
     let outcome = reach.control.desk.ask(rt, request);
+    if let Some(cut) = Cut::of(request) {
+        stop(rt, reach, stream, cut);
+        return Ok(());
+    }
     match request {
         Request::State(form) => {
             let text = state(rt, reach, form)?;
             out.write_all(text.as_bytes())
-        }
-        Request::Stop => {
-            stop(rt, reach, stream);
-            Ok(())
         }
         _ => out.write_all(outcome_text(outcome).as_bytes()),
     }

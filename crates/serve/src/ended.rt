@@ -3,7 +3,7 @@
 ghost use Rattle.std.specs.Prelude.{◌≡◌, Err, None};
 ghost use Rattle.serve.specs.Statuses.{status_for};
 
-use crate::lifeline::Cut;
+use crate::order::Cut;
 use crate::status::status_of;
 use fault::Fault;
 use reflector::Ran;

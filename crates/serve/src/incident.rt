@@ -3,7 +3,7 @@
 ghost use Rattle.std.specs.Prelude.{◌≡◌};
 ghost use Rattle.serve.specs.Gravities.{gravity_for};
 
-use crate::lifeline::Cut;
+use crate::order::Cut;
 use run_reports::Gravity;
 use run_traits::{Event, Log};
 use std::net::SocketAddr;

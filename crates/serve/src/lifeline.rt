@@ -1,4 +1,7 @@
 //! What an operator ends a run by.
+//!
+//! No clause knows what a lock keeps. So a lifeline has a type parameter for what shows that it was cut: whoever asks
+//! is handed a value of that type only where one was handed in, since nothing here can make one.
 
 use crate::rested::CallsOff;
 use std::alloc::Global;
@@ -6,17 +9,12 @@ use std::net::{Shutdown, TcpStream};
 use std::sync::{Arc, Condvar, Mutex, Wait};
 use std::time::{Clock, Duration};
 
-/// What shows that a run was asked to stop: only a lifeline that was cut gives one.
-#[derive(Clone, Copy, Drop)]
-pub struct Cut {
-    only_here: (),
-}
-
 #[derive(Drop)]
-struct Line {
+struct Line<C: Copy + Drop> {
     // The connection to the host that is read.
     present: Option<TcpStream>,
-    is_cut: bool,
+    // What it was cut with.
+    cut: Option<C>,
     // The run has ended, but for its exit status.
     is_over: bool,
 }
@@ -24,18 +22,18 @@ struct Line {
 /// The connection to the host that is read, of which the thread that reads it and the one that hears an operator each
 /// have an end.
 #[derive(Drop)]
-pub(crate) struct Lifeline {
-    line: Mutex<Line>,
+pub(crate) struct Lifeline<C: Copy + Drop> {
+    line: Mutex<Line<C>>,
     ended: Condvar,
 }
 
-impl Lifeline {
+impl<C: Copy + Drop> Lifeline<C> {
     /// A lifeline that holds no host yet.
-    pub(crate) fn new() -> Lifeline {
+    pub(crate) fn new() -> Lifeline<C> {
         Lifeline {
             line: Mutex::new(Line {
                 present: None,
-                is_cut: false,
+                cut: None,
                 is_over: false,
             }),
             ended: Condvar::new(),
@@ -45,7 +43,7 @@ impl Lifeline {
     /// A host is read over this connection from now on. After a cut it ends at once.
     pub(crate) fn hold<R: Wait>(&self, rt: &R, stream: TcpStream) {
         let mut line = self.line.lock(rt);
-        if line.is_cut {
+        if line.cut.is_some() {
             let _ = stream.shutdown(Shutdown::Read);
         }
         line.present = Some(stream);
@@ -62,21 +60,17 @@ impl Lifeline {
     }
 
     /// The host that is read ends now, for whoever reads it, and no other is read.
-    pub(crate) fn cut<R: Wait>(&self, rt: &R) {
+    pub(crate) fn cut<R: Wait>(&self, rt: &R, cut: C) {
         let mut line = self.line.lock(rt);
-        line.is_cut = true;
+        line.cut = Some(cut);
         if let Some(stream) = &line.present {
             let _ = stream.shutdown(Shutdown::Read);
         }
     }
 
-    /// Whether it was cut.
-    pub(crate) fn is_cut<R: Wait>(&self, rt: &R) -> Option<Cut> {
-        if self.line.lock(rt).is_cut {
-            Some(Cut { only_here: () })
-        } else {
-            None
-        }
+    /// What it was cut with, if it was cut.
+    pub(crate) fn is_cut<R: Wait>(&self, rt: &R) -> Option<C> {
+        self.line.lock(rt).cut
     }
 
     /// The run has ended, but for its exit status.
@@ -97,15 +91,15 @@ impl Lifeline {
 
 /// A lifeline that calls a pause off once it is cut.
 #[derive(Drop)]
-pub(crate) struct Recall<'a, R: Wait> {
+pub(crate) struct Recall<'a, R: Wait, C: Copy + Drop> {
     pub(crate) rt: &'a R,
-    pub(crate) lifeline: &'a Arc<Lifeline, Global>,
+    pub(crate) lifeline: &'a Arc<Lifeline<C>, Global>,
 }
 
-impl<R: Wait> CallsOff for Recall<'_, R> {
-    type Order = Cut;
+impl<R: Wait, C: Copy + Drop> CallsOff for Recall<'_, R, C> {
+    type Order = C;
 
-    fn order(&self) -> Option<Cut> {
+    fn order(&self) -> Option<C> {
         self.lifeline.is_cut(self.rt)
     }
 }

@@ -7,9 +7,10 @@ ghost use Rattle.serve.specs.Turns.{endless, turn_of};
 ghost use Rattle.serve.specs.Stops.{IsOut};
 
 use crate::incident::{Incident, RunLog};
-use crate::lifeline::{Cut, Lifeline, Recall};
+use crate::lifeline::{Lifeline, Recall};
 use crate::meet::{Met, Missed, Reached, connect_by_text, join};
 use crate::noted_tries::NotedTries;
+use crate::order::Cut;
 use crate::quoted::Quoted;
 use crate::rested::Rested;
 use crate::trouble::Trouble;
@@ -45,7 +46,7 @@ pub(crate) struct Supply<
     /// Whether that host was joined.
     is_joined: bool,
     /// What an operator ends the run by, if one can.
-    lifeline: Option<Arc<Lifeline, Global>>,
+    lifeline: Option<Arc<Lifeline<Cut>, Global>>,
     /// What showed that the run was asked to stop, if it was seen.
     stopped: Option<Cut>,
 }
@@ -65,7 +66,7 @@ impl<
         desk: Arc<Desk, Global>,
         texts: Vec<String>,
         again: Option<u64>,
-        lifeline: Option<Arc<Lifeline, Global>>,
+        lifeline: Option<Arc<Lifeline<Cut>, Global>>,
     ) -> Supply<R, G>
         ensures texts { result.texts ≡ texts }
         ensures hosts { (result.turns.further ≡ length texts.items - 1) × (result.turns.done ≡ 0) }

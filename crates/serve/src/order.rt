@@ -1,0 +1,24 @@
+//! What shows that an operator has asked a run to stop.
+
+use run_control::Request;
+
+/// What shows that a run was asked to stop: only a request to stop gives one.
+#[derive(Clone, Copy, Drop)]
+pub struct Cut {
+    only_here: (),
+}
+
+impl Cut {
+    ghost use Rattle.std.specs.Prelude.{◌≡◌, is_some};
+    ghost use Rattle.serve.specs.Stops.{asks_to_stop};
+
+    /// What the request shows, if it asks to stop.
+    pub(crate) fn of(request: Request) -> Option<Cut>
+        ensures { is_some result ≡ asks_to_stop request }
+    {
+        match request {
+            Request::Stop => Some(Cut { only_here: () }),
+            _ => None,
+        }
+    }
+}
