@@ -125,8 +125,8 @@ fn wish_for<R: Wait + Drop + Copy>(
     Ok(source.wish.load(Ordering::SeqCst))
 }
 
-/// While a viewer is served its source is told in which format its answers would use forms, and then that they no longer
-/// do.
+/// While a viewer is served its source is told in which format its answers would use forms, and then that they no
+/// longer do.
 #[test]
 fn forms_are_wanted_while_they_are_used(rt: HostRuntime) -> Result<(), Fail> {
     for (sends, runs, wanted) in WISHES {

@@ -268,8 +268,8 @@ const LAG: &[&str] = &[
 ];
 
 /// The state says the same of each viewer. The second is sent away by the number of its place, and another comes to
-/// that place, of which only the beginning of its greeting was counted by then, and which is behind. A further one finds
-/// none. The next update reaches all that are there.
+/// that place, of which only the beginning of its greeting was counted by then, and which is behind. A further one
+/// finds none. The next update reaches all that are there.
 const ONE_IS_SENT_AWAY: &[Act] = &[
     Act {
         who: FULL,

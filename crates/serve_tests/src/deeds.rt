@@ -59,8 +59,8 @@ pub(crate) enum Deed {
     IsObeyed(&'static str, &'static str),
     /// As an operator, says nothing and goes on.
     IsSilent,
-    /// Has the system refuse the run an operator's connection again and again, from the one after the next on, until one
-    /// is there.
+    /// Has the system refuse the run an operator's connection again and again, from the one after the next on, until
+    /// one is there.
     Hurries,
     /// As an operator, is told in time that the state has a line that begins so and has this part.
     Sees(&'static str, &'static str),

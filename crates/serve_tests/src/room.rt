@@ -85,8 +85,8 @@ const PATIENCE_SECONDS: u64 = 5;
 /// At this address the system has no memory for a port.
 const SHORT: [u8; 4] = [127, 0, 0, 9];
 
-/// A runtime whose standard output and error stand in a room, and whose clock the room puts forward or stops. The name `desk`
-/// moves with it.
+/// A runtime whose standard output and error stand in a room, and whose clock the room puts forward or stops. The name
+/// `desk` moves with it.
 #[derive(Clone, Copy, Drop)]
 pub(crate) struct Ear<R: Drop> {
     pub(crate) rt: R,
