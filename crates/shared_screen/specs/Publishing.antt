@@ -6,7 +6,7 @@ use Rattle.raster.specs.Update.{Update}
 use Rattle.shared_screen.specs.History.{Change, puts_of}
 
 -- What a publisher has put and raised, and behind that the update whose publish was refused, where there is one: the
--- history has it, and nobody is ever shown it (own).
+-- history has it, and the tally was never raised to it (own).
 pub record Publishing : Type 0 where
   pub changes : List Change
   pub refused : List Update
