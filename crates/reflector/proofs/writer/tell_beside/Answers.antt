@@ -2,9 +2,7 @@
 use denote.Param.Send.{IsSend, sendable}
 use denote.RattleType.{RattleType}
 use denote.Param.SendFields.{as_row_send, declared_send}
-use Rattle.std.specs.contracts.snapshot.Snapshot as snapshot
-use Rattle.run_traits.specs.contracts.written.Trail as trail
-use Rattle.run_traits.specs.contracts.written.Written as written
+use Rattle.run_traits.proofs.Sent.{written_send}
 use Rattle.reflector.specs.contracts.writer.HostsTold as told
 use Rattle.input_relay.specs.contracts.queue.Taker as taken
 use Rattle.input_relay.proofs.queue.Taker.TheSendSync as taker
@@ -13,13 +11,6 @@ use Rattle.reflector.proofs.writer.tell_beside.Goals as goal
 
 pub spawn_with-started-requires-clause-keeps : goal.spawn_with-started-requires-clause-keeps
 spawn_with-started-requires-clause-keeps g c κs within = λ r ens. rw (c.of.ensures, c.of-2.ensures, c.of-3.ensures) (ens.0, ens.1.0, ens.1.1)
-
--- A snapshot owns nothing.
-snapshot_send : (X : RattleType) → IsSend (snapshot.the_row X)
-snapshot_send X = record { owned = λ d vs. ((λ vss. (tt, ((λ uss. (tt, tt)), tt))), tt); leaving = λ k f vs. tt }
-
-written_send : (L : RattleType) → IsSend (written.the_row L)
-written_send L = declared_send (written.the_type L) (snapshot_send (trail.the_row L), tt)
 
 told_send : (L R : RattleType) → IsSend R → IsSend (told.the_row L R)
 told_send L R r = declared_send (told.the_type L R) (written_send L, (as_row_send (taken.the_field R) (taker.the_field_send R r), (search (strokes.the_send), (search sendable, tt))))
