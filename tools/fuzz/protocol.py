@@ -10,6 +10,8 @@ from dataclasses import dataclass, field
 VERSION = b"RFB 003.008\n"
 HOST_FORMAT = bytes.fromhex("20180001 00FF00FF 00FF1008 00000000")
 LONGEST_TEXT, LONGEST_NAME, LARGEST = 65536, 255, 4096
+# The number of DesktopSize, which is -223 (7.8.2).
+DESKTOP_SIZE = 0xFFFFFF21
 
 
 class Open(Exception):
@@ -331,10 +333,17 @@ def rectangle(data, encoding, form, w, h):
 
 
 def paint_rectangle(stream, screen):
+    """Paints a rectangle, and answers which part of the screen it changes. A new size changes all of it."""
     x, y, w, h = (stream.number(2) for _ in range(4))
-    if x + w > screen.width or y + h > screen.height:
+    is_outside = x + w > screen.width or y + h > screen.height
+    if is_outside and (x or y):
         raise Wrong(7)
     encoding = stream.number(4)
+    if is_outside:
+        raise Wrong(5 if encoding == DESKTOP_SIZE else 7)
+    if encoding == DESKTOP_SIZE:
+        screen.fill(0, 0, screen.width, screen.height, 0)
+        return 0, 0, screen.width, screen.height
     if encoding == 0:
         values = pixels(HOST_FORMAT, stream.take(4 * w * h))
     elif encoding == 1:
@@ -349,6 +358,7 @@ def paint_rectangle(stream, screen):
     else:
         raise Wrong(8)
     screen.put(x, y, w, h, [value & 0xFFFFFF for value in values])
+    return x, y, w, h
 
 
 def host_message(stream, screen):

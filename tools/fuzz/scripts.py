@@ -463,8 +463,4 @@ def painted(spelled, size):
     """The rectangles of one whole update."""
     stream, screen = protocol.Stream(spelled), protocol.Grid(*size)
     stream.take(2)
-    areas = []
-    for _ in range(stream.number(2)):
-        areas.append(struct.unpack(">HHHH", stream.data[stream.at : stream.at + 8]))
-        protocol.paint_rectangle(stream, screen)
-    return areas
+    return [protocol.paint_rectangle(stream, screen) for _ in range(stream.number(2))]

@@ -2,7 +2,7 @@
 
 import struct
 
-from protocol import HOST_FORMAT, VERSION
+from protocol import DESKTOP_SIZE, HOST_FORMAT, VERSION
 
 FORMATS = [
     HOST_FORMAT,
@@ -81,7 +81,7 @@ def client_message(rng):
     if kind == 0:
         return b"\0" + some_bytes(rng, 3) + rng.choice(FORMATS)
     if kind == 2:
-        listed = [rng.choice((0, 1, 2, 5, 5, 7, 16, 0xFFFFFF21)) for _ in range(rng.randint(0, 6))]
+        listed = [rng.choice((0, 1, 2, 5, 5, 7, 16, DESKTOP_SIZE)) for _ in range(rng.randint(0, 6))]
         return b"\2\0" + struct.pack(f">H{len(listed)}I", len(listed), *listed)
     if kind == 3:
         return b"\3" + some_bytes(rng, 9)
@@ -166,6 +166,8 @@ def rectangle(rng):
 def host_rectangle(rng, width, height):
     (x, w), (y, h) = inside(rng, width), inside(rng, height)
     encoding = rng.choice((0, 1, 2, 5, 5)) if rng.random() < 0.99 else rng.randrange(40)
+    if rng.random() < 0.05:
+        return struct.pack(">HHHHI", *rng.choice(((0, 0), (0, 0), (x, y))), w, h, DESKTOP_SIZE)
     head = struct.pack(">HHHHI", x, y, w, h, encoding)
     if encoding == 0:
         return head + some_bytes(rng, 4 * w * h)

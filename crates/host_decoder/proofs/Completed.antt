@@ -3,14 +3,14 @@ use Rattle.std.proofs.Common.{◌≡◌, ℕ, ◌*◌, ◌<◌, ◌≤◌, Bool,
 use Rattle.std.specs.Prelude.{if◌then◌else◌, nat_le}
 use Rattle.std.proofs.lemmas.Bool.{lt-leb, le-leb}
 use Rattle.pixel_format.specs.PixelFormat.{host_format}
-use Rattle.byte_reading.specs.Reading.{Reading, Done, ◌>>=◌, after, bytes, padding, u32, Spells}
+use Rattle.byte_reading.specs.Reading.{Reading, Done, Faulty, ◌>>=◌, after, bytes, padding, u32, Spells}
 use Rattle.raster.specs.declared.rect.Rect.{Rect}
 use Rattle.raster.specs.Screen.{Canvas}
 use Rattle.raster.specs.Update.{Paint}
 use Rattle.painter.specs.Painter.{Painting}
 use Rattle.rfb_wire.specs.ClientMessage.{longest_text}
 use Rattle.rfb_wire.specs.ServerHeads.{colour_map_head, text_head, update_head}
-use Rattle.rfb_wire.specs.ServerMessage.{ServerMessage, SetColorMapEntries, ServerCutText, LostText, data_of, set_color_map_entries}
+use Rattle.rfb_wire.specs.ServerMessage.{ServerMessage, SetColorMapEntries, ServerCutText, LostText, data_of, fault_outside, set_color_map_entries}
 use Rattle.host_decoder.specs.declared.part.HostPart.TheVariants as part
 use Rattle.host_decoder.specs.declared.passed.Passed.TheVariants as passed
 use Rattle.host_decoder.specs.declared.state.HostState.{HostState}
@@ -29,6 +29,9 @@ behind_count w h sofar bs count e none spells = head_read 3 update_head (λ n. r
 pub behind_encoding : (w h : ℕ) (sofar : List Paint) (left : ℕ) (area : Rect) (bs : List ℕ) (encoding : ℕ) → length bs ≡ 4 → Spells u32 (take 4 bs) encoding
     → after (form_of w h sofar (part.Encoding left area)) bs ≡ with_others w h sofar left (data_of host_format w h area encoding)
 behind_encoding w h sofar left area bs encoding e spells = head_read 4 u32 (λ n. with_others w h sofar left (data_of host_format w h area n)) bs encoding e spells
+
+pub behind_outside : (w h : ℕ) (sofar : List Paint) (bs : List ℕ) (encoding : ℕ) → length bs ≡ 4 → Spells u32 (take 4 bs) encoding → after (form_of w h sofar part.Outside) bs ≡ Faulty (fault_outside encoding)
+behind_outside w h sofar bs encoding e spells = head_read 4 u32 (λ n. Faulty (fault_outside n)) bs encoding e spells
 
 pub behind_colours : (bs : List ℕ) (count : ℕ) → length bs ≡ 5 → Spells colour_map_head (take 5 bs) count → passing (count * 6) passed.Colours ≡ after set_color_map_entries bs
 behind_colours bs count e spells = sym (head_read 5 colour_map_head (λ n. padding (n * 6) (Done SetColorMapEntries)) bs count e spells)

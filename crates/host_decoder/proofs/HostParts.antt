@@ -16,6 +16,7 @@ part_needs w h sofar part.Kind = λ a. tt
 part_needs w h sofar part.Count = λ a b c. tt
 part_needs w h sofar (part.Area left) = λ a b c d e f g i. tt
 part_needs w h sofar (part.Encoding left area) = λ a b c d. tt
+part_needs w h sofar part.Outside = λ a b c d. tt
 part_needs w h sofar part.Colours = λ a b c d e. tt
 part_needs w h sofar part.Length = λ a b c d e f g. tt
 

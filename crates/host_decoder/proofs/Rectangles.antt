@@ -1,12 +1,12 @@
 -- The rectangles of an update, one after another. The decoder counts those that are left.
-use Rattle.std.proofs.Common.{◌≡◌, ℕ, suc, ◌-◌, ◌<◌, true, false, not, List, [], ◌∷◌, ◌++◌, length, map, take, inr, sym, ap, subst, ◌∙◌, append_assoc, arith}
+use Rattle.std.proofs.Common.{◌≡◌, ℕ, suc, ◌-◌, ◌<◌, Bool, true, false, List, [], ◌∷◌, ◌++◌, length, map, take, inr, sym, ap, subst, ◌∙◌, append_assoc, arith}
+use Rattle.std.specs.Prelude.{if◌then◌else◌}
 use mathlib.Core.Path.{fun_ext}
 use Rattle.std.proofs.lemmas.List.{append-nil}
-use Rattle.byte_reading.proofs.InOrder.{unless_passes, unless_fails}
 use Rattle.byte_reading.proofs.ReadingLaws.{bind_assoc}
 use Rattle.pixel_format.specs.PixelFormat.{host_format}
 use Rattle.fault.specs.declared.kinds.Fault.TheVariants.{RectOutside}
-use Rattle.byte_reading.specs.Reading.{Reading, Done, Faulty, ◌>>=◌, after, times, u32, unless, Spells}
+use Rattle.byte_reading.specs.Reading.{Reading, Done, Faulty, ◌>>=◌, after, times, u32, Spells}
 use Rattle.raster.specs.declared.rect.Rect.{Rect}
 use Rattle.raster.specs.Encoding.{rect}
 use Rattle.raster.specs.Screen.{Canvas, is_within}
@@ -14,13 +14,13 @@ use Rattle.raster.specs.Update.{Paint, Paints, after_paints}
 use Rattle.painter.specs.Painter.{Painting}
 use Rattle.painter.specs.Same.{AreSameUpdates}
 use Rattle.painter.specs.Patch.{SizedUpdate}
-use Rattle.rfb_wire.specs.ServerMessage.{ServerMessage, FramebufferUpdate, data_of, rectangle}
+use Rattle.rfb_wire.specs.ServerMessage.{ServerMessage, FramebufferUpdate, data_of, fault_outside, is_at_corner, rectangle}
 use Rattle.host_decoder.specs.declared.event.HostEvent.TheVariants as event
 use Rattle.host_decoder.specs.declared.part.HostPart.{HostPart}
 use Rattle.host_decoder.specs.declared.part.HostPart.TheVariants as part
 use Rattle.host_decoder.specs.declared.state.HostState.TheVariants as state
 use Rattle.host_decoder.specs.Updates.{in_colours}
-use Rattle.host_decoder.specs.Decoder.{GoesOn, Holds, InPart, form_of, rectangles, with_others}
+use Rattle.host_decoder.specs.Decoder.{GoesOn, Holds, InPart, behind, form_of, rectangles, with_others}
 use Rattle.host_decoder.proofs.HostParts.{head_read}
 
 -- One of them, and then the others.
@@ -60,9 +60,13 @@ to_end old new left patch start sofar none sized same shows =
 
 -- ---- the place of a rectangle
 
--- What follows it.
+-- What follows it, where it is within the screen or not, and at the top left or not.
+abbrev placed : ℕ → ℕ → Rect → Bool → Bool → Reading Paint
+placed w h area within corner =
+    if within then (u32 >>= data_of host_format w h area) else (if corner then (u32 >>= λ encoding. Faulty (fault_outside encoding)) else Faulty RectOutside)
+
 abbrev judged : ℕ → ℕ → Rect → Reading Paint
-judged w h area = unless (not (is_within area w h)) RectOutside (u32 >>= data_of host_format w h area)
+judged w h area = placed w h area (is_within area w h) (is_at_corner area)
 
 area_read : (w h : ℕ) (sofar : List Paint) (left : ℕ) (bs : List ℕ) (area : Rect) → length bs ≡ 8 → Spells rect (take 8 bs) area → after (form_of w h sofar (part.Area left)) bs ≡ with_others w h sofar left (judged w h area)
 area_read w h sofar left bs area e spells = head_read 8 rect (λ place. with_others w h sofar left (judged w h place)) bs area e spells
@@ -72,10 +76,23 @@ pub encoding_next : (w h : ℕ) (start : Canvas) (painter : Painting) (sofar : L
 encoding_next w h start painter sofar left bs area fields e spells ok is holds =
     let r : Reading ServerMessage = after (form_of w h sofar (part.Area left)) bs in
     let reads : r ≡ after (form_of w h sofar (part.Encoding left area)) [] =
-    area_read w h sofar left bs area e spells ∙ ap (with_others w h sofar left) (unless_passes (not (is_within area w h)) RectOutside (u32 >>= data_of host_format w h area) (ap not ok)) in
+    area_read w h sofar left bs area e spells ∙ ap (λ b. with_others w h sofar left (placed w h area b (is_at_corner area))) ok in
     let here : InPart w h (part.Encoding left area) [] start painter r = record { sofar = sofar; holds = holds; suited = tt; missing = omega arith; reads = reads } in
     subst (λ (f : HostPart × List ℕ). InPart w h f.0 f.1 start painter r) (sym is) here
 
-pub area_fault : (w h : ℕ) (sofar : List Paint) (left : ℕ) (bs : List ℕ) (area : Rect) → length bs ≡ 8 → Spells rect (take 8 bs) area → is_within area w h ≡ false → after (form_of w h sofar (part.Area left)) bs ≡ Faulty RectOutside
-area_fault w h sofar left bs area e spells out =
-    area_read w h sofar left bs area e spells ∙ ap (with_others w h sofar left) (unless_fails (not (is_within area w h)) RectOutside (u32 >>= data_of host_format w h area) (ap not out))
+-- Where it leaves the screen and may be a new size, its encoding is read.
+pub outside_next : (w h : ℕ) (start : Canvas) (painter : Painting) (sofar : List Paint) (left : ℕ) (bs : List ℕ) (area : Rect) (fields : HostPart × List ℕ)
+    → length bs ≡ 8 → Spells rect (take 8 bs) area → is_within area w h ≡ false → is_at_corner area ≡ true → fields ≡ (part.Outside, []) → Holds start painter sofar → InPart w h fields.0 fields.1 start painter (after (form_of w h sofar (part.Area left)) bs)
+outside_next w h start painter sofar left bs area fields e spells out corner is holds =
+    let r : Reading ServerMessage = after (form_of w h sofar (part.Area left)) bs in
+    let reads : r ≡ form_of w h sofar part.Outside =
+    area_read w h sofar left bs area e spells ∙ (ap (λ b. with_others w h sofar left (placed w h area b (is_at_corner area))) out
+    ∙ (ap (λ b. with_others w h sofar left (placed w h area false b)) corner
+    ∙ bind_assoc u32 (λ encoding. Faulty (fault_outside encoding)) (behind w h sofar left))) in
+    let here : InPart w h part.Outside [] start painter r = record { sofar = sofar; holds = holds; suited = tt; missing = omega arith; reads = reads } in
+    subst (λ (f : HostPart × List ℕ). InPart w h f.0 f.1 start painter r) (sym is) here
+
+pub area_fault : (w h : ℕ) (sofar : List Paint) (left : ℕ) (bs : List ℕ) (area : Rect) → length bs ≡ 8 → Spells rect (take 8 bs) area → is_within area w h ≡ false → is_at_corner area ≡ false → after (form_of w h sofar (part.Area left)) bs ≡ Faulty RectOutside
+area_fault w h sofar left bs area e spells out elsewhere =
+    area_read w h sofar left bs area e spells ∙ (ap (λ b. with_others w h sofar left (placed w h area b (is_at_corner area))) out
+    ∙ ap (λ b. with_others w h sofar left (placed w h area false b)) elsewhere)

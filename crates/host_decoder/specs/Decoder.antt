@@ -10,14 +10,14 @@ use Rattle.raster.specs.Update.{Paint, Update, after_updates}
 use Rattle.painter.specs.Painter.{Painting, IsPaintedOver}
 use Rattle.rfb_wire.specs.ClientMessage.{text}
 use Rattle.rfb_wire.specs.HeldText.{kept_text}
-use Rattle.rfb_wire.specs.ServerMessage.{ServerMessage, FramebufferUpdate, ServerCutText, LostText, rectangle, data_of, framebuffer_update, set_color_map_entries, server_message}
+use Rattle.rfb_wire.specs.ServerMessage.{ServerMessage, FramebufferUpdate, ServerCutText, LostText, rectangle, data_of, fault_outside, framebuffer_update, set_color_map_entries, server_message}
 use Rattle.host_decoder.specs.Updates.{in_colours}
 use Rattle.host_decoder.specs.Events.{Brings, brought_by, changes}
 use Rattle.host_decoder.specs.Data.{DataProgress, DataStands, IsWanting}
 use Rattle.host_decoder.specs.Parts.{Passed, len_of, message_of}
 use Rattle.host_decoder.specs.declared.event.HostEvent.{HostEvent}
 use Rattle.host_decoder.specs.declared.part.HostPart.{HostPart}
-use Rattle.host_decoder.specs.declared.part.HostPart.TheVariants.{Kind, Count, Area, Encoding, Colours, Length}
+use Rattle.host_decoder.specs.declared.part.HostPart.TheVariants.{Kind, Count, Area, Encoding, Outside, Colours, Length}
 use Rattle.host_decoder.specs.declared.state.HostState.{HostState}
 use Rattle.host_decoder.specs.declared.state.HostState.TheVariants.{Fields, Pixels, Keeping, Passing, Whole, Failed}
 
@@ -51,6 +51,7 @@ form_of w h sofar Kind = host_message w h
 form_of w h sofar Count = framebuffer_update host_format w h
 form_of w h sofar (Area left) = with_others w h sofar left (rectangle host_format w h)
 form_of w h sofar (Encoding left area) = with_others w h sofar left (u32 >>= data_of host_format w h area)
+form_of w h sofar Outside = u32 >>= λ encoding. Faulty (fault_outside encoding)
 form_of w h sofar Colours = set_color_map_entries
 form_of w h sofar Length = text ServerCutText LostText
 
@@ -60,6 +61,7 @@ IsSuited Kind paints = paints ≡ []
 IsSuited Count paints = paints ≡ []
 IsSuited (Area left) paints = Unit {0}
 IsSuited (Encoding left area) paints = Unit {0}
+IsSuited Outside paints = Unit {0}
 IsSuited Colours paints = paints ≡ []
 IsSuited Length paints = paints ≡ []
 
@@ -171,6 +173,7 @@ SuitsPart w h Kind = Unit {0}
 SuitsPart w h Count = Unit {0}
 SuitsPart w h (Area left) = Unit {0}
 SuitsPart w h (Encoding left area) = IsWithin area w h
+SuitsPart w h Outside = Unit {0}
 SuitsPart w h Colours = Unit {0}
 SuitsPart w h Length = Unit {0}
 

@@ -2,7 +2,7 @@
 use Rattle.std.specs.Prelude.{ℕ}
 use Rattle.rfb_wire.specs.ServerMessage.{ServerMessage, SetColorMapEntries, LostText}
 use Rattle.host_decoder.specs.declared.part.HostPart.{HostPart}
-use Rattle.host_decoder.specs.declared.part.HostPart.TheVariants.{Kind, Count, Area, Encoding, Colours, Length}
+use Rattle.host_decoder.specs.declared.part.HostPart.TheVariants.{Kind, Count, Area, Encoding, Outside, Colours, Length}
 use Rattle.host_decoder.specs.declared.passed.Passed as declared
 use Rattle.host_decoder.specs.declared.passed.Passed.TheVariants as passed
 
@@ -12,6 +12,7 @@ len_of Kind = 1
 len_of Count = 3
 len_of (Area left) = 8
 len_of (Encoding left area) = 4
+len_of Outside = 4
 len_of Colours = 5
 len_of Length = 7
 

@@ -7,7 +7,7 @@ ghost use Rattle.raster.specs.Screen.{Canvas};
 ghost use Rattle.raster.specs.Size.{IsScreenSize};
 ghost use Rattle.raster.specs.Update as update;
 ghost use Rattle.rfb_wire.specs.ClientMessage.{text};
-ghost use Rattle.rfb_wire.specs.ServerMessage.{LostText, ServerCutText, fields_of, set_color_map_entries};
+ghost use Rattle.rfb_wire.specs.ServerMessage.{LostText, ServerCutText, fault_outside, fields_of, is_at_corner, set_color_map_entries};
 ghost use Rattle.host_decoder.specs.Decoder.{GoesOn, Holds, IsSuited, Stands, StandsUnpainted, Stays, Suits, SuitsPart, form_of};
 ghost use Rattle.host_decoder.specs.declared.part.HostPart.TheVariants.{Area};
 ghost use Rattle.host_decoder.specs.Parts.{len_of};
@@ -21,8 +21,9 @@ use fault::{Fault, LONGEST_TEXT};
 use painter::{Painter, Patch};
 use raster::Rect;
 use rfb_wire::{
-    BELL, FRAMEBUFFER_UPDATE, Fields, KeptText, SERVER_CUT_TEXT, SET_COLOUR_MAP_ENTRIES, Text,
-    read_colour_map_head, read_encoding, read_text_head, read_update_head,
+    BELL, DESKTOP_SIZE, FRAMEBUFFER_UPDATE, Fields, KeptText, SERVER_CUT_TEXT,
+    SET_COLOUR_MAP_ENTRIES, Text, read_colour_map_head, read_encoding, read_text_head,
+    read_update_head,
 };
 use std::alloc::Global;
 
@@ -45,6 +46,13 @@ fn behind_kind(painter: &Painter, kind: u8) -> HostState
     HostState::Fields(Fields::of(part))
 }
 
+/// Whether a rectangle begins at the screen's top left, as a new size does.
+fn is_at_corner(area: &Rect) -> bool
+    ensures { result ≡ is_at_corner area.now }
+{
+    area.x == 0 && area.y == 0
+}
+
 /// The state after a rectangle's position; `left` more rectangles follow.
 fn behind_area(painter: &Painter, left: u16, b: &[u8]) -> HostState
     requires { length b.now ≡ 8 }
@@ -56,8 +64,21 @@ fn behind_area(painter: &Painter, left: u16, b: &[u8]) -> HostState
     let (width, height) = painter.size();
     if area.within(width, height) {
         HostState::Fields(Fields::of(HostPart::Encoding(left, area)))
+    } else if is_at_corner(&area) {
+        HostState::Fields(Fields::of(HostPart::Outside))
     } else {
         HostState::Failed(Fault::RectOutside)
+    }
+}
+
+/// The fault of a rectangle that leaves the screen, by its encoding: as a new size it is too large.
+fn outside(encoding: u32) -> Fault
+    ensures { result ≡ fault_outside encoding }
+{
+    if encoding == DESKTOP_SIZE {
+        Fault::BadScreen
+    } else {
+        Fault::RectOutside
     }
 }
 
@@ -102,6 +123,7 @@ pub(crate) fn complete(alloc: Global, painter: &mut Painter, part: HostPart, b: 
         HostPart::Count => next_rectangle(painter, read_update_head(b)),
         HostPart::Area(left) => behind_area(painter, left, b),
         HostPart::Encoding(left, area) => { begin_data(painter, left, area, read_encoding(b)) }
+        HostPart::Outside => HostState::Failed(outside(read_encoding(b))),
         HostPart::Colours => behind_colours(b),
         HostPart::Length => behind_length(alloc, painter, b),
     }

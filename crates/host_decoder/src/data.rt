@@ -1,6 +1,6 @@
 //! The data of one rectangle of a host, in whatever pieces it comes, painted as it comes (RFC 6143, section 7.7).
 
-ghost use Rattle.std.specs.Prelude.{◌≡◌, ◌<◌, ◌≤◌, List, Ok, false, length, IfOk, IfErr, IsFalse, IsTrue};
+ghost use Rattle.std.specs.Prelude.{◌≡◌, ◌≢◌, ◌<◌, ◌≤◌, List, Ok, false, length, IfOk, IfErr, IsFalse, IsTrue};
 ghost use Rattle.pixel_format.specs.PixelFormat.{host_format};
 ghost use Rattle.byte_reading.specs.Reading.{Reading, Faulty};
 ghost use Rattle.fault.specs.declared.kinds.Fault.TheVariants.{UnknownEncoding};
@@ -8,7 +8,7 @@ ghost use Rattle.raster.specs.Screen.{Canvas, IsWithin};
 ghost use Rattle.raster.specs.Size.{IsScreenSize};
 ghost use Rattle.raster.specs.Update.{Paint};
 ghost use Rattle.painter.specs.Painter.{IsAsLarge, IsPaintedOver, Painting};
-ghost use Rattle.rfb_wire.specs.ServerMessage.{data_of};
+ghost use Rattle.rfb_wire.specs.ServerMessage.{data_of, desktop_size};
 ghost use Rattle.host_decoder.specs.Data.{DataStands, Fed, IsSameArea, IsWanting};
 
 use crate::body::Body;
@@ -46,10 +46,11 @@ impl Data {
     /// A reader to which no byte has come, of the data of the rectangle `area` in an encoding, on a screen of `width`
     /// by `height` pixels.
     ///
-    /// `UnknownEncoding` for any but Raw, CopyRect, RRE and Hextile.
+    /// `UnknownEncoding` for any but Raw, CopyRect, RRE and Hextile. A new size has no data.
     pub(crate) fn new(width: u64, height: u64, area: Rect, encoding: u32) -> Result<Data, Fault>
         requires size { IsScreenSize width height }
         requires within { IsWithin area width height }
+        requires data { encoding ≢ desktop_size }
         ensures stands { IfOk result (λ d. (start : Canvas) (paints : List Paint) (painter : Painting) → IsPaintedOver start paints painter → DataStands d start paints painter (data_of host_format width height area encoding)) }
         ensures width { IfOk result (λ d. d.width ≡ width) }
         ensures height { IfOk result (λ d. d.height ≡ height) }

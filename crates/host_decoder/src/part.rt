@@ -16,6 +16,8 @@ pub(crate) enum HostPart {
     Area(u16),
     /// The encoding of the rectangle at this position and of this size; this many more rectangles follow.
     Encoding(u16, Rect),
+    /// The encoding of a rectangle that leaves the screen, and may be a new size.
+    Outside,
     /// Padding, the first colour and the number of colours of a colour map.
     Colours,
     /// Padding and the length of a text.
@@ -33,6 +35,7 @@ impl FixedPart for HostPart {
             HostPart::Count => 3,
             HostPart::Area(_) => 8,
             HostPart::Encoding(_, _) => 4,
+            HostPart::Outside => 4,
             HostPart::Colours => 5,
             HostPart::Length => 7,
         }

@@ -107,10 +107,10 @@ impl<'a, L: Link, P: Puts, R: Wait> ReadsOn<L, P> for Waiting<'a, R> {
 /// start.
 ///
 /// `LinkEnded` where the link ends inside a message, and `LinkFailed` where it fails; `UnknownMessage`, `RectOutside`,
-/// `UnknownEncoding`, `SubrectOutside`, `NoBackground`, `NoForeground` or `CopyOutside` at the byte that shows it: all
-/// updates of the messages before that are put. `Memory`, and `NumbersOut` where the publisher has no more numbers: the
-/// updates that were put are the first ones. In each case what was put stays. The updates put come to the same as those
-/// of the bytes, one by one, over the screen that the decoder and the painter began with.
+/// `BadScreen`, `UnknownEncoding`, `SubrectOutside`, `NoBackground`, `NoForeground` or `CopyOutside` at the byte that
+/// shows it: all updates of the messages before that are put. `Memory`, and `NumbersOut` where the publisher has no
+/// more numbers: the updates that were put are the first ones. In each case what was put stays. The updates put come to
+/// the same as those of the bytes, one by one, over the screen that the decoder and the painter began with.
 pub fn run_host<L: Link, P: Puts, R: Wait>(
     rt: &R,
     alloc: Global,

@@ -1,13 +1,15 @@
 -- A black screen of which all tiles are touched brings a switch, over whatever was shown before.
 use Rattle.std.proofs.Common.{◌≡◌, ℕ, ◌+◌, ◌-◌, ◌<◌, true, List, [], ◌∷◌, ◌++◌, sym, ap, subst, ◌∙◌, arith}
-use Rattle.std.specs.Prelude.{if◌then◌else◌}
-use Rattle.raster.specs.Screen.{Canvas, LooksLike, holds, opening, value_at, values_of, whole_screen}
-use Rattle.raster.specs.Update.{Paint, Paints, Put, Update, after_paints, paints_of}
+use Rattle.std.specs.Prelude.{if◌then◌else◌, slice_index}
+use Rattle.raster.specs.declared.rect.Rect.{Rect}
+use Rattle.raster.specs.Screen.{Canvas, IsWithin, LooksLike, fill, holds, meets, opening, tile_count, tile_rect, value_at, values_of, whole_screen}
+use Rattle.raster.specs.Update.{Paint, Paints, Put, Update, after_paint, after_paints, paints_of}
 use Rattle.raster.specs.Switch.{switch}
-use Rattle.raster.proofs.Places.{holds_has, values_at}
+use Rattle.raster.proofs.Places.{holds_has, length_values, values_at}
 use Rattle.painter.specs.Same.{AreSameUpdates}
 use Rattle.painter.specs.Drawing.{IsPaintedAround, drawn}
-use Rattle.painter.specs.Painter.{Painting, IsPaintedOver, worked}
+use Rattle.painter.specs.Painter.{Painting, IsAsLarge, IsPaintedOver, worked}
+use Rattle.painter.proofs.PaintingLaws.{painted_more}
 
 in_whole : (w h x y : ℕ) → x < w → y < h → holds (whole_screen w h) x y ≡ true
 in_whole w h x y lx ly = holds_has (whole_screen w h) x y (record { left = omega arith; right = omega (arith, lx); top = omega arith; bottom = omega (arith, ly) })
@@ -48,6 +50,22 @@ black_drawn black on new stands is painted =
     let across : 0 + x ≡ x = omega arith in
     let down : 0 + y ≡ y = omega arith in
     ap (λ i. worked black i (0 + y)) across ∙ (ap (worked black x) down ∙ (stands.shows x y lx ly ∙ sym (values_at black.width black.height opening x y lx ly))))
+
+-- A screen that is filled with black looks like one on which a switch's paint is put.
+filled_black : (w h : ℕ) (old new : Canvas) → LooksLike w h new (fill (whole_screen w h) 0 old) → LooksLike w h new (after_paint old (Put (whole_screen w h) (values_of w h opening)))
+filled_black w h old new shows x y lx ly = shows x y lx ly ∙ (ap (λ t. if t then 0 else old x y) (in_whole w h x y lx ly) ∙ sym (is_black w h old x y lx ly))
+
+-- So that is one paint more, wherever it comes in an update.
+pub black_painted : (old new : Painting) (whole : Rect) → whole ≡ whole_screen old.width old.height → IsAsLarge old new → LooksLike old.width old.height (worked new) (fill whole 0 (worked old))
+    → ((t : ℕ) → t < tile_count old.width old.height → slice_index new.marks t ≡ (if meets whole (tile_rect old.width old.height t) then 1 else slice_index old.marks t))
+    → (start : Canvas) (paints : List Paint) → IsPaintedOver start paints old → IsPaintedOver start (paints ++ Put (whole_screen old.width old.height) (values_of old.width old.height opening) ∷ []) new
+black_painted old new whole is large shows marks =
+    let w : ℕ = old.width in
+    let h : ℕ = old.height in
+    let inside : IsWithin (whole_screen w h) w h = record { across = omega arith; down = omega arith } in
+    painted_more old new (Put (whole_screen w h) (values_of w h opening)) (inside, length_values w h opening) large
+    (filled_black w h (worked old) (worked new) (subst (λ (r : Rect). LooksLike w h (worked new) (fill r 0 (worked old))) is shows))
+    (subst (λ (r : Rect). (t : ℕ) → t < tile_count w h → slice_index new.marks t ≡ (if meets r (tile_rect w h t) then 1 else slice_index old.marks t)) is marks)
 
 -- Its patch comes to the same as a switch.
 pub patch_switches : (screen : Painting) (us : List Update) → IsPaintedOver opening (paints_of (switch screen.width screen.height)) screen

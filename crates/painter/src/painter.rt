@@ -8,7 +8,7 @@ ghost use Rattle.painter.specs.Painter.{IsAsLarge, IsPaintedOver, colours_in, co
 ghost use Rattle.fault.specs.declared.kinds.Fault.TheVariants.{Memory};
 ghost use Rattle.raster.specs.Painted.{Fits, paint_of};
 ghost use Rattle.raster.specs.Picture.{Picture, shown};
-ghost use Rattle.raster.specs.Screen.{Canvas, IsWithin, LooksLike, opening, tile_count, tile_rect, value_at};
+ghost use Rattle.raster.specs.Screen.{Canvas, IsWithin, LooksLike, opening, tile_count, tile_rect, value_at, values_of, whole_screen};
 ghost use Rattle.raster.specs.Size.{IsScreenSize};
 ghost use Rattle.raster.specs.Switch.{switch};
 ghost use Rattle.raster.specs.Update as update;
@@ -133,6 +133,22 @@ impl Painter {
     {
         self.raster.put(area, colours);
         self.touched.touch(&area, TOUCHED);
+    }
+
+    /// Paints the whole screen black. It always succeeds, and takes no memory.
+    pub fn blacken(&mut self)
+        ensures size { IsAsLarge self.old self.new }
+        ensures painted { (start : Canvas) (paints : List update.Paint) → IsPaintedOver start paints self.old
+            → IsPaintedOver start (paints ++ update.Put (whole_screen self.old.width self.old.height) (values_of self.old.width self.old.height opening) ∷ []) self.new }
+    {
+        let whole = Rect {
+            x: 0,
+            y: 0,
+            w: self.raster.width(),
+            h: self.raster.height(),
+        };
+        self.raster.fill(whole, 0);
+        self.touched.touch(&whole, TOUCHED);
     }
 
     /// Copies a rectangle from another part of the screen, as it was before the call: `x`, `y` is that part's top left

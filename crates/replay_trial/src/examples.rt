@@ -5,13 +5,14 @@ use std::fs;
 use std::test::Fail;
 
 /// The examples, each with the exit status of `reflectord replay`.
-const EXAMPLES: [(&str, u8); 8] = [
+const EXAMPLES: [(&str, u8); 9] = [
     ("two-pixels", 0),
     ("hello", 0),
     ("slow-viewer", 0),
     ("view-only", 0),
     ("two-hands", 0),
     ("format-change", 0),
+    ("new-size", 3),
     ("host-fault", 3),
     ("viewer-fault", 0),
 ];

@@ -6,6 +6,9 @@ ghost use Rattle.std.specs.Prelude.{◌≤◌, length, take};
 ghost use Rattle.byte_reading.specs.Reading.{Spells, u32};
 ghost use Rattle.rfb_wire.specs.ServerHeads.{colour_map_head, copy_source, text_head, update_head};
 
+/// The number of DesktopSize, which is -223: in place of a rectangle it brings the host's new size (RFC 6143, 7.8.2).
+pub const DESKTOP_SIZE: u32 = 0xFFFF_FF21;
+
 /// How many rectangles a FramebufferUpdate has: 3 bytes after its type (RFC 6143, 7.6.1).
 pub fn read_update_head(bytes: &[u8]) -> u16
     requires { 3 ≤ length bytes.now }

@@ -1,8 +1,8 @@
-use Rattle.std.proofs.Common.{inr, refl, sym, subst}
-use Rattle.byte_reading.specs.Reading.{Reading}
+use Rattle.std.proofs.Common.{inr, refl, sym, ap, subst, ◌∙◌}
+use Rattle.byte_reading.specs.Reading.{Reading, Faulty}
 use Rattle.rfb_wire.specs.ServerMessage.{ServerMessage}
 use Rattle.host_decoder.specs.Decoder.{GoesOn}
-use Rattle.host_decoder.proofs.Completed.{outside_update, behind_count, behind_encoding}
+use Rattle.host_decoder.proofs.Completed.{outside_update, behind_count, behind_encoding, behind_outside}
 use Rattle.host_decoder.proofs.complete.complete.Goals as goal
 
 pub returns-in-Count-clause-goes_on : goal.returns-in-Count-clause-goes_on
@@ -27,6 +27,12 @@ returns-in-Encoding-clause-goes_on c start sofar holds suited =
     rw c.in-Encoding.is
     (subst (λ (r : Reading ServerMessage). GoesOn c.args.painter.now c.begin_data.new.painter c.begin_data.result start r)
     (sym (behind_encoding w h sofar c.in-Encoding.left c.in-Encoding.area c.args.b.now c.read_encoding.result count c.read_encoding.ensures)) (c.begin_data.ensures.goes_on start sofar holds))
+
+pub returns-in-Outside-clause-goes_on : goal.returns-in-Outside-clause-goes_on
+returns-in-Outside-clause-goes_on c start sofar holds suited =
+    let count = rw c.in-Outside.is at c.requires.count in
+    rw c.in-Outside.is
+    (inr (behind_outside c.args.painter.now.width c.args.painter.now.height sofar c.args.b.now c.read_encoding-in-Outside.result count c.read_encoding-in-Outside.ensures ∙ ap Faulty (sym c.outside.ensures)))
 
 pub returns-in-Colours-clause-stays : goal.returns-in-Colours-clause-stays
 returns-in-Colours-clause-stays c = record { width = refl; height = refl; suits = c.behind_colours.ensures.suits c.args.painter.now.width c.args.painter.now.height }
