@@ -1,4 +1,4 @@
-//! Tests of `rfb_wire` and `link`, which are in their own crate so that each of those is proved once.
+//! Tests of `rfb_wire`, `vnc_auth` and `link`, which are in their own crate so that each of those is proved once.
 #![tactic(auto)]
 
 #[cfg(test)]
@@ -9,3 +9,5 @@ mod head;
 mod hello;
 #[cfg(test)]
 mod joining;
+#[cfg(test)]
+mod passwords;

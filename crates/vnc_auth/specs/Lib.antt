@@ -1,0 +1,4 @@
+pub mod Answer
+pub mod Bits
+pub mod Des
+pub mod Password
