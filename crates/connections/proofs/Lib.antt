@@ -2,3 +2,4 @@ mod Behind
 mod Canonical
 mod Heard
 mod Owed
+pub mod Sending

@@ -1,7 +1,8 @@
 //! How newcomers come in.
 
-ghost use Rattle.std.specs.Prelude.{◌≡◌, ◌<◌, IfOk, IsNone};
-ghost use Rattle.connections.specs.Doors.{role_behind};
+ghost use Rattle.std.specs.Prelude.{◌≡◌, ◌<◌, [], IfOk, IsNone};
+ghost use Rattle.connections.specs.Doors.{HasNoted, LetsIn, SeesOff, links_behind, role_behind};
+ghost use Rattle.run_traits.specs.Trails.{KeepsTrail};
 
 use crate::desk::{Comer, Desk};
 use crate::refused::Lack;
@@ -13,7 +14,7 @@ use fault::Fault;
 use link::Link;
 use roles::Role;
 use run_control::Entry;
-use run_traits::{Door, Event, LeftLink, Log, Parting, PlaceCount, PlaceId, Visit, Way};
+use run_traits::{Door, Event, LeftLink, Log, Parting, PlaceCount, PlaceId, Visit, Way, Written};
 use std::alloc::{AllocError, Global};
 use std::io;
 use std::net::SocketAddr;
@@ -217,6 +218,8 @@ pub struct TcpDoor<R: Wait + Clock + Drop, G: Log + Drop> {
     // Where that viewer came from, if the system told, and how its bytes travel.
     address: Option<SocketAddr>,
     way: Way,
+    // The links of the viewers that were let in. Only clauses read it.
+    links: Written<ViewerLink<R>>,
 }
 
 impl<R: Wait + Clock + Drop, G: Log + Drop> TcpDoor<R, G> {
@@ -229,7 +232,7 @@ impl<R: Wait + Clock + Drop, G: Log + Drop> TcpDoor<R, G> {
         place: u64,
         log: G,
     ) -> TcpDoor<R, G>
-        ensures { (result.lobby ≡ lobby) × (result.place ≡ place) }
+        ensures { (result.lobby ≡ lobby) × (result.place ≡ place) × (links_behind result ≡ []) }
     {
         TcpDoor {
             rt,
@@ -241,13 +244,18 @@ impl<R: Wait + Clock + Drop, G: Log + Drop> TcpDoor<R, G> {
             has_served: false,
             address: None,
             way: Way::Tcp,
+            links: Written::new(),
         }
     }
 
+    /// It does nothing. Its clause says that each such door keeps a trail of its viewers' links.
+    pub fn keeps_trail(&self)
+        ensures { KeepsTrail (LetsIn {R = R} {G = G}) SeesOff links_behind }
+    {}
+
     /// The place is free again, if a viewer had it or was on the way to it.
     fn vacate(&mut self)
-        ensures lobby { self.new.lobby ≡ self.old.lobby }
-        ensures place { self.new.place ≡ self.old.place }
+        ensures { HasNoted self.old [] self.new }
     {
         if self.has_served {
             self.lobby.desk.leave(&self.rt, self.place);
@@ -287,10 +295,10 @@ fn parting_of<R: Wait + Clock + Drop>(viewer: &ViewerLink<R>) -> Parting {
 }
 
 impl<R: Wait + Clock + Drop + Copy, G: Log + Drop> TcpDoor<R, G> {
-    ghost use Rattle.std.specs.Prelude.{◌≡◌, IfOk, IfSome};
+    ghost use Rattle.std.specs.Prelude.{◌≡◌, [], IfOk, IfSome};
     ghost use Rattle.run_traits.specs.Unused.{unused};
     ghost use Rattle.connections.specs.Browsers.{viewer_state};
-    ghost use Rattle.connections.specs.Doors.{role_behind};
+    ghost use Rattle.connections.specs.Doors.{HasNoted, role_behind};
 
     /// The link of a newcomer that came by a listener of the door's role.
     fn link(&self, entrant: Entrant) -> io::Result<ViewerLink<R>>
@@ -308,7 +316,8 @@ impl<R: Wait + Clock + Drop + Copy, G: Log + Drop> TcpDoor<R, G> {
     /// Receives a newcomer: answers its link, unless that can't be made, nobody is let in any more, or the newcomer
     /// came by another role's listener. The lobby takes in none of these, but its lock can't keep that for the proof.
     fn receive(&mut self, entrant: Entrant) -> Option<ViewerLink<R>>
-        ensures { IfSome result (λ link. viewer_state link ≡ unused) }
+        ensures came { IfSome result (λ link. viewer_state link ≡ unused) }
+        ensures noted { HasNoted self.old [] self.new }
     {
         let place_id = self.place_id();
         self.has_served = true;
@@ -337,17 +346,18 @@ impl<R: Wait + Clock + Drop + Copy, G: Log + Drop> TcpDoor<R, G> {
 }
 
 impl<R: Wait + Clock + Drop + Copy + Send, G: Log + Drop + Send> Door for TcpDoor<R, G> {
-    ghost use Rattle.std.specs.Prelude.{◌≡◌, ⊤};
-    ghost use Rattle.connections.specs.Doors.{role_behind};
+    ghost use Rattle.std.specs.Prelude.{◌≡◌};
+    ghost use Rattle.connections.specs.Browsers.{viewer_state};
+    ghost use Rattle.connections.specs.Doors.{LetsIn, SeesOff, role_behind};
 
     type Viewer = ViewerLink<R>;
 
     ghost is_for = { λ door role. role ≡ role_behind door };
 
-    // No clause says which viewers come, or what becomes of those that have left.
-    ghost lets_in = { λ _ _ _. ⊤ };
+    // No clause says which viewers come.
+    ghost lets_in = { LetsIn };
 
-    ghost sees_off = { λ _ _ _ _. ⊤ };
+    ghost sees_off = { SeesOff };
 
     /// A viewer whose link can't be made is let go, and the next one waited for.
     fn next(&mut self) -> Option<ViewerLink<R>> {
@@ -356,6 +366,7 @@ impl<R: Wait + Clock + Drop + Copy + Send, G: Log + Drop + Send> Door for TcpDoo
             self.vacate();
             let entrant = self.lobby.next_entrant(&rt)?;
             if let Some(link) = self.receive(entrant) {
+                self.links.note(&link);
                 return Some(link);
             }
         }
@@ -368,11 +379,12 @@ impl<R: Wait + Clock + Drop + Copy + Send, G: Log + Drop + Send> Door for TcpDoo
 
     /// Closes the connection before the place becomes free.
     fn left(&mut self, mut viewer: LeftLink<ViewerLink<R>>, answers: u64, why: Result<(), Fault>)
-        ensures { ⊤ }
+        ensures { SeesOff self.old (viewer_state viewer.link) why self.new }
     {
         // This sends the answer to a browser's close frame.
         viewer.flush();
         let link = viewer.look();
+        self.links.note(link);
         let connection = connection_of(link);
         let visit = Visit {
             why,

@@ -1,5 +1,8 @@
--- There are as many doors as the settings have places, and the run is one by the settings.
+-- There are as many doors as the settings have places, which may go to other threads, and the run is one by the
+-- settings.
+use denote.Param.Send.{sendable}
 use Rattle.std.proofs.Common.{sym, ◌∙◌}
+use Rattle.connections.proofs.Sending.{door_send}
 use Rattle.serve.proofs.Counts.{counted}
 use Rattle.serve.proofs.Endings.{run_by}
 use Rattle.serve.proofs.Stopping.{may_end}
@@ -13,3 +16,6 @@ returns g c =
     let over = c.over.ensures in
     run_by c.args.settings.now c.over.result _ _ _ over.reflected over.roles over.form over.why over.never c.requires.doors c.runs_of.ensures
     (λ none. may_end c.args.settings.now (sym c.requires.again ∙ none))
+
+pub over-requires-send-D : goal.over-requires-send-D
+over-requires-send-D g c κs within = let r = c.type_bounds.send-R in let l = c.type_bounds.send-G in search (sendable, door_send)
