@@ -10,6 +10,8 @@ mod puts;
 #[cfg(test)]
 mod screen;
 #[cfg(test)]
+mod spares;
+#[cfg(test)]
 mod viewer;
 #[cfg(test)]
 mod watch;

@@ -23,7 +23,7 @@ pub const ALL: Rect = Rect {
 pub const MANY: u64 = 2_500;
 
 /// Patch n.
-fn painted(alloc: Global, n: u64) -> Result<Patch, Fault>
+pub fn painted(alloc: Global, n: u64) -> Result<Patch, Fault>
     ensures { IfOk result (λ patch. (patch.width ≡ 4) × (patch.height ≡ 4)) }
 {
     let mut painter = Painter::new(alloc, 4, 4)?;

@@ -5,3 +5,4 @@ pub mod Law
 pub mod Reaches
 pub mod Published
 pub mod Publishing
+pub mod Keeping

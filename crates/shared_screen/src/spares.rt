@@ -1,6 +1,6 @@
 //! Boards of earlier updates. One that nobody reads any more is used for the next update.
 
-ghost use Rattle.std.specs.Prelude.{◌≡◌, ◌<◌, ◌^◌, [], length, IfOk, IfErr, IfSome};
+ghost use Rattle.std.specs.Prelude.{◌≡◌, ◌<◌, ◌≤◌, ◌^◌, suc, [], length, IfOk, IfErr, IfSome};
 ghost use Rattle.std.specs.Arc.{arc_value};
 ghost use Rattle.fault.specs.declared.kinds.Fault.TheVariants.{Memory};
 ghost use Rattle.raster.specs.Size.{IsScreenSize};
@@ -21,7 +21,8 @@ use std::sync::Arc;
 /// How many free boards, which nobody else has, are kept for later puts.
 const MOST_FREE: usize = 4;
 
-/// Boards that readers have or had, and how many more may be made. Contracts see how many there may be in all.
+/// Boards that readers have or had, and how many more may be made. Contracts see how many are kept, and how many there
+/// may be in all.
 #[derive(Drop)]
 pub struct Spares<J: Naming> {
     boards: Vec<Stamped<J>>,
@@ -36,10 +37,11 @@ pub struct Spares<J: Naming> {
 impl<J: Naming> Model for Spares<J> {
     ghost use Rattle.std.specs.Prelude.{◌≡◌, ℕ, ◌+◌, ◌≤◌, [], vec_len};
     ghost use Rattle.raster.specs.Size.{IsScreenSize};
+    ghost use Rattle.shared_screen.specs.Keeping.{Keeping};
 
-    ghost Value = { ℕ };
+    ghost Value = { Keeping };
 
-    ghost view = { λ s. s.most };
+    ghost view = { λ s. record { kept = vec_len s.boards; most = s.most } };
 
     ghost invariant = { λ s. (vec_len s.boards + s.left ≤ s.most) × IsScreenSize s.width s.height × (s.width ≡ J.width) × (s.height ≡ J.height) × (s.opening ≡ []) };
 }
@@ -88,7 +90,7 @@ impl<J: Naming> Spares<J> {
         requires size { IsScreenSize width height × (width ≡ J.width) × (height ≡ J.height) }
         requires empty { opening ≡ [] }
         requires some { 0 < most }
-        ensures ok { IfOk result (λ spares. spares ≡ most) }
+        ensures ok { IfOk result (λ spares. spares ≡ record { kept = 1; most = most }) }
         ensures err { IfErr result (λ fault. fault ≡ Memory) }
     {
         let front = opening.front.again();
@@ -105,9 +107,18 @@ impl<J: Naming> Spares<J> {
         })
     }
 
+    /// How many boards it keeps: those that others have, too, and those that are free.
+    pub fn len(&self) -> usize
+        ensures kept { result ≡ self.now.kept }
+        ensures few { result ≤ self.now.most }
+    {
+        self.boards.len()
+    }
+
     /// Lets go of a board that nobody else has, where there are more such boards than are kept.
     fn let_go(&mut self)
-        ensures { self.new ≡ self.old }
+        ensures most { self.new.most ≡ self.old.most }
+        ensures kept { (self.new.kept ≤ self.old.kept) × (self.old.kept ≤ suc self.new.kept) }
     {
         if let Some(at) = one_too_many(self.boards.as_slice()) {
             let board = self.boards.swap_remove(at);
@@ -117,9 +128,11 @@ impl<J: Naming> Spares<J> {
     }
 
     /// Keeps a board that may become free later. Room for it was taken when the spares were made. Where one more owner
-    /// of it is refused it isn't kept, which does no harm.
+    /// of it is refused it isn't kept, which does no harm. Before that it lets go of a board that nobody else has, where
+    /// there are more such boards than are kept.
     pub fn keep(&mut self, board: &Stamped<J>)
-        ensures { self.new ≡ self.old }
+        ensures most { self.new.most ≡ self.old.most }
+        ensures kept { (self.new.kept ≤ suc self.old.kept) × (self.old.kept ≤ suc self.new.kept) }
     {
         self.let_go();
         if self.boards.len() + self.left == self.most {
@@ -133,7 +146,8 @@ impl<J: Naming> Spares<J> {
     /// A board that nobody else has: the newest free one, or else an opening screen. It fails (`Memory`) where there
     /// are as many boards as there may be and none is free, or where memory is refused.
     fn taken(&mut self) -> Result<Stamped<J>, Fault>
-        ensures same { self.new ≡ self.old }
+        ensures most { self.new.most ≡ self.old.most }
+        ensures kept { (self.new.kept ≤ self.old.kept) × (self.old.kept ≤ suc self.new.kept) }
         ensures err { IfErr result (λ fault. fault ≡ Memory) }
     {
         if let Some(at) = newest_free(self.boards.as_slice()) {
@@ -158,7 +172,8 @@ impl<J: Naming> Spares<J> {
     ) -> Result<Arc<Board, Global>, Fault>
         requires size { (patch.now.width ≡ J.width) × (patch.now.height ≡ J.height) }
         requires number { length (puts_of newest.now) < 2 ^ 62 }
-        ensures same { self.new ≡ self.old }
+        ensures most { self.new.most ≡ self.old.most }
+        ensures kept { (self.new.kept ≤ self.old.kept) × (self.old.kept ≤ suc self.new.kept) }
         ensures ok { IfOk result (λ board. IsNext J.width J.height (arc_value board) newest.now patch.now.update) }
         ensures err { IfErr result (λ fault. fault ≡ Memory) }
     {
