@@ -21,21 +21,32 @@ impl<'a> io::Read for TornReader<'a> {
     }
 }
 
-/// Gives a script, and then blanks for ever. It counts how often it was asked.
+/// Bytes that no text has, for long lines: they are copied, as single ones take long in a run before any proof.
+static NO_TEXT: [u8; 8_192] = [0xFF; 8_192];
+
+/// Gives a script, then so many bytes of a line that is no text, and then its line feed. It counts how often it was
+/// asked.
 #[derive(Drop)]
-struct EndlessReader<'a> {
+struct LongReader<'a> {
     script: &'a [u8],
+    left: usize,
+    line_feed: &'a [u8],
     asked: u64,
 }
 
-impl<'a> io::Read for EndlessReader<'a> {
+impl<'a> io::Read for LongReader<'a> {
     fn read(&mut self, buf: &mut [u8]) -> io::Result<usize> {
         self.asked = self.asked.saturating_add(1);
-        if self.script.is_empty() {
-            buf.fill(b' ');
-            return Ok(buf.len());
+        if !self.script.is_empty() {
+            return self.script.read(buf);
         }
-        self.script.read(buf)
+        if self.left == 0 {
+            return self.line_feed.read(buf);
+        }
+        let count = NO_TEXT.len().min(buf.len()).min(self.left);
+        buf[..count].copy_from_slice(&NO_TEXT[..count]);
+        self.left -= count;
+        Ok(count)
     }
 }
 
@@ -61,15 +72,25 @@ fn ends_torn(alloc: Global, script: Option<&[u8]>, printed: &str) -> bool {
     replay(alloc, TornReader(script), &mut output) == 3 && output.as_slice() == printed.as_bytes()
 }
 
-/// An endless line ends a script in at most this many reads: 256 MiB, and each read brings 4 KiB or more.
-const ENDLESS_READS: u64 = 1 << 16;
+/// A line has at most this many bytes before its line feed (docs/OPERATING.md, "How it ends").
+const MOST_BYTES: usize = 256 * 1024 * 1024 - 1;
 
-/// Whether a line without an end after these bytes ends the script with status 3 and this printed, in few reads.
-fn ends_endless(alloc: Global, script: &[u8], printed: &str) -> bool {
+/// A line that is too long ends a script in at most this many reads, each of which brings 4 KiB or more.
+const MOST_READS: u64 = 1 << 16;
+
+/// Whether a script ends in few reads with this status and this printed, if a line follows it of so many bytes that is
+/// no text.
+fn ends_long(alloc: Global, script: &[u8], left: usize, printed: &str, status: u8) -> bool {
     let mut output = Vec::new(alloc);
-    let mut reader = EndlessReader { script, asked: 0 };
-    let status = replay(alloc, &mut reader, &mut output);
-    status == 3 && output.as_slice() == printed.as_bytes() && reader.asked <= ENDLESS_READS
+    let mut reader = LongReader {
+        script,
+        left,
+        line_feed: b"\n",
+        asked: 0,
+    };
+    replay(alloc, &mut reader, &mut output) == status
+        && output.as_slice() == printed.as_bytes()
+        && reader.asked <= MOST_READS
 }
 
 /// Whether bytes are read and shown as a script spells them.
@@ -97,10 +118,17 @@ pub fn play_links(rt: &HostRuntime) -> Result<(), Fail> {
         ),
         ("reader that fails at once", ends_torn(alloc, None, "")),
         ("writer that fails", replay(alloc, SCRIPT, FullWriter) == 3),
-        ("first line without an end", ends_endless(alloc, b"", "")),
+        (
+            "line of the most bytes",
+            ends_long(alloc, b"", MOST_BYTES, "line 1\n", 2),
+        ),
+        (
+            "line of a byte more",
+            ends_long(alloc, b"", MOST_BYTES + 1, "", 3),
+        ),
         (
             "later line without an end",
-            ends_endless(alloc, SCRIPT, "1: -\n"),
+            ends_long(alloc, SCRIPT, usize::MAX, "1: -\n", 3),
         ),
         (
             "first line that is no text",

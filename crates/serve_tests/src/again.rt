@@ -24,6 +24,9 @@ const VIEWER: &[usize] = &[3];
 /// "How long it waits").
 const OF_A_VIEWER: Asked = [1, 20, 5, 4, 20_000, 1];
 
+/// The same at the end of a host, which `--stalled` doesn't change.
+const OF_A_HOST: Asked = [1, 5, 2, 3, 11_000, 1];
+
 /// The screen is 2 by 1, of 32 bits a pixel. Its name has bytes by which some terminals are steered, and a quotation
 /// mark (RFC 6143, 7.3.2 and 7.4).
 const INIT: &[u8] =
@@ -33,7 +36,7 @@ const INIT: &[u8] =
 const NOBODY_IS_THERE: &[Act] = &[
     Act {
         who: HOST,
-        deeds: &[Deed::IsMet(0)],
+        deeds: &[Deed::IsMet(0), Deed::Keeps(OF_A_HOST)],
     },
     Act {
         who: EARLY,
@@ -124,6 +127,8 @@ const IT_COMES_BACK: &[Act] = &[
             Deed::Does(Step::Reaches(Count::Rested, 1)),
             Deed::Sees("host none", ""),
             Deed::Reads("/health", &["HTTP/1.1 503 ", "\r\n\r\nno host\n"]),
+            Deed::Reads("/health/full", &["HTTP/1.1 503 ", "\r\n\r\nno host\n"]),
+            Deed::Reads("/health/view", &["HTTP/1.1 503 ", "\r\n\r\nno host\n"]),
             Deed::Reads(
                 "/metrics",
                 &[
@@ -291,6 +296,56 @@ const ONE_TAKES_NOTHING: &[Act] = &[
     },
 ];
 
+/// How a cut text of 65,536 bytes begins, and its bytes (RFC 6143, 7.5.6).
+const TEXT: &[u8] = b"\x06\0\0\0\0\x01\0\0";
+
+const LETTERS: &[u8] = &[0x61; 65_536];
+
+/// A host takes the beginning of the first of four texts and nothing more: the system keeps less for it than it is to
+/// be told. The viewer is answered what it asked for after them, so all of them were taken of it. A stop looks 400
+/// times, with a pause of five milliseconds after each, whether the host was told all.
+const ITS_HOST_TAKES_NOTHING: &[Act] = &[
+    Act {
+        who: HOST,
+        deeds: &[
+            Deed::IsMet(0),
+            Deed::IsKeptLittle,
+            Deed::Does(Step::IsJoined(INIT)),
+        ],
+    },
+    Act {
+        who: VIEWER,
+        deeds: &[
+            Deed::ComesAfter("full", NO_HOST),
+            Deed::HasPlace("full", &[1], ""),
+            Deed::Wants("viewer-in place=1 role=full address=|me|"),
+            Deed::Wants("viewer-out place=1 role=full address=|me| *"),
+            Deed::Does(Step::IsGreeted(INIT)),
+            Deed::Does(Step::Sends(TEXT)),
+            Deed::Does(Step::Sends(LETTERS)),
+            Deed::Does(Step::Sends(TEXT)),
+            Deed::Does(Step::Sends(LETTERS)),
+            Deed::Does(Step::Sends(TEXT)),
+            Deed::Does(Step::Sends(LETTERS)),
+            Deed::Does(Step::Sends(TEXT)),
+            Deed::Does(Step::Sends(LETTERS)),
+            Deed::Does(Step::Sends(ASK)),
+            Deed::Does(Step::Hears(BLACK)),
+        ],
+    },
+    Act {
+        who: HOST,
+        deeds: &[
+            Deed::Does(Step::Hears(TEXT)),
+            Deed::Does(Step::StopsTheClock),
+            Deed::IsObeyed("stop\n", "|done\n|"),
+            Deed::Does(Step::Counts(Count::Waited, 400)),
+            Deed::Does(Step::SeesItGo),
+            Deed::Does(Step::Removes),
+        ],
+    },
+];
+
 const PLAYS: &[Play<'static>] = &[
     Play {
         name: "a run goes on while its host comes back, and a fault of the host ends it",
@@ -337,6 +392,20 @@ const PLAYS: &[Play<'static>] = &[
             "listening role=view address=127.0.0.1:|view| places=1",
             "host-tried address=127.0.0.1:|first| why=\"connected\"",
             "host-joined address=127.0.0.1:|first| width=512 height=512 name=\"T\"",
+            "host-out address=127.0.0.1:|first| why=\"stopped\"",
+        ],
+    },
+    Play {
+        name: "a run is stopped while its host takes nothing",
+        words: "--log --again 3600 --host 127.0.0.1:|first| --full-places 1 --view-places 1 --control control-|full|",
+        notify: "",
+        acts: &[ITS_HOST_TAKES_NOTHING],
+        status: 0,
+        lines: &[
+            "listening role=full address=127.0.0.1:|full| places=1",
+            "listening role=view address=127.0.0.1:|view| places=1",
+            "host-tried address=127.0.0.1:|first| why=\"connected\"",
+            "host-joined address=127.0.0.1:|first| width=2 height=1 name=\"\\x80\\x9b\\\"\\x9fT\"",
             "host-out address=127.0.0.1:|first| why=\"stopped\"",
         ],
     },

@@ -84,6 +84,8 @@ const BEFORE: Act = Act {
         Deed::IsMet(0),
         Deed::IsClosedBeside("metrics"),
         Deed::Reads("/health", &["HTTP/1.1 503 ", "\r\n\r\nno host\n"]),
+        Deed::Reads("/health/full", &["HTTP/1.1 503 ", "\r\n\r\nno host\n"]),
+        Deed::Reads("/health/view", &["HTTP/1.1 503 ", "\r\n\r\nno host\n"]),
         Deed::Reads(
             "/metrics",
             &[
@@ -96,6 +98,8 @@ const BEFORE: Act = Act {
         Deed::Keeps(OF_A_HOST),
         Deed::Does(Step::IsJoined(INIT)),
         Deed::Reads("/health", &["HTTP/1.1 200 ", "\r\n\r\nready\n"]),
+        Deed::Reads("/health/full", &["HTTP/1.1 200 ", "\r\n\r\nready\n"]),
+        Deed::Reads("/health/view", &["HTTP/1.1 200 ", "\r\n\r\nready\n"]),
     ],
 };
 
@@ -362,6 +366,8 @@ const MACHINES_ARE_TOLD: &[Act] = &[
         deeds: &[
             Deed::IsObeyed("drain\n", "|done\n|"),
             Deed::Reads("/health", &["HTTP/1.1 503 ", "\r\n\r\ndrained\n"]),
+            Deed::Reads("/health/full", &["HTTP/1.1 503 ", "\r\n\r\ndrained\n"]),
+            Deed::Reads("/health/view", &["HTTP/1.1 503 ", "\r\n\r\ndrained\n"]),
             Deed::IsObeyed("undrain\n", "|done\n|"),
             Deed::Reads("/health", &["HTTP/1.1 503 ", "\r\n\r\nfull\n"]),
             Deed::Does(Step::PutsForward(1_000_000)),

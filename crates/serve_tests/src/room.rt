@@ -19,6 +19,9 @@ use std::{io, thread};
 /// A wait has this many turns of a millisecond.
 const TURNS: u64 = 20_000;
 
+/// A stop pauses for this many milliseconds between its looks at the host.
+const LOOK_MILLIS: u64 = 5;
+
 /// A text on standard error takes this many milliseconds while the clock stands.
 const SLOW_MILLIS: u64 = 100;
 
@@ -40,6 +43,7 @@ pub(crate) struct Room {
     home: AtomicU64,
     ahead: AtomicU64,
     rested: AtomicU64,
+    waited: AtomicU64,
     tried: AtomicU64,
     standing: AtomicU64,
     is_over: AtomicU64,
@@ -62,6 +66,8 @@ pub(crate) enum Count {
     Ahead,
     /// How many pauses of a second were made.
     Rested,
+    /// How many pauses of five milliseconds were made.
+    Waited,
     /// The last numbers of the addresses that were tried for as long as a host's may be, one digit after another.
     Tried,
     /// What the clock shows while it stands, in milliseconds, or 0 while it goes on.
@@ -111,6 +117,7 @@ impl Room {
                 home: AtomicU64::new(0),
                 ahead: AtomicU64::new(0),
                 rested: AtomicU64::new(0),
+                waited: AtomicU64::new(0),
                 tried: AtomicU64::new(0),
                 standing: AtomicU64::new(0),
                 is_over: AtomicU64::new(0),
@@ -129,6 +136,7 @@ impl Room {
             Count::Home => &self.home,
             Count::Ahead => &self.ahead,
             Count::Rested => &self.rested,
+            Count::Waited => &self.waited,
             Count::Tried => &self.tried,
             Count::Standing => &self.standing,
             Count::Over => &self.is_over,
@@ -146,6 +154,11 @@ impl<R: Drop> Ear<R> {
     pub(crate) fn marks(&self, count: Count, number: u64) -> bool {
         self.room.count(count).store(number, Ordering::SeqCst);
         true
+    }
+
+    /// Whether the count is this one now.
+    pub(crate) fn counts(&self, count: Count, wanted: u64) -> bool {
+        self.room.count(count).load(Ordering::SeqCst) == wanted
     }
 
     /// The count is one more. It answers true, as a step that went well.
@@ -381,8 +394,15 @@ impl<R: Clock + Drop> Clock for Ear<R> {
         self.rt.since_1970()
     }
 
+    // The pauses of a stop take no time while the clock stands.
     fn sleep(&self, duration: Duration) {
-        self.rt.sleep(duration);
+        let is_look = duration == Duration::from_millis(LOOK_MILLIS);
+        if !is_look || self.room.standing.load(Ordering::SeqCst) == 0 {
+            self.rt.sleep(duration);
+        }
+        if is_look {
+            let _ = self.room.waited.fetch_add(1, Ordering::SeqCst);
+        }
         if duration == Duration::from_secs(1) {
             let _ = self.room.rested.fetch_add(1, Ordering::SeqCst);
         }

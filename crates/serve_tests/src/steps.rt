@@ -87,6 +87,8 @@ pub(crate) enum Step {
     Adds(Count),
     /// The count is at least this one in time.
     Reaches(Count, u64),
+    /// The count is this one now.
+    Counts(Count, u64),
     /// The clock is this many seconds ahead from now on.
     PutsForward(u64),
     /// The clock stands from now on.
@@ -177,6 +179,7 @@ fn is_counted<R: Wait + Clock + Drop>(ear: &Ear<R>, step: &Step) -> Option<bool>
         Step::Marks(count, number) => Some(ear.marks(count, number)),
         Step::Adds(count) => Some(ear.adds(count)),
         Step::Reaches(count, number) => Some(ear.reaches(count, number)),
+        Step::Counts(count, number) => Some(ear.counts(count, number)),
         Step::PutsForward(seconds) => Some(ear.marks(Count::Ahead, seconds)),
         Step::StopsTheClock => Some(ear.stops_the_clock()),
         Step::IsTold(words) => Some(ear.hears(words)),
