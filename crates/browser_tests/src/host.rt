@@ -17,10 +17,10 @@ pub(crate) const UPDATE: &[u8] = b"\0\0\0\x01\0\0\0\0\0\x02\0\x01\0\0\0\0\0\0\xF
 /// The key a goes down and up (RFC 6143, 7.5.4).
 pub(crate) const KEY: &[u8] = b"\x04\x01\0\0\0\0\0\x61\x04\0\0\0\0\0\0\x61";
 
-/// What a joining client gives: its format, its four encodings, and a request for the whole screen (RFC 6143, 7.5.1 to
+/// What a joining client gives: its format, its five encodings, and a request for the whole screen (RFC 6143, 7.5.1 to
 /// 7.5.3).
 const ASKED: &[u8] = b"\0\0\0\0\x20\x18\0\x01\0\xFF\0\xFF\0\xFF\x10\x08\0\0\0\0\
-      \x02\0\0\x04\0\0\0\x01\0\0\0\x05\0\0\0\x02\0\0\0\0\
+      \x02\0\0\x05\0\0\0\x01\0\0\0\x05\0\0\0\x02\0\0\0\0\xFF\xFF\xFF\x21\
       \x03\0\0\0\0\0\0\x02\0\x01";
 
 /// What the client asks for once an update was put: what is new of the whole screen.

@@ -136,6 +136,7 @@ fn settings(alloc: Global, host: String, bind: String, ports: PortsOfRun) -> Set
         view_only: false,
         full_places: 1,
         view_places: 1,
+        room: None,
         plain_runs: false,
         web_full: Some(ports.web_full),
         web_view: Some(ports.web_view),

@@ -1,6 +1,7 @@
 pub mod Ends
 pub mod Lines
 pub mod Places
+pub mod Rooms
 mod Defaults
 mod Numbers
 mod Named

@@ -9,9 +9,9 @@ use Rattle.clap.specs.declared.error.Error.{Error}
 use Rattle.clap.specs.declared.error.kind.ErrorKind.TheVariants.{OutOfMemory}
 use Rattle.clap.specs.declared.parser.matches.Found.{Found}
 use Rattle.clap.proofs.WalkLemmas.{first_value-rows, raw_values-rows}
-use Rattle.command_line.specs.Given.{AreSetBy, IsPause, given, known, text_of, Spells, IsPort}
+use Rattle.command_line.specs.Given.{AreSetBy, IsBadLine, IsPause, given, known, text_of, Spells, IsPort, IsRoom}
 use Rattle.command_line.specs.Serve.{IsBad, serve}
-use Rattle.command_line.specs.Values.{AreValuesOf, IsNumberOf}
+use Rattle.command_line.specs.Values.{AreValuesOf, HasNoRoom, IsNumberOf}
 use Rattle.settings.specs.declared.values.Settings.{Settings}
 use Rattle.command_line.proofs.Defaults.{Defaults, NoDefault, all_kept, first_kept, text_kept}
 use Rattle.command_line.proofs.Named.{all_named, named}
@@ -55,6 +55,7 @@ values_set f words s rows of = record {
   view_only = of.view_only ∙ ap (λ (t : Text). bytes_eq t (codes "true")) (text_else f words rows (codes "view-only") (codes "false") (default (codes "view-only") (codes "false") ((refl, refl), tt)));
   full_places = number_is f words rows (codes "full-places") (codes "4") (default (codes "full-places") (codes "4") ((refl, refl), tt)) _ _ _ of.full_places;
   view_places = number_is f words rows (codes "view-places") (codes "4") (default (codes "view-places") (codes "4") ((refl, refl), tt)) _ _ _ of.view_places;
+  room = subst (λ (o : Option Text). IsRoom o s.room) (given_is f words rows (codes "room") (without (codes "room") (refl, tt))) of.room;
   plain_runs = of.plain_runs ∙ ap (λ (t : Text). bytes_eq t (codes "true")) (text_else f words rows (codes "plain-runs") (codes "false") (default (codes "plain-runs") (codes "false") ((refl, refl), tt)));
   metrics = of.metrics ∙ given_is f words rows (codes "metrics") (without (codes "metrics") (refl, tt));
   proxy_from = of.proxy_from ∙ given_is f words rows (codes "proxy-from") (without (codes "proxy-from") (refl, tt));
@@ -75,6 +76,11 @@ values_set f words s rows of = record {
   view_range = of.view_places.3;
   stalled_range = of.stalled.3;
 }
+
+-- a text for the room that spells none is bad, and so is a lack of memory
+pub no_room_is : (f : Found) (words : List Text) (status : ℕ) → rows_of f ≡ matches_of serve words → (status ≡ 4) ⊎ ((status ≡ 2) × HasNoRoom f) → IsBadLine words status
+no_room_is f words status rows (inl four) = inl (inl four)
+no_room_is f words status rows (inr (two, text, first, none)) = inr (two, text, sym (given_is f words rows (codes "room") (without (codes "room") (refl, tt))) ∙ first, none)
 
 -- what clap refuses is bad
 pub refusal_is : {app : App} (words : List Text) (e : Error) (status : ℕ) → app ≡ serve → HasKind (fault_of app words) e

@@ -1,11 +1,14 @@
 -- What a line sets.
-use Rattle.std.specs.Prelude.{◌≡◌, ◌≤◌, List, Option, Some, None, [], codes, map, option_map, unwrap_or, ℕ}
+use Rattle.std.specs.Prelude.{◌≡◌, ◌≢◌, ◌≤◌, ◌⊎◌, List, Option, Some, None, [], codes, map, option_map, unwrap_or, ℕ}
 use Rattle.std.specs.Str.{bytes_eq}
 use Rattle.std.specs.String.{string_bytes}
 use Rattle.std.specs.Str.Parse.{IsNumeral, digits_value, without_leading_plus}
-use Rattle.clap.specs.Words.{Rule, Text, all_of, built, first_of}
+use Rattle.raster.specs.Size.{IsScreenSize}
+use Rattle.clap.specs.Words.{Rule, Text, all_of, built, fault_of, first_of}
 use Rattle.clap.specs.Walk.{nothing_held, settled, walk}
-use Rattle.command_line.specs.Serve.{serve}
+use Rattle.command_line.specs.Serve.{IsBad, serve}
+use Rattle.settings.specs.Rooms.{room_text}
+use Rattle.settings.specs.declared.room.Room.{Room}
 use Rattle.settings.specs.declared.values.Settings.{Settings}
 
 -- the options of the command, with `--help` and `--version`, which clap adds
@@ -43,6 +46,20 @@ abbrev pub IsPort : Option Text → Option ℕ → Type 0
 IsPort None port = port ≡ None
 IsPort (Some text) port = (number : ℕ) × (port ≡ Some number) × Spells text number × IsIn 1 65535 number
 
+-- the room that the text spells, or none where there is no text
+abbrev pub IsRoom : Option Text → Option Room → Type 0
+IsRoom None room = room ≡ None
+IsRoom (Some text) room = (r : Room) × (room ≡ Some r) × (text ≡ room_text r.width r.height)
+
+-- the text spells no room
+abbrev pub IsNoRoom : Text → Type 0
+IsNoRoom text = (width height : ℕ) → IsScreenSize width height → text ≢ room_text width height
+
+-- memory was refused, or the line has one of clap's faults, or the text that it gives the room spells none
+abbrev pub IsBadLine : List Text → ℕ → Type 0
+IsBadLine words status =
+    IsBad (fault_of serve words) status ⊎ ((status ≡ 2) × (text : Text) × (given words (codes "room") ≡ Some text) × IsNoRoom text)
+
 -- the settings are those that the words set; a flag that the words give has the text `true`, and can have no other
 pub record AreSetBy (words : List Text) (s : Settings) : Type 0 where
   pub host : given words (codes "host") ≡ Some (string_bytes s.host)
@@ -53,6 +70,7 @@ pub record AreSetBy (words : List Text) (s : Settings) : Type 0 where
   pub view_only : s.view_only ≡ bytes_eq (text_of words (codes "view-only") (codes "false")) (codes "true")
   pub full_places : Spells (text_of words (codes "full-places") (codes "4")) s.full_places
   pub view_places : Spells (text_of words (codes "view-places") (codes "4")) s.view_places
+  pub room : IsRoom (given words (codes "room")) s.room
   pub plain_runs : s.plain_runs ≡ bytes_eq (text_of words (codes "plain-runs") (codes "false")) (codes "true")
   pub web_full : IsPort (given words (codes "web-full")) s.web_full
   pub web_view : IsPort (given words (codes "web-view")) s.web_view

@@ -69,6 +69,7 @@ options = host ∷ bind ∷ full_bind
     ∷ flag (codes "view-only")
     ∷ places (codes "full-places")
     ∷ places (codes "view-places")
+    ∷ option (codes "room")
     ∷ flag (codes "plain-runs")
     ∷ web_port (codes "web-full")
     ∷ web_port (codes "web-view")

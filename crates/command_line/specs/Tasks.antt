@@ -1,9 +1,8 @@
 -- What a line asks for. Its words are those after the program's name.
 use Rattle.std.specs.Prelude.{◌≡◌, ◌≢◌, ◌<◌, ◌≤◌, ◌⊎◌, ◌∷◌, List, [], codes, length, ℕ}
-use Rattle.clap.specs.Words.{Text, fault_of}
+use Rattle.clap.specs.Words.{Text}
 use Rattle.serve.specs.Statuses.{IsStatus}
-use Rattle.command_line.specs.Given.{AreSetBy}
-use Rattle.command_line.specs.Serve.{IsBad, serve}
+use Rattle.command_line.specs.Given.{AreSetBy, IsBadLine}
 use Rattle.settings.specs.declared.values.Settings.{Settings}
 use Rattle.command_line.specs.declared.task.Task.{Task}
 use Rattle.command_line.specs.declared.task.Task.TheVariants.{Replay, Serve, Control, Explain}
@@ -21,7 +20,7 @@ IsControlLine words = (rest : List Text) × (words ≡ codes "control" ∷ rest)
 pub record IsNoTask (words : List Text) (status : ℕ) : Type 0 where
   pub no_replay : words ≢ replay_line
   pub no_control : ¬ IsControlLine words
-  pub no_serve : (rest : List Text) → words ≡ codes "serve" ∷ rest → IsBad (fault_of serve rest) status
+  pub no_serve : (rest : List Text) → words ≡ codes "serve" ∷ rest → IsBadLine rest status
   pub two_or_four : (status ≡ 2) ⊎ (status ≡ 4)
 
 -- What the words ask for: `replay` alone to play a script, `control` to ask something of a run, and `serve` with its

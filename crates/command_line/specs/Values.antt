@@ -4,7 +4,7 @@ use Rattle.std.specs.Str.{bytes_eq}
 use Rattle.std.specs.String.{string_bytes}
 use Rattle.clap.specs.Words.{IsSignedIn, IsUnsignedIn, Text, first_value, matched_of, one_text, raw_values, without_minus}
 use Rattle.clap.specs.declared.parser.matches.Found.{Found}
-use Rattle.command_line.specs.Given.{IsIn, IsPause, IsPort, Spells}
+use Rattle.command_line.specs.Given.{IsIn, IsNoRoom, IsPause, IsPort, IsRoom, Spells}
 use Rattle.settings.specs.declared.values.Settings.{Settings}
 
 -- the option has a text
@@ -65,6 +65,10 @@ abbrev pub IsNumberOf : Found → Text → ℕ → ℕ → ℕ → Type 0
 IsNumberOf found name low most n =
     (text : Text) × (first_value found name ≡ Some text) × Spells text n × IsIn low most n
 
+-- the option for the room has a text that spells none
+abbrev pub HasNoRoom : Found → Type 0
+HasNoRoom found = (text : Text) × (first_value found (codes "room") ≡ Some text) × IsNoRoom text
+
 -- the values are those of the matches
 pub record AreValuesOf (found : Found) (s : Settings) : Type 0 where
   pub host : first_value found (codes "host") ≡ Some (string_bytes s.host)
@@ -75,6 +79,7 @@ pub record AreValuesOf (found : Found) (s : Settings) : Type 0 where
   pub view_only : s.view_only ≡ flag_of found (codes "view-only")
   pub full_places : IsNumberOf found (codes "full-places") 1 32 s.full_places
   pub view_places : IsNumberOf found (codes "view-places") 1 32 s.view_places
+  pub room : IsRoom (first_value found (codes "room")) s.room
   pub plain_runs : s.plain_runs ≡ flag_of found (codes "plain-runs")
   pub web_full : IsPort (first_value found (codes "web-full")) s.web_full
   pub web_view : IsPort (first_value found (codes "web-view")) s.web_view

@@ -101,6 +101,12 @@ fn options<'a>(alloc: Global) -> Result<Vec<Arg<'a>>, AllocError>
             "view-places",
             "How many viewers that only look on, up to 32"
         ),
+        option(
+            alloc,
+            "room",
+            "WxH",
+            "The size of the screen that viewers are told, up to 4096x4096; else that of the first host's"
+        ),
         flag(
             alloc,
             "plain-runs",

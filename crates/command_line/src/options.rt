@@ -1,16 +1,16 @@
 //! The line of `serve`.
 
-ghost use Rattle.std.specs.Prelude.{◌≡◌, IfErr, IfOk, Some, [], map, option_map};
+ghost use Rattle.std.specs.Prelude.{◌≡◌, ◌⊎◌, IfErr, IfOk, Some, [], codes, map, option_map};
 ghost use Rattle.std.specs.String.{string_bytes};
 ghost use Rattle.clap.specs.Words.{fault_of, first_value, found_of};
-ghost use Rattle.command_line.specs.Given.{AreSetBy, IsPause, IsPort};
-ghost use Rattle.command_line.specs.Serve.{IsBad, serve};
-ghost use Rattle.command_line.specs.Values.{AreValuesOf, HasPlaces, HasPort, HasSeconds, HasText, HasValues, IsNumberOf, MayHavePause, MayHavePort, flag_of, texts_in};
+ghost use Rattle.command_line.specs.Given.{AreSetBy, IsBadLine, IsNoRoom, IsPause, IsPort, IsRoom};
+ghost use Rattle.command_line.specs.Serve.{serve};
+ghost use Rattle.command_line.specs.Values.{AreValuesOf, HasNoRoom, HasPlaces, HasPort, HasSeconds, HasText, HasValues, IsNumberOf, MayHavePause, MayHavePort, flag_of, texts_in};
 
 use crate::bad_line::BadLine;
 use crate::command::serve_command;
 use clap::ArgMatches;
-use settings::Settings;
+use settings::{Room, Settings};
 use std::alloc::{AllocError, Global};
 use std::convert::AsStr;
 
@@ -19,22 +19,44 @@ use std::convert::AsStr;
 pub fn settings<'a, S: AsStr>(alloc: Global, words: &'a [S]) -> Result<Settings, BadLine>
     ensures ok { IfOk result (λ s. AreSetBy (map S.text words.entry.now) s) }
     ensures faultless { IfOk result (λ s. fault_of serve (map S.text words.entry.now) ≡ []) }
-    ensures err { IfErr result (λ bad. IsBad (fault_of serve (map S.text words.entry.now)) bad.status) }
+    ensures err { IfErr result (λ bad. IsBadLine (map S.text words.entry.now) bad.status) }
 {
     let Ok(command) = serve_command(alloc) else {
         return Err(BadLine::memory(alloc));
     };
     match command.try_get_matches_from(words) {
-        Ok(matches) => match values(alloc, &matches) {
-            Ok(values) => Ok(values),
-            Err(_) => Err(BadLine::memory(alloc)),
+        Ok(matches) => match told(alloc, &matches) {
+            Ok(settings) => Ok(settings),
+            Err(bad) => Err(bad),
         },
         Err(error) => Err(BadLine::of(alloc, &error)),
     }
 }
 
-fn values(alloc: Global, matches: &ArgMatches<'_>) -> Result<Settings, AllocError>
+/// What the matches set. It fails where the text of `--room` is of no room, or memory is refused.
+#[tactic(auto, using(crate::proofs::Rooms::has_no_room))]
+fn told(alloc: Global, matches: &ArgMatches<'_>) -> Result<Settings, BadLine>
     requires { HasValues (found_of matches.now) }
+    ensures ok { IfOk result (λ s. AreValuesOf (found_of matches.now) s) }
+    ensures err { IfErr result (λ bad. (bad.status ≡ 4) ⊎ ((bad.status ≡ 2) × HasNoRoom (found_of matches.now))) }
+{
+    let room = match room(matches) {
+        Ok(room) => room,
+        Err(text) => return Err(BadLine::of_no_room(alloc, text)),
+    };
+    match values(alloc, matches, room) {
+        Ok(settings) => Ok(settings),
+        Err(_) => Err(BadLine::memory(alloc)),
+    }
+}
+
+fn values(
+    alloc: Global,
+    matches: &ArgMatches<'_>,
+    room: Option<Room>,
+) -> Result<Settings, AllocError>
+    requires values { HasValues (found_of matches.now) }
+    requires room { IsRoom (first_value (found_of matches.now) (codes "room")) room }
     ensures { IfOk result (λ s. AreValuesOf (found_of matches.now) s) }
 {
     Ok(Settings {
@@ -46,6 +68,7 @@ fn values(alloc: Global, matches: &ArgMatches<'_>) -> Result<Settings, AllocErro
         view_only: flag(matches, "view-only"),
         full_places: places(matches, "full-places"),
         view_places: places(matches, "view-places"),
+        room,
         plain_runs: flag(matches, "plain-runs"),
         web_full: optional_port(matches, "web-full"),
         web_view: optional_port(matches, "web-view"),
@@ -122,6 +145,21 @@ fn pause(matches: &ArgMatches<'_>, name: &str) -> Option<u64>
     ensures { IsPause (first_value (found_of matches.now) name.now) result }
 {
     matches.get_one::<u64>(name)
+}
+
+/// The room of the option, if it is given, or its text where that is of none.
+#[tactic(auto, using(crate::proofs::Rooms::is_room, crate::proofs::Rooms::is_not_told))]
+fn room<'m>(matches: &'m ArgMatches<'_>) -> Result<Option<Room>, &'m str>
+    ensures ok { IfOk result (λ room. IsRoom (first_value (found_of matches.now) (codes "room")) room) }
+    ensures err { IfErr result (λ text. (first_value (found_of matches.now) (codes "room") ≡ Some text.now) × IsNoRoom text.now) }
+{
+    match matches.get_str("room") {
+        Some(text) => match Room::read(text) {
+            Some(room) => Ok(Some(room)),
+            None => Err(text),
+        },
+        None => Ok(None),
+    }
 }
 
 /// All texts under a name, in their order.

@@ -9,7 +9,7 @@ use crate::bytes::{HEIGHT, UPDATE, WIDTH};
 use crate::wire::{Peer, Wire};
 use arrayvec::ArrayVec;
 use fault::Fault;
-use host_turns::NoHosts;
+use host_turns::{NoHosts, RunScreen};
 use joined_runs::Runs;
 use reflector::{InputCounts, Running, run_all};
 use rfb_wire::Joined;
@@ -77,9 +77,14 @@ where
         everyone,
         alarm,
     } = make_means(alloc)?;
+    let room = RunScreen {
+        alloc,
+        width: WIDTH,
+        height: HEIGHT,
+    };
     let running = run_all::<J, Wire, NoHosts, D, NoAlarm, NoAlarm, R>(
         rt,
-        alloc,
+        room,
         history,
         reader,
         writer,

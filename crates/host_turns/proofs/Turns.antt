@@ -4,7 +4,7 @@ use Rattle.fault.specs.declared.kinds.Fault.{Fault}
 use Rattle.raster.specs.Update.{Update}
 use Rattle.link.specs.Links.{LinkState}
 use Rattle.host_turns.specs.Moment.{IsBegun}
-use Rattle.host_turns.specs.Running.{HasRun, HasTurn, IsMissed, IsRead, IsSwitched, IsTurn, JoinsAt, Missed, Read, goes_on, links_with, put_with}
+use Rattle.host_turns.specs.Running.{HasRun, HasTurn, IsMissed, IsRead, IsSwitched, IsTurn, JoinsWithin, Missed, Read, goes_on, links_with, put_with}
 
 pub one_more : (w h : ℕ) (comes : LinkState → Type 0) (before result : Result (Unit {0}) Fault) (link : LinkState) (links_old links_new : List LinkState) (old now new : List Update)
     → HasRun w h comes before link links_old old now → goes_on before ≡ true → HasTurn w h comes result links_old links_new now new → HasRun w h comes result link links_new old new
@@ -46,6 +46,6 @@ missed w h comes before result link came links old now run on there why =
 
 -- A host came and was joined, and the switch was put.
 pub begun : (w h : ℕ) (comes : LinkState → Type 0) (last : Result (Unit {0}) Fault) (link came joined : LinkState) (links : List LinkState) (old shown now : List Update)
-    → HasRun w h comes last link links old shown → goes_on last ≡ true → comes came → JoinsAt w h came joined → IsSwitched w h shown now → IsBegun w h comes link joined links old now
+    → HasRun w h comes last link links old shown → goes_on last ≡ true → comes came → JoinsWithin w h came joined → IsSwitched w h shown now → IsBegun w h comes link joined links old now
 begun w h comes last link came joined links old shown now run on there joins switched =
     inr (record { last = last; shown = shown; run = run; on = on; joins = (came, there, joins); switched = switched })

@@ -3,7 +3,7 @@ use Rattle.std.specs.Prelude.{◌≡◌, ◌⊎◌, ℕ, true, List, [], Result}
 use Rattle.fault.specs.declared.kinds.Fault.{Fault}
 use Rattle.raster.specs.Update.{Update}
 use Rattle.link.specs.Links.{LinkState}
-use Rattle.host_turns.specs.Running.{HasRun, IsSwitched, JoinsAt, goes_on}
+use Rattle.host_turns.specs.Running.{HasRun, IsSwitched, JoinsWithin, goes_on}
 
 -- The first host is to be read: no other was read before, and nothing was put.
 pub record IsFirst (link joined : LinkState) (links : List LinkState) (old now : List Update) : Type 0 where
@@ -12,13 +12,13 @@ pub record IsFirst (link joined : LinkState) (links : List LinkState) (old now :
   pub unput : now ≡ old
 
 -- A further host is to be read: the hosts before it had their turns, and a host is taken after the last answer. It came
--- over such a link, was joined at the size of the screen, and then the switch was put.
+-- over such a link, was joined within the room, and then the switch was put.
 pub record IsFurther (w h : ℕ) (comes : LinkState → Type 0) (link joined : LinkState) (links : List LinkState) (old now : List Update) : Type 0 where
   pub last : Result (Unit {0}) Fault
   pub shown : List Update
   pub run : HasRun w h comes last link links old shown
   pub on : goes_on last ≡ true
-  pub joins : (came : LinkState) × comes came × JoinsAt w h came joined
+  pub joins : (came : LinkState) × comes came × JoinsWithin w h came joined
   pub switched : IsSwitched w h shown now
 
 -- A run began with a first host over a link, and with the updates old. Now a host is joined, and its link stands so; the

@@ -1,5 +1,5 @@
 -- What a run of hosts, one after another, leaves.
-use Rattle.std.specs.Prelude.{◌≡◌, ◌≢◌, ◌⊎◌, ℕ, ◌^◌, Bool, true, false, List, [], ◌∷◌, ◌++◌, length, Result, Ok, Err, ⊤}
+use Rattle.std.specs.Prelude.{◌≡◌, ◌≤◌, ◌<◌, ◌⊎◌, ℕ, ◌^◌, Bool, true, false, List, [], ◌∷◌, ◌++◌, length, Result, Ok, Err, ⊤}
 use Rattle.fault.specs.declared.kinds.Fault.{Fault}
 use Rattle.fault.specs.declared.kinds.Fault.TheVariants.{BadVersion, HostRefused, NoNone, SecurityFailed, BadScreen, LinkFailed, LinkEnded, Memory, NumbersOut}
 use Rattle.raster.specs.Screen.{Canvas, opening}
@@ -30,20 +30,20 @@ pub record IsSwitched (w h : ℕ) (old new : List Update) : Type 0 where
   pub added : new ≡ old ++ put ∷ []
   pub same : (start : Canvas) → AreSameUpdates w h start (switch w h ∷ []) (put ∷ [])
 
--- A host was joined at the size of the screen, over a link that was so before and after.
-pub record JoinsAt (w h : ℕ) (link_old link_new : LinkState) : Type 0 where
+-- A host was joined over a link that was so before and after, and its screen fits into the room of w by h.
+pub record JoinsWithin (w h : ℕ) (link_old link_new : LinkState) : Type 0 where
   pub host : Joined
   pub joins : Joins link_old link_new host
-  pub width : host.w ≡ w
-  pub height : host.h ≡ h
+  pub width : host.w ≤ w
+  pub height : host.h ≤ h
 
--- A host was joined, and its screen has another size.
+-- A host was joined, and its screen is wider or higher than the room.
 pub record JoinsElsewhere (w h : ℕ) (link_old link_new : LinkState) : Type 0 where
   pub host : Joined
   pub joins : Joins link_old link_new host
-  pub other : (host.w ≢ w) ⊎ (host.h ≢ h)
+  pub larger : (w < host.w) ⊎ (h < host.h)
 
--- Why a host isn't joined at the size of the screen: joining it fails with this fault, or its screen has another size.
+-- Why a host isn't joined within the room: joining it fails with this fault, or its screen is larger.
 abbrev pub IsUnfit : ℕ → ℕ → Fault → (link_old link_new : LinkState) → Type 0
 IsUnfit w h fault link_old link_new = FailsAs fault link_old link_new ⊎ (JoinsElsewhere w h link_old link_new × (fault ≡ BadScreen))
 
@@ -51,22 +51,23 @@ IsUnfit w h fault link_old link_new = FailsAs fault link_old link_new ⊎ (Joins
 abbrev pub IsWant : ℕ → Fault → Type 0
 IsWant count fault = (fault ≡ Memory) ⊎ ((fault ≡ NumbersOut) × (count ≡ 2 ^ 62))
 
--- Why a host that comes over this link is missed, after this many updates: it isn't joined at the size of the screen,
--- or it is joined, and there is want.
+-- Why a host that comes over this link is missed, after this many updates: it isn't joined within the room, or it is
+-- joined, and there is want.
 abbrev pub IsMissed : ℕ → ℕ → ℕ → Fault → LinkState → Type 0
-IsMissed w h count fault link = (left : LinkState) × (IsUnfit w h fault link left ⊎ (JoinsAt w h link left × IsWant count fault))
+IsMissed w h count fault link = (left : LinkState) × (IsUnfit w h fault link left ⊎ (JoinsWithin w h link left × IsWant count fault))
 
 -- ---- one host after another
 
 -- Whether the next host is taken after this answer of reading or of joining one: where the host ended, its link ended
--- or failed, or the host has another version, refuses, doesn't offer security type None, or reports a failed handshake
--- (own).
+-- or failed, or the host has another version, refuses, doesn't offer security type None, reports a failed handshake, or
+-- has a screen that doesn't fit, as it is joined or later (own).
 abbrev pub goes_on : Result (Unit {0}) Fault → Bool
 goes_on (Ok done) = true
 goes_on (Err BadVersion) = true
 goes_on (Err (HostRefused reason)) = true
 goes_on (Err NoNone) = true
 goes_on (Err SecurityFailed) = true
+goes_on (Err BadScreen) = true
 goes_on (Err LinkFailed) = true
 goes_on (Err LinkEnded) = true
 goes_on (Err _) = false
@@ -98,10 +99,10 @@ abbrev pub put_with : List Update → Turn → List Update
 put_with old (Read stay) = stay.put
 put_with old (Missed fault) = old
 
--- A host that comes over such a link has this turn, after the updates so far. Either it is joined at the size of the
--- screen, then the switch is put, and then it is read over a black screen; or it is missed, and nothing is put.
+-- A host that comes over such a link has this turn, after the updates so far. Either it is joined within the room, then
+-- the switch is put, and then it is read over a black screen; or it is missed, and nothing is put.
 abbrev pub IsTurn : ℕ → ℕ → (LinkState → Type 0) → List Update → Turn → Type 0
-IsTurn w h comes old (Read stay) = ((link : LinkState) × comes link × JoinsAt w h link stay.joined) × ((black : List Update) × IsSwitched w h old black × IsRead w h stay.answer stay.joined stay.left black stay.put)
+IsTurn w h comes old (Read stay) = ((link : LinkState) × comes link × JoinsWithin w h link stay.joined) × ((black : List Update) × IsSwitched w h old black × IsRead w h stay.answer stay.joined stay.left black stay.put)
 IsTurn w h comes old (Missed fault) = (link : LinkState) × comes link × IsMissed w h (length old) fault link
 
 -- A list of turns has the latest first.

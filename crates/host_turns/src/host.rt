@@ -7,7 +7,7 @@ ghost use Rattle.raster.specs.Size.{IsScreenSize};
 ghost use Rattle.raster.specs.Switch.{switch};
 ghost use Rattle.host_decoder.specs.Decoder.{Decodes, IsFor, host_message};
 ghost use Rattle.fault.specs.declared.kinds.Fault.TheVariants.{Memory};
-ghost use Rattle.host_turns.specs.Running.{IsMissed, IsReadOut, IsSwitched, IsUnfit, IsWant, JoinsAt, goes_on};
+ghost use Rattle.host_turns.specs.Running.{IsMissed, IsReadOut, IsSwitched, IsUnfit, IsWant, JoinsWithin, goes_on};
 
 use crate::supply::Hosts;
 use fault::Fault;
@@ -19,7 +19,7 @@ use reflect_core::Puts;
 use rfb_wire::Joined;
 use std::alloc::Global;
 
-/// What all hosts of a run have in common: the size of the screen in pixels.
+/// The room of a run: the size in pixels of the screen that viewers are told. Each host's screen lies at its top left.
 #[derive(Clone, Copy, Drop)]
 pub struct RunScreen {
     pub alloc: Global,
@@ -39,6 +39,7 @@ pub(crate) fn goes_on(answer: &Result<(), Fault>) -> bool
             | Fault::HostRefused(_)
             | Fault::NoNone
             | Fault::SecurityFailed
+            | Fault::BadScreen
             | Fault::LinkFailed
             | Fault::LinkEnded,
         ) => true,
@@ -68,17 +69,17 @@ pub(crate) fn read<L: Link, P: Puts, F: ReadsOn<L, P>>(
     read_host(by, alloc, link, &mut decoder, &mut painter, publisher)
 }
 
-/// Joins a host. It fails with `BadScreen` where the host's screen isn't of the run's size.
-fn join_at<L: Link, F: JoinsOn<L>>(
+/// Joins a host. It fails with `BadScreen` where the host's screen is larger than the room.
+fn join_within<L: Link, F: JoinsOn<L>>(
     by: &F,
     run_screen: &RunScreen,
     link: &mut L,
 ) -> Result<Joined, Fault>
-    ensures ok { OnOk result (JoinsAt run_screen.now.width run_screen.now.height (L.state link.old) (L.state link.new)) }
+    ensures ok { OnOk result (JoinsWithin run_screen.now.width run_screen.now.height (L.state link.old) (L.state link.new)) }
     ensures err { IfErr result (λ fault. IsUnfit run_screen.now.width run_screen.now.height fault (L.state link.old) (L.state link.new)) }
 {
     let joined = join_by(by, link)?;
-    if joined.w != run_screen.width || joined.h != run_screen.height {
+    if joined.w > run_screen.width || joined.h > run_screen.height {
         return Err(Fault::BadScreen);
     }
     Ok(joined)
@@ -113,7 +114,7 @@ fn make_ready<L>(run_screen: &RunScreen, links: &mut Vec<L>) -> Result<(HostScre
     HostScreen::switched(run_screen.alloc, run_screen.width, run_screen.height)
 }
 
-/// Joins a host at the screen's size, and then puts the switch. The link has room among those that were read.
+/// Joins a host within the room, and then puts the switch. The link has room among those that were read.
 pub(crate) fn meet<L: Link, H: Hosts<L>, P: Puts, F: JoinsOn<L>>(
     by: &F,
     run_screen: &RunScreen,
@@ -130,12 +131,12 @@ pub(crate) fn meet<L: Link, H: Hosts<L>, P: Puts, F: JoinsOn<L>>(
     ensures size { IfOk result (λ screen. (screen.decoder.width ≡ run_screen.now.width) × (screen.decoder.height ≡ run_screen.now.height)) }
     ensures begins { IfOk result (λ screen. Decodes screen.decoder screen.painter opening (host_message run_screen.now.width run_screen.now.height)) }
     ensures pair { IfOk result (λ screen. IsFor screen.decoder screen.painter) }
-    ensures joins { OnOk result (JoinsAt run_screen.now.width run_screen.now.height (L.state link.old) (L.state link.new)) }
+    ensures joins { OnOk result (JoinsWithin run_screen.now.width run_screen.now.height (L.state link.old) (L.state link.new)) }
     ensures switched { OnOk result (IsSwitched run_screen.now.width run_screen.now.height (P.updates publisher.old) (P.updates publisher.new)) }
     ensures err { IfErr result (λ fault. IsMissed run_screen.now.width run_screen.now.height (length (P.updates publisher.old)) fault (L.state link.old)) }
     ensures unput { OnErr result (P.updates publisher.new ≡ P.updates publisher.old) }
 {
-    let joined = join_at(by, run_screen, link)?;
+    let joined = join_within(by, run_screen, link)?;
     hosts.joined(link, &joined);
     let (screen, patch) = make_ready(run_screen, links)?;
     put_switch(patch, publisher)?;

@@ -40,8 +40,8 @@ impl<'a, L: Link, P: Puts, R: Wait> ReadsOn<L, P> for Waiting<'a, R> {
 /// Where the first host has its turn again, the call ends only with an answer after which no host is taken.
 ///
 /// The run's last answer is that of the last host: the fault of reading or of joining it, `BadScreen` where its screen
-/// has another size, `Memory` where memory that it needs is refused, and `NumbersOut` where there is no number for its
-/// switch.
+/// doesn't fit into the room, `Memory` where memory that it needs is refused, and `NumbersOut` where there is no number
+/// for its switch.
 pub fn read_all<'a, L, H, P, W, T, R>(
     rt: &R,
     run: JoinedRun<'a, L, H, P, W, T>,

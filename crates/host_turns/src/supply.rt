@@ -32,13 +32,13 @@ pub trait Hosts<L: Link>: Drop {
         ensures never { IsNone result → again self.old ≡ None }
         ensures again { again self.new ≡ again self.old };
 
-    /// A host was joined at the screen's size. It is read from now on, so a limit of time may be lifted.
+    /// A host was joined, and its screen fits into the room. It is read from now on, so a limit of time may be lifted.
     fn joined(&mut self, reader: &mut L, host: &Joined)
         ensures link { L.state reader.new ≡ L.state reader.old }
         ensures again { again self.new ≡ again self.old };
 
     /// Is told of each host, the first one included, that was read and how it ended, or that it wasn't joined, or that
-    /// its screen has another size.
+    /// its screen doesn't fit into the room (`BadScreen`).
     fn left(&mut self, reader: &mut L, why: Result<(), Fault>)
         ensures link { L.state reader.new ≡ L.state reader.old }
         ensures again { again self.new ≡ again self.old };

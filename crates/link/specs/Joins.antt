@@ -5,14 +5,15 @@ use Rattle.byte_reading.specs.Reading.{Faulty, after, Spells}
 use Rattle.fault.specs.declared.kinds.Fault.{Fault}
 use Rattle.fault.specs.declared.kinds.Fault.TheVariants.{LinkFailed, LinkEnded}
 use Rattle.rfb_wire.specs.Handshake.{Joined, version, host_hello}
+use Rattle.rfb_wire.specs.ServerMessage.{desktop_size}
 use Rattle.rfb_wire.specs.Writing.{set_pixel_format_bytes, set_encodings_bytes, request_bytes}
 use Rattle.link.specs.Links.{LinkState, HasRisen}
 
--- What a host is told before its first update: the pixel format, the encodings CopyRect, Hextile, RRE and Raw, and a
--- request of the whole screen.
+-- What a host is told before its first update: the pixel format, the encodings CopyRect, Hextile, RRE and Raw, then
+-- DesktopSize (RFC 6143, 7.8.2), and a request of its whole screen.
 abbrev pub first_messages : Joined → List ℕ
 first_messages joined =
-    set_pixel_format_bytes host_format ++ set_encodings_bytes (1 ∷ 5 ∷ 2 ∷ 0 ∷ []) ++ request_bytes false (record { x = 0; y = 0; w = joined.w; h = joined.h })
+    set_pixel_format_bytes host_format ++ set_encodings_bytes (1 ∷ 5 ∷ 2 ∷ 0 ∷ desktop_size ∷ []) ++ request_bytes false (record { x = 0; y = 0; w = joined.w; h = joined.h })
 
 -- One whole handshake of the host was taken, and the client's side and the first messages were given. The link neither
 -- failed nor ended.

@@ -11,18 +11,21 @@ use crate::link::Link;
 use fault::Fault;
 use pixel_format::Format;
 use raster::{COPY_RECT, Encoding, Rect};
-use rfb_wire::{write_request, write_set_encodings, write_set_pixel_format};
+use rfb_wire::{DESKTOP_SIZE, write_request, write_set_encodings, write_set_pixel_format};
 
-/// How many bytes a SetPixelFormat has, and a SetEncodings with four encodings (RFC 6143, 7.5.1 and 7.5.2).
-const MESSAGE_LEN: usize = 20;
+/// How many bytes a SetPixelFormat has (RFC 6143, 7.5.1).
+const FORMAT_LEN: usize = 20;
+
+/// How many bytes a SetEncodings with five encodings has (RFC 6143, 7.5.2).
+const ENCODINGS_LEN: usize = 24;
 
 /// How many bytes the first messages have: these two, and a FramebufferUpdateRequest of 10 (RFC 6143, 7.5.3).
-pub(crate) const MESSAGES_LEN: usize = 50;
+pub(crate) const MESSAGES_LEN: usize = 54;
 
 /// Writes the first messages to a host whose screen has this size: the format of `Format::HOST`, the encodings
-/// CopyRect, Hextile, RRE and Raw, and a request of the whole screen.
+/// CopyRect, Hextile, RRE and Raw, then DesktopSize, and a request of the whole screen.
 fn write_messages(width: u64, height: u64, out: &mut [u8])
-    requires room { length out.old ≡ 50 }
+    requires room { length out.old ≡ 54 }
     requires size { (width ≤ 4096) × (height ≤ 4096) }
     ensures { (joined : Joined) → joined.w ≡ width → joined.h ≡ height → out.new ≡ first_messages joined }
 {
@@ -37,10 +40,11 @@ fn write_messages(width: u64, height: u64, out: &mut [u8])
         Encoding::Hextile.number(),
         Encoding::Rre.number(),
         Encoding::Raw.number(),
+        DESKTOP_SIZE,
     ];
-    let (format, others) = out.split_at_mut(MESSAGE_LEN);
+    let (format, others) = out.split_at_mut(FORMAT_LEN);
     write_set_pixel_format(&Format::HOST, format);
-    let (encodings, request) = others.split_at_mut(MESSAGE_LEN);
+    let (encodings, request) = others.split_at_mut(ENCODINGS_LEN);
     write_set_encodings(&numbers, encodings);
     write_request(false, &screen, request);
 }

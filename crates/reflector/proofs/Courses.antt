@@ -1,5 +1,5 @@
 -- What shows that a run was run says the same of it as `run_all` does, of hosts that come over any links.
-use Rattle.std.proofs.Common.{◌≡◌, ℕ, List, [], ◌∷◌, subst, sym}
+use Rattle.std.proofs.Common.{◌≡◌, ◌≤◌, ℕ, List, [], ◌∷◌, subst, sym}
 use Rattle.std.specs.Prelude.{Result, ⊤}
 use Rattle.fault.specs.declared.kinds.Fault.{Fault}
 use Rattle.raster.specs.Update.{Update}
@@ -30,13 +30,14 @@ any_run w h comes result link links old new run = record {
   put = run.put;
 }
 
--- A run over a screen of the first host's size, whose first host was joined over the link that was read then.
-pub reflected : (course : Course) (w h : ℕ) (comes : LinkState → Type 0) → course.host.w ≡ w → course.host.h ≡ h → ∥ Joins unused course.link course.host ∥₁
-    → HasRun w h comes course.answer course.link course.links [] course.updates → AreToldInTurn w h [] course.told course.taken → IsReflected course
-reflected course w h comes wide high joins run told =
+-- A run over its room, whose first host was joined over the link that was read then, and fits.
+pub reflected : (course : Course) (w h : ℕ) (comes : LinkState → Type 0) → course.room_width ≡ w → course.room_height ≡ h → ∥ Joins unused course.link course.host ∥₁
+    → (course.host.w ≤ course.room_width) × (course.host.h ≤ course.room_height) → HasRun w h comes course.answer course.link course.links [] course.updates → AreToldInTurn w h [] course.told course.taken → IsReflected course
+reflected course w h comes wide high joins fits run told =
     let all = any_run w h comes course.answer course.link course.links [] course.updates run in
     record {
       joins = joins;
-      run = subst (λ (n : ℕ). HasRun n course.host.h (λ _. ⊤) course.answer course.link course.links [] course.updates) (sym wide) (subst (λ (m : ℕ). HasRun w m (λ _. ⊤) course.answer course.link course.links [] course.updates) (sym high) all);
-      told = subst (λ (n : ℕ). AreToldInTurn n course.host.h [] course.told course.taken) (sym wide) (subst (λ (m : ℕ). AreToldInTurn w m [] course.told course.taken) (sym high) told);
+      fits = fits;
+      run = subst (λ (n : ℕ). HasRun n course.room_height (λ _. ⊤) course.answer course.link course.links [] course.updates) (sym wide) (subst (λ (m : ℕ). HasRun w m (λ _. ⊤) course.answer course.link course.links [] course.updates) (sym high) all);
+      told = subst (λ (n : ℕ). AreToldInTurn n course.room_height [] course.told course.taken) (sym wide) (subst (λ (m : ℕ). AreToldInTurn w m [] course.told course.taken) (sym high) told);
     }

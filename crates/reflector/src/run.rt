@@ -78,10 +78,11 @@ struct Left<L, H, P, S: ScreenSource, D: Door, R: Wait + Drop> {
     places: Vec<PlaceHandle<S, D, R>>,
 }
 
-/// What a run begins with, for clauses: the first host, the doors with their roles, and the link that is read.
+/// What a run begins with, for clauses: the first host, the room, the doors with their roles, and the link that is read.
 #[derive(Drop)]
 struct Beginning<L, D> {
     host: Snapshot<Joined>,
+    room: RunScreen,
     doors: Snapshot<Vec<(Role, D)>>,
     link: Snapshot<L>,
 }
@@ -93,10 +94,10 @@ struct Started<L: Link, H: Hosts<L>, P: Puts + Drop, S: ScreenSource, D: Door, R
     reader: ReaderHandle<L, H, P>,
 }
 
-/// Starts the thread of each place, with the sender of its number.
+/// Starts the thread of each place, with the sender of its number. Viewers are told this screen.
 fn start_places<S, D, B, W, R>(
     context: &RunContext<R, B, W>,
-    joined: &Joined,
+    screen: &Joined,
     mut doors: Vec<(Role, D)>,
     mut watchers: Vec<S>,
     senders: Vec<Sender<R>>,
@@ -107,21 +108,21 @@ where
     B: Alarm + Drop + Send + Sync + 'static,
     W: Alarm + Drop + Send + Sync + 'static,
     R: Threads + Wait + Clock + Copy + Drop + Send + 'static,
-    requires size { IsScreenSize joined.now.w joined.now.h }
-    requires screen { (s : S) → (S.width s ≡ joined.now.w) × (S.height s ≡ joined.now.h) }
+    requires size { IsScreenSize screen.now.w screen.now.h }
+    requires screen { (s : S) → (S.width s ≡ screen.now.w) × (S.height s ≡ screen.now.h) }
     requires count { (vec_len doors ≡ vec_len senders) × (vec_len watchers ≡ vec_len senders) }
     ensures of { IfOk result (λ places. map (λ place. place.promise.sender.value) places.items ≡ senders.items) }
     ensures doors { IfOk result (λ places. map (λ place. (place.promise.role, place.promise.door.value)) places.items ≡ doors.items) }
     ensures watchers { IfOk result (λ places. map (λ place. place.promise.watcher.value) places.items ≡ watchers.items) }
-    ensures screen { IfOk result (λ places. All (λ place. IsOfScreen joined.now.w joined.now.h joined.now.name context.now.runs place.promise.width place.promise.height place.promise.name.value.items place.promise.runs) places.items) }
+    ensures screen { IfOk result (λ places. All (λ place. IsOfScreen screen.now.w screen.now.h screen.now.name context.now.runs place.promise.width place.promise.height place.promise.name.value.items place.promise.runs) places.items) }
     ensures err { IfErr result (λ fault. fault ≡ Memory) }
 {
     let mut places = Vec::new(context.alloc);
     for sender in senders {
         let (role, door) = doors.remove(0);
         let watcher = watchers.remove(0);
-        let name = joined.name.as_slice();
-        let maker = SessionMaker::new(context.alloc, joined.w, joined.h, name, role, context.runs)?;
+        let name = screen.name.as_slice();
+        let maker = SessionMaker::new(context.alloc, screen.w, screen.h, name, role, context.runs)?;
         let place = start_place(context, maker, door, watcher, sender)?;
         places.push(place)?;
     }
@@ -134,7 +135,7 @@ fn start_all<L, H, P, S, D, B, W, R>(
     context: &RunContext<R, B, W>,
     handover: &Arc<Handover<L, W>, Global>,
     first: L,
-    joined: &Joined,
+    screen: &Joined,
     hosts: H,
     doors: Vec<(Role, D)>,
     publisher: P,
@@ -151,26 +152,26 @@ where
     B: Alarm + Drop + Send + Sync + 'static,
     W: Alarm + Rest + Drop + Send + Sync + 'static,
     R: Threads + Wait + Clock + Copy + Drop + Send + 'static,
-    requires size { IsScreenSize joined.now.w joined.now.h }
-    requires publisher { (P.width publisher ≡ joined.now.w) × (P.height publisher ≡ joined.now.h) }
-    requires screen { (s : S) → (S.width s ≡ joined.now.w) × (S.height s ≡ joined.now.h) }
+    requires size { IsScreenSize screen.now.w screen.now.h }
+    requires publisher { (P.width publisher ≡ screen.now.w) × (P.height publisher ≡ screen.now.h) }
+    requires screen { (s : S) → (S.width s ≡ screen.now.w) × (S.height s ≡ screen.now.h) }
     requires count { (vec_len doors ≡ vec_len senders) × (vec_len watchers ≡ vec_len senders + 1) }
     ensures places { IfOk result (λ started. map (λ place. place.promise.sender.value) started.places.items ≡ senders.items) }
     ensures doors { IfOk result (λ started. map (λ place. (place.promise.role, place.promise.door.value)) started.places.items ≡ doors.items) }
     ensures watchers { IfOk result (λ started. map (λ place. place.promise.watcher.value) started.places.items ≡ drop 1 watchers.items) }
-    ensures screen { IfOk result (λ started. All (λ place. IsOfScreen joined.now.w joined.now.h joined.now.name context.now.runs place.promise.width place.promise.height place.promise.name.value.items place.promise.runs) started.places.items) }
+    ensures screen { IfOk result (λ started. All (λ place. IsOfScreen screen.now.w screen.now.h screen.now.name context.now.runs place.promise.width place.promise.height place.promise.name.value.items place.promise.runs) started.places.items) }
     ensures writer { IfOk result (λ started. (started.writer.promise.taker.value ≡ taker) × (started.writer.promise.source.value ≡ slice_index_or watchers.items 0 started.writer.promise.source.value) × StrokesStand started.writer.promise.strokes.value []) }
-    ensures reader { IfOk result (λ started. (started.reader.promise.width ≡ joined.now.w) × (started.reader.promise.height ≡ joined.now.h) × (started.reader.promise.link.value ≡ first) × (started.reader.promise.publisher.value ≡ publisher) × (started.reader.promise.hosts.value ≡ hosts)) }
+    ensures reader { IfOk result (λ started. (started.reader.promise.width ≡ screen.now.w) × (started.reader.promise.height ≡ screen.now.h) × (started.reader.promise.link.value ≡ first) × (started.reader.promise.publisher.value ≡ publisher) × (started.reader.promise.hosts.value ≡ hosts)) }
     ensures err { IfErr result (λ fault. fault ≡ Memory) }
 {
     let watcher = watchers.remove(0);
     let strokes = Strokes::new(context.alloc, senders.len() as u64)?;
-    let places = start_places(context, joined, doors, watchers, senders)?;
+    let places = start_places(context, screen, doors, watchers, senders)?;
     let writer = start_writer(context, Arc::try_clone(handover)?, watcher, taker, strokes)?;
     let run_screen = RunScreen {
         alloc: context.alloc,
-        width: joined.w,
-        height: joined.h,
+        width: screen.w,
+        height: screen.h,
     };
     let alarm = Arc::try_clone(&context.everyone)?;
     let handover = Arc::try_clone(handover)?;
@@ -259,11 +260,12 @@ where
     Ok((senders, taker))
 }
 
-/// A run over any screen: its publisher, and a watcher for each place and one for the hosts' writer.
+/// A run over any screen, which viewers are told: its publisher, and a watcher for each place and one for the hosts'
+/// writer.
 fn run_over<L, H, P, S, D, B, W, R>(
     context: &RunContext<R, B, W>,
     links: (L, L),
-    joined: &Joined,
+    screen: &Joined,
     hosts: H,
     doors: Vec<(Role, D)>,
     publisher: P,
@@ -278,12 +280,12 @@ where
     B: Alarm + Drop + Send + Sync + 'static,
     W: Alarm + Rest + Drop + Send + Sync + 'static,
     R: Threads + Wait + Clock + Copy + Drop + Send + 'static,
-    requires size { IsScreenSize joined.now.w joined.now.h }
-    requires publisher { (P.width publisher ≡ joined.now.w) × (P.height publisher ≡ joined.now.h) }
-    requires screen { (s : S) → (S.width s ≡ joined.now.w) × (S.height s ≡ joined.now.h) }
+    requires size { IsScreenSize screen.now.w screen.now.h }
+    requires publisher { (P.width publisher ≡ screen.now.w) × (P.height publisher ≡ screen.now.h) }
+    requires screen { (s : S) → (S.width s ≡ screen.now.w) × (S.height s ≡ screen.now.h) }
     requires doors { (1 ≤ vec_len doors) × (vec_len doors ≤ 64) × (vec_len watchers ≡ vec_len doors + 1) }
     requires writer { L.state links.1 ≡ unused }
-    ensures run { IfOk result (λ run. HasRun joined.now.w joined.now.h (IsLinkOf L.state H.came) run.result (L.state links.0) (map L.state run.links.items) (P.updates publisher) (P.updates run.publisher)) }
+    ensures run { IfOk result (λ run. HasRun screen.now.w screen.now.h (IsLinkOf L.state H.came) run.result (L.state links.0) (map L.state run.links.items) (P.updates publisher) (P.updates run.publisher)) }
     ensures over { IfOk result (λ run. IsOver H.are_out run.hosts run.result) }
     ensures never { IfOk result (λ run. goes_on run.result ≡ true → H.again hosts ≡ None) }
     ensures places { IfOk result (λ run. map (λ place. strand_of place.promise.sender.value) run.places.items ≡ fresh (vec_len doors)) }
@@ -292,7 +294,7 @@ where
     ensures told { IfOk result (λ run. (source : S) × (source ≡ slice_index_or watchers.items 0 source) × TellsHosts S.looks S.width S.height source (links_in L.state run.written) (taken_of run.taker) run.strokes) }
     ensures doors { IfOk result (λ run. map (λ place. (place.promise.role, place.promise.door.value)) run.places.items ≡ doors.items) }
     ensures watchers { IfOk result (λ run. map (λ place. place.promise.watcher.value) run.places.items ≡ drop 1 watchers.items) }
-    ensures screen { IfOk result (λ run. All (λ place. IsOfScreen joined.now.w joined.now.h joined.now.name context.now.runs place.promise.width place.promise.height place.promise.name.value.items place.promise.runs) run.places.items) }
+    ensures screen { IfOk result (λ run. All (λ place. IsOfScreen screen.now.w screen.now.h screen.now.name context.now.runs place.promise.width place.promise.height place.promise.name.value.items place.promise.runs) run.places.items) }
     ensures err { IfErr result (λ fault. fault ≡ Memory) }
 {
     let (read, written) = links;
@@ -300,7 +302,7 @@ where
     let alarm = Arc::try_clone(&context.writer)?;
     let handover = Arc::new(context.alloc, Handover::new(written, alarm))?;
     match start_all(
-        context, &handover, read, joined, hosts, doors, publisher, watchers, senders, taker,
+        context, &handover, read, screen, hosts, doors, publisher, watchers, senders, taker,
     ) {
         Ok(started) => Ok(end_all(context, started)),
         Err(fault) => {
@@ -308,6 +310,19 @@ where
             handover.close(&context.rt);
             Err(fault)
         }
+    }
+}
+
+/// What viewers are told of the screen: the size of the room, and the name of the first host.
+fn screen_of(room: &RunScreen, host: Joined) -> Joined
+    ensures size { (result.w ≡ room.now.width) × (result.h ≡ room.now.height) }
+    ensures name { result.name ≡ host.name }
+{
+    let Joined { w: _, h: _, name } = host;
+    Joined {
+        w: room.width,
+        h: room.height,
+        name,
     }
 }
 
@@ -324,7 +339,7 @@ where
     H: Hosts<L>,
     D: Door,
     R: Wait + Drop,
-    requires { C.course ≡ record { host = began.now.host.value; form = runs; roles = map (λ door. door.0) began.now.doors.value.items; answer = left.result; link = L.state began.now.link.value; links = map L.state left.links.items; told = links_in L.state left.written; taken = taken_of left.taker; updates = puts_of left.publisher.changes } }
+    requires { C.course ≡ record { host = began.now.host.value; room_width = began.now.room.width; room_height = began.now.room.height; form = runs; roles = map (λ door. door.0) began.now.doors.value.items; answer = left.result; link = L.state began.now.link.value; links = map L.state left.links.items; told = links_in L.state left.written; taken = taken_of left.taker; updates = puts_of left.publisher.changes } }
     ensures ran { result.ran.course ≡ C.course }
     ensures result { result.result ≡ left.result }
     ensures links { result.links ≡ left.links }
@@ -370,11 +385,14 @@ where
 /// that gives back.
 ///
 /// Where a host ended between two messages or inside one, or its link failed, the next host is taken from the supply
-/// and joined over the end that is read. If it has the screen's size, the screen turns black, and the host is read as
-/// the first was. If it hasn't, the run ends with `BadScreen`. A host that can't be joined is passed over where it has
-/// another version, refuses, doesn't offer security type None or reports a failed handshake, or where its link failed
-/// or ended. Every other fault ends the run, and so does the end of the supply, with the last answer. The supply has no
-/// end where the first host has its turn again.
+/// and joined over the end that is read. Then the screen turns black, and the host is read as the first was. A host that
+/// can't be joined is passed over where it has another version, refuses, doesn't offer security type None or reports a
+/// failed handshake, where its link failed or ended, or where its screen doesn't fit into the room. A host whose new
+/// size doesn't fit is left for the next one, too. Every other fault ends the run, and so does the end of the supply,
+/// with the last answer. The supply has no end where the first host has its turn again.
+///
+/// Viewers are told the size of the room, and the name of the first host. The screens of all hosts lie at the top left
+/// of the room, and what a host doesn't paint is black.
 ///
 /// The link over which the first host is told was given nothing yet, as those of the hosts after it.
 ///
@@ -394,7 +412,7 @@ where
 /// for. Once all threads are there, refused memory is an answer of the run.
 pub fn run_all<J, L, H, D, B, W, R>(
     rt: R,
-    alloc: Global,
+    room: RunScreen,
     history: Opened<J>,
     reader: L,
     writer: L,
@@ -415,7 +433,8 @@ where
     W: Alarm + Rest + Drop + Send + Sync + 'static,
     R: Threads + Wait + Clock + Copy + Drop + Send + 'static,
     requires history { history.seen.book ≡ J.book }
-    requires size { IsScreenSize joined.w joined.h × (joined.w ≡ J.width) × (joined.h ≡ J.height) }
+    requires fits { (joined.w ≤ room.width) × (joined.h ≤ room.height) }
+    requires size { (room.width ≡ J.width) × (room.height ≡ J.height) }
     requires doors { (1 ≤ vec_len doors) × (vec_len doors ≤ 64) }
     requires roles { All (λ door. D.is_for door.1 door.0) doors.items }
     requires writer { L.state writer ≡ unused }
@@ -430,15 +449,17 @@ where
     ensures dropped { IfOk result (λ run. run.dropped ≡ all_dropped (map taken_from (taken_of run.taker))) }
     ensures doors { IfOk result (λ run. map (λ place. (place.promise.role, place.promise.door.value)) run.places.items ≡ doors.items) }
     ensures watchers { IfOk result (λ run. All (λ place. place.promise.watcher.value ≡ nothing_put) run.places.items) }
-    ensures screen { IfOk result (λ run. All (λ place. IsOfScreen joined.w joined.h joined.name runs place.promise.width place.promise.height place.promise.name.value.items place.promise.runs) run.places.items) }
-    ensures ran { IfOk result (λ run. run.ran.course ≡ record { host = joined; form = runs; roles = map (λ door. door.0) doors.items; answer = run.result; link = L.state reader; links = map L.state run.links.items; told = links_in L.state run.written; taken = taken_of run.taker; updates = puts_of run.publisher.changes }) }
+    ensures screen { IfOk result (λ run. All (λ place. IsOfScreen room.width room.height joined.name runs place.promise.width place.promise.height place.promise.name.value.items place.promise.runs) run.places.items) }
+    ensures ran { IfOk result (λ run. run.ran.course ≡ record { host = joined; room_width = room.width; room_height = room.height; form = runs; roles = map (λ door. door.0) doors.items; answer = run.result; link = L.state reader; links = map L.state run.links.items; told = links_in L.state run.written; taken = taken_of run.taker; updates = puts_of run.publisher.changes }) }
     ensures err { IfErr result (λ fault. (fault ≡ Memory) ⊎ (fault ≡ NoPlace)) }
 {
     let began = Beginning {
         host: Snapshot::of(&joined),
+        room,
         doors: Snapshot::of(&doors),
         link: Snapshot::of(&reader),
     };
+    let alloc = room.alloc;
     let stop = Arc::new(alloc, Stop::new(Arc::try_clone(&everyone)?))?;
     let context = RunContext {
         rt,
@@ -453,14 +474,15 @@ where
         rt,
         alloc,
         history,
-        joined.w,
-        joined.h,
+        room.width,
+        room.height,
         doors.len() + 1,
     )?;
+    let screen = screen_of(&room, joined);
     let left = run_over(
         &context,
         (reader, writer),
-        &joined,
+        &screen,
         hosts,
         doors,
         publisher,

@@ -14,11 +14,12 @@ const SENDS: [u8; 45] =
 const HANDSHAKE: usize = 43;
 
 /// What the host is given: the version, the choice of None, shared-flag 1, and the three messages.
-const GIVES: [u8; 64] = [
+const GIVES: [u8; 68] = [
     0x52, 0x46, 0x42, 0x20, 0x30, 0x30, 0x33, 0x2E, 0x30, 0x30, 0x38, 0x0A, 0x01, 0x01, 0x00, 0x00,
     0x00, 0x00, 0x20, 0x18, 0x00, 0x01, 0x00, 0xFF, 0x00, 0xFF, 0x00, 0xFF, 0x10, 0x08, 0x00, 0x00,
-    0x00, 0x00, 0x02, 0x00, 0x00, 0x04, 0x00, 0x00, 0x00, 0x01, 0x00, 0x00, 0x00, 0x05, 0x00, 0x00,
-    0x00, 0x02, 0x00, 0x00, 0x00, 0x00, 0x03, 0x00, 0x00, 0x00, 0x00, 0x00, 0x00, 0x02, 0x00, 0x01,
+    0x00, 0x00, 0x02, 0x00, 0x00, 0x05, 0x00, 0x00, 0x00, 0x01, 0x00, 0x00, 0x00, 0x05, 0x00, 0x00,
+    0x00, 0x02, 0x00, 0x00, 0x00, 0x00, 0xFF, 0xFF, 0xFF, 0x21, 0x03, 0x00, 0x00, 0x00, 0x00, 0x00,
+    0x00, 0x02, 0x00, 0x01,
 ];
 
 /// A link that answers this many calls to take with `take`, and then one with `last_take`. Calls to give are answered
@@ -103,7 +104,7 @@ fn joins_a_host(rt: HostRuntime) {
     let ending = Ending {
         number: 0,
         taken: Some(HANDSHAKE),
-        given: 64,
+        given: 68,
         failures: 0,
     };
     let at_once = Course {
@@ -115,7 +116,7 @@ fn joins_a_host(rt: HostRuntime) {
     assert!(rt; joins(&rt, &at_once, &ending));
     let bytewise = Course {
         give: Gave::Bytes(1),
-        gives: 64,
+        gives: 68,
         ..BYTEWISE
     };
     assert!(rt; joins(&rt, &bytewise, &ending));
@@ -180,14 +181,14 @@ fn fails_at<R: Wait + AllocGlobal>(rt: &R, course: &Course, gives: usize, given:
     joins(rt, &failing, &failed) && joins(rt, &ending, &ended)
 }
 
-/// Where the link fails or ends at each byte that is given, and at each whole answer or message.
+/// Where the link fails or ends at each byte that is given, and where it takes up to 20 bytes at a time.
 #[test]
 fn fails_at_each_byte_and_message_given(rt: HostRuntime) {
     let bytewise = Course {
         give: Gave::Bytes(1),
         ..BYTEWISE
     };
-    for count in 0..64 {
+    for count in 0..68 {
         assert!(rt; fails_at(&rt, &bytewise, count, count), "at byte {count}");
     }
     let at_once = Course {
@@ -196,10 +197,7 @@ fn fails_at_each_byte_and_message_given(rt: HostRuntime) {
         ..BYTEWISE
     };
     for (count, given) in [0, 12, 13, 14, 34, 54].iter().enumerate() {
-        assert!(rt;
-            fails_at(&rt, &at_once, count, *given),
-            "at message {count}"
-        );
+        assert!(rt; fails_at(&rt, &at_once, count, *given), "at call {count}");
     }
 }
 

@@ -37,6 +37,9 @@ pub(crate) const THREE: &[u8] = b"\0\0\0\x01\0\0\0\0\0\x02\0\x01\0\0\0\0\x03\0\0
 /// An update of a rectangle of an encoding that wasn't asked for.
 pub(crate) const UNKNOWN: &[u8] = b"\0\0\0\x01\0\0\0\0\0\x02\0\x01\0\0\0\x63";
 
+/// The host's new size, 3 by 1 (RFC 6143, 7.8.2).
+pub(crate) const OUTGROWS: &[u8] = b"\0\0\0\x01\0\0\0\0\0\x03\0\x01\xFF\xFF\xFF\x21";
+
 /// A host's side of the handshake: version 3.8, None, that it went well, and a screen of 2 by 1 with its format of 32
 /// bits and its name, T (RFC 6143, 7.1.1 to 7.1.3 and 7.3.2).
 pub(crate) const WELCOME: &[u8] =

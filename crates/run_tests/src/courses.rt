@@ -2,7 +2,7 @@
 
 use crate::board::Gate;
 use crate::bytes::{
-    ASK, GREETING, HELLO, ONE, PRESS_97, PRESS_98, THREE, TWO, UNKNOWN, WELCOME, WIDER,
+    ASK, GREETING, HELLO, ONE, OUTGROWS, PRESS_97, PRESS_98, THREE, TWO, UNKNOWN, WELCOME, WIDER,
 };
 use crate::dead_links::{GOES_ON, IS_LEFT};
 use crate::ends::{Course, End, goes_right};
@@ -288,11 +288,12 @@ const STROKE_IS_KEPT: Course = Course {
     },
 };
 
-/// A first host ends once the viewer was shown its one update. Hosts that can't be joined are passed over. One of the
-/// same size sends one update, and ends once that was shown. The last is one column wider: it ends the run, and turns
-/// nothing black. The viewer sees numbers that don't fall, none above 3.
-const WIDER_THIRD: Course = Course {
-    name: "third_host_is_one_column_wider",
+/// A first host ends once the viewer was shown its one update. Hosts that can't be joined are passed over, and so is one
+/// that is a column wider than the room: it turns nothing black. One that fits sends one update, and tells a wider size
+/// once that was shown. It is left, and since no host is left then, its fault ends the run. The viewer sees numbers that
+/// don't fall, none above 3.
+const WIDER_HOSTS: Course = Course {
+    name: "wider_hosts_are_passed_over_or_left",
     view: &SMALL,
     black: BLACK,
     places: &[&[WATCHES]],
@@ -311,23 +312,24 @@ const WIDER_THIRD: Course = Course {
         IS_OLD,
         IS_TOLD,
         Script {
+            acts: &[Act::Says(WIDER), Act::Ends],
+            taking: Taking::Joins,
+        },
+        IS_TOLD,
+        Script {
             acts: &[
                 Act::Says(WELCOME),
                 Act::Waits(Gate::Shown(0, 2)),
                 Act::Says(THREE),
                 Act::Waits(Gate::Shown(0, 3)),
+                Act::Says(OUTGROWS),
                 Act::Ends,
             ],
             taking: Taking::Joins,
         },
         IS_TOLD,
-        Script {
-            acts: &[Act::Says(WIDER), Act::Ends],
-            taking: Taking::Joins,
-        },
-        IS_TOLD,
     ],
-    may_end: false,
+    may_end: true,
     end: End {
         fault: 5,
         links: 2,
@@ -398,7 +400,7 @@ static COURSES: [Course; 9] = [
     FULL_RELAY,
     PLACE_AGAIN,
     STROKE_IS_KEPT,
-    WIDER_THIRD,
+    WIDER_HOSTS,
     HOST_AT_FAULT,
     NO_HOST_LEFT,
     PAINTED,

@@ -11,7 +11,7 @@ use crate::sight::View;
 use crate::wire::Wire;
 use arrayvec::ArrayVec;
 use fault::Fault;
-use host_turns::Hosts;
+use host_turns::{Hosts, RunScreen};
 use input_relay::{Settled, settle};
 use joined_runs::Runs;
 use link::Link;
@@ -199,9 +199,14 @@ where
     let Some((reader, writer)) = Hosts::next(&mut hosts) else {
         return Ok(false);
     };
+    let room = RunScreen {
+        alloc,
+        width: course.view.w,
+        height: course.view.h,
+    };
     let running = run_all::<J, Wire, Queue, Queue, NoAlarm, NoAlarm, R>(
         rt,
-        alloc,
+        room,
         history,
         reader,
         writer,

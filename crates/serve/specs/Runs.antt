@@ -4,6 +4,7 @@ use Rattle.fault.specs.declared.kinds.Fault.{Fault}
 use Rattle.roles.specs.declared.role.Role.{Role}
 use Rattle.roles.specs.declared.role.Role.TheVariants.{Full, View}
 use Rattle.settings.specs.ByRole.{places_for, runs_for}
+use Rattle.settings.specs.Rooms.{IsRoomFor}
 use Rattle.settings.specs.declared.values.Settings.{Settings}
 use Rattle.host_turns.specs.Running.{goes_on}
 use Rattle.reflector.specs.Course.{Course, IsReflected}
@@ -20,9 +21,11 @@ use Rattle.serve.specs.declared.trouble.Trouble.{Trouble}
 abbrev pub roles_for : Settings → List Role
 roles_for settings = replicate (places_for Full settings) Full ++ replicate settings.view_places View
 
--- A run by these settings: its places have their roles, and its viewers are answered in their form.
+-- A run by these settings: its room has their size, or that of its first host's screen; its places have their roles; and
+-- its viewers are answered in their form.
 pub record IsRunFor (settings : Settings) (course : Course) : Type 0 where
   pub reflected : IsReflected course
+  pub room : IsRoomFor settings course.host.w course.host.h course.room_width course.room_height
   pub roles : course.roles ≡ roles_for settings
   pub form : course.form ≡ runs_for settings
 

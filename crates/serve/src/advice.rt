@@ -137,7 +137,7 @@ fn join_advice(fault: &Fault) -> &'static str {
         }
         Fault::SecurityFailed => "it ended the handshake as failed; see the VNC server's own log",
         Fault::BadScreen =>
-            "its screen is empty, or over 4096 pixels wide or high; give it a smaller one",
+            "its screen is empty, or larger than --room or than 4096x4096; give it another one, or a larger --room",
         Fault::LinkFailed => {
             "the connection broke, or its handshake took more than 10 seconds; is a VNC server at that port?"
         }
@@ -155,7 +155,7 @@ fn run_advice(fault: &Fault) -> &'static str {
         Fault::LinkEnded =>
             "it closed the connection inside a message; see the VNC server's own log",
         Fault::BadScreen =>
-            "its screen has another size than the first host's; start again, and viewers have to connect again",
+            "its screen is larger than the room that viewers are told; --room WxH makes room, up to 4096x4096",
         Fault::BadVersion | Fault::HostRefused(_) | Fault::NoNone | Fault::SecurityFailed => {
             join_advice(fault)
         }

@@ -2,6 +2,7 @@
 
 ghost use Rattle.std.specs.Prelude.{◌≡◌, IfOk, false};
 ghost use Rattle.raster.specs.Size.{IsScreenSize};
+ghost use Rattle.settings.specs.Rooms.{FitsInto};
 
 use crate::control::Control;
 use crate::entries::Entrances;
@@ -16,6 +17,7 @@ use crate::web::start_web_porter;
 use connections::Seat;
 use fault::Fault;
 use run_traits::Log;
+use settings::Room;
 use std::alloc::Global;
 use std::sync::{Arc, Wait};
 use std::time::Clock;
@@ -102,12 +104,13 @@ where
     Ok(halls)
 }
 
-/// Meets the first host, and lets viewers in. Where that host is tried again they are told until then that there is
-/// none yet; where it is tried once, they wait.
+/// Meets the first host, which fits into the room, if there is one yet, and lets viewers in. Where that host is tried
+/// again they are told until then that there is none yet; where it is tried once, they wait.
 pub(crate) fn welcome<R, G>(
     rt: R,
     alloc: Global,
     supply: &mut Supply<R, G>,
+    room: Option<Room>,
     entrances: Entrances<'_>,
     seats: Vec<Arc<Seat, Global>>,
     control: Option<Control>,
@@ -117,18 +120,19 @@ where
     R: Runtime,
     G: RunLog + Clone + Drop + Send + 'static,
     ensures size { IfOk result (λ both. IsScreenSize both.0.joined.w both.0.joined.h) }
+    ensures fits { IfOk result (λ both. FitsInto room both.0.joined.w both.0.joined.h) }
     ensures untimed { IfOk result (λ both. (both.0.reader.has_deadline ≡ false) × (both.0.writer.has_deadline ≡ false)) }
     ensures again { supply.new.turns.again ≡ supply.old.turns.again }
     ensures lifeline { supply.new.lifeline ≡ supply.old.lifeline }
 {
     if !supply.tries_again() {
-        let met = supply.first()?;
+        let met = supply.first(room)?;
         let halls = start_all(rt, alloc, entrances, seats, control, log)?;
         return Ok((met, halls));
     }
     hold(&rt, &entrances);
     let halls = start_all(rt, alloc, entrances, seats, control, log)?;
-    match supply.first() {
+    match supply.first(room) {
         Ok(met) => {
             halls.open(&rt);
             Ok((met, halls))

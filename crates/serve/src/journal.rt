@@ -160,6 +160,14 @@ struct Why {
     parting: Parting,
 }
 
+/// What the log says that helps against a fault of a host, if an option does.
+fn remedy_for(fault: &Fault) -> &'static str {
+    match fault {
+        Fault::BadScreen => "; --room WxH makes room, up to 4096x4096",
+        _ => "",
+    }
+}
+
 impl Display for Why {
     fn fmt<W: fmt::Write>(&self, f: &mut Formatter<W>) -> fmt::Result {
         match (&self.why, self.parting) {
@@ -168,7 +176,7 @@ impl Display for Why {
             (Ok(()), _) => f.write_str("host gone"),
             (Err(_), Parting::Stalled) => f.write_str("stalled"),
             (Err(_), Parting::Late) => f.write_str("late handshake"),
-            (Err(fault), _) => write!(f, "fault {}: {fault}", fault.number()),
+            (Err(fault), _) => write!(f, "fault {}: {fault}{}", fault.number(), remedy_for(fault)),
         }
     }
 }

@@ -5,11 +5,14 @@ ghost use Rattle.connections.specs.Wires.{joining_state};
 ghost use Rattle.link.specs.Joins.{Joins};
 ghost use Rattle.raster.specs.Size.{IsScreenSize};
 ghost use Rattle.run_traits.specs.Unused.{unused};
+ghost use Rattle.settings.specs.Rooms.{FitsInto};
 
 use crate::trouble::{Stage, Trouble};
 use connections::{HostLink, JoiningLink};
+use fault::Fault;
 use link::join_host;
 use rfb_wire::Joined;
+use settings::{Room, fits};
 use std::io;
 use std::io::ErrorKind;
 use std::net::{Net, SocketAddr, TcpStream, ToSocketAddrs};
@@ -116,11 +119,13 @@ pub(crate) fn connect_by_text<R: Net<Stream = TcpStream> + Clock + Copy + Drop>(
     Err(missed)
 }
 
-/// Joins the host of this number over the ends of its connection. After that they have no deadline.
+/// Joins the host of this number over the ends of its connection. After that they have no deadline. It fails with
+/// `BadScreen` where the host doesn't fit into the room, if there is one yet.
 #[tactic(auto, using(crate::proofs::Sizes::is_screen))]
 pub(crate) fn join<R>(
     rt: &R,
     number: usize,
+    room: Option<Room>,
     ends: (JoiningLink<R>, JoiningLink<R>),
 ) -> Result<Met<R>, Trouble>
 where
@@ -128,6 +133,7 @@ where
     requires untimed { ends.1.has_deadline ≡ false }
     requires fresh { (joining_state ends.0 ≡ unused) × (joining_state ends.1 ≡ unused) }
     ensures size { IfOk result (λ met. IsScreenSize met.joined.w met.joined.h) }
+    ensures fits { IfOk result (λ met. FitsInto room met.joined.w met.joined.h) }
     ensures untimed { IfOk result (λ met. (met.reader.has_deadline ≡ false) × (met.writer.has_deadline ≡ false)) }
 {
     let (mut reader, writer) = ends;
@@ -135,6 +141,9 @@ where
         Ok(joined) => joined,
         Err(fault) => return Err(Trouble::new(Stage::Join(number), fault)),
     };
+    if !fits(&room, joined.w, joined.h) {
+        return Err(Trouble::new(Stage::Join(number), Fault::BadScreen));
+    }
     if let Err(error) = reader.lift() {
         return Err(Trouble::of(Stage::Connect, error));
     }

@@ -6,6 +6,7 @@ ghost use Rattle.host_turns.specs.Running.{goes_on};
 ghost use Rattle.link.specs.Joins.{Joins};
 ghost use Rattle.run_traits.specs.Unused.{unused};
 ghost use Rattle.settings.specs.ByRole.{HasPlaces};
+ghost use Rattle.settings.specs.Rooms.{FitsInto};
 ghost use Rattle.reflector.specs.Course.{IsReflected};
 ghost use Rattle.serve.specs.Turns.{endless};
 ghost use Rattle.serve.specs.Runs.{IsEndBy, IsRunBy};
@@ -28,14 +29,14 @@ use crate::web::shared;
 use crate::writer_reach::WriterReach;
 use connections::{Desk, WriterSeat};
 use fault::Fault;
-use host_turns::Hosts;
+use host_turns::{Hosts, RunScreen};
 use joined_runs::Runs;
 use link::{Link, Rest};
 use reflector::{InputCounts, Running, run_all};
 use rfb_wire::Joined;
 use roles::Role;
 use run_traits::{Alarm, Door, Log};
-use settings::{Settings, runs_of};
+use settings::{Settings, room_of, runs_of};
 use shared_screen::{Naming, Opened, Publishes};
 use std::alloc::{AllocError, Global};
 use std::marker::Brand;
@@ -44,11 +45,11 @@ use std::sync::{Arc, Wait};
 use std::thread::Threads;
 use std::time::Clock;
 
-/// The run over a history that J names. Its first host was joined over the end that is read, and given nothing over
-/// the other. What J names doesn't leave this call: what is handed out says in plain lists what the run was.
+/// The run over a history that J names, in this room. Its first host, which fits, was joined over the end that is read,
+/// and given nothing over the other. What J names doesn't leave this call: what is handed out says in plain lists what the run was.
 fn over<J, L, H, D, B, W, R>(
     rt: R,
-    alloc: Global,
+    room: RunScreen,
     history: Opened<J>,
     ends: (L, L),
     joined: Joined,
@@ -68,12 +69,14 @@ where
     W: Alarm + Rest + Drop + Send + Sync + 'static,
     R: Threads + Wait + Clock + Copy + Drop + Send + 'static,
     requires history { history.seen.book ≡ J.book }
-    requires size { IsScreenSize joined.w joined.h × (joined.w ≡ J.width) × (joined.h ≡ J.height) }
+    requires fits { (joined.w ≤ room.width) × (joined.h ≤ room.height) }
+    requires size { (room.width ≡ J.width) × (room.height ≡ J.height) }
     requires doors { (1 ≤ length doors.items) × (length doors.items ≤ 64) }
     requires roles { All (λ door. D.is_for door.1 door.0) doors.items }
     requires joins { ∥ Joins unused (L.state ends.0) joined ∥₁ }
     requires writer { L.state ends.1 ≡ unused }
     ensures reflected { IfOk result (λ run. IsReflected run.ran.course) }
+    ensures room { IfOk result (λ run. (run.ran.course.host ≡ joined) × (run.ran.course.room_width ≡ room.width) × (run.ran.course.room_height ≡ room.height)) }
     ensures roles { IfOk result (λ run. run.ran.course.roles ≡ map (λ door. door.0) doors.items) }
     ensures form { IfOk result (λ run. run.ran.course.form ≡ runs) }
     ensures why { IfOk result (λ run. run.why ≡ run.ran.course.answer) }
@@ -92,7 +95,7 @@ where
         written: _written,
         places: _places,
     } = run_all::<J, L, H, D, B, W, R>(
-        rt, alloc, history, reader, writer_end, joined, hosts, doors, runs, everyone, writer, input,
+        rt, room, history, reader, writer_end, joined, hosts, doors, runs, everyone, writer, input,
     )?;
     Ok(Reflected { why: result, ran })
 }
@@ -114,6 +117,7 @@ where
     G: RunLog + Drop + Send + 'static,
     R: Runtime,
     requires size { IsScreenSize met.joined.w met.joined.h }
+    requires fits { FitsInto settings.now.room met.joined.w met.joined.h }
     requires untimed { (met.reader.has_deadline ≡ false) × (met.writer.has_deadline ≡ false) }
     requires places { HasPlaces settings.now }
     requires doors { AreDoorsFor settings.now rooms.doors.items }
@@ -123,9 +127,15 @@ where
     let Rooms { doors, seats } = rooms;
     let WriterReach { seat, input } = writer;
     let everyone = everyone_of(alloc, &seat, seats, supply.desk.count())?;
+    let room = room_of(settings, met.joined.w, met.joined.h);
+    let run_screen = RunScreen {
+        alloc,
+        width: room.width,
+        height: room.height,
+    };
     over::<Brand, _, _, _, _, _, _>(
         rt,
-        alloc,
+        run_screen,
         Opened::new(),
         (met.reader, met.writer),
         met.joined,
@@ -162,7 +172,8 @@ where
     let Ok(seats) = shared(alloc, rooms.seats.as_slice()) else {
         return Err(Trouble::new(Stage::Start, Fault::Memory));
     };
-    let (met, halls) = welcome(rt, alloc, &mut supply, entrances, seats, control, log)?;
+    let room = settings.room;
+    let (met, halls) = welcome(rt, alloc, &mut supply, room, entrances, seats, control, log)?;
     let reflected = reflect(rt, alloc, settings, supply, met, rooms, writer);
     halls.close(&rt);
     match reflected {

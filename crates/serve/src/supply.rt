@@ -3,6 +3,7 @@
 ghost use Rattle.std.specs.Prelude.{◌≡◌, ◌⊎◌, ◌-◌, ◌≤◌, ⊤, IfOk, IfSome, IsNone, None, false, is_some, length, true};
 ghost use Rattle.connections.specs.Wires.{joining_state};
 ghost use Rattle.run_traits.specs.Unused.{unused};
+ghost use Rattle.settings.specs.Rooms.{FitsInto};
 ghost use Rattle.serve.specs.Turns.{endless, turn_of};
 ghost use Rattle.serve.specs.Stops.{IsOut};
 
@@ -20,6 +21,7 @@ use fault::Fault;
 use host_turns::Hosts;
 use rfb_wire::Joined;
 use run_traits::{Event, Log, clock_millis};
+use settings::Room;
 use std::alloc::Global;
 use std::net::{Net, SocketAddr, TcpListener, TcpStream};
 use std::sync::{Arc, Wait};
@@ -96,10 +98,11 @@ impl<
         self.turns.again().is_some()
     }
 
-    /// Meets the first host, which is joined then. Where it is to be tried again, hosts have their turns until one is
-    /// met, so that only a lack of memory and a screen that can't be shown are errors.
-    pub(crate) fn first(&mut self) -> Result<Met<R>, Trouble>
+    /// Meets the first host, which is joined then, and fits into the room, if there is one yet. Where it is to be tried
+    /// again, hosts have their turns until one is met, so that only a lack of memory is an error.
+    pub(crate) fn first(&mut self, room: Option<Room>) -> Result<Met<R>, Trouble>
         ensures size { IfOk result (λ met. IsScreenSize met.joined.w met.joined.h) }
+        ensures fits { IfOk result (λ met. FitsInto room met.joined.w met.joined.h) }
         ensures untimed { IfOk result (λ met. (met.reader.has_deadline ≡ false) × (met.writer.has_deadline ≡ false)) }
         ensures again { self.new.turns.again ≡ self.old.turns.again }
         ensures lifeline { self.new.lifeline ≡ self.old.lifeline }
@@ -107,7 +110,7 @@ impl<
         let rt = self.rt;
         let mut number = 0;
         for _ in rt.forever() {
-            let trouble = match self.meet(number) {
+            let trouble = match self.meet(number, room) {
                 Ok(met) => return Ok(met),
                 Err(trouble) => trouble,
             };
@@ -122,9 +125,10 @@ impl<
         unreachable!()
     }
 
-    /// Meets the host of this number.
-    fn meet(&mut self, number: usize) -> Result<Met<R>, Trouble>
+    /// Meets the host of this number, which has to fit into the room, if there is one yet.
+    fn meet(&mut self, number: usize, room: Option<Room>) -> Result<Met<R>, Trouble>
         ensures size { IfOk result (λ met. IsScreenSize met.joined.w met.joined.h) }
+        ensures fits { IfOk result (λ met. FitsInto room met.joined.w met.joined.h) }
         ensures untimed { IfOk result (λ met. (met.reader.has_deadline ≡ false) × (met.writer.has_deadline ≡ false)) }
         ensures again { self.new.turns.again ≡ self.old.turns.again }
         ensures lifeline { self.new.lifeline ≡ self.old.lifeline }
@@ -133,7 +137,7 @@ impl<
             Ok(ends) => ends,
             Err(missed) => return Err(missed.trouble()),
         };
-        match join(&self.rt, number, ends) {
+        match join(&self.rt, number, room, ends) {
             Ok(met) => {
                 let Met {
                     mut reader,

@@ -67,11 +67,11 @@ impl Trouble {
         }
     }
 
-    /// Whether no host has its turn after it: memory was refused, or a host's screen can't be shown.
+    /// Whether no host has its turn after it: memory was refused.
     pub(crate) fn is_final(&self) -> bool
         ensures { result ≡ is_final_fault self.now.fault }
     {
-        matches!(self.fault, Fault::Memory | Fault::BadScreen)
+        matches!(self.fault, Fault::Memory)
     }
 
     /// What the system refused: memory, or a connection.

@@ -246,7 +246,7 @@ const LARGE: &[u8] = b"\x02\0\x02\0\x20\x18\0\x01\0\xFF\0\xFF\0\xFF\x10\x08\0\0\
 
 /// What a client gives that joins the host of this screen (RFC 6143, 7.5.1 to 7.5.3).
 const ASKED: &[u8] = b"\0\0\0\0\x20\x18\0\x01\0\xFF\0\xFF\0\xFF\x10\x08\0\0\0\0\
-      \x02\0\0\x04\0\0\0\x01\0\0\0\x05\0\0\0\x02\0\0\0\0\
+      \x02\0\0\x05\0\0\0\x01\0\0\0\x05\0\0\0\x02\0\0\0\0\xFF\xFF\xFF\x21\
       \x03\0\0\0\0\0\x02\0\x02\0";
 
 /// A viewer asks for the whole screen, and its answer begins with this (RFC 6143, 7.5.3 and 7.6.1).

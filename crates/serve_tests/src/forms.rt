@@ -11,10 +11,10 @@ use std::test::*;
 /// The screen is 8 by 3, of 32 bits a pixel, named T (RFC 6143, 7.3.2 and 7.4).
 const INIT: &[u8] = b"\0\x08\0\x03\x20\x18\0\x01\0\xFF\0\xFF\0\xFF\x10\x08\0\0\0\0\0\0\0\x01T";
 
-/// What a joining client gives: its format, its four encodings, and a request for the whole screen (RFC 6143, 7.5.1 to
+/// What a joining client gives: its format, its five encodings, and a request for the whole screen (RFC 6143, 7.5.1 to
 /// 7.5.3).
 const ASKED: &[u8] = b"\0\0\0\0\x20\x18\0\x01\0\xFF\0\xFF\0\xFF\x10\x08\0\0\0\0\
-      \x02\0\0\x04\0\0\0\x01\0\0\0\x05\0\0\0\x02\0\0\0\0\
+      \x02\0\0\x05\0\0\0\x01\0\0\0\x05\0\0\0\x02\0\0\0\0\xFF\xFF\xFF\x21\
       \x03\0\0\0\0\0\0\x08\0\x03";
 
 /// The whole screen in Hextile: a red pixel on blue (RFC 6143, 7.6.1 and 7.7.4).

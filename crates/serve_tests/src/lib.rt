@@ -56,6 +56,8 @@ mod scene;
 #[cfg(test)]
 mod service;
 #[cfg(test)]
+mod sizes;
+#[cfg(test)]
 mod sockets;
 #[cfg(test)]
 mod standard_error;

@@ -19,7 +19,7 @@ const LONG: u64 = 20;
 const TRIES: u64 = 1_000;
 
 /// At most this many bytes come at once.
-const MOST: usize = 64;
+pub(crate) const MOST: usize = 64;
 
 /// Update n: colour n all over.
 pub(crate) fn update(n: u16) -> [u8; 24] {

@@ -1,7 +1,7 @@
 //! What one end of a connection does, step by step.
 
 use crate::asks::reads_up_to;
-use crate::loopback::{VERSION, asks, hears, is_closed_beside, sends, update};
+use crate::loopback::{MOST, VERSION, asks, hears, is_closed_beside, sends, update};
 use crate::operator::{is_answered, is_answered_of, is_done, is_removed};
 use crate::refusals::{Refusal, is_another_refused, is_refused};
 use crate::room::{Count, Ear};
@@ -16,11 +16,14 @@ use std::time::{Clock, Duration};
 pub(crate) const INIT: &[u8] =
     b"\0\x02\0\x01\x20\x18\0\x01\0\xFF\0\xFF\0\xFF\x10\x08\0\0\0\0\0\0\0\x01T";
 
-/// What a joining client gives: its format, its four encodings, and a request for the whole screen (RFC 6143, 7.5.1 to
-/// 7.5.3).
+/// What a joining client gives: its format, its five encodings, and a request for the whole screen, whose width and
+/// height are still to come (RFC 6143, 7.5.1 to 7.5.3).
 const ASKED: &[u8] = b"\0\0\0\0\x20\x18\0\x01\0\xFF\0\xFF\0\xFF\x10\x08\0\0\0\0\
-      \x02\0\0\x04\0\0\0\x01\0\0\0\x05\0\0\0\x02\0\0\0\0\
-      \x03\0\0\0\0\0\0\x02\0\x01";
+      \x02\0\0\x05\0\0\0\x01\0\0\0\x05\0\0\0\x02\0\0\0\0\xFF\xFF\xFF\x21\
+      \x03\0\0\0\0\0";
+
+/// How many bytes of a screen's description are its width and its height (RFC 6143, 7.3.2).
+const SIZE_LEN: usize = 4;
 
 /// Asks for the whole screen, or for what is new of it (RFC 6143, 7.5.3).
 pub(crate) const ASK: &[u8] = b"\x03\0\0\0\0\0\0\x02\0\x01";
@@ -210,7 +213,7 @@ fn is_said(stream: &mut TcpStream, step: &Step) -> bool {
     }
 }
 
-/// Whether the client of this host sends what a joining client has to send.
+/// Whether the client of this host sends what a joining client has to send. It asks for the size that it was told.
 fn is_joined(stream: &mut TcpStream, init: &[u8]) -> bool {
     let mut is_right = true;
     for (said, wanted) in [
@@ -221,7 +224,10 @@ fn is_joined(stream: &mut TcpStream, init: &[u8]) -> bool {
     ] {
         is_right = is_right && sends(stream, said) && hears(stream, wanted);
     }
-    is_right
+    match init.get(..SIZE_LEN) {
+        Some(size) => is_right && hears(stream, size),
+        None => false,
+    }
 }
 
 /// Whether this update is sent, and the client asks anew for what is new of the whole screen.
@@ -283,7 +289,7 @@ fn follows<R: Wait + Clock + Drop>(
 
 /// Whether the first answer that isn't black is the wanted one. A black one is as long as any other, or shorter.
 fn asks_until(stream: &mut TcpStream, request: &[u8], black: &[u8], wanted: &[u8]) -> bool {
-    let mut room = [0u8; 24];
+    let mut room = [0u8; MOST];
     let Some(begins) = room.get_mut(..black.len()) else {
         return false;
     };

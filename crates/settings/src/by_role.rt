@@ -1,8 +1,11 @@
 //! What the settings say for the viewers of a role, and for all of them.
 
-ghost use Rattle.std.specs.Prelude.{◌≡◌};
+ghost use Rattle.std.specs.Prelude.{◌≡◌, ◌≤◌, true};
+ghost use Rattle.raster.specs.Size.{IsScreenSize};
 ghost use Rattle.settings.specs.ByRole.{bind_for, places_for, port_for, runs_for, web_port_for};
+ghost use Rattle.settings.specs.Rooms.{FitsInto, IsRoomFor};
 
+use crate::room::Room;
 use crate::values::Settings;
 use joined_runs::Runs;
 use roles::Role;
@@ -60,5 +63,29 @@ pub fn runs_of(settings: &Settings) -> Runs
         Runs::OfRows
     } else {
         Runs::Joined
+    }
+}
+
+/// Whether a host's screen of this size fits into the room, if there is one.
+pub fn fits(room: &Option<Room>, width: u64, height: u64) -> bool
+    ensures { result ≡ true → FitsInto room.now width height }
+{
+    match room {
+        Some(room) => width <= room.width && height <= room.height,
+        None => true,
+    }
+}
+
+/// The room of a run whose first host has a screen of this size, which fits: the one that the settings say, or else a
+/// room of just this size.
+pub fn room_of(settings: &Settings, width: u64, height: u64) -> Room
+    requires size { IsScreenSize width height }
+    requires fits { FitsInto settings.now.room width height }
+    ensures room { IsRoomFor settings.now width height result.width result.height }
+    ensures within { (width ≤ result.width) × (height ≤ result.height) }
+{
+    match settings.room {
+        Some(room) => room,
+        None => Room { width, height },
     }
 }

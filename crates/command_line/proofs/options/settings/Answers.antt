@@ -1,20 +1,20 @@
-use Rattle.std.proofs.Common.{◌∙◌, ap, map, sym}
+use Rattle.std.proofs.Common.{◌∙◌, ap, inl, map, sym}
 use Rattle.clap.specs.Words.{fault_of, found_of, is_simple, is_simple_and_free, matches_of}
-use Rattle.command_line.proofs.Set.{refusal_is, values_set}
+use Rattle.command_line.proofs.Set.{no_room_is, refusal_is, values_set}
 use Rattle.command_line.proofs.Taken.{values_there}
 use Rattle.command_line.proofs.options.settings.Goals as goal
 
-pub values-requires : goal.values-requires
-values-requires g c = values_there c.in-Ok.command c.in-Ok-try_get_matches_from.matches c.in-Ok.ensures c.in-Ok-try_get_matches_from.ensures.parsed
+pub told-requires : goal.told-requires
+told-requires g c = values_there c.in-Ok.command c.in-Ok-try_get_matches_from.matches c.in-Ok.ensures c.in-Ok-try_get_matches_from.ensures.parsed
 
-pub returns-in-Ok-values-clause-ok : goal.returns-in-Ok-values-clause-ok
-returns-in-Ok-values-clause-ok g c =
+pub returns-in-Ok-told-clause-ok : goal.returns-in-Ok-told-clause-ok
+returns-in-Ok-told-clause-ok g c =
     let words = map g.S.AsStr.text c.args.words.now in
     let rows = (c.in-Ok-try_get_matches_from.ensures.matches (ap is_simple c.in-Ok.ensures)).0 ∙ ap (λ app. matches_of app words) c.in-Ok.ensures in
-    values_set (found_of c.in-Ok-try_get_matches_from.matches) words c.in-Ok-values.values rows c.in-Ok-values.ensures
+    values_set (found_of c.in-Ok-try_get_matches_from.matches) words c.in-Ok-told.settings rows c.in-Ok-told.ensures.ok
 
-pub returns-in-Ok-values-clause-faultless : goal.returns-in-Ok-values-clause-faultless
-returns-in-Ok-values-clause-faultless g c =
+pub returns-in-Ok-told-clause-faultless : goal.returns-in-Ok-told-clause-faultless
+returns-in-Ok-told-clause-faultless g c =
     let words = map g.S.AsStr.text c.args.words.now in
     sym (ap (λ app. fault_of app words) c.in-Ok.ensures) ∙ c.in-Ok-try_get_matches_from.ensures.kinds (ap is_simple_and_free c.in-Ok.ensures)
 

@@ -18,4 +18,4 @@ pub returns-in_err-put_switch-clause-err : goal.returns-in_err-put_switch-clause
 returns-in_err-put_switch-clause-err g c =
     let exit = c.from_residual-in_err-put_switch in
     let is = err_from_is_err_and exit.result exit.ensures.1 in
-    rw (is.1, is.2) (g.L.Link.state c.join_at.new.link, inr (c.in_ok-joined.ensures.ok, c.in_err-put_switch.ensures.err.0))
+    rw (is.1, is.2) (g.L.Link.state c.join_within.new.link, inr (c.in_ok-joined.ensures.ok, c.in_err-put_switch.ensures.err.0))

@@ -13,7 +13,9 @@ pub returns-clause-relay : goal.returns-clause-relay
 returns-clause-relay g c = rw (c.shown.ensures.places, c.shown.ensures.taker) c.in_ok-left.ensures.relay
 
 pub returns-clause-screen : goal.returns-clause-screen
-returns-clause-screen g c = rw c.shown.ensures.places c.in_ok-left.ensures.screen
+returns-clause-screen g c =
+    let told = c.screen_of-screen.ensures in
+    rw c.shown.ensures.places (rw (told.size.0, told.size.1, told.name) at c.in_ok-left.ensures.screen)
 
 pub returns-clause-watchers : goal.returns-clause-watchers
 returns-clause-watchers g c =

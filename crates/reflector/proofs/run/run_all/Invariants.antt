@@ -9,6 +9,8 @@ abbrev pub ghosts-shown : goal.ghosts-shown
 ghosts-shown g a = record {
   course = record {
     host = a.began.now.host.value;
+    room_width = a.began.now.room.width;
+    room_height = a.began.now.room.height;
     form = a.runs;
     roles = map (λ door. door.0) a.began.now.doors.value.items;
     answer = a.left.result;

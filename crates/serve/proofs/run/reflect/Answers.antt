@@ -14,7 +14,7 @@ over-requires-clause-doors g c κs _ = counted (λ door. door.0) c.args.rooms.do
 pub returns : goal.returns
 returns g c =
     let over = c.over.ensures in
-    run_by c.args.settings.now c.over.result _ _ _ over.reflected over.roles over.form over.why over.never c.requires.doors c.runs_of.ensures
+    run_by c.args.settings.now c.over.result c.args.met.joined _ _ _ _ _ over.reflected over.room over.roles over.form over.why over.never c.room_of-room.ensures.room c.requires.doors c.runs_of.ensures
     (λ none. may_end c.args.settings.now (sym c.requires.again ∙ none))
 
 pub over-requires-send-D : goal.over-requires-send-D
