@@ -1,5 +1,5 @@
 -- What a run of hosts, one after another, leaves.
-use Rattle.std.specs.Prelude.{◌≡◌, ◌≤◌, ◌<◌, ◌⊎◌, ℕ, ◌^◌, Bool, true, false, List, [], ◌∷◌, ◌++◌, length, Result, Ok, Err, ⊤}
+use Rattle.std.specs.Prelude.{◌≡◌, ◌≤◌, ◌<◌, ◌⊎◌, ℕ, ◌^◌, Bool, true, false, List, [], ◌∷◌, ◌++◌, length, None, Result, Ok, Err, ⊤}
 use Rattle.fault.specs.declared.kinds.Fault.{Fault}
 use Rattle.fault.specs.declared.kinds.Fault.TheVariants.{BadVersion, HostRefused, NoNone, SecurityFailed, BadScreen, LinkFailed, LinkEnded, Memory, NumbersOut}
 use Rattle.raster.specs.Screen.{Canvas, opening}
@@ -33,19 +33,19 @@ pub record IsSwitched (w h : ℕ) (old new : List Update) : Type 0 where
 -- A host was joined over a link that was so before and after, and its screen fits into the room of w by h.
 pub record JoinsWithin (w h : ℕ) (link_old link_new : LinkState) : Type 0 where
   pub host : Joined
-  pub joins : Joins link_old link_new host
+  pub joins : Joins None link_old link_new host
   pub width : host.w ≤ w
   pub height : host.h ≤ h
 
 -- A host was joined, and its screen is wider or higher than the room.
 pub record JoinsElsewhere (w h : ℕ) (link_old link_new : LinkState) : Type 0 where
   pub host : Joined
-  pub joins : Joins link_old link_new host
+  pub joins : Joins None link_old link_new host
   pub larger : (w < host.w) ⊎ (h < host.h)
 
 -- Why a host isn't joined within the room: joining it fails with this fault, or its screen is larger.
 abbrev pub IsUnfit : ℕ → ℕ → Fault → (link_old link_new : LinkState) → Type 0
-IsUnfit w h fault link_old link_new = FailsAs fault link_old link_new ⊎ (JoinsElsewhere w h link_old link_new × (fault ≡ BadScreen))
+IsUnfit w h fault link_old link_new = FailsAs None fault link_old link_new ⊎ (JoinsElsewhere w h link_old link_new × (fault ≡ BadScreen))
 
 -- After this many updates there is want: memory that a host needs is refused, or there is no number for its switch.
 abbrev pub IsWant : ℕ → Fault → Type 0

@@ -78,7 +78,7 @@ fn join_within<L: Link, F: JoinsOn<L>>(
     ensures ok { OnOk result (JoinsWithin run_screen.now.width run_screen.now.height (L.state link.old) (L.state link.new)) }
     ensures err { IfErr result (λ fault. IsUnfit run_screen.now.width run_screen.now.height fault (L.state link.old) (L.state link.new)) }
 {
-    let joined = join_by(by, link)?;
+    let joined = join_by(by, None, link)?;
     if joined.w > run_screen.width || joined.h > run_screen.height {
         return Err(Fault::BadScreen);
     }

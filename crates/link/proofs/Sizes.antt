@@ -1,20 +1,17 @@
 -- A host that is joined has a screen of 1 to 4096 pixels each way. `serve` makes the shared screen of it.
-use Rattle.std.proofs.Common.{◌≡◌, ℕ, ◌-◌, ◌≤◌, Bool, true, false, not, List, [], ◌∷◌, min, refl, subst, arith}
+use Rattle.std.proofs.Common.{◌≡◌, ℕ, ◌-◌, ◌≤◌, Bool, true, false, not, List, Option, min, refl, arith}
 use Rattle.std.specs.Prelude.{◌&&◌, nat_le}
 use Rattle.std.proofs.lemmas.Bool.{and_parts}
 use Rattle.std.proofs.lemmas.Bool.Decides.{nat_tests}
-use Rattle.byte_reading.specs.Reading.{Reading, Done, ◌>>=◌, step, after, bytes, padding, u16, u32, unless, Gives}
+use Rattle.byte_reading.specs.Reading.{Reading, Done, ◌>>=◌, after, bytes, padding, u16, u32, unless, Gives}
 use Rattle.fault.specs.declared.kinds.Fault.TheVariants.{BadScreen}
-use Rattle.byte_reading.proofs.ReadingLaws.{gives_bind, gives_padding, gives_step}
-use Rattle.rfb_wire.specs.Handshake.{Joined, is_size, kept_name, host_version, security_types, security_result, host_init, host_hello}
+use Rattle.byte_reading.proofs.ReadingLaws.{gives_bind, gives_padding}
+use Rattle.rfb_wire.proofs.Handshakes.{gives_after}
+use Rattle.rfb_wire.specs.Handshake.{Joined, is_size, kept_name, host_version, security, security_result, host_init, host_hello}
 
 pub record HasSize (joined : Joined) : Type 0 where
   pub across : is_size joined.w ≡ true
   pub down : is_size joined.h ≡ true
-
-pub gives_after : {A : Type 0} (P : A → Type 0) (r : Reading A) (bs : List ℕ) (x : A) → Gives P r → after r bs ≡ Done x → P x
-gives_after P r [] x k e = subst (Gives P) e k
-gives_after P r (b ∷ bs) x k e = gives_after P (step r b) bs x (gives_step P r b k) e
 
 abbrev behind : ℕ → ℕ → Reading Joined
 behind w h = padding 16 (u32 >>= λ len. kept_name w h len)
@@ -36,10 +33,10 @@ by_test w h true e =
 init_gives : Gives HasSize host_init
 init_gives = gives_bind HasSize u16 (λ w. u16 >>= judged w) (λ w. gives_bind HasSize u16 (judged w) (λ h. by_test w h (is_size w && is_size h) refl))
 
-hello_gives : Gives HasSize host_hello
-hello_gives =
-    gives_bind HasSize host_version (λ _. security_types >>= λ _. security_result >>= λ _. host_init)
-    (λ _. gives_bind HasSize security_types (λ _. security_result >>= λ _. host_init) (λ _. gives_bind HasSize security_result (λ _. host_init) (λ _. init_gives)))
+hello_gives : (password : Option (List ℕ)) → Gives HasSize (host_hello password)
+hello_gives password =
+    gives_bind HasSize host_version (λ _. security password >>= λ _. security_result >>= λ _. host_init)
+    (λ _. gives_bind HasSize (security password) (λ _. security_result >>= λ _. host_init) (λ _. gives_bind HasSize security_result (λ _. host_init) (λ _. init_gives)))
 
 pub size_least : (n : ℕ) → is_size n ≡ true → 1 ≤ n
 size_least n e = let least = (and_parts (nat_le 1 n) (nat_le n 4096) e).0 in grind (arith, nat_tests, least)
@@ -47,5 +44,5 @@ size_least n e = let least = (and_parts (nat_le 1 n) (nat_le n 4096) e).0 in gri
 pub size_most : (n : ℕ) → is_size n ≡ true → n ≤ 4096
 size_most n e = let most = (and_parts (nat_le 1 n) (nat_le n 4096) e).1 in grind (arith, nat_tests, most)
 
-pub joined_size : (bs : List ℕ) (joined : Joined) → after host_hello bs ≡ Done joined → HasSize joined
-joined_size bs joined e = gives_after HasSize host_hello bs joined hello_gives e
+pub joined_size : (password : Option (List ℕ)) (bs : List ℕ) (joined : Joined) → after (host_hello password) bs ≡ Done joined → HasSize joined
+joined_size password bs joined e = gives_after HasSize (host_hello password) bs joined (hello_gives password) e

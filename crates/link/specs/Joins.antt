@@ -1,10 +1,10 @@
 -- Joining a host over a link.
-use Rattle.std.specs.Prelude.{◌≡◌, ◌⊎◌, ℕ, false, List, [], ◌∷◌, ◌++◌}
+use Rattle.std.specs.Prelude.{◌≡◌, ◌⊎◌, ℕ, false, List, [], ◌∷◌, ◌++◌, Option}
 use Rattle.pixel_format.specs.PixelFormat.{host_format}
 use Rattle.byte_reading.specs.Reading.{Faulty, after, Spells}
 use Rattle.fault.specs.declared.kinds.Fault.{Fault}
 use Rattle.fault.specs.declared.kinds.Fault.TheVariants.{LinkFailed, LinkEnded}
-use Rattle.rfb_wire.specs.Handshake.{Joined, version, host_hello}
+use Rattle.rfb_wire.specs.Handshake.{Joined, host_hello, said_to_host}
 use Rattle.rfb_wire.specs.ServerMessage.{desktop_size}
 use Rattle.rfb_wire.specs.Writing.{set_pixel_format_bytes, set_encodings_bytes, request_bytes}
 use Rattle.link.specs.Links.{LinkState, HasRisen}
@@ -15,13 +15,13 @@ abbrev pub first_messages : Joined → List ℕ
 first_messages joined =
     set_pixel_format_bytes host_format ++ set_encodings_bytes (1 ∷ 5 ∷ 2 ∷ 0 ∷ desktop_size ∷ []) ++ request_bytes false (record { x = 0; y = 0; w = joined.w; h = joined.h })
 
--- One whole handshake of the host was taken, and the client's side and the first messages were given. The link neither
--- failed nor ended.
-pub record Joins (old new : LinkState) (joined : Joined) : Type 0 where
+-- One whole handshake of the host was taken, and the client's side with this password and the first messages were given.
+-- The link neither failed nor ended.
+pub record Joins (password : Option (List ℕ)) (old new : LinkState) (joined : Joined) : Type 0 where
   pub heard : List ℕ
   pub taken : new.taken ≡ old.taken ++ heard
-  pub spells : Spells host_hello heard joined
-  pub given : new.given ≡ old.given ++ version ++ (1 ∷ 1 ∷ []) ++ first_messages joined
+  pub spells : Spells (host_hello password) heard joined
+  pub given : new.given ≡ old.given ++ said_to_host password heard ++ first_messages joined
   pub failed : new.failed ≡ old.failed
   pub ended : new.ended ≡ old.ended
 
@@ -36,6 +36,6 @@ Rises _ failed_old failed_new ended_old ended_new = ⊥
 abbrev pub LinkFails : Fault → (old new : LinkState) → Type 0
 LinkFails fault old new = Rises fault old.failed new.failed old.ended new.ended
 
--- The link failed or ended in the meantime, or the handshake that was taken is at fault.
-abbrev pub FailsAs : Fault → (old new : LinkState) → Type 0
-FailsAs fault old new = LinkFails fault old new ⊎ ((heard : List ℕ) × (new.taken ≡ old.taken ++ heard) × (after host_hello heard ≡ Faulty fault))
+-- The link failed or ended in the meantime, or the handshake that was taken is at fault, for one with this password.
+abbrev pub FailsAs : Option (List ℕ) → Fault → (old new : LinkState) → Type 0
+FailsAs password fault old new = LinkFails fault old new ⊎ ((heard : List ℕ) × (new.taken ≡ old.taken ++ heard) × (after (host_hello password) heard ≡ Faulty fault))

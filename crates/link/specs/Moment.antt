@@ -1,7 +1,7 @@
 -- What is true of a join at every moment: what was taken from the host so far, and what it was given by now (own).
-use Rattle.std.specs.Prelude.{◌≡◌, ◌≤◌, ℕ, Bool, true, false, List, [], ◌∷◌, ◌++◌, Option, Some, None, length, take, drop}
+use Rattle.std.specs.Prelude.{◌≡◌, ◌≤◌, ℕ, Bool, true, false, List, [], ◌++◌, Option, Some, None, length, take, drop}
 use Rattle.byte_reading.specs.Reading.{after, taken, whole_of, fault_of, Spells}
-use Rattle.rfb_wire.specs.Handshake.{Joined, version, host_hello, said_to_host}
+use Rattle.rfb_wire.specs.Handshake.{Joined, host_hello, said_to_host}
 use Rattle.rfb_wire.specs.Joining.{ahead, HasHeard}
 use Rattle.rfb_wire.specs.declared.host_talk.HostTalk.{HostTalk}
 use Rattle.link.specs.Links.{LinkState}
@@ -9,19 +9,24 @@ use Rattle.link.specs.Joins.{first_messages}
 
 -- ---- what is promised
 
--- All that a host is told: the client's side of its handshake; and then the first messages, once its own side is whole.
-abbrev pub told_after : Option Joined → List ℕ
-told_after None = version ++ 1 ∷ 1 ∷ []
-told_after (Some joined) = version ++ (1 ∷ 1 ∷ []) ++ first_messages joined
+-- What a host is told once it is joined: the first messages.
+abbrev pub told_to : Option Joined → List ℕ
+told_to None = []
+told_to (Some joined) = first_messages joined
+
+-- All that a host is told that has said these bytes, by one with this password: what must have been said by then of the
+-- client's side of the handshake; and then the first messages, once the host's own side is whole.
+abbrev pub told_after : Option (List ℕ) → List ℕ → List ℕ
+told_after password heard = said_to_host password heard ++ told_to (whole_of (after (host_hello password) heard))
 
 -- These bytes were taken so far: a beginning of one handshake, or all of it, or all up to the byte that shows a fault.
 -- No byte behind was taken. And so many bytes were given of all that the host is told.
-pub record JoinsSoFar (old new : LinkState) : Type 0 where
+pub record JoinsSoFar (password : Option (List ℕ)) (old new : LinkState) : Type 0 where
   pub heard : List ℕ
   pub took : new.taken ≡ old.taken ++ heard
-  pub one : taken host_hello heard ≡ length heard
+  pub one : taken (host_hello password) heard ≡ length heard
   pub count : ℕ
-  pub gave : new.given ≡ old.given ++ take count (told_after (whole_of (after host_hello heard)))
+  pub gave : new.given ≡ old.given ++ take count (told_after password heard)
 
 -- ---- what a join keeps
 
@@ -30,29 +35,29 @@ pub record HearsSoFar (old now : LinkState) (hello : HostTalk) : Type 0 where
   pub heard : List ℕ
   pub took : now.taken ≡ old.taken ++ heard
   pub talk : HasHeard hello heard
-  pub count : taken host_hello heard ≡ length heard
-  pub gave : now.given ≡ old.given ++ take hello.sent (version ++ 1 ∷ 1 ∷ [])
-  pub most : hello.sent ≤ 14
+  pub count : taken (host_hello hello.password) heard ≡ length heard
+  pub gave : now.given ≡ old.given ++ take hello.sent (said_to_host hello.password heard)
+  pub most : hello.sent ≤ length (said_to_host hello.password heard)
 
 -- The handshake was heard, all was said, and these many of the first messages' bytes were given.
-pub record TellsSoFar (old now : LinkState) (joined : Joined) (messages : List ℕ) (given : ℕ) : Type 0 where
+pub record TellsSoFar (password : Option (List ℕ)) (old now : LinkState) (joined : Joined) (messages : List ℕ) (given : ℕ) : Type 0 where
   pub heard : List ℕ
   pub took : now.taken ≡ old.taken ++ heard
-  pub spells : Spells host_hello heard joined
+  pub spells : Spells (host_hello password) heard joined
   pub spelled : messages ≡ first_messages joined
-  pub gave : now.given ≡ old.given ++ (version ++ (1 ∷ 1 ∷ []) ++ take given messages)
+  pub gave : now.given ≡ old.given ++ (said_to_host password heard ++ take given messages)
 
 -- The handshake is being heard (false), or the first messages are being told.
 abbrev pub IsJoining : Bool → (old now : LinkState) → HostTalk → List ℕ → ℕ → Type 0
 IsJoining false old now hello messages given = HearsSoFar old now hello
-IsJoining true old now hello messages given = (joined : Joined) × TellsSoFar old now joined messages given
+IsJoining true old now hello messages given = (joined : Joined) × TellsSoFar hello.password old now joined messages given
 
 -- ---- what a loop over its steps keeps
 
 -- Nothing of the handshake was heard or said.
 pub record IsUnheard (hello : HostTalk) : Type 0 where
   pub heard : HasHeard hello []
-  pub whole : ahead hello ≡ host_hello
+  pub whole : ahead hello ≡ host_hello hello.password
   pub sent : hello.sent ≡ 0
 
 -- The handshake is heard, and has no fault. The link neither failed nor ended.
@@ -64,7 +69,7 @@ pub record IsHearing (old now : LinkState) (hello : HostTalk) : Type 0 where
 
 -- All that was to be said by now was said.
 abbrev pub AllIsSaid : HostTalk → Type 0
-AllIsSaid hello = (stream : List ℕ) → HasHeard hello stream → fault_of (ahead hello) ≡ None → drop hello.sent (said_to_host stream) ≡ []
+AllIsSaid hello = (stream : List ℕ) → HasHeard hello stream → fault_of (ahead hello) ≡ None → drop hello.sent (said_to_host hello.password stream) ≡ []
 
 -- The handshake is whole, and all was said.
 pub record IsHeard (old now : LinkState) (hello : HostTalk) (joined : Joined) : Type 0 where
@@ -73,7 +78,7 @@ pub record IsHeard (old now : LinkState) (hello : HostTalk) (joined : Joined) : 
   pub said : AllIsSaid hello
 
 -- The first messages are told. The link neither failed nor ended.
-pub record IsTelling (old now : LinkState) (joined : Joined) (messages : List ℕ) (given : ℕ) : Type 0 where
-  pub so_far : TellsSoFar old now joined messages given
+pub record IsTelling (password : Option (List ℕ)) (old now : LinkState) (joined : Joined) (messages : List ℕ) (given : ℕ) : Type 0 where
+  pub so_far : TellsSoFar password old now joined messages given
   pub failed : now.failed ≡ old.failed
   pub ended : now.ended ≡ old.ended

@@ -46,8 +46,9 @@ fn take_byte<L: Link>(link: &mut L) -> Result<Option<u8>, Fault>
 /// Gives as much as the link takes now of what is to be said to the host.
 pub(crate) fn say<L: Link>(link: &mut L, hello: &mut HostHello) -> Result<(), Fault>
     requires { 0 < length (to_send hello.old) }
+    ensures password { hello.new.password ≡ hello.old.password }
     ensures so_far { (start : LinkState) → HearsSoFar start (L.state link.old) hello.old → HearsSoFar start (L.state link.new) hello.new }
-    ensures keeps { (start : LinkState) → IsHearing start (L.state link.old) hello.old → MatchResult result (λ _. IsHearing start (L.state link.new) hello.new) (λ fault. FailsAs fault start (L.state link.new)) }
+    ensures keeps { (start : LinkState) → IsHearing start (L.state link.old) hello.old → MatchResult result (λ _. IsHearing start (L.state link.new) hello.new) (λ fault. FailsAs hello.old.password fault start (L.state link.new)) }
 {
     let count = give_some(link, hello.out())?;
     hello.sent(count);
@@ -57,8 +58,9 @@ pub(crate) fn say<L: Link>(link: &mut L, hello: &mut HostHello) -> Result<(), Fa
 /// Takes the next byte of the host's handshake, if it has come.
 pub(crate) fn hear<L: Link>(link: &mut L, hello: &mut HostHello) -> Result<(), Fault>
     requires { wants_more (ahead hello.old) ≡ true }
+    ensures password { hello.new.password ≡ hello.old.password }
     ensures so_far { (start : LinkState) → HearsSoFar start (L.state link.old) hello.old → HearsSoFar start (L.state link.new) hello.new }
-    ensures keeps { (start : LinkState) → IsHearing start (L.state link.old) hello.old → MatchResult result (λ _. IsHearing start (L.state link.new) hello.new) (λ fault. FailsAs fault start (L.state link.new)) }
+    ensures keeps { (start : LinkState) → IsHearing start (L.state link.old) hello.old → MatchResult result (λ _. IsHearing start (L.state link.new) hello.new) (λ fault. FailsAs hello.old.password fault start (L.state link.new)) }
 {
     let taken = take_byte(link)?;
     let Some(byte) = taken else {

@@ -1,6 +1,6 @@
 //! Joining a host.
 
-ghost use Rattle.std.specs.Prelude.{◌≡◌, ◌≤◌, true, false, IfOk, IfErr, MatchResult, OnOk, length};
+ghost use Rattle.std.specs.Prelude.{◌≡◌, ◌≤◌, ℕ, true, false, List, Option, IfOk, IfErr, MatchResult, OnOk, length};
 ghost use Rattle.rfb_wire.specs.Handshake.{Joined};
 ghost use Rattle.link.specs.Joins.{FailsAs, Joins, LinkFails, first_messages};
 ghost use Rattle.link.specs.Links.{LinkState};
@@ -12,6 +12,7 @@ use fault::Fault;
 use rfb_wire::Joined;
 use std::snapshot::Snapshot;
 use std::sync::Wait;
+use vnc_auth::Password;
 
 /// What has a join go on until the host is joined or a fault comes, as `join_on` does. It is lent the join and nothing
 /// else that matters, so all that it can do is to call the steps.
@@ -19,10 +20,11 @@ pub trait JoinsOn<L: Link> {
     /// Joins on to the end.
     fn join_on(&self, joining: &mut Joining<'_, L>) -> Result<Joined, Fault>
         requires { (joining.old.is_heard ≡ false) × IsUnheard joining.old.hello }
-        ensures joined { IfOk result (λ joined. Joins (L.state joining.old.link.now) (L.state joining.new.link.now) joined) }
-        ensures err { IfErr result (λ fault. FailsAs fault (L.state joining.old.link.now) (L.state joining.new.link.now)) }
+        ensures joined { IfOk result (λ joined. Joins joining.old.hello.password (L.state joining.old.link.now) (L.state joining.new.link.now) joined) }
+        ensures err { IfErr result (λ fault. FailsAs joining.old.hello.password fault (L.state joining.old.link.now) (L.state joining.new.link.now)) }
         ensures same { joining.new.link.ghost_name ≡ joining.old.link.ghost_name }
-        ensures first { joining.new.first ≡ joining.old.first };
+        ensures first { joining.new.first ≡ joining.old.first }
+        ensures password { joining.new.hello.password ≡ joining.old.hello.password };
 }
 
 /// Has the host's handshake heard, up to its end and no byte further, and the client's side given.
@@ -30,10 +32,11 @@ fn hear_on<L: Link, R: Wait>(rt: &R, joining: &mut Joining<'_, L>) -> Result<Joi
     requires { (joining.old.is_heard ≡ false) × IsUnheard joining.old.hello }
     ensures heard { IfOk result (λ joined. IsHeard (L.state joining.old.link.now) (L.state joining.new.link.now) joining.new.hello joined) }
     ensures size { IfOk result (λ joined. (joined.w ≤ 4096) × (joined.h ≤ 4096)) }
-    ensures err { IfErr result (λ fault. FailsAs fault (L.state joining.old.link.now) (L.state joining.new.link.now)) }
+    ensures err { IfErr result (λ fault. FailsAs joining.old.hello.password fault (L.state joining.old.link.now) (L.state joining.new.link.now)) }
     ensures hears { joining.new.is_heard ≡ false }
     ensures same { joining.new.link.ghost_name ≡ joining.old.link.ghost_name }
     ensures first { joining.new.first ≡ joining.old.first }
+    ensures password { joining.new.hello.password ≡ joining.old.hello.password }
 {
     for _ in rt.forever() {
         if joining.is_owing() {
@@ -51,10 +54,11 @@ fn hear_on<L: Link, R: Wait>(rt: &R, joining: &mut Joining<'_, L>) -> Result<Joi
 /// Has the first messages told to their end.
 fn tell_on<L: Link, R: Wait>(rt: &R, joining: &mut Joining<'_, L>) -> Result<(), Fault>
     requires { joining.old.is_heard ≡ true }
-    ensures tells { (start : LinkState) (joined : Joined) → IsTelling start (L.state joining.old.link.now) joined joining.old.messages joining.old.given → MatchResult result (λ _. IsTelling start (L.state joining.new.link.now) joined joining.new.messages joining.new.given) (λ fault. LinkFails fault start (L.state joining.new.link.now)) }
+    ensures tells { (password : Option (List ℕ)) (start : LinkState) (joined : Joined) → IsTelling password start (L.state joining.old.link.now) joined joining.old.messages joining.old.given → MatchResult result (λ _. IsTelling password start (L.state joining.new.link.now) joined joining.new.messages joining.new.given) (λ fault. LinkFails fault start (L.state joining.new.link.now)) }
     ensures whole { OnOk result (length joining.new.messages ≤ joining.new.given) }
     ensures same { joining.new.link.ghost_name ≡ joining.old.link.ghost_name }
     ensures first { joining.new.first ≡ joining.old.first }
+    ensures password { joining.new.hello.password ≡ joining.old.hello.password }
 {
     for _ in rt.forever() {
         if joining.is_told() {
@@ -68,10 +72,11 @@ fn tell_on<L: Link, R: Wait>(rt: &R, joining: &mut Joining<'_, L>) -> Result<(),
 /// Has the join go on until the host is joined or a fault comes. It is lent the join and nothing else that matters.
 pub fn join_on<L: Link, R: Wait>(rt: &R, joining: &mut Joining<'_, L>) -> Result<Joined, Fault>
     requires { (joining.old.is_heard ≡ false) × IsUnheard joining.old.hello }
-    ensures joined { IfOk result (λ joined. Joins (L.state joining.old.link.now) (L.state joining.new.link.now) joined) }
-    ensures err { IfErr result (λ fault. FailsAs fault (L.state joining.old.link.now) (L.state joining.new.link.now)) }
+    ensures joined { IfOk result (λ joined. Joins joining.old.hello.password (L.state joining.old.link.now) (L.state joining.new.link.now) joined) }
+    ensures err { IfErr result (λ fault. FailsAs joining.old.hello.password fault (L.state joining.old.link.now) (L.state joining.new.link.now)) }
     ensures same { joining.new.link.ghost_name ≡ joining.old.link.ghost_name }
     ensures first { joining.new.first ≡ joining.old.first }
+    ensures password { joining.new.hello.password ≡ joining.old.hello.password }
 {
     let joined = hear_on(rt, joining)?;
     joining.begin_messages(&joined);
@@ -80,12 +85,16 @@ pub fn join_on<L: Link, R: Wait>(rt: &R, joining: &mut Joining<'_, L>) -> Result
 }
 
 /// The same as `join_host`, with `by` in place of a handle: no other call in it waits, so it has none itself.
-pub fn join_by<L: Link, F: JoinsOn<L>>(by: &F, link: &mut L) -> Result<Joined, Fault>
-    ensures joined { IfOk result (λ joined. Joins (L.state link.old) (L.state link.new) joined) }
-    ensures err { IfErr result (λ fault. FailsAs fault (L.state link.old) (L.state link.new)) }
+pub fn join_by<L: Link, F: JoinsOn<L>>(
+    by: &F,
+    password: Option<Password>,
+    link: &mut L,
+) -> Result<Joined, Fault>
+    ensures joined { IfOk result (λ joined. Joins password (L.state link.old) (L.state link.new) joined) }
+    ensures err { IfErr result (λ fault. FailsAs password fault (L.state link.old) (L.state link.new)) }
 {
     let first = Snapshot::of(&*link);
-    let mut joining = Joining::new(&first, link);
+    let mut joining = Joining::new(password, &first, link);
     by.join_on(&mut joining)
 }
 
@@ -101,14 +110,19 @@ impl<'a, L: Link, R: Wait> JoinsOn<L> for Waiting<'a, R> {
     }
 }
 
-/// Joins the host at the other end: takes its handshake and no byte further, gives the client's side of it, and then
-/// asks for the format of `Format::HOST`, for the encodings CopyRect, Hextile, RRE and Raw, and for the whole screen.
+/// Joins the host at the other end, of which this password may be known: takes its handshake and no byte further, gives
+/// the client's side of it, and then asks for the format of `Format::HOST`, for the encodings CopyRect, Hextile, RRE
+/// and Raw, and for the whole screen.
 ///
 /// It fails with `LinkFailed` where the link failed in the meantime, and with `LinkEnded` where the link ended before
 /// the last byte was given. Any other fault is one of the host's handshake.
-pub fn join_host<L: Link, R: Wait>(rt: &R, link: &mut L) -> Result<Joined, Fault>
-    ensures joined { IfOk result (λ joined. Joins (L.state link.old) (L.state link.new) joined) }
-    ensures err { IfErr result (λ fault. FailsAs fault (L.state link.old) (L.state link.new)) }
+pub fn join_host<L: Link, R: Wait>(
+    rt: &R,
+    password: Option<Password>,
+    link: &mut L,
+) -> Result<Joined, Fault>
+    ensures joined { IfOk result (λ joined. Joins password (L.state link.old) (L.state link.new) joined) }
+    ensures err { IfErr result (λ fault. FailsAs password fault (L.state link.old) (L.state link.new)) }
 {
-    join_by(&Waiting { rt }, link)
+    join_by(&Waiting { rt }, password, link)
 }

@@ -1,6 +1,6 @@
 //! The join of one host: its link, and how far the two handshakes are, in the hands of steps that take no handle.
 
-ghost use Rattle.std.specs.Prelude.{◌≡◌, ◌<◌, ◌≤◌, ◌≢◌, Bool, true, false, Some, [], MatchResult, length};
+ghost use Rattle.std.specs.Prelude.{◌≡◌, ◌<◌, ◌≤◌, ◌≢◌, ℕ, Bool, true, false, List, Option, Some, [], MatchResult, length};
 ghost use Rattle.byte_reading.specs.Reading.{wants_more, whole_of};
 ghost use Rattle.rfb_wire.specs.Handshake.{Joined};
 ghost use Rattle.rfb_wire.specs.Joining.{ahead, to_send};
@@ -14,6 +14,7 @@ use crate::telling::{MESSAGES_LEN, messages_of, tell};
 use fault::Fault;
 use rfb_wire::{HostHello, Joined};
 use std::snapshot::Snapshot;
+use vnc_auth::Password;
 
 /// A host's link, what was heard of its handshake, and how much was given of what it is told.
 ///
@@ -35,16 +36,17 @@ pub struct Joining<'a, L: Link> {
 }
 
 impl<'a, L: Link> Joining<'a, L> {
-    /// A join that begins, over a link that stands as it did at the beginning.
-    pub fn new(first: &'a Snapshot<L>, link: &'a mut L) -> Self
+    /// A join that begins, of a host with this password, over a link that stands as it did at the beginning.
+    pub fn new(password: Option<Password>, first: &'a Snapshot<L>, link: &'a mut L) -> Self
         requires { first.now.value ≡ link.old }
         ensures link { (result.link.now ≡ link.old) × (result.link.ghost_name ≡ link.entry.ghost_name) }
         ensures begins { (result.is_heard ≡ false) × IsUnheard result.hello }
         ensures first { result.first ≡ first.entry }
+        ensures password { result.hello.password ≡ password }
     {
         Joining {
             link,
-            hello: HostHello::new(),
+            hello: HostHello::new(password),
             is_heard: false,
             messages: [0; MESSAGES_LEN],
             given: 0,
@@ -54,7 +56,7 @@ impl<'a, L: Link> Joining<'a, L> {
 
     /// It does nothing. Its clause says what is true of the join at every moment.
     pub fn so_far(&self)
-        ensures { ∥ JoinsSoFar (L.state self.now.first.now.value) (L.state self.now.link.now) ∥₁ }
+        ensures { ∥ JoinsSoFar self.now.hello.password (L.state self.now.first.now.value) (L.state self.now.link.now) ∥₁ }
     {}
 
     /// Whether something is to be said to the host that wasn't given yet.
@@ -76,10 +78,11 @@ impl<'a, L: Link> Joining<'a, L> {
     pub(crate) fn say(&mut self) -> Result<(), Fault>
         requires hears { self.old.is_heard ≡ false }
         requires owes { 0 < length (to_send self.old.hello) }
-        ensures keeps { (start : LinkState) → IsHearing start (L.state self.old.link.now) self.old.hello → MatchResult result (λ _. IsHearing start (L.state self.new.link.now) self.new.hello) (λ fault. FailsAs fault start (L.state self.new.link.now)) }
+        ensures keeps { (start : LinkState) → IsHearing start (L.state self.old.link.now) self.old.hello → MatchResult result (λ _. IsHearing start (L.state self.new.link.now) self.new.hello) (λ fault. FailsAs self.old.hello.password fault start (L.state self.new.link.now)) }
         ensures hears { self.new.is_heard ≡ false }
         ensures same { self.new.link.ghost_name ≡ self.old.link.ghost_name }
         ensures first { self.new.first ≡ self.old.first }
+        ensures password { self.new.hello.password ≡ self.old.hello.password }
     {
         say(self.link, &mut self.hello)
     }
@@ -88,10 +91,11 @@ impl<'a, L: Link> Joining<'a, L> {
     pub(crate) fn hear(&mut self) -> Result<(), Fault>
         requires hears { self.old.is_heard ≡ false }
         requires open { wants_more (ahead self.old.hello) ≡ true }
-        ensures keeps { (start : LinkState) → IsHearing start (L.state self.old.link.now) self.old.hello → MatchResult result (λ _. IsHearing start (L.state self.new.link.now) self.new.hello) (λ fault. FailsAs fault start (L.state self.new.link.now)) }
+        ensures keeps { (start : LinkState) → IsHearing start (L.state self.old.link.now) self.old.hello → MatchResult result (λ _. IsHearing start (L.state self.new.link.now) self.new.hello) (λ fault. FailsAs self.old.hello.password fault start (L.state self.new.link.now)) }
         ensures hears { self.new.is_heard ≡ false }
         ensures same { self.new.link.ghost_name ≡ self.old.link.ghost_name }
         ensures first { self.new.first ≡ self.old.first }
+        ensures password { self.new.hello.password ≡ self.old.hello.password }
     {
         hear(self.link, &mut self.hello)
     }
@@ -105,6 +109,7 @@ impl<'a, L: Link> Joining<'a, L> {
         ensures tells { (self.new.is_heard ≡ true) × (self.new.given ≡ 0) × (self.new.messages ≡ first_messages joined.now) }
         ensures link { (self.new.link.now ≡ self.old.link.now) × (self.new.link.ghost_name ≡ self.old.link.ghost_name) }
         ensures first { self.new.first ≡ self.old.first }
+        ensures password { self.new.hello.password ≡ self.old.hello.password }
     {
         self.messages = messages_of(joined.w, joined.h);
         self.given = 0;
@@ -123,10 +128,11 @@ impl<'a, L: Link> Joining<'a, L> {
     pub(crate) fn tell(&mut self) -> Result<(), Fault>
         requires tells { self.old.is_heard ≡ true }
         requires part { self.old.given < length self.old.messages }
-        ensures keeps { (start : LinkState) (joined : Joined) → IsTelling start (L.state self.old.link.now) joined self.old.messages self.old.given → MatchResult result (λ _. IsTelling start (L.state self.new.link.now) joined self.new.messages self.new.given) (λ fault. LinkFails fault start (L.state self.new.link.now)) }
+        ensures keeps { (password : Option (List ℕ)) (start : LinkState) (joined : Joined) → IsTelling password start (L.state self.old.link.now) joined self.old.messages self.old.given → MatchResult result (λ _. IsTelling password start (L.state self.new.link.now) joined self.new.messages self.new.given) (λ fault. LinkFails fault start (L.state self.new.link.now)) }
         ensures tells { self.new.is_heard ≡ true }
         ensures same { self.new.link.ghost_name ≡ self.old.link.ghost_name }
         ensures first { self.new.first ≡ self.old.first }
+        ensures password { self.new.hello.password ≡ self.old.hello.password }
     {
         tell(self.link, &self.messages, &mut self.given)
     }

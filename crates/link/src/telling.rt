@@ -1,6 +1,6 @@
 //! Tells a host the first messages, once its handshake is whole.
 
-ghost use Rattle.std.specs.Prelude.{◌≡◌, ◌<◌, ◌≤◌, MatchResult, length};
+ghost use Rattle.std.specs.Prelude.{◌≡◌, ◌<◌, ◌≤◌, ℕ, List, Option, MatchResult, length};
 ghost use Rattle.rfb_wire.specs.Handshake.{Joined};
 ghost use Rattle.link.specs.Joins.{LinkFails, first_messages};
 ghost use Rattle.link.specs.Links.{LinkState};
@@ -62,8 +62,8 @@ pub(crate) fn messages_of(width: u64, height: u64) -> [u8; MESSAGES_LEN]
 /// Gives as much as the link takes now of these messages, of which so many bytes were given.
 pub(crate) fn tell<L: Link>(link: &mut L, messages: &[u8], given: &mut usize) -> Result<(), Fault>
     requires { given.old < length messages.now }
-    ensures so_far { (start : LinkState) (joined : Joined) → TellsSoFar start (L.state link.old) joined messages.now given.old → TellsSoFar start (L.state link.new) joined messages.now given.new }
-    ensures keeps { (start : LinkState) (joined : Joined) → IsTelling start (L.state link.old) joined messages.now given.old → MatchResult result (λ _. IsTelling start (L.state link.new) joined messages.now given.new) (λ fault. LinkFails fault start (L.state link.new)) }
+    ensures so_far { (password : Option (List ℕ)) (start : LinkState) (joined : Joined) → TellsSoFar password start (L.state link.old) joined messages.now given.old → TellsSoFar password start (L.state link.new) joined messages.now given.new }
+    ensures keeps { (password : Option (List ℕ)) (start : LinkState) (joined : Joined) → IsTelling password start (L.state link.old) joined messages.now given.old → MatchResult result (λ _. IsTelling password start (L.state link.new) joined messages.now given.new) (λ fault. LinkFails fault start (L.state link.new)) }
 {
     let (_, left) = messages.split_at(*given);
     let count = give_some(link, left)?;

@@ -1,6 +1,6 @@
 -- What shows that a run was run says the same of it as `run_all` does, of hosts that come over any links.
 use Rattle.std.proofs.Common.{◌≡◌, ◌≤◌, ℕ, List, [], ◌∷◌, subst, sym}
-use Rattle.std.specs.Prelude.{Result, ⊤}
+use Rattle.std.specs.Prelude.{None, Result, ⊤}
 use Rattle.fault.specs.declared.kinds.Fault.{Fault}
 use Rattle.raster.specs.Update.{Update}
 use Rattle.link.specs.Links.{LinkState}
@@ -31,7 +31,7 @@ any_run w h comes result link links old new run = record {
 }
 
 -- A run over its room, whose first host was joined over the link that was read then, and fits.
-pub reflected : (course : Course) (w h : ℕ) (comes : LinkState → Type 0) → course.room_width ≡ w → course.room_height ≡ h → ∥ Joins unused course.link course.host ∥₁
+pub reflected : (course : Course) (w h : ℕ) (comes : LinkState → Type 0) → course.room_width ≡ w → course.room_height ≡ h → ∥ Joins None unused course.link course.host ∥₁
     → (course.host.w ≤ course.room_width) × (course.host.h ≤ course.room_height) → HasRun w h comes course.answer course.link course.links [] course.updates → AreToldInTurn w h [] course.told course.taken → IsReflected course
 reflected course w h comes wide high joins fits run told =
     let all = any_run w h comes course.answer course.link course.links [] course.updates run in

@@ -1,5 +1,5 @@
 -- What a run was, for whoever is handed what shows that it was run (own).
-use Rattle.std.specs.Prelude.{◌≤◌, ℕ, List, [], Result, Ok, ⊤}
+use Rattle.std.specs.Prelude.{◌≤◌, ℕ, List, [], None, Result, Ok, ⊤}
 use Rattle.fault.specs.declared.kinds.Fault.{Fault}
 use Rattle.raster.specs.Update.{Update}
 use Rattle.rfb_wire.specs.Handshake.{Joined}
@@ -36,7 +36,7 @@ pub record Course : Type 0 where
 -- to black between two hosts. And the hosts were told one after another, each a beginning of what is said for the input
 -- that was taken for it.
 pub record IsReflected (course : Course) : Type 0 where
-  pub joins : ∥ Joins unused course.link course.host ∥₁
+  pub joins : ∥ Joins None unused course.link course.host ∥₁
   pub fits : (course.host.w ≤ course.room_width) × (course.host.h ≤ course.room_height)
   pub run : HasRun course.room_width course.room_height (λ _. ⊤) course.answer course.link course.links [] course.updates
   pub told : AreToldInTurn course.room_width course.room_height [] course.told course.taken

@@ -2,7 +2,7 @@
 
 ghost use Rattle.std.specs.Prelude.{◌≡◌, ◌+◌, ◌≤◌, ◌&&◌, ◌||◌, ◌==◌, nat_lt, nat_le, [], ◌∷◌, slice_index, length};
 ghost use Rattle.std.specs.Int.{w16, w32, from_be_bytes};
-ghost use Rattle.rfb_wire.specs.declared.host_field.TheConstants.{MOST_KEPT, NUMBER_LEN};
+ghost use Rattle.rfb_wire.specs.declared.host_field.TheConstants.{COUNT_LEN, MOST_KEPT, NUMBER_LEN};
 ghost use Rattle.rfb_wire.specs.declared.version.TheConstants.{VERSION_LEN};
 ghost use Rattle.rfb_wire.specs.Handshake.{is_host_version, number_at, has_number_at, is_size};
 
@@ -62,6 +62,14 @@ pub(crate) fn is_accepted(version: &[u8]) -> bool
         && has_number_at(version, 8)
         && version[11] == b'\n'
         && is_from_3_8(number_at(version, 4), number_at(version, 8))
+}
+
+/// The number in the one byte of a field.
+pub(crate) fn count_in(field: &[u8]) -> u8
+    requires { length field.now ≡ COUNT_LEN }
+    ensures { result ≡ slice_index field.now 0 }
+{
+    field[0]
 }
 
 /// The number in the four bytes of a field.

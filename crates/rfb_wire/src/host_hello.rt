@@ -2,15 +2,17 @@
 
 use crate::host_talk::HostTalk;
 use crate::joined::Joined;
-use crate::version::SAID_TO_HOST;
 use fault::Fault;
 use std::marker::Model;
+use vnc_auth::Password;
 
 /// A host's handshake in mid-course: what has come of it, and what is to be said to it. It takes no memory.
 ///
 /// Any version from 3.8 on is accepted, and answered by 3.8. Security type None is chosen wherever it stands in the
-/// host's list, and a shared session is asked for. The host's own pixel format is ignored. The first 255 bytes of its
-/// name are kept. After a fault no byte is taken, each feed answers the same fault, and there is nothing to say.
+/// host's list. Where it isn't there, VNC Authentication is, if there is a password; so a host that asks for none is
+/// never told what was made of it. A shared session is asked for. The host's own pixel format is ignored. The first 255
+/// bytes of its name are kept. After a fault no byte is taken, each feed answers the same fault, and there is nothing
+/// to say.
 #[derive(Drop)]
 pub struct HostHello {
     talk: HostTalk,
@@ -31,16 +33,17 @@ impl HostHello {
     ghost use Rattle.std.specs.Prelude.{◌≡◌, ◌≤◌, ◌+◌, ℕ, List, [], ◌++◌, None, length, take, drop, option_map, MatchResult};
     ghost use Rattle.byte_reading.specs.Reading.{Feeds, taken, fault_of, whole_of};
     ghost use Rattle.rfb_wire.specs.Handshake.{host_hello, said_to_host};
-    ghost use Rattle.rfb_wire.specs.Joining.{ahead, to_send, HasHeard};
+    ghost use Rattle.rfb_wire.specs.Joining.{ahead, to_send, HasHeard, IsSameTalk};
 
-    /// A handshake of which nothing has come.
-    pub fn new() -> HostHello
-        ensures ahead { ahead result ≡ host_hello }
+    /// A handshake of which nothing has come, with a host that has this password, if it is known.
+    pub fn new(password: Option<Password>) -> HostHello
+        ensures ahead { ahead result ≡ host_hello password }
+        ensures password { result.password ≡ password }
         ensures heard { HasHeard result [] }
         ensures sent { result.sent ≡ 0 }
     {
         HostHello {
-            talk: HostTalk::new(),
+            talk: HostTalk::new(password),
         }
     }
 
@@ -61,7 +64,7 @@ impl HostHello {
     pub fn feed(&mut self, piece: &[u8]) -> Result<usize, Fault>
         ensures reads { Feeds (ahead self.old) (ahead self.new) piece.now result }
         ensures heard { (stream : List ℕ) → HasHeard self.old stream → HasHeard self.new (stream ++ take (taken (ahead self.old) piece.now) piece.now) }
-        ensures sent { self.new.sent ≡ self.old.sent }
+        ensures same { IsSameTalk self.old self.new }
     {
         for (used, byte) in piece.iter().enumerate() {
             if !self.talk.wants_more() {
@@ -75,12 +78,12 @@ impl HostHello {
     /// What is to be sent to the host next. There is nothing after a fault.
     pub fn out(&self) -> &[u8]
         ensures value { result.now ≡ to_send self.now }
-        ensures said { (stream : List ℕ) → HasHeard self.now stream → fault_of (ahead self.now) ≡ None → result.now ≡ drop self.now.sent (said_to_host stream) }
+        ensures said { (stream : List ℕ) → HasHeard self.now stream → fault_of (ahead self.now) ≡ None → result.now ≡ drop self.now.sent (said_to_host self.now.password stream) }
     {
         if self.talk.fault().is_some() {
             return &[];
         }
-        &SAID_TO_HOST[self.talk.sent..self.talk.stage.said()]
+        &self.talk.said.as_slice()[self.talk.sent..]
     }
 
     /// This many bytes of `out` have been sent.

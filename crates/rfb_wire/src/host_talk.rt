@@ -1,14 +1,25 @@
 //! A host's handshake, field by field.
 
+ghost use Rattle.std.specs.Prelude.{◌≡◌, ℕ, List, Option, is_some};
+ghost use Rattle.rfb_wire.specs.Handshake.{chosen};
+
 use crate::host_field::{
-    COUNT_LEN, FORMAT_LEN, MOST_KEPT, NUMBER_LEN, SIZE_LEN, is_accepted, is_size, kept, number_in,
-    size_at,
+    COUNT_LEN, FORMAT_LEN, MOST_KEPT, NUMBER_LEN, SIZE_LEN, count_in, is_accepted, is_size, kept,
+    number_in, size_at,
 };
 use crate::joined::Joined;
-use crate::security_type::NONE;
-use crate::version::VERSION_LEN;
+use crate::security_type::{NONE, VNC_AUTHENTICATION};
+use crate::version::{VERSION, VERSION_LEN};
 use arrayvec::ArrayVec;
 use fault::{Fault, Reason};
+use vnc_auth::{CHALLENGE_LEN, Password};
+
+/// Shared-flag 1, by which a client asks that others stay connected (RFC 6143, 7.3.1).
+const SHARED: u8 = 1;
+
+/// The most bytes that are said to a host in a handshake: the version, the choice of a security type, the answer to a
+/// challenge, and the shared-flag (RFC 6143, 7.1.1, 7.1.2, 7.2.2 and 7.3.1).
+const MOST_SAID: usize = 30;
 
 /// Which field of the handshake is being read, or how it ended.
 #[derive(Clone, Copy)]
@@ -23,6 +34,8 @@ pub(crate) enum Stage {
     Reason,
     /// Its security types (7.1.2).
     Types,
+    /// The challenge of VNC Authentication, where that type was chosen (7.2.2).
+    Challenge,
     /// The outcome of the handshake, SecurityResult (7.1.3).
     SecurityResult,
     /// The size of its screen, first in ServerInit (7.3.2).
@@ -41,7 +54,7 @@ pub(crate) enum Stage {
     BadVersion,
     /// The host offers no security type. The field holds the reason.
     Refused,
-    /// None is not among the security types.
+    /// No security type among them can be chosen.
     NoNone,
     /// SecurityResult isn't OK.
     Failed,
@@ -69,26 +82,17 @@ impl Stage {
     }
 }
 
-impl Stage {
-    ghost use Rattle.std.specs.Prelude.{◌≡◌, ◌≤◌, length};
-    ghost use Rattle.rfb_wire.specs.Joining.{said};
-
-    /// How many bytes must have been said by now.
-    pub(crate) fn said(&self) -> usize
-        ensures value { result ≡ length (said self.now) }
-        ensures most { result ≤ 14 }
-    {
-        match self {
-            Stage::Version | Stage::BadVersion => 0,
-            Stage::TypeCount
-            | Stage::ReasonLength
-            | Stage::Reason
-            | Stage::Refused
-            | Stage::Types
-            | Stage::NoNone => 12,
-            Stage::SecurityResult | Stage::Failed => 13,
-            _ => 14,
-        }
+/// The security type that is chosen of those that a host offers, if there is one: None before VNC Authentication, which
+/// takes a password.
+fn chosen(types: &[u8], has_password: bool) -> Option<u8>
+    ensures { (password : Option (List ℕ)) → is_some password ≡ has_password → result ≡ chosen password types.now }
+{
+    if types.contains(&NONE) {
+        Some(NONE)
+    } else if has_password && types.contains(&VNC_AUTHENTICATION) {
+        Some(VNC_AUTHENTICATION)
+    } else {
+        None
     }
 }
 
@@ -106,7 +110,11 @@ pub(crate) struct HostTalk {
     pub(crate) h: u64,
     /// How many bytes of the name are left that aren't kept.
     pub(crate) rest: u32,
-    /// How many bytes of what is said to a host were sent.
+    /// The host's password, if it is known.
+    pub(crate) password: Option<Password>,
+    /// What must have been said by now.
+    pub(crate) said: ArrayVec<u8, MOST_SAID>,
+    /// How many bytes of it were sent.
     pub(crate) sent: usize,
 }
 
@@ -115,11 +123,14 @@ impl HostTalk {
     ghost use Rattle.byte_reading.specs.Reading.{wants_more, fault_of, whole_of};
     ghost use Rattle.rfb_wire.specs.declared.host_field.TheConstants.{COUNT_LEN, NUMBER_LEN, SIZE_LEN};
     ghost use Rattle.rfb_wire.specs.declared.version.TheConstants.{VERSION_LEN};
-    ghost use Rattle.rfb_wire.specs.Joining.{ahead, said, is_field, FitsStage, IsSound, IsJudged, GoesOnAlike, Steps};
+    ghost use Rattle.rfb_wire.specs.declared.host_talk.TheConstants.{MOST_SAID};
+    ghost use Rattle.vnc_auth.specs.declared.challenge.TheConstants.{CHALLENGE_LEN};
+    ghost use Rattle.vnc_auth.specs.Answer.{answer_of};
+    ghost use Rattle.rfb_wire.specs.Joining.{ahead, is_field, FitsStage, SaysWithin, IsSound, IsJudged, GoesOnAlike, IsSameTalk, Steps};
 
     /// A handshake of which nothing has come.
-    pub(crate) fn new() -> HostTalk
-        ensures { result ≡ record { stage = Stage.Version; field = record { items = [] }; wanted = VERSION_LEN; w = 0; h = 0; rest = 0; sent = 0 } }
+    pub(crate) fn new(password: Option<Password>) -> HostTalk
+        ensures { result ≡ record { stage = Stage.Version; field = record { items = [] }; wanted = VERSION_LEN; w = 0; h = 0; rest = 0; password = password; said = record { items = [] }; sent = 0 } }
     {
         HostTalk {
             stage: Stage::Version,
@@ -128,6 +139,8 @@ impl HostTalk {
             w: 0,
             h: 0,
             rest: 0,
+            password,
+            said: ArrayVec::new(),
             sent: 0,
         }
     }
@@ -179,14 +192,24 @@ impl HostTalk {
         self.wanted = wanted;
     }
 
-    /// Judges the version. After one from 3.8 on the security types are read.
+    /// These bytes have to be said next.
+    fn say(&mut self, bytes: &[u8])
+        requires { length self.old.said.items + length bytes.now ≤ MOST_SAID }
+        ensures { self.new ≡ record self.old { said = record { items = self.old.said.items ++ bytes.now } } }
+    {
+        // There is room for all that is said.
+        let _ = self.said.try_extend_from_slice(bytes);
+    }
+
+    /// Judges the version. After one from 3.8 on the version is answered, and the security types are read.
     fn judge_version(&mut self)
         requires stage { self.old.stage ≡ Stage.Version }
         requires whole { length self.old.field.items ≡ VERSION_LEN }
-        requires within { self.old.sent ≤ length (said self.old.stage) }
+        requires says { SaysWithin self.old }
         ensures { IsJudged self.old self.new }
     {
         if is_accepted(self.field.as_slice()) {
+            self.say(&VERSION);
             self.begin(Stage::TypeCount, COUNT_LEN);
         } else {
             self.stage = Stage::BadVersion;
@@ -197,12 +220,14 @@ impl HostTalk {
     fn judge_type_count(&mut self)
         requires stage { self.old.stage ≡ Stage.TypeCount }
         requires whole { length self.old.field.items ≡ COUNT_LEN }
-        requires within { self.old.sent ≤ length (said self.old.stage) }
+        requires says { SaysWithin self.old }
         ensures { IsJudged self.old self.new }
     {
-        match self.field[0] {
-            0 => self.begin(Stage::ReasonLength, NUMBER_LEN),
-            count => self.begin(Stage::Types, usize::from(count)),
+        let count = count_in(self.field.as_slice());
+        if count == 0 {
+            self.begin(Stage::ReasonLength, NUMBER_LEN);
+        } else {
+            self.begin(Stage::Types, usize::from(count));
         }
     }
 
@@ -210,7 +235,7 @@ impl HostTalk {
     fn judge_reason_length(&mut self)
         requires stage { self.old.stage ≡ Stage.ReasonLength }
         requires whole { length self.old.field.items ≡ NUMBER_LEN }
-        requires within { self.old.sent ≤ length (said self.old.stage) }
+        requires says { SaysWithin self.old }
         ensures { IsJudged self.old self.new }
     {
         let kept = number_in(self.field.as_slice()).min(MOST_KEPT as u32) as usize;
@@ -220,28 +245,59 @@ impl HostTalk {
         }
     }
 
-    /// Judges the security types: type None has to be among them.
+    /// Judges the security types: one of them has to be chosen. After VNC Authentication its challenge is read.
     fn judge_types(&mut self)
         requires stage { self.old.stage ≡ Stage.Types }
         requires whole { length self.old.field.items ≡ self.old.wanted }
-        requires within { self.old.sent ≤ length (said self.old.stage) }
+        requires says { SaysWithin self.old }
         ensures { IsJudged self.old self.new }
     {
-        if self.field.as_slice().contains(&NONE) {
-            self.begin(Stage::SecurityResult, NUMBER_LEN);
-        } else {
-            self.stage = Stage::NoNone;
+        match chosen(self.field.as_slice(), self.password.is_some()) {
+            Some(NONE) => {
+                self.say(&[NONE]);
+                self.begin(Stage::SecurityResult, NUMBER_LEN);
+            }
+            Some(kind) => {
+                self.say(&[kind]);
+                self.begin(Stage::Challenge, CHALLENGE_LEN);
+            }
+            None => self.stage = Stage::NoNone,
         }
     }
 
-    /// Judges SecurityResult: 0 is OK.
+    /// The answer to the challenge that was read, which is kept nowhere but in what is said.
+    fn answer(&self, password: &Password) -> [u8; CHALLENGE_LEN]
+        requires { length self.now.field.items ≡ CHALLENGE_LEN }
+        ensures { result ≡ answer_of password.now self.now.field.items }
+    {
+        let mut challenge = [0; CHALLENGE_LEN];
+        challenge.copy_from_slice(self.field.as_slice());
+        password.answer(&challenge)
+    }
+
+    /// Answers the challenge. It is asked only where there is a password.
+    fn judge_challenge(&mut self)
+        requires stage { self.old.stage ≡ Stage.Challenge }
+        requires whole { length self.old.field.items ≡ CHALLENGE_LEN }
+        requires says { SaysWithin self.old }
+        ensures { IsJudged self.old self.new }
+    {
+        if let Some(password) = self.password {
+            let answer = self.answer(&password);
+            self.say(&answer);
+        }
+        self.begin(Stage::SecurityResult, NUMBER_LEN);
+    }
+
+    /// Judges SecurityResult: 0 is OK. After that a shared session is asked for.
     fn judge_outcome(&mut self)
         requires stage { self.old.stage ≡ Stage.SecurityResult }
         requires whole { length self.old.field.items ≡ NUMBER_LEN }
-        requires within { self.old.sent ≤ length (said self.old.stage) }
+        requires says { SaysWithin self.old }
         ensures { IsJudged self.old self.new }
     {
         if number_in(self.field.as_slice()) == 0 {
+            self.say(&[SHARED]);
             self.begin(Stage::Size, SIZE_LEN);
         } else {
             self.stage = Stage::Failed;
@@ -252,7 +308,7 @@ impl HostTalk {
     fn judge_size(&mut self)
         requires stage { self.old.stage ≡ Stage.Size }
         requires whole { length self.old.field.items ≡ SIZE_LEN }
-        requires within { self.old.sent ≤ length (said self.old.stage) }
+        requires says { SaysWithin self.old }
         ensures { IsJudged self.old self.new }
     {
         let field = self.field.as_slice();
@@ -270,7 +326,7 @@ impl HostTalk {
     fn judge_name_length(&mut self)
         requires stage { self.old.stage ≡ Stage.NameLength }
         requires whole { length self.old.field.items ≡ NUMBER_LEN }
-        requires within { self.old.sent ≤ length (said self.old.stage) }
+        requires says { SaysWithin self.old }
         ensures { IsJudged self.old self.new }
     {
         let length = number_in(self.field.as_slice());
@@ -287,7 +343,7 @@ impl HostTalk {
         requires field { is_field self.old.stage ≡ true }
         requires fits { FitsStage self.old.stage self.old.wanted self.old.rest (length self.old.field.items) }
         requires whole { length self.old.field.items ≡ self.old.wanted }
-        requires within { self.old.sent ≤ length (said self.old.stage) }
+        requires says { SaysWithin self.old }
         ensures { IsJudged self.old self.new }
     {
         match self.stage {
@@ -296,6 +352,7 @@ impl HostTalk {
             Stage::ReasonLength => self.judge_reason_length(),
             Stage::Reason => self.stage = Stage::Refused,
             Stage::Types => self.judge_types(),
+            Stage::Challenge => self.judge_challenge(),
             Stage::SecurityResult => self.judge_outcome(),
             Stage::Size => self.judge_size(),
             Stage::Format => self.begin(Stage::NameLength, NUMBER_LEN),
@@ -324,7 +381,7 @@ impl HostTalk {
         requires sound { IsSound self.old }
         ensures sound { IsSound self.new }
         ensures alike { GoesOnAlike (record self.old { field = record { items = self.old.field.items ++ byte ∷ [] } }) self.new }
-        ensures sent { self.new.sent ≡ self.old.sent }
+        ensures same { IsSameTalk self.old self.new }
     {
         self.field.push(byte);
         if self.field.len() == self.wanted {
@@ -338,7 +395,7 @@ impl HostTalk {
         requires wants { wants_more (ahead self.old) ≡ true }
         ensures sound { IsSound self.new }
         ensures steps { Steps self.old self.new byte }
-        ensures sent { self.new.sent ≡ self.old.sent }
+        ensures same { IsSameTalk self.old self.new }
     {
         match self.stage {
             Stage::Rest => self.pass(),

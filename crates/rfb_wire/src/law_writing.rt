@@ -1,6 +1,6 @@
 //! Laws about reading what is written, in both directions.
 
-ghost use Rattle.std.specs.Prelude.{◌≡◌, ◌≤◌, ◌<◌, ◌+◌, ◌^◌, ℕ, Bool, List, [], ◌∷◌, length};
+ghost use Rattle.std.specs.Prelude.{◌≡◌, ◌≤◌, ◌<◌, ◌+◌, ◌^◌, ℕ, Bool, List, [], ◌∷◌, ◌++◌, Option, None, length};
 ghost use Rattle.std.specs.List.{All};
 ghost use Rattle.pixel_format.specs.PixelFormat.{PixelFormat, IsAccepted};
 ghost use Rattle.byte_reading.specs.Reading.{Done, after, Spells};
@@ -34,8 +34,10 @@ pub fn server_messages_are_read()
 pub fn handshake_is_read()
     // A ServerInit is read as the screen and the name that it tells.
     ensures init { (w h : ℕ) (name : List ℕ) → 1 ≤ w → w ≤ 4096 → 1 ≤ h → h ≤ 4096 → length name ≤ 255 → Spells host_init (server_init w h name) (record { w = w; h = h; name = name }) }
-    // All that is said to a viewer is a host's whole handshake.
-    ensures viewer { (w h : ℕ) (name : List ℕ) → 1 ≤ w → w ≤ 4096 → 1 ≤ h → h ≤ 4096 → length name ≤ 255 → Spells host_hello (said_to_viewer w h name 14) (record { w = w; h = h; name = name }) }
-    // All that is said to a host, where its handshake is whole, is a viewer's whole handshake.
-    ensures host { (stream : List ℕ) (joined : Joined) → after host_hello stream ≡ Done joined → Spells viewer_hello (said_to_host stream) tt }
+    // All that is said to a viewer is a host's whole handshake, for one who has a password as well.
+    ensures viewer { (password : Option (List ℕ)) (w h : ℕ) (name : List ℕ) → 1 ≤ w → w ≤ 4096 → 1 ≤ h → h ≤ 4096 → length name ≤ 255 → Spells (host_hello password) (said_to_viewer w h name 14) (record { w = w; h = h; name = name }) }
+    // All that is said to a host, where its handshake is whole, is a viewer's whole handshake, if no password is known.
+    ensures host { (stream : List ℕ) (joined : Joined) → after (host_hello None) stream ≡ Done joined → Spells viewer_hello (said_to_host None stream) tt }
+    // What must have been said after some bytes begins what must have been said after more.
+    ensures begins { (password : Option (List ℕ)) (before more : List ℕ) → (rest : List ℕ) × (said_to_host password (before ++ more) ≡ said_to_host password before ++ rest) }
 {}

@@ -7,7 +7,7 @@ ghost use Rattle.rfb_wire.specs.declared.write.TheConstants.{BEFORE_NAME_LEN};
 ghost use Rattle.rfb_wire.specs.Greeting.{Greeting, IsPrepared, due, ahead, to_send};
 
 use crate::security_type::NONE;
-use crate::version::{SAID_TO_HOST, VERSION_LEN};
+use crate::version::{VERSION, VERSION_LEN};
 use crate::write::{BEFORE_INIT_LEN, BEFORE_NAME_LEN, write_handshake};
 use arrayvec::ArrayVec;
 use fault::Fault;
@@ -97,7 +97,7 @@ impl ViewerHello {
         ensures { result ≡ fault_of (ahead self.now) }
     {
         let begun = self.begun.as_slice();
-        if begun.len() >= VERSION_LEN && !begun.starts_with(&SAID_TO_HOST[..VERSION_LEN]) {
+        if begun.len() >= VERSION_LEN && !begun.starts_with(&VERSION) {
             Some(Fault::BadVersion)
         } else if begun.len() > VERSION_LEN && begun[VERSION_LEN] != NONE {
             Some(Fault::BadChoice)

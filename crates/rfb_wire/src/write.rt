@@ -14,7 +14,7 @@ use crate::message_type::{
     POINTER_EVENT, SERVER_CUT_TEXT, SET_ENCODINGS, SET_PIXEL_FORMAT,
 };
 use crate::security_type::NONE;
-use crate::version::{SAID_TO_HOST, VERSION_LEN};
+use crate::version::{VERSION, VERSION_LEN};
 use byteorder::{BigEndian, ByteOrder};
 use pixel_format::Format;
 use raster::Rect;
@@ -245,6 +245,6 @@ pub(crate) fn write_handshake(w: u16, h: u16, name: &[u8], out: &mut [u8]) -> us
     ensures { Writes (said_to_viewer w h name.now 14) out.old out.new result }
 {
     let (front, back) = out.split_at_mut(VERSION_LEN);
-    front.copy_from_slice(&SAID_TO_HOST[..VERSION_LEN]);
+    front.copy_from_slice(&VERSION);
     VERSION_LEN + put_security_and_init(w, h, name, back)
 }

@@ -39,7 +39,7 @@ fn feed_host(hello: &mut HostHello, bytes: &[u8], size: usize) -> (usize, u64)
 fn host_in_pieces(bytes: &[u8], size: usize) -> u64
     requires { 0 < size }
 {
-    let mut hello = HostHello::new();
+    let mut hello = HostHello::new(None);
     let (_, fault) = feed_host(&mut hello, bytes, size);
     if fault == 0 && hello.done().is_none() {
         99
@@ -126,7 +126,7 @@ fn reasons(rt: HostRuntime) {
 
 /// How long the name of a host of 2 by 1 is, where it is joined after all of these bytes.
 fn name_length(bytes: &[u8]) -> Option<usize> {
-    let mut hello = HostHello::new();
+    let mut hello = HostHello::new(None);
     if feed_host(&mut hello, bytes, 1000) != (bytes.len(), 0) {
         return None;
     }
@@ -309,7 +309,7 @@ const JUDGED: [(&[u8], usize, u64); 6] = [
 #[test]
 fn a_host_is_judged_at_the_end_of_a_field(rt: HostRuntime) {
     for (i, (bytes, used, number)) in JUDGED.iter().enumerate() {
-        let mut hello = HostHello::new();
+        let mut hello = HostHello::new(None);
         assert!(rt;
             feed_host(&mut hello, bytes, 1) == (*used, *number),
             "field {i}"

@@ -75,7 +75,7 @@ fn has_moved(link: &MemoryLink, ending: &Ending) -> bool {
 
 /// Whether joining over the link ends so.
 fn ends<R: Wait>(rt: &R, link: &mut MemoryLink, ending: &Ending) -> bool {
-    number_of(&join_host(rt, link)) == ending.number
+    number_of(&join_host(rt, None, link)) == ending.number
         && has_moved(link, ending)
         && link.failures() == ending.failures
 }

@@ -1,6 +1,6 @@
 //! Meeting hosts.
 
-ghost use Rattle.std.specs.Prelude.{◌≡◌, IfOk, false};
+ghost use Rattle.std.specs.Prelude.{◌≡◌, None, IfOk, false};
 ghost use Rattle.connections.specs.Wires.{joining_state};
 ghost use Rattle.link.specs.Joins.{Joins};
 ghost use Rattle.raster.specs.Size.{IsScreenSize};
@@ -32,7 +32,7 @@ pub(crate) struct Met<R: Clock + Drop> {
     pub(crate) reader: JoiningLink<R>,
     pub(crate) writer: JoiningLink<R>,
     pub(crate) joined: Joined,
-    pub(crate) ghost joins: { ∥ Joins unused (joining_state reader) joined ∥₁ },
+    pub(crate) ghost joins: { ∥ Joins None unused (joining_state reader) joined ∥₁ },
     pub(crate) ghost fresh: { joining_state writer ≡ unused },
 }
 
@@ -137,7 +137,7 @@ where
     ensures untimed { IfOk result (λ met. (met.reader.has_deadline ≡ false) × (met.writer.has_deadline ≡ false)) }
 {
     let (mut reader, writer) = ends;
-    let joined = match join_host(rt, &mut reader) {
+    let joined = match join_host(rt, None, &mut reader) {
         Ok(joined) => joined,
         Err(fault) => return Err(Trouble::new(Stage::Join(number), fault)),
     };

@@ -73,7 +73,7 @@ where
     requires size { (room.width ≡ J.width) × (room.height ≡ J.height) }
     requires doors { (1 ≤ length doors.items) × (length doors.items ≤ 64) }
     requires roles { All (λ door. D.is_for door.1 door.0) doors.items }
-    requires joins { ∥ Joins unused (L.state ends.0) joined ∥₁ }
+    requires joins { ∥ Joins None unused (L.state ends.0) joined ∥₁ }
     requires writer { L.state ends.1 ≡ unused }
     ensures reflected { IfOk result (λ run. IsReflected run.ran.course) }
     ensures room { IfOk result (λ run. (run.ran.course.host ≡ joined) × (run.ran.course.room_width ≡ room.width) × (run.ran.course.room_height ≡ room.height)) }

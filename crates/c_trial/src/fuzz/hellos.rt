@@ -64,7 +64,7 @@ fn write_reason(fault: &Option<Fault>, report: &mut Report<'_>) {
 pub extern "C" fn fuzz_host_hello(bytes: &[u8], lengths: &[u8], out: &mut [u8]) -> usize {
     let mut report = Report::new(out);
     let mut pieces = Pieces::new(bytes, lengths);
-    let mut hello = HostHello::new();
+    let mut hello = HostHello::new(None);
     let mut used: usize = 0;
     let mut fault = None;
     for _ in 0..bytes.len() {

@@ -23,18 +23,18 @@ returns-in_default-clause-keeps g c = let t = rw c.in_default.is at c.in_ok-take
 
 pub returns-in_err-feed-clause-so_far : goal.returns-in_err-feed-clause-so_far
 returns-in_err-feed-clause-so_far g c =
-    let t = rw c.in-Some.is at c.in_ok-taken.ensures.taken in λ start h. hears_so_far start _ _ _ _ c.in-Some.byte c.requires t c.feed.ensures.heard c.feed.ensures.sent h
+    let t = rw c.in-Some.is at c.in_ok-taken.ensures.taken in λ start h. hears_so_far start _ _ _ _ c.in-Some.byte c.requires t c.feed.ensures.heard c.feed.ensures.same h
 
 pub returns-in_err-feed-clause-keeps : goal.returns-in_err-feed-clause-keeps
 returns-in_err-feed-clause-keeps g c =
     let p = err_from_is_err_and c.from_residual-in_err-feed.result c.from_residual-in_err-feed.ensures.1 in
     let t = rw c.in-Some.is at c.in_ok-taken.ensures.taken in
-    rw (p.1, p.2) (λ start k. hears_fault start _ _ _ c.in_err-feed.ensures.reads.1 (hears_so_far start _ _ _ _ c.in-Some.byte c.requires t c.feed.ensures.heard c.feed.ensures.sent k.so_far))
+    rw (p.1, p.2) (λ start k. hears_fault start _ _ _ _ c.feed.ensures.same c.in_err-feed.ensures.reads.1 (hears_so_far start _ _ _ _ c.in-Some.byte c.requires t c.feed.ensures.heard c.feed.ensures.same k.so_far))
 
 pub returns-clause-so_far : goal.returns-clause-so_far
 returns-clause-so_far g c =
-    let t = rw c.in-Some.is at c.in_ok-taken.ensures.taken in λ start h. hears_so_far start _ _ _ _ c.in-Some.byte c.requires t c.feed.ensures.heard c.feed.ensures.sent h
+    let t = rw c.in-Some.is at c.in_ok-taken.ensures.taken in λ start h. hears_so_far start _ _ _ _ c.in-Some.byte c.requires t c.feed.ensures.heard c.feed.ensures.same h
 
 pub returns-clause-keeps : goal.returns-clause-keeps
 returns-clause-keeps g c =
-    let t = rw c.in-Some.is at c.in_ok-taken.ensures.taken in λ start k. hears_fine start _ _ _ _ c.in-Some.byte c.requires t c.feed.ensures.heard c.feed.ensures.sent c.in_ok-feed.ensures.reads.2 k
+    let t = rw c.in-Some.is at c.in_ok-taken.ensures.taken in λ start k. hears_fine start _ _ _ _ c.in-Some.byte c.requires t c.feed.ensures.heard c.feed.ensures.same c.in_ok-feed.ensures.reads.2 k

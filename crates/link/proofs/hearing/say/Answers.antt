@@ -13,7 +13,7 @@ returns-in_err-count-clause-keeps g c =
     rw (p.1, p.2) (λ start k. inl (fails_since _ start (g.L.Link.state c.args.link.now) (g.L.Link.state c.give_some.new.link) k.failed k.ended c.in_err-count.ensures.err))
 
 pub returns-clause-so_far : goal.returns-clause-so_far
-returns-clause-so_far g c = λ start h. says_so_far start _ _ _ _ c.out.result.now c.in_ok-count.count c.out.ensures.value c.in_ok-count.ensures.given.0 c.in_ok-count.ensures.given.1 c.sent.ensures h
+returns-clause-so_far g c = λ start h. says_so_far start _ _ _ _ c.out.result.now c.in_ok-count.count c.out.ensures.said c.requires c.in_ok-count.ensures.given.0 c.in_ok-count.ensures.given.1 c.sent.ensures h
 
 pub returns-clause-keeps : goal.returns-clause-keeps
-returns-clause-keeps g c = λ start k. says_on start _ _ _ _ c.out.result.now c.in_ok-count.count c.out.ensures.value c.in_ok-count.ensures.given.0 c.in_ok-count.ensures.given.1 c.sent.ensures k
+returns-clause-keeps g c = λ start k. says_on start _ _ _ _ c.out.result.now c.in_ok-count.count c.out.ensures.said c.requires c.in_ok-count.ensures.given.0 c.in_ok-count.ensures.given.1 c.sent.ensures k

@@ -11,7 +11,7 @@ returns-then-not-wants_more c =
     record {
       reads = feeds_ok (ahead c.args.self.now) (ahead c.loop-used.self) c.args.piece.now c.loop-used.used c.so_far.result stop c.so_far.ensures;
       heard = rw (← stop.1) c.loop-used.invariant.1;
-      sent = c.loop-used.invariant.2;
+      same = record { password = c.loop-used.invariant.2; sent = c.loop-used.invariant.3 };
     }
 
 pub returns : goal.returns
@@ -20,5 +20,5 @@ returns c =
     record {
       reads = feeds_ok (ahead c.args.self.now) (ahead c.loop-used.self) c.args.piece.now (length c.args.piece.now) c.so_far-2.result (h.0, omega (arith, h.1)) c.so_far-2.ensures;
       heard = rw (← h.1) c.loop-used.invariant.1;
-      sent = c.loop-used.invariant.2;
+      same = record { password = c.loop-used.invariant.2; sent = c.loop-used.invariant.3 };
     }

@@ -7,4 +7,4 @@ abbrev pub invariant-loop-used : goal.invariant-loop-used
 invariant-loop-used l =
     IsFed (ahead l.fn.self) (ahead l.self) l.piece l.used
     × ((stream : List ℕ) → HasHeard l.fn.self stream → HasHeard l.self (stream ++ take l.used l.piece))
-    × (l.self.sent ≡ l.fn.self.sent)
+    × (l.self.password ≡ l.fn.self.password) × (l.self.sent ≡ l.fn.self.sent)

@@ -1,14 +1,15 @@
 use Rattle.std.proofs.Common.{sym, ap, drop, ◌∙◌}
 use Rattle.rfb_wire.proofs.Greetings.{not_some}
-use Rattle.rfb_wire.proofs.JoiningSaid.{part_said, part_to_send, said_is}
+use Rattle.rfb_wire.proofs.JoiningSaid.{all_to_send, rest_of, said_is}
 use Rattle.rfb_wire.proofs.host_hello.HostHello.out.Goals as goal
 
 pub returns-clause-value : goal.returns-clause-value
 returns-clause-value c =
     let none = sym c.fault.ensures ∙ not_some c.fault.result (sym c.is_some.ensures ∙ c.if-is_some.false) in
-    rw (← c.self.view_is) (part_to_send c.self.inside.talk c.said.result c.self.invariant c.said.ensures.value none)
+    let talk = c.self.inside.talk in
+    rw (← c.self.view_is) (rest_of c.as_slice.result.now talk.sent ∙ (ap (drop talk.sent) c.as_slice.ensures.value ∙ all_to_send talk none))
 
 pub returns-clause-said : goal.returns-clause-said
 returns-clause-said c =
-    rw (← c.self.view_is)
-    (λ stream heard none. part_said c.self.inside.talk c.said.result c.self.invariant c.said.ensures.value ∙ ap (drop c.self.inside.talk.sent) (said_is c.self.inside.talk stream c.self.invariant heard))
+    let talk = c.self.inside.talk in
+    rw (← c.self.view_is) (λ stream heard none. rest_of c.as_slice.result.now talk.sent ∙ ap (drop talk.sent) (c.as_slice.ensures.value ∙ said_is talk stream c.self.invariant heard))
