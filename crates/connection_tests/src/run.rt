@@ -81,6 +81,7 @@ where
         alloc,
         width: WIDTH,
         height: HEIGHT,
+        password: None,
     };
     let running = run_all::<J, Wire, NoHosts, D, NoAlarm, NoAlarm, R>(
         rt,

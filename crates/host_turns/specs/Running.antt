@@ -1,5 +1,5 @@
 -- What a run of hosts, one after another, leaves.
-use Rattle.std.specs.Prelude.{◌≡◌, ◌≤◌, ◌<◌, ◌⊎◌, ℕ, ◌^◌, Bool, true, false, List, [], ◌∷◌, ◌++◌, length, None, Result, Ok, Err, ⊤}
+use Rattle.std.specs.Prelude.{◌≡◌, ◌≤◌, ◌<◌, ◌⊎◌, ℕ, ◌^◌, Bool, true, false, List, [], ◌∷◌, ◌++◌, length, Option, Result, Ok, Err, ⊤}
 use Rattle.fault.specs.declared.kinds.Fault.{Fault}
 use Rattle.fault.specs.declared.kinds.Fault.TheVariants.{BadVersion, HostRefused, NoNone, SecurityFailed, BadScreen, LinkFailed, LinkEnded, Memory, NumbersOut}
 use Rattle.raster.specs.Screen.{Canvas, opening}
@@ -30,22 +30,23 @@ pub record IsSwitched (w h : ℕ) (old new : List Update) : Type 0 where
   pub added : new ≡ old ++ put ∷ []
   pub same : (start : Canvas) → AreSameUpdates w h start (switch w h ∷ []) (put ∷ [])
 
--- A host was joined over a link that was so before and after, and its screen fits into the room of w by h.
-pub record JoinsWithin (w h : ℕ) (link_old link_new : LinkState) : Type 0 where
+-- A host was joined with this password over a link that was so before and after, and its screen fits into the room of w
+-- by h.
+pub record JoinsWithin (w h : ℕ) (password : Option (List ℕ)) (link_old link_new : LinkState) : Type 0 where
   pub host : Joined
-  pub joins : Joins None link_old link_new host
+  pub joins : Joins password link_old link_new host
   pub width : host.w ≤ w
   pub height : host.h ≤ h
 
 -- A host was joined, and its screen is wider or higher than the room.
-pub record JoinsElsewhere (w h : ℕ) (link_old link_new : LinkState) : Type 0 where
+pub record JoinsElsewhere (w h : ℕ) (password : Option (List ℕ)) (link_old link_new : LinkState) : Type 0 where
   pub host : Joined
-  pub joins : Joins None link_old link_new host
+  pub joins : Joins password link_old link_new host
   pub larger : (w < host.w) ⊎ (h < host.h)
 
 -- Why a host isn't joined within the room: joining it fails with this fault, or its screen is larger.
-abbrev pub IsUnfit : ℕ → ℕ → Fault → (link_old link_new : LinkState) → Type 0
-IsUnfit w h fault link_old link_new = FailsAs None fault link_old link_new ⊎ (JoinsElsewhere w h link_old link_new × (fault ≡ BadScreen))
+abbrev pub IsUnfit : ℕ → ℕ → Option (List ℕ) → Fault → (link_old link_new : LinkState) → Type 0
+IsUnfit w h password fault link_old link_new = FailsAs password fault link_old link_new ⊎ (JoinsElsewhere w h password link_old link_new × (fault ≡ BadScreen))
 
 -- After this many updates there is want: memory that a host needs is refused, or there is no number for its switch.
 abbrev pub IsWant : ℕ → Fault → Type 0
@@ -53,14 +54,14 @@ IsWant count fault = (fault ≡ Memory) ⊎ ((fault ≡ NumbersOut) × (count �
 
 -- Why a host that comes over this link is missed, after this many updates: it isn't joined within the room, or it is
 -- joined, and there is want.
-abbrev pub IsMissed : ℕ → ℕ → ℕ → Fault → LinkState → Type 0
-IsMissed w h count fault link = (left : LinkState) × (IsUnfit w h fault link left ⊎ (JoinsWithin w h link left × IsWant count fault))
+abbrev pub IsMissed : ℕ → ℕ → Option (List ℕ) → (count : ℕ) → Fault → LinkState → Type 0
+IsMissed w h password count fault link = (left : LinkState) × (IsUnfit w h password fault link left ⊎ (JoinsWithin w h password link left × IsWant count fault))
 
 -- ---- one host after another
 
 -- Whether the next host is taken after this answer of reading or of joining one: where the host ended, its link ended
--- or failed, or the host has another version, refuses, doesn't offer security type None, reports a failed handshake, or
--- has a screen that doesn't fit, as it is joined or later (own).
+-- or failed, or the host has another version, refuses, offers no security type that can be chosen, reports a failed
+-- handshake, or has a screen that doesn't fit, as it is joined or later (own).
 abbrev pub goes_on : Result (Unit {0}) Fault → Bool
 goes_on (Ok done) = true
 goes_on (Err BadVersion) = true
@@ -101,9 +102,9 @@ put_with old (Missed fault) = old
 
 -- A host that comes over such a link has this turn, after the updates so far. Either it is joined within the room, then
 -- the switch is put, and then it is read over a black screen; or it is missed, and nothing is put.
-abbrev pub IsTurn : ℕ → ℕ → (LinkState → Type 0) → List Update → Turn → Type 0
-IsTurn w h comes old (Read stay) = ((link : LinkState) × comes link × JoinsWithin w h link stay.joined) × ((black : List Update) × IsSwitched w h old black × IsRead w h stay.answer stay.joined stay.left black stay.put)
-IsTurn w h comes old (Missed fault) = (link : LinkState) × comes link × IsMissed w h (length old) fault link
+abbrev pub IsTurn : ℕ → ℕ → Option (List ℕ) → (LinkState → Type 0) → List Update → Turn → Type 0
+IsTurn w h password comes old (Read stay) = ((link : LinkState) × comes link × JoinsWithin w h password link stay.joined) × ((black : List Update) × IsSwitched w h old black × IsRead w h stay.answer stay.joined stay.left black stay.put)
+IsTurn w h password comes old (Missed fault) = (link : LinkState) × comes link × IsMissed w h password (length old) fault link
 
 -- A list of turns has the latest first.
 
@@ -122,18 +123,18 @@ put_by first (t ∷ ts) = put_with (put_by first ts) t
 
 -- These are turns of hosts that come over such links. A host is taken only where goes_on is true of the answer before
 -- it.
-abbrev pub AreTurns : ℕ → ℕ → (LinkState → Type 0) → Stay → List Turn → Type 0
-AreTurns w h comes first [] = ⊤
-AreTurns w h comes first (t ∷ ts) = AreTurns w h comes first ts × (goes_on (last_answer first ts) ≡ true) × IsTurn w h comes (put_by first ts) t
+abbrev pub AreTurns : ℕ → ℕ → Option (List ℕ) → (LinkState → Type 0) → Stay → List Turn → Type 0
+AreTurns w h password comes first [] = ⊤
+AreTurns w h password comes first (t ∷ ts) = AreTurns w h password comes first ts × (goes_on (last_answer first ts) ≡ true) × IsTurn w h password comes (put_by first ts) t
 
 -- A first host was read over its link, and then others in turn; the run ended with this answer. These links, of the
 -- hosts that were read, are handed back.
-pub record HasRun (w h : ℕ) (comes : LinkState → Type 0) (result : Result (Unit {0}) Fault) (link : LinkState) (links : List LinkState) (old new : List Update) : Type 0 where
+pub record HasRun (w h : ℕ) (password : Option (List ℕ)) (comes : LinkState → Type 0) (result : Result (Unit {0}) Fault) (link : LinkState) (links : List LinkState) (old new : List Update) : Type 0 where
   pub first : Stay
   pub begins : first.joined ≡ link
   pub read : IsRead w h first.answer link first.left old first.put
   pub turns : List Turn
-  pub in_turn : AreTurns w h comes first turns
+  pub in_turn : AreTurns w h password comes first turns
   pub last : result ≡ last_answer first turns
   pub handed : links ≡ links_of first turns
   pub put : new ≡ put_by first turns
@@ -149,9 +150,9 @@ IsOver {H} are_out hosts result = (goes_on result ≡ false) ⊎ are_out hosts
 -- ---- on the way
 
 -- A further host had its turn.
-pub record HasTurn (w h : ℕ) (comes : LinkState → Type 0) (result : Result (Unit {0}) Fault) (links_old links_new : List LinkState) (old new : List Update) : Type 0 where
+pub record HasTurn (w h : ℕ) (password : Option (List ℕ)) (comes : LinkState → Type 0) (result : Result (Unit {0}) Fault) (links_old links_new : List LinkState) (old new : List Update) : Type 0 where
   pub turn : Turn
-  pub is : IsTurn w h comes old turn
+  pub is : IsTurn w h password comes old turn
   pub answer : result ≡ answer_of turn
   pub handed : links_new ≡ links_with links_old turn
   pub put : new ≡ put_with old turn

@@ -18,13 +18,17 @@ use painter::Patch;
 use reflect_core::Puts;
 use rfb_wire::Joined;
 use std::alloc::Global;
+use vnc_auth::Password;
 
-/// The room of a run: the size in pixels of the screen that viewers are told. Each host's screen lies at its top left.
+/// What all hosts of a run have in common. The room is the size in pixels of the screen that viewers are told; each
+/// host's screen lies at its top left.
 #[derive(Clone, Copy, Drop)]
 pub struct RunScreen {
     pub alloc: Global,
     pub width: u64,
     pub height: u64,
+    /// The password that hosts may ask for, if one is known.
+    pub password: Option<Password>,
     pub ghost size: { IsScreenSize width height },
 }
 
@@ -69,16 +73,17 @@ pub(crate) fn read<L: Link, P: Puts, F: ReadsOn<L, P>>(
     read_host(by, alloc, link, &mut decoder, &mut painter, publisher)
 }
 
-/// Joins a host. It fails with `BadScreen` where the host's screen is larger than the room.
+/// Joins a host, with the run's password if one is known. It fails with `BadScreen` where the host's screen is larger
+/// than the room.
 fn join_within<L: Link, F: JoinsOn<L>>(
     by: &F,
     run_screen: &RunScreen,
     link: &mut L,
 ) -> Result<Joined, Fault>
-    ensures ok { OnOk result (JoinsWithin run_screen.now.width run_screen.now.height (L.state link.old) (L.state link.new)) }
-    ensures err { IfErr result (λ fault. IsUnfit run_screen.now.width run_screen.now.height fault (L.state link.old) (L.state link.new)) }
+    ensures ok { OnOk result (JoinsWithin run_screen.now.width run_screen.now.height run_screen.now.password (L.state link.old) (L.state link.new)) }
+    ensures err { IfErr result (λ fault. IsUnfit run_screen.now.width run_screen.now.height run_screen.now.password fault (L.state link.old) (L.state link.new)) }
 {
-    let joined = join_by(by, None, link)?;
+    let joined = join_by(by, run_screen.password, link)?;
     if joined.w > run_screen.width || joined.h > run_screen.height {
         return Err(Fault::BadScreen);
     }
@@ -131,9 +136,9 @@ pub(crate) fn meet<L: Link, H: Hosts<L>, P: Puts, F: JoinsOn<L>>(
     ensures size { IfOk result (λ screen. (screen.decoder.width ≡ run_screen.now.width) × (screen.decoder.height ≡ run_screen.now.height)) }
     ensures begins { IfOk result (λ screen. Decodes screen.decoder screen.painter opening (host_message run_screen.now.width run_screen.now.height)) }
     ensures pair { IfOk result (λ screen. IsFor screen.decoder screen.painter) }
-    ensures joins { OnOk result (JoinsWithin run_screen.now.width run_screen.now.height (L.state link.old) (L.state link.new)) }
+    ensures joins { OnOk result (JoinsWithin run_screen.now.width run_screen.now.height run_screen.now.password (L.state link.old) (L.state link.new)) }
     ensures switched { OnOk result (IsSwitched run_screen.now.width run_screen.now.height (P.updates publisher.old) (P.updates publisher.new)) }
-    ensures err { IfErr result (λ fault. IsMissed run_screen.now.width run_screen.now.height (length (P.updates publisher.old)) fault (L.state link.old)) }
+    ensures err { IfErr result (λ fault. IsMissed run_screen.now.width run_screen.now.height run_screen.now.password (length (P.updates publisher.old)) fault (L.state link.old)) }
     ensures unput { OnErr result (P.updates publisher.new ≡ P.updates publisher.old) }
 {
     let joined = join_within(by, run_screen, link)?;

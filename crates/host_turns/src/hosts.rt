@@ -55,7 +55,7 @@ where
     R: Wait,
     requires begins { Decodes run.screen.decoder run.screen.painter opening (host_message run.run_screen.now.width run.run_screen.now.height) }
     requires none { run.links.items ≡ [] }
-    ensures run { HasRun run.entry.run_screen.now.width run.entry.run_screen.now.height (IsLinkOf L.state H.came) result.last (L.state run.entry.reader) (map L.state result.links.items) (P.updates run.entry.publisher) (P.updates result.publisher) }
+    ensures run { HasRun run.entry.run_screen.now.width run.entry.run_screen.now.height run.entry.run_screen.now.password (IsLinkOf L.state H.came) result.last (L.state run.entry.reader) (map L.state result.links.items) (P.updates run.entry.publisher) (P.updates result.publisher) }
     ensures over { IsOver H.are_out result.hosts result.last }
     ensures never { goes_on result.last ≡ true → H.again run.entry.first.now.hosts.value ≡ None }
 {

@@ -75,7 +75,7 @@ pub struct JoinedRun<'a, L: Link, H: Hosts<L>, P: Puts, W: Alarm + Drop, T: Drop
     ghost paired: { (screen.painter.width ≡ screen.decoder.width) × (screen.painter.height ≡ screen.decoder.height) },
     ghost size: { (P.width publisher ≡ run_screen.now.width) × (P.height publisher ≡ run_screen.now.height) },
     ghost again: { H.again hosts ≡ H.again first.now.hosts.value },
-    ghost lawful: { ∥ IsBegun run_screen.now.width run_screen.now.height (IsLinkOf L.state H.came) (L.state first.now.reader.value) (L.state reader) (map L.state links.items) (P.updates first.now.publisher.value) (P.updates publisher) ∥₁ },
+    ghost lawful: { ∥ IsBegun run_screen.now.width run_screen.now.height run_screen.now.password (IsLinkOf L.state H.came) (L.state first.now.reader.value) (L.state reader) (map L.state links.items) (P.updates first.now.publisher.value) (P.updates publisher) ∥₁ },
 }
 
 /// A run between two hosts. Its last answer is that of reading the last host, or of joining it.
@@ -90,7 +90,7 @@ pub struct IdleRun<'a, L: Link, H: Hosts<L>, P: Puts, W: Alarm + Drop, T: Drop> 
     key: PhantomData<T>,
     ghost size: { (P.width publisher ≡ run_screen.now.width) × (P.height publisher ≡ run_screen.now.height) },
     ghost again: { H.again hosts ≡ H.again first.now.hosts.value },
-    ghost lawful: { ∥ HasRun run_screen.now.width run_screen.now.height (IsLinkOf L.state H.came) last (L.state first.now.reader.value) (map L.state links.items) (P.updates first.now.publisher.value) (P.updates publisher) ∥₁ },
+    ghost lawful: { ∥ HasRun run_screen.now.width run_screen.now.height run_screen.now.password (IsLinkOf L.state H.came) last (L.state first.now.reader.value) (map L.state links.items) (P.updates first.now.publisher.value) (P.updates publisher) ∥₁ },
 }
 
 /// A run for whose next host both ends of a connection have come: one to be read, and a sealed one to be written. The
@@ -109,7 +109,7 @@ pub struct MetRun<'a, L: Link, H: Hosts<L>, P: Puts, W: Alarm + Drop, T: Drop> {
     ghost on: { goes_on last ≡ true },
     ghost size: { (P.width publisher ≡ run_screen.now.width) × (P.height publisher ≡ run_screen.now.height) },
     ghost again: { H.again hosts ≡ H.again first.now.hosts.value },
-    ghost lawful: { ∥ (H.came reader × HasRun run_screen.now.width run_screen.now.height (IsLinkOf L.state H.came) last (L.state first.now.reader.value) (map L.state links.items) (P.updates first.now.publisher.value) (P.updates publisher)) ∥₁ },
+    ghost lawful: { ∥ (H.came reader × HasRun run_screen.now.width run_screen.now.height run_screen.now.password (IsLinkOf L.state H.came) last (L.state first.now.reader.value) (map L.state links.items) (P.updates first.now.publisher.value) (P.updates publisher)) ∥₁ },
 }
 
 /// A run that is over: no host is taken after its last answer, or none is left.
@@ -122,7 +122,7 @@ pub struct EndedRun<'a, L: Link, H: Hosts<L>, P: Puts, W: Alarm + Drop, T: Drop>
     publisher: P,
     first: &'a RunBeginning<L, H, P>,
     key: PhantomData<T>,
-    ghost lawful: { ∥ HasRun run_screen.now.width run_screen.now.height (IsLinkOf L.state H.came) last (L.state first.now.reader.value) (map L.state links.items) (P.updates first.now.publisher.value) (P.updates publisher) ∥₁ },
+    ghost lawful: { ∥ HasRun run_screen.now.width run_screen.now.height run_screen.now.password (IsLinkOf L.state H.came) last (L.state first.now.reader.value) (map L.state links.items) (P.updates first.now.publisher.value) (P.updates publisher) ∥₁ },
 }
 
 impl<'a, L: Link, H: Hosts<L>, P: Puts, W: Alarm + Drop, T: Drop> JoinedRun<'a, L, H, P, W, T> {
@@ -162,7 +162,7 @@ impl<'a, L: Link, H: Hosts<L>, P: Puts, W: Alarm + Drop, T: Drop> JoinedRun<'a, 
     /// reading begins, of which `host_reader::Reading::so_far` speaks: what the run was before, how the host was
     /// joined, and that nothing but its switch was put since.
     pub fn so_far(&self)
-        ensures { ∥ IsBegun self.now.run_screen.now.width self.now.run_screen.now.height (IsLinkOf L.state H.came) (L.state self.now.first.now.reader.value) (L.state self.now.reader) (map L.state self.now.links.items) (P.updates self.now.first.now.publisher.value) (P.updates self.now.publisher) ∥₁ }
+        ensures { ∥ IsBegun self.now.run_screen.now.width self.now.run_screen.now.height self.now.run_screen.now.password (IsLinkOf L.state H.came) (L.state self.now.first.now.reader.value) (L.state self.now.reader) (map L.state self.now.links.items) (P.updates self.now.first.now.publisher.value) (P.updates self.now.publisher) ∥₁ }
     {}
 
     /// Where the thread that tells the hosts is handed the host's other end.
@@ -214,7 +214,7 @@ impl<'a, L: Link, H: Hosts<L>, P: Puts, W: Alarm + Drop, T: Drop> IdleRun<'a, L,
     /// no host was given anything over the end that was read, after its join; and the links so far are those of the
     /// hosts that were read.
     pub fn so_far(&self)
-        ensures { ∥ HasRun self.now.run_screen.now.width self.now.run_screen.now.height (IsLinkOf L.state H.came) self.now.last (L.state self.now.first.now.reader.value) (map L.state self.now.links.items) (P.updates self.now.first.now.publisher.value) (P.updates self.now.publisher) ∥₁ }
+        ensures { ∥ HasRun self.now.run_screen.now.width self.now.run_screen.now.height self.now.run_screen.now.password (IsLinkOf L.state H.came) self.now.last (L.state self.now.first.now.reader.value) (map L.state self.now.links.items) (P.updates self.now.first.now.publisher.value) (P.updates self.now.publisher) ∥₁ }
     {}
 
     /// Asks for the next host, where one is taken after the last answer. It answers the run that is over where none is
@@ -279,7 +279,7 @@ impl<'a, L: Link, H: Hosts<L>, P: Puts, W: Alarm + Drop, T: Drop> MetRun<'a, L, 
     /// It does nothing. Its clause says what is true of the run at every moment from the coming of a host on, until its
     /// join begins: what the run was before, and that the end to be read is as it came.
     pub fn so_far(&self)
-        ensures { ∥ (H.came self.now.reader × HasRun self.now.run_screen.now.width self.now.run_screen.now.height (IsLinkOf L.state H.came) self.now.last (L.state self.now.first.now.reader.value) (map L.state self.now.links.items) (P.updates self.now.first.now.publisher.value) (P.updates self.now.publisher)) ∥₁ }
+        ensures { ∥ (H.came self.now.reader × HasRun self.now.run_screen.now.width self.now.run_screen.now.height self.now.run_screen.now.password (IsLinkOf L.state H.came) self.now.last (L.state self.now.first.now.reader.value) (map L.state self.now.links.items) (P.updates self.now.first.now.publisher.value) (P.updates self.now.publisher)) ∥₁ }
     {}
 
     /// Joins the host within the room, and then puts the switch. It answers the run whose host is joined, with the
@@ -289,11 +289,11 @@ impl<'a, L: Link, H: Hosts<L>, P: Puts, W: Alarm + Drop, T: Drop> MetRun<'a, L, 
         self,
         by: &F,
     ) -> Result<(JoinedRun<'a, L, H, P, W, T>, SealedEnd<L>), IdleRun<'a, L, H, P, W, T>>
-        ensures joins { IfOk result (λ joined. JoinsWithin self.entry.run_screen.now.width self.entry.run_screen.now.height (L.state self.entry.reader) (L.state joined.0.reader)) }
+        ensures joins { IfOk result (λ joined. JoinsWithin self.entry.run_screen.now.width self.entry.run_screen.now.height self.entry.run_screen.now.password (L.state self.entry.reader) (L.state joined.0.reader)) }
         ensures switched { IfOk result (λ joined. IsSwitched self.entry.run_screen.now.width self.entry.run_screen.now.height (P.updates self.entry.publisher) (P.updates joined.0.publisher)) }
         ensures begins { IfOk result (λ joined. Decodes joined.0.screen.decoder joined.0.screen.painter opening (host_message self.entry.run_screen.now.width self.entry.run_screen.now.height)) }
         ensures joined { IfOk result (λ joined. (joined.0.links.items ≡ self.entry.links.items) × (joined.0.first ≡ self.entry.first) × (joined.0.run_screen ≡ self.entry.run_screen)) }
-        ensures missed { IfErr result (λ run. (fault : Fault) × (run.last ≡ Err fault) × IsMissed self.entry.run_screen.now.width self.entry.run_screen.now.height (length (P.updates self.entry.publisher)) fault (L.state self.entry.reader)) }
+        ensures missed { IfErr result (λ run. (fault : Fault) × (run.last ≡ Err fault) × IsMissed self.entry.run_screen.now.width self.entry.run_screen.now.height self.entry.run_screen.now.password (length (P.updates self.entry.publisher)) fault (L.state self.entry.reader)) }
         ensures unread { IfErr result (λ run. (run.links.items ≡ self.entry.links.items) × (P.updates run.publisher ≡ P.updates self.entry.publisher) × (run.first ≡ self.entry.first) × (run.run_screen ≡ self.entry.run_screen)) }
     {
         let MetRun {

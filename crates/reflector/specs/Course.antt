@@ -1,5 +1,5 @@
 -- What a run was, for whoever is handed what shows that it was run (own).
-use Rattle.std.specs.Prelude.{◌≤◌, ℕ, List, [], None, Result, Ok, ⊤}
+use Rattle.std.specs.Prelude.{◌≤◌, ℕ, List, [], Option, None, Result, Ok, ⊤}
 use Rattle.fault.specs.declared.kinds.Fault.{Fault}
 use Rattle.raster.specs.Update.{Update}
 use Rattle.rfb_wire.specs.Handshake.{Joined}
@@ -14,14 +14,15 @@ use Rattle.host_turns.specs.Running.{HasRun}
 use Rattle.reflector.specs.Tellings.{AreToldInTurn}
 
 -- A run, without the types of its links, hosts and doors: the first host, as it was joined; the size of the room, which
--- viewers are told; the form in which all viewers are answered; the roles of the places, in order; the answer with which
--- the run ended; the link that the first host was read of, after its join; the links of the hosts that were read, as
--- they were left; the links over which the hosts were told, each as it came and then as it was left; the input that was
--- taken of the places; and the updates that were put.
+-- viewers are told; the password with which hosts are joined, if one is known; the form in which all viewers are
+-- answered; the roles of the places, in order; the answer with which the run ended; the link that the first host was
+-- read of, after its join; the links of the hosts that were read, as they were left; the links over which the hosts were
+-- told, each as it came and then as it was left; the input that was taken of the places; and the updates that were put.
 pub record Course : Type 0 where
   pub host : Joined
   pub room_width : ℕ
   pub room_height : ℕ
+  pub password : Option (List ℕ)
   pub form : Runs
   pub roles : List Role
   pub answer : Result (Unit {0}) Fault
@@ -31,14 +32,14 @@ pub record Course : Type 0 where
   pub taken : List Message
   pub updates : List Update
 
--- The first host's handshake was read of the link that it was read of then, and its screen fits into the room. The
--- updates are exactly those of what the links of the hosts took after their joins, in turn, over the room, with a switch
--- to black between two hosts. And the hosts were told one after another, each a beginning of what is said for the input
--- that was taken for it.
+-- The first host was joined with the password over the link that it was read of then, and its screen fits into the
+-- room. The updates are exactly those of what the links of the hosts took after their joins, in turn, over the room,
+-- with a switch to black between two hosts. And the hosts were told one after another, each a beginning of what is said
+-- for the input that was taken for it.
 pub record IsReflected (course : Course) : Type 0 where
-  pub joins : ∥ Joins None unused course.link course.host ∥₁
+  pub joins : ∥ Joins course.password unused course.link course.host ∥₁
   pub fits : (course.host.w ≤ course.room_width) × (course.host.h ≤ course.room_height)
-  pub run : HasRun course.room_width course.room_height (λ _. ⊤) course.answer course.link course.links [] course.updates
+  pub run : HasRun course.room_width course.room_height course.password (λ _. ⊤) course.answer course.link course.links [] course.updates
   pub told : AreToldInTurn course.room_width course.room_height [] course.told course.taken
 
 -- The course of no run.
@@ -47,6 +48,7 @@ no_course = record {
   host = record { w = 0; h = 0; name = [] };
   room_width = 0;
   room_height = 0;
+  password = None;
   form = OfRows;
   roles = [];
   answer = Ok tt;

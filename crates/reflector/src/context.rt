@@ -5,6 +5,7 @@ use joined_runs::Runs;
 use run_traits::{Alarm, Stop};
 use std::alloc::Global;
 use std::sync::{Arc, Wait};
+use vnc_auth::Password;
 
 /// The handle of each thread, the form in which all viewers are answered, the alarms, and the flag that ends all
 /// threads.
@@ -12,6 +13,8 @@ use std::sync::{Arc, Wait};
 pub(crate) struct RunContext<R: Wait + Drop, B: Alarm + Drop, W: Alarm + Drop> {
     pub(crate) rt: R,
     pub(crate) alloc: Global,
+    /// The password that hosts may ask for, if one is known.
+    pub(crate) password: Option<Password>,
     pub(crate) runs: Runs,
     /// The alarm of all that wait. It is rung after each put, and roused by the flag.
     pub(crate) everyone: Arc<B, Global>,

@@ -17,6 +17,7 @@ use std::snapshot::Snapshot;
 use std::sync::{Arc, Wait};
 use std::thread;
 use std::thread::{Promise, PromisedHandle, Threads};
+use vnc_auth::Password;
 
 /// What reading the hosts came to.
 #[derive(Drop)]
@@ -34,6 +35,7 @@ pub(crate) struct HostsRead<L: Link, H: Hosts<L>, P: Drop> {
 pub(crate) struct OfHosts<L: Link, H: Hosts<L>, P: Puts> {
     pub(crate) width: u64,
     pub(crate) height: u64,
+    pub(crate) password: Option<Password>,
     pub(crate) link: Snapshot<L>,
     pub(crate) publisher: Snapshot<P>,
     pub(crate) hosts: Snapshot<H>,
@@ -43,7 +45,7 @@ impl<L: Link, H: Hosts<L>, P: Puts + Drop> Promise<HostsRead<L, H, P>> for OfHos
     ghost use Rattle.std.specs.Prelude.{◌≡◌, true, None, map};
     ghost use Rattle.host_turns.specs.Running.{HasRun, IsLinkOf, IsOver, goes_on};
 
-    ghost kept_by = { λ promise read. HasRun promise.width promise.height (IsLinkOf L.state H.came) read.result (L.state promise.link.value) (map L.state read.links.items) (P.updates promise.publisher.value) (P.updates read.publisher) × IsOver H.are_out read.hosts read.result × (goes_on read.result ≡ true → H.again promise.hosts.value ≡ None) };
+    ghost kept_by = { λ promise read. HasRun promise.width promise.height promise.password (IsLinkOf L.state H.came) read.result (L.state promise.link.value) (map L.state read.links.items) (P.updates promise.publisher.value) (P.updates read.publisher) × IsOver H.are_out read.hosts read.result × (goes_on read.result ≡ true → H.again promise.hosts.value ≡ None) };
 }
 
 /// The thread that reads the hosts.
@@ -72,7 +74,7 @@ fn read<L: Link, H: Hosts<L>, P: Puts + Drop, B: Alarm + Drop, W: Alarm + Drop, 
     requires begins { Decodes begun.screen.decoder begun.screen.painter opening (host_message begun.run_screen.width begun.run_screen.height) }
     requires pair { IsFor begun.screen.decoder begun.screen.painter }
     requires publisher { (P.width publisher ≡ begun.run_screen.width) × (P.height publisher ≡ begun.run_screen.height) }
-    ensures run { HasRun begun.run_screen.width begun.run_screen.height (IsLinkOf L.state H.came) result.result (L.state begun.link) (map L.state result.links.items) (P.updates publisher) (P.updates result.publisher) }
+    ensures run { HasRun begun.run_screen.width begun.run_screen.height begun.run_screen.password (IsLinkOf L.state H.came) result.result (L.state begun.link) (map L.state result.links.items) (P.updates publisher) (P.updates result.publisher) }
     ensures over { IsOver H.are_out result.hosts result.result }
     ensures never { goes_on result.result ≡ true → H.again hosts ≡ None }
 {
@@ -126,12 +128,13 @@ where
     W: Alarm + Drop + Send + Sync + 'static,
     R: Threads + Wait + Copy + Drop + Send + 'static,
     requires { (P.width publisher ≡ run_screen.width) × (P.height publisher ≡ run_screen.height) }
-    ensures of { IfOk result (λ handle. (handle.promise.width ≡ run_screen.width) × (handle.promise.height ≡ run_screen.height) × (handle.promise.link.value ≡ link) × (handle.promise.publisher.value ≡ publisher) × (handle.promise.hosts.value ≡ hosts)) }
+    ensures of { IfOk result (λ handle. (handle.promise.width ≡ run_screen.width) × (handle.promise.height ≡ run_screen.height) × (handle.promise.password ≡ run_screen.password) × (handle.promise.link.value ≡ link) × (handle.promise.publisher.value ≡ publisher) × (handle.promise.hosts.value ≡ hosts)) }
     ensures err { IfErr result (λ fault. fault ≡ Memory) }
 {
     let promise = OfHosts {
         width: run_screen.width,
         height: run_screen.height,
+        password: run_screen.password,
         link: Snapshot::of(&link),
         publisher: Snapshot::of(&publisher),
         hosts: Snapshot::of(&hosts),

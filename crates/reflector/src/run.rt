@@ -161,7 +161,7 @@ where
     ensures watchers { IfOk result (λ started. map (λ place. place.promise.watcher.value) started.places.items ≡ drop 1 watchers.items) }
     ensures screen { IfOk result (λ started. All (λ place. IsOfScreen screen.now.w screen.now.h screen.now.name context.now.runs place.promise.width place.promise.height place.promise.name.value.items place.promise.runs) started.places.items) }
     ensures writer { IfOk result (λ started. (started.writer.promise.taker.value ≡ taker) × (started.writer.promise.source.value ≡ slice_index_or watchers.items 0 started.writer.promise.source.value) × StrokesStand started.writer.promise.strokes.value []) }
-    ensures reader { IfOk result (λ started. (started.reader.promise.width ≡ screen.now.w) × (started.reader.promise.height ≡ screen.now.h) × (started.reader.promise.link.value ≡ first) × (started.reader.promise.publisher.value ≡ publisher) × (started.reader.promise.hosts.value ≡ hosts)) }
+    ensures reader { IfOk result (λ started. (started.reader.promise.width ≡ screen.now.w) × (started.reader.promise.height ≡ screen.now.h) × (started.reader.promise.password ≡ context.now.password) × (started.reader.promise.link.value ≡ first) × (started.reader.promise.publisher.value ≡ publisher) × (started.reader.promise.hosts.value ≡ hosts)) }
     ensures err { IfErr result (λ fault. fault ≡ Memory) }
 {
     let watcher = watchers.remove(0);
@@ -172,6 +172,7 @@ where
         alloc: context.alloc,
         width: screen.w,
         height: screen.h,
+        password: context.password,
     };
     let alarm = Arc::try_clone(&context.everyone)?;
     let handover = Arc::try_clone(handover)?;
@@ -199,7 +200,7 @@ where
     B: Alarm + Drop,
     W: Alarm + Drop,
     R: Threads + Wait + Drop,
-    ensures run { HasRun started.reader.promise.width started.reader.promise.height (IsLinkOf L.state H.came) result.result (L.state started.reader.promise.link.value) (map L.state result.links.items) (P.updates started.reader.promise.publisher.value) (P.updates result.publisher) }
+    ensures run { HasRun started.reader.promise.width started.reader.promise.height started.reader.promise.password (IsLinkOf L.state H.came) result.result (L.state started.reader.promise.link.value) (map L.state result.links.items) (P.updates started.reader.promise.publisher.value) (P.updates result.publisher) }
     ensures over { IsOver H.are_out result.hosts result.result }
     ensures never { goes_on result.result ≡ true → H.again started.reader.promise.hosts.value ≡ None }
     ensures taker { host_of result.taker ≡ host_of started.writer.promise.taker.value }
@@ -285,7 +286,7 @@ where
     requires screen { (s : S) → (S.width s ≡ screen.now.w) × (S.height s ≡ screen.now.h) }
     requires doors { (1 ≤ vec_len doors) × (vec_len doors ≤ 64) × (vec_len watchers ≡ vec_len doors + 1) }
     requires writer { L.state links.1 ≡ unused }
-    ensures run { IfOk result (λ run. HasRun screen.now.w screen.now.h (IsLinkOf L.state H.came) run.result (L.state links.0) (map L.state run.links.items) (P.updates publisher) (P.updates run.publisher)) }
+    ensures run { IfOk result (λ run. HasRun screen.now.w screen.now.h context.now.password (IsLinkOf L.state H.came) run.result (L.state links.0) (map L.state run.links.items) (P.updates publisher) (P.updates run.publisher)) }
     ensures over { IfOk result (λ run. IsOver H.are_out run.hosts run.result) }
     ensures never { IfOk result (λ run. goes_on run.result ≡ true → H.again hosts ≡ None) }
     ensures places { IfOk result (λ run. map (λ place. strand_of place.promise.sender.value) run.places.items ≡ fresh (vec_len doors)) }
@@ -339,7 +340,7 @@ where
     H: Hosts<L>,
     D: Door,
     R: Wait + Drop,
-    requires { C.course ≡ record { host = began.now.host.value; room_width = began.now.room.width; room_height = began.now.room.height; form = runs; roles = map (λ door. door.0) began.now.doors.value.items; answer = left.result; link = L.state began.now.link.value; links = map L.state left.links.items; told = links_in L.state left.written; taken = taken_of left.taker; updates = puts_of left.publisher.changes } }
+    requires { C.course ≡ record { host = began.now.host.value; room_width = began.now.room.width; room_height = began.now.room.height; password = began.now.room.password; form = runs; roles = map (λ door. door.0) began.now.doors.value.items; answer = left.result; link = L.state began.now.link.value; links = map L.state left.links.items; told = links_in L.state left.written; taken = taken_of left.taker; updates = puts_of left.publisher.changes } }
     ensures ran { result.ran.course ≡ C.course }
     ensures result { result.result ≡ left.result }
     ensures links { result.links ≡ left.links }
@@ -385,11 +386,11 @@ where
 /// that gives back.
 ///
 /// Where a host ended between two messages or inside one, or its link failed, the next host is taken from the supply
-/// and joined over the end that is read. Then the screen turns black, and the host is read as the first was. A host that
-/// can't be joined is passed over where it has another version, refuses, doesn't offer security type None or reports a
-/// failed handshake, where its link failed or ended, or where its screen doesn't fit into the room. A host whose new
-/// size doesn't fit is left for the next one, too. Every other fault ends the run, and so does the end of the supply,
-/// with the last answer. The supply has no end where the first host has its turn again.
+/// and joined over the end that is read. Then the screen turns black, and the host is read as the first was. A host
+/// that can't be joined is passed over where it has another version, refuses, offers no security type that can be
+/// chosen or reports a failed handshake, where its link failed or ended, or where its screen doesn't fit into the room.
+/// A host whose new size doesn't fit is left for the next one, too. Every other fault ends the run, and so does the end
+/// of the supply, with the last answer. The supply has no end where the first host has its turn again.
 ///
 /// Viewers are told the size of the room, and the name of the first host. The screens of all hosts lie at the top left
 /// of the room, and what a host doesn't paint is black.
@@ -438,7 +439,7 @@ where
     requires doors { (1 ≤ vec_len doors) × (vec_len doors ≤ 64) }
     requires roles { All (λ door. D.is_for door.1 door.0) doors.items }
     requires writer { L.state writer ≡ unused }
-    ensures run { IfOk result (λ run. HasRun J.width J.height (IsLinkOf L.state H.came) run.result (L.state reader) (map L.state run.links.items) [] (puts_of run.publisher.changes)) }
+    ensures run { IfOk result (λ run. HasRun J.width J.height room.password (IsLinkOf L.state H.came) run.result (L.state reader) (map L.state run.links.items) [] (puts_of run.publisher.changes)) }
     ensures over { IfOk result (λ run. IsOver H.are_out run.hosts run.result) }
     ensures never { IfOk result (λ run. goes_on run.result ≡ true → H.again hosts ≡ None) }
     ensures places { IfOk result (λ run. map (λ place. strand_of place.promise.sender.value) run.places.items ≡ fresh (vec_len doors)) }
@@ -450,7 +451,7 @@ where
     ensures doors { IfOk result (λ run. map (λ place. (place.promise.role, place.promise.door.value)) run.places.items ≡ doors.items) }
     ensures watchers { IfOk result (λ run. All (λ place. place.promise.watcher.value ≡ nothing_put) run.places.items) }
     ensures screen { IfOk result (λ run. All (λ place. IsOfScreen room.width room.height joined.name runs place.promise.width place.promise.height place.promise.name.value.items place.promise.runs) run.places.items) }
-    ensures ran { IfOk result (λ run. run.ran.course ≡ record { host = joined; room_width = room.width; room_height = room.height; form = runs; roles = map (λ door. door.0) doors.items; answer = run.result; link = L.state reader; links = map L.state run.links.items; told = links_in L.state run.written; taken = taken_of run.taker; updates = puts_of run.publisher.changes }) }
+    ensures ran { IfOk result (λ run. run.ran.course ≡ record { host = joined; room_width = room.width; room_height = room.height; password = room.password; form = runs; roles = map (λ door. door.0) doors.items; answer = run.result; link = L.state reader; links = map L.state run.links.items; told = links_in L.state run.written; taken = taken_of run.taker; updates = puts_of run.publisher.changes }) }
     ensures err { IfErr result (λ fault. (fault ≡ Memory) ⊎ (fault ≡ NoPlace)) }
 {
     let began = Beginning {
@@ -464,6 +465,7 @@ where
     let context = RunContext {
         rt,
         alloc,
+        password: room.password,
         runs,
         everyone,
         writer: writer_bell,

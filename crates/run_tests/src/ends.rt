@@ -203,6 +203,7 @@ where
         alloc,
         width: course.view.w,
         height: course.view.h,
+        password: None,
     };
     let running = run_all::<J, Wire, Queue, Queue, NoAlarm, NoAlarm, R>(
         rt,

@@ -26,6 +26,7 @@ roles_for settings = replicate (places_for Full settings) Full ++ replicate sett
 pub record IsRunFor (settings : Settings) (course : Course) : Type 0 where
   pub reflected : IsReflected course
   pub room : IsRoomFor settings course.host.w course.host.h course.room_width course.room_height
+  pub password : course.password ≡ None
   pub roles : course.roles ≡ roles_for settings
   pub form : course.form ≡ runs_for settings
 

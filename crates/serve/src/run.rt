@@ -73,10 +73,10 @@ where
     requires size { (room.width ≡ J.width) × (room.height ≡ J.height) }
     requires doors { (1 ≤ length doors.items) × (length doors.items ≤ 64) }
     requires roles { All (λ door. D.is_for door.1 door.0) doors.items }
-    requires joins { ∥ Joins None unused (L.state ends.0) joined ∥₁ }
+    requires joins { ∥ Joins room.password unused (L.state ends.0) joined ∥₁ }
     requires writer { L.state ends.1 ≡ unused }
     ensures reflected { IfOk result (λ run. IsReflected run.ran.course) }
-    ensures room { IfOk result (λ run. (run.ran.course.host ≡ joined) × (run.ran.course.room_width ≡ room.width) × (run.ran.course.room_height ≡ room.height)) }
+    ensures room { IfOk result (λ run. (run.ran.course.host ≡ joined) × (run.ran.course.room_width ≡ room.width) × (run.ran.course.room_height ≡ room.height) × (run.ran.course.password ≡ room.password)) }
     ensures roles { IfOk result (λ run. run.ran.course.roles ≡ map (λ door. door.0) doors.items) }
     ensures form { IfOk result (λ run. run.ran.course.form ≡ runs) }
     ensures why { IfOk result (λ run. run.why ≡ run.ran.course.answer) }
@@ -132,6 +132,7 @@ where
         alloc,
         width: room.width,
         height: room.height,
+        password: None,
     };
     over::<Brand, _, _, _, _, _, _>(
         rt,

@@ -17,7 +17,7 @@ loop-init g c =
       lent.1,
       lent.0,
       rw read.1
-          (stayed run.run_screen.now.width run.run_screen.now.height (IsLinkOf state g.H.Hosts.came) idle.last (state run.reader) (state run.reader) read.0 (map state run.links.items) (put run.publisher) (put run.publisher) (put idle.publisher)
+          (stayed run.run_screen.now.width run.run_screen.now.height run.run_screen.now.password (IsLinkOf state g.H.Hosts.came) idle.last (state run.reader) (state run.reader) read.0 (map state run.links.items) (put run.publisher) (put run.publisher) (put idle.publisher)
           (inl (record { same = refl; none = ap (map state) c.requires.none; unput = refl })) read.2),
     )
 
@@ -38,7 +38,7 @@ loop-preserved-in-Err-join g c =
       unread.3 ∙ met.4 ∙ inv.2,
       unread.2 ∙ met.3 ∙ inv.3,
       rw (unread.0, unread.1, met.1, met.2)
-          (missed run.run_screen.now.width run.run_screen.now.height (IsLinkOf state g.H.Hosts.came) idle.last c.in-Err-join.missed.last (state run.reader) (state c.in-Ok.met.reader) (map state idle.links.items) (put run.publisher) (put idle.publisher) inv.4 on
+          (missed run.run_screen.now.width run.run_screen.now.height run.run_screen.now.password (IsLinkOf state g.H.Hosts.came) idle.last c.in-Err-join.missed.last (state run.reader) (state c.in-Ok.met.reader) (map state idle.links.items) (put run.publisher) (put idle.publisher) inv.4 on
           (c.in-Ok.met.reader, c.in-Ok.ensures.came, refl) why),
     )
 
@@ -65,12 +65,12 @@ loop-preserved g c =
     let switched = rw (met.4, inv.2, met.2) at join.switched in
     let is = rw (join.joined.2, met.4, inv.2) at read.2 in
     let begins =
-    begun run.run_screen.now.width run.run_screen.now.height (IsLinkOf state g.H.Hosts.came) idle.last (state run.reader) (state c.in-Ok.met.reader) (state joined.reader) (map state idle.links.items) (put run.publisher) (put idle.publisher) (put joined.publisher) inv.4 on
+    begun run.run_screen.now.width run.run_screen.now.height run.run_screen.now.password (IsLinkOf state g.H.Hosts.came) idle.last (state run.reader) (state c.in-Ok.met.reader) (state joined.reader) (map state idle.links.items) (put run.publisher) (put idle.publisher) (put joined.publisher) inv.4 on
     (c.in-Ok.met.reader, c.in-Ok.ensures.came, refl) joins switched in (
       tt,
       tt,
       lent.1 ∙ join.joined.2 ∙ met.4 ∙ inv.2,
       lent.0 ∙ join.joined.1 ∙ met.3 ∙ inv.3,
       rw (read.1, join.joined.0, met.1)
-          (stayed run.run_screen.now.width run.run_screen.now.height (IsLinkOf state g.H.Hosts.came) next.last (state run.reader) (state joined.reader) read.0 (map state idle.links.items) (put run.publisher) (put joined.publisher) (put next.publisher) begins is),
+          (stayed run.run_screen.now.width run.run_screen.now.height run.run_screen.now.password (IsLinkOf state g.H.Hosts.came) next.last (state run.reader) (state joined.reader) read.0 (map state idle.links.items) (put run.publisher) (put joined.publisher) (put next.publisher) begins is),
     )

@@ -7,4 +7,4 @@ abbrev pub invariant-loop : goal.invariant-loop
 invariant-loop g l =
     (goal.iterator-loop g).can_next l.iterator' × (goal.iterator-loop g).is_finite l.iterator'
     × (l.idle.run_screen ≡ l.fn.run.run_screen) × (l.idle.first ≡ l.fn.run.first)
-    × HasRun l.fn.run.run_screen.now.width l.fn.run.run_screen.now.height (IsLinkOf g.L.Link.state g.H.Hosts.came) l.idle.last (g.L.Link.state l.fn.run.reader) (map g.L.Link.state l.idle.links.items) (g.P.Puts.updates l.fn.run.publisher) (g.P.Puts.updates l.idle.publisher)
+    × HasRun l.fn.run.run_screen.now.width l.fn.run.run_screen.now.height l.fn.run.run_screen.now.password (IsLinkOf g.L.Link.state g.H.Hosts.came) l.idle.last (g.L.Link.state l.fn.run.reader) (map g.L.Link.state l.idle.links.items) (g.P.Puts.updates l.fn.run.publisher) (g.P.Puts.updates l.idle.publisher)

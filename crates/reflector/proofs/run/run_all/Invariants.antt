@@ -11,6 +11,7 @@ ghosts-shown g a = record {
     host = a.began.now.host.value;
     room_width = a.began.now.room.width;
     room_height = a.began.now.room.height;
+    password = a.began.now.room.password;
     form = a.runs;
     roles = map (λ door. door.0) a.began.now.doors.value.items;
     answer = a.left.result;
