@@ -129,6 +129,7 @@ fn settings(alloc: Global, host: String, bind: String, ports: PortsOfRun) -> Set
 {
     Settings {
         host,
+        host_password: None,
         bind,
         full_bind: None,
         full: ports.full,

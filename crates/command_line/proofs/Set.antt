@@ -48,6 +48,7 @@ default id text one = all_named (λ r. (r.id ≡ id) × (r.defaults ≡ text ∷
 pub values_set : (f : Found) (words : List Text) (s : Settings) → rows_of f ≡ matches_of serve words → AreValuesOf f s → AreSetBy words s
 values_set f words s rows of = record {
   host = sym (given_is f words rows (codes "host") (without (codes "host") (refl, tt))) ∙ of.host;
+  host_password = of.host_password ∙ given_is f words rows (codes "host-password-file") (without (codes "host-password-file") (refl, tt));
   bind = text_is f words rows (codes "bind") (codes "127.0.0.1") _ (default (codes "bind") (codes "127.0.0.1") ((refl, refl), tt)) of.bind;
   full_bind = of.full_bind ∙ given_is f words rows (codes "full-bind") (without (codes "full-bind") (refl, tt));
   full = number_is f words rows (codes "full") (codes "5900") (default (codes "full") (codes "5900") ((refl, refl), tt)) _ _ _ of.full;

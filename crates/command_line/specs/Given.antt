@@ -63,6 +63,7 @@ IsBadLine words status =
 -- the settings are those that the words set; a flag that the words give has the text `true`, and can have no other
 pub record AreSetBy (words : List Text) (s : Settings) : Type 0 where
   pub host : given words (codes "host") ≡ Some (string_bytes s.host)
+  pub host_password : option_map string_bytes s.host_password ≡ given words (codes "host-password-file")
   pub bind : string_bytes s.bind ≡ text_of words (codes "bind") (codes "127.0.0.1")
   pub full_bind : option_map string_bytes s.full_bind ≡ given words (codes "full-bind")
   pub full : Spells (text_of words (codes "full") (codes "5900")) s.full

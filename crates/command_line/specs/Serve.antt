@@ -63,7 +63,7 @@ abbrev pub full_bind : Rule
 full_bind = option (codes "full-bind")
 
 abbrev pub options : List Rule
-options = host ∷ bind ∷ full_bind
+options = host ∷ option (codes "host-password-file") ∷ bind ∷ full_bind
     ∷ port (codes "full") (codes "5900")
     ∷ port (codes "view") (codes "5901")
     ∷ flag (codes "view-only")

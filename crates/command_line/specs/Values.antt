@@ -72,6 +72,7 @@ HasNoRoom found = (text : Text) × (first_value found (codes "room") ≡ Some te
 -- the values are those of the matches
 pub record AreValuesOf (found : Found) (s : Settings) : Type 0 where
   pub host : first_value found (codes "host") ≡ Some (string_bytes s.host)
+  pub host_password : option_map string_bytes s.host_password ≡ first_value found (codes "host-password-file")
   pub bind : first_value found (codes "bind") ≡ Some (string_bytes s.bind)
   pub full_bind : option_map string_bytes s.full_bind ≡ first_value found (codes "full-bind")
   pub full : IsNumberOf found (codes "full") 1 65535 s.full

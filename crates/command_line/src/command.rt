@@ -67,6 +67,12 @@ fn options<'a>(alloc: Global) -> Result<Vec<Arg<'a>>, AllocError>
 {
     let options = vec![in alloc;
         host(alloc),
+        option(
+            alloc,
+            "host-password-file",
+            "PATH",
+            "A file with the hosts' password in its first line, or as vncpasswd writes it"
+        ),
         bind(alloc),
         option(
             alloc,

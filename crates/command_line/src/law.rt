@@ -27,6 +27,8 @@ pub fn worked_lines()
     ensures metrics_given { given (codes "--metrics" ∷ codes "127.0.0.1:9100" ∷ codes "--host" ∷ codes "h:1" ∷ []) (codes "metrics") ≡ Some (codes "127.0.0.1:9100") }
     ensures proxy_given { given (codes "--host" ∷ codes "h:1" ∷ codes "--proxy-from" ∷ codes "10.0.0.1" ∷ []) (codes "proxy-from") ≡ Some (codes "10.0.0.1") }
     ensures proxy_not_given { given (codes "--host" ∷ codes "h:1" ∷ []) (codes "proxy-from") ≡ None }
+    ensures password_given { given (codes "--host-password-file=/run/p" ∷ codes "--host" ∷ codes "h:1" ∷ []) (codes "host-password-file") ≡ Some (codes "/run/p") }
+    ensures password_not_given { given (codes "--host" ∷ codes "h:1" ∷ []) (codes "host-password-file") ≡ None }
     ensures web_port_0 { fault_of serve (codes "--host" ∷ codes "h:1" ∷ codes "--web-view" ∷ codes "0" ∷ []) ≡ ValueValidation ∷ [] }
     ensures web_port_not_given { given (codes "--host" ∷ codes "h:1" ∷ []) (codes "web-full") ≡ None }
     ensures origins_in_order { all_given (codes "--web-origin" ∷ codes "https://b" ∷ codes "--host" ∷ codes "h:1" ∷ codes "--web-origin=https://a" ∷ []) (codes "web-origin") ≡ codes "https://b" ∷ codes "https://a" ∷ [] }

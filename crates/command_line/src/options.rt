@@ -61,6 +61,7 @@ fn values(
 {
     Ok(Settings {
         host: text(alloc, matches, "host")?,
+        host_password: optional_text(alloc, matches, "host-password-file")?,
         bind: text(alloc, matches, "bind")?,
         full_bind: optional_text(alloc, matches, "full-bind")?,
         full: port(matches, "full"),

@@ -1,6 +1,6 @@
 -- How the exit status says how a run ended. A run that didn't end well has another status than 0.
 use Rattle.std.proofs.Common.{◌≡◌, ◌⊎◌, inl, inr, ⊎_elim, ℕ, List, Option, Some, None, Result, Ok, Err, refl, sym, ap, subst, ◌∙◌, arith, true}
-use Rattle.std.specs.Prelude.{IfOk, IfSome}
+use Rattle.std.specs.Prelude.{IfOk, IfSome, is_some}
 use Rattle.fault.specs.declared.kinds.Fault.{Fault}
 use Rattle.fault.specs.declared.kinds.Fault.TheVariants as fault
 use Rattle.joined_runs.specs.declared.runs.Runs.{Runs}
@@ -56,17 +56,17 @@ went_well (Err f) e = isnt_nought f e
 
 -- ---- a run
 
--- What `over` says of a run, with the room, the roles and the form of the settings.
+-- What `over` says of a run, with the room, a password, the roles and the form of the settings.
 pub run_by : {A : Type 0} (settings : Settings) (result : Result Reflected Fault) (host : Joined) (width height : ℕ) (password : Option (List ℕ)) (roles : List Role) (form : Runs) (again : Option A) → IfOk result (λ run. IsReflected run.ran.course)
-    → IfOk result (λ run. (run.ran.course.host ≡ host) × (run.ran.course.room_width ≡ width) × (run.ran.course.room_height ≡ height) × (run.ran.course.password ≡ password)) → password ≡ None → IfOk result (λ run. run.ran.course.roles ≡ roles)
+    → IfOk result (λ run. (run.ran.course.host ≡ host) × (run.ran.course.room_width ≡ width) × (run.ran.course.room_height ≡ height) × (run.ran.course.password ≡ password)) → is_some password ≡ is_some settings.host_password → IfOk result (λ run. run.ran.course.roles ≡ roles)
     → IfOk result (λ run. run.ran.course.form ≡ form) → IfOk result (λ run. run.why ≡ run.ran.course.answer) → IfOk result (λ run. goes_on run.why ≡ true → again ≡ None) → IsRoomFor settings host.w host.h width height → roles ≡ roles_for settings → form ≡ runs_for settings
     → (again ≡ None → MayEnd settings) → IfOk result (λ run. IsRunBy settings run)
-run_by settings (Ok run) host width height password roles form again reflected has_room unknown has_roles has_form why never is_room same_roles same_form ends = record {
-  is = record { reflected = reflected; room = rw (has_room.0, has_room.1, has_room.2) is_room; password = has_room.3 ∙ unknown; roles = has_roles ∙ same_roles; form = has_form ∙ same_form };
+run_by settings (Ok run) host width height password roles form again reflected has_room known has_roles has_form why never is_room same_roles same_form ends = record {
+  is = record { reflected = reflected; room = rw (has_room.0, has_room.1, has_room.2) is_room; password = ap is_some has_room.3 ∙ known; roles = has_roles ∙ same_roles; form = has_form ∙ same_form };
   why = why;
   ends = λ on. ends (never on);
 }
-run_by settings (Err f) host width height password roles form again reflected has_room unknown has_roles has_form why never is_room same_roles same_form ends = tt
+run_by settings (Err f) host width height password roles form again reflected has_room known has_roles has_form why never is_room same_roles same_form ends = tt
 
 -- A run that ended by itself.
 pub by_itself : (settings : Settings) (why : Result (Unit {0}) Fault) (ran : Ran) (run : Reflected) → run ≡ record { why = why; ran = ran } → IsRunBy settings run → IsEndBy settings (record { why = why; ran = Some ran; stopped = None })

@@ -21,12 +21,13 @@ use Rattle.serve.specs.declared.trouble.Trouble.{Trouble}
 abbrev pub roles_for : Settings → List Role
 roles_for settings = replicate (places_for Full settings) Full ++ replicate settings.view_places View
 
--- A run by these settings: its room has their size, or that of its first host's screen; its places have their roles; and
--- its viewers are answered in their form.
+-- A run by these settings: its room has their size, or that of its first host's screen; its hosts are joined with a
+-- password exactly where the settings have a file for one; its places have their roles; and its viewers are answered in
+-- their form.
 pub record IsRunFor (settings : Settings) (course : Course) : Type 0 where
   pub reflected : IsReflected course
   pub room : IsRoomFor settings course.host.w course.host.h course.room_width course.room_height
-  pub password : course.password ≡ None
+  pub password : is_some course.password ≡ is_some settings.host_password
   pub roles : course.roles ≡ roles_for settings
   pub form : course.form ≡ runs_for settings
 

@@ -127,13 +127,18 @@ fn text_of(settings: &Settings, number: usize) -> &str {
     }
 }
 
-/// What a fault of the handshake with a host means.
-fn join_advice(fault: &Fault) -> &'static str {
+/// What a fault of the handshake with a host means, where a password is known and where none is.
+fn join_advice(fault: &Fault, has_password: bool) -> &'static str {
     match fault {
         Fault::BadVersion => "it doesn't begin as a VNC server of RFB 3.8 does; is the port right?",
         Fault::HostRefused(_) => "it gave this reason",
+        Fault::NoNone if has_password =>
+            "neither None nor VNC Authentication is in its list of security types; let it offer one of them",
         Fault::NoNone => {
-            "it wants a password or another proof; let it offer security type None, on loopback or behind an SSH tunnel"
+            "it wants a password or another proof; name a file with its password by --host-password-file, or let it offer security type None, on loopback or behind an SSH tunnel"
+        }
+        Fault::SecurityFailed if has_password => {
+            "it ended the handshake as failed; the password may be wrong, and after some wrong ones a VNC server may take none for a while: see its own log"
         }
         Fault::SecurityFailed => "it ended the handshake as failed; see the VNC server's own log",
         Fault::BadScreen =>
@@ -148,7 +153,7 @@ fn join_advice(fault: &Fault) -> &'static str {
 }
 
 /// What a fault of a run means. A fault of a handshake is that of a host that followed on another.
-fn run_advice(fault: &Fault) -> &'static str {
+fn run_advice(fault: &Fault, has_password: bool) -> &'static str {
     match fault {
         Fault::LinkFailed =>
             "the connection to it broke; see whether it and the network are there, and start again",
@@ -157,7 +162,7 @@ fn run_advice(fault: &Fault) -> &'static str {
         Fault::BadScreen =>
             "its screen is larger than the room that viewers are told; --room WxH makes room, up to 4096x4096",
         Fault::BadVersion | Fault::HostRefused(_) | Fault::NoNone | Fault::SecurityFailed => {
-            join_advice(fault)
+            join_advice(fault, has_password)
         }
         Fault::NumbersOut => "the numbers of updates have run out; start again",
         Fault::NoPlace => "no place for a reader of the screen was left; start again",
@@ -204,6 +209,11 @@ impl Display for Advice<'_> {
                 ),
                 None => Ok(()),
             },
+            Stage::ReadPassword => write!(
+                f,
+                "--host-password-file {}{said}; it has to have the hosts' password in its first line, or as vncpasswd writes it",
+                shown(&settings.host_password)
+            ),
             Stage::Listen(role) => {
                 let (option, viewers) = options_of(role);
                 let port = port_of(settings, role);
@@ -271,7 +281,7 @@ impl Display for Advice<'_> {
                 f,
                 "the host {}: {fault}: {}{given}",
                 text_of(settings, number),
-                join_advice(fault)
+                join_advice(fault, settings.host_password.is_some())
             ),
             Stage::Start => write!(
                 f,
@@ -282,10 +292,14 @@ impl Display for Advice<'_> {
                     f,
                     "the host {}: {fault}: {}{given}",
                     settings.host,
-                    run_advice(fault)
+                    run_advice(fault, settings.host_password.is_some())
                 )
             }
-            Stage::Run => write!(f, "the last host: {fault}: {}{given}", run_advice(fault)),
+            Stage::Run => write!(
+                f,
+                "the last host: {fault}: {}{given}",
+                run_advice(fault, settings.host_password.is_some())
+            ),
         }
     }
 }

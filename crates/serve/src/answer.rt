@@ -1,6 +1,6 @@
 //! What `serve` says and answers.
 
-ghost use Rattle.std.specs.Prelude.{◌≡◌, IfOk, IfSome, Result};
+ghost use Rattle.std.specs.Prelude.{◌≡◌, IfOk, IfSome, Result, is_some};
 ghost use Rattle.settings.specs.ByRole.{HasPlaces};
 ghost use Rattle.serve.specs.Statuses.{IsStatus, status_for};
 ghost use Rattle.serve.specs.Turns.{MayEnd};
@@ -121,7 +121,7 @@ where
         &journal,
         settings,
         move || -> Result<Ended, Trouble>
-            requires { HasPlaces settings.now × IfOk opened (λ opened. AreBoth settings.now opened.entrances.full opened.entrances.view) }
+            requires { HasPlaces settings.now × IfOk opened (λ opened. (is_some opened.password ≡ is_some settings.now.host_password) × AreBoth settings.now opened.entrances.full opened.entrances.view) }
             ensures { IfOk result (λ ended. IsEndBy settings.entry.now ended) }
         { run_watched(rt, alloc, settings, opened?, &log) },
     )

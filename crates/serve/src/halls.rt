@@ -7,7 +7,7 @@ ghost use Rattle.settings.specs.Rooms.{FitsInto};
 use crate::control::Control;
 use crate::entries::Entrances;
 use crate::incident::RunLog;
-use crate::meet::Met;
+use crate::meet::{Met, Terms};
 use crate::rooms::{Hall, start_porter};
 use crate::runtime::Runtime;
 use crate::start::start_control;
@@ -17,7 +17,6 @@ use crate::web::start_web_porter;
 use connections::Seat;
 use fault::Fault;
 use run_traits::Log;
-use settings::Room;
 use std::alloc::Global;
 use std::sync::{Arc, Wait};
 use std::time::Clock;
@@ -104,13 +103,13 @@ where
     Ok(halls)
 }
 
-/// Meets the first host, which fits into the room, if there is one yet, and lets viewers in. Where that host is tried
-/// again they are told until then that there is none yet; where it is tried once, they wait.
+/// Meets the first host, on these terms, and lets viewers in. Where that host is tried again they are told until then
+/// that there is none yet; where it is tried once, they wait.
 pub(crate) fn welcome<R, G>(
     rt: R,
     alloc: Global,
     supply: &mut Supply<R, G>,
-    room: Option<Room>,
+    terms: &Terms,
     entrances: Entrances<'_>,
     seats: Vec<Arc<Seat, Global>>,
     control: Option<Control>,
@@ -120,19 +119,20 @@ where
     R: Runtime,
     G: RunLog + Clone + Drop + Send + 'static,
     ensures size { IfOk result (λ both. IsScreenSize both.0.joined.w both.0.joined.h) }
-    ensures fits { IfOk result (λ both. FitsInto room both.0.joined.w both.0.joined.h) }
+    ensures fits { IfOk result (λ both. FitsInto terms.now.room both.0.joined.w both.0.joined.h) }
     ensures untimed { IfOk result (λ both. (both.0.reader.has_deadline ≡ false) × (both.0.writer.has_deadline ≡ false)) }
+    ensures password { IfOk result (λ both. both.0.password ≡ terms.now.password) }
     ensures again { supply.new.turns.again ≡ supply.old.turns.again }
     ensures lifeline { supply.new.lifeline ≡ supply.old.lifeline }
 {
     if !supply.tries_again() {
-        let met = supply.first(room)?;
+        let met = supply.first(terms)?;
         let halls = start_all(rt, alloc, entrances, seats, control, log)?;
         return Ok((met, halls));
     }
     hold(&rt, &entrances);
     let halls = start_all(rt, alloc, entrances, seats, control, log)?;
-    match supply.first(room) {
+    match supply.first(terms) {
         Ok(met) => {
             halls.open(&rt);
             Ok((met, halls))

@@ -24,6 +24,7 @@ mod noted_tries;
 mod open;
 mod order;
 mod origins;
+mod password;
 mod quoted;
 mod rested;
 mod rooms;

@@ -1,6 +1,6 @@
 //! Meeting hosts.
 
-ghost use Rattle.std.specs.Prelude.{◌≡◌, None, IfOk, false};
+ghost use Rattle.std.specs.Prelude.{◌≡◌, IfOk, false};
 ghost use Rattle.connections.specs.Wires.{joining_state};
 ghost use Rattle.link.specs.Joins.{Joins};
 ghost use Rattle.raster.specs.Size.{IsScreenSize};
@@ -18,12 +18,21 @@ use std::io::ErrorKind;
 use std::net::{Net, SocketAddr, TcpStream, ToSocketAddrs};
 use std::sync::Wait;
 use std::time::{Clock, Duration};
+use vnc_auth::Password;
 
 /// The seconds that a connection to a host may take.
 const CONNECT_SECONDS: u64 = 5;
 
 /// The most addresses of a host's name that are tried, one after the other.
 const MOST_ADDRESSES: usize = 4;
+
+/// On which terms a first host is met: the room into which it has to fit, if there is one yet, and the password that it
+/// may ask for, if one is known.
+#[derive(Clone, Copy, Drop)]
+pub(crate) struct Terms {
+    pub(crate) room: Option<Room>,
+    pub(crate) password: Option<Password>,
+}
 
 /// A host that was joined: the ends of its connection, one to be read, over which it was joined, and one to be written,
 /// over which nothing was given yet.
@@ -32,7 +41,9 @@ pub(crate) struct Met<R: Clock + Drop> {
     pub(crate) reader: JoiningLink<R>,
     pub(crate) writer: JoiningLink<R>,
     pub(crate) joined: Joined,
-    pub(crate) ghost joins: { ∥ Joins None unused (joining_state reader) joined ∥₁ },
+    /// The password that hosts may ask for, if one is known.
+    pub(crate) password: Option<Password>,
+    pub(crate) ghost joins: { ∥ Joins password unused (joining_state reader) joined ∥₁ },
     pub(crate) ghost fresh: { joining_state writer ≡ unused },
 }
 
@@ -119,13 +130,13 @@ pub(crate) fn connect_by_text<R: Net<Stream = TcpStream> + Clock + Copy + Drop>(
     Err(missed)
 }
 
-/// Joins the host of this number over the ends of its connection. After that they have no deadline. It fails with
-/// `BadScreen` where the host doesn't fit into the room, if there is one yet.
+/// Joins the host of this number over the ends of its connection, on these terms. After that the ends have no deadline.
+/// It fails with `BadScreen` where the host doesn't fit into the room.
 #[tactic(auto, using(crate::proofs::Sizes::is_screen))]
 pub(crate) fn join<R>(
     rt: &R,
     number: usize,
-    room: Option<Room>,
+    terms: &Terms,
     ends: (JoiningLink<R>, JoiningLink<R>),
 ) -> Result<Met<R>, Trouble>
 where
@@ -133,15 +144,16 @@ where
     requires untimed { ends.1.has_deadline ≡ false }
     requires fresh { (joining_state ends.0 ≡ unused) × (joining_state ends.1 ≡ unused) }
     ensures size { IfOk result (λ met. IsScreenSize met.joined.w met.joined.h) }
-    ensures fits { IfOk result (λ met. FitsInto room met.joined.w met.joined.h) }
+    ensures fits { IfOk result (λ met. FitsInto terms.now.room met.joined.w met.joined.h) }
     ensures untimed { IfOk result (λ met. (met.reader.has_deadline ≡ false) × (met.writer.has_deadline ≡ false)) }
+    ensures password { IfOk result (λ met. met.password ≡ terms.now.password) }
 {
     let (mut reader, writer) = ends;
-    let joined = match join_host(rt, None, &mut reader) {
+    let joined = match join_host(rt, terms.password, &mut reader) {
         Ok(joined) => joined,
         Err(fault) => return Err(Trouble::new(Stage::Join(number), fault)),
     };
-    if !fits(&room, joined.w, joined.h) {
+    if !fits(&terms.room, joined.w, joined.h) {
         return Err(Trouble::new(Stage::Join(number), Fault::BadScreen));
     }
     if let Err(error) = reader.lift() {
@@ -151,5 +163,6 @@ where
         reader,
         writer,
         joined,
+        password: terms.password,
     })
 }

@@ -12,6 +12,7 @@ use crate::counters::{Inputs, counters_of, inputs_of, places_by_role};
 use crate::ended::Ended;
 use crate::entries::{Entrances, open_all};
 use crate::incident::{Incident, RunLog};
+use crate::password::password_of;
 use crate::run::run;
 use crate::runtime::{REQUEST_STACK, Runtime};
 use crate::sentry::Sentry;
@@ -32,6 +33,7 @@ use std::sync::{Arc, Wait};
 use std::thread::{Builder, Threads};
 use std::time::{Clock, Duration, Instant};
 use std::{io, thread};
+use vnc_auth::Password;
 
 /// A machine has so many seconds for its request, and to take the answer. One is answered after another.
 const PATIENCE_SECONDS: u64 = 2;
@@ -65,15 +67,17 @@ fn open_metrics<R: Net<Stream = TcpStream, Listener = TcpListener>, G: RunLog>(
     }
 }
 
-/// The ports of a run: where people come in, and where machines are answered, if they are.
+/// What a run begins with: the hosts' password, if one is known, and its ports: where people come in, and where machines
+/// are answered, if they are.
 #[derive(Drop)]
 pub(crate) struct Opened<'a> {
+    pub(crate) password: Option<Password>,
     pub(crate) entrances: Entrances<'a>,
     machines: Option<TcpListener>,
 }
 
-/// Listens for people, and then for machines.
-#[tactic(auto, using(crate::proofs::Asking::people_alone, crate::proofs::Asking::with_machines))]
+/// Reads the hosts' password, if there is one, and then listens for people, and then for machines.
+#[tactic(auto, using(crate::proofs::Asking::nobody, crate::proofs::Asking::people_alone, crate::proofs::Asking::with_machines))]
 pub(crate) fn open_ports<'a, R, G>(
     rt: &R,
     alloc: Global,
@@ -86,11 +90,14 @@ where
     G: RunLog,
     ensures asked { AsksForAll settings.now ports.old ports.new }
     ensures both { IfOk result (λ opened. AreBoth settings.now opened.entrances.full opened.entrances.view) }
+    ensures password { IfOk result (λ opened. is_some opened.password ≡ is_some settings.now.host_password) }
     ensures machines { IfOk result (λ opened. is_some opened.machines ≡ is_some settings.now.metrics) }
 {
+    let password = password_of(rt, alloc, settings)?;
     let entrances = open_all(rt, alloc, settings, ports, log)?;
     let machines = open_metrics(rt, settings, ports, log)?;
     Ok(Opened {
+        password,
         entrances,
         machines,
     })
@@ -215,10 +222,12 @@ pub(crate) fn run_watched<R>(
 where
     R: Runtime + Eprint + Files,
     requires places { HasPlaces settings.now }
+    requires password { is_some opened.password ≡ is_some settings.now.host_password }
     requires entries { AreBoth settings.now opened.entrances.full opened.entrances.view }
     ensures { IfOk result (λ ended. IsEndBy settings.now ended) }
 {
     let Opened {
+        password,
         entrances,
         machines,
     } = opened;
@@ -227,5 +236,5 @@ where
     };
     let desk = entrances.view.lobby.desk();
     start_metrics(rt, alloc, settings, machines, desk, log, &input)?;
-    run(rt, alloc, settings, entrances, input, log)
+    run(rt, alloc, settings, password, entrances, input, log)
 }

@@ -18,7 +18,7 @@ use crate::entries::Entrances;
 use crate::halls::welcome;
 use crate::host_text::texts_of;
 use crate::incident::RunLog;
-use crate::meet::Met;
+use crate::meet::{Met, Terms};
 use crate::order::Cut;
 use crate::rooms::{Rooms, everyone_of, rooms_of};
 use crate::runtime::Runtime;
@@ -44,9 +44,11 @@ use std::rt::Files;
 use std::sync::{Arc, Wait};
 use std::thread::Threads;
 use std::time::Clock;
+use vnc_auth::Password;
 
 /// The run over a history that J names, in this room. Its first host, which fits, was joined over the end that is read,
-/// and given nothing over the other. What J names doesn't leave this call: what is handed out says in plain lists what the run was.
+/// and given nothing over the other. What J names doesn't leave this call: what is handed out says in plain lists what
+/// the run was.
 fn over<J, L, H, D, B, W, R>(
     rt: R,
     room: RunScreen,
@@ -118,6 +120,7 @@ where
     R: Runtime,
     requires size { IsScreenSize met.joined.w met.joined.h }
     requires fits { FitsInto settings.now.room met.joined.w met.joined.h }
+    requires password { is_some met.password ≡ is_some settings.now.host_password }
     requires untimed { (met.reader.has_deadline ≡ false) × (met.writer.has_deadline ≡ false) }
     requires places { HasPlaces settings.now }
     requires doors { AreDoorsFor settings.now rooms.doors.items }
@@ -132,7 +135,7 @@ where
         alloc,
         width: room.width,
         height: room.height,
-        password: None,
+        password: met.password,
     };
     over::<Brand, _, _, _, _, _, _>(
         rt,
@@ -156,6 +159,7 @@ fn reflect_all<G, R>(
     alloc: Global,
     settings: &Settings,
     mut supply: Supply<R, G>,
+    password: Option<Password>,
     entrances: Entrances<'_>,
     rooms: Rooms<R, G>,
     control: Option<Control>,
@@ -168,13 +172,26 @@ where
     requires places { HasPlaces settings.now }
     requires doors { AreDoorsFor settings.now rooms.doors.items }
     requires again { endless (is_some supply.lifeline) supply.turns.again ≡ endless (is_some settings.now.control) settings.now.again }
+    requires password { is_some password ≡ is_some settings.now.host_password }
     ensures { IfOk result (λ run. IsRunBy settings.now run) }
 {
     let Ok(seats) = shared(alloc, rooms.seats.as_slice()) else {
         return Err(Trouble::new(Stage::Start, Fault::Memory));
     };
-    let room = settings.room;
-    let (met, halls) = welcome(rt, alloc, &mut supply, room, entrances, seats, control, log)?;
+    let terms = Terms {
+        room: settings.room,
+        password,
+    };
+    let (met, halls) = welcome(
+        rt,
+        alloc,
+        &mut supply,
+        &terms,
+        entrances,
+        seats,
+        control,
+        log,
+    )?;
     let reflected = reflect(rt, alloc, settings, supply, met, rooms, writer);
     halls.close(&rt);
     match reflected {
@@ -239,14 +256,15 @@ fn end_of(
     })
 }
 
-/// Reflects the hosts of the settings, for viewers who come in by these entries, one for each role that is served,
-/// until the last host ends or an operator stops the run, if one can. `input` tells how much of their input waits.
-/// It hands out how the run ended, or fails where there was trouble before.
+/// Reflects the hosts of the settings, of which this password may be known, for viewers who come in by these entries,
+/// one for each role that is served, until the last host ends or an operator stops the run, if one can. `input` tells
+/// how much of their input waits. It hands out how the run ended, or fails where there was trouble before.
 #[tactic(auto, using(crate::proofs::Stopping::stopped))]
 pub(crate) fn run<G, R>(
     rt: R,
     alloc: Global,
     settings: &Settings,
+    password: Option<Password>,
     entrances: Entrances<'_>,
     input: Arc<InputCounts, Global>,
     log: &G,
@@ -255,6 +273,7 @@ where
     G: RunLog + Clone + Drop + Send + 'static,
     R: Runtime + Files,
     requires places { HasPlaces settings.now }
+    requires password { is_some password ≡ is_some settings.now.host_password }
     requires entries { AreBoth settings.now entrances.full entrances.view }
     ensures { IfOk result (λ ended. IsEndBy settings.now ended) }
 {
@@ -275,7 +294,7 @@ where
     let held = lifeline_of(&control)?;
     let supply = Supply::new(rt, alloc, theirs, desk, hosts, settings.again, held);
     let reflected = reflect_all(
-        rt, alloc, settings, supply, entrances, rooms, control, writer, log,
+        rt, alloc, settings, supply, password, entrances, rooms, control, writer, log,
     );
     let stopped = was_cut(&rt, &lifeline);
     end_of(settings, reflected, stopped)

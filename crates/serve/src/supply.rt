@@ -9,7 +9,7 @@ ghost use Rattle.serve.specs.Stops.{IsOut};
 
 use crate::incident::{Incident, RunLog};
 use crate::lifeline::{Lifeline, Recall};
-use crate::meet::{Met, Missed, Reached, connect_by_text, join};
+use crate::meet::{Met, Missed, Reached, Terms, connect_by_text, join};
 use crate::noted_tries::NotedTries;
 use crate::order::Cut;
 use crate::quoted::Quoted;
@@ -21,7 +21,6 @@ use fault::Fault;
 use host_turns::Hosts;
 use rfb_wire::Joined;
 use run_traits::{Event, Log, clock_millis};
-use settings::Room;
 use std::alloc::Global;
 use std::net::{Net, SocketAddr, TcpListener, TcpStream};
 use std::sync::{Arc, Wait};
@@ -98,19 +97,20 @@ impl<
         self.turns.again().is_some()
     }
 
-    /// Meets the first host, which is joined then, and fits into the room, if there is one yet. Where it is to be tried
-    /// again, hosts have their turns until one is met, so that only a lack of memory is an error.
-    pub(crate) fn first(&mut self, room: Option<Room>) -> Result<Met<R>, Trouble>
+    /// Meets the first host, which is joined on these terms, and fits into their room. Where it is to be tried again,
+    /// hosts have their turns until one is met, so that only a lack of memory is an error.
+    pub(crate) fn first(&mut self, terms: &Terms) -> Result<Met<R>, Trouble>
         ensures size { IfOk result (λ met. IsScreenSize met.joined.w met.joined.h) }
-        ensures fits { IfOk result (λ met. FitsInto room met.joined.w met.joined.h) }
+        ensures fits { IfOk result (λ met. FitsInto terms.now.room met.joined.w met.joined.h) }
         ensures untimed { IfOk result (λ met. (met.reader.has_deadline ≡ false) × (met.writer.has_deadline ≡ false)) }
+        ensures password { IfOk result (λ met. met.password ≡ terms.now.password) }
         ensures again { self.new.turns.again ≡ self.old.turns.again }
         ensures lifeline { self.new.lifeline ≡ self.old.lifeline }
     {
         let rt = self.rt;
         let mut number = 0;
         for _ in rt.forever() {
-            let trouble = match self.meet(number, room) {
+            let trouble = match self.meet(number, terms) {
                 Ok(met) => return Ok(met),
                 Err(trouble) => trouble,
             };
@@ -125,11 +125,12 @@ impl<
         unreachable!()
     }
 
-    /// Meets the host of this number, which has to fit into the room, if there is one yet.
-    fn meet(&mut self, number: usize, room: Option<Room>) -> Result<Met<R>, Trouble>
+    /// Meets the host of this number, on these terms.
+    fn meet(&mut self, number: usize, terms: &Terms) -> Result<Met<R>, Trouble>
         ensures size { IfOk result (λ met. IsScreenSize met.joined.w met.joined.h) }
-        ensures fits { IfOk result (λ met. FitsInto room met.joined.w met.joined.h) }
+        ensures fits { IfOk result (λ met. FitsInto terms.now.room met.joined.w met.joined.h) }
         ensures untimed { IfOk result (λ met. (met.reader.has_deadline ≡ false) × (met.writer.has_deadline ≡ false)) }
+        ensures password { IfOk result (λ met. met.password ≡ terms.now.password) }
         ensures again { self.new.turns.again ≡ self.old.turns.again }
         ensures lifeline { self.new.lifeline ≡ self.old.lifeline }
     {
@@ -137,18 +138,20 @@ impl<
             Ok(ends) => ends,
             Err(missed) => return Err(missed.trouble()),
         };
-        match join(&self.rt, number, room, ends) {
+        match join(&self.rt, number, terms, ends) {
             Ok(met) => {
                 let Met {
                     mut reader,
                     writer,
                     joined,
+                    password,
                 } = met;
                 self.joined(&mut reader, &joined);
                 Ok(Met {
                     reader,
                     writer,
                     joined,
+                    password,
                 })
             }
             Err(trouble) => {

@@ -27,6 +27,8 @@ pub(crate) enum Stage {
     ListenMetrics,
     /// Listening for an operator.
     Control,
+    /// Reading the file with the hosts' password.
+    ReadPassword,
     /// Reading the first host's address.
     ReadHost,
     /// Reading the address of this one of the further hosts.

@@ -42,6 +42,8 @@ mod options;
 #[cfg(test)]
 mod origins;
 #[cfg(test)]
+mod passwords;
+#[cfg(test)]
 mod pauses;
 #[cfg(test)]
 mod play;

@@ -18,7 +18,7 @@ pub(crate) const INIT: &[u8] =
 
 /// What a joining client gives: its format, its five encodings, and a request for the whole screen, whose width and
 /// height are still to come (RFC 6143, 7.5.1 to 7.5.3).
-const ASKED: &[u8] = b"\0\0\0\0\x20\x18\0\x01\0\xFF\0\xFF\0\xFF\x10\x08\0\0\0\0\
+pub(crate) const ASKED: &[u8] = b"\0\0\0\0\x20\x18\0\x01\0\xFF\0\xFF\0\xFF\x10\x08\0\0\0\0\
       \x02\0\0\x05\0\0\0\x01\0\0\0\x05\0\0\0\x02\0\0\0\0\xFF\xFF\xFF\x21\
       \x03\0\0\0\0\0";
 

@@ -1,5 +1,5 @@
-//! What a runtime in a room hands on as it is: memory, random bytes and sockets that are files. It opens no
-//! other files.
+//! What a runtime in a room hands on as it is: memory, random bytes, sockets that are files, and the file of a password.
+//! It has no folders.
 
 use crate::room::Ear;
 use std::alloc::{Allocator, Global};
@@ -25,13 +25,16 @@ impl<R: RandomSource + Drop> RandomSource for Ear<R> {
     }
 }
 
-/// No scene has files.
+/// No scene has folders.
 fn none<T>() -> io::Result<T> {
     Err(io::Error::from(ErrorKind::Unsupported))
 }
 
-/// Files that are sockets.
+/// Files that are sockets, and one that is read.
 pub(crate) trait SocketFiles {
+    /// Opens this file.
+    fn open(&self, how: &OpenOptions, path: &str) -> io::Result<File>;
+
     /// Gives this address to a socket.
     fn bind(&self, socket: BorrowedFd<'_>, address: &SocketAddr) -> io::Result<()>;
 
@@ -49,6 +52,10 @@ pub(crate) trait SocketFiles {
 }
 
 impl SocketFiles for HostRuntime {
+    fn open(&self, how: &OpenOptions, path: &str) -> io::Result<File> {
+        self.open_file(how, path)
+    }
+
     fn bind(&self, socket: BorrowedFd<'_>, address: &SocketAddr) -> io::Result<()> {
         self.bind_unix(socket, address)
     }
@@ -75,8 +82,8 @@ impl<R: SocketFiles + Drop> Files for Ear<R> {
 
     type Dir = io::Empty;
 
-    fn open_file(&self, _how: &OpenOptions, _path: &str) -> io::Result<File> {
-        none()
+    fn open_file(&self, how: &OpenOptions, path: &str) -> io::Result<File> {
+        self.rt.open(how, path)
     }
 
     fn open_dir(&self, _path: &str) -> io::Result<io::Empty> {

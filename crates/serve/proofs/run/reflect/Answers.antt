@@ -1,7 +1,7 @@
 -- There are as many doors as the settings have places, which may go to other threads, and the run is one by the
 -- settings.
 use denote.Param.Send.{sendable}
-use Rattle.std.proofs.Common.{None, refl, sym, ◌∙◌}
+use Rattle.std.proofs.Common.{sym, ◌∙◌}
 use Rattle.connections.proofs.Sending.{door_send}
 use Rattle.serve.proofs.Counts.{counted}
 use Rattle.serve.proofs.Endings.{run_by}
@@ -14,7 +14,7 @@ over-requires-clause-doors g c κs _ = counted (λ door. door.0) c.args.rooms.do
 pub returns : goal.returns
 returns g c =
     let over = c.over.ensures in
-    run_by c.args.settings.now c.over.result c.args.met.joined _ _ None _ _ _ over.reflected over.room refl over.roles over.form over.why over.never c.room_of-room.ensures.room c.requires.doors c.runs_of.ensures
+    run_by c.args.settings.now c.over.result c.args.met.joined _ _ _ _ _ _ over.reflected over.room c.requires.password over.roles over.form over.why over.never c.room_of-room.ensures.room c.requires.doors c.runs_of.ensures
     (λ none. may_end c.args.settings.now (sym c.requires.again ∙ none))
 
 pub over-requires-send-D : goal.over-requires-send-D
