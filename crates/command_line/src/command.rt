@@ -46,7 +46,7 @@ fn control_command<'a>(alloc: Global) -> Result<Command<'a>, AllocError> {
         .action(ArgAction::Append)
         .num_args(1..)
         .required(true)
-        .help("state, state json, drain, undrain, end PLACE or stop");
+        .help("state, state json, drain, undrain, end PLACE, next or stop");
     Command::new(alloc, "control")
         .about("Asks something of a run that goes on, and prints the answer")
         .arg(path)?
@@ -191,7 +191,7 @@ fn host<'a>(alloc: Global) -> Arg<'a>
         alloc,
         "host",
         "HOST:PORT",
-        "The VNC host, by its address or name",
+        "The VNC host, by its address or name, or listen:IP:PORT where it calls",
     )
     .required(true)
 }

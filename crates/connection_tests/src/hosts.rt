@@ -1,7 +1,7 @@
 //! The two ends of the host's connection.
 
-use crate::sockets::pair;
-use connections::HostLink;
+use crate::sockets::{connect, listen, pair};
+use connections::{HostCall, HostLink, HostListener};
 use link::{Gave, Link, Took};
 use std::io;
 use std::io::{Read, Write};
@@ -55,5 +55,34 @@ fn is_right(rt: &HostRuntime, is_full: bool) -> io::Result<bool> {
 #[test]
 fn host_is_read_and_told_until_full(rt: HostRuntime) -> Result<(), Fail> {
     assert!(rt; is_right(&rt, false)? && is_right(&rt, true)?);
+    Ok(())
+}
+
+/// Whether this host is the next that calls, and is read and told.
+fn is_next(listener: &HostListener, far: TcpStream) -> io::Result<bool> {
+    let Some(call) = listener.accept()? else {
+        return Ok(false);
+    };
+    let HostCall {
+        address,
+        stream: _stream,
+        mut reader,
+        mut writer,
+    } = call;
+    let is_it = address == far.local_addr()?;
+    Ok(is_it && is_read_and_told(&mut reader, &mut writer, far)?)
+}
+
+/// Where no host calls there is none in time. Two that call are read and told, in their order.
+#[test]
+fn hosts_that_call_are_read_and_told(rt: HostRuntime) -> Result<(), Fail> {
+    let socket = listen(&rt)?;
+    let address = socket.local_addr()?;
+    let listener = HostListener::new(socket)?;
+    assert!(rt; listener.accept()?.is_none());
+    let first = connect(&rt, address)?;
+    let second = connect(&rt, address)?;
+    assert!(rt; is_next(&listener, first)? && is_next(&listener, second)?);
+    assert!(rt; listener.accept()?.is_none());
     Ok(())
 }

@@ -9,7 +9,7 @@ use crate::bytes::{HEIGHT, UPDATE, WIDTH};
 use crate::wire::{Peer, Wire};
 use arrayvec::ArrayVec;
 use fault::Fault;
-use host_turns::{NoHosts, RunScreen};
+use host_turns::{HostEnds, NoHosts, RunScreen};
 use joined_runs::Runs;
 use reflector::{InputCounts, Running, run_all};
 use rfb_wire::Joined;
@@ -87,8 +87,11 @@ where
         rt,
         room,
         history,
-        reader,
-        writer,
+        HostEnds {
+            reader,
+            writer,
+            has_called: false,
+        },
         Joined {
             w: WIDTH,
             h: HEIGHT,
@@ -103,7 +106,7 @@ where
     )?;
     let Running {
         ran: _,
-        result,
+        last,
         links: _,
         hosts: _,
         publisher: _,
@@ -116,7 +119,7 @@ where
     for place in places {
         let _ = place.join(&rt);
     }
-    Ok(result.is_ok())
+    Ok(last.answer.is_ok())
 }
 
 /// Whether a run whose one place serves the viewers of this door with full control ends without a fault. The host sends

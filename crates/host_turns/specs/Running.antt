@@ -1,7 +1,7 @@
 -- What a run of hosts, one after another, leaves.
 use Rattle.std.specs.Prelude.{◌≡◌, ◌≤◌, ◌<◌, ◌⊎◌, ℕ, ◌^◌, Bool, true, false, List, [], ◌∷◌, ◌++◌, length, Option, Result, Ok, Err, ⊤}
 use Rattle.fault.specs.declared.kinds.Fault.{Fault}
-use Rattle.fault.specs.declared.kinds.Fault.TheVariants.{BadVersion, HostRefused, NoNone, SecurityFailed, BadScreen, LinkFailed, LinkEnded, Memory, NumbersOut}
+use Rattle.fault.specs.declared.kinds.Fault.TheVariants.{BadVersion, HostRefused, NoNone, SecurityFailed, BadScreen, LinkFailed, LinkEnded, Gone, Memory, NoPlace, NumbersOut, QueueFull}
 use Rattle.raster.specs.Screen.{Canvas, opening}
 use Rattle.raster.specs.Switch.{switch}
 use Rattle.raster.specs.Update.{Update}
@@ -10,6 +10,7 @@ use Rattle.rfb_wire.specs.Handshake.{Joined}
 use Rattle.link.specs.Links.{LinkState}
 use Rattle.link.specs.Joins.{FailsAs, Joins}
 use Rattle.host_reader.specs.Running.{EndsBetween, EndsWith}
+use Rattle.host_turns.specs.declared.ending.Ending.{Ending}
 
 -- ---- one host
 
@@ -61,22 +62,40 @@ IsMissed w h password count fault link = (left : LinkState) × (IsUnfit w h pass
 
 -- Whether the next host is taken after this answer of reading or of joining one: where the host ended, its link ended
 -- or failed, or the host has another version, refuses, offers no security type that can be chosen, reports a failed
--- handshake, or has a screen that doesn't fit, as it is joined or later (own).
-abbrev pub goes_on : Result (Unit {0}) Fault → Bool
-goes_on (Ok done) = true
-goes_on (Err BadVersion) = true
-goes_on (Err (HostRefused reason)) = true
-goes_on (Err NoNone) = true
-goes_on (Err SecurityFailed) = true
-goes_on (Err BadScreen) = true
-goes_on (Err LinkFailed) = true
-goes_on (Err LinkEnded) = true
-goes_on (Err _) = false
+-- handshake, or has a screen that doesn't fit, as it is joined or later. After what RFB doesn't have it is taken where
+-- the host had called, and never where the run itself lacks memory, numbers, a place or its screen (own).
+abbrev pub goes_on_after : (has_called : Bool) → Result (Unit {0}) Fault → Bool
+goes_on_after has_called (Ok done) = true
+goes_on_after has_called (Err BadVersion) = true
+goes_on_after has_called (Err (HostRefused reason)) = true
+goes_on_after has_called (Err NoNone) = true
+goes_on_after has_called (Err SecurityFailed) = true
+goes_on_after has_called (Err BadScreen) = true
+goes_on_after has_called (Err LinkFailed) = true
+goes_on_after has_called (Err LinkEnded) = true
+goes_on_after has_called (Err Memory) = false
+goes_on_after has_called (Err Gone) = false
+goes_on_after has_called (Err NoPlace) = false
+goes_on_after has_called (Err QueueFull) = false
+goes_on_after has_called (Err NumbersOut) = false
+goes_on_after has_called (Err _) = has_called
 
--- The stay of a host that was read: the answer, its link after its join and as it was left, and all updates that were
--- put by then.
+abbrev pub goes_on : Ending → Bool
+goes_on ending = goes_on_after ending.has_called ending.answer
+
+-- A host came over a link that stands so. It had called, or was connected to.
+pub record Coming : Type 0 where
+  pub has_called : Bool
+  pub link : LinkState
+
+abbrev pub came_over : Bool → LinkState → Coming
+came_over has_called link = record { has_called = has_called; link = link }
+
+-- The stay of a host that was read: how it came, once it was joined; the answer; its link as it was left; and all
+-- updates that were put by then.
 pub record Stay : Type 0 where
   pub answer : Result (Unit {0}) Fault
+  pub has_called : Bool
   pub joined : LinkState
   pub left : LinkState
   pub put : List Update
@@ -84,34 +103,37 @@ pub record Stay : Type 0 where
 -- What comes of a further host: it is read, or it isn't.
 pub data Turn : Type 0 where
   Read : Stay → Turn
-  Missed : Fault → Turn
+  Missed : (has_called : Bool) → Fault → Turn
 
--- The answer of a turn.
-abbrev pub answer_of : Turn → Result (Unit {0}) Fault
-answer_of (Read stay) = stay.answer
-answer_of (Missed fault) = Err fault
+-- How a stay, or a turn, has ended.
+abbrev pub end_of : Stay → Ending
+end_of stay = record { answer = stay.answer; has_called = stay.has_called }
+
+abbrev pub ending_of : Turn → Ending
+ending_of (Read stay) = end_of stay
+ending_of (Missed has_called fault) = record { answer = Err fault; has_called = has_called }
 
 -- The links of the hosts that were read, and the updates that were put, with those of one turn more.
 abbrev pub links_with : List LinkState → Turn → List LinkState
 links_with links (Read stay) = links ++ stay.left ∷ []
-links_with links (Missed fault) = links
+links_with links (Missed has_called fault) = links
 
 abbrev pub put_with : List Update → Turn → List Update
 put_with old (Read stay) = stay.put
-put_with old (Missed fault) = old
+put_with old (Missed has_called fault) = old
 
--- A host that comes over such a link has this turn, after the updates so far. Either it is joined within the room, then
+-- A host that comes so has this turn, after the updates so far. Either it is joined within the room, then
 -- the switch is put, and then it is read over a black screen; or it is missed, and nothing is put.
-abbrev pub IsTurn : ℕ → ℕ → Option (List ℕ) → (LinkState → Type 0) → List Update → Turn → Type 0
-IsTurn w h password comes old (Read stay) = ((link : LinkState) × comes link × JoinsWithin w h password link stay.joined) × ((black : List Update) × IsSwitched w h old black × IsRead w h stay.answer stay.joined stay.left black stay.put)
-IsTurn w h password comes old (Missed fault) = (link : LinkState) × comes link × IsMissed w h password (length old) fault link
+abbrev pub IsTurn : ℕ → ℕ → Option (List ℕ) → (Coming → Type 0) → List Update → Turn → Type 0
+IsTurn w h password comes old (Read stay) = ((link : LinkState) × comes (came_over stay.has_called link) × JoinsWithin w h password link stay.joined) × ((black : List Update) × IsSwitched w h old black × IsRead w h stay.answer stay.joined stay.left black stay.put)
+IsTurn w h password comes old (Missed has_called fault) = (link : LinkState) × comes (came_over has_called link) × IsMissed w h password (length old) fault link
 
 -- A list of turns has the latest first.
 
--- The answer of the latest of all hosts, the links of those that were read, in turn, and all updates that were put.
-abbrev pub last_answer : Stay → List Turn → Result (Unit {0}) Fault
-last_answer first [] = first.answer
-last_answer first (t ∷ ts) = answer_of t
+-- How the latest of all hosts has ended, the links of those that were read, in turn, and all updates that were put.
+abbrev pub last_ending : Stay → List Turn → Ending
+last_ending first [] = end_of first
+last_ending first (t ∷ ts) = ending_of t
 
 abbrev pub links_of : Stay → List Turn → List LinkState
 links_of first [] = first.left ∷ []
@@ -121,38 +143,38 @@ abbrev pub put_by : Stay → List Turn → List Update
 put_by first [] = first.put
 put_by first (t ∷ ts) = put_with (put_by first ts) t
 
--- These are turns of hosts that come over such links. A host is taken only where goes_on is true of the answer before
--- it.
-abbrev pub AreTurns : ℕ → ℕ → Option (List ℕ) → (LinkState → Type 0) → Stay → List Turn → Type 0
+-- These are turns of hosts that come so. A host is taken only where goes_on is true of the end before it.
+abbrev pub AreTurns : ℕ → ℕ → Option (List ℕ) → (Coming → Type 0) → Stay → List Turn → Type 0
 AreTurns w h password comes first [] = ⊤
-AreTurns w h password comes first (t ∷ ts) = AreTurns w h password comes first ts × (goes_on (last_answer first ts) ≡ true) × IsTurn w h password comes (put_by first ts) t
+AreTurns w h password comes first (t ∷ ts) = AreTurns w h password comes first ts × (goes_on (last_ending first ts) ≡ true) × IsTurn w h password comes (put_by first ts) t
 
--- A first host was read over its link, and then others in turn; the run ended with this answer. These links, of the
--- hosts that were read, are handed back.
-pub record HasRun (w h : ℕ) (password : Option (List ℕ)) (comes : LinkState → Type 0) (result : Result (Unit {0}) Fault) (link : LinkState) (links : List LinkState) (old new : List Update) : Type 0 where
+-- A first host was read that had come so, over its link after its join, and then others in turn; the run ended so.
+-- These links, of the hosts that were read, are handed back.
+pub record HasRun (w h : ℕ) (password : Option (List ℕ)) (comes : Coming → Type 0) (last_end : Ending) (came : Coming) (links : List LinkState) (old new : List Update) : Type 0 where
   pub first : Stay
-  pub begins : first.joined ≡ link
-  pub read : IsRead w h first.answer link first.left old first.put
+  pub begins : first.joined ≡ came.link
+  pub comes_as : first.has_called ≡ came.has_called
+  pub read : IsRead w h first.answer came.link first.left old first.put
   pub turns : List Turn
   pub in_turn : AreTurns w h password comes first turns
-  pub last : result ≡ last_answer first turns
+  pub last : last_end ≡ last_ending first turns
   pub handed : links ≡ links_of first turns
   pub put : new ≡ put_by first turns
 
--- This is the state of the link of an end that came so.
-abbrev pub IsLinkOf : {L : Type 0} → (L → LinkState) → (L → Type 0) → LinkState → Type 0
-IsLinkOf {L} state came link = (end : L) × came end × (link ≡ state end)
+-- A host came so: this is the state of the link of an end that came.
+abbrev pub IsComing : {L : Type 0} → (L → LinkState) → (Bool → L → Type 0) → Coming → Type 0
+IsComing {L} state came coming = (end : L) × came coming.has_called end × (coming.link ≡ state end)
 
--- Why a run ends: no host is taken after its answer, or no host is left.
-abbrev pub IsOver : {H : Type 0} → (H → Type 0) → H → Result (Unit {0}) Fault → Type 0
-IsOver {H} are_out hosts result = (goes_on result ≡ false) ⊎ are_out hosts
+-- Why a run ends: no host is taken after its last end of one, or no host is left.
+abbrev pub IsOver : {H : Type 0} → (H → Type 0) → H → Ending → Type 0
+IsOver {H} are_out hosts last_end = (goes_on last_end ≡ false) ⊎ are_out hosts
 
 -- ---- on the way
 
 -- A further host had its turn.
-pub record HasTurn (w h : ℕ) (password : Option (List ℕ)) (comes : LinkState → Type 0) (result : Result (Unit {0}) Fault) (links_old links_new : List LinkState) (old new : List Update) : Type 0 where
+pub record HasTurn (w h : ℕ) (password : Option (List ℕ)) (comes : Coming → Type 0) (last_end : Ending) (links_old links_new : List LinkState) (old new : List Update) : Type 0 where
   pub turn : Turn
   pub is : IsTurn w h password comes old turn
-  pub answer : result ≡ answer_of turn
+  pub ends : last_end ≡ ending_of turn
   pub handed : links_new ≡ links_with links_old turn
   pub put : new ≡ put_with old turn

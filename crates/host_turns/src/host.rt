@@ -7,7 +7,7 @@ ghost use Rattle.raster.specs.Size.{IsScreenSize};
 ghost use Rattle.raster.specs.Switch.{switch};
 ghost use Rattle.host_decoder.specs.Decoder.{Decodes, IsFor, host_message};
 ghost use Rattle.fault.specs.declared.kinds.Fault.TheVariants.{Memory};
-ghost use Rattle.host_turns.specs.Running.{IsMissed, IsReadOut, IsSwitched, IsUnfit, IsWant, JoinsWithin, goes_on};
+ghost use Rattle.host_turns.specs.Running.{IsMissed, IsReadOut, IsSwitched, IsUnfit, IsWant, JoinsWithin};
 
 use crate::supply::Hosts;
 use fault::Fault;
@@ -30,25 +30,6 @@ pub struct RunScreen {
     /// The password that hosts may ask for, if one is known.
     pub password: Option<Password>,
     pub ghost size: { IsScreenSize width height },
-}
-
-/// Whether the next host is taken after this answer of reading or of joining one.
-pub(crate) fn goes_on(answer: &Result<(), Fault>) -> bool
-    ensures { result ≡ goes_on answer.now }
-{
-    match answer {
-        Ok(()) => true,
-        Err(
-            Fault::BadVersion
-            | Fault::HostRefused(_)
-            | Fault::NoNone
-            | Fault::SecurityFailed
-            | Fault::BadScreen
-            | Fault::LinkFailed
-            | Fault::LinkEnded,
-        ) => true,
-        Err(_) => false,
-    }
 }
 
 /// Reads a host over a black screen to its end. No handle is beside its link and the publisher.

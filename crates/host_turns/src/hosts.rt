@@ -3,7 +3,7 @@
 ghost use Rattle.std.specs.Prelude.{◌≡◌, true, None, [], map};
 ghost use Rattle.raster.specs.Screen.{opening};
 ghost use Rattle.host_decoder.specs.Decoder.{Decodes, host_message};
-ghost use Rattle.host_turns.specs.Running.{HasRun, IsLinkOf, IsOver, goes_on};
+ghost use Rattle.host_turns.specs.Running.{HasRun, IsComing, IsOver, came_over, goes_on};
 
 use crate::stages::{EndedRun, JoinedRun};
 use crate::supply::Hosts;
@@ -37,11 +37,11 @@ impl<'a, L: Link, P: Puts, R: Wait> ReadsOn<L, P> for Waiting<'a, R> {
 /// it is handed over to the thread that tells it. It is given the run, which it can't take apart: all that it can do is
 /// to call the steps of the run's stages, and to wait.
 ///
-/// Where the first host has its turn again, the call ends only with an answer after which no host is taken.
+/// Where the first host has its turn again, the call ends only with an end of a host after which no other is taken.
 ///
-/// The run's last answer is that of the last host: the fault of reading or of joining it, `BadScreen` where its screen
-/// doesn't fit into the room, `Memory` where memory that it needs is refused, and `NumbersOut` where there is no number
-/// for its switch.
+/// The run's last answer is that of the last host, which had called or not: the fault of reading or of joining it,
+/// `BadScreen` where its screen doesn't fit into the room, `Memory` where memory that it needs is refused, and
+/// `NumbersOut` where there is no number for its switch.
 pub fn read_all<'a, L, H, P, W, T, R>(
     rt: &R,
     run: JoinedRun<'a, L, H, P, W, T>,
@@ -55,7 +55,7 @@ where
     R: Wait,
     requires begins { Decodes run.screen.decoder run.screen.painter opening (host_message run.run_screen.now.width run.run_screen.now.height) }
     requires none { run.links.items ≡ [] }
-    ensures run { HasRun run.entry.run_screen.now.width run.entry.run_screen.now.height run.entry.run_screen.now.password (IsLinkOf L.state H.came) result.last (L.state run.entry.reader) (map L.state result.links.items) (P.updates run.entry.publisher) (P.updates result.publisher) }
+    ensures run { HasRun run.entry.run_screen.now.width run.entry.run_screen.now.height run.entry.run_screen.now.password (IsComing L.state H.came) result.last (came_over run.entry.has_called (L.state run.entry.reader)) (map L.state result.links.items) (P.updates run.entry.publisher) (P.updates result.publisher) }
     ensures over { IsOver H.are_out result.hosts result.last }
     ensures never { goes_on result.last ≡ true → H.again run.entry.first.now.hosts.value ≡ None }
 {

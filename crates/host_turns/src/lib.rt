@@ -4,14 +4,16 @@
 //! It takes memory for each further host: room for its link, and for what reads the host.
 #![tactic(auto)]
 
+mod ending;
 mod handover;
 mod host;
 mod hosts;
 mod stages;
 mod supply;
 
+pub use ending::Ending;
 pub use handover::{Handover, NumberedLink, SealedEnd};
 pub use host::RunScreen;
 pub use hosts::read_all;
 pub use stages::{EndedRun, IdleRun, JoinedRun, MetRun, RunBeginning};
-pub use supply::{Hosts, NoHosts};
+pub use supply::{HostEnds, Hosts, NoHosts};

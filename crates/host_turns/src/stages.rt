@@ -7,11 +7,12 @@ ghost use Rattle.raster.specs.Screen.{opening};
 ghost use Rattle.host_decoder.specs.Decoder.{Decodes, IsFor, host_message};
 ghost use Rattle.link.specs.Links.{LinkState};
 ghost use Rattle.host_turns.specs.Moment.{IsBegun};
-ghost use Rattle.host_turns.specs.Running.{HasRun, IsLinkOf, IsMissed, IsOver, IsRead, IsSwitched, JoinsWithin, goes_on};
+ghost use Rattle.host_turns.specs.Running.{HasRun, IsComing, IsMissed, IsOver, IsRead, IsSwitched, JoinsWithin, came_over, goes_on};
 
+use crate::ending::{Ending, goes_on};
 use crate::handover::{Handover, SealedEnd};
-use crate::host::{RunScreen, goes_on, meet, read};
-use crate::supply::Hosts;
+use crate::host::{RunScreen, meet, read};
+use crate::supply::{HostEnds, Hosts};
 use fault::Fault;
 use host_decoder::HostScreen;
 use host_reader::ReadsOn;
@@ -23,6 +24,7 @@ use std::snapshot::Snapshot;
 
 /// How a run began. At run time it has no bytes: only clauses read it.
 pub struct RunBeginning<L, H, P> {
+    pub has_called: Snapshot<bool>,
     pub reader: Snapshot<L>,
     pub hosts: Snapshot<H>,
     pub publisher: Snapshot<P>,
@@ -31,6 +33,7 @@ pub struct RunBeginning<L, H, P> {
 impl<L, H, P> Drop for RunBeginning<L, H, P> {
     fn drop(self) {
         let RunBeginning {
+            has_called: _,
             reader: _,
             hosts: _,
             publisher: _,
@@ -39,13 +42,15 @@ impl<L, H, P> Drop for RunBeginning<L, H, P> {
 }
 
 impl<L, H, P> RunBeginning<L, H, P> {
-    /// The beginning of a run whose first host is read over this link.
-    pub fn of(reader: &L, hosts: &H, publisher: &P) -> Self
+    /// The beginning of a run whose first host is read over this link, and has called or not.
+    pub fn of(has_called: bool, reader: &L, hosts: &H, publisher: &P) -> Self
+        ensures has_called { result.has_called.value ≡ has_called }
         ensures reader { result.reader.value ≡ reader.now }
         ensures hosts { result.hosts.value ≡ hosts.now }
         ensures publisher { result.publisher.value ≡ publisher.now }
     {
         RunBeginning {
+            has_called: Snapshot::of(&has_called),
             reader: Snapshot::of(reader),
             hosts: Snapshot::of(hosts),
             publisher: Snapshot::of(publisher),
@@ -62,6 +67,7 @@ impl<L, H, P> RunBeginning<L, H, P> {
 pub struct JoinedRun<'a, L: Link, H: Hosts<L>, P: Puts, W: Alarm + Drop, T: Drop> {
     run_screen: &'a RunScreen,
     handover: &'a Handover<L, W>,
+    has_called: bool,
     reader: L,
     screen: HostScreen,
     hosts: H,
@@ -75,14 +81,14 @@ pub struct JoinedRun<'a, L: Link, H: Hosts<L>, P: Puts, W: Alarm + Drop, T: Drop
     ghost paired: { (screen.painter.width ≡ screen.decoder.width) × (screen.painter.height ≡ screen.decoder.height) },
     ghost size: { (P.width publisher ≡ run_screen.now.width) × (P.height publisher ≡ run_screen.now.height) },
     ghost again: { H.again hosts ≡ H.again first.now.hosts.value },
-    ghost lawful: { ∥ IsBegun run_screen.now.width run_screen.now.height run_screen.now.password (IsLinkOf L.state H.came) (L.state first.now.reader.value) (L.state reader) (map L.state links.items) (P.updates first.now.publisher.value) (P.updates publisher) ∥₁ },
+    ghost lawful: { ∥ IsBegun run_screen.now.width run_screen.now.height run_screen.now.password (IsComing L.state H.came) (came_over first.now.has_called.value (L.state first.now.reader.value)) (came_over has_called (L.state reader)) (map L.state links.items) (P.updates first.now.publisher.value) (P.updates publisher) ∥₁ },
 }
 
-/// A run between two hosts. Its last answer is that of reading the last host, or of joining it.
+/// A run between two hosts. Its last end is how reading the last host has ended, or joining it.
 pub struct IdleRun<'a, L: Link, H: Hosts<L>, P: Puts, W: Alarm + Drop, T: Drop> {
     run_screen: &'a RunScreen,
     handover: &'a Handover<L, W>,
-    last: Result<(), Fault>,
+    last: Ending,
     hosts: H,
     links: Vec<L>,
     publisher: P,
@@ -90,7 +96,7 @@ pub struct IdleRun<'a, L: Link, H: Hosts<L>, P: Puts, W: Alarm + Drop, T: Drop> 
     key: PhantomData<T>,
     ghost size: { (P.width publisher ≡ run_screen.now.width) × (P.height publisher ≡ run_screen.now.height) },
     ghost again: { H.again hosts ≡ H.again first.now.hosts.value },
-    ghost lawful: { ∥ HasRun run_screen.now.width run_screen.now.height run_screen.now.password (IsLinkOf L.state H.came) last (L.state first.now.reader.value) (map L.state links.items) (P.updates first.now.publisher.value) (P.updates publisher) ∥₁ },
+    ghost lawful: { ∥ HasRun run_screen.now.width run_screen.now.height run_screen.now.password (IsComing L.state H.came) last (came_over first.now.has_called.value (L.state first.now.reader.value)) (map L.state links.items) (P.updates first.now.publisher.value) (P.updates publisher) ∥₁ },
 }
 
 /// A run for whose next host both ends of a connection have come: one to be read, and a sealed one to be written. The
@@ -98,7 +104,8 @@ pub struct IdleRun<'a, L: Link, H: Hosts<L>, P: Puts, W: Alarm + Drop, T: Drop> 
 pub struct MetRun<'a, L: Link, H: Hosts<L>, P: Puts, W: Alarm + Drop, T: Drop> {
     run_screen: &'a RunScreen,
     handover: &'a Handover<L, W>,
-    last: Result<(), Fault>,
+    last: Ending,
+    has_called: bool,
     reader: L,
     writer: SealedEnd<L>,
     hosts: H,
@@ -109,45 +116,48 @@ pub struct MetRun<'a, L: Link, H: Hosts<L>, P: Puts, W: Alarm + Drop, T: Drop> {
     ghost on: { goes_on last ≡ true },
     ghost size: { (P.width publisher ≡ run_screen.now.width) × (P.height publisher ≡ run_screen.now.height) },
     ghost again: { H.again hosts ≡ H.again first.now.hosts.value },
-    ghost lawful: { ∥ (H.came reader × HasRun run_screen.now.width run_screen.now.height run_screen.now.password (IsLinkOf L.state H.came) last (L.state first.now.reader.value) (map L.state links.items) (P.updates first.now.publisher.value) (P.updates publisher)) ∥₁ },
+    ghost lawful: { ∥ (H.came has_called reader × HasRun run_screen.now.width run_screen.now.height run_screen.now.password (IsComing L.state H.came) last (came_over first.now.has_called.value (L.state first.now.reader.value)) (map L.state links.items) (P.updates first.now.publisher.value) (P.updates publisher)) ∥₁ },
 }
 
-/// A run that is over: no host is taken after its last answer, or none is left.
+/// A run that is over: no host is taken after its last end of one, or none is left.
 pub struct EndedRun<'a, L: Link, H: Hosts<L>, P: Puts, W: Alarm + Drop, T: Drop> {
     run_screen: &'a RunScreen,
     handover: &'a Handover<L, W>,
-    last: Result<(), Fault>,
+    last: Ending,
     hosts: H,
     links: Vec<L>,
     publisher: P,
     first: &'a RunBeginning<L, H, P>,
     key: PhantomData<T>,
-    ghost lawful: { ∥ HasRun run_screen.now.width run_screen.now.height run_screen.now.password (IsLinkOf L.state H.came) last (L.state first.now.reader.value) (map L.state links.items) (P.updates first.now.publisher.value) (P.updates publisher) ∥₁ },
+    ghost lawful: { ∥ HasRun run_screen.now.width run_screen.now.height run_screen.now.password (IsComing L.state H.came) last (came_over first.now.has_called.value (L.state first.now.reader.value)) (map L.state links.items) (P.updates first.now.publisher.value) (P.updates publisher) ∥₁ },
 }
 
 impl<'a, L: Link, H: Hosts<L>, P: Puts, W: Alarm + Drop, T: Drop> JoinedRun<'a, L, H, P, W, T> {
-    /// A run that begins, with a first host that was joined over this link. There is room for its link.
+    /// A run that begins, with a first host that was joined over this link, and has called or not. There is room for
+    /// its link.
     pub fn new(
         first: &'a RunBeginning<L, H, P>,
         run_screen: &'a RunScreen,
         handover: &'a Handover<L, W>,
+        has_called: bool,
         reader: L,
         screen: HostScreen,
         hosts: H,
         links: Vec<L>,
         publisher: P,
     ) -> Self
-        requires first { (first.now.reader.value ≡ reader) × (first.now.hosts.value ≡ hosts) × (first.now.publisher.value ≡ publisher) }
+        requires first { (first.now.has_called.value ≡ has_called) × (first.now.reader.value ≡ reader) × (first.now.hosts.value ≡ hosts) × (first.now.publisher.value ≡ publisher) }
         requires room { (links.items ≡ []) × (0 < vec_capacity links) }
         requires size { (screen.decoder.width ≡ run_screen.now.width) × (screen.decoder.height ≡ run_screen.now.height) }
         requires pair { IsFor screen.decoder screen.painter }
         requires publisher { (P.width publisher ≡ run_screen.now.width) × (P.height publisher ≡ run_screen.now.height) }
-        ensures parts { (result.reader ≡ reader) × (result.screen ≡ screen) × (result.links ≡ links) × (result.publisher ≡ publisher) }
+        ensures parts { (result.has_called ≡ has_called) × (result.reader ≡ reader) × (result.screen ≡ screen) × (result.links ≡ links) × (result.publisher ≡ publisher) }
         ensures lent { (result.first ≡ first.entry) × (result.run_screen ≡ run_screen.entry) }
     {
         JoinedRun {
             run_screen,
             handover,
+            has_called,
             reader,
             screen,
             hosts,
@@ -162,7 +172,7 @@ impl<'a, L: Link, H: Hosts<L>, P: Puts, W: Alarm + Drop, T: Drop> JoinedRun<'a, 
     /// reading begins, of which `host_reader::Reading::so_far` speaks: what the run was before, how the host was
     /// joined, and that nothing but its switch was put since.
     pub fn so_far(&self)
-        ensures { ∥ IsBegun self.now.run_screen.now.width self.now.run_screen.now.height self.now.run_screen.now.password (IsLinkOf L.state H.came) (L.state self.now.first.now.reader.value) (L.state self.now.reader) (map L.state self.now.links.items) (P.updates self.now.first.now.publisher.value) (P.updates self.now.publisher) ∥₁ }
+        ensures { ∥ IsBegun self.now.run_screen.now.width self.now.run_screen.now.height self.now.run_screen.now.password (IsComing L.state H.came) (came_over self.now.first.now.has_called.value (L.state self.now.first.now.reader.value)) (came_over self.now.has_called (L.state self.now.reader)) (map L.state self.now.links.items) (P.updates self.now.first.now.publisher.value) (P.updates self.now.publisher) ∥₁ }
     {}
 
     /// Where the thread that tells the hosts is handed the host's other end.
@@ -174,12 +184,14 @@ impl<'a, L: Link, H: Hosts<L>, P: Puts, W: Alarm + Drop, T: Drop> JoinedRun<'a, 
     /// reads on is lent the host's reading, and nothing else.
     pub fn read<F: ReadsOn<L, P>>(self, by: &F) -> IdleRun<'a, L, H, P, W, T>
         requires { Decodes self.screen.decoder self.screen.painter opening (host_message self.run_screen.now.width self.run_screen.now.height) }
-        ensures read { (left : LinkState) × (map L.state result.links.items ≡ map L.state self.entry.links.items ++ left ∷ []) × IsRead self.entry.run_screen.now.width self.entry.run_screen.now.height result.last (L.state self.entry.reader) left (P.updates self.entry.publisher) (P.updates result.publisher) }
+        ensures called { result.last ≡ record { answer = result.last.answer; has_called = self.entry.has_called } }
+        ensures read { (left : LinkState) × (map L.state result.links.items ≡ map L.state self.entry.links.items ++ left ∷ []) × IsRead self.entry.run_screen.now.width self.entry.run_screen.now.height result.last.answer (L.state self.entry.reader) left (P.updates self.entry.publisher) (P.updates result.publisher) }
         ensures lent { (result.first ≡ self.entry.first) × (result.run_screen ≡ self.entry.run_screen) }
     {
         let JoinedRun {
             run_screen,
             handover,
+            has_called,
             mut reader,
             screen,
             mut hosts,
@@ -198,7 +210,10 @@ impl<'a, L: Link, H: Hosts<L>, P: Puts, W: Alarm + Drop, T: Drop> JoinedRun<'a, 
         IdleRun {
             run_screen,
             handover,
-            last,
+            last: Ending {
+                answer: last,
+                has_called,
+            },
             hosts,
             links,
             publisher,
@@ -214,13 +229,13 @@ impl<'a, L: Link, H: Hosts<L>, P: Puts, W: Alarm + Drop, T: Drop> IdleRun<'a, L,
     /// no host was given anything over the end that was read, after its join; and the links so far are those of the
     /// hosts that were read.
     pub fn so_far(&self)
-        ensures { ∥ HasRun self.now.run_screen.now.width self.now.run_screen.now.height self.now.run_screen.now.password (IsLinkOf L.state H.came) self.now.last (L.state self.now.first.now.reader.value) (map L.state self.now.links.items) (P.updates self.now.first.now.publisher.value) (P.updates self.now.publisher) ∥₁ }
+        ensures { ∥ HasRun self.now.run_screen.now.width self.now.run_screen.now.height self.now.run_screen.now.password (IsComing L.state H.came) self.now.last (came_over self.now.first.now.has_called.value (L.state self.now.first.now.reader.value)) (map L.state self.now.links.items) (P.updates self.now.first.now.publisher.value) (P.updates self.now.publisher) ∥₁ }
     {}
 
-    /// Asks for the next host, where one is taken after the last answer. It answers the run that is over where none is
-    /// taken, or none is left.
+    /// Asks for the next host, where one is taken after the end of the last. It answers the run that is over where none
+    /// is taken, or none is left.
     pub fn next(self) -> Result<MetRun<'a, L, H, P, W, T>, EndedRun<'a, L, H, P, W, T>>
-        ensures came { IfOk result (λ met. H.came met.reader) }
+        ensures came { IfOk result (λ met. H.came met.has_called met.reader) }
         ensures met { IfOk result (λ met. (met.last ≡ self.entry.last) × (met.links ≡ self.entry.links) × (met.publisher ≡ self.entry.publisher) × (met.first ≡ self.entry.first) × (met.run_screen ≡ self.entry.run_screen)) }
         ensures ended { IfErr result (λ ended. (ended.last ≡ self.entry.last) × (ended.links ≡ self.entry.links) × (ended.publisher ≡ self.entry.publisher)) }
         ensures over { IfErr result (λ ended. IsOver H.are_out ended.hosts ended.last) }
@@ -248,7 +263,7 @@ impl<'a, L: Link, H: Hosts<L>, P: Puts, W: Alarm + Drop, T: Drop> IdleRun<'a, L,
                 key,
             });
         }
-        let Some((reader, end)) = hosts.next() else {
+        let Some(host) = hosts.next() else {
             return Err(EndedRun {
                 run_screen,
                 handover,
@@ -260,12 +275,18 @@ impl<'a, L: Link, H: Hosts<L>, P: Puts, W: Alarm + Drop, T: Drop> IdleRun<'a, L,
                 key,
             });
         };
+        let HostEnds {
+            reader,
+            writer,
+            has_called,
+        } = host;
         Ok(MetRun {
             run_screen,
             handover,
             last,
+            has_called,
             reader,
-            writer: SealedEnd::new(end),
+            writer: SealedEnd::new(writer),
             hosts,
             links,
             publisher,
@@ -279,7 +300,7 @@ impl<'a, L: Link, H: Hosts<L>, P: Puts, W: Alarm + Drop, T: Drop> MetRun<'a, L, 
     /// It does nothing. Its clause says what is true of the run at every moment from the coming of a host on, until its
     /// join begins: what the run was before, and that the end to be read is as it came.
     pub fn so_far(&self)
-        ensures { ∥ (H.came self.now.reader × HasRun self.now.run_screen.now.width self.now.run_screen.now.height self.now.run_screen.now.password (IsLinkOf L.state H.came) self.now.last (L.state self.now.first.now.reader.value) (map L.state self.now.links.items) (P.updates self.now.first.now.publisher.value) (P.updates self.now.publisher)) ∥₁ }
+        ensures { ∥ (H.came self.now.has_called self.now.reader × HasRun self.now.run_screen.now.width self.now.run_screen.now.height self.now.run_screen.now.password (IsComing L.state H.came) self.now.last (came_over self.now.first.now.has_called.value (L.state self.now.first.now.reader.value)) (map L.state self.now.links.items) (P.updates self.now.first.now.publisher.value) (P.updates self.now.publisher)) ∥₁ }
     {}
 
     /// Joins the host within the room, and then puts the switch. It answers the run whose host is joined, with the
@@ -292,14 +313,16 @@ impl<'a, L: Link, H: Hosts<L>, P: Puts, W: Alarm + Drop, T: Drop> MetRun<'a, L, 
         ensures joins { IfOk result (λ joined. JoinsWithin self.entry.run_screen.now.width self.entry.run_screen.now.height self.entry.run_screen.now.password (L.state self.entry.reader) (L.state joined.0.reader)) }
         ensures switched { IfOk result (λ joined. IsSwitched self.entry.run_screen.now.width self.entry.run_screen.now.height (P.updates self.entry.publisher) (P.updates joined.0.publisher)) }
         ensures begins { IfOk result (λ joined. Decodes joined.0.screen.decoder joined.0.screen.painter opening (host_message self.entry.run_screen.now.width self.entry.run_screen.now.height)) }
+        ensures called { IfOk result (λ joined. joined.0.has_called ≡ self.entry.has_called) }
         ensures joined { IfOk result (λ joined. (joined.0.links.items ≡ self.entry.links.items) × (joined.0.first ≡ self.entry.first) × (joined.0.run_screen ≡ self.entry.run_screen)) }
-        ensures missed { IfErr result (λ run. (fault : Fault) × (run.last ≡ Err fault) × IsMissed self.entry.run_screen.now.width self.entry.run_screen.now.height self.entry.run_screen.now.password (length (P.updates self.entry.publisher)) fault (L.state self.entry.reader)) }
+        ensures missed { IfErr result (λ run. (fault : Fault) × (run.last ≡ record { answer = Err fault; has_called = self.entry.has_called }) × IsMissed self.entry.run_screen.now.width self.entry.run_screen.now.height self.entry.run_screen.now.password (length (P.updates self.entry.publisher)) fault (L.state self.entry.reader)) }
         ensures unread { IfErr result (λ run. (run.links.items ≡ self.entry.links.items) × (P.updates run.publisher ≡ P.updates self.entry.publisher) × (run.first ≡ self.entry.first) × (run.run_screen ≡ self.entry.run_screen)) }
     {
         let MetRun {
             run_screen,
             handover,
             last: _,
+            has_called,
             mut reader,
             writer,
             mut hosts,
@@ -321,6 +344,7 @@ impl<'a, L: Link, H: Hosts<L>, P: Puts, W: Alarm + Drop, T: Drop> MetRun<'a, L, 
                 let joined = JoinedRun {
                     run_screen,
                     handover,
+                    has_called,
                     reader,
                     screen,
                     hosts,
@@ -334,11 +358,15 @@ impl<'a, L: Link, H: Hosts<L>, P: Puts, W: Alarm + Drop, T: Drop> MetRun<'a, L, 
             Err(fault) => {
                 // The fault is also kept, so it is copied first.
                 let why = fault;
+                let last = Ending {
+                    answer: Err(fault),
+                    has_called,
+                };
                 hosts.left(&mut reader, Err(why));
                 Err(IdleRun {
                     run_screen,
                     handover,
-                    last: Err(fault),
+                    last,
                     hosts,
                     links,
                     publisher,
@@ -356,9 +384,9 @@ impl<'a, L: Link, H: Hosts<L>, P: Puts, W: Alarm + Drop, T: Drop> EndedRun<'a, L
         self.handover
     }
 
-    /// What the run had, as it ended: its last answer, where further hosts come from, the links of the hosts that were
-    /// read, and the publisher.
-    pub fn into_parts(self, _key: T) -> (Result<(), Fault>, H, Vec<L>, P)
+    /// What the run had, as it ended: how its last host has ended, where further hosts come from, the links of the
+    /// hosts that were read, and the publisher.
+    pub fn into_parts(self, _key: T) -> (Ending, H, Vec<L>, P)
         ensures { (result.0 ≡ self.entry.last) × (result.1 ≡ self.entry.hosts) × (result.2 ≡ self.entry.links) × (result.3 ≡ self.entry.publisher) }
     {
         let EndedRun {

@@ -7,13 +7,24 @@ use fault::Fault;
 use link::Link;
 use rfb_wire::Joined;
 
+/// The two ends of a host's connection.
+#[derive(Drop)]
+pub struct HostEnds<L: Link> {
+    /// The end to be read. Over it the host is joined, so it has to limit the time for the handshake.
+    pub reader: L,
+    /// The end to be written, over which nothing was given yet.
+    pub writer: L,
+    /// Whether the host has called. Otherwise it was connected to.
+    pub has_called: bool,
+}
+
 /// Where the hosts come from that follow one that has ended. It is asked in the thread that reads the hosts.
 pub trait Hosts<L: Link>: Drop {
-    ghost use Rattle.std.specs.Prelude.{ℕ, Option};
+    ghost use Rattle.std.specs.Prelude.{ℕ, Bool, Option};
 
-    /// The fact that this is the end to be read of a host's connection, just as it came. Only `next` says so, and each
-    /// supply says what it means.
-    ghost came: { L → Type 0 };
+    /// The fact that this is the end to be read of the connection of a host, which has called or not, just as it came.
+    /// Only `next` says so, and each supply says what it means.
+    ghost came: { (has_called : Bool) → L → Type 0 };
 
     /// The fact that no host is left. Only `next` says so, and each supply says what it means.
     ghost are_out: { Self → Type 0 };
@@ -22,12 +33,10 @@ pub trait Hosts<L: Link>: Drop {
     /// this. Where the first host has its turn again there is always a next host.
     ghost again: { Self → Option ℕ };
 
-    /// The connection to the next host, the end to be read and the end to be written, which was given nothing yet, or
-    /// `None` where no host is left. It may wait without an end. The host is joined over the end to be read, so that
-    /// link has to limit the time for the handshake.
-    fn next(&mut self) -> Option<(L, L)>
-        ensures came { IfSome result (λ ends. came ends.0) }
-        ensures fresh { IfSome result (λ ends. L.state ends.1 ≡ unused) }
+    /// The connection of the next host, or `None` where no host is left. It may wait without an end.
+    fn next(&mut self) -> Option<HostEnds<L>>
+        ensures came { IfSome result (λ host. came host.has_called host.reader) }
+        ensures fresh { IfSome result (λ host. L.state host.writer ≡ unused) }
         ensures out { IsNone result → are_out self.new }
         ensures never { IsNone result → again self.old ≡ None }
         ensures again { again self.new ≡ again self.old };
@@ -51,13 +60,13 @@ pub struct NoHosts;
 impl<L: Link> Hosts<L> for NoHosts {
     ghost use Rattle.std.specs.Prelude.{⊤, None};
 
-    ghost came = { λ _. ⊤ };
+    ghost came = { λ _ _. ⊤ };
 
     ghost are_out = { λ _. ⊤ };
 
     ghost again = { λ _. None };
 
-    fn next(&mut self) -> Option<(L, L)> {
+    fn next(&mut self) -> Option<HostEnds<L>> {
         None
     }
 

@@ -15,8 +15,8 @@ abbrev pub first_messages : Joined → List ℕ
 first_messages joined =
     set_pixel_format_bytes host_format ++ set_encodings_bytes (1 ∷ 5 ∷ 2 ∷ 0 ∷ desktop_size ∷ []) ++ request_bytes false (record { x = 0; y = 0; w = joined.w; h = joined.h })
 
--- One whole handshake of the host was taken, and the client's side with this password and the first messages were given.
--- The link neither failed nor ended.
+-- One whole handshake of the host was taken, and the client's side with this password and the first messages were
+-- given. The link neither failed nor ended.
 pub record Joins (password : Option (List ℕ)) (old new : LinkState) (joined : Joined) : Type 0 where
   pub heard : List ℕ
   pub taken : new.taken ≡ old.taken ++ heard

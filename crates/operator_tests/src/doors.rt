@@ -10,6 +10,7 @@ fn lines_are_read(rt: HostRuntime) {
         ("state json", Request::State(Form::Json)),
         ("drain", Request::Drain),
         ("undrain", Request::Undrain),
+        ("next", Request::Next),
         ("stop", Request::Stop),
         ("end 1", Request::End(1)),
         ("end 64", Request::End(64)),
@@ -48,6 +49,7 @@ fn other_lines_are_not(rt: HostRuntime) {
         "end 18446744073709551616",
         "drain 1",
         "undrained",
+        "next 1",
         "quit",
     ] {
         assert_eq!(rt; Request::read(line), None, "{line}");
@@ -92,11 +94,14 @@ fn one_is_asked_to_leave_and_then_all(rt: HostRuntime) -> Result<(), Fail> {
     );
     doors.leave(2);
     assert!(rt; doors.enter(2) && !doors.is_asked(2));
+    assert_eq!(rt; doors.ask(Request::Next), Outcome::Done);
+    assert!(rt; !doors.is_asked(1));
     assert_eq!(rt; doors.ask(Request::Stop), Outcome::Done);
     assert_eq!(rt;
         (doors.is_asked(1), doors.is_asked(3), doors.is_asked(4)),
         (true, true, false)
     );
+    assert_eq!(rt; doors.ask(Request::Next), Outcome::Ending);
     assert_eq!(rt; doors.ask(Request::Undrain), Outcome::Ending);
     assert_eq!(rt; doors.ask(Request::Drain), Outcome::Done);
     assert_eq!(rt; doors.entry(), Entry::Closed);

@@ -1,6 +1,5 @@
 -- What a run was, for whoever is handed what shows that it was run (own).
-use Rattle.std.specs.Prelude.{◌≤◌, ℕ, List, [], Option, None, Result, Ok, ⊤}
-use Rattle.fault.specs.declared.kinds.Fault.{Fault}
+use Rattle.std.specs.Prelude.{◌≤◌, ℕ, false, List, [], Option, None, Ok, ⊤}
 use Rattle.raster.specs.Update.{Update}
 use Rattle.rfb_wire.specs.Handshake.{Joined}
 use Rattle.joined_runs.specs.declared.runs.Runs.{Runs}
@@ -10,14 +9,15 @@ use Rattle.link.specs.Links.{LinkState}
 use Rattle.link.specs.Joins.{Joins}
 use Rattle.input_relay.specs.declared.queue.Message.{Message}
 use Rattle.run_traits.specs.Unused.{unused}
-use Rattle.host_turns.specs.Running.{HasRun}
+use Rattle.host_turns.specs.declared.ending.Ending.{Ending}
+use Rattle.host_turns.specs.Running.{Coming, HasRun, came_over}
 use Rattle.reflector.specs.Tellings.{AreToldInTurn}
 
 -- A run, without the types of its links, hosts and doors: the first host, as it was joined; the size of the room, which
--- viewers are told; the password with which hosts are joined, if one is known; the form in which all viewers are
--- answered; the roles of the places, in order; the answer with which the run ended; the link that the first host was
--- read of, after its join; the links of the hosts that were read, as they were left; the links over which the hosts were
--- told, each as it came and then as it was left; the input that was taken of the places; and the updates that were put.
+-- viewers are told; the form in which all viewers are answered; the roles of the places, in order; how the last host
+-- has ended; how the first host came, over the link that it was read of, after its join; the links of the hosts that
+-- were read, as they were left; the links over which the hosts were told, each as it came and then as it was left; the
+-- input that was taken of the places; and the updates that were put.
 pub record Course : Type 0 where
   pub host : Joined
   pub room_width : ℕ
@@ -25,8 +25,8 @@ pub record Course : Type 0 where
   pub password : Option (List ℕ)
   pub form : Runs
   pub roles : List Role
-  pub answer : Result (Unit {0}) Fault
-  pub link : LinkState
+  pub last_end : Ending
+  pub came : Coming
   pub links : List LinkState
   pub told : List LinkState
   pub taken : List Message
@@ -37,9 +37,9 @@ pub record Course : Type 0 where
 -- with a switch to black between two hosts. And the hosts were told one after another, each a beginning of what is said
 -- for the input that was taken for it.
 pub record IsReflected (course : Course) : Type 0 where
-  pub joins : ∥ Joins course.password unused course.link course.host ∥₁
+  pub joins : ∥ Joins course.password unused course.came.link course.host ∥₁
   pub fits : (course.host.w ≤ course.room_width) × (course.host.h ≤ course.room_height)
-  pub run : HasRun course.room_width course.room_height course.password (λ _. ⊤) course.answer course.link course.links [] course.updates
+  pub run : HasRun course.room_width course.room_height course.password (λ _. ⊤) course.last_end course.came course.links [] course.updates
   pub told : AreToldInTurn course.room_width course.room_height [] course.told course.taken
 
 -- The course of no run.
@@ -51,8 +51,8 @@ no_course = record {
   password = None;
   form = OfRows;
   roles = [];
-  answer = Ok tt;
-  link = unused;
+  last_end = record { answer = Ok tt; has_called = false };
+  came = came_over false unused;
   links = [];
   told = [];
   taken = [];

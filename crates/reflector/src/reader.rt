@@ -4,11 +4,11 @@ ghost use Rattle.std.specs.Prelude.{◌≡◌, ◌<◌, true, None, [], map, vec
 ghost use Rattle.fault.specs.declared.kinds.Fault.TheVariants.{Memory};
 ghost use Rattle.raster.specs.Screen.{opening};
 ghost use Rattle.host_decoder.specs.Decoder.{Decodes, IsFor, host_message};
-ghost use Rattle.host_turns.specs.Running.{HasRun, IsLinkOf, IsOver, goes_on};
+ghost use Rattle.host_turns.specs.Running.{HasRun, IsComing, IsOver, came_over, goes_on};
 
 use fault::Fault;
 use host_decoder::HostScreen;
-use host_turns::{Handover, Hosts, JoinedRun, RunBeginning, RunScreen, read_all};
+use host_turns::{Ending, Handover, Hosts, JoinedRun, RunBeginning, RunScreen, read_all};
 use link::Link;
 use reflect_core::Puts;
 use run_traits::{Alarm, Ringing};
@@ -22,20 +22,21 @@ use vnc_auth::Password;
 /// What reading the hosts came to.
 #[derive(Drop)]
 pub(crate) struct HostsRead<L: Link, H: Hosts<L>, P: Drop> {
-    pub(crate) result: Result<(), Fault>,
+    pub(crate) last: Ending,
     pub(crate) hosts: H,
     pub(crate) links: Vec<L>,
     pub(crate) publisher: P,
 }
 
 /// The promise that this link was read to its end, and then the links of further hosts in turn, and that what they
-/// brought was put to this publisher. Where the first host has its turn again, the thread ended only with an answer
-/// after which no host is taken.
+/// brought was put to this publisher. Where the first host has its turn again, the thread ended only with an end
+/// of a host after which no other is taken.
 #[derive(Drop)]
 pub(crate) struct OfHosts<L: Link, H: Hosts<L>, P: Puts> {
     pub(crate) width: u64,
     pub(crate) height: u64,
     pub(crate) password: Option<Password>,
+    pub(crate) has_called: bool,
     pub(crate) link: Snapshot<L>,
     pub(crate) publisher: Snapshot<P>,
     pub(crate) hosts: Snapshot<H>,
@@ -43,18 +44,20 @@ pub(crate) struct OfHosts<L: Link, H: Hosts<L>, P: Puts> {
 
 impl<L: Link, H: Hosts<L>, P: Puts + Drop> Promise<HostsRead<L, H, P>> for OfHosts<L, H, P> {
     ghost use Rattle.std.specs.Prelude.{◌≡◌, true, None, map};
-    ghost use Rattle.host_turns.specs.Running.{HasRun, IsLinkOf, IsOver, goes_on};
+    ghost use Rattle.host_turns.specs.Running.{HasRun, IsComing, IsOver, came_over, goes_on};
 
-    ghost kept_by = { λ promise read. HasRun promise.width promise.height promise.password (IsLinkOf L.state H.came) read.result (L.state promise.link.value) (map L.state read.links.items) (P.updates promise.publisher.value) (P.updates read.publisher) × IsOver H.are_out read.hosts read.result × (goes_on read.result ≡ true → H.again promise.hosts.value ≡ None) };
+    ghost kept_by = { λ promise read. HasRun promise.width promise.height promise.password (IsComing L.state H.came) read.last (came_over promise.has_called (L.state promise.link.value)) (map L.state read.links.items) (P.updates promise.publisher.value) (P.updates read.publisher) × IsOver H.are_out read.hosts read.last × (goes_on read.last ≡ true → H.again promise.hosts.value ≡ None) };
 }
 
 /// The thread that reads the hosts.
 pub(crate) type ReaderHandle<L, H, P> = PromisedHandle<HostsRead<L, H, P>, OfHosts<L, H, P>>;
 
-/// What the thread begins with: the first host's link, what reads it, and room for one link.
+/// What the thread begins with: the first host's link, whether that host has called, what reads it, and room for one
+/// link.
 #[derive(Drop)]
 struct Begun<L: Link> {
     run_screen: RunScreen,
+    has_called: bool,
     link: L,
     screen: HostScreen,
     links: Vec<L>,
@@ -74,12 +77,13 @@ fn read<L: Link, H: Hosts<L>, P: Puts + Drop, B: Alarm + Drop, W: Alarm + Drop, 
     requires begins { Decodes begun.screen.decoder begun.screen.painter opening (host_message begun.run_screen.width begun.run_screen.height) }
     requires pair { IsFor begun.screen.decoder begun.screen.painter }
     requires publisher { (P.width publisher ≡ begun.run_screen.width) × (P.height publisher ≡ begun.run_screen.height) }
-    ensures run { HasRun begun.run_screen.width begun.run_screen.height begun.run_screen.password (IsLinkOf L.state H.came) result.result (L.state begun.link) (map L.state result.links.items) (P.updates publisher) (P.updates result.publisher) }
-    ensures over { IsOver H.are_out result.hosts result.result }
-    ensures never { goes_on result.result ≡ true → H.again hosts ≡ None }
+    ensures run { HasRun begun.run_screen.width begun.run_screen.height begun.run_screen.password (IsComing L.state H.came) result.last (came_over begun.has_called (L.state begun.link)) (map L.state result.links.items) (P.updates publisher) (P.updates result.publisher) }
+    ensures over { IsOver H.are_out result.hosts result.last }
+    ensures never { goes_on result.last ≡ true → H.again hosts ≡ None }
 {
     let Begun {
         run_screen,
+        has_called,
         link,
         screen,
         links,
@@ -88,11 +92,12 @@ fn read<L: Link, H: Hosts<L>, P: Puts + Drop, B: Alarm + Drop, W: Alarm + Drop, 
         inner: publisher,
         alarm,
     };
-    let first = RunBeginning::of(&link, &hosts, &ringing);
+    let first = RunBeginning::of(has_called, &link, &hosts, &ringing);
     let run = JoinedRun::new(
         &first,
         &run_screen,
         handover,
+        has_called,
         link,
         screen,
         hosts,
@@ -100,10 +105,10 @@ fn read<L: Link, H: Hosts<L>, P: Puts + Drop, B: Alarm + Drop, W: Alarm + Drop, 
         ringing,
     );
     let ended = read_all(rt, run);
-    let (result, hosts, links, ringing) = ended.into_parts(());
+    let (last, hosts, links, ringing) = ended.into_parts(());
     let Ringing { inner, alarm: _ } = ringing;
     HostsRead {
-        result,
+        last,
         hosts,
         links,
         publisher: inner,
@@ -114,6 +119,7 @@ fn read<L: Link, H: Hosts<L>, P: Puts + Drop, B: Alarm + Drop, W: Alarm + Drop, 
 pub(crate) fn start_reader<L, H, P, B, W, R>(
     rt: R,
     run_screen: RunScreen,
+    has_called: bool,
     link: L,
     hosts: H,
     publisher: P,
@@ -128,19 +134,21 @@ where
     W: Alarm + Drop + Send + Sync + 'static,
     R: Threads + Wait + Copy + Drop + Send + 'static,
     requires { (P.width publisher ≡ run_screen.width) × (P.height publisher ≡ run_screen.height) }
-    ensures of { IfOk result (λ handle. (handle.promise.width ≡ run_screen.width) × (handle.promise.height ≡ run_screen.height) × (handle.promise.password ≡ run_screen.password) × (handle.promise.link.value ≡ link) × (handle.promise.publisher.value ≡ publisher) × (handle.promise.hosts.value ≡ hosts)) }
+    ensures of { IfOk result (λ handle. (handle.promise.width ≡ run_screen.width) × (handle.promise.height ≡ run_screen.height) × (handle.promise.password ≡ run_screen.password) × (handle.promise.has_called ≡ has_called) × (handle.promise.link.value ≡ link) × (handle.promise.publisher.value ≡ publisher) × (handle.promise.hosts.value ≡ hosts)) }
     ensures err { IfErr result (λ fault. fault ≡ Memory) }
 {
     let promise = OfHosts {
         width: run_screen.width,
         height: run_screen.height,
         password: run_screen.password,
+        has_called,
         link: Snapshot::of(&link),
         publisher: Snapshot::of(&publisher),
         hosts: Snapshot::of(&hosts),
     };
     let begun = Begun {
         run_screen,
+        has_called,
         link,
         screen: HostScreen::new(run_screen.alloc, run_screen.width, run_screen.height)?,
         links: Vec::with_capacity(run_screen.alloc, 1)?,

@@ -13,7 +13,7 @@ ghost use Rattle.host_writer.specs.Writing.{taken_from};
 ghost use Rattle.reflector.specs.Tellings.{AreToldInTurn, HasTold, TellsHosts, desk};
 ghost use Rattle.run_traits.specs.Written.{links_in};
 ghost use Rattle.shared_screen.specs.History.{puts_of};
-ghost use Rattle.host_turns.specs.Running.{HasRun, IsLinkOf, IsOver, goes_on};
+ghost use Rattle.host_turns.specs.Running.{HasRun, IsComing, IsOver, came_over, goes_on};
 ghost use Rattle.run_traits.specs.Unused.{unused};
 ghost use Rattle.reflector.specs.Visits.{IsOfScreen};
 
@@ -25,7 +25,7 @@ use crate::reader::{HostsRead, ReaderHandle, start_reader};
 use crate::session_maker::SessionMaker;
 use crate::writer::{HostsTold, WriterHandle, start_writer};
 use fault::Fault;
-use host_turns::{Handover, Hosts, RunScreen};
+use host_turns::{Ending, Handover, HostEnds, Hosts, RunScreen};
 use input_relay::{Sender, Taker, relay};
 use joined_runs::Runs;
 use link::{Link, Rest};
@@ -45,8 +45,8 @@ use std::time::Clock;
 pub struct Running<L, H, P, S: ScreenSource, D: Door, R: Wait + Drop> {
     /// What shows that it was run, for whoever isn't handed the rest.
     pub ran: Ran,
-    /// The answer with which the run ended: of reading the last host, or of joining one.
-    pub result: Result<(), Fault>,
+    /// How the last host has ended: with the answer of reading it, or of joining it.
+    pub last: Ending,
     /// The link that each host was read of, in turn.
     pub links: Vec<L>,
     /// The supply of hosts, with those that had no turn.
@@ -67,7 +67,7 @@ pub struct Running<L, H, P, S: ScreenSource, D: Door, R: Wait + Drop> {
 
 /// What the threads of a run leave: the fields of `Running`.
 struct Left<L, H, P, S: ScreenSource, D: Door, R: Wait + Drop> {
-    result: Result<(), Fault>,
+    last: Ending,
     links: Vec<L>,
     hosts: H,
     publisher: P,
@@ -78,13 +78,15 @@ struct Left<L, H, P, S: ScreenSource, D: Door, R: Wait + Drop> {
     places: Vec<PlaceHandle<S, D, R>>,
 }
 
-/// What a run begins with, for clauses: the first host, the room, the doors with their roles, and the link that is read.
+/// What a run begins with, for clauses: the first host, the room, the doors with their roles, the link that is read,
+/// and whether that host has called.
 #[derive(Drop)]
 struct Beginning<L, D> {
     host: Snapshot<Joined>,
     room: RunScreen,
     doors: Snapshot<Vec<(Role, D)>>,
     link: Snapshot<L>,
+    has_called: bool,
 }
 
 /// The threads of a run.
@@ -134,6 +136,7 @@ where
 fn start_all<L, H, P, S, D, B, W, R>(
     context: &RunContext<R, B, W>,
     handover: &Arc<Handover<L, W>, Global>,
+    has_called: bool,
     first: L,
     screen: &Joined,
     hosts: H,
@@ -161,7 +164,7 @@ where
     ensures watchers { IfOk result (λ started. map (λ place. place.promise.watcher.value) started.places.items ≡ drop 1 watchers.items) }
     ensures screen { IfOk result (λ started. All (λ place. IsOfScreen screen.now.w screen.now.h screen.now.name context.now.runs place.promise.width place.promise.height place.promise.name.value.items place.promise.runs) started.places.items) }
     ensures writer { IfOk result (λ started. (started.writer.promise.taker.value ≡ taker) × (started.writer.promise.source.value ≡ slice_index_or watchers.items 0 started.writer.promise.source.value) × StrokesStand started.writer.promise.strokes.value []) }
-    ensures reader { IfOk result (λ started. (started.reader.promise.width ≡ screen.now.w) × (started.reader.promise.height ≡ screen.now.h) × (started.reader.promise.password ≡ context.now.password) × (started.reader.promise.link.value ≡ first) × (started.reader.promise.publisher.value ≡ publisher) × (started.reader.promise.hosts.value ≡ hosts)) }
+    ensures reader { IfOk result (λ started. (started.reader.promise.width ≡ screen.now.w) × (started.reader.promise.height ≡ screen.now.h) × (started.reader.promise.password ≡ context.now.password) × (started.reader.promise.has_called ≡ has_called) × (started.reader.promise.link.value ≡ first) × (started.reader.promise.publisher.value ≡ publisher) × (started.reader.promise.hosts.value ≡ hosts)) }
     ensures err { IfErr result (λ fault. fault ≡ Memory) }
 {
     let watcher = watchers.remove(0);
@@ -177,7 +180,7 @@ where
     let alarm = Arc::try_clone(&context.everyone)?;
     let handover = Arc::try_clone(handover)?;
     let reader = start_reader(
-        context.rt, run_screen, first, hosts, publisher, alarm, handover,
+        context.rt, run_screen, has_called, first, hosts, publisher, alarm, handover,
     )?;
     Ok(Started {
         places,
@@ -200,9 +203,9 @@ where
     B: Alarm + Drop,
     W: Alarm + Drop,
     R: Threads + Wait + Drop,
-    ensures run { HasRun started.reader.promise.width started.reader.promise.height started.reader.promise.password (IsLinkOf L.state H.came) result.result (L.state started.reader.promise.link.value) (map L.state result.links.items) (P.updates started.reader.promise.publisher.value) (P.updates result.publisher) }
-    ensures over { IsOver H.are_out result.hosts result.result }
-    ensures never { goes_on result.result ≡ true → H.again started.reader.promise.hosts.value ≡ None }
+    ensures run { HasRun started.reader.promise.width started.reader.promise.height started.reader.promise.password (IsComing L.state H.came) result.last (came_over started.reader.promise.has_called (L.state started.reader.promise.link.value)) (map L.state result.links.items) (P.updates started.reader.promise.publisher.value) (P.updates result.publisher) }
+    ensures over { IsOver H.are_out result.hosts result.last }
+    ensures never { goes_on result.last ≡ true → H.again started.reader.promise.hosts.value ≡ None }
     ensures taker { host_of result.taker ≡ host_of started.writer.promise.taker.value }
     ensures counted { IsCounted (taken_of started.writer.promise.taker.value) started.writer.promise.strokes.value 0 → IsCounted (taken_of result.taker) result.strokes result.dropped }
     ensures told { HasTold S.looks S.width S.height (desk [] started.writer.promise.source.value (taken_of started.writer.promise.taker.value) started.writer.promise.strokes.value) (links_in L.state result.written) (taken_of result.taker) result.strokes }
@@ -214,7 +217,7 @@ where
         reader,
     } = started;
     let HostsRead {
-        result,
+        last,
         hosts,
         links,
         publisher,
@@ -227,7 +230,7 @@ where
         dropped,
     } = writer.join(&context.rt);
     Left {
-        result,
+        last,
         links,
         hosts,
         publisher,
@@ -265,7 +268,7 @@ where
 /// writer.
 fn run_over<L, H, P, S, D, B, W, R>(
     context: &RunContext<R, B, W>,
-    links: (L, L),
+    ends: HostEnds<L>,
     screen: &Joined,
     hosts: H,
     doors: Vec<(Role, D)>,
@@ -285,10 +288,10 @@ where
     requires publisher { (P.width publisher ≡ screen.now.w) × (P.height publisher ≡ screen.now.h) }
     requires screen { (s : S) → (S.width s ≡ screen.now.w) × (S.height s ≡ screen.now.h) }
     requires doors { (1 ≤ vec_len doors) × (vec_len doors ≤ 64) × (vec_len watchers ≡ vec_len doors + 1) }
-    requires writer { L.state links.1 ≡ unused }
-    ensures run { IfOk result (λ run. HasRun screen.now.w screen.now.h context.now.password (IsLinkOf L.state H.came) run.result (L.state links.0) (map L.state run.links.items) (P.updates publisher) (P.updates run.publisher)) }
-    ensures over { IfOk result (λ run. IsOver H.are_out run.hosts run.result) }
-    ensures never { IfOk result (λ run. goes_on run.result ≡ true → H.again hosts ≡ None) }
+    requires writer { L.state ends.writer ≡ unused }
+    ensures run { IfOk result (λ run. HasRun screen.now.w screen.now.h context.now.password (IsComing L.state H.came) run.last (came_over ends.has_called (L.state ends.reader)) (map L.state run.links.items) (P.updates publisher) (P.updates run.publisher)) }
+    ensures over { IfOk result (λ run. IsOver H.are_out run.hosts run.last) }
+    ensures never { IfOk result (λ run. goes_on run.last ≡ true → H.again hosts ≡ None) }
     ensures places { IfOk result (λ run. map (λ place. strand_of place.promise.sender.value) run.places.items ≡ fresh (vec_len doors)) }
     ensures relay { IfOk result (λ run. All (λ place. relay_of place.promise.sender.value ≡ host_of run.taker) run.places.items) }
     ensures counted { IfOk result (λ run. IsCounted (taken_of run.taker) run.strokes run.dropped) }
@@ -298,12 +301,17 @@ where
     ensures screen { IfOk result (λ run. All (λ place. IsOfScreen screen.now.w screen.now.h screen.now.name context.now.runs place.promise.width place.promise.height place.promise.name.value.items place.promise.runs) run.places.items) }
     ensures err { IfErr result (λ fault. fault ≡ Memory) }
 {
-    let (read, written) = links;
+    let HostEnds {
+        reader,
+        writer,
+        has_called,
+    } = ends;
     let (senders, taker) = watched_relay(context, doors.len() as u64)?;
     let alarm = Arc::try_clone(&context.writer)?;
-    let handover = Arc::new(context.alloc, Handover::new(written, alarm))?;
+    let handover = Arc::new(context.alloc, Handover::new(writer, alarm))?;
     match start_all(
-        context, &handover, read, screen, hosts, doors, publisher, watchers, senders, taker,
+        context, &handover, has_called, reader, screen, hosts, doors, publisher, watchers, senders,
+        taker,
     ) {
         Ok(started) => Ok(end_all(context, started)),
         Err(fault) => {
@@ -340,9 +348,9 @@ where
     H: Hosts<L>,
     D: Door,
     R: Wait + Drop,
-    requires { C.course ≡ record { host = began.now.host.value; room_width = began.now.room.width; room_height = began.now.room.height; password = began.now.room.password; form = runs; roles = map (λ door. door.0) began.now.doors.value.items; answer = left.result; link = L.state began.now.link.value; links = map L.state left.links.items; told = links_in L.state left.written; taken = taken_of left.taker; updates = puts_of left.publisher.changes } }
+    requires { C.course ≡ record { host = began.now.host.value; room_width = began.now.room.width; room_height = began.now.room.height; password = began.now.room.password; form = runs; roles = map (λ door. door.0) began.now.doors.value.items; last_end = left.last; came = came_over began.now.has_called (L.state began.now.link.value); links = map L.state left.links.items; told = links_in L.state left.written; taken = taken_of left.taker; updates = puts_of left.publisher.changes } }
     ensures ran { result.ran.course ≡ C.course }
-    ensures result { result.result ≡ left.result }
+    ensures last { result.last ≡ left.last }
     ensures links { result.links ≡ left.links }
     ensures hosts { result.hosts ≡ left.hosts }
     ensures publisher { result.publisher ≡ left.publisher }
@@ -353,7 +361,7 @@ where
     ensures places { result.places ≡ left.places }
 {
     let Left {
-        result,
+        last,
         links,
         hosts,
         publisher,
@@ -365,7 +373,7 @@ where
     } = left;
     Running {
         ran: Ran::new::<C>(),
-        result,
+        last,
         links,
         hosts,
         publisher,
@@ -386,11 +394,12 @@ where
 /// that gives back.
 ///
 /// Where a host ended between two messages or inside one, or its link failed, the next host is taken from the supply
-/// and joined over the end that is read. Then the screen turns black, and the host is read as the first was. A host
-/// that can't be joined is passed over where it has another version, refuses, offers no security type that can be
-/// chosen or reports a failed handshake, where its link failed or ended, or where its screen doesn't fit into the room.
-/// A host whose new size doesn't fit is left for the next one, too. Every other fault ends the run, and so does the end
-/// of the supply, with the last answer. The supply has no end where the first host has its turn again.
+/// and joined over the end that is read. So it is where a host that has called sends what RFB doesn't have. Then the
+/// screen turns black, and the host is read as the first was. A host that can't be joined is passed over where it has
+/// another version, refuses, offers no security type that can be chosen or reports a failed handshake, where its link
+/// failed or ended, or where its screen doesn't fit into the room. A host whose new size doesn't fit is left for the
+/// next one, too. Every other fault ends the run, and so does the end of the supply, with the last answer. The supply
+/// has no end where the first host has its turn again.
 ///
 /// Viewers are told the size of the room, and the name of the first host. The screens of all hosts lie at the top left
 /// of the room, and what a host doesn't paint is black.
@@ -415,8 +424,7 @@ pub fn run_all<J, L, H, D, B, W, R>(
     rt: R,
     room: RunScreen,
     history: Opened<J>,
-    reader: L,
-    writer: L,
+    ends: HostEnds<L>,
     joined: Joined,
     hosts: H,
     doors: Vec<(Role, D)>,
@@ -438,10 +446,10 @@ where
     requires size { (room.width ≡ J.width) × (room.height ≡ J.height) }
     requires doors { (1 ≤ vec_len doors) × (vec_len doors ≤ 64) }
     requires roles { All (λ door. D.is_for door.1 door.0) doors.items }
-    requires writer { L.state writer ≡ unused }
-    ensures run { IfOk result (λ run. HasRun J.width J.height room.password (IsLinkOf L.state H.came) run.result (L.state reader) (map L.state run.links.items) [] (puts_of run.publisher.changes)) }
-    ensures over { IfOk result (λ run. IsOver H.are_out run.hosts run.result) }
-    ensures never { IfOk result (λ run. goes_on run.result ≡ true → H.again hosts ≡ None) }
+    requires writer { L.state ends.writer ≡ unused }
+    ensures run { IfOk result (λ run. HasRun J.width J.height room.password (IsComing L.state H.came) run.last (came_over ends.has_called (L.state ends.reader)) (map L.state run.links.items) [] (puts_of run.publisher.changes)) }
+    ensures over { IfOk result (λ run. IsOver H.are_out run.hosts run.last) }
+    ensures never { IfOk result (λ run. goes_on run.last ≡ true → H.again hosts ≡ None) }
     ensures places { IfOk result (λ run. map (λ place. strand_of place.promise.sender.value) run.places.items ≡ fresh (vec_len doors)) }
     ensures relay { IfOk result (λ run. All (λ place. relay_of place.promise.sender.value ≡ host_of run.taker) run.places.items) }
     ensures told { IfOk result (λ run. TellsHosts (λ old reply new. Reaches old (step.Look reply ∷ []) new) (λ _. J.width) (λ _. J.height) nothing_put (links_in L.state run.written) (taken_of run.taker) run.strokes) }
@@ -451,14 +459,15 @@ where
     ensures doors { IfOk result (λ run. map (λ place. (place.promise.role, place.promise.door.value)) run.places.items ≡ doors.items) }
     ensures watchers { IfOk result (λ run. All (λ place. place.promise.watcher.value ≡ nothing_put) run.places.items) }
     ensures screen { IfOk result (λ run. All (λ place. IsOfScreen room.width room.height joined.name runs place.promise.width place.promise.height place.promise.name.value.items place.promise.runs) run.places.items) }
-    ensures ran { IfOk result (λ run. run.ran.course ≡ record { host = joined; room_width = room.width; room_height = room.height; password = room.password; form = runs; roles = map (λ door. door.0) doors.items; answer = run.result; link = L.state reader; links = map L.state run.links.items; told = links_in L.state run.written; taken = taken_of run.taker; updates = puts_of run.publisher.changes }) }
+    ensures ran { IfOk result (λ run. run.ran.course ≡ record { host = joined; room_width = room.width; room_height = room.height; password = room.password; form = runs; roles = map (λ door. door.0) doors.items; last_end = run.last; came = came_over ends.has_called (L.state ends.reader); links = map L.state run.links.items; told = links_in L.state run.written; taken = taken_of run.taker; updates = puts_of run.publisher.changes }) }
     ensures err { IfErr result (λ fault. (fault ≡ Memory) ⊎ (fault ≡ NoPlace)) }
 {
     let began = Beginning {
         host: Snapshot::of(&joined),
         room,
         doors: Snapshot::of(&doors),
-        link: Snapshot::of(&reader),
+        link: Snapshot::of(&ends.reader),
+        has_called: ends.has_called,
     };
     let alloc = room.alloc;
     let stop = Arc::new(alloc, Stop::new(Arc::try_clone(&everyone)?))?;
@@ -481,14 +490,6 @@ where
         doors.len() + 1,
     )?;
     let screen = screen_of(&room, joined);
-    let left = run_over(
-        &context,
-        (reader, writer),
-        &screen,
-        hosts,
-        doors,
-        publisher,
-        watchers,
-    )?;
+    let left = run_over(&context, ends, &screen, hosts, doors, publisher, watchers)?;
     Ok(shown::<Brand, J, L, H, D, R>(&began, runs, left))
 }

@@ -132,7 +132,11 @@ const ANSWERED: [u8; 29] =
 #[test]
 fn a_password_is_used_where_none_is_not_offered(rt: HostRuntime) {
     for (i, (sends, is_known, number, given)) in COURSES.iter().enumerate() {
-        let password = if *is_known { known() } else { None };
+        let password = if *is_known {
+            Some(Password::new(b"hunter2x"))
+        } else {
+            None
+        };
         assert!(rt; joins(&rt, password, sends, *number, given), "course {i}");
     }
 }

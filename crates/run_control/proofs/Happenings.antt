@@ -1,15 +1,14 @@
 -- What one happening after another makes of the doors: the laws of `law.rt` on whole runs.
-use Rattle.std.proofs.Common.{◌≡◌, ◌≢◌, ℕ, zero, suc, Bool, true, false, List, [], ◌∷◌, set, Option, Some, None, refl, ap, sym, ◌∙◌, arith}
-use Rattle.std.specs.Prelude.{All, slice_get, ◌&&◌}
+use Rattle.std.proofs.Common.{◌≡◌, ℕ, zero, suc, Bool, true, false, List, [], ◌∷◌, set, Option, Some, None, refl, ap, sym, ◌∙◌, arith}
+use Rattle.std.specs.Prelude.{slice_get, ◌&&◌}
 use Rattle.std.proofs.lemmas.List.Elements.{All-head, All-tail}
 use Rattle.run_control.specs.declared.doors.Place.{Place}
 use Rattle.run_control.specs.declared.doors.Place.TheVariants.{Free, Taken, Leaving}
 use Rattle.run_control.specs.declared.doors.Entry.{Entry}
 use Rattle.run_control.specs.declared.doors.Entry.TheVariants.{Open, Drained, Closed}
-use Rattle.run_control.specs.declared.request.Request.{Request}
-use Rattle.run_control.specs.declared.request.Request.TheVariants.{State, Drain, Undrain, End, Stop}
-use Rattle.run_control.specs.Doors.{Standing, place_at, with_place, is_open, is_vacant, asks, is_asked, is_let_in, takes_if, after_coming, after_leaving, drained, undrained, ended, after_request}
-use Rattle.run_control.specs.Runs.{Happening, Asked, Comes, Leaves, after_happening, after_all, NobodyComesIn, NobodyComesInAfterAStop, Spares, WhoeverIsThereStays}
+use Rattle.run_control.specs.declared.request.Request.TheVariants.{State, Drain, Undrain, End, Next, Stop}
+use Rattle.run_control.specs.Doors.{Standing, place_at, with_place, is_open, is_vacant, asks, is_asked, is_let_in, takes_if, after_coming, drained, undrained, ended, after_request}
+use Rattle.run_control.specs.Runs.{Happening, Asked, Comes, Leaves, after_happening, after_all, NobodyComesInAfterAStop, Spares, WhoeverIsThereStays}
 
 -- ---- one place and another
 
@@ -86,6 +85,7 @@ still_closed s (Asked (State form)) e = e
 still_closed s (Asked Drain) e = ap drained e
 still_closed s (Asked Undrain) e = ap undrained e
 still_closed s (Asked (End n)) e = ended_entry (place_at s n) s n ∙ e
+still_closed s (Asked Next) e = e
 still_closed s (Asked Stop) e = refl
 still_closed s (Comes n) e = ap (λ (t : Standing). t.entry) (not_let_in s n e) ∙ e
 still_closed s (Leaves n) e = entry_same s n Free ∙ e
@@ -106,6 +106,7 @@ still_vacant s (Asked (State form)) k e free = free
 still_vacant s (Asked Drain) k e free = same_places s (drained s.entry) k ∙ free
 still_vacant s (Asked Undrain) k e free = same_places s (undrained s.entry) k ∙ free
 still_vacant s (Asked (End n)) k e free = ended_vacant s n k (place_at s n) refl free
+still_vacant s (Asked Next) k e free = free
 still_vacant s (Asked Stop) k e free = same_places s Closed k ∙ free
 still_vacant s (Comes n) k e free = ap (λ (t : Standing). place_at t k) (not_let_in s n e) ∙ free
 still_vacant s (Leaves n) k e free = left_vacant s n k (same k n) free
@@ -194,6 +195,7 @@ still_spared s (Asked (State form)) n spares unasked = unasked
 still_spared s (Asked Drain) n spares unasked = ap (asks (drained s.entry)) (same_places s (drained s.entry) n) ∙ drained_asks s.entry (place_at s n) unasked
 still_spared s (Asked Undrain) n spares unasked = ap (asks (undrained s.entry)) (same_places s (undrained s.entry) n) ∙ undrained_asks s.entry (place_at s n) unasked
 still_spared s (Asked (End k)) n spares unasked = ended_asks s k n (place_at s k) (λ e. spares.0 (ap End (sym e))) unasked
+still_spared s (Asked Next) n spares unasked = unasked
 still_spared s (Asked Stop) n spares unasked = absurd (spares.1 refl)
 still_spared s (Comes k) n spares unasked = comes_asks s k n (is_let_in s k) refl (same n k) unasked
 still_spared s (Leaves k) n spares unasked = leaves_asks s k n (place_at s k) refl (same n k) unasked

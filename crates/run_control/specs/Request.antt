@@ -3,7 +3,7 @@ use Rattle.std.specs.Prelude.{◌≡◌, ℕ, ◌<◌, ◌^◌, ◌++◌, List, 
 use Rattle.std.specs.Fmt.{decimal}
 use Rattle.run_control.specs.declared.request.Form.TheVariants.{Text, Json}
 use Rattle.run_control.specs.declared.request.Request.{Request}
-use Rattle.run_control.specs.declared.request.Request.TheVariants.{State, Drain, Undrain, End, Stop}
+use Rattle.run_control.specs.declared.request.Request.TheVariants.{State, Drain, Undrain, End, Next, Stop}
 
 -- A number is below 2 ^ 64.
 abbrev pub IsInRange : Request → Type 0
@@ -17,6 +17,7 @@ line_of (State Json) = codes "state json"
 line_of Drain = codes "drain"
 line_of Undrain = codes "undrain"
 line_of (End place) = codes "end " ++ decimal place
+line_of Next = codes "next"
 line_of Stop = codes "stop"
 
 abbrev pub Says : Request → List ℕ → Type 0

@@ -1,9 +1,9 @@
 -- What happens at the doors of a run, one after another, and how the doors stand then.
-use Rattle.std.specs.Prelude.{◌≡◌, ◌≢◌, ℕ, Bool, true, false, List, [], ◌∷◌, All, Some, None}
+use Rattle.std.specs.Prelude.{◌≡◌, ◌≢◌, ℕ, true, false, List, [], ◌∷◌, All, Some}
 use Rattle.run_control.specs.declared.doors.Place.TheVariants.{Free, Taken}
 use Rattle.run_control.specs.declared.doors.Entry.TheVariants.{Open}
 use Rattle.run_control.specs.declared.request.Request.{Request}
-use Rattle.run_control.specs.declared.request.Request.TheVariants.{End, Stop}
+use Rattle.run_control.specs.declared.request.Request.TheVariants.{End, Next, Stop}
 use Rattle.run_control.specs.Doors.{Standing, place_at, is_asked, after_coming, after_leaving, after_request}
 
 -- A request is made, a viewer comes to a place, or a viewer leaves its place.
@@ -32,6 +32,9 @@ pub record AsksOne (old new : Standing) (n : ℕ) : Type 0 where
 
 abbrev pub EndAsksOnePlace : Type 0
 EndAsksOnePlace = (s : Standing) (n : ℕ) → place_at s n ≡ Some Taken → AsksOne s (after_request s (End n)) n
+
+abbrev pub NextChangesNoDoor : Type 0
+NextChangesNoDoor = (s : Standing) → after_request s Next ≡ s
 
 -- Each viewer is asked to leave, and no place gets one.
 pub record NobodyComesIn (old new : Standing) : Type 0 where

@@ -56,7 +56,7 @@ impl Model for Doors {
 
 impl Doors {
     ghost use Rattle.std.specs.Prelude.{◌≡◌, IfOk, length, replicate, count_by};
-    ghost use Rattle.run_control.specs.Doors.{after_coming, after_leaving, after_request, free_places, is_asked, is_let_in, outcome_of, place_at, with_place};
+    ghost use Rattle.run_control.specs.Doors.{after_coming, after_leaving, after_request, free_places, is_asked, is_let_in, outcome_of, outcome_unless_closed, place_at, with_place};
 
     /// Open doors with this many places, all of them free. It fails where memory for the places is refused.
     pub fn new(alloc: Global, places: usize) -> Result<Doors, AllocError>
@@ -164,19 +164,30 @@ impl Doors {
         }
     }
 
+    /// What is answered to a request that a run which ends doesn't do.
+    fn outcome_unless_closed(&self) -> Outcome
+        ensures { result ≡ outcome_unless_closed self.now.entry }
+    {
+        match self.entry {
+            Entry::Open | Entry::Drained => Outcome::Done,
+            Entry::Closed => Outcome::Ending,
+        }
+    }
+
     /// Lets viewers in again, if the run doesn't end.
     fn reopen(&mut self) -> Outcome
         ensures after { self.new ≡ after_request self.old Request.Undrain }
         ensures outcome { result ≡ outcome_of self.old Request.Undrain }
     {
-        if matches!(self.entry, Entry::Closed) {
-            return Outcome::Ending;
+        let outcome = self.outcome_unless_closed();
+        if matches!(outcome, Outcome::Done) {
+            self.entry = Entry::Open;
         }
-        self.entry = Entry::Open;
-        Outcome::Done
+        outcome
     }
 
-    /// Does what is asked, and answers what became of it. `State` changes nothing.
+    /// Does what is asked, and answers what became of it. `State` changes nothing. Nor does `Next`, since doors know
+    /// nothing of hosts: its answer says whether the run ends.
     pub fn ask(&mut self, request: Request) -> Outcome
         ensures after { self.new ≡ after_request self.old request }
         ensures outcome { result ≡ outcome_of self.old request }
@@ -191,6 +202,7 @@ impl Doors {
             }
             Request::Undrain => self.reopen(),
             Request::End(number) => self.end(number),
+            Request::Next => self.outcome_unless_closed(),
             Request::Stop => {
                 self.entry = Entry::Closed;
                 Outcome::Done

@@ -26,6 +26,8 @@ pub enum Request {
     Undrain,
     /// That the viewer of this place leaves: `end PLACE`. Places are counted from 1.
     End(u64),
+    /// That the host is left for the next one: `next`. Viewers stay.
+    Next,
     /// That all viewers leave, and the run ends: `stop`.
     Stop,
 }
@@ -41,6 +43,7 @@ impl Request {
             "state json" => Some(Request::State(Form::Json)),
             "drain" => Some(Request::Drain),
             "undrain" => Some(Request::Undrain),
+            "next" => Some(Request::Next),
             "stop" => Some(Request::Stop),
             _ => end_request(line),
         }

@@ -288,10 +288,10 @@ const STROKE_IS_KEPT: Course = Course {
     },
 };
 
-/// A first host ends once the viewer was shown its one update. Hosts that can't be joined are passed over, and so is one
-/// that is a column wider than the room: it turns nothing black. One that fits sends one update, and tells a wider size
-/// once that was shown. It is left, and since no host is left then, its fault ends the run. The viewer sees numbers that
-/// don't fall, none above 3.
+/// A first host ends once the viewer was shown its one update. Hosts that can't be joined are passed over, and so is
+/// one that is a column wider than the room: it turns nothing black. One that fits sends one update, and tells a wider
+/// size once that was shown. It is left, and since no host is left then, its fault ends the run. The viewer sees
+/// numbers that don't fall, none above 3.
 const WIDER_HOSTS: Course = Course {
     name: "wider_hosts_are_passed_over_or_left",
     view: &SMALL,

@@ -108,7 +108,7 @@ where
 {
     let Running {
         ran: _,
-        result,
+        last,
         links,
         publisher,
         taker,
@@ -118,7 +118,7 @@ where
         written: _,
         places,
     } = running;
-    let fault = match &result {
+    let fault = match &last.answer {
         Ok(()) => 0,
         Err(fault) => fault.number(),
     };
@@ -196,7 +196,7 @@ where
         count: PlaceCount::new(),
     };
     let doors = doors_of(alloc, board, course)?;
-    let Some((reader, writer)) = Hosts::next(&mut hosts) else {
+    let Some(first) = Hosts::next(&mut hosts) else {
         return Ok(false);
     };
     let room = RunScreen {
@@ -209,8 +209,7 @@ where
         rt,
         room,
         history,
-        reader,
-        writer,
+        first,
         Joined {
             w: course.view.w,
             h: course.view.h,

@@ -5,7 +5,7 @@ use crate::follower::Follower;
 use crate::peer::{Peer, Script, Taking};
 use crate::wire::Wire;
 use fault::Fault;
-use host_turns::Hosts;
+use host_turns::{HostEnds, Hosts};
 use rfb_wire::Joined;
 use run_traits::{Door, LeftLink, PlaceCount};
 use std::alloc::Global;
@@ -111,15 +111,19 @@ impl Hosts<Wire> for Queue {
     ghost use Rattle.run_traits.specs.Unused.{unused};
 
     // The new link has done nothing.
-    ghost came = { λ wire. wire ≡ unused };
+    ghost came = { λ _ wire. wire ≡ unused };
 
     ghost are_out = { λ _. ⊤ };
 
     ghost again = { λ _. None };
 
-    fn next(&mut self) -> Option<(Wire, Wire)> {
+    fn next(&mut self) -> Option<HostEnds<Wire>> {
         match (self.wire(), self.wire()) {
-            (Some(reader), Some(writer)) => Some((reader, writer)),
+            (Some(reader), Some(writer)) => Some(HostEnds {
+                reader,
+                writer,
+                has_called: false,
+            }),
             _ => {
                 self.board.check(self.may_end);
                 None

@@ -1,5 +1,5 @@
 -- How the exit status says how a run ended. A run that didn't end well has another status than 0.
-use Rattle.std.proofs.Common.{◌≡◌, ◌⊎◌, inl, inr, ⊎_elim, ℕ, List, Option, Some, None, Result, Ok, Err, refl, sym, ap, subst, ◌∙◌, arith, true}
+use Rattle.std.proofs.Common.{◌≡◌, ◌⊎◌, inl, inr, ⊎_elim, ℕ, Bool, List, Option, Some, None, Result, Ok, Err, refl, sym, ap, subst, ◌∙◌, arith, true}
 use Rattle.std.specs.Prelude.{IfOk, IfSome, is_some}
 use Rattle.fault.specs.declared.kinds.Fault.{Fault}
 use Rattle.fault.specs.declared.kinds.Fault.TheVariants as fault
@@ -9,7 +9,8 @@ use Rattle.roles.specs.declared.role.Role.{Role}
 use Rattle.settings.specs.ByRole.{runs_for}
 use Rattle.settings.specs.Rooms.{IsRoomFor}
 use Rattle.settings.specs.declared.values.Settings.{Settings}
-use Rattle.host_turns.specs.Running.{goes_on}
+use Rattle.host_turns.specs.declared.ending.Ending.{Ending}
+use Rattle.host_turns.specs.Running.{goes_on, goes_on_after}
 use Rattle.reflector.specs.Course.{IsReflected}
 use Rattle.reflector.specs.declared.ran.Ran.{Ran}
 use Rattle.serve.specs.Runs.{IsEnd, IsEndBy, IsRunBy, IsRunFor, IsServed, IsToldBy, roles_for}
@@ -50,38 +51,41 @@ isnt_nought : {A : Type 0} (f : Fault) → status_for (Err f) ≡ 0 → A
 isnt_nought f e = ⊎_elim (λ (t : status_for (Err f) ≡ 3). absurd (omega (arith, t, e))) (λ (t : status_for (Err f) ≡ 4). absurd (omega (arith, t, e))) (failed f)
 
 -- Where the status is 0 the next host would have been taken.
-went_well : (why : Result (Unit {0}) Fault) → status_for why ≡ 0 → goes_on why ≡ true
-went_well (Ok done) e = refl
-went_well (Err f) e = isnt_nought f e
+went_well_after : (has_called : Bool) (why : Result (Unit {0}) Fault) → status_for why ≡ 0 → goes_on_after has_called why ≡ true
+went_well_after has_called (Ok done) e = refl
+went_well_after has_called (Err f) e = isnt_nought f e
+
+went_well : (last : Ending) → status_for last.answer ≡ 0 → goes_on last ≡ true
+went_well last e = went_well_after last.has_called last.answer e
 
 -- ---- a run
 
 -- What `over` says of a run, with the room, a password, the roles and the form of the settings.
 pub run_by : {A : Type 0} (settings : Settings) (result : Result Reflected Fault) (host : Joined) (width height : ℕ) (password : Option (List ℕ)) (roles : List Role) (form : Runs) (again : Option A) → IfOk result (λ run. IsReflected run.ran.course)
     → IfOk result (λ run. (run.ran.course.host ≡ host) × (run.ran.course.room_width ≡ width) × (run.ran.course.room_height ≡ height) × (run.ran.course.password ≡ password)) → is_some password ≡ is_some settings.host_password → IfOk result (λ run. run.ran.course.roles ≡ roles)
-    → IfOk result (λ run. run.ran.course.form ≡ form) → IfOk result (λ run. run.why ≡ run.ran.course.answer) → IfOk result (λ run. goes_on run.why ≡ true → again ≡ None) → IsRoomFor settings host.w host.h width height → roles ≡ roles_for settings → form ≡ runs_for settings
+    → IfOk result (λ run. run.ran.course.form ≡ form) → IfOk result (λ run. run.last ≡ run.ran.course.last_end) → IfOk result (λ run. goes_on run.last ≡ true → again ≡ None) → IsRoomFor settings host.w host.h width height → roles ≡ roles_for settings → form ≡ runs_for settings
     → (again ≡ None → MayEnd settings) → IfOk result (λ run. IsRunBy settings run)
-run_by settings (Ok run) host width height password roles form again reflected has_room known has_roles has_form why never is_room same_roles same_form ends = record {
+run_by settings (Ok run) host width height password roles form again reflected has_room known has_roles has_form last never is_room same_roles same_form ends = record {
   is = record { reflected = reflected; room = rw (has_room.0, has_room.1, has_room.2) is_room; password = ap is_some has_room.3 ∙ known; roles = has_roles ∙ same_roles; form = has_form ∙ same_form };
-  why = why;
+  last = last;
   ends = λ on. ends (never on);
 }
-run_by settings (Err f) host width height password roles form again reflected has_room known has_roles has_form why never is_room same_roles same_form ends = tt
+run_by settings (Err f) host width height password roles form again reflected has_room known has_roles has_form last never is_room same_roles same_form ends = tt
 
 -- A run that ended by itself.
-pub by_itself : (settings : Settings) (why : Result (Unit {0}) Fault) (ran : Ran) (run : Reflected) → run ≡ record { why = why; ran = ran } → IsRunBy settings run → IsEndBy settings (record { why = why; ran = Some ran; stopped = None })
-by_itself settings why ran run same by =
-    let is : IsRunBy settings (record { why = why; ran = ran }) = subst (IsRunBy settings) same by in
-    record { end = is.why; run = is.is; ends = is.ends }
+pub by_itself : (settings : Settings) (last : Ending) (ran : Ran) (run : Reflected) → run ≡ record { last = last; ran = ran } → IsRunBy settings run → IsEndBy settings (record { last = last; ran = Some ran; stopped = None })
+by_itself settings last ran run same by =
+    let is : IsRunBy settings (record { last = last; ran = ran }) = subst (IsRunBy settings) same by in
+    record { end = is.last; run = is.is; ends = is.ends }
 
 -- What is handed out at an end, or after trouble before any run.
-told : (settings : Settings) (why : Result (Unit {0}) Fault) (status : ℕ) (ran : Option Ran) (stopped : Option Cut) → status ≡ status_for why → IsEnd settings why ran stopped → IsToldBy settings status ran stopped
-told settings why status ran (Some cut) is end = (is ∙ ap status_for end.0, end.1)
-told settings why status (Some ran) None is end = is ∙ ap status_for end
-told settings why status None None is end = absurd end
+told : (settings : Settings) (last : Ending) (status : ℕ) (ran : Option Ran) (stopped : Option Cut) → status ≡ status_for last.answer → IsEnd settings last ran stopped → IsToldBy settings status ran stopped
+told settings last status ran (Some cut) is end = (is ∙ ap status_for end.0, end.1)
+told settings last status (Some ran) None is end = is ∙ ap (λ (e : Ending). status_for e.answer) end
+told settings last status None None is end = absurd end
 
 pub ended_well : (settings : Settings) (ended : Result Ended Trouble) (served : Served) → IfOk ended (λ e. IsEndBy settings e) → IsServed ended served → served.status ≡ 0 → MayEnd settings
-ended_well settings (Ok e) served by is nought = by.ends (went_well e.why (sym is.0 ∙ nought))
+ended_well settings (Ok e) served by is nought = by.ends (went_well e.last (sym is.0 ∙ nought))
 ended_well settings (Err trouble) served by is nought = isnt_nought trouble.fault (sym is.0 ∙ nought)
 
 pub was_run : (settings : Settings) (ended : Result Ended Trouble) (served : Served) → IfOk ended (λ e. IsEndBy settings e) → IsServed ended served → IfSome served.ran (λ ran. IsRunFor settings ran.course)
@@ -90,8 +94,8 @@ was_run settings (Err trouble) served by is = subst (λ (r : Option Ran). IfSome
 
 pub status_tells : (settings : Settings) (ended : Result Ended Trouble) (served : Served) → IfOk ended (λ e. IsEndBy settings e) → IsServed ended served → IsToldBy settings served.status served.ran served.stopped
 status_tells settings (Ok e) served by is =
-    told settings e.why served.status served.ran served.stopped is.0
-    (subst (λ (r : Option Ran). IsEnd settings e.why r served.stopped) (sym is.1) (subst (λ (s : Option Cut). IsEnd settings e.why e.ran s) (sym is.2) by.end))
+    told settings e.last served.status served.ran served.stopped is.0
+    (subst (λ (r : Option Ran). IsEnd settings e.last r served.stopped) (sym is.1) (subst (λ (s : Option Cut). IsEnd settings e.last e.ran s) (sym is.2) by.end))
 status_tells settings (Err trouble) served by is =
     let no_run : IsToldBy settings served.status None None = ⊎_elim (λ (t : status_for (Err trouble.fault) ≡ 3). inl (is.0 ∙ t)) (λ (t : status_for (Err trouble.fault) ≡ 4). inr (is.0 ∙ t)) (failed trouble.fault) in
     subst (λ (r : Option Ran). IsToldBy settings served.status r served.stopped) (sym is.1) (subst (λ (s : Option Cut). IsToldBy settings served.status None s) (sym is.2) no_run)
@@ -101,5 +105,5 @@ status_in (Ok done) status is = inl is
 status_in (Err f) status is = inr (⊎_elim (λ (t : status_for (Err f) ≡ 3). inl (is ∙ t)) (λ (t : status_for (Err f) ≡ 4). inr (is ∙ t)) (failed f))
 
 pub in_range : (ended : Result Ended Trouble) (served : Served) → IsServed ended served → IsStatus served.status
-in_range (Ok e) served is = status_in e.why served.status is.0
+in_range (Ok e) served is = status_in e.last.answer served.status is.0
 in_range (Err trouble) served is = status_in (Err trouble.fault) served.status is.0

@@ -4,15 +4,17 @@ use Rattle.run_reports.specs.declared.gravity.Gravity.TheVariants.{Warning, Plai
 use Rattle.run_traits.specs.declared.event.Event.{Event}
 use Rattle.run_traits.specs.declared.event.Event.TheVariants.{HostOut}
 use Rattle.serve.specs.declared.incident.Incident.{Incident}
-use Rattle.serve.specs.declared.incident.Incident.TheVariants.{Noted, MetricsListening, HostStopped}
+use Rattle.serve.specs.declared.incident.Incident.TheVariants.{Noted, MetricsListening, HostsListening, HostStopped, HostSkipped}
 
 -- A host that has ended by itself, or wasn't joined, is a warning. Nothing else that happens at the doors is one.
 abbrev pub event_gravity : Event → Gravity
 event_gravity (HostOut address why) = Warning
 event_gravity event = Plain
 
--- A host that was left because the run was asked to stop is no warning either.
+-- A host that was left because the run was asked to stop, or for its next host, is no warning either.
 abbrev pub gravity_for : Incident → Gravity
 gravity_for (Noted event) = event_gravity event.now
 gravity_for (MetricsListening address) = Plain
+gravity_for (HostsListening address) = Plain
 gravity_for (HostStopped address cut) = Plain
+gravity_for (HostSkipped address skip) = Plain

@@ -1,6 +1,7 @@
 pub mod Browsers
 pub mod Doors
 pub mod Gravities
+pub mod Hosts
 pub mod Numbers
 pub mod Origins
 pub mod Ports

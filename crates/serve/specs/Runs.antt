@@ -6,6 +6,7 @@ use Rattle.roles.specs.declared.role.Role.TheVariants.{Full, View}
 use Rattle.settings.specs.ByRole.{places_for, runs_for}
 use Rattle.settings.specs.Rooms.{IsRoomFor}
 use Rattle.settings.specs.declared.values.Settings.{Settings}
+use Rattle.host_turns.specs.declared.ending.Ending.{Ending}
 use Rattle.host_turns.specs.Running.{goes_on}
 use Rattle.reflector.specs.Course.{Course, IsReflected}
 use Rattle.reflector.specs.declared.ran.Ran.{Ran}
@@ -35,7 +36,7 @@ pub record IsRunFor (settings : Settings) (course : Course) : Type 0 where
 -- none has, it is the one for the answer with which the run ended, and 3 or 4 where none was run.
 abbrev pub IsToldBy : Settings → ℕ → Option Ran → Option Cut → Type 0
 IsToldBy settings status ran (Some cut) = (status ≡ 0) × (is_some settings.control ≡ true)
-IsToldBy settings status (Some ran) None = status ≡ status_for ran.course.answer
+IsToldBy settings status (Some ran) None = status ≡ status_for ran.course.last_end.answer
 IsToldBy settings status None None = (status ≡ 3) ⊎ (status ≡ 4)
 
 -- ---- on the way
@@ -43,22 +44,22 @@ IsToldBy settings status None None = (status ≡ 3) ⊎ (status ≡ 4)
 -- A run by these settings was run, and ended with this answer.
 pub record IsRunBy (settings : Settings) (run : Reflected) : Type 0 where
   pub is : IsRunFor settings run.ran.course
-  pub why : run.why ≡ run.ran.course.answer
-  pub ends : goes_on run.why ≡ true → MayEnd settings
+  pub last : run.last ≡ run.ran.course.last_end
+  pub ends : goes_on run.last ≡ true → MayEnd settings
 
--- How a run ended: as an operator has stopped it, which only one with a socket can, or with the answer of a run that
--- was run.
-abbrev pub IsEnd : Settings → Result (Unit {0}) Fault → Option Ran → Option Cut → Type 0
-IsEnd settings why ran (Some cut) = (why ≡ Ok tt) × (is_some settings.control ≡ true)
-IsEnd settings why (Some ran) None = why ≡ ran.course.answer
-IsEnd settings why None None = ⊥
+-- How a run ended: as an operator has stopped it, which only one with a socket can, or as the last host of a run that
+-- was run has ended.
+abbrev pub IsEnd : Settings → Ending → Option Ran → Option Cut → Type 0
+IsEnd settings last ran (Some cut) = (last.answer ≡ Ok tt) × (is_some settings.control ≡ true)
+IsEnd settings last (Some ran) None = last ≡ ran.course.last_end
+IsEnd settings last None None = ⊥
 
 pub record IsEndBy (settings : Settings) (ended : Ended) : Type 0 where
-  pub end : IsEnd settings ended.why ended.ran ended.stopped
+  pub end : IsEnd settings ended.last ended.ran ended.stopped
   pub run : IfSome ended.ran (λ ran. IsRunFor settings ran.course)
-  pub ends : goes_on ended.why ≡ true → MayEnd settings
+  pub ends : goes_on ended.last ≡ true → MayEnd settings
 
 -- What is handed out at such an end, or after trouble before any run.
 abbrev pub IsServed : Result Ended Trouble → Served → Type 0
-IsServed (Ok ended) served = (served.status ≡ status_for ended.why) × (served.ran ≡ ended.ran) × (served.stopped ≡ ended.stopped)
+IsServed (Ok ended) served = (served.status ≡ status_for ended.last.answer) × (served.ran ≡ ended.ran) × (served.stopped ≡ ended.stopped)
 IsServed (Err trouble) served = (served.status ≡ status_for (Err trouble.fault)) × (served.ran ≡ None) × (served.stopped ≡ None)

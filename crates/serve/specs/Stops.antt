@@ -1,7 +1,7 @@
--- How a supply of hosts comes to its end (own).
+-- How a supply of hosts comes to its end, and how a host is left for the next one (own).
 use Rattle.std.specs.Prelude.{◌≡◌, ◌⊎◌, Bool, false, Option, is_some, true}
 use Rattle.run_control.specs.declared.request.Request.{Request}
-use Rattle.run_control.specs.declared.request.Request.TheVariants.{Stop}
+use Rattle.run_control.specs.declared.request.Request.TheVariants.{Next, Stop}
 use Rattle.serve.specs.Turns.{HadAllTurns}
 use Rattle.serve.specs.declared.turns.Turns.{Turns}
 
@@ -13,3 +13,8 @@ IsOut turns stopped lifeline = HadAllTurns turns ⊎ ((is_some stopped ≡ true)
 abbrev pub asks_to_stop : Request → Bool
 asks_to_stop Stop = true
 asks_to_stop request = false
+
+-- The request asks that the next host has its turn.
+abbrev pub asks_for_next : Request → Bool
+asks_for_next Next = true
+asks_for_next request = false

@@ -199,13 +199,13 @@ impl Display for Advice<'_> {
             ),
             Stage::ReadHost => write!(
                 f,
-                "--host {} is no IP:PORT and no NAME:PORT, such as 192.0.2.7:5900 or localhost:5907",
+                "--host {} is no IP:PORT, no NAME:PORT and no listen:IP:PORT, such as 192.0.2.7:5900, localhost:5907 or listen:0.0.0.0:5500",
                 settings.host
             ),
             Stage::ReadNext(number) => match settings.next.get(number) {
                 Some(host) => write!(
                     f,
-                    "{host} is no IP:PORT and no NAME:PORT, such as 192.0.2.7:5900 or localhost:5907"
+                    "{host} is no IP:PORT, no NAME:PORT and no listen:IP:PORT, such as 192.0.2.7:5900, localhost:5907 or listen:0.0.0.0:5500"
                 ),
                 None => Ok(()),
             },
@@ -233,6 +233,11 @@ impl Display for Advice<'_> {
                 f,
                 "can't listen at {}{said}; is it a file of another kind, or another reflector's?",
                 shown(&settings.control)
+            ),
+            Stage::ListenHost(number) => write!(
+                f,
+                "can't listen at {}{said}; is it this machine's, and does no other program or host have the port?",
+                text_of(settings, number)
             ),
             Stage::LookUp => write!(
                 f,

@@ -70,9 +70,9 @@ where
 {
     match runs() {
         Ok(ended) => {
-            let Ended { why, ran, stopped } = ended;
+            let Ended { last, ran, stopped } = ended;
             Served {
-                status: status_after(journal, settings, why),
+                status: status_after(journal, settings, last.answer),
                 ran,
                 stopped,
             }

@@ -1,8 +1,8 @@
 //! What an operator asks over a socket of this machine.
 
 use crate::halls::Halls;
-use crate::lifeline::Lifeline;
-use crate::order::Cut;
+use crate::lifeline::{Lifeline, Stays};
+use crate::order::{Cut, Skip};
 use crate::state::state;
 use crate::writer_reach::WriterReach;
 use connections::Desk;
@@ -25,8 +25,8 @@ const MOST_READS: usize = 8;
 
 const LONGEST: usize = 64;
 
-/// How often a stop looks whether the host was told all that viewers held, and the pause after each look, in
-/// milliseconds.
+/// How often a stop looks whether the host was told all that viewers held, or have sent where it is left for the next
+/// one, and the pause after each look, in milliseconds.
 const MOST_LOOKS: usize = 400;
 
 const LOOK_MILLIS: u64 = 5;
@@ -39,7 +39,7 @@ const PAUSE_MILLIS: u64 = 100;
 
 /// What is answered where an operator's line is no request.
 const NO_REQUEST: &[u8] =
-    b"error: no request: state, state json, drain, undrain, end PLACE or stop\n";
+    b"error: no request: state, state json, drain, undrain, end PLACE, next or stop\n";
 
 /// An operator's socket, and what requests reach before there are halls.
 #[derive(Drop)]
@@ -51,7 +51,7 @@ pub(crate) struct Control {
     /// How many places there are for viewers of each role.
     pub(crate) full_places: u64,
     pub(crate) view_places: u64,
-    pub(crate) lifeline: Arc<Lifeline<Cut>, Global>,
+    pub(crate) lifeline: Arc<Lifeline<Cut, Skip>, Global>,
 }
 
 /// What a request reaches.
@@ -120,7 +120,7 @@ fn outcome_text(outcome: Outcome) -> &'static str {
     }
 }
 
-/// Waits until the host was told all that viewers held, though not for long.
+/// Waits until the host was told all that viewers have sent, or held when they left, though not for long.
 fn await_last_words<R: Wait + Clock>(rt: &R, reach: &Reach) {
     for _ in 0..MOST_LOOKS {
         if reach.control.writer.seat.is_quiet() || !reach.control.lifeline.holds(rt) {
@@ -141,6 +141,21 @@ fn stop<R: Net + Wait + Clock>(rt: &R, reach: &Reach, stream: &UnixStream, cut: 
     lifeline.await_end(rt, Duration::from_millis(END_MILLIS));
 }
 
+/// Leaves the host for the next one, once it was told what viewers have sent up to then, and says what became of that.
+/// Where the host has ended by itself meanwhile, the next one has its turn all the same.
+fn go_on<R: Wait + Clock>(rt: &R, reach: &Reach, skip: Skip) -> &'static str {
+    let lifeline = &reach.control.lifeline;
+    match lifeline.number(rt) {
+        Ok(number) => {
+            await_last_words(rt, reach);
+            lifeline.skip(rt, number, skip);
+            "done\n"
+        }
+        Err(Stays::NoHost) => "error: there is no host now\n",
+        Err(Stays::NoOther) => "error: no other host follows: stop ends the run\n",
+    }
+}
+
 /// Answers one request.
 fn answer<R: Net + Wait + Clock>(
     rt: &R,
@@ -154,13 +169,15 @@ fn answer<R: Net + Wait + Clock>(
         stop(rt, reach, stream, cut);
         return Ok(());
     }
-    match request {
-        Request::State(form) => {
-            let text = state(rt, reach, form)?;
-            out.write_all(text.as_bytes())
-        }
-        _ => out.write_all(outcome_text(outcome).as_bytes()),
+    if let Request::State(form) = request {
+        let text = state(rt, reach, form)?;
+        return out.write_all(text.as_bytes());
     }
+    let text = match (outcome, Skip::of(request)) {
+        (Outcome::Done, Some(skip)) => go_on(rt, reach, skip),
+        _ => outcome_text(outcome),
+    };
+    out.write_all(text.as_bytes())
 }
 
 /// Hears one request, and answers it. The result says whether the run is to end.

@@ -6,13 +6,14 @@ ghost use Rattle.serve.specs.Statuses.{status_for};
 use crate::order::Cut;
 use crate::status::status_of;
 use fault::Fault;
+use host_turns::Ending;
 use reflector::Ran;
 
 /// A run that was run.
 #[derive(Drop)]
 pub(crate) struct Reflected {
-    /// What reading or joining its last host answered.
-    pub(crate) why: Result<(), Fault>,
+    /// How its last host has ended.
+    pub(crate) last: Ending,
     /// What shows that it was run.
     pub(crate) ran: Ran,
 }
@@ -20,7 +21,8 @@ pub(crate) struct Reflected {
 /// How a run ended that was run, or that an operator has stopped, it may be before its first host was joined.
 #[derive(Drop)]
 pub(crate) struct Ended {
-    pub(crate) why: Result<(), Fault>,
+    /// How its last host has ended. A run that was stopped has ended well.
+    pub(crate) last: Ending,
     pub(crate) ran: Option<Ran>,
     pub(crate) stopped: Option<Cut>,
 }

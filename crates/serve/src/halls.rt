@@ -103,8 +103,8 @@ where
     Ok(halls)
 }
 
-/// Meets the first host, on these terms, and lets viewers in. Where that host is tried again they are told until then
-/// that there is none yet; where it is tried once, they wait.
+/// Meets the first host, on these terms, and lets viewers in. Where that host is tried again, or calls, they are told
+/// until then that there is none yet; where it is tried once, they wait.
 pub(crate) fn welcome<R, G>(
     rt: R,
     alloc: Global,
@@ -125,7 +125,7 @@ where
     ensures again { supply.new.turns.again ≡ supply.old.turns.again }
     ensures lifeline { supply.new.lifeline ≡ supply.old.lifeline }
 {
-    if !supply.tries_again() {
+    if !supply.waits() {
         let met = supply.first(terms)?;
         let halls = start_all(rt, alloc, entrances, seats, control, log)?;
         return Ok((met, halls));

@@ -1,7 +1,9 @@
 //! The texts that say where hosts are.
 
-ghost use Rattle.std.specs.Prelude.{◌≡◌, ◌∷◌, IfOk, map};
+ghost use Rattle.std.specs.Prelude.{◌≡◌, ◌∷◌, IfNone, IfOk, IfSome, map};
 ghost use Rattle.std.specs.String.{string_bytes};
+ghost use Rattle.std.specs.declared.net.socket_addr.SocketAddr.{SocketAddr as Address};
+ghost use Rattle.serve.specs.Hosts.{CallsAt};
 
 use crate::trouble::{Stage, Trouble};
 use fault::Fault;
@@ -22,9 +24,21 @@ fn is_of_a_name(byte: u8) -> bool {
     byte.is_ascii_alphanumeric() || matches!(byte, b'.' | b'-' | b'_')
 }
 
+/// The address at which the host of this text calls, if it does: the text has it after `listen:`.
+pub(crate) fn call_address(text: &str) -> Option<SocketAddr>
+    ensures some { IfSome result (λ address. CallsAt text.now address) }
+    ensures none { IfNone result ((address : Address) → ¬ CallsAt text.now address) }
+{
+    let said = text.strip_prefix("listen:")?;
+    said.parse::<SocketAddr>().ok()
+}
+
 /// Whether a text says where a host is: an address with a port, as `192.0.2.7:5900` and `[::1]:5900`, or a name with
-/// one.
+/// one. Or it says where the host calls: at an address with a port other than 0, after `listen:`.
 fn says_where(text: &str) -> bool {
+    if let Some(address) = call_address(text) {
+        return address.port() != 0;
+    }
     if text.parse::<SocketAddr>().is_ok() {
         return true;
     }

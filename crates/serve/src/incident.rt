@@ -3,7 +3,7 @@
 ghost use Rattle.std.specs.Prelude.{◌≡◌};
 ghost use Rattle.serve.specs.Gravities.{gravity_for};
 
-use crate::order::Cut;
+use crate::order::{Cut, Skip};
 use run_reports::Gravity;
 use run_traits::{Event, Log};
 use std::net::SocketAddr;
@@ -15,8 +15,12 @@ pub(crate) enum Incident<'a> {
     Noted(&'a Event<'a>),
     /// Machines that watch the run can connect here.
     MetricsListening(SocketAddr),
+    /// A host that calls can connect here.
+    HostsListening(SocketAddr),
     /// The host was left because the run was asked to stop, as the `Cut` shows.
     HostStopped(Option<SocketAddr>, Cut),
+    /// The host was left because the run was asked for its next one, as the `Skip` shows.
+    HostSkipped(Option<SocketAddr>, Skip),
 }
 
 /// Who is told what happens in a run. No clause says what becomes of it.

@@ -1,5 +1,6 @@
 //! The log: a line an event, on standard error.
 
+use crate::host_text::call_address;
 use crate::incident::{Incident, gravity_of};
 use crate::quoted::Quoted;
 use fault::Fault;
@@ -41,8 +42,8 @@ impl<R: Eprint + Drop> Paper for StandardError<R> {
 }
 
 /// Standard error, and the log on it, if it is kept. Each line is written at once, so that the lines of threads don't
-/// mix, and nobody waits for room: a line that finds none, or for which memory is refused, is left out, and the next one
-/// says how many were.
+/// mix, and nobody waits for room: a line that finds none, or for which memory is refused, is left out, and the next
+/// one says how many were.
 #[derive(Clone, Drop)]
 pub(crate) struct Journal<R: Eprint + Clock + Wait + Drop> {
     rt: R,
@@ -221,6 +222,7 @@ fn host_tried<W: fmt::Write>(
         None => write!(f, "host-tried address={host} why=\"")?,
     }
     match (refused, address) {
+        (None, _) if call_address(host).is_some() => f.write_str("called\""),
         (None, _) => f.write_str("connected\""),
         (Some(kind), Some(_)) => write!(f, "{kind}\""),
         (Some(_), None) => f.write_str("no address\""),
@@ -327,9 +329,16 @@ impl Display for Words<'_> {
             Incident::MetricsListening(address) => {
                 write!(f, "listening for=metrics address={address}")
             }
+            Incident::HostsListening(address) => {
+                write!(f, "listening for=hosts address={address}")
+            }
             Incident::HostStopped(address, _cut) => {
                 let place = AddressOrDash { address: *address };
                 write!(f, "host-out address={place} why=\"stopped\"")
+            }
+            Incident::HostSkipped(address, _skip) => {
+                let place = AddressOrDash { address: *address };
+                write!(f, "host-out address={place} why=\"next\"")
             }
         }
     }

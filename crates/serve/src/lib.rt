@@ -9,11 +9,13 @@
 mod advice;
 mod answer;
 mod bound;
+mod callers;
 mod control;
 mod counters;
 mod ended;
 mod entries;
 mod halls;
+mod held_host;
 mod host_text;
 mod incident;
 mod journal;

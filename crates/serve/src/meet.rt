@@ -1,6 +1,6 @@
 //! Meeting hosts.
 
-ghost use Rattle.std.specs.Prelude.{◌≡◌, IfOk, false};
+ghost use Rattle.std.specs.Prelude.{◌≡◌, IfOk, IfSome, false, true};
 ghost use Rattle.connections.specs.Wires.{joining_state};
 ghost use Rattle.link.specs.Joins.{Joins};
 ghost use Rattle.raster.specs.Size.{IsScreenSize};
@@ -8,8 +8,9 @@ ghost use Rattle.run_traits.specs.Unused.{unused};
 ghost use Rattle.settings.specs.Rooms.{FitsInto};
 
 use crate::trouble::{Stage, Trouble};
-use connections::{HostLink, JoiningLink};
+use connections::{HostCall, HostLink, HostListener, JoiningLink};
 use fault::Fault;
+use host_turns::HostEnds;
 use link::join_host;
 use rfb_wire::Joined;
 use settings::{Room, fits};
@@ -40,6 +41,7 @@ pub(crate) struct Terms {
 pub(crate) struct Met<R: Clock + Drop> {
     pub(crate) reader: JoiningLink<R>,
     pub(crate) writer: JoiningLink<R>,
+    pub(crate) has_called: bool,
     pub(crate) joined: Joined,
     /// The password that hosts may ask for, if one is known.
     pub(crate) password: Option<Password>,
@@ -54,6 +56,7 @@ fn connect<R: Net<Stream = TcpStream> + Clock + Copy + Drop>(
 ) -> io::Result<Reached<R>>
     ensures untimed { IfOk result (λ reached. reached.writer.has_deadline ≡ false) }
     ensures fresh { IfOk result (λ reached. (joining_state reached.reader ≡ unused) × (joining_state reached.writer ≡ unused)) }
+    ensures called { IfOk result (λ reached. reached.has_called ≡ false) }
 {
     let patience = Duration::from_secs(CONNECT_SECONDS);
     let stream = TcpStream::connect_timeout(&rt, &address, patience)?;
@@ -64,16 +67,49 @@ fn connect<R: Net<Stream = TcpStream> + Clock + Copy + Drop>(
         stream,
         reader,
         writer: JoiningLink::without_limit(rt, writer),
+        has_called: false,
     })
 }
 
-/// A host that was connected to, at this address: the ends of its connection, and what ends it from another thread.
+/// The host that calls here next: the same ends as of one that is connected to. It is `None` where none calls within
+/// half a second.
+pub(crate) fn called<R: Clock + Copy + Drop>(
+    rt: R,
+    listener: &HostListener,
+) -> io::Result<Option<Reached<R>>>
+    ensures untimed { IfOk result (λ call. IfSome call (λ reached. reached.writer.has_deadline ≡ false)) }
+    ensures fresh { IfOk result (λ call. IfSome call (λ reached. (joining_state reached.reader ≡ unused) × (joining_state reached.writer ≡ unused))) }
+    ensures called { IfOk result (λ call. IfSome call (λ reached. reached.has_called ≡ true)) }
+{
+    let Some(call) = listener.accept()? else {
+        return Ok(None);
+    };
+    let HostCall {
+        address,
+        stream,
+        reader,
+        writer,
+    } = call;
+    let reader = JoiningLink::new(rt, reader)?;
+    Ok(Some(Reached {
+        address,
+        stream,
+        reader,
+        writer: JoiningLink::without_limit(rt, writer),
+        has_called: true,
+    }))
+}
+
+/// A host that was connected to, at this address, or has called from there: the ends of its connection, and what ends
+/// it from another thread.
 #[derive(Drop)]
 pub(crate) struct Reached<R: Clock + Drop> {
     pub(crate) address: SocketAddr,
     pub(crate) stream: TcpStream,
     pub(crate) reader: JoiningLink<R>,
     pub(crate) writer: JoiningLink<R>,
+    /// Whether it has called.
+    pub(crate) has_called: bool,
 }
 
 /// A host that wasn't connected to: the last address that was tried, or none where the system had none for its name,
@@ -102,6 +138,7 @@ pub(crate) fn connect_by_text<R: Net<Stream = TcpStream> + Clock + Copy + Drop>(
 ) -> Result<Reached<R>, Missed>
     ensures untimed { IfOk result (λ reached. reached.writer.has_deadline ≡ false) }
     ensures fresh { IfOk result (λ reached. (joining_state reached.reader ≡ unused) × (joining_state reached.writer ≡ unused)) }
+    ensures called { IfOk result (λ reached. reached.has_called ≡ false) }
 {
     let addresses = match host.to_socket_addrs(&rt) {
         Ok(addresses) => addresses,
@@ -137,18 +174,22 @@ pub(crate) fn join<R>(
     rt: &R,
     number: usize,
     terms: &Terms,
-    ends: (JoiningLink<R>, JoiningLink<R>),
+    ends: HostEnds<JoiningLink<R>>,
 ) -> Result<Met<R>, Trouble>
 where
     R: Net<Stream = TcpStream> + Wait + Clock + Copy + Drop,
-    requires untimed { ends.1.has_deadline ≡ false }
-    requires fresh { (joining_state ends.0 ≡ unused) × (joining_state ends.1 ≡ unused) }
+    requires untimed { ends.writer.has_deadline ≡ false }
+    requires fresh { (joining_state ends.reader ≡ unused) × (joining_state ends.writer ≡ unused) }
     ensures size { IfOk result (λ met. IsScreenSize met.joined.w met.joined.h) }
     ensures fits { IfOk result (λ met. FitsInto terms.now.room met.joined.w met.joined.h) }
     ensures untimed { IfOk result (λ met. (met.reader.has_deadline ≡ false) × (met.writer.has_deadline ≡ false)) }
     ensures password { IfOk result (λ met. met.password ≡ terms.now.password) }
 {
-    let (mut reader, writer) = ends;
+    let HostEnds {
+        mut reader,
+        writer,
+        has_called,
+    } = ends;
     let joined = match join_host(rt, terms.password, &mut reader) {
         Ok(joined) => joined,
         Err(fault) => return Err(Trouble::new(Stage::Join(number), fault)),
@@ -162,6 +203,7 @@ where
     Ok(Met {
         reader,
         writer,
+        has_called,
         joined,
         password: terms.password,
     })

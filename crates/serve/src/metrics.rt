@@ -8,6 +8,7 @@ ghost use Rattle.serve.specs.Ports.{AsksForAll, AsksForMetrics};
 ghost use Rattle.serve.specs.Runs.{IsEndBy};
 
 use crate::bound::Ports;
+use crate::callers::open_callers;
 use crate::counters::{Inputs, counters_of, inputs_of, places_by_role};
 use crate::ended::Ended;
 use crate::entries::{Entrances, open_all};
@@ -17,7 +18,7 @@ use crate::run::run;
 use crate::runtime::{REQUEST_STACK, Runtime};
 use crate::sentry::Sentry;
 use crate::trouble::{Stage, Trouble};
-use connections::{Desk, RunCard};
+use connections::{Desk, HostListener, RunCard};
 use fault::Fault;
 use metrics_site::{Watched, answer_one};
 use reflector::InputCounts;
@@ -67,17 +68,18 @@ fn open_metrics<R: Net<Stream = TcpStream, Listener = TcpListener>, G: RunLog>(
     }
 }
 
-/// What a run begins with: the hosts' password, if one is known, and its ports: where people come in, and where machines
-/// are answered, if they are.
+/// What a run begins with: the hosts' password, if one is known, and its ports: where people come in, where machines
+/// are answered, if they are, and where hosts call, by their numbers.
 #[derive(Drop)]
 pub(crate) struct Opened<'a> {
     pub(crate) password: Option<Password>,
     pub(crate) entrances: Entrances<'a>,
     machines: Option<TcpListener>,
+    callers: Vec<Option<HostListener>>,
 }
 
-/// Reads the hosts' password, if there is one, and then listens for people, and then for machines.
-#[tactic(auto, using(crate::proofs::Asking::nobody, crate::proofs::Asking::people_alone, crate::proofs::Asking::with_machines))]
+/// Reads the hosts' password, if there is one, and then listens for people, for machines, and for hosts that call.
+#[tactic(auto, using(crate::proofs::Asking::nobody, crate::proofs::Asking::people_alone, crate::proofs::Asking::machines_too, crate::proofs::Asking::with_hosts))]
 pub(crate) fn open_ports<'a, R, G>(
     rt: &R,
     alloc: Global,
@@ -96,10 +98,12 @@ where
     let password = password_of(rt, alloc, settings)?;
     let entrances = open_all(rt, alloc, settings, ports, log)?;
     let machines = open_metrics(rt, settings, ports, log)?;
+    let callers = open_callers(rt, alloc, settings, ports, log)?;
     Ok(Opened {
         password,
         entrances,
         machines,
+        callers,
     })
 }
 
@@ -230,11 +234,14 @@ where
         password,
         entrances,
         machines,
+        callers,
     } = opened;
     let Ok(input) = Arc::new(alloc, InputCounts::new()) else {
         return Err(Trouble::new(Stage::Start, Fault::Memory));
     };
     let desk = entrances.view.lobby.desk();
     start_metrics(rt, alloc, settings, machines, desk, log, &input)?;
-    run(rt, alloc, settings, password, entrances, input, log)
+    run(
+        rt, alloc, settings, password, entrances, callers, input, log,
+    )
 }

@@ -1,4 +1,4 @@
-//! What shows that an operator has asked a run to stop.
+//! What shows that an operator has asked a run to stop, or for its next host.
 
 use run_control::Request;
 
@@ -18,6 +18,27 @@ impl Cut {
     {
         match request {
             Request::Stop => Some(Cut { only_here: () }),
+            _ => None,
+        }
+    }
+}
+
+/// What shows that a run was asked for its next host: only a request for it gives one.
+#[derive(Clone, Copy, Drop)]
+pub(crate) struct Skip {
+    only_here: (),
+}
+
+impl Skip {
+    ghost use Rattle.std.specs.Prelude.{◌≡◌, is_some};
+    ghost use Rattle.serve.specs.Stops.{asks_for_next};
+
+    /// What the request shows, if it asks for the next host.
+    pub(crate) fn of(request: Request) -> Option<Skip>
+        ensures { is_some result ≡ asks_for_next request }
+    {
+        match request {
+            Request::Next => Some(Skip { only_here: () }),
             _ => None,
         }
     }

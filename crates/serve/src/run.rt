@@ -6,7 +6,7 @@ ghost use Rattle.host_turns.specs.Running.{goes_on};
 ghost use Rattle.link.specs.Joins.{Joins};
 ghost use Rattle.run_traits.specs.Unused.{unused};
 ghost use Rattle.settings.specs.ByRole.{HasPlaces};
-ghost use Rattle.settings.specs.Rooms.{FitsInto};
+ghost use Rattle.settings.specs.Rooms.{FitsInto, IsRoomFor};
 ghost use Rattle.reflector.specs.Course.{IsReflected};
 ghost use Rattle.serve.specs.Turns.{endless};
 ghost use Rattle.serve.specs.Runs.{IsEndBy, IsRunBy};
@@ -27,9 +27,9 @@ use crate::supply::Supply;
 use crate::trouble::{Stage, Trouble};
 use crate::web::shared;
 use crate::writer_reach::WriterReach;
-use connections::{Desk, WriterSeat};
+use connections::{Desk, HostListener, WriterSeat};
 use fault::Fault;
-use host_turns::{Hosts, RunScreen};
+use host_turns::{Ending, HostEnds, Hosts, RunScreen};
 use joined_runs::Runs;
 use link::{Link, Rest};
 use reflector::{InputCounts, Running, run_all};
@@ -53,7 +53,7 @@ fn over<J, L, H, D, B, W, R>(
     rt: R,
     room: RunScreen,
     history: Opened<J>,
-    ends: (L, L),
+    ends: HostEnds<L>,
     joined: Joined,
     hosts: H,
     doors: Vec<(Role, D)>,
@@ -75,19 +75,18 @@ where
     requires size { (room.width ≡ J.width) × (room.height ≡ J.height) }
     requires doors { (1 ≤ length doors.items) × (length doors.items ≤ 64) }
     requires roles { All (λ door. D.is_for door.1 door.0) doors.items }
-    requires joins { ∥ Joins room.password unused (L.state ends.0) joined ∥₁ }
-    requires writer { L.state ends.1 ≡ unused }
+    requires joins { ∥ Joins room.password unused (L.state ends.reader) joined ∥₁ }
+    requires writer { L.state ends.writer ≡ unused }
     ensures reflected { IfOk result (λ run. IsReflected run.ran.course) }
     ensures room { IfOk result (λ run. (run.ran.course.host ≡ joined) × (run.ran.course.room_width ≡ room.width) × (run.ran.course.room_height ≡ room.height) × (run.ran.course.password ≡ room.password)) }
     ensures roles { IfOk result (λ run. run.ran.course.roles ≡ map (λ door. door.0) doors.items) }
     ensures form { IfOk result (λ run. run.ran.course.form ≡ runs) }
-    ensures why { IfOk result (λ run. run.why ≡ run.ran.course.answer) }
-    ensures never { IfOk result (λ run. goes_on run.why ≡ true → H.again hosts ≡ None) }
+    ensures last { IfOk result (λ run. run.last ≡ run.ran.course.last_end) }
+    ensures never { IfOk result (λ run. goes_on run.last ≡ true → H.again hosts ≡ None) }
 {
-    let (reader, writer_end) = ends;
     let Running {
         ran,
-        result,
+        last,
         links: _links,
         hosts: _hosts,
         publisher: _publisher,
@@ -97,9 +96,31 @@ where
         written: _written,
         places: _places,
     } = run_all::<J, L, H, D, B, W, R>(
-        rt, room, history, reader, writer_end, joined, hosts, doors, runs, everyone, writer, input,
+        rt, room, history, ends, joined, hosts, doors, runs, everyone, writer, input,
     )?;
-    Ok(Reflected { why: result, ran })
+    Ok(Reflected { last, ran })
+}
+
+/// The room of a run, whose first host was joined so, and the password that its hosts may ask for.
+fn run_screen_of(
+    alloc: Global,
+    settings: &Settings,
+    joined: &Joined,
+    password: Option<Password>,
+) -> RunScreen
+    requires size { IsScreenSize joined.now.w joined.now.h }
+    requires fits { FitsInto settings.now.room joined.now.w joined.now.h }
+    ensures room { IsRoomFor settings.now joined.now.w joined.now.h result.width result.height }
+    ensures fits { (joined.now.w ≤ result.width) × (joined.now.h ≤ result.height) }
+    ensures password { result.password ≡ password }
+{
+    let room = room_of(settings, joined.w, joined.h);
+    RunScreen {
+        alloc,
+        width: room.width,
+        height: room.height,
+        password,
+    }
 }
 
 /// Starts all threads, with the places that the settings say, and waits until the last host has ended. It hands out
@@ -130,19 +151,24 @@ where
     let Rooms { doors, seats } = rooms;
     let WriterReach { seat, input } = writer;
     let everyone = everyone_of(alloc, &seat, seats, supply.desk.count())?;
-    let room = room_of(settings, met.joined.w, met.joined.h);
-    let run_screen = RunScreen {
-        alloc,
-        width: room.width,
-        height: room.height,
-        password: met.password,
-    };
+    let run_screen = run_screen_of(alloc, settings, &met.joined, met.password);
+    let Met {
+        reader,
+        writer: told,
+        has_called,
+        joined,
+        password: _,
+    } = met;
     over::<Brand, _, _, _, _, _, _>(
         rt,
         run_screen,
         Opened::new(),
-        (met.reader, met.writer),
-        met.joined,
+        HostEnds {
+            reader,
+            writer: told,
+            has_called,
+        },
+        joined,
         supply,
         doors,
         runs_of(settings),
@@ -238,27 +264,31 @@ fn end_of(
 {
     let _settings = settings;
     let Some(cut) = stopped else {
-        let Reflected { why, ran } = reflected?;
+        let Reflected { last, ran } = reflected?;
         return Ok(Ended {
-            why,
+            last,
             ran: Some(ran),
             stopped: None,
         });
     };
     let ran = match reflected {
-        Ok(Reflected { why: _, ran }) => Some(ran),
+        Ok(Reflected { last: _, ran }) => Some(ran),
         Err(_) => None,
     };
     Ok(Ended {
-        why: Ok(()),
+        last: Ending {
+            answer: Ok(()),
+            has_called: false,
+        },
         ran,
         stopped: Some(cut),
     })
 }
 
 /// Reflects the hosts of the settings, of which this password may be known, for viewers who come in by these entries,
-/// one for each role that is served, until the last host ends or an operator stops the run, if one can. `input` tells
-/// how much of their input waits. It hands out how the run ended, or fails where there was trouble before.
+/// one for each role that is served, until the last host ends or an operator stops the run, if one can. `callers` has a
+/// listener at the number of each host that calls. `input` tells how much of the viewers' input waits. It hands out how
+/// the run ended, or fails where there was trouble before.
 #[tactic(auto, using(crate::proofs::Stopping::stopped))]
 pub(crate) fn run<G, R>(
     rt: R,
@@ -266,6 +296,7 @@ pub(crate) fn run<G, R>(
     settings: &Settings,
     password: Option<Password>,
     entrances: Entrances<'_>,
+    callers: Vec<Option<HostListener>>,
     input: Arc<InputCounts, Global>,
     log: &G,
 ) -> Result<Ended, Trouble>
@@ -292,7 +323,16 @@ where
     let control = control_of(&rt, alloc, settings, &desk, &writer)?;
     let lifeline = lifeline_of(&control)?;
     let held = lifeline_of(&control)?;
-    let supply = Supply::new(rt, alloc, theirs, desk, hosts, settings.again, held);
+    let supply = Supply::new(
+        rt,
+        alloc,
+        theirs,
+        desk,
+        hosts,
+        callers,
+        settings.again,
+        held,
+    );
     let reflected = reflect_all(
         rt, alloc, settings, supply, password, entrances, rooms, control, writer, log,
     );

@@ -53,8 +53,8 @@ fn happening_at(event: &Event<'_>) -> Option<Happening> {
 fn happening_of(incident: &Incident<'_>) -> Option<Happening> {
     match incident {
         Incident::Noted(event) => happening_at(event),
-        Incident::MetricsListening(_) => None,
-        Incident::HostStopped(..) => Some(Happening::HostLeft),
+        Incident::MetricsListening(_) | Incident::HostsListening(_) => None,
+        Incident::HostStopped(..) | Incident::HostSkipped(..) => Some(Happening::HostLeft),
     }
 }
 

@@ -7,24 +7,30 @@ ghost use Rattle.settings.specs.Rooms.{FitsInto};
 ghost use Rattle.serve.specs.Turns.{endless, turn_of};
 ghost use Rattle.serve.specs.Stops.{IsOut};
 
+use crate::held_host::HeldHost;
 use crate::incident::{Incident, RunLog};
 use crate::lifeline::{Lifeline, Recall};
-use crate::meet::{Met, Missed, Reached, Terms, connect_by_text, join};
+use crate::meet::{Met, Missed, Reached, Terms, called, connect_by_text, join};
 use crate::noted_tries::NotedTries;
-use crate::order::Cut;
+use crate::order::{Cut, Skip};
 use crate::quoted::Quoted;
 use crate::rested::Rested;
 use crate::trouble::Trouble;
 use crate::turns::Turns;
-use connections::{Desk, HostCard, JoiningLink};
+use connections::{Desk, HostCard, HostListener, JoiningLink};
 use fault::Fault;
-use host_turns::Hosts;
+use host_turns::{HostEnds, Hosts};
 use rfb_wire::Joined;
 use run_traits::{Event, Log, clock_millis};
 use std::alloc::Global;
+use std::io::ErrorKind;
 use std::net::{Net, SocketAddr, TcpListener, TcpStream};
 use std::sync::{Arc, Wait};
-use std::time::Clock;
+use std::time::{Clock, Duration};
+use std::{io, thread};
+
+/// For how long nobody is waited for after the system refused a call, in milliseconds.
+const PAUSE_MILLIS: u64 = 100;
 
 /// The hosts over TCP, in their order. One that can't be reached is passed over. The log is told of the tries of a
 /// round as `NotedTries` says.
@@ -40,14 +46,18 @@ pub(crate) struct Supply<
     pub(crate) desk: Arc<Desk, Global>,
     /// The texts that say where the hosts are, by their numbers.
     texts: Vec<String>,
+    /// Where hosts call, by their numbers: none where a host is connected to.
+    callers: Vec<Option<HostListener>>,
     turns: Turns,
     noted_tries: NotedTries,
     /// Where the host whose turn it is was reached, if it was.
     present: Option<SocketAddr>,
     /// Whether that host was joined.
     is_joined: bool,
-    /// What an operator ends the run by, if one can.
-    lifeline: Option<Arc<Lifeline<Cut>, Global>>,
+    /// The number of that host, if it has called and wasn't joined. The next that calls there has its turn.
+    called: Option<usize>,
+    /// What an operator ends the run by, or the turn of a host, if one can.
+    lifeline: Option<Arc<Lifeline<Cut, Skip>, Global>>,
     /// What showed that the run was asked to stop, if it was seen.
     stopped: Option<Cut>,
 }
@@ -66,8 +76,9 @@ impl<
         log: G,
         desk: Arc<Desk, Global>,
         texts: Vec<String>,
+        callers: Vec<Option<HostListener>>,
         again: Option<u64>,
-        lifeline: Option<Arc<Lifeline<Cut>, Global>>,
+        lifeline: Option<Arc<Lifeline<Cut, Skip>, Global>>,
     ) -> Supply<R, G>
         ensures texts { result.texts ≡ texts }
         ensures hosts { (result.turns.further ≡ length texts.items - 1) × (result.turns.done ≡ 0) }
@@ -81,24 +92,25 @@ impl<
             log,
             desk,
             texts,
+            callers,
             turns: Turns::new(further, again),
             noted_tries: NotedTries::new(),
             present: None,
             is_joined: false,
+            called: None,
             lifeline,
             stopped: None,
         }
     }
 
-    /// Whether hosts are tried until one is met.
-    pub(crate) fn tries_again(&self) -> bool
-        ensures { result ≡ is_some self.now.turns.again }
-    {
-        self.turns.again().is_some()
+    /// Whether hosts are tried until one is met, or the first one calls, so that it isn't known when there is a host.
+    pub(crate) fn waits(&self) -> bool {
+        self.turns.again().is_some() || matches!(self.callers.first(), Some(Some(_)))
     }
 
     /// Meets the first host, which is joined on these terms, and fits into their room. Where it is to be tried again,
-    /// hosts have their turns until one is met, so that only a lack of memory is an error.
+    /// hosts have their turns until one is met, so that only a lack of memory is an error. Where it calls, the next
+    /// that calls has its turn until one is met.
     pub(crate) fn first(&mut self, terms: &Terms) -> Result<Met<R>, Trouble>
         ensures size { IfOk result (λ met. IsScreenSize met.joined.w met.joined.h) }
         ensures fits { IfOk result (λ met. FitsInto terms.now.room met.joined.w met.joined.h) }
@@ -114,10 +126,11 @@ impl<
                 Ok(met) => return Ok(met),
                 Err(trouble) => trouble,
             };
-            if self.turns.again().is_none() || trouble.is_final() || self.is_cut().is_some() {
+            let is_tried = self.turns.again().is_some() || self.called.is_some();
+            if !is_tried || trouble.is_final() || self.is_cut().is_some() {
                 return Err(trouble);
             }
-            number = match self.turn() {
+            number = match self.next_number() {
                 Some(number) => number,
                 None => return Err(trouble),
             };
@@ -143,6 +156,7 @@ impl<
                 let Met {
                     mut reader,
                     writer,
+                    has_called,
                     joined,
                     password,
                 } = met;
@@ -150,6 +164,7 @@ impl<
                 Ok(Met {
                     reader,
                     writer,
+                    has_called,
                     joined,
                     password,
                 })
@@ -172,38 +187,86 @@ impl<
     }
 
     /// The ends of a connection to a host that is read from now on.
-    fn take_up(&self, reached: Reached<R>) -> (JoiningLink<R>, JoiningLink<R>)
-        ensures { (result.0 ≡ reached.reader) × (result.1 ≡ reached.writer) }
+    fn take_up(&self, reached: Reached<R>) -> HostEnds<JoiningLink<R>>
+        ensures { (result.reader ≡ reached.reader) × (result.writer ≡ reached.writer) × (result.has_called ≡ reached.has_called) }
     {
         let Reached {
             address: _,
             stream,
             reader,
             writer,
+            has_called,
         } = reached;
         if let Some(lifeline) = &self.lifeline {
-            lifeline.hold(&self.rt, stream);
+            lifeline.hold(&self.rt, HeldHost::new(stream, self.turns.successor()));
         }
-        (reader, writer)
+        HostEnds {
+            reader,
+            writer,
+            has_called,
+        }
     }
 
-    /// Tries to connect to the host of this number, whose turn it is, and tells the log how the try ended.
-    fn reach(&mut self, number: usize) -> Result<(JoiningLink<R>, JoiningLink<R>), Missed>
-        ensures untimed { IfOk result (λ ends. ends.1.has_deadline ≡ false) }
-        ensures fresh { IfOk result (λ ends. (joining_state ends.0 ≡ unused) × (joining_state ends.1 ≡ unused)) }
+    /// Waits for the host that calls here next, unless the run is to stop.
+    fn await_call(&self, listener: &HostListener) -> Result<Reached<R>, Missed>
+        ensures untimed { IfOk result (λ reached. reached.writer.has_deadline ≡ false) }
+        ensures fresh { IfOk result (λ reached. (joining_state reached.reader ≡ unused) × (joining_state reached.writer ≡ unused)) }
+        ensures called { IfOk result (λ reached. reached.has_called ≡ true) }
+    {
+        let rt = self.rt;
+        for _ in rt.forever() {
+            if self.is_cut().is_some() {
+                return Err(Missed {
+                    address: None,
+                    error: io::Error::from(ErrorKind::Interrupted),
+                });
+            }
+            match called(rt, listener) {
+                Ok(Some(reached)) => return Ok(reached),
+                Ok(None) => {}
+                Err(_) => thread::sleep(&rt, Duration::from_millis(PAUSE_MILLIS)),
+            }
+        }
+        unreachable!()
+    }
+
+    /// The text of the host of this number.
+    fn text(&self, number: usize) -> &str {
+        match self.texts.get(number) {
+            Some(text) => text.as_str(),
+            None => "",
+        }
+    }
+
+    /// Connects to the host of this number, or waits for its call.
+    fn try_host(&self, number: usize) -> Result<Reached<R>, Missed>
+        ensures untimed { IfOk result (λ reached. reached.writer.has_deadline ≡ false) }
+        ensures fresh { IfOk result (λ reached. (joining_state reached.reader ≡ unused) × (joining_state reached.writer ≡ unused)) }
+    {
+        match self.callers.get(number) {
+            Some(Some(listener)) => self.await_call(listener),
+            _ => connect_by_text(self.rt, self.text(number)),
+        }
+    }
+
+    /// Tries to reach the host of this number, whose turn it is, and tells the log how the try ended, unless it ended
+    /// since the run is to stop.
+    fn reach(&mut self, number: usize) -> Result<HostEnds<JoiningLink<R>>, Missed>
+        ensures untimed { IfOk result (λ ends. ends.writer.has_deadline ≡ false) }
+        ensures fresh { IfOk result (λ ends. (joining_state ends.reader ≡ unused) × (joining_state ends.writer ≡ unused)) }
         ensures turns { self.new.turns ≡ self.old.turns }
         ensures texts { self.new.texts ≡ self.old.texts }
         ensures lifeline { self.new.lifeline ≡ self.old.lifeline }
     {
-        let host = match self.texts.get(number) {
-            Some(text) => text.as_str(),
-            None => "",
-        };
         self.is_joined = false;
-        let tried = connect_by_text(self.rt, host);
+        self.called = None;
+        let tried = self.try_host(number);
         let refused = match &tried {
             Ok(reached) => {
                 self.present = Some(reached.address);
+                if reached.has_called {
+                    self.called = Some(number);
+                }
                 None
             }
             Err(missed) => {
@@ -211,9 +274,10 @@ impl<
                 Some(missed.error.kind())
             }
         };
-        if self.noted_tries.is_noted() {
+        let is_stopped = matches!(refused, Some(ErrorKind::Interrupted));
+        if self.noted_tries.is_noted() && !is_stopped {
             self.log.note(&Event::HostTried {
-                host,
+                host: self.text(number),
                 address: self.present,
                 refused,
             });
@@ -256,30 +320,34 @@ impl<
     }
 
     /// Tells the log why a host was left, unless it wasn't joined and the tries of its round aren't noted. Where the
-    /// run was asked to stop, that is the reason, however the host's link ended.
+    /// run was asked to stop, that is the reason, however the host's link ended. Where it was asked for its next host,
+    /// that is, too, unless the host was at fault by then.
     fn note_out(&mut self, why: Result<(), Fault>)
         ensures turns { self.new.turns ≡ self.old.turns }
         ensures texts { self.new.texts ≡ self.old.texts }
         ensures lifeline { self.new.lifeline ≡ self.old.lifeline }
     {
         let cut = self.is_cut();
-        if let Some(lifeline) = &self.lifeline {
-            lifeline.let_go(&self.rt);
-        }
+        let skipped = match &self.lifeline {
+            Some(lifeline) => lifeline.let_go(&self.rt),
+            None => None,
+        };
         self.desk.host_left(&self.rt);
         if !self.is_joined {
             self.noted_tries.fail(&self.rt);
         }
         if self.is_joined || self.noted_tries.is_noted() {
-            match cut {
-                Some(cut) => self
-                    .log
-                    .note_incident(&Incident::HostStopped(self.present, cut)),
-                None => self.log.note(&Event::HostOut {
-                    address: self.present,
-                    why,
-                }),
-            }
+            let has_ended = matches!(why, Ok(()) | Err(Fault::LinkEnded));
+            let event = Event::HostOut {
+                address: self.present,
+                why,
+            };
+            let incident = match (cut, skipped) {
+                (Some(cut), _) => Incident::HostStopped(self.present, cut),
+                (None, Some(skip)) if has_ended => Incident::HostSkipped(self.present, skip),
+                _ => Incident::Noted(&event),
+            };
+            self.log.note_incident(&incident);
         }
     }
 
@@ -324,6 +392,21 @@ impl<
         self.noted_tries.begin(&self.rt);
         Some(self.turns.begin_anew(rested))
     }
+
+    /// The number of the host that is tried next: that of a host that has called and wasn't joined, so that the next
+    /// that calls there has its turn, or else that of the host whose turn it is.
+    fn next_number(&mut self) -> Option<usize>
+        ensures texts { self.new.texts ≡ self.old.texts }
+        ensures lifeline { self.new.lifeline ≡ self.old.lifeline }
+        ensures again { self.new.turns.again ≡ self.old.turns.again }
+        ensures out { IsNone result → IsOut self.new.turns self.new.stopped self.new.lifeline }
+    {
+        if let Some(number) = self.called.take() {
+            self.noted_tries.begin(&self.rt);
+            return Some(number);
+        }
+        self.turn()
+    }
 }
 
 impl<
@@ -333,7 +416,7 @@ impl<
     ghost use Rattle.std.specs.Prelude.{◌≡◌, ◌⊎◌, ◌≤◌, ⊤, None, false};
     ghost use Rattle.connections.specs.Wires.{joining_state};
 
-    ghost came = { λ _. ⊤ };
+    ghost came = { λ _ _. ⊤ };
 
     ghost are_out = { λ supply. IsOut supply.turns supply.stopped supply.lifeline };
 
@@ -341,14 +424,14 @@ impl<
     ghost again = { λ supply. endless (is_some supply.lifeline) supply.turns.again };
 
     #[tactic(auto, using(crate::proofs::Stopping::never))]
-    fn next(&mut self) -> Option<(JoiningLink<R>, JoiningLink<R>)> {
+    fn next(&mut self) -> Option<HostEnds<JoiningLink<R>>> {
         let rt = self.rt;
         for _ in rt.forever() {
             self.stopped = self.is_cut();
             if self.stopped.is_some() {
                 return None;
             }
-            let number = self.turn()?;
+            let number = self.next_number()?;
             if let Ok(ends) = self.reach(number) {
                 return Some(ends);
             }
@@ -369,6 +452,7 @@ impl<
             reader.close();
         }
         self.is_joined = true;
+        self.called = None;
         self.noted_tries = NotedTries::new();
         self.note_joined(reader, host);
         self.log.note(&Event::HostJoined {

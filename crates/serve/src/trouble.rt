@@ -33,6 +33,8 @@ pub(crate) enum Stage {
     ReadHost,
     /// Reading the address of this one of the further hosts.
     ReadNext(usize),
+    /// Listening for the host of this number, 0 for the first, which calls.
+    ListenHost(usize),
     /// Asking the system for the addresses of the host's name.
     LookUp,
     /// Connecting to the host.

@@ -1,7 +1,7 @@
 //! Whose turn it is.
 
 ghost use Rattle.std.specs.Prelude.{◌≡◌, ◌+◌, ◌≤◌, IsNone, Some, is_some, if◌then◌else◌};
-ghost use Rattle.serve.specs.Turns.{following};
+ghost use Rattle.serve.specs.Turns.{following, turn_of};
 
 use crate::rested::Rested;
 
@@ -15,6 +15,12 @@ pub(crate) struct Turns {
     again: Option<u64>,
     /// How many of those that follow had their turn.
     done: usize,
+}
+
+/// What shows that a host has its turn after the one whose turn it is: only `Turns::successor` makes one.
+#[derive(Clone, Copy, Drop)]
+pub(crate) struct Successor {
+    only_here: (),
 }
 
 impl Turns {
@@ -52,6 +58,17 @@ impl Turns {
         ensures { result ≡ self.now.again }
     {
         self.again
+    }
+
+    /// What shows that a host has its turn next, if one has. Where the first host has its turn again it may be the one
+    /// whose turn it is.
+    pub(crate) fn successor(&self) -> Option<Successor>
+        ensures { is_some result ≡ is_some (turn_of self.now) }
+    {
+        if self.done < self.further || self.again.is_some() {
+            return Some(Successor { only_here: () });
+        }
+        None
     }
 
     /// Gives the first host its turn again. The pause has been made before, as `Rested` shows. After it the others have

@@ -28,8 +28,8 @@ const ASK: &[u8] = b"\x03\0\0\0\0\0\0\x08\0\x03";
 /// The answer of a black screen: one tile of one colour, which is shorter than any other here.
 const BLACK: &[u8] = b"\0\0\0\x01\0\0\0\0\0\x08\0\x03\0\0\0\x05\x02\0\0\0\0";
 
-/// The answer of a red pixel on blue as joined runs. Blue is the background, which most pixels have, and the red pixel a
-/// subrectangle.
+/// The answer of a red pixel on blue as joined runs. Blue is the background, which most pixels have, and the red pixel
+/// a subrectangle.
 const JOINED: &[u8] = b"\0\0\0\x01\0\0\0\0\0\x08\0\x03\0\0\0\x05\x0E\xFF\0\0\0\0\0\xFF\0\x01\0\0";
 
 /// The answer of a red pixel on blue as the runs of rows. Red is the background, since it comes first, and each row has

@@ -12,6 +12,8 @@ mod asks;
 #[cfg(test)]
 mod binds;
 #[cfg(test)]
+mod callers;
+#[cfg(test)]
 mod company;
 #[cfg(test)]
 mod control;
@@ -33,6 +35,8 @@ mod loopback;
 mod meeting;
 #[cfg(test)]
 mod names;
+#[cfg(test)]
+mod next;
 #[cfg(test)]
 mod notices;
 #[cfg(test)]

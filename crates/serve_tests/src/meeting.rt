@@ -51,6 +51,32 @@ const SCENES: &[Scene] = &[
         lines: &["fault 21", "reflectord: can't listen on 127.0.0.1 port "],
     },
     Scene {
+        name: "a port for hosts that is taken",
+        words: "--host listen:127.0.0.1:|first|",
+        is_taken: false,
+        hosts: &[],
+        full: &[],
+        view: &[],
+        status: FAULT,
+        lines: &[
+            "fault 21",
+            "reflectord: can't listen at listen:127.0.0.1:|first|: ",
+        ],
+    },
+    Scene {
+        name: "a name at which no host is waited for",
+        words: "--host listen:localhost:|first|",
+        is_taken: false,
+        hosts: &[],
+        full: &[],
+        view: &[],
+        status: FAULT,
+        lines: &[
+            "fault 21",
+            "reflectord: --host listen:localhost:|first| is no IP:PORT, no NAME:PORT and no listen:IP:PORT, ",
+        ],
+    },
+    Scene {
         name: "a system without memory",
         words: "--bind 127.0.0.9 --host 127.0.0.1:|first|",
         is_taken: false,

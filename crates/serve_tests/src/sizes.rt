@@ -17,8 +17,8 @@ const WIDER: &[u8] = b"\0\x04\0\x01\x20\x18\0\x01\0\xFF\0\xFF\0\xFF\x10\x08\0\0\
 /// What is asked of a host for news, and what a viewer asks for: what is new in the room (RFC 6143, 7.5.3).
 const ASK_NEW: &[u8] = b"\x03\x01\0\0\0\0\0\x03\0\x02";
 
-/// Updates of one rectangle, Raw, at the top left (RFC 6143, 7.6.1 and 7.7.1): red and blue beside each other; and green
-/// above white.
+/// Updates of one rectangle, Raw, at the top left (RFC 6143, 7.6.1 and 7.7.1): red and blue beside each other; and
+/// green above white.
 const RED_AND_BLUE: &[u8] = b"\0\0\0\x01\0\0\0\0\0\x02\0\x01\0\0\0\0\0\0\xFF\0\xFF\0\0\0";
 
 const GREEN_ON_WHITE: &[u8] = b"\0\0\0\x01\0\0\0\0\0\x01\0\x02\0\0\0\0\0\xFF\0\0\xFF\xFF\xFF\0";

@@ -1,5 +1,5 @@
-//! What a runtime in a room hands on as it is: memory, random bytes, sockets that are files, and the file of a password.
-//! It has no folders.
+//! What a runtime in a room hands on as it is: memory, random bytes, sockets that are files, and the file of a
+//! password. It has no folders.
 
 use crate::room::Ear;
 use std::alloc::{Allocator, Global};

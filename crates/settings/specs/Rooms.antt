@@ -4,8 +4,8 @@ use Rattle.std.specs.Fmt.{decimal}
 use Rattle.settings.specs.declared.room.Room.{Room}
 use Rattle.settings.specs.declared.values.Settings.{Settings}
 
--- The text of a room: its width and its height in decimal digits, with neither signs nor leading zeros, and an x between
--- them.
+-- The text of a room: its width and its height in decimal digits, with neither signs nor leading zeros, and an x
+-- between them.
 abbrev pub room_text : ℕ → ℕ → List ℕ
 room_text width height = decimal width ++ (codes "x" ++ decimal height)
 

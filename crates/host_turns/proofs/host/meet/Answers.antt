@@ -1,4 +1,5 @@
--- The patch is a switch of the run's size, which is the patch's own; and a host that was joined is missed for want alone.
+-- The patch is a switch of the run's size, which is the patch's own; and a host that was joined is missed for want
+-- alone.
 use Rattle.std.proofs.Common.{[], ◌∷◌, inr, sym}
 use Rattle.std.proofs.lemmas.Result.{err_from_is_err_and}
 use Rattle.raster.specs.Screen.{Canvas}

@@ -1,6 +1,7 @@
 -- The first host's stay is a run without turns, and each further host is a turn more.
-use Rattle.std.proofs.Common.{map, ap, refl, inl, ◌∙◌}
-use Rattle.host_turns.specs.Running.{IsLinkOf}
+use Rattle.std.proofs.Common.{[], ◌∷◌, ◌++◌, map, ap, refl, inl, subst, sym, ◌∙◌}
+use Rattle.host_turns.specs.declared.ending.Ending.{Ending}
+use Rattle.host_turns.specs.Running.{HasRun, IsComing, came_over}
 use Rattle.host_turns.proofs.Turns.{begun, missed, stayed}
 use Rattle.host_turns.proofs.hosts.read_all.Goals as goal
 
@@ -17,8 +18,9 @@ loop-init g c =
       lent.1,
       lent.0,
       rw read.1
-          (stayed run.run_screen.now.width run.run_screen.now.height run.run_screen.now.password (IsLinkOf state g.H.Hosts.came) idle.last (state run.reader) (state run.reader) read.0 (map state run.links.items) (put run.publisher) (put run.publisher) (put idle.publisher)
-          (inl (record { same = refl; none = ap (map state) c.requires.none; unput = refl })) read.2),
+          (subst (λ (e : Ending). HasRun run.run_screen.now.width run.run_screen.now.height run.run_screen.now.password (IsComing state g.H.Hosts.came) e (came_over run.has_called (state run.reader)) (map state run.links.items ++ read.0 ∷ []) (put run.publisher) (put idle.publisher)) (sym c.read-idle.ensures.called)
+          (stayed run.run_screen.now.width run.run_screen.now.height run.run_screen.now.password (IsComing state g.H.Hosts.came) idle.last.answer (came_over run.has_called (state run.reader)) (came_over run.has_called (state run.reader)) read.0 (map state run.links.items) (put run.publisher) (put run.publisher) (put idle.publisher)
+          (inl (record { same = refl; none = ap (map state) c.requires.none; unput = refl })) read.2)),
     )
 
 -- The host that came is missed.
@@ -38,7 +40,7 @@ loop-preserved-in-Err-join g c =
       unread.3 ∙ met.4 ∙ inv.2,
       unread.2 ∙ met.3 ∙ inv.3,
       rw (unread.0, unread.1, met.1, met.2)
-          (missed run.run_screen.now.width run.run_screen.now.height run.run_screen.now.password (IsLinkOf state g.H.Hosts.came) idle.last c.in-Err-join.missed.last (state run.reader) (state c.in-Ok.met.reader) (map state idle.links.items) (put run.publisher) (put idle.publisher) inv.4 on
+          (missed run.run_screen.now.width run.run_screen.now.height run.run_screen.now.password (IsComing state g.H.Hosts.came) idle.last c.in-Err-join.missed.last (came_over run.has_called (state run.reader)) c.in-Ok.met.has_called (state c.in-Ok.met.reader) (map state idle.links.items) (put run.publisher) (put idle.publisher) inv.4 on
           (c.in-Ok.met.reader, c.in-Ok.ensures.came, refl) why),
     )
 
@@ -61,16 +63,18 @@ loop-preserved g c =
     let read = c.read-idle-in-loop.ensures.read in
     let lent = c.read-idle-in-loop.ensures.lent in
     let on = rw met.0 at c.in-Ok.met.on in
+    let called = rw join.called at c.read-idle-in-loop.ensures.called in
     let joins = rw (met.4, inv.2) at join.joins in
     let switched = rw (met.4, inv.2, met.2) at join.switched in
     let is = rw (join.joined.2, met.4, inv.2) at read.2 in
     let begins =
-    begun run.run_screen.now.width run.run_screen.now.height run.run_screen.now.password (IsLinkOf state g.H.Hosts.came) idle.last (state run.reader) (state c.in-Ok.met.reader) (state joined.reader) (map state idle.links.items) (put run.publisher) (put idle.publisher) (put joined.publisher) inv.4 on
+    begun run.run_screen.now.width run.run_screen.now.height run.run_screen.now.password (IsComing state g.H.Hosts.came) idle.last (came_over run.has_called (state run.reader)) c.in-Ok.met.has_called (state c.in-Ok.met.reader) (state joined.reader) (map state idle.links.items) (put run.publisher) (put idle.publisher) (put joined.publisher) inv.4 on
     (c.in-Ok.met.reader, c.in-Ok.ensures.came, refl) joins switched in (
       tt,
       tt,
       lent.1 ∙ join.joined.2 ∙ met.4 ∙ inv.2,
       lent.0 ∙ join.joined.1 ∙ met.3 ∙ inv.3,
       rw (read.1, join.joined.0, met.1)
-          (stayed run.run_screen.now.width run.run_screen.now.height run.run_screen.now.password (IsLinkOf state g.H.Hosts.came) next.last (state run.reader) (state joined.reader) read.0 (map state idle.links.items) (put run.publisher) (put joined.publisher) (put next.publisher) begins is),
+          (subst (λ (e : Ending). HasRun run.run_screen.now.width run.run_screen.now.height run.run_screen.now.password (IsComing state g.H.Hosts.came) e (came_over run.has_called (state run.reader)) (map state idle.links.items ++ read.0 ∷ []) (put run.publisher) (put next.publisher)) (sym called)
+          (stayed run.run_screen.now.width run.run_screen.now.height run.run_screen.now.password (IsComing state g.H.Hosts.came) next.last.answer (came_over run.has_called (state run.reader)) (came_over c.in-Ok.met.has_called (state joined.reader)) read.0 (map state idle.links.items) (put run.publisher) (put joined.publisher) (put next.publisher) begins is)),
     )

@@ -39,4 +39,4 @@ returns-clause-strokes g c = (in_turn _ _ _ _ _ _ _ (returns-clause-told g c)).1
 -- What shows that the run was run says what the threads left.
 pub returns-clause-ran : goal.returns-clause-ran
 returns-clause-ran g c =
-    rw (c.shown.ensures.result, c.shown.ensures.links, c.shown.ensures.written, c.shown.ensures.taker, c.shown.ensures.publisher, ← c.of.ensures, ← c.of-2.ensures, ← c.of-3.ensures) c.shown.ensures.ran
+    rw (c.shown.ensures.last, c.shown.ensures.links, c.shown.ensures.written, c.shown.ensures.taker, c.shown.ensures.publisher, ← c.of.ensures, ← c.of-2.ensures, ← c.of-3.ensures) c.shown.ensures.ran

@@ -3,6 +3,7 @@ use Rattle.std.proofs.Common.{map}
 use Rattle.input_relay.specs.Ends.{taken_of}
 use Rattle.shared_screen.specs.History.{puts_of}
 use Rattle.run_traits.specs.Written.{links_in}
+use Rattle.host_turns.specs.Running.{came_over}
 use Rattle.reflector.proofs.run.run_all.Given as goal
 
 abbrev pub ghosts-shown : goal.ghosts-shown
@@ -14,8 +15,8 @@ ghosts-shown g a = record {
     password = a.began.now.room.password;
     form = a.runs;
     roles = map (λ door. door.0) a.began.now.doors.value.items;
-    answer = a.left.result;
-    link = g.L.Link.state a.began.now.link.value;
+    last_end = a.left.last;
+    came = came_over a.began.now.has_called (g.L.Link.state a.began.now.link.value);
     links = map g.L.Link.state a.left.links.items;
     told = links_in g.L.Link.state a.left.written;
     taken = taken_of a.left.taker;

@@ -1,7 +1,8 @@
 -- There are as many doors as the settings have places, which may go to other threads, and the run is one by the
 -- settings.
 use denote.Param.Send.{sendable}
-use Rattle.std.proofs.Common.{sym, ◌∙◌}
+use Rattle.std.proofs.Common.{ap, sym, ◌∙◌}
+use Rattle.std.specs.Prelude.{is_some}
 use Rattle.connections.proofs.Sending.{door_send}
 use Rattle.serve.proofs.Counts.{counted}
 use Rattle.serve.proofs.Endings.{run_by}
@@ -14,7 +15,7 @@ over-requires-clause-doors g c κs _ = counted (λ door. door.0) c.args.rooms.do
 pub returns : goal.returns
 returns g c =
     let over = c.over.ensures in
-    run_by c.args.settings.now c.over.result c.args.met.joined _ _ _ _ _ _ over.reflected over.room c.requires.password over.roles over.form over.why over.never c.room_of-room.ensures.room c.requires.doors c.runs_of.ensures
+    run_by c.args.settings.now c.over.result c.args.met.joined c.run_screen_of-run_screen.result.width c.run_screen_of-run_screen.result.height c.run_screen_of-run_screen.result.password _ _ _ over.reflected over.room (ap is_some c.run_screen_of-run_screen.ensures.password ∙ c.requires.password) over.roles over.form over.last over.never c.run_screen_of-run_screen.ensures.room c.requires.doors c.runs_of.ensures
     (λ none. may_end c.args.settings.now (sym c.requires.again ∙ none))
 
 pub over-requires-send-D : goal.over-requires-send-D

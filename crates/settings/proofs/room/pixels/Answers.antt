@@ -1,4 +1,5 @@
--- A text is a number of pixels where `parse` reads it, it begins with a digit from 1 on, and its number isn't too large.
+-- A text is a number of pixels where `parse` reads it, it begins with a digit from 1 on, and its number isn't too
+-- large.
 use Rattle.std.proofs.Common.{sym, ap, ◌∙◌, arith}
 use Rattle.std.specs.Prelude.{get_or, nat_le}
 use Rattle.settings.proofs.Rooms.{large_read, low_is_none, none_read, number_read, so_where_none}

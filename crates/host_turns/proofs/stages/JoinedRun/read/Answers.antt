@@ -6,7 +6,7 @@ use Rattle.raster.specs.Screen.{opening}
 use Rattle.host_decoder.specs.Decoder.{Decodes, host_message}
 use Rattle.painter.proofs.Switches.{at_size}
 use Rattle.link.specs.Links.{LinkState}
-use Rattle.host_turns.specs.Running.{IsLinkOf, IsRead}
+use Rattle.host_turns.specs.Running.{IsComing, IsRead, came_over}
 use Rattle.host_turns.proofs.Turns.{stayed}
 use Rattle.host_turns.proofs.stages.JoinedRun.read.Goals as goal
 
@@ -46,5 +46,5 @@ invariant_of-result-clause-lawful g c =
     let is = at_size (λ v k. IsRead v k c.read-answer.result (state c.args.self.reader) left (g.P.Puts.updates c.args.self.publisher) (g.P.Puts.updates c.read-answer.new.publisher)) screen.decoder.width screen.decoder.height run.width run.height size.0 size.1
     (subst over (sym c.left.ensures.link) (record { out = c.read-answer.ensures.read; given = c.read-answer.ensures.given })) in
     ∥∥₁_map c.args.self.lawful (λ k.
-    rw handed (stayed run.width run.height run.password (IsLinkOf state g.H.Hosts.came) c.read-answer.result (state first.reader.value) (state c.args.self.reader) left (map state c.args.self.links.items) (g.P.Puts.updates first.publisher.value) (g.P.Puts.updates c.args.self.publisher)
+    rw handed (stayed run.width run.height run.password (IsComing state g.H.Hosts.came) c.read-answer.result (came_over first.has_called.value (state first.reader.value)) (came_over c.args.self.has_called (state c.args.self.reader)) left (map state c.args.self.links.items) (g.P.Puts.updates first.publisher.value) (g.P.Puts.updates c.args.self.publisher)
     (g.P.Puts.updates c.read-answer.new.publisher) k is))

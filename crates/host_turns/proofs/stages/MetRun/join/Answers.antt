@@ -1,7 +1,7 @@
 -- The host is joined, and its switch is put; or it is missed.
 use Rattle.std.proofs.Common.{refl}
 use Rattle.std.proofs.Math.Logic.{∥∥₁_map}
-use Rattle.host_turns.specs.Running.{IsLinkOf}
+use Rattle.host_turns.specs.Running.{IsComing}
 use Rattle.host_turns.proofs.Turns.{begun, missed}
 use Rattle.host_turns.proofs.stages.MetRun.join.Goals as goal
 
@@ -11,7 +11,7 @@ invariant_of-joined-clause-lawful g c =
     let met = c.args.self in
     ∥∥₁_map met.lawful (λ k.
     rw c.meet-met.ensures.links
-    (begun _ _ _ (IsLinkOf state g.H.Hosts.came) met.last _ (state met.reader) _ _ _ _ _ k.1 met.on (met.reader, k.0, refl) c.in-Ok.ensures.joins c.in-Ok.ensures.switched))
+    (begun _ _ _ (IsComing state g.H.Hosts.came) met.last _ met.has_called (state met.reader) _ _ _ _ _ k.1 met.on (met.reader, k.0, refl) c.in-Ok.ensures.joins c.in-Ok.ensures.switched))
 
 pub invariant_of-result-clause-lawful : goal.invariant_of-result-clause-lawful
 invariant_of-result-clause-lawful g c =
@@ -19,4 +19,4 @@ invariant_of-result-clause-lawful g c =
     let met = c.args.self in
     ∥∥₁_map met.lawful (λ k.
     rw (c.meet-met.ensures.links, c.in-Err.ensures.unput)
-    (missed _ _ _ (IsLinkOf state g.H.Hosts.came) met.last _ _ (state met.reader) _ _ _ k.1 met.on (met.reader, k.0, refl) (c.in-Err.fault, refl, c.in-Err.ensures.err)))
+    (missed _ _ _ (IsComing state g.H.Hosts.came) met.last _ _ met.has_called (state met.reader) _ _ _ k.1 met.on (met.reader, k.0, refl) (c.in-Err.fault, refl, c.in-Err.ensures.err)))
