@@ -143,7 +143,7 @@ def find_program(named):
 
 
 class Reflector:
-    """A reflectord that serves the host at 127.0.0.1:host."""
+    """A reflectord that serves the host at the port of 127.0.0.1, or of the text."""
 
     def __init__(self, program, host, full_places=32, view_places=32, more=(), environment=None):
         self.full, self.view = free_port(), free_port()
@@ -151,7 +151,7 @@ class Reflector:
         self.log = pathlib.Path(self.room.name) / "log"
         with open(self.log, "wb") as said:
             self.child = start(
-                [program, "serve", "--host", f"127.0.0.1:{host}", "--full", self.full, "--view", self.view]
+                [program, "serve", "--host", f"127.0.0.1:{host}" if isinstance(host, int) else host, "--full", self.full, "--view", self.view]
                 + ["--full-places", full_places, "--view-places", view_places, "--log", *more],
                 said,
                 env=os.environ | (environment or {}),
