@@ -16,4 +16,4 @@ is_not_told o none = subst (λ (t : Option Text). IsRoom t None) (sym none) refl
 
 pub has_no_room : (f : Found) (text : Text) (status : ℕ) → (status ≡ 4) ⊎ (status ≡ 2) → first_value f (codes "room") ≡ Some text → IsNoRoom text → (status ≡ 4) ⊎ ((status ≡ 2) × HasNoRoom f)
 has_no_room f text status (inl four) first none = inl four
-has_no_room f text status (inr two) first none = inr (two, text, first, none)
+has_no_room f text status (inr two) first none = inr (two, (text, first, none))

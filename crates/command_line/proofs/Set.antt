@@ -81,7 +81,7 @@ values_set f words s rows of = record {
 -- a text for the room that spells none is bad, and so is a lack of memory
 pub no_room_is : (f : Found) (words : List Text) (status : ℕ) → rows_of f ≡ matches_of serve words → (status ≡ 4) ⊎ ((status ≡ 2) × HasNoRoom f) → IsBadLine words status
 no_room_is f words status rows (inl four) = inl (inl four)
-no_room_is f words status rows (inr (two, text, first, none)) = inr (two, text, sym (given_is f words rows (codes "room") (without (codes "room") (refl, tt))) ∙ first, none)
+no_room_is f words status rows (inr (two, (text, first, none))) = inr (two, text, sym (given_is f words rows (codes "room") (without (codes "room") (refl, tt))) ∙ first, none)
 
 -- what clap refuses is bad
 pub refusal_is : {app : App} (words : List Text) (e : Error) (status : ℕ) → app ≡ serve → HasKind (fault_of app words) e

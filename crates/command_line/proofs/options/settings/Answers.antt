@@ -18,6 +18,12 @@ returns-in-Ok-told-clause-faultless g c =
     let words = map g.S.AsStr.text c.args.words.now in
     sym (ap (λ app. fault_of app words) c.in-Ok.ensures) ∙ c.in-Ok-try_get_matches_from.ensures.kinds (ap is_simple_and_free c.in-Ok.ensures)
 
+pub returns-in-Ok-try_get_matches_from-clause-err : goal.returns-in-Ok-try_get_matches_from-clause-err
+returns-in-Ok-try_get_matches_from-clause-err g c =
+    let words = map g.S.AsStr.text c.args.words.now in
+    let rows = (c.in-Ok-try_get_matches_from.ensures.matches (ap is_simple c.in-Ok.ensures)).0 ∙ ap (λ app. matches_of app words) c.in-Ok.ensures in
+    no_room_is (found_of c.in-Ok-try_get_matches_from.matches) words c.in-Err-told.bad.status rows c.in-Err-told.ensures.err
+
 pub returns : goal.returns
 returns g c =
     let words = map g.S.AsStr.text c.args.words.now in
@@ -25,5 +31,5 @@ returns g c =
     record {
       ok = tt;
       faultless = tt;
-      err = refusal_is words c.in-Err.error c.of.result.status c.in-Ok.ensures faults c.of.ensures;
+      err = inl (refusal_is words c.in-Err.error c.of.result.status c.in-Ok.ensures faults c.of.ensures);
     }
