@@ -46,6 +46,25 @@ const NEXT: &[u8] = b"\0\0\0\x01\0\0\0\0\0\x03\0\x02\0\0\0\0\
 /// A host that is joined, and left at once.
 const IS_PASSED_OVER: &[Step] = &[Step::IsJoined(WIDER), Step::SeesItGo];
 
+/// A host that is as large as the room ends once its update was seen.
+const FILLS_THE_ROOM: &[Step] = &[
+    Step::IsJoined(ROOM),
+    Step::Sends(RED_AND_BLUE),
+    Step::Hears(ASK_NEW),
+    Step::Reaches(Count::Shown, 1),
+    Step::ShutsDown,
+    Step::SeesItGo,
+];
+
+/// A viewer sees the updates of two hosts.
+const SEES_BOTH: &[Step] = &[
+    Step::Hears(ROOM),
+    Step::AsksUntil(ASK_NEW, BLACK, FIRST),
+    Step::Marks(Count::Shown, 1),
+    Step::AsksUntil(ASK_NEW, BLACK, NEXT),
+    Step::Marks(Count::Shown, 2),
+];
+
 const SCENES: &[Scene] = &[
     // What the first host doesn't paint is black, and so is all that it showed before it grew. It is left where it
     // outgrows the room. One that is wider is passed over. The viewer is told the room, and stays.
@@ -162,14 +181,7 @@ const SCENES: &[Scene] = &[
             },
             Host {
                 at: 1,
-                steps: &[
-                    Step::IsJoined(ROOM),
-                    Step::Sends(RED_AND_BLUE),
-                    Step::Hears(ASK_NEW),
-                    Step::Reaches(Count::Shown, 1),
-                    Step::ShutsDown,
-                    Step::SeesItGo,
-                ],
+                steps: FILLS_THE_ROOM,
             },
             Host {
                 at: 0,
@@ -187,13 +199,7 @@ const SCENES: &[Scene] = &[
         full: &[],
         view: &[Visit {
             entry: Entry::IsGreeted,
-            steps: &[&[
-                Step::Hears(ROOM),
-                Step::AsksUntil(ASK_NEW, BLACK, FIRST),
-                Step::Marks(Count::Shown, 1),
-                Step::AsksUntil(ASK_NEW, BLACK, NEXT),
-                Step::Marks(Count::Shown, 2),
-            ]],
+            steps: &[SEES_BOTH],
             told: None,
         }],
         status: FAULT,
@@ -210,14 +216,7 @@ const SCENES: &[Scene] = &[
         hosts: &[
             Host {
                 at: 0,
-                steps: &[
-                    Step::IsJoined(ROOM),
-                    Step::Sends(RED_AND_BLUE),
-                    Step::Hears(ASK_NEW),
-                    Step::Reaches(Count::Shown, 1),
-                    Step::ShutsDown,
-                    Step::SeesItGo,
-                ],
+                steps: FILLS_THE_ROOM,
             },
             Host {
                 at: 1,
@@ -235,13 +234,7 @@ const SCENES: &[Scene] = &[
         full: &[],
         view: &[Visit {
             entry: Entry::IsGreeted,
-            steps: &[&[
-                Step::Hears(ROOM),
-                Step::AsksUntil(ASK_NEW, BLACK, FIRST),
-                Step::Marks(Count::Shown, 1),
-                Step::AsksUntil(ASK_NEW, BLACK, NEXT),
-                Step::Marks(Count::Shown, 2),
-            ]],
+            steps: &[SEES_BOTH],
             told: None,
         }],
         status: 0,
