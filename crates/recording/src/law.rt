@@ -1,15 +1,17 @@
 //! Laws about recordings.
 
 ghost use Rattle.std.specs.Prelude.{◌≡◌, ◌≤◌, ◌<◌, ◌+◌, ◌%◌, ◌^◌, ℕ, List, [], ◌++◌, length, take};
-ghost use Rattle.recording.specs.Recording.{Block, AreBlocks, blocks_bytes, recording_bytes, last_time, padding_len};
+ghost use Rattle.recording.specs.Recording.{Block, AreBlocks, blocks_bytes, recording_bytes, last_time, line};
+ghost use Rattle.recording.specs.declared.form.TheConstants.{FIRST_LINE};
 ghost use Rattle.byte_reading.specs.Reading.{Reading};
 ghost use Rattle.recording.specs.BlockReading.{Found, blocks_in, blocks_from, rest_of, rest_from, first_block, next_block, found, going_on};
 ghost use Rattle.recording.specs.Progress.{HasRead, Uses};
 ghost use Rattle.recording.specs.Waiting.{IsRecorded, room, with_more, as_blocks, stamp};
 
 /// What is written is read: the same data with the same times. The whole file is read, up to its last byte, so that a
-/// further block may follow.
+/// further block may follow. `FIRST_LINE` is the line of the definition.
 pub fn recordings_are_read()
+    ensures line { FIRST_LINE ≡ line }
     ensures blocks { (blocks : List Block) → AreBlocks blocks → blocks_in (recording_bytes blocks) ≡ blocks }
     ensures whole { (blocks : List Block) → AreBlocks blocks → rest_of (recording_bytes blocks) ≡ next_block (last_time 0 blocks) }
 {}
@@ -40,8 +42,8 @@ pub fn all_is_recorded()
     ensures spells { (blocks : List Block) (waiting : Block) → recording_bytes (blocks ++ as_blocks waiting) ≡ recording_bytes blocks ++ blocks_bytes (as_blocks waiting) }
 {}
 
-/// All that a `RecordingReader` is fed is in the blocks that it gave, in the one that waits to be taken, and in what has
-/// come of the next one: `Uses` is what `feed` does, `found` what `found` answers, and `going_on` what `go_on` does.
+/// All that a `RecordingReader` is fed is in the blocks that it gave, in the one that waits to be taken, and in what
+/// has come of the next one. `Uses` is what `feed` does, `found` what `found` answers, `going_on` what `go_on` does.
 pub fn all_is_read()
     ensures begins { HasRead [] [] first_block }
     ensures feeds { (fed : List ℕ) (given : List Block) (old new : Reading Found) (piece : List ℕ) (n : ℕ) → HasRead fed given old → Uses old new piece n → HasRead (fed ++ take n piece) given new }

@@ -55,7 +55,8 @@ fn write_block(said: &[u8], time: u32, out: &mut [u8]) -> usize
 }
 
 /// A writer of the blocks of a recording. It holds the data of one block, up to 65,536 bytes, until they are flushed.
-/// All bytes of a block came at one time, in milliseconds since the recording began. Contracts see the block that waits.
+/// All bytes of a block came at one time, in milliseconds since the recording began. Contracts see the block that
+/// waits.
 ///
 /// A file begins with `FIRST_LINE`, which isn't this writer's. Where all is kept of what a server says, and flushed
 /// whenever nothing more can be kept, the blocks say all of it, each byte with its time (`all_is_recorded`).
