@@ -3,6 +3,7 @@
 use std::alloc::{AllocError, Global};
 use std::boxed::Box;
 use std::io;
+use std::random::RandomSource;
 use std::sync::Wait;
 use std::sync::atomic::{AtomicU64, Ordering};
 use std::time::{Clock, Duration};
@@ -29,6 +30,12 @@ pub(crate) fn puts_forward(millis: &AtomicU64, more: u64) -> bool {
 }
 
 impl<R: Wait + Drop> Wait for ByHand<R> {}
+
+impl<R: RandomSource + Drop> RandomSource for ByHand<R> {
+    fn fill_bytes(&self, bytes: &mut [u8]) -> io::Result<()> {
+        self.rt.fill_bytes(bytes)
+    }
+}
 
 impl<R: Clock + Drop> Clock for ByHand<R> {
     fn monotonic(&self) -> io::Result<Duration> {

@@ -3,7 +3,7 @@
 use crate::asks::{Ask, NOT_FOUND, PORT};
 use crate::loopback::{listen, port_at};
 use bytes::Bytes;
-use connections::{Desk, Lobby, RoleListener, Seat, WebEntry, WebPorter};
+use connections::{Desk, Key, Lobby, RoleListener, Seat, WebEntry, WebPorter};
 use roles::Role;
 use std::alloc::{AllocError, Global};
 use std::hash::RandomState;
@@ -59,7 +59,7 @@ pub(crate) fn seat(net: &HostRuntime) -> io::Result<Arc<Seat, Global>> {
 /// A lobby of one place for viewers of this role.
 fn lobby(alloc: Global, role: Role) -> Result<Arc<Lobby, Global>, AllocError> {
     let desk = Arc::new(alloc, Desk::new(alloc, 1)?)?;
-    Ok(Arc::new(alloc, Lobby::new(alloc, role, 1, 60, desk)?)?)
+    Ok(Arc::new(alloc, Lobby::new(alloc, role, Key::Open, 1, 60, desk)?)?)
 }
 
 /// The table of the one file.
@@ -96,7 +96,7 @@ fn site(alloc: Global, address: SocketAddr) -> io::Result<Arc<Site, Global>> {
 fn entry(alloc: Global, listener: TcpListener, lobby: &Arc<Lobby, Global>) -> io::Result<WebEntry> {
     let site = site(alloc, listener.local_addr()?)?;
     let shared = Arc::try_clone(lobby)?;
-    let listener = RoleListener::new(listener, lobby.role());
+    let listener = RoleListener::new(listener, lobby.role()).with_key(lobby.key());
     WebEntry::new(listener, site, shared)
 }
 

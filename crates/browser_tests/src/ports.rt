@@ -12,6 +12,7 @@ use roles::Role;
 use run_traits::{Door, LeftLink, NoLog};
 use std::alloc::Global;
 use std::net::TcpStream;
+use std::random::RandomSource;
 use std::sync::atomic::AtomicU64;
 use std::sync::{Arc, Wait};
 use std::test::*;
@@ -205,7 +206,7 @@ fn visits<R: Wait>(rt: &R, house: &House<'_>, visitors: Visitors) -> bool {
 /// How many viewers came to the door while the port was kept.
 fn keeps<R, D>(hand: &ByHand<R>, porter: WebPorter, door: &mut D) -> u64
 where
-    R: Threads + Wait + Clock + Drop + Send + Sync,
+    R: Threads + Wait + Clock + RandomSource + Drop + Send + Sync,
     D: Door + Send,
 {
     let seats: [Arc<Seat, Global>; 0] = [];
@@ -226,7 +227,7 @@ fn serves<R, D>(
     visitors: Visitors,
 ) -> (u64, bool)
 where
-    R: Threads + Wait + Clock + Drop + Send + Sync,
+    R: Threads + Wait + Clock + RandomSource + Drop + Send + Sync,
     D: Door + Send,
 {
     let (is_right, came) = thread::join(
@@ -240,7 +241,7 @@ where
 /// Whether a scene goes as it should at a new port.
 fn is_right<R>(hand: &ByHand<R>, net: &HostRuntime, scene: &Scene) -> io::Result<bool>
 where
-    R: Threads + Wait + Clock + Copy + Drop + Send + Sync,
+    R: Threads + Wait + Clock + RandomSource + Copy + Drop + Send + Sync,
 {
     let seat = seat(net)?;
     let WebPort {

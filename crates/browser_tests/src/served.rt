@@ -135,6 +135,8 @@ fn settings(alloc: Global, host: String, bind: String, ports: PortsOfRun) -> Set
         full: ports.full,
         view: ports.view,
         view_only: false,
+        full_password: None,
+        view_password: None,
         full_places: 1,
         view_places: 1,
         room: None,

@@ -67,6 +67,8 @@ options = host ∷ option (codes "host-password-file") ∷ bind ∷ full_bind
     ∷ port (codes "full") (codes "5900")
     ∷ port (codes "view") (codes "5901")
     ∷ flag (codes "view-only")
+    ∷ option (codes "full-password-file")
+    ∷ option (codes "view-password-file")
     ∷ places (codes "full-places")
     ∷ places (codes "view-places")
     ∷ option (codes "room")

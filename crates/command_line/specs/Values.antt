@@ -78,6 +78,8 @@ pub record AreValuesOf (found : Found) (s : Settings) : Type 0 where
   pub full : IsNumberOf found (codes "full") 1 65535 s.full
   pub view : IsNumberOf found (codes "view") 1 65535 s.view
   pub view_only : s.view_only ≡ flag_of found (codes "view-only")
+  pub full_password : option_map string_bytes s.full_password ≡ first_value found (codes "full-password-file")
+  pub view_password : option_map string_bytes s.view_password ≡ first_value found (codes "view-password-file")
   pub full_places : IsNumberOf found (codes "full-places") 1 32 s.full_places
   pub view_places : IsNumberOf found (codes "view-places") 1 32 s.view_places
   pub room : IsRoom (first_value found (codes "room")) s.room

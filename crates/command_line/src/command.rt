@@ -97,6 +97,18 @@ fn options<'a>(alloc: Global) -> Result<Vec<Arg<'a>>, AllocError>
             "view-only",
             "Serve no viewers with full control: open no port for them"
         ),
+        option(
+            alloc,
+            "full-password-file",
+            "PATH",
+            "A file with the password that viewers with full control are asked for"
+        ),
+        option(
+            alloc,
+            "view-password-file",
+            "PATH",
+            "A file with the password that viewers that only look on are asked for"
+        ),
         places(
             alloc,
             "full-places",

@@ -4,6 +4,7 @@
 use crate::board::hold;
 use crate::doors::place_is_free_again;
 use crate::house::{ByHand, House, make_notebook};
+use crate::locks::{PASSWORD, lock_holds};
 use crate::newcomers::{
     checks_leave_nothing, header_of_another_is_no_header, headers_are_believed,
     silent_ones_make_room,
@@ -11,7 +12,7 @@ use crate::newcomers::{
 use crate::orders::{drained_one_gives_its_place_back, orders_are_obeyed};
 use crate::port::{make_door, make_lobby, make_porter};
 use crate::sockets::VERSION;
-use connections::TcpPorter;
+use connections::{Key, TcpPorter};
 use link::{Gave, Link, Took};
 use run_traits::{Door, LeftLink};
 use std::net::IpAddr;
@@ -21,6 +22,7 @@ use std::test::*;
 use std::thread::Threads;
 use std::time::Clock;
 use std::{io, thread};
+use vnc_auth::Password;
 
 /// Who comes to a port with one place.
 #[derive(Clone, Copy)]
@@ -39,10 +41,12 @@ enum Visitors {
     Proxied,
     /// A newcomer that sends a header, but comes from elsewhere.
     Strangers,
+    /// Newcomers to a locked port, of whom one knows the password and finds the place.
+    Guessers,
 }
 
 /// The evenings, and how many viewers come to the place at each.
-const EVENINGS: [(&str, Visitors, u64); 7] = [
+const EVENINGS: [(&str, Visitors, u64); 8] = [
     ("full lobby refuses and is free again", Visitors::Rivals, 2),
     ("viewers are refused and sent away", Visitors::Ordered, 3),
     (
@@ -58,6 +62,11 @@ const EVENINGS: [(&str, Visitors, u64); 7] = [
     ("who says nothing makes room", Visitors::Crowd, 1),
     ("header of the proxy is believed", Visitors::Proxied, 2),
     ("header of another is not believed", Visitors::Strangers, 1),
+    (
+        "a lock is opened by its password alone",
+        Visitors::Guessers,
+        1,
+    ),
 ];
 
 /// How many viewers came to a door, how many of them were greeted, of how many the version came at once, and how many
@@ -70,10 +79,17 @@ struct Count {
     ended: u64,
 }
 
+/// Says to a viewer what is said before anything else: the version, and the one security type, None, where the port is
+/// locked. None of that is sent, since the viewer has heard what stands for it.
+fn begins<L: Link>(link: &mut L, is_locked: bool) -> bool {
+    link.give(VERSION) == Gave::Bytes(12)
+        && (!is_locked || link.give(b"\x01\x01") == Gave::Bytes(2))
+}
+
 /// Greets a viewer with its version and a byte, and then serves it until it ends.
-fn serve<L: Link>(link: &mut L, count: &mut Count) {
+fn serve<L: Link>(link: &mut L, is_locked: bool, count: &mut Count) {
     count.came = count.came.saturating_add(1);
-    if link.give(VERSION) == Gave::Bytes(12) && link.give(b"R") == Gave::Bytes(1) {
+    if begins(link, is_locked) && link.give(b"R") == Gave::Bytes(1) {
         count.greeted = count.greeted.saturating_add(1);
     }
     let mut into = [0u8; 64];
@@ -95,13 +111,13 @@ fn serve<L: Link>(link: &mut L, count: &mut Count) {
 }
 
 /// Serves the viewers that come to a door, once it is opened, until no more come.
-fn serve_from<D: Door>(opened: &AtomicU64, door: &mut D) -> Count {
+fn serve_from<D: Door>(opened: &AtomicU64, door: &mut D, is_locked: bool) -> Count {
     hold(opened, 1);
-    serve_all(door)
+    serve_all(door, is_locked)
 }
 
 /// Serves the viewers that come to a door, until no more come.
-fn serve_all<D: Door>(door: &mut D) -> Count {
+fn serve_all<D: Door>(door: &mut D, is_locked: bool) -> Count {
     let mut count = Count {
         came: 0,
         greeted: 0,
@@ -112,7 +128,7 @@ fn serve_all<D: Door>(door: &mut D) -> Count {
         let Some(mut link) = door.next() else {
             break;
         };
-        serve(&mut link, &mut count);
+        serve(&mut link, is_locked, &mut count);
         door.left(LeftLink::new(link), 0, Ok(()));
     }
     count
@@ -129,6 +145,7 @@ fn visits<R: Wait + Clock + Drop>(house: &House<'_, R>, visitors: Visitors) -> b
         Visitors::Crowd => silent_ones_make_room(house),
         Visitors::Proxied => headers_are_believed(house),
         Visitors::Strangers => header_of_another_is_no_header(house),
+        Visitors::Guessers => lock_holds(house),
     };
     house.lobby.close(&house.log.rt);
     is_right.unwrap_or(false)
@@ -152,7 +169,7 @@ where
         || visits(house, visitors),
         || thread::join(
             &rt,
-            || serve_from(house.opened, door),
+            || serve_from(house.opened, door, house.lobby.key().is_locked()),
             || porter.keep(hand, house.log),
         ),
     );
@@ -168,17 +185,26 @@ fn proxy_for(visitors: Visitors) -> Option<IpAddr> {
     }
 }
 
+/// The key of the port.
+fn key_for(visitors: Visitors) -> Key {
+    match visitors {
+        Visitors::Guessers => Key::Locked(Password::new(PASSWORD)),
+        _ => Key::Open,
+    }
+}
+
 /// What `serves` answers with a new port, where nothing was counted of each viewer as it came. The port's clock goes on
 /// only where viewers wait for a place.
 fn opens<R>(rt: R, net: &HostRuntime, visitors: Visitors) -> io::Result<(bool, Count)>
 where
     R: Threads + Wait + Clock + Copy + Drop + Send + Sync,
 {
-    let lobby = make_lobby(net.alloc())?;
+    let lobby = make_lobby(net.alloc(), key_for(visitors))?;
     let log = make_notebook(rt, net.alloc(), &lobby)?;
     let (address, porter) = make_porter(net, &lobby, proxy_for(visitors))?;
     let mut door = make_door(rt, net, &lobby, Arc::try_clone(&log)?)?;
     let millis = AtomicU64::new(0);
+    let drawn = AtomicU64::new(0);
     let hand = ByHand {
         rt,
         stands: !matches!(
@@ -186,6 +212,7 @@ where
             Visitors::Rivals | Visitors::Ordered | Visitors::Drained
         ),
         millis: &millis,
+        drawn: &drawn,
     };
     let opened = AtomicU64::new(if matches!(visitors, Visitors::Drained) {
         0

@@ -8,6 +8,7 @@ use std::alloc::Global;
 use std::io;
 use std::io::Write;
 use std::net::{SocketAddr, TcpStream};
+use std::random::RandomSource;
 use std::sync::atomic::{AtomicU64, Ordering};
 use std::sync::{Arc, Mutex, Wait};
 use std::time::{Clock, Duration};
@@ -15,12 +16,23 @@ use std::time::{Clock, Duration};
 /// What a viewer is told that is let in: the version, and a byte after it.
 pub(crate) const GREETING: &[u8] = b"RFB 003.008\nR";
 
-/// A runtime whose clock goes on, or stands until it is put forward.
+/// A runtime whose clock goes on, or stands until it is put forward. Its random bytes count on from 0.
 #[derive(Clone, Copy, Drop)]
 pub(crate) struct ByHand<'a, R: Drop> {
     pub(crate) rt: R,
     pub(crate) stands: bool,
     pub(crate) millis: &'a AtomicU64,
+    /// How many random bytes were drawn.
+    pub(crate) drawn: &'a AtomicU64,
+}
+
+impl<R: Drop> RandomSource for ByHand<'_, R> {
+    fn fill_bytes(&self, bytes: &mut [u8]) -> io::Result<()> {
+        for byte in bytes {
+            *byte = (self.drawn.fetch_add(1, Ordering::SeqCst) % 256) as u8;
+        }
+        Ok(())
+    }
 }
 
 impl<R: Wait + Drop> Wait for ByHand<'_, R> {}

@@ -24,6 +24,8 @@ mod keeper;
 #[cfg(test)]
 mod links;
 #[cfg(test)]
+mod locks;
+#[cfg(test)]
 mod memory_links;
 #[cfg(test)]
 mod memory_socket;

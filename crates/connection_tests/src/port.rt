@@ -6,7 +6,7 @@ ghost use Rattle.roles.specs.declared.role.Role.TheVariants.{Full};
 ghost use Rattle.connections.specs.Doors.{role_behind};
 
 use crate::sockets::{listen, make_seat};
-use connections::{Desk, Lobby, RoleListener, TcpDoor, TcpEntry, TcpPorter};
+use connections::{Desk, Key, Lobby, RoleListener, TcpDoor, TcpEntry, TcpPorter};
 use roles::Role;
 use run_traits::Log;
 use std::alloc::Global;
@@ -15,12 +15,12 @@ use std::net::{IpAddr, SocketAddr};
 use std::sync::{Arc, Wait};
 use std::time::Clock;
 
-/// A lobby with one place, for viewers with full control.
-pub(crate) fn make_lobby(alloc: Global) -> io::Result<Arc<Lobby, Global>>
+/// A lobby with one place, for viewers with full control, who come by a port with this key.
+pub(crate) fn make_lobby(alloc: Global, key: Key) -> io::Result<Arc<Lobby, Global>>
     ensures { IfOk result (λ lobby. (arc_value lobby).role ≡ Full) }
 {
     let desk = Arc::new(alloc, Desk::new(alloc, 1)?)?;
-    Ok(Arc::new(alloc, Lobby::new(alloc, Role::Full, 1, 60, desk)?)?)
+    Ok(Arc::new(alloc, Lobby::new(alloc, Role::Full, key, 1, 60, desk)?)?)
 }
 
 /// Where a new port listens whose viewers come to this lobby, and its porter. The headers of this proxy are believed,
@@ -34,7 +34,9 @@ pub(crate) fn make_porter(
 {
     let socket = listen(net)?;
     let address = socket.local_addr()?;
-    let listener = RoleListener::new(socket, Role::Full).behind(proxy);
+    let listener = RoleListener::new(socket, Role::Full)
+        .with_key(lobby.key())
+        .behind(proxy);
     let entry = TcpEntry::new(listener, Arc::try_clone(lobby)?)?;
     Ok((address, TcpPorter::new(net, net.alloc(), entry)?))
 }

@@ -8,10 +8,11 @@ use crate::port::{make_door, make_lobby, make_porter};
 use crate::run::ends_well;
 use crate::three_viewers::Viewers;
 use crate::wire::VIEWERS;
-use connections::{Lobby, TcpPorter};
+use connections::{Key, Lobby, TcpPorter};
 use run_traits::{Door, NoLog, PlaceCount};
 use std::alloc::Global;
 use std::net::SocketAddr;
+use std::random::RandomSource;
 use std::sync::atomic::Ordering;
 use std::sync::{Arc, Wait};
 use std::test::*;
@@ -51,7 +52,7 @@ fn runs<D, R>(
 ) -> Result<bool, Fail>
 where
     D: Door + Send + 'static,
-    R: Threads + Wait + Clock + Copy + Drop + Send + Sync + 'static,
+    R: Threads + Wait + Clock + RandomSource + Copy + Drop + Send + Sync + 'static,
     requires { D.is_for door Full }
 {
     let (ended, ()) = thread::join(
@@ -75,7 +76,7 @@ fn serves<D, R>(
 ) -> Result<bool, Fail>
 where
     D: Door + Send + 'static,
-    R: Threads + Wait + Clock + Copy + Drop + Send + Sync + 'static,
+    R: Threads + Wait + Clock + RandomSource + Copy + Drop + Send + Sync + 'static,
     requires { D.is_for door Full }
 {
     let (address, lobby) = place;
@@ -92,10 +93,10 @@ where
 /// Whether a run ends well whose viewers come over TCP, and each of them is given what it should be.
 fn runs_over_tcp<R>(rt: R, net: &HostRuntime, board: &Arc<Board, Global>) -> Result<bool, Fail>
 where
-    R: Threads + Wait + Clock + Copy + Drop + Send + Sync + 'static,
+    R: Threads + Wait + Clock + RandomSource + Copy + Drop + Send + Sync + 'static,
 {
     let log = Keeper::new(rt, net.alloc(), Arc::try_clone(board)?);
-    let lobby = make_lobby(net.alloc())?;
+    let lobby = make_lobby(net.alloc(), Key::Open)?;
     let door = make_door(rt, net, &lobby, log)?;
     let (address, porter) = make_porter(net, &lobby, None)?;
     serves(rt, net, porter, (address, &lobby), door, board)
@@ -104,7 +105,7 @@ where
 /// Whether all viewers leave a run as they should, the second of which finds no memory.
 fn second_is_let_go<R>(rt: R, net: &HostRuntime, is_over_tcp: bool) -> Result<bool, Fail>
 where
-    R: Threads + Wait + Clock + Copy + Drop + Send + Sync + 'static,
+    R: Threads + Wait + Clock + RandomSource + Copy + Drop + Send + Sync + 'static,
 {
     let board = Board::new(net.alloc())?;
     let ended = if is_over_tcp {

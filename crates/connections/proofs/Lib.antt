@@ -1,3 +1,4 @@
+mod Asked
 mod Behind
 mod Canonical
 mod Heard

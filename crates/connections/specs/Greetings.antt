@@ -1,5 +1,5 @@
 -- Where a newcomer comes from, and what is said and heard before it is a viewer.
-use Rattle.std.specs.Prelude.{◌≡◌, ◌≤◌, ◌<◌, ℕ, Bool, true, false, List, [], ◌++◌, length, take, Option, Some, None, Result, Ok, Err, IsSomeAnd}
+use Rattle.std.specs.Prelude.{◌≡◌, ◌≤◌, ◌<◌, ℕ, Bool, true, false, List, [], ◌∷◌, ◌++◌, length, take, Option, Some, None, Result, Ok, Err, IsSomeAnd}
 use Rattle.std.specs.Net.Addr.{IsV4And, IsV6And, IsCanonicalOf, MatchIp, ipv4_octets, ipv6_segments, segments_of}
 use Rattle.std.specs.Net.Socket.{IsPlainSocket, socket_ip}
 use Rattle.std.specs.declared.net.ip_addr.IpAddr.{IpAddr}
@@ -10,6 +10,9 @@ use Rattle.proxy_header.specs.declared.origin.Origin.{Origin}
 use Rattle.proxy_header.specs.declared.origin.Origin.TheVariants.{Peer, Ipv4, Ipv6}
 use Rattle.proxy_header.specs.declared.origin.Refusal.{Refusal}
 use Rattle.rfb_wire.specs.Handshake.{version}
+use Rattle.connections.specs.Keys.{question, is_locked, HasUnlocked}
+use Rattle.connections.specs.declared.key.Key.{Key}
+use Rattle.connections.specs.declared.key.Key.TheVariants.{Open, Locked}
 
 -- The address that the system tells is the proxy's, even where it is an IPv6 address with the proxy's IPv4 address
 -- inside.
@@ -57,46 +60,104 @@ IsKnown whence known = by whence.is_proxied
     by true = IsKnownBy whence.peer (whole_of (after header whence.front)) known
     by false = known ≡ Some (Ok whence.peer)
 
--- How far the greeting of a newcomer has gone: where it comes from, how many bytes of the version were said to it, the
--- bytes of its own version that have come, and what the socket has sent and received.
+-- How far the greeting of a newcomer has gone: where it comes from, the key of the port and the challenge that is this
+-- newcomer's, how many bytes of the version were said to it, the bytes of its own version that have come, how many
+-- bytes of the question were said, the bytes that it has answered, and what the socket has sent and received.
 pub record Begun : Type 0 where
   pub whence : Whence
+  pub key : Key
+  pub challenge : List ℕ
   pub said : ℕ
   pub own : List ℕ
+  pub asked : ℕ
+  pub answered : List ℕ
   pub sent : List ℕ
   pub received : List ℕ
 
--- The version is said from its first byte on, and nothing else. What has come is the header of a proxy, where one is
--- believed, and after it the newcomer's own version. Nothing of that is heard before the whole version was said.
+-- The version is said from its first byte on, and behind it, at a locked port, the question. What has come is the
+-- header of a proxy, where one is believed, and after it the newcomer's own version, and then its answer. Nothing is
+-- heard or said before its turn: the newcomer's version after the whole of ours, the question after the newcomer's
+-- version, which is ours; the choice after the list of types; the challenge after the choice, which is type 2; and
+-- what answers it after the whole challenge.
 pub record IsGreeting (b : Begun) : Type 0 where
-  pub said : b.sent ≡ take b.said version
-  pub heard : b.received ≡ b.whence.front ++ b.own
+  pub said : b.sent ≡ take b.said version ++ take b.asked (question b.challenge)
+  pub heard : b.received ≡ b.whence.front ++ (b.own ++ b.answered)
   pub most : b.said ≤ 12
   pub in_turn : 0 < length b.own → b.said ≡ 12
+  pub most_asked : b.asked ≤ 18
+  pub locked : 0 < b.asked → is_locked b.key ≡ true
+  pub after_version : 0 < b.asked → b.own ≡ version
+  pub choice_in_turn : 0 < length b.answered → 2 ≤ b.asked
+  pub after_choice : 2 < b.asked → take 1 b.answered ≡ 2 ∷ []
+  pub answer_in_turn : 1 < length b.answered → b.asked ≡ 18
+
+-- Both are the greeting of the same newcomer at the same port, with the same challenge. It may have gone on since.
+pub record IsSameGreeting (old new : Begun) : Type 0 where
+  pub comer : IsSameComer old.whence new.whence
+  pub key : new.key ≡ old.key
+  pub challenge : new.challenge ≡ old.challenge
+
+-- Two conversations go on alike behind their beginnings: an owner's, and that of the socket below.
+pub record GoOnAlike (owners : List ℕ) (beginning : List ℕ) (belows : List ℕ) (exchanged : List ℕ) : Type 0 where
+  pub rest : List ℕ
+  pub owner : owners ≡ beginning ++ rest
+  pub below : belows ≡ exchanged ++ rest
 
 -- What contracts see of a socket by which a newcomer was greeted: what its owner has sent and received by it; what the
--- socket below has sent and received; the bytes said before that the owner still owes, and those heard before that are
--- still ahead of it; and the header of a proxy that came before.
+-- socket below has sent and received; with which bytes the owner begins, and how many of them it still owes; with which
+-- bytes what it hears begins, and how many of them are still ahead of it; the header of a proxy that came before; and
+-- what was said and heard by the socket below in place of both beginnings.
 pub record Greeted : Type 0 where
   pub sent : List ℕ
   pub received : List ℕ
   pub below_sent : List ℕ
   pub below_received : List ℕ
+  pub spoken : List ℕ
   pub owed : List ℕ
+  pub shown : List ℕ
   pub ahead : List ℕ
   pub front : List ℕ
+  pub said : List ℕ
+  pub heard : List ℕ
 
--- What the owner has sent, followed by what it owes, is what the socket below has sent. What the owner has received,
--- followed by what is ahead of it, is what the socket below has received after the header.
+-- What the owner has sent and owes begins with what it is to say, and the socket below has sent what was said in place
+-- of that, and then the same. It is so with what is received, where a header may have come before.
 pub record Matches (g : Greeted) : Type 0 where
-  pub said : g.below_sent ≡ g.sent ++ g.owed
-  pub heard : g.below_received ≡ g.front ++ (g.received ++ g.ahead)
+  pub sent : GoOnAlike (g.sent ++ g.owed) g.spoken g.below_sent g.said
+  pub received : GoOnAlike (g.received ++ g.ahead) g.shown g.below_received (g.front ++ g.heard)
 
 -- A socket by which nothing was said or heard before.
 abbrev pub untouched : Greeted
-untouched = record { sent = []; received = []; below_sent = []; below_received = []; owed = []; ahead = []; front = [] }
+untouched =
+    record {
+      sent = [];
+      received = [];
+      below_sent = [];
+      below_received = [];
+      spoken = [];
+      owed = [];
+      shown = [];
+      ahead = [];
+      front = [];
+      said = [];
+      heard = [];
+    }
 
--- The whole version was said, and twelve bytes were heard, all of which are ahead of the owner.
-pub record IsGreeted (g : Greeted) : Type 0 where
-  pub said : g.owed ≡ version
-  pub heard : length g.ahead ≡ 12
+-- At an open port: the whole version was said, which the owner still has to say, and twelve bytes were heard, all of
+-- which are ahead of the owner.
+pub record IsWelcome (g : Greeted) : Type 0 where
+  pub said : g.said ≡ version
+  pub owed : g.owed ≡ version
+  pub len : length g.heard ≡ 12
+  pub ahead : g.ahead ≡ g.heard
+
+-- At a locked port: the owner speaks and hears as at an open one. It has still to say the version and the one security
+-- type 1, None, and the version and the choice of that type are ahead of it (RFC 6143, 7.1.2).
+pub record IsUnlocked (g : Greeted) : Type 0 where
+  pub owed : g.owed ≡ version ++ 1 ∷ 1 ∷ []
+  pub ahead : g.ahead ≡ version ++ 1 ∷ []
+
+-- The newcomer was greeted at a port with this key, and nothing more was said or heard.
+abbrev pub IsGreeted : Key → Greeted → Type 0
+IsGreeted Open g = IsWelcome g
+IsGreeted (Locked password) g = IsUnlocked g

@@ -4,4 +4,5 @@ pub mod Keeping
 pub mod Hello
 pub mod Wires
 pub mod Browsers
+pub mod Keys
 pub mod Greetings

@@ -14,6 +14,7 @@ use std::alloc::Global;
 use std::hash::RandomState;
 use std::io;
 use std::io::{ErrorKind, Read};
+use std::random::RandomSource;
 use std::sync::{Arc, Wait};
 use std::time::{Clock, Duration, Instant};
 use web_site::{Guest, Site};
@@ -32,6 +33,7 @@ pub struct WebEntry {
     site: Arc<Site, Global>,
     lobby: Arc<Lobby, Global>,
     ghost role: { listener.role ≡ (arc_value lobby).role },
+    ghost key: { listener.key ≡ (arc_value lobby).key },
 }
 
 /// A caller: its arrival, a second handle of its stream, what it has asked, the moment from which its lateness counts,
@@ -45,6 +47,7 @@ pub(crate) struct Caller {
     taken: usize,
     lobby: Arc<Lobby, Global>,
     ghost role: { arrival.role ≡ (arc_value lobby).role },
+    ghost key: { arrival.key ≡ (arc_value lobby).key },
 }
 
 impl WebEntry {
@@ -54,7 +57,8 @@ impl WebEntry {
         site: Arc<Site, Global>,
         lobby: Arc<Lobby, Global>,
     ) -> io::Result<WebEntry>
-        requires { listener.role ≡ (arc_value lobby).role }
+        requires role { listener.role ≡ (arc_value lobby).role }
+        requires key { listener.key ≡ (arc_value lobby).key }
         ensures listener { IfOk result (λ entry. entry.listener ≡ listener) }
         ensures site { IfOk result (λ entry. arc_value entry.site ≡ arc_value site) }
         ensures lobby { IfOk result (λ entry. arc_value entry.lobby ≡ arc_value lobby) }
@@ -85,7 +89,12 @@ impl Port for WebEntry {
     }
 
     /// The next newcomer, as a caller that asks this port's site and may be let to its lobby.
-    fn accept<R: Clock>(&self, rt: &R, alloc: Global, means: &RandomState) -> io::Result<Caller>
+    fn accept<R: Clock + RandomSource>(
+        &self,
+        rt: &R,
+        alloc: Global,
+        means: &RandomState,
+    ) -> io::Result<Caller>
         ensures role { IfOk result (λ caller. caller.arrival.role ≡ self.now.listener.role) }
         ensures proxied { IfOk result (λ caller. IsTrue caller.arrival.whence.is_proxied ↔ IsFromProxy self.now.listener.proxy caller.arrival.whence.peer) }
         ensures site { IfOk result (λ caller. caller.guest.site ≡ arc_value self.now.site) }
@@ -205,6 +214,8 @@ impl Newcomer for Caller {
             is_late,
         )
     }
+
+    fn part(self, _is_late: bool) {}
 
     /// Brings the caller to the lobby of the port that it came by, if it was let in. It answers `None` where it wasn't.
     fn enter<R: Wait + Clock>(self, rt: &R, patience: Duration) -> Option<Entrance> {

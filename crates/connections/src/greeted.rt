@@ -1,6 +1,5 @@
 //! Sockets by which something was said and heard before they belong to a link.
 
-use crate::greeting::{VERSION, VERSION_LEN};
 use crate::noted::{Noted, note_both};
 use crate::socket::Socket;
 use arrayvec::ArrayVec;
@@ -12,40 +11,49 @@ use std::io;
 use std::io::ErrorKind;
 use std::marker::Model;
 
-/// A socket by which, perhaps, the version was said and the peer's version was heard before it had an owner. Its owner
-/// sends and receives as if nothing had been said or heard yet: the bytes that were said aren't sent again, and those
-/// that were heard come first. A send of another version fails.
+/// The most bytes with which an owner begins: the version, and a list of one security type (RFC 6143, 7.1.1, 7.1.2).
+pub(crate) const MOST_SPOKEN: usize = 14;
+
+/// The most bytes with which what it hears begins: a version, and the choice of a type.
+pub(crate) const MOST_SHOWN: usize = 13;
+
+/// A socket by which, perhaps, something was said and heard before it had an owner: both versions and, at a locked
+/// port, what asks for a password and answers that. Its owner sends and receives as if nothing had been said or heard
+/// yet, and as at an open port. None of the bytes with which it begins is sent, and those with which what it hears
+/// begins come first. Behind them both sides say and hear the same. A send of another beginning fails.
 #[derive(Drop)]
 pub struct GreetedSocket<S: Socket> {
     socket: S,
-    // How many bytes of the version the owner has sent: all of them, where none was said before.
+    // With what the owner begins, and how many of these bytes it has sent.
+    spoken: ArrayVec<u8, MOST_SPOKEN>,
     given: usize,
-    // What was heard before, and how many of these bytes the owner has received.
-    own: ArrayVec<u8, VERSION_LEN>,
+    // With what that begins which it hears, and how many of these bytes it has received.
+    shown: ArrayVec<u8, MOST_SHOWN>,
     taken: usize,
-    // What the owner has sent and received, and the header that came before.
+    // What the owner has sent and received, the header that came before, and what was said and heard in place of both
+    // beginnings.
     sent: Record,
     received: Record,
     front: Record,
+    said: Record,
+    heard: Record,
 }
 
 impl<S: Socket> Model for GreetedSocket<S> {
     ghost use Rattle.std.specs.Prelude.{◌≤◌, drop, length};
-    ghost use Rattle.rfb_wire.specs.Handshake.{version};
     ghost use Rattle.connections.specs.Greetings.{Greeted, Matches};
 
     ghost Value = { Greeted };
 
-    ghost view = { λ g. record { sent = g.sent.bytes; received = g.received.bytes; below_sent = S.sent g.socket; below_received = S.received g.socket; owed = drop g.given version; ahead = drop g.taken g.own.items; front = g.front.bytes } };
+    ghost view = { λ g. record { sent = g.sent.bytes; received = g.received.bytes; below_sent = S.sent g.socket; below_received = S.received g.socket; spoken = g.spoken.items; owed = drop g.given g.spoken.items; shown = g.shown.items; ahead = drop g.taken g.shown.items; front = g.front.bytes; said = g.said.bytes; heard = g.heard.bytes } };
 
-    ghost invariant = { λ g. Matches (record { sent = g.sent.bytes; received = g.received.bytes; below_sent = S.sent g.socket; below_received = S.received g.socket; owed = drop g.given version; ahead = drop g.taken g.own.items; front = g.front.bytes }) × (g.given ≤ 12) × (g.taken ≤ length g.own.items) };
+    ghost invariant = { λ g. Matches (record { sent = g.sent.bytes; received = g.received.bytes; below_sent = S.sent g.socket; below_received = S.received g.socket; spoken = g.spoken.items; owed = drop g.given g.spoken.items; shown = g.shown.items; ahead = drop g.taken g.shown.items; front = g.front.bytes; said = g.said.bytes; heard = g.heard.bytes }) × (g.given ≤ length g.spoken.items) × (g.taken ≤ length g.shown.items) };
 }
 
 impl<S: Socket> GreetedSocket<S> {
     ghost use Rattle.std.specs.Prelude.{◌≡◌, ◌≤◌, ◌++◌, [], length, take};
     ghost use Rattle.std.specs.Io.{WritesAtMost};
-    ghost use Rattle.rfb_wire.specs.Handshake.{version};
-    ghost use Rattle.connections.specs.Greetings.{IsGreeted, Matches, untouched};
+    ghost use Rattle.connections.specs.Greetings.{Matches, untouched};
     ghost use Rattle.connections.specs.Wires.{moved};
 
     /// A socket by which nothing was said or heard before.
@@ -56,51 +64,59 @@ impl<S: Socket> GreetedSocket<S> {
     {
         GreetedSocket {
             socket,
-            given: VERSION_LEN,
-            own: ArrayVec::new(),
+            spoken: ArrayVec::new(),
+            given: 0,
+            shown: ArrayVec::new(),
             taken: 0,
             sent: Record::new(),
             received: Record::new(),
             front: Record::new(),
+            said: Record::new(),
+            heard: Record::new(),
         }
     }
 
-    /// A socket by which the version was said, and these bytes were heard, after this header of a proxy, if there was
-    /// one.
+    /// A socket by which this was said, and that was heard, after this header of a proxy, if there was one. Its owner
+    /// has still to say `spoken` in place of the former, and is shown `shown` in place of the latter.
     pub(crate) fn greeted(
         socket: S,
         front: Record,
-        own: ArrayVec<u8, VERSION_LEN>,
+        said: Record,
+        heard: Record,
+        spoken: ArrayVec<u8, MOST_SPOKEN>,
+        shown: ArrayVec<u8, MOST_SHOWN>,
     ) -> GreetedSocket<S>
-        requires said { S.sent socket ≡ version }
-        requires heard { S.received socket ≡ front.bytes ++ own.items }
-        requires len { length own.items ≡ 12 }
-        ensures greeted { IsGreeted result }
-        ensures unsent { result.sent ≡ [] }
-        ensures unreceived { result.received ≡ [] }
+        requires said { S.sent socket ≡ said.bytes }
+        requires heard { S.received socket ≡ front.bytes ++ heard.bytes }
+        ensures unsent { (result.sent ≡ []) × (result.owed ≡ spoken.items) }
+        ensures unreceived { (result.received ≡ []) × (result.ahead ≡ shown.items) }
+        ensures said { (result.said ≡ said.bytes) × (result.heard ≡ heard.bytes) }
         ensures sent { result.below_sent ≡ S.sent socket }
         ensures received { result.below_received ≡ S.received socket }
     {
         GreetedSocket {
             socket,
+            spoken,
             given: 0,
-            own,
+            shown,
             taken: 0,
             sent: Record::new(),
             received: Record::new(),
             front,
+            said,
+            heard,
         }
     }
 
-    /// It does nothing. Its clause says that, at every moment, what the owner has sent and what it owes was sent by the
-    /// socket, and that what the owner has received and what is ahead of it was received by the socket.
+    /// It does nothing. Its clause says that, at every moment, what the owner says and hears by this socket is what the
+    /// socket below does, but for the beginnings of both.
     pub fn matches(&self)
         ensures { Matches self.now }
     {
         let _ = &self.given;
     }
 
-    /// Takes the first of these bytes as sent, as far as they were said before. It is called only where some are owed.
+    /// Takes the first of these bytes as sent, as far as the owner owes them. It is called only where some are owed.
     fn give_owed(&mut self, bytes: &[u8]) -> io::Result<usize>
         ensures bound { WritesAtMost result bytes.now }
         ensures sent { self.new.sent ≡ self.old.sent ++ moved result bytes.now }
@@ -108,7 +124,7 @@ impl<S: Socket> GreetedSocket<S> {
         ensures below_sent { self.new.below_sent ≡ self.old.below_sent }
         ensures below_received { self.new.below_received ≡ self.old.below_received }
     {
-        let (_, owed) = VERSION.split_at(self.given);
+        let (_, owed) = self.spoken.as_slice().split_at(self.given);
         let count = bytes.len().min(owed.len());
         let (first, _) = bytes.split_at(count);
         let (said, _) = owed.split_at(count);
@@ -121,8 +137,7 @@ impl<S: Socket> GreetedSocket<S> {
         }
     }
 
-    /// Gives the first of the bytes that were heard before. It is called only where some are ahead.
-    #[tactic(auto, using(crate::proofs::Owed::gone_behind))]
+    /// Gives the first of the bytes that are ahead. It is called only where some are ahead.
     fn take_ahead(&mut self, into: &mut [u8]) -> usize
         ensures bound { result ≤ length into.new }
         ensures received { self.new.received ≡ self.old.received ++ take result into.new }
@@ -130,7 +145,7 @@ impl<S: Socket> GreetedSocket<S> {
         ensures below_sent { self.new.below_sent ≡ self.old.below_sent }
         ensures below_received { self.new.below_received ≡ self.old.below_received }
     {
-        let (_, ahead) = self.own.as_slice().split_at(self.taken);
+        let (_, ahead) = self.shown.as_slice().split_at(self.taken);
         let count = ahead.len().min(into.len());
         let (first, _) = ahead.split_at(count);
         let (room, _) = into.split_at_mut(count);
@@ -147,7 +162,7 @@ impl<S: Socket> Socket for GreetedSocket<S> {
     ghost received = { λ greeted. greeted.received };
 
     fn send(&mut self, bytes: &[u8]) -> io::Result<usize> {
-        if self.given < VERSION_LEN {
+        if self.given < self.spoken.len() {
             return self.give_owed(bytes);
         }
         let count = self.socket.send(bytes)?;
@@ -157,7 +172,7 @@ impl<S: Socket> Socket for GreetedSocket<S> {
     }
 
     fn send_both(&mut self, first: &[u8], second: &[u8]) -> io::Result<usize> {
-        if self.given < VERSION_LEN {
+        if self.given < self.spoken.len() {
             return if first.is_empty() {
                 self.give_owed(second)
             } else {
@@ -170,7 +185,7 @@ impl<S: Socket> Socket for GreetedSocket<S> {
     }
 
     fn receive(&mut self, into: &mut [u8]) -> io::Result<usize> {
-        if self.taken < self.own.len() {
+        if self.taken < self.shown.len() {
             return Ok(self.take_ahead(into));
         }
         let count = self.socket.receive(into)?;

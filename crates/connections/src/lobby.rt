@@ -1,10 +1,13 @@
 //! How newcomers come in.
 
 ghost use Rattle.std.specs.Prelude.{◌≡◌, ◌<◌, [], IfOk, IsNone};
+ghost use Rattle.std.specs.Arc.{arc_value};
+ghost use Rattle.connections.specs.Keys.{HasUnlocked, is_locked};
 ghost use Rattle.connections.specs.Doors.{HasNoted, LetsIn, SeesOff, links_behind, role_behind};
 ghost use Rattle.run_traits.specs.Trails.{KeepsTrail};
 
 use crate::desk::{Comer, Desk};
+use crate::key::Key;
 use crate::refused::Lack;
 use crate::role_listener::Entrant;
 use crate::seat::Seat;
@@ -57,10 +60,12 @@ pub(crate) enum Entrance {
     Closed,
 }
 
-/// What the places of one role share: who came in, and how many places are free.
+/// What the places of one role share: who came in, and how many places are free; and the key of the port by which they
+/// came.
 #[derive(Drop)]
 pub struct Lobby {
     role: Role,
+    key: Key,
     // For how many seconds one of its viewers may take nothing.
     stalled: u64,
     desk: Arc<Desk, Global>,
@@ -71,18 +76,20 @@ pub struct Lobby {
 
 impl Lobby {
     /// A lobby for the viewers of a role, each of which may take nothing for this many seconds. All of its places are
-    /// free. It fails where memory for the streams on their way is refused.
+    /// free, and its port has this key. It fails where memory for the streams on their way is refused.
     pub fn new(
         alloc: Global,
         role: Role,
+        key: Key,
         places: u64,
         stalled: u64,
         desk: Arc<Desk, Global>,
     ) -> Result<Lobby, AllocError>
-        ensures { IfOk result (λ lobby. (lobby.role ≡ role) × (lobby.stalled ≡ stalled)) }
+        ensures { IfOk result (λ lobby. (lobby.role ≡ role) × (lobby.key ≡ key) × (lobby.stalled ≡ stalled)) }
     {
         Ok(Lobby {
             role,
+            key,
             stalled,
             desk,
             waiting: Mutex::new(Waiting {
@@ -102,6 +109,13 @@ impl Lobby {
         ensures { result ≡ self.now.role }
     {
         self.role
+    }
+
+    /// The key of the port by which its viewers come.
+    pub fn key(&self) -> Key
+        ensures { result ≡ self.now.key }
+    {
+        self.key
     }
 
     /// For how many seconds one of its viewers may take nothing.
@@ -147,14 +161,16 @@ impl Lobby {
     }
 
     /// Hands a newcomer by a listener of the lobby's role to a place that is free, or becomes free in this time. Where
-    /// there is none it gives the newcomer back.
+    /// there is none it gives the newcomer back. Nobody is handed to a place of a locked port without the answer to its
+    /// own challenge (`unlocked`).
     pub(crate) fn enter<R: Wait + Clock>(
         &self,
         rt: &R,
         entrant: Entrant,
         patience: Duration,
     ) -> Entrance
-        requires { entrant.role ≡ self.now.role }
+        requires role { entrant.role ≡ self.now.role }
+        requires unlocked { ∥ HasUnlocked self.now.key entrant.socket.said entrant.socket.heard ∥₁ }
     {
         let is_open = self.desk.entry(rt) == Entry::Open;
         let guard = self.waiting.lock(rt);
@@ -302,7 +318,8 @@ impl<R: Wait + Clock + Drop + Copy, G: Log + Drop> TcpDoor<R, G> {
 
     /// The link of a newcomer that came by a listener of the door's role.
     fn link(&self, entrant: Entrant) -> io::Result<ViewerLink<R>>
-        requires { entrant.role ≡ role_behind self.now }
+        requires role { entrant.role ≡ role_behind self.now }
+        requires locked { is_locked entrant.key ≡ is_locked (arc_value self.now.lobby).key }
         ensures { IfOk result (λ link. viewer_state link ≡ unused) }
     {
         let way = entrant.way();
@@ -314,7 +331,8 @@ impl<R: Wait + Clock + Drop + Copy, G: Log + Drop> TcpDoor<R, G> {
     }
 
     /// Receives a newcomer: answers its link, unless that can't be made, nobody is let in any more, or the newcomer
-    /// came by another role's listener. The lobby takes in none of these, but its lock can't keep that for the proof.
+    /// came by another role's listener, or by an open port where the lobby's is locked. The lobby takes in none of
+    /// these, but its lock can't keep that for the proof.
     fn receive(&mut self, entrant: Entrant) -> Option<ViewerLink<R>>
         ensures came { IfSome result (λ link. viewer_state link ≡ unused) }
         ensures noted { HasNoted self.old [] self.new }
@@ -323,7 +341,7 @@ impl<R: Wait + Clock + Drop + Copy, G: Log + Drop> TcpDoor<R, G> {
         self.has_served = true;
         self.address = entrant.address();
         self.way = entrant.way();
-        if entrant.role() != place_id.role {
+        if entrant.role() != place_id.role || entrant.is_locked() != self.lobby.key().is_locked() {
             return None;
         }
         let comer = Comer {

@@ -6,6 +6,7 @@ ghost use Rattle.connections.specs.Greetings.{IsFromProxy};
 
 use crate::greeting::Greeting;
 use crate::hello::HELLO_SECONDS;
+use crate::key::draw;
 use crate::lobby::{Entrance, Lobby};
 use crate::noted::Noted;
 use crate::options::outlast;
@@ -18,36 +19,49 @@ use run_traits::{Event, Way};
 use std::alloc::Global;
 use std::io;
 use std::io::ErrorKind;
+use std::random::RandomSource;
 use std::sync::{Arc, Wait};
 use std::time::{Clock, Duration, Instant};
 
 /// The seconds that a newcomer may take while no place is left for another.
 const CROWDED_SECONDS: u64 = 1;
 
-/// A port over TCP: its listener, and the lobby of the listener's role. Newcomers whose own version has come are let to
-/// the lobby.
+/// The seconds that a newcomer may take once it was asked for a password, which someone may be typing.
+const TYPING_SECONDS: u64 = 60;
+
+/// The seconds after which a wrong answer is told. Until then the newcomer keeps its slot, so that all of a port's
+/// newcomers together can't guess fast.
+const GUESS_SECONDS: u64 = 2;
+
+/// A port over TCP: its listener, and the lobby of the listener's role and key. Newcomers whose own version has come
+/// are let to the lobby, where the port is locked once they have answered their challenge.
 #[derive(Drop)]
 pub struct TcpEntry {
     listener: RoleListener,
     heard: TcpListener,
     lobby: Arc<Lobby, Global>,
     ghost role: { listener.role ≡ (arc_value lobby).role },
+    ghost key: { listener.key ≡ (arc_value lobby).key },
 }
 
-/// A newcomer over TCP: its role, its greeting, when it came, and the lobby of the port that it came by.
+/// A newcomer over TCP: its role, its greeting, when it came, when it answered wrongly, if it did, and the lobby of the
+/// port that it came by.
 #[derive(Drop)]
 pub(crate) struct TcpNewcomer {
     role: Role,
     greeting: Greeting<Noted<TcpStream>>,
     since: Instant,
+    wrong: Option<Instant>,
     lobby: Arc<Lobby, Global>,
     ghost told: { role ≡ (arc_value lobby).role },
+    ghost key: { greeting.key ≡ (arc_value lobby).key },
 }
 
 impl TcpEntry {
     /// A port of this listener. It fails where the system refuses an option.
     pub fn new(listener: RoleListener, lobby: Arc<Lobby, Global>) -> io::Result<TcpEntry>
-        requires { listener.role ≡ (arc_value lobby).role }
+        requires role { listener.role ≡ (arc_value lobby).role }
+        requires key { listener.key ≡ (arc_value lobby).key }
         ensures listener { IfOk result (λ entry. entry.listener ≡ listener) }
         ensures lobby { IfOk result (λ entry. arc_value entry.lobby ≡ arc_value lobby) }
     {
@@ -74,8 +88,14 @@ impl Port for TcpEntry {
         self.lobby.is_closed(rt)
     }
 
-    fn accept<R: Clock>(&self, rt: &R, _alloc: Global, _means: &()) -> io::Result<TcpNewcomer>
+    fn accept<R: Clock + RandomSource>(
+        &self,
+        rt: &R,
+        _alloc: Global,
+        _means: &(),
+    ) -> io::Result<TcpNewcomer>
         ensures role { IfOk result (λ comer. comer.role ≡ self.now.listener.role) }
+        ensures key { IfOk result (λ comer. comer.greeting.key ≡ self.now.listener.key) }
         ensures proxied { IfOk result (λ comer. IsTrue comer.greeting.whence.is_proxied ↔ IsFromProxy self.now.listener.proxy comer.greeting.whence.peer) }
         ensures lobby { IfOk result (λ comer. arc_value comer.lobby ≡ arc_value self.now.lobby) }
     {
@@ -86,10 +106,38 @@ impl Port for TcpEntry {
         let lobby = Arc::try_clone(&self.lobby)?;
         Ok(TcpNewcomer {
             role,
-            greeting: arrival.into_greeting(),
+            greeting: arrival.into_greeting(draw(rt)?),
             since: Instant::now(rt)?,
+            wrong: None,
             lobby,
         })
+    }
+}
+
+impl TcpNewcomer {
+    /// What becomes of a newcomer that has said all. One that has answered wrongly waits until it is late.
+    fn judge<R: Clock>(&mut self, rt: &R) -> Progress {
+        if self.greeting.is_opened() {
+            return Progress::Done;
+        }
+        if self.wrong.is_none() {
+            self.wrong = Instant::now(rt).ok();
+        }
+        match self.wrong {
+            Some(_) => Progress::Waits,
+            None => Progress::Gone,
+        }
+    }
+
+    /// How many seconds it may take. It has less time where the porter has no room for another newcomer.
+    fn most_seconds(&self, is_crowded: bool) -> u64 {
+        if is_crowded {
+            CROWDED_SECONDS
+        } else if self.greeting.has_asked() {
+            TYPING_SECONDS
+        } else {
+            HELLO_SECONDS
+        }
     }
 }
 
@@ -104,20 +152,19 @@ impl Newcomer for TcpNewcomer {
     }
 
     fn is_late(&self, now: Instant, is_crowded: bool) -> bool {
-        let most = Duration::from_secs(if is_crowded {
-            CROWDED_SECONDS
-        } else {
-            HELLO_SECONDS
-        });
-        now.checked_duration_since(self.since)
-            .is_some_and(|passed| passed >= most)
+        let (since, most) = match self.wrong {
+            Some(wrong) => (wrong, GUESS_SECONDS),
+            None => (self.since, self.most_seconds(is_crowded)),
+        };
+        now.checked_duration_since(since)
+            .is_some_and(|passed| passed >= Duration::from_secs(most))
     }
 
-    fn go_on<R: Clock>(&mut self, _rt: &R) -> Progress {
+    fn go_on<R: Clock>(&mut self, rt: &R) -> Progress {
         for _ in 0..MOST_STEPS {
             match self.greeting.step() {
                 Ok(true) => {}
-                Ok(false) => return Progress::Done,
+                Ok(false) => return self.judge(rt),
                 Err(error) => match error.kind() {
                     ErrorKind::WouldBlock => return Progress::Waits,
                     ErrorKind::Interrupted => {}
@@ -132,11 +179,18 @@ impl Newcomer for TcpNewcomer {
         header_complaint(self.greeting.whence(), self.role, Way::Tcp, is_late)
     }
 
+    fn part(self, is_late: bool) {
+        if is_late && self.wrong.is_some() {
+            self.greeting.refuse();
+        }
+    }
+
     fn enter<R: Wait + Clock>(self, rt: &R, patience: Duration) -> Option<Entrance> {
         let TcpNewcomer {
             role,
             greeting,
             since: _,
+            wrong: _,
             lobby,
         } = self;
         let entrant = Entrant::greeted(role, greeting)?;

@@ -8,6 +8,7 @@ use roles::Role;
 use run_traits::{Event, Way};
 use std::alloc::Global;
 use std::io;
+use std::random::RandomSource;
 use std::sync::Wait;
 use std::time::{Clock, Duration, Instant};
 
@@ -54,7 +55,7 @@ pub(crate) trait Port: Drop {
     fn is_closed<R: Wait>(&self, rt: &R) -> bool;
 
     /// The next newcomer. The call doesn't wait for one.
-    fn accept<R: Clock>(
+    fn accept<R: Clock + RandomSource>(
         &self,
         rt: &R,
         alloc: Global,
@@ -78,6 +79,9 @@ pub(crate) trait Newcomer: Drop {
 
     /// What a log is told of it if it goes now, late or not.
     fn complaint(&self, is_late: bool) -> Option<Event<'static>>;
+
+    /// Lets it go, late or not, with a last word if one is due.
+    fn part(self, is_late: bool);
 
     /// Brings it to the lobby of the port that it came by, if it may be let in. It answers `None` where it may not.
     fn enter<R: Wait + Clock>(self, rt: &R, patience: Duration) -> Option<Entrance>;

@@ -12,6 +12,7 @@ use std::alloc::Global;
 use std::hash::RandomState;
 use std::io;
 use std::net::Net;
+use std::random::RandomSource;
 use std::sync::{Arc, Wait};
 use std::time::{Clock, Duration, Instant};
 
@@ -111,7 +112,7 @@ impl<P: Port> Porch<P> {
     }
 
     /// The next newcomer of a port.
-    fn accept<R: Clock>(&self, rt: &R, port: usize) -> Option<P::Comer> {
+    fn accept<R: Clock + RandomSource>(&self, rt: &R, port: usize) -> Option<P::Comer> {
         let entry = self.entries.get(port)?;
         entry.accept(rt, self.alloc, &self.means).ok()
     }
@@ -126,7 +127,7 @@ impl<P: Port> Porch<P> {
 
     /// Lets the next newcomer of a port ask, where a slot is free. It answers false where none is free, or no newcomer
     /// came.
-    fn let_one_ask<R: Clock>(&mut self, rt: &R, port: usize) -> bool {
+    fn let_one_ask<R: Clock + RandomSource>(&mut self, rt: &R, port: usize) -> bool {
         let Some(place) = self.guests.free() else {
             return false;
         };
@@ -140,7 +141,7 @@ impl<P: Port> Porch<P> {
     }
 
     /// Lets all newcomers of a port ask, while there is room.
-    fn let_ask<R: Clock>(&mut self, rt: &R, port: usize) {
+    fn let_ask<R: Clock + RandomSource>(&mut self, rt: &R, port: usize) {
         for _ in 0..MOST_GUESTS {
             if !self.let_one_ask(rt, port) {
                 return;
@@ -166,6 +167,7 @@ impl<P: Port> Porch<P> {
             if let Some(event) = comer.complaint(is_late) {
                 log.note(&event);
             }
+            comer.part(is_late);
         }
     }
 
@@ -201,14 +203,19 @@ impl<P: Port> Porch<P> {
 
     /// Lets the newcomers ask that wait at the ports. A poll hears a port once for all of them, so each port is looked
     /// at whenever a slot may be free.
-    fn let_all_ask<R: Clock>(&mut self, rt: &R) {
+    fn let_all_ask<R: Clock + RandomSource>(&mut self, rt: &R) {
         for port in 0..self.entries.len() {
             self.let_ask(rt, port);
         }
     }
 
     /// Waits, but not for long, and goes on with all sockets that it heard.
-    fn turn<R: Wait + Clock, G: Log>(&mut self, rt: &R, events: &mut Events, log: &G) {
+    fn turn<R: Wait + Clock + RandomSource, G: Log>(
+        &mut self,
+        rt: &R,
+        events: &mut Events,
+        log: &G,
+    ) {
         let longest = Some(Duration::from_millis(LOOK_MILLIS));
         if self.poll.poll(events, longest).is_err() {
             return;
@@ -268,7 +275,12 @@ impl WebPorter {
 
     /// Keeps the ports: it answers requests, and brings callers that open a link to the lobby of their port. It wakes
     /// the places of these seats now and then, and ends soon after the lobbies are closed.
-    pub fn keep<R: Wait + Clock, G: Log>(mut self, rt: &R, seats: &[Arc<Seat, Global>], log: &G) {
+    pub fn keep<R: Wait + Clock + RandomSource, G: Log>(
+        mut self,
+        rt: &R,
+        seats: &[Arc<Seat, Global>],
+        log: &G,
+    ) {
         let mut woken = Instant::now(rt).ok();
         for _ in rt.forever() {
             self.porch.turn(rt, &mut self.events, log);
@@ -305,7 +317,7 @@ impl TcpPorter {
 
     /// Keeps the port. Newcomers that aren't let in, and the log, are told why not. It ends soon after the lobby is
     /// closed.
-    pub fn keep<R: Wait + Clock, G: Log>(mut self, rt: &R, log: &G) {
+    pub fn keep<R: Wait + Clock + RandomSource, G: Log>(mut self, rt: &R, log: &G) {
         for _ in rt.forever() {
             self.porch.turn(rt, &mut self.events, log);
             if self.porch.is_closed(rt) {

@@ -3,9 +3,12 @@
 ghost use Rattle.std.specs.Prelude.{◌<◌, ◌≤◌, length};
 
 use crate::greeted::GreetedSocket;
-use crate::greeting::VERSION_LEN;
+use crate::greeting::{VERSION, VERSION_LEN};
+use crate::key::NONE;
 use crate::noted::Noted;
-use crate::refusal::{no_entry_bytes, no_host_bytes, refusal_bytes};
+use crate::refusal::{
+    hostless_bytes, no_entry_bytes, no_host_bytes, refusal_bytes, shut_bytes, taken_bytes,
+};
 use crate::role_listener::Entrant;
 use crate::socket::Socket;
 use mio::net::TcpStream;
@@ -53,6 +56,23 @@ fn say<S: Socket>(socket: &mut S, way: Way, bytes: &[u8])
         Way::Web => {
             let _ = socket.send(refusal_frames(version, reason).as_slice());
         }
+    }
+}
+
+/// Says a SecurityResult, with its reason, to a newcomer that has answered a challenge (RFC 6143, section 7.1.3).
+/// Before that its owner says the version and the one security type, None, as at an open port.
+fn fail<S: Socket>(socket: &mut S, bytes: &[u8]) {
+    let _ = socket.send(&VERSION);
+    let _ = socket.send(&[1, NONE]);
+    let _ = socket.send(bytes);
+}
+
+/// Tells a newcomer that has unlocked its port, and isn't let in, why.
+fn answer_behind_lock<S: Socket>(socket: &mut S, lack: Lack) {
+    match lack {
+        Lack::Place => fail(socket, &taken_bytes()),
+        Lack::Host => fail(socket, &hostless_bytes()),
+        Lack::Entry => fail(socket, &shut_bytes()),
     }
 }
 
@@ -112,8 +132,13 @@ impl Refused {
         }
         log.note(&event_of(&refused, lack));
         let way = refused.way();
+        let is_locked = refused.is_locked();
         let mut socket = refused.into_socket();
-        answer(&mut socket, way, lack);
+        if is_locked {
+            answer_behind_lock(&mut socket, lack);
+        } else {
+            answer(&mut socket, way, lack);
+        }
         self.last = Some(socket);
     }
 }

@@ -1,60 +1,77 @@
 //! Listeners of a role, and the newcomers that come by them.
 
 ghost use Rattle.std.specs.Prelude.{◌≡◌, ◌↔◌, IfOk, IfSome, IsTrue, None, Ok, Some, []};
+ghost use Rattle.connections.specs.declared.key.Key.TheVariants.{Open};
+ghost use Rattle.connections.specs.Keys.{HasUnlocked, is_locked};
 ghost use Rattle.run_traits.specs.declared.event.Way.TheVariants.{Tcp, Web};
 ghost use Rattle.connections.specs.Greetings.{IsFromProxy, IsGreeted, IsKnown, IsSameComer, untouched};
 ghost use Rattle.web_site.specs.Guests.{IsLetIn};
 
 use crate::greeted::GreetedSocket;
 use crate::greeting::Greeting;
+use crate::key::Key;
 use crate::noted::Noted;
 use crate::whence::Whence;
 use roles::Role;
 use run_traits::Way;
 use std::io;
 use std::net::{IpAddr, SocketAddr, TcpListener, TcpStream};
+use vnc_auth::CHALLENGE_LEN;
 use web_site::Guest;
 
-/// A listener for the viewers of one role, and the proxy whose headers are believed, if one is.
+/// A listener for the viewers of one role, the key of its port, and the proxy whose headers are believed, if one is.
 #[derive(Drop)]
 pub struct RoleListener {
     socket: TcpListener,
     role: Role,
+    key: Key,
     proxy: Option<IpAddr>,
 }
 
-/// A newcomer that came by a listener: its stream, the role of that listener, and where it comes from. Only a listener
-/// makes one.
+/// A newcomer that came by a listener: its stream, the role and the key of that listener, and where it comes from. Only
+/// a listener makes one.
 #[derive(Drop)]
 pub struct Arrival {
     stream: TcpStream,
     role: Role,
+    key: Key,
     whence: Whence,
 }
 
-/// A newcomer that may be let to a lobby: its socket, its role, how its bytes travel, and its address, if anyone told
-/// it. Over TCP it has said its version, and was told ours. Only a newcomer that came by a listener becomes one.
+/// A newcomer that may be let to a lobby: its socket, its role, the key of the port that it came by, how its bytes
+/// travel, and its address, if anyone told it. Over TCP it has said its version, and was told ours; at a locked port it
+/// has answered its own challenge, too. Only a newcomer that came by a listener becomes one.
 #[derive(Drop)]
 pub struct Entrant {
     socket: GreetedSocket<Noted<mio::net::TcpStream>>,
     role: Role,
+    key: Key,
     way: Way,
     address: Option<SocketAddr>,
     ghost unsent: { socket.sent ≡ [] },
     ghost unreceived: { socket.received ≡ [] },
-    ghost greeted: { way ≡ Tcp → IsGreeted socket },
+    ghost greeted: { way ≡ Tcp → ∥ IsGreeted key socket ∥₁ },
+    ghost unlocked: { ∥ HasUnlocked key socket.said socket.heard ∥₁ },
 }
 
 impl RoleListener {
-    /// A listener over this socket, for the viewers of this role. No proxy is believed.
+    /// A listener over this socket, for the viewers of this role. Its port is open, and no proxy is believed.
     pub fn new(socket: TcpListener, role: Role) -> RoleListener
-        ensures { (result.socket ≡ socket) × (result.role ≡ role) × (result.proxy ≡ None) }
+        ensures { (result.socket ≡ socket) × (result.role ≡ role) × (result.key ≡ Open) × (result.proxy ≡ None) }
     {
         RoleListener {
             socket,
             role,
+            key: Key::Open,
             proxy: None,
         }
+    }
+
+    /// The same listener, at a port with this key.
+    pub fn with_key(self, key: Key) -> RoleListener
+        ensures { result ≡ record self { key = key } }
+    {
+        RoleListener { key, ..self }
     }
 
     /// The same listener, where the headers of this proxy are believed, if there is one.
@@ -78,11 +95,19 @@ impl RoleListener {
         self.role
     }
 
+    /// The key of its port.
+    pub fn key(&self) -> Key
+        ensures { result ≡ self.now.key }
+    {
+        self.key
+    }
+
     /// The next newcomer, whose connection is over TCP so far. The call waits for it, unless the socket is one that
     /// doesn't wait. A header is wanted from a newcomer that comes from the proxy, and believed. It is wanted from no
     /// other.
     pub fn accept(&self) -> io::Result<Arrival>
         ensures role { IfOk result (λ arrival. arrival.role ≡ self.now.role) }
+        ensures key { IfOk result (λ arrival. arrival.key ≡ self.now.key) }
         ensures proxied { IfOk result (λ arrival. IsTrue arrival.whence.is_proxied ↔ IsFromProxy self.now.proxy arrival.whence.peer) }
         ensures front { IfOk result (λ arrival. arrival.whence.front ≡ []) }
     {
@@ -90,6 +115,7 @@ impl RoleListener {
         Ok(Arrival {
             stream,
             role: self.role(),
+            key: self.key(),
             whence: Whence::new(Some(peer), &self.proxy),
         })
     }
@@ -101,6 +127,13 @@ impl Arrival {
         ensures { result ≡ self.now.role }
     {
         self.role
+    }
+
+    /// The key of that listener's port.
+    pub fn key(&self) -> Key
+        ensures { result ≡ self.now.key }
+    {
+        self.key
     }
 
     /// Its stream.
@@ -120,30 +153,41 @@ impl Arrival {
     /// Takes the next byte of a proxy's header.
     pub(crate) fn feed(&mut self, byte: u8)
         ensures role { self.new.role ≡ self.old.role }
+        ensures key { self.new.key ≡ self.old.key }
         ensures same { IsSameComer self.old.whence self.new.whence }
     {
         self.whence.feed(byte);
     }
 
-    /// Its greeting, over TCP. Its stream has to be one that doesn't wait.
-    pub(crate) fn into_greeting(self) -> Greeting<Noted<mio::net::TcpStream>>
+    /// Its greeting, over TCP, with a challenge of its own. Its stream has to be one that doesn't wait.
+    pub(crate) fn into_greeting(
+        self,
+        challenge: [u8; CHALLENGE_LEN],
+    ) -> Greeting<Noted<mio::net::TcpStream>>
         requires { self.whence.front ≡ [] }
-        ensures { result.whence ≡ self.whence }
+        ensures whence { result.whence ≡ self.whence }
+        ensures key { result.key ≡ self.key }
     {
         let stream = mio::net::TcpStream::from_std(self.stream);
-        Greeting::new(Noted::new(stream), self.whence)
+        Greeting::new(Noted::new(stream), self.whence, self.key, challenge)
     }
 
     /// The same newcomer as one that may be let to a lobby, whose bytes travel in messages, if this guest's handshake
-    /// let it in. It is `None` where the handshake didn't, or where the address isn't known yet.
+    /// let it in. It is `None` where the handshake didn't, where the address isn't known yet, or where its port is
+    /// locked: nobody is asked for a password in messages.
     pub fn let_in(self, guest: Guest) -> Option<Entrant>
         ensures role { IfSome result (λ entrant. entrant.role ≡ self.role) }
+        ensures key { IfSome result (λ entrant. entrant.key ≡ self.key) }
+        ensures open { IfSome result (λ _. self.key ≡ Open) }
         ensures way { IfSome result (λ entrant. entrant.way ≡ Web) }
         ensures handshake { IfSome result (λ _. ∥ IsLetIn guest ∥₁) }
         ensures address { IfSome result (λ entrant. IsKnown self.whence (Some (Ok entrant.address))) }
         ensures socket { IfSome result (λ entrant. entrant.socket ≡ untouched) }
     {
         if !guest.is_let_in() {
+            return None;
+        }
+        if self.key.is_locked() {
             return None;
         }
         let Some(Ok(address)) = self.whence.known() else {
@@ -153,6 +197,7 @@ impl Arrival {
         Some(Entrant {
             socket: GreetedSocket::new(Noted::new(stream)),
             role: self.role,
+            key: Key::Open,
             way: Way::Web,
             address,
         })
@@ -160,20 +205,23 @@ impl Arrival {
 }
 
 impl Entrant {
-    /// A newcomer whose own version has come over TCP, in a greeting by a listener of this role. It is `None` where the
-    /// version hasn't come.
+    /// A newcomer whose own version has come over TCP and, at a locked port, the answer to its challenge, in a greeting
+    /// by a listener of this role. It is `None` where that hasn't come.
     pub(crate) fn greeted(
         role: Role,
         greeting: Greeting<Noted<mio::net::TcpStream>>,
     ) -> Option<Entrant>
         ensures role { IfSome result (λ entrant. entrant.role ≡ role) }
+        ensures key { IfSome result (λ entrant. entrant.key ≡ greeting.key) }
         ensures way { IfSome result (λ entrant. entrant.way ≡ Tcp) }
         ensures address { IfSome result (λ entrant. IsKnown greeting.whence (Some (Ok entrant.address))) }
     {
+        let key = greeting.key();
         let (socket, address) = greeting.done()?;
         Some(Entrant {
             socket,
             role,
+            key,
             way: Way::Tcp,
             address,
         })
@@ -184,6 +232,22 @@ impl Entrant {
         ensures { result ≡ self.now.role }
     {
         self.role
+    }
+
+    /// It does nothing. Its clause says that nobody becomes an entrant of a locked port without the answer to its own
+    /// challenge: the version and a challenge were said to it, and it has answered just that challenge as only someone
+    /// does who knows the password.
+    pub fn has_unlocked(&self)
+        ensures { ∥ HasUnlocked self.now.key self.now.socket.said self.now.socket.heard ∥₁ }
+    {
+        let _ = &self.way;
+    }
+
+    /// Whether the port that it came by has a password.
+    pub fn is_locked(&self) -> bool
+        ensures { result ≡ is_locked self.now.key }
+    {
+        self.key.is_locked()
     }
 
     /// How its bytes travel.

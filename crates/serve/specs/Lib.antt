@@ -2,6 +2,7 @@ pub mod Browsers
 pub mod Doors
 pub mod Gravities
 pub mod Hosts
+pub mod Locks
 pub mod Numbers
 pub mod Origins
 pub mod Ports

@@ -4,7 +4,7 @@ use crate::quoted::Quoted;
 use crate::trouble::{Stage, Trouble};
 use fault::Fault;
 use roles::Role;
-use settings::{Settings, bind_of, port_of};
+use settings::{Settings, bind_of, password_file_of, port_of};
 use std::fmt;
 use std::fmt::{Display, Formatter};
 use std::io::ErrorKind;
@@ -48,6 +48,14 @@ impl Display for Given<'_> {
             }
             _ => Ok(()),
         }
+    }
+}
+
+/// The option for the file with the password of a role's viewers.
+fn password_option(role: Role) -> &'static str {
+    match role {
+        Role::Full => "--full-password-file",
+        Role::View => "--view-password-file",
     }
 }
 
@@ -213,6 +221,12 @@ impl Display for Advice<'_> {
                 f,
                 "--host-password-file {}{said}; it has to have the hosts' password in its first line, or as vncpasswd writes it",
                 shown(&settings.host_password)
+            ),
+            Stage::ReadKey(role) => write!(
+                f,
+                "{} {}{said}; it has to have the viewers' password in its first line, or as vncpasswd writes it",
+                password_option(role),
+                password_file_of(settings, role).unwrap_or("")
             ),
             Stage::Listen(role) => {
                 let (option, viewers) = options_of(role);

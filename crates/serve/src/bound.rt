@@ -3,7 +3,7 @@
 ghost use Rattle.std.specs.Prelude.{◌≡◌, ◌++◌, ◌∷◌, [], IfOk, OnOk};
 ghost use Rattle.serve.specs.Ports.{IsAskedAtMost};
 
-use connections::RoleListener;
+use connections::{Key, RoleListener};
 use roles::Role;
 use std::alloc::Global;
 use std::io;
@@ -58,24 +58,27 @@ pub(crate) struct Bound {
 }
 
 impl Bound {
-    /// Listens at this address for the viewers of this role. The headers of this proxy are believed there, if one is
-    /// given. It fails where the system refuses that, or memory for the list of what was asked.
+    /// Listens at this address for the viewers of this role, who come by a port with this key. The headers of this
+    /// proxy are believed there, if one is given. It fails where the system refuses that, or memory for the list of
+    /// what was asked.
     pub(crate) fn at<R: Net<Stream = TcpStream, Listener = TcpListener>>(
         rt: &R,
         ports: &mut Ports,
         address: SocketAddr,
         role: Role,
+        key: Key,
         proxy: Option<IpAddr>,
     ) -> io::Result<Bound>
         ensures address { IfOk result (λ bound. bound.address ≡ address) }
         ensures role { IfOk result (λ bound. bound.listener.role ≡ role) }
+        ensures key { IfOk result (λ bound. bound.listener.key ≡ key) }
         ensures proxy { IfOk result (λ bound. bound.listener.proxy ≡ proxy) }
         ensures ok { OnOk result (ports.new ≡ ports.old ++ address ∷ []) }
         ensures asked { IsAskedAtMost address ports.old ports.new }
     {
         let socket = ports.listen(rt, address)?;
         Ok(Bound {
-            listener: RoleListener::new(socket, role).behind(proxy),
+            listener: RoleListener::new(socket, role).with_key(key).behind(proxy),
             address,
         })
     }

@@ -33,7 +33,7 @@ fn desk_of(alloc: Global, settings: &Settings) -> Result<Arc<Desk, Global>, Trou
 }
 
 /// Listens for the viewers with full control, unless there are only those who look on.
-fn open_full<'a, R: Net<Stream = TcpStream, Listener = TcpListener>, G: Log>(
+fn open_full<'a, R: Net<Stream = TcpStream, Listener = TcpListener> + Files, G: Log>(
     rt: &R,
     alloc: Global,
     settings: &'a Settings,
@@ -55,7 +55,7 @@ fn open_full<'a, R: Net<Stream = TcpStream, Listener = TcpListener>, G: Log>(
 /// Listens for the viewers with full control, if there are to be some, and then for those that only look on, and asks
 /// for no other port.
 #[tactic(auto, using(crate::proofs::Asking::first_alone, crate::proofs::Asking::both))]
-pub(crate) fn open_both<'a, R: Net<Stream = TcpStream, Listener = TcpListener>, G: Log>(
+pub(crate) fn open_both<'a, R: Net<Stream = TcpStream, Listener = TcpListener> + Files, G: Log>(
     rt: &R,
     alloc: Global,
     settings: &'a Settings,

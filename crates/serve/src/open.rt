@@ -5,9 +5,11 @@ ghost use Rattle.std.specs.Arc.{arc_value};
 ghost use Rattle.std.specs.Net.Socket.{socket_port};
 ghost use Rattle.settings.specs.Addresses.{IsAddressFor, IsProxyFor};
 ghost use Rattle.settings.specs.ByRole.{port_for};
+ghost use Rattle.serve.specs.Locks.{IsKeyFor};
 ghost use Rattle.serve.specs.Ports.{AsksFor};
 
 use crate::bound::{Bound, Ports};
+use crate::password::key_of;
 use crate::trouble::{Stage, Trouble};
 use connections::{Desk, Lobby};
 use fault::Fault;
@@ -16,10 +18,11 @@ use run_traits::{Event, Log, Way};
 use settings::{Settings, address_of, places_of, proxy_of};
 use std::alloc::Global;
 use std::net::{Net, TcpListener, TcpStream};
+use std::rt::Files;
 use std::sync::Arc;
 
 /// Where the viewers of a role come in, and the lobby to which they are let. It listens at the port that the settings
-/// have for the role of that lobby.
+/// have for the role of that lobby, and is locked where they say so.
 #[derive(Drop)]
 pub(crate) struct Entry<'a> {
     pub(crate) settings: &'a Settings,
@@ -28,11 +31,14 @@ pub(crate) struct Entry<'a> {
     pub(crate) ghost port: { socket_port bound.address ≡ port_for (arc_value lobby).role settings.now },
     pub(crate) ghost proxy: { ∥ IsProxyFor settings.now bound.listener.proxy ∥₁ },
     pub(crate) ghost role: { bound.listener.role ≡ (arc_value lobby).role },
+    pub(crate) ghost key: { bound.listener.key ≡ (arc_value lobby).key },
+    pub(crate) ghost lock: { IsKeyFor (arc_value lobby).role settings.now (arc_value lobby).key },
 }
 
-/// Listens for the viewers of a role, where the settings say, and tells the log where.
+/// Listens for the viewers of a role, where the settings say, and tells the log where. A file with their password is
+/// read before.
 #[tactic(auto, using(crate::proofs::Asking::asks_for))]
-pub(crate) fn open<'a, R: Net<Stream = TcpStream, Listener = TcpListener>, G: Log>(
+pub(crate) fn open<'a, R: Net<Stream = TcpStream, Listener = TcpListener> + Files, G: Log>(
     rt: &R,
     alloc: Global,
     settings: &'a Settings,
@@ -45,6 +51,7 @@ pub(crate) fn open<'a, R: Net<Stream = TcpStream, Listener = TcpListener>, G: Lo
     ensures settings { IfOk result (λ entry. entry.settings.now ≡ settings.now) }
     ensures address { IfOk result (λ entry. IsAddressFor role settings.now entry.bound.address) }
     ensures role { IfOk result (λ entry. (arc_value entry.lobby).role ≡ role) }
+    ensures key { IfOk result (λ entry. IsKeyFor role settings.now entry.bound.listener.key) }
     ensures proxy { IfOk result (λ entry. IsProxyFor settings.now entry.bound.listener.proxy) }
     ensures stalled { IfOk result (λ entry. (arc_value entry.lobby).stalled ≡ settings.now.stalled) }
 {
@@ -55,14 +62,15 @@ pub(crate) fn open<'a, R: Net<Stream = TcpStream, Listener = TcpListener>, G: Lo
     let Ok(proxy) = proxy_of(settings) else {
         return Err(Trouble::new(Stage::ReadProxy, Fault::LinkFailed));
     };
-    let bound = match Bound::at(rt, ports, address, role, proxy) {
+    let key = key_of(rt, alloc, settings, role)?;
+    let bound = match Bound::at(rt, ports, address, role, key, proxy) {
         Ok(bound) => bound,
         Err(error) => return Err(Trouble::of(Stage::Listen(role), error)),
     };
     let Ok(desk) = Arc::try_clone(desk) else {
         return Err(Trouble::new(Stage::Start, Fault::Memory));
     };
-    let Ok(lobby) = Lobby::new(alloc, role, places, settings.stalled, desk) else {
+    let Ok(lobby) = Lobby::new(alloc, role, key, places, settings.stalled, desk) else {
         return Err(Trouble::new(Stage::Start, Fault::Memory));
     };
     let Ok(lobby) = Arc::new(alloc, lobby) else {

@@ -1,10 +1,13 @@
-//! The password of the hosts, if a file has one.
+//! The passwords that files have: that of the hosts, and those of the ports.
 
 ghost use Rattle.std.specs.Prelude.{◌≡◌, IfOk, is_some};
+ghost use Rattle.serve.specs.Locks.{IsKeyFor};
 
 use crate::trouble::{Stage, Trouble};
+use connections::Key;
 use fault::Fault;
-use settings::Settings;
+use roles::Role;
+use settings::{Settings, password_file_of};
 use std::alloc::Global;
 use std::io::Read;
 use std::rt::Files;
@@ -38,5 +41,25 @@ pub(crate) fn password_of<R: Files>(
         Ok(Some(password)) => Ok(Some(password)),
         Ok(None) => Err(Trouble::new(Stage::ReadPassword, Fault::LinkFailed)),
         Err(error) => Err(Trouble::of(Stage::ReadPassword, error)),
+    }
+}
+
+/// The key of the port of a role: the port is locked where a file for the role's password is named. The file is read
+/// here, once. It fails where the file can't be read, or has no password.
+pub(crate) fn key_of<R: Files>(
+    rt: &R,
+    alloc: Global,
+    settings: &Settings,
+    role: Role,
+) -> Result<Key, Trouble>
+    ensures { IfOk result (λ key. IsKeyFor role settings.now key) }
+{
+    let Some(path) = password_file_of(settings, role) else {
+        return Ok(Key::Open);
+    };
+    match password_at(rt, alloc, path) {
+        Ok(Some(password)) => Ok(Key::Locked(password)),
+        Ok(None) => Err(Trouble::new(Stage::ReadKey(role), Fault::LinkFailed)),
+        Err(error) => Err(Trouble::of(Stage::ReadKey(role), error)),
     }
 }

@@ -29,6 +29,8 @@ pub(crate) enum Stage {
     Control,
     /// Reading the file with the hosts' password.
     ReadPassword,
+    /// Reading the file with the password of a role's viewers.
+    ReadKey(Role),
     /// Reading the first host's address.
     ReadHost,
     /// Reading the address of this one of the further hosts.

@@ -123,7 +123,7 @@ fn open_web<R: Net<Stream = TcpStream, Listener = TcpListener>, G: Log>(
     let Ok(proxy) = proxy_of(settings) else {
         return Err(Trouble::new(Stage::ReadProxy, Fault::LinkFailed));
     };
-    let bound = match Bound::at(rt, ports, address, role, proxy) {
+    let bound = match Bound::at(rt, ports, address, role, lobby.key(), proxy) {
         Ok(bound) => bound,
         Err(error) => return Err(Trouble::of(Stage::ListenWeb(role), error)),
     };

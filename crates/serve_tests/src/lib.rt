@@ -30,6 +30,8 @@ mod journal;
 #[cfg(test)]
 mod lines;
 #[cfg(test)]
+mod locks;
+#[cfg(test)]
 mod loopback;
 #[cfg(test)]
 mod meeting;

@@ -1,5 +1,5 @@
 -- What the settings say for the viewers of a role, and for all of them.
-use Rattle.std.specs.Prelude.{ℕ, ◌≤◌, List, Option, None, if◌then◌else◌}
+use Rattle.std.specs.Prelude.{ℕ, ◌≤◌, List, Option, None, if◌then◌else◌, option_map}
 use Rattle.std.specs.Option.{option_map_or}
 use Rattle.std.specs.String.{string_bytes}
 use Rattle.joined_runs.specs.declared.runs.Runs.{Runs}
@@ -22,6 +22,11 @@ port_for View settings = settings.view
 abbrev pub web_port_for : Role → Settings → Option ℕ
 web_port_for Full settings = if settings.view_only then None else settings.web_full
 web_port_for View settings = settings.web_view
+
+-- The path of the file with the password that the viewers of a role are asked for, if they are asked for one.
+abbrev pub password_file_for : Role → Settings → Option (List ℕ)
+password_file_for Full settings = option_map string_bytes settings.full_password
+password_file_for View settings = option_map string_bytes settings.view_password
 
 -- The text to bind for the viewers of a role: those with full control may have one of their own.
 abbrev pub bind_for : Role → Settings → List ℕ

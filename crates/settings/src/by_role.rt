@@ -1,8 +1,8 @@
 //! What the settings say for the viewers of a role, and for all of them.
 
-ghost use Rattle.std.specs.Prelude.{◌≡◌, ◌≤◌, true};
+ghost use Rattle.std.specs.Prelude.{◌≡◌, ◌≤◌, option_map, true};
 ghost use Rattle.raster.specs.Size.{IsScreenSize};
-ghost use Rattle.settings.specs.ByRole.{bind_for, places_for, port_for, runs_for, web_port_for};
+ghost use Rattle.settings.specs.ByRole.{bind_for, password_file_for, places_for, port_for, runs_for, web_port_for};
 ghost use Rattle.settings.specs.Rooms.{FitsInto, IsRoomFor};
 
 use crate::room::Room;
@@ -41,6 +41,20 @@ pub fn bind_of(settings: &Settings, role: Role) -> &str
             None => settings.bind.as_str(),
         },
         Role::View => settings.bind.as_str(),
+    }
+}
+
+/// The path of the file with the password that the viewers of a role are asked for, if they are asked for one.
+pub fn password_file_of(settings: &Settings, role: Role) -> Option<&str>
+    ensures { option_map (λ path. path.now) result ≡ password_file_for role settings.now }
+{
+    let path = match role {
+        Role::Full => &settings.full_password,
+        Role::View => &settings.view_password,
+    };
+    match path {
+        Some(path) => Some(path.as_str()),
+        None => None,
     }
 }
 
