@@ -1,20 +1,19 @@
 -- The data of a rectangle, and what follows them. One reader's bytes end where the next rectangle begins.
 use Rattle.std.proofs.Common.{◌≡◌, ℕ, suc, true, List, [], ◌∷◌, ◌++◌, length, map, drop, inr, refl, sym, ap, subst, ◌∙◌, arith}
-use Rattle.std.specs.Prelude.{◌*◌, ◌/◌, ◌%◌, ◌⊎◌}
-use Rattle.std.specs.List.{range_with_len}
+use Rattle.std.specs.Prelude.{◌⊎◌}
 use Rattle.std.proofs.lemmas.List.{drop_all, map-append}
-use Rattle.std.proofs.lemmas.Simd.{map-map}
 use Rattle.fault.specs.declared.kinds.Fault.{Fault}
 use Rattle.byte_reading.specs.Reading.{Reading, Done, Faulty, Want, ◌>>=◌, after, taken, wants_more}
 use Rattle.byte_reading.proofs.InOrder.{then_done, then_taken, then_faulty}
 use Rattle.byte_reading.proofs.ReadingLaws.{after_bind_open, after-faulty, taken-nil, taken-open}
-use Rattle.raster.specs.Screen.{Canvas, opening, values_of, whole_screen}
-use Rattle.raster.specs.Update.{Paint, Put}
+use Rattle.raster.specs.declared.size.Size.{Size}
+use Rattle.raster.specs.Screen.{Canvas}
+use Rattle.raster.specs.Update.{Paint, Resized}
 use Rattle.painter.specs.Painter.{Painting, IsAsLarge, IsPaintedOver}
 use Rattle.painter.proofs.Switches.{at_size}
 use Rattle.rfb_wire.specs.ServerMessage.{ServerMessage}
 use Rattle.host_decoder.specs.Data.{DataProgress, DataStands}
-use Rattle.host_decoder.specs.Updates.{colour_of, in_colours}
+use Rattle.host_decoder.specs.Updates.{in_colours}
 use Rattle.host_decoder.specs.declared.state.HostState.{HostState}
 use Rattle.host_decoder.specs.declared.state.HostState.TheVariants as state
 use Rattle.host_decoder.specs.Decoder.{GoesOn, Holds, Stands, Uses, behind, is_refused, rectangles, with_others}
@@ -25,25 +24,15 @@ pub paint_held : (start : Canvas) (painter : Painting) (sofar : List Paint) (pai
 paint_held start painter sofar paint painted is stands =
     subst (λ ps. IsPaintedOver start ps painter) (ap (λ p. map in_colours sofar ++ p ∷ []) is ∙ sym (map-append in_colours sofar (painted ∷ []))) stands
 
--- Black pixel values are black colours.
-black_colours : (w h : ℕ) → map colour_of (values_of w h opening) ≡ values_of w h opening
-black_colours w h = map-map colour_of (λ k. opening (k % w) (k / w)) (range_with_len 0 (w * h))
-
--- What a new size paints.
-abbrev black_of : ℕ → ℕ → Paint
-black_of w h = Put (whole_screen w h) (values_of w h opening)
-
--- After it the next rectangle is read.
-pub black_goes_on : (old black new : Painting) (state : HostState) (start : Canvas) (sofar : List Paint) (left : ℕ) → IsAsLarge old black → Holds start old sofar
-    → ((begun : Canvas) (paints : List Paint) → IsPaintedOver begun paints old → IsPaintedOver begun (paints ++ black_of old.width old.height ∷ []) black)
+-- After a new size the next rectangle is read.
+pub size_goes_on : (old black new : Painting) (size : Size) (state : HostState) (start : Canvas) (sofar : List Paint) (left : ℕ) → IsAsLarge old black → Holds start old sofar
+    → ((begun : Canvas) (paints : List Paint) → IsPaintedOver begun paints old → IsPaintedOver begun (paints ++ Resized size ∷ []) black)
     → ((begun : Canvas) (paints : List Paint) → Holds begun black paints → GoesOn black new state begun (rectangles black.width black.height paints left))
-    → GoesOn old new state start (with_others old.width old.height sofar left (Done (black_of old.width old.height)))
-black_goes_on old black new state start sofar left large holds painted next =
-    let w : ℕ = old.width in
-    let h : ℕ = old.height in
-    let b : Paint = black_of w h in
-    let held : Holds start black (sofar ++ b ∷ []) = paint_held start black sofar b b (sym (ap (Put (whole_screen w h)) (black_colours w h))) (painted start (map in_colours sofar) holds) in
-    at_size (λ v k. (is_refused state ≡ true) ⊎ Stands v k state start new (rectangles v k (sofar ++ b ∷ []) left)) black.width black.height w h large.width large.height (next start (sofar ++ b ∷ []) held)
+    → GoesOn old new state start (with_others old.width old.height sofar left (Done (Resized size)))
+size_goes_on old black new size state start sofar left large holds painted next =
+    let b : Paint = Resized size in
+    let held : Holds start black (sofar ++ b ∷ []) = paint_held start black sofar b b refl (painted start (map in_colours sofar) holds) in
+    at_size (λ v k. (is_refused state ≡ true) ⊎ Stands v k state start new (rectangles v k (sofar ++ b ∷ []) left)) black.width black.height old.width old.height large.width large.height (next start (sofar ++ b ∷ []) held)
 
 -- ---- a step over its data
 

@@ -10,7 +10,7 @@ use Rattle.byte_reading.specs.Reading.{Reading, Done, Faulty, ◌>>=◌, after, 
 use Rattle.raster.specs.declared.rect.Rect.{Rect}
 use Rattle.raster.specs.Encoding.{rect}
 use Rattle.raster.specs.Screen.{Canvas, is_within}
-use Rattle.raster.specs.Update.{Paint, Paints, after_paints}
+use Rattle.raster.specs.Update.{Paint, after_paints, of_paints}
 use Rattle.painter.specs.Painter.{Painting}
 use Rattle.painter.specs.Same.{AreSameUpdates}
 use Rattle.painter.specs.Patch.{SizedUpdate}
@@ -48,7 +48,7 @@ to_area painter left fields start sofar some is holds =
 
 -- None is left, and the update has its patch.
 pub to_end : (old new : Painting) (left : ℕ) (patch : SizedUpdate) (start : Canvas) (sofar : List Paint) → left ≡ 0 → (patch.width ≡ old.width) × (patch.height ≡ old.height)
-    → AreSameUpdates old.width old.height start (Paints (map in_colours sofar) ∷ []) (patch.update ∷ [])
+    → AreSameUpdates old.width old.height start (of_paints (map in_colours sofar) ∷ []) (patch.update ∷ [])
     → Holds (after_paints start (map in_colours sofar)) new [] → GoesOn old new (state.Whole (event.Paint patch)) start (rectangles old.width old.height sofar left)
 to_end old new left patch start sofar none sized same shows =
     inr (record {

@@ -2,7 +2,7 @@
 use Rattle.std.specs.Prelude.{◌≡◌, ℕ, List, [], ◌∷◌, map, Option, Some, None}
 use Rattle.raster.specs.Update as update
 use Rattle.raster.specs.Screen.{Canvas}
-use Rattle.raster.specs.Update.{Update, Paints, after_updates}
+use Rattle.raster.specs.Update.{Update, after_updates, of_paints}
 use Rattle.painter.specs.Patch.{SizedUpdate}
 use Rattle.painter.specs.Same.{AreSameUpdates}
 use Rattle.rfb_wire.specs.ServerMessage as server
@@ -17,7 +17,7 @@ sized w h update = record { width = w; height = h; update = update }
 
 -- The event of a message, over a screen of w by h.
 abbrev pub event_of : ℕ → ℕ → ServerMessage → HostEvent
-event_of w h (FramebufferUpdate paints) = Paint (sized w h (Paints (map in_colours paints)))
+event_of w h (FramebufferUpdate paints) = Paint (sized w h (of_paints (map in_colours paints)))
 event_of w h SetColorMapEntries = Map
 event_of w h server.Bell = Bell (sized w h update.Bell)
 event_of w h (ServerCutText text) = Cut (sized w h (update.Cut text))

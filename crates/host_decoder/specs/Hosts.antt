@@ -5,8 +5,8 @@ use Rattle.raster.specs.Switch.{switch}
 use Rattle.raster.specs.Update.{Update}
 use Rattle.host_decoder.specs.Updates.{updates}
 
--- The updates in the bytes of hosts that have ended, over a screen of w by h: after those of each the screen is
--- switched to black. Bytes after the last whole message of a host give no update.
+-- The updates in the bytes of hosts that have ended, over a screen of w by h, which is as large as that of each host:
+-- after those of each the screen is switched to black. Bytes after the last whole message of a host give no update.
 abbrev pub ended_updates : ℕ → ℕ → List (List ℕ) → List Update
 ended_updates w h ended = flat_map (λ stream. updates w h stream ++ switch w h ∷ []) ended
 

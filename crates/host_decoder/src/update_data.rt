@@ -3,10 +3,9 @@
 ghost use Rattle.std.specs.Prelude.{◌≡◌, ◌<◌, ◌≤◌, List, [], ◌∷◌, ◌++◌, length, map, unwrap_or};
 ghost use Rattle.byte_reading.specs.Reading.{Reading};
 ghost use Rattle.pixel_format.specs.PixelFormat.{host_format};
-ghost use Rattle.raster.specs.Screen.{Canvas, IsWithin, opening, values_of, whole_screen};
+ghost use Rattle.raster.specs.Screen.{Canvas, IsWithin};
 ghost use Rattle.raster.specs.Size.{IsScreenSize};
 ghost use Rattle.raster.specs.Update as update;
-ghost use Rattle.painter.specs.Painter.{IsAsLarge, IsPaintedOver};
 ghost use Rattle.rfb_wire.specs.ServerMessage.{data_of};
 ghost use Rattle.host_decoder.specs.Data.{DataStands, IsWanting};
 ghost use Rattle.host_decoder.specs.Decoder.{GoesOn, Holds, Stays, Uses, rectangles, with_others};
@@ -18,7 +17,7 @@ use crate::event::HostEvent;
 use crate::part::HostPart;
 use crate::state::HostState;
 use painter::Painter;
-use raster::Rect;
+use raster::{Rect, Size};
 use rfb_wire::{DESKTOP_SIZE, Fields};
 
 /// The state where `left` rectangles are still to come: it wants the next one's header. Where none is left, it is the
@@ -62,15 +61,6 @@ pub(crate) fn read_data(
     (Some(next_rectangle(painter, left)), used)
 }
 
-/// Takes a new size of the host (RFC 6143, 7.8.2): the whole screen is painted black, and stays as large as it was.
-fn take_size(painter: &mut Painter)
-    ensures size { IsAsLarge painter.old painter.new }
-    ensures painted { (start : Canvas) (paints : List update.Paint) → IsPaintedOver start paints painter.old
-        → IsPaintedOver start (paints ++ update.Put (whole_screen painter.old.width painter.old.height) (values_of painter.old.width painter.old.height opening) ∷ []) painter.new }
-{
-    painter.blacken();
-}
-
 /// The state after a rectangle's encoding; `left` more rectangles follow. A new size has no data.
 pub(crate) fn begin_data(painter: &mut Painter, left: u16, area: Rect, encoding: u32) -> HostState
     requires size { IsScreenSize painter.old.width painter.old.height }
@@ -80,7 +70,10 @@ pub(crate) fn begin_data(painter: &mut Painter, left: u16, area: Rect, encoding:
         → GoesOn painter.old painter.new result start (with_others painter.old.width painter.old.height sofar left (data_of host_format painter.old.width painter.old.height area encoding)) }
 {
     if encoding == DESKTOP_SIZE {
-        take_size(painter);
+        painter.resize(Size {
+            width: area.w,
+            height: area.h,
+        });
         return next_rectangle(painter, left);
     }
     let (width, height) = painter.size();

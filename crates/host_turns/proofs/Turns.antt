@@ -1,11 +1,15 @@
 -- A run grows by one turn. The loop over the hosts keeps that all turns so far are a run.
-use Rattle.std.proofs.Common.{◌≡◌, ℕ, Bool, true, List, [], ◌∷◌, ◌++◌, length, Option, Result, Err, refl, ap, subst, inl, inr, ◌∙◌}
+use Rattle.std.proofs.Common.{◌≡◌, ℕ, ◌≤◌, Bool, true, List, [], ◌∷◌, ◌++◌, length, Option, Result, Err, refl, ap, subst, inl, inr, ◌∙◌}
 use Rattle.fault.specs.declared.kinds.Fault.{Fault}
+use Rattle.raster.specs.declared.size.Size.{Size}
 use Rattle.raster.specs.Update.{Update}
+use Rattle.rfb_wire.specs.Handshake.{Joined}
 use Rattle.link.specs.Links.{LinkState}
+use Rattle.link.specs.Joins.{Joins}
+use Rattle.painter.proofs.Switches.{at_size}
 use Rattle.host_turns.specs.declared.ending.Ending.{Ending}
 use Rattle.host_turns.specs.Moment.{IsBegun}
-use Rattle.host_turns.specs.Running.{Coming, HasRun, HasTurn, IsMissed, IsRead, IsSwitched, IsTurn, JoinsWithin, Missed, Read, came_over, goes_on, links_with, put_with}
+use Rattle.host_turns.specs.Running.{Coming, HasRun, HasTurn, IsMet, IsMissed, IsRead, IsSwitched, IsTurn, JoinsWithin, Missed, Read, came_over, goes_on, links_with, put_with}
 
 pub one_more : (w h : ℕ) (password : Option (List ℕ)) (comes : Coming → Type 0) (before last_end : Ending) (came : Coming) (links_old links_new : List LinkState) (old now new : List Update)
     → HasRun w h password comes before came links_old old now → goes_on before ≡ true → HasTurn w h password comes last_end links_old links_new now new → HasRun w h password comes last_end came links_new old new
@@ -39,7 +43,7 @@ stayed w h password comes answer first joined left links old now put (inl k) rea
     }
 stayed w h password comes answer first joined left links old now put (inr k) read =
     one_more w h password comes k.last (record { answer = answer; has_called = joined.has_called }) first links (links ++ left ∷ []) old k.shown put k.run k.on
-    (record { turn = Read (record { answer = answer; has_called = joined.has_called; joined = joined.link; left = left; put = put }); is = (k.joins, (now, k.switched, read)); ends = refl; handed = refl; put = refl })
+    (record { turn = Read (record { answer = answer; has_called = joined.has_called; joined = joined.link; left = left; put = put }); is = (k.met.0, k.met.1, (now, k.met.2, read)); ends = refl; handed = refl; put = refl })
 
 -- A host came that is missed. Nothing was put.
 pub missed : (w h : ℕ) (password : Option (List ℕ)) (comes : Coming → Type 0) (before last_end : Ending) (first : Coming) (has_called : Bool) (link : LinkState) (links : List LinkState) (old now : List Update)
@@ -47,8 +51,25 @@ pub missed : (w h : ℕ) (password : Option (List ℕ)) (comes : Coming → Type
 missed w h password comes before last_end first has_called link links old now run on there why =
     one_more w h password comes before last_end first links links old now now run on (record { turn = Missed has_called why.0; is = (link, there, why.2); ends = why.1; handed = refl; put = refl })
 
--- A host came and was joined, and the switch was put.
+-- The size of a host's screen.
+abbrev pub size_of : Joined → Size
+size_of host = record { width = host.w; height = host.h }
+
+-- A host was joined that fits into the room.
+pub joins_within : (w h : ℕ) (password : Option (List ℕ)) (link_old link_new : LinkState) (host : Joined) → Joins password link_old link_new host → (host.w ≤ w) × (host.h ≤ h) → JoinsWithin w h password link_old link_new
+joins_within w h password link_old link_new host joins fits = record { host = host; joins = joins; width = fits.0; height = fits.1 }
+
+-- And then the switch to it was put, on a screen of the room's size.
+pub met : (w h v k : ℕ) (password : Option (List ℕ)) (link_old link_new : LinkState) (host : Joined) (old new : List Update)
+    → Joins password link_old link_new host → (host.w ≤ w) × (host.h ≤ h) → v ≡ w → k ≡ h → IsSwitched v k host old new → IsMet w h password link_old link_new old new
+met w h v k password link_old link_new host old new joins fits wide high switched =
+    record {
+      joins = record { host = host; joins = joins; width = fits.0; height = fits.1 };
+      switched = at_size (λ n m. IsSwitched n m host old new) v k w h wide high switched;
+    }
+
+-- A host came and was joined, and the switch to it was put.
 pub begun : (w h : ℕ) (password : Option (List ℕ)) (comes : Coming → Type 0) (last : Ending) (first : Coming) (has_called : Bool) (link joined : LinkState) (links : List LinkState) (old shown now : List Update)
-    → HasRun w h password comes last first links old shown → goes_on last ≡ true → comes (came_over has_called link) → JoinsWithin w h password link joined → IsSwitched w h shown now → IsBegun w h password comes first (came_over has_called joined) links old now
-begun w h password comes last first has_called link joined links old shown now run on there joins switched =
-    inr (record { last = last; shown = shown; run = run; on = on; joins = (link, there, joins); switched = switched })
+    → HasRun w h password comes last first links old shown → goes_on last ≡ true → comes (came_over has_called link) → IsMet w h password link joined shown now → IsBegun w h password comes first (came_over has_called joined) links old now
+begun w h password comes last first has_called link joined links old shown now run on there met =
+    inr (record { last = last; shown = shown; run = run; on = on; met = (link, there, met) })

@@ -3,7 +3,7 @@ use Rattle.std.specs.Prelude.{◌≡◌, ◌⊎◌, ℕ, true, List, [], Option}
 use Rattle.raster.specs.Update.{Update}
 use Rattle.link.specs.Links.{LinkState}
 use Rattle.host_turns.specs.declared.ending.Ending.{Ending}
-use Rattle.host_turns.specs.Running.{Coming, HasRun, IsSwitched, JoinsWithin, came_over, goes_on}
+use Rattle.host_turns.specs.Running.{Coming, HasRun, IsMet, came_over, goes_on}
 
 -- The first host is to be read: no other was read before, and nothing was put.
 pub record IsFirst (came joined : Coming) (links : List LinkState) (old now : List Update) : Type 0 where
@@ -18,8 +18,7 @@ pub record IsFurther (w h : ℕ) (password : Option (List ℕ)) (comes : Coming 
   pub shown : List Update
   pub run : HasRun w h password comes last first links old shown
   pub on : goes_on last ≡ true
-  pub joins : (link : LinkState) × comes (came_over joined.has_called link) × JoinsWithin w h password link joined.link
-  pub switched : IsSwitched w h shown now
+  pub met : (link : LinkState) × comes (came_over joined.has_called link) × IsMet w h password link joined.link shown now
 
 -- A run began with a first host that came so, and with the updates old. Now a host is joined that came as it did, and
 -- its link stands so; the links are those of the hosts that were read before it.

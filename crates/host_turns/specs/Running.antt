@@ -25,11 +25,11 @@ pub record IsRead (w h : ℕ) (answer : Result (Unit {0}) Fault) (link_old link_
   pub out : IsReadOut w h answer link_old link_new old new
   pub given : link_new.given ≡ link_old.given
 
--- One update was put, which comes to the same as a switch, whatever was shown before.
-pub record IsSwitched (w h : ℕ) (old new : List Update) : Type 0 where
+-- One update was put, which comes to the same as a switch to this host, whatever was shown before.
+pub record IsSwitched (w h : ℕ) (host : Joined) (old new : List Update) : Type 0 where
   pub put : Update
   pub added : new ≡ old ++ put ∷ []
-  pub same : (start : Canvas) → AreSameUpdates w h start (switch w h ∷ []) (put ∷ [])
+  pub same : (start : Canvas) → AreSameUpdates w h start (switch host.w host.h ∷ []) (put ∷ [])
 
 -- A host was joined with this password over a link that was so before and after, and its screen fits into the room of w
 -- by h.
@@ -38,6 +38,11 @@ pub record JoinsWithin (w h : ℕ) (password : Option (List ℕ)) (link_old link
   pub joins : Joins password link_old link_new host
   pub width : host.w ≤ w
   pub height : host.h ≤ h
+
+-- A host was joined within the room, and then the switch to it was put.
+pub record IsMet (w h : ℕ) (password : Option (List ℕ)) (link_old link_new : LinkState) (old new : List Update) : Type 0 where
+  pub joins : JoinsWithin w h password link_old link_new
+  pub switched : IsSwitched w h joins.host old new
 
 -- A host was joined, and its screen is wider or higher than the room.
 pub record JoinsElsewhere (w h : ℕ) (password : Option (List ℕ)) (link_old link_new : LinkState) : Type 0 where
@@ -122,10 +127,12 @@ abbrev pub put_with : List Update → Turn → List Update
 put_with old (Read stay) = stay.put
 put_with old (Missed has_called fault) = old
 
--- A host that comes so has this turn, after the updates so far. Either it is joined within the room, then
--- the switch is put, and then it is read over a black screen; or it is missed, and nothing is put.
+-- A host that comes so has this turn, after the updates so far. Either it is joined within the room, then the switch to
+-- it is put, and then it is read over a black screen; or it is missed, and nothing is put.
 abbrev pub IsTurn : ℕ → ℕ → Option (List ℕ) → (Coming → Type 0) → List Update → Turn → Type 0
-IsTurn w h password comes old (Read stay) = ((link : LinkState) × comes (came_over stay.has_called link) × JoinsWithin w h password link stay.joined) × ((black : List Update) × IsSwitched w h old black × IsRead w h stay.answer stay.joined stay.left black stay.put)
+IsTurn w h password comes old (Read stay) =
+    (link : LinkState) × comes (came_over stay.has_called link)
+    × ((black : List Update) × IsMet w h password link stay.joined old black × IsRead w h stay.answer stay.joined stay.left black stay.put)
 IsTurn w h password comes old (Missed has_called fault) = (link : LinkState) × comes (came_over has_called link) × IsMissed w h password (length old) fault link
 
 -- A list of turns has the latest first.

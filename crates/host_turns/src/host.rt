@@ -1,13 +1,15 @@
 //! What is done with one host: it is joined, its switch is put, and it is read. Nothing here takes a handle.
 
-ghost use Rattle.std.specs.Prelude.{◌≡◌, ◌⊎◌, ◌<◌, [], ◌∷◌, ◌++◌, length, vec_capacity, vec_len, IfErr, IfOk, OnErr, OnOk};
+ghost use Rattle.std.specs.Prelude.{◌≡◌, ◌⊎◌, ◌<◌, ◌≤◌, [], ◌∷◌, ◌++◌, length, vec_capacity, vec_len, IfErr, IfOk, OnErr, OnOk};
 ghost use Rattle.painter.specs.Same.{AreSameUpdates};
 ghost use Rattle.raster.specs.Screen.{Canvas, opening};
 ghost use Rattle.raster.specs.Size.{IsScreenSize};
-ghost use Rattle.raster.specs.Switch.{switch};
+ghost use Rattle.raster.specs.Switch.{switch, switch_to};
+ghost use Rattle.rfb_wire.specs.Handshake.{Joined};
+ghost use Rattle.link.specs.Joins.{Joins};
 ghost use Rattle.host_decoder.specs.Decoder.{Decodes, IsFor, host_message};
 ghost use Rattle.fault.specs.declared.kinds.Fault.TheVariants.{Memory};
-ghost use Rattle.host_turns.specs.Running.{IsMissed, IsReadOut, IsSwitched, IsUnfit, IsWant, JoinsWithin};
+ghost use Rattle.host_turns.specs.Running.{IsMissed, IsReadOut, IsMet, IsSwitched, IsUnfit, IsWant};
 
 use crate::supply::Hosts;
 use fault::Fault;
@@ -15,6 +17,7 @@ use host_decoder::HostScreen;
 use host_reader::{ReadsOn, read_host};
 use link::{JoinsOn, Link, join_by};
 use painter::Patch;
+use raster::Size;
 use reflect_core::Puts;
 use rfb_wire::Joined;
 use std::alloc::Global;
@@ -61,7 +64,8 @@ fn join_within<L: Link, F: JoinsOn<L>>(
     run_screen: &RunScreen,
     link: &mut L,
 ) -> Result<Joined, Fault>
-    ensures ok { OnOk result (JoinsWithin run_screen.now.width run_screen.now.height run_screen.now.password (L.state link.old) (L.state link.new)) }
+    ensures joins { IfOk result (λ joined. Joins run_screen.now.password (L.state link.old) (L.state link.new) joined) }
+    ensures fits { IfOk result (λ joined. (joined.w ≤ run_screen.now.width) × (joined.h ≤ run_screen.now.height)) }
     ensures err { IfErr result (λ fault. IsUnfit run_screen.now.width run_screen.now.height run_screen.now.password fault (L.state link.old) (L.state link.new)) }
 {
     let joined = join_by(by, run_screen.password, link)?;
@@ -71,12 +75,12 @@ fn join_within<L: Link, F: JoinsOn<L>>(
     Ok(joined)
 }
 
-/// Puts the patch of a switch: the screen turns black.
-fn put_switch<P: Puts>(patch: Patch, publisher: &mut P) -> Result<(), Fault>
+/// Puts the patch of a switch to a host of this size: the screen turns black.
+fn put_switch<P: Puts>(patch: Patch, size: Size, publisher: &mut P) -> Result<(), Fault>
     requires publisher { (P.width publisher.old ≡ patch.width) × (P.height publisher.old ≡ patch.height) }
-    requires same { (start : Canvas) → AreSameUpdates patch.width patch.height start (switch patch.width patch.height ∷ []) (patch.update ∷ []) }
+    requires same { (start : Canvas) → AreSameUpdates patch.width patch.height start (switch_to size ∷ []) (patch.update ∷ []) }
     ensures publisher { (P.width publisher.new ≡ P.width publisher.old) × (P.height publisher.new ≡ P.height publisher.old) }
-    ensures ok { OnOk result (IsSwitched patch.width patch.height (P.updates publisher.old) (P.updates publisher.new)) }
+    ensures ok { OnOk result ((host : Joined) → size ≡ record { width = host.w; height = host.h } → IsSwitched patch.width patch.height host (P.updates publisher.old) (P.updates publisher.new)) }
     ensures err { IfErr result (λ fault. IsWant (length (P.updates publisher.old)) fault × (P.updates publisher.new ≡ P.updates publisher.old)) }
 {
     match publisher.put(patch) {
@@ -85,22 +89,28 @@ fn put_switch<P: Puts>(patch: Patch, publisher: &mut P) -> Result<(), Fault>
     }
 }
 
-/// Takes all the memory that a further host needs: room for its link, what reads the host, and the patch of its switch.
-fn make_ready<L>(run_screen: &RunScreen, links: &mut Vec<L>) -> Result<(HostScreen, Patch), Fault>
+/// Takes all the memory that a further host of this size needs: room for its link, what reads the host, and the patch
+/// of its switch.
+fn make_ready<L>(
+    run_screen: &RunScreen,
+    size: Size,
+    links: &mut Vec<L>,
+) -> Result<(HostScreen, Patch), Fault>
+    requires { (size.width ≤ run_screen.now.width) × (size.height ≤ run_screen.now.height) }
     ensures links { links.new.items ≡ links.old.items }
     ensures room { OnOk result (vec_len links.new < vec_capacity links.new) }
     ensures size { IfOk result (λ made. (made.0.decoder.width ≡ run_screen.now.width) × (made.0.decoder.height ≡ run_screen.now.height)) }
     ensures begins { IfOk result (λ made. Decodes made.0.decoder made.0.painter opening (host_message run_screen.now.width run_screen.now.height)) }
     ensures pair { IfOk result (λ made. IsFor made.0.decoder made.0.painter) }
     ensures sized { IfOk result (λ made. (made.1.width ≡ run_screen.now.width) × (made.1.height ≡ run_screen.now.height)) }
-    ensures same { IfOk result (λ made. (start : Canvas) → AreSameUpdates run_screen.now.width run_screen.now.height start (switch run_screen.now.width run_screen.now.height ∷ []) (made.1.update ∷ [])) }
+    ensures same { IfOk result (λ made. (start : Canvas) → AreSameUpdates run_screen.now.width run_screen.now.height start (switch_to size ∷ []) (made.1.update ∷ [])) }
     ensures err { IfErr result (λ fault. fault ≡ Memory) }
 {
     links.reserve(1)?;
-    HostScreen::switched(run_screen.alloc, run_screen.width, run_screen.height)
+    HostScreen::switched(run_screen.alloc, run_screen.width, run_screen.height, size)
 }
 
-/// Joins a host within the room, and then puts the switch. The link has room among those that were read.
+/// Joins a host within the room, and then puts the switch to it. The link has room among those that were read.
 pub(crate) fn meet<L: Link, H: Hosts<L>, P: Puts, F: JoinsOn<L>>(
     by: &F,
     run_screen: &RunScreen,
@@ -117,14 +127,17 @@ pub(crate) fn meet<L: Link, H: Hosts<L>, P: Puts, F: JoinsOn<L>>(
     ensures size { IfOk result (λ screen. (screen.decoder.width ≡ run_screen.now.width) × (screen.decoder.height ≡ run_screen.now.height)) }
     ensures begins { IfOk result (λ screen. Decodes screen.decoder screen.painter opening (host_message run_screen.now.width run_screen.now.height)) }
     ensures pair { IfOk result (λ screen. IsFor screen.decoder screen.painter) }
-    ensures joins { OnOk result (JoinsWithin run_screen.now.width run_screen.now.height run_screen.now.password (L.state link.old) (L.state link.new)) }
-    ensures switched { OnOk result (IsSwitched run_screen.now.width run_screen.now.height (P.updates publisher.old) (P.updates publisher.new)) }
+    ensures met { OnOk result (IsMet run_screen.now.width run_screen.now.height run_screen.now.password (L.state link.old) (L.state link.new) (P.updates publisher.old) (P.updates publisher.new)) }
     ensures err { IfErr result (λ fault. IsMissed run_screen.now.width run_screen.now.height run_screen.now.password (length (P.updates publisher.old)) fault (L.state link.old)) }
     ensures unput { OnErr result (P.updates publisher.new ≡ P.updates publisher.old) }
 {
     let joined = join_within(by, run_screen, link)?;
+    let size = Size {
+        width: joined.w,
+        height: joined.h,
+    };
     hosts.joined(link, &joined);
-    let (screen, patch) = make_ready(run_screen, links)?;
-    put_switch(patch, publisher)?;
+    let (screen, patch) = make_ready(run_screen, size, links)?;
+    put_switch(patch, size, publisher)?;
     Ok(screen)
 }

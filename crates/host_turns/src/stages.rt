@@ -7,7 +7,7 @@ ghost use Rattle.raster.specs.Screen.{opening};
 ghost use Rattle.host_decoder.specs.Decoder.{Decodes, IsFor, host_message};
 ghost use Rattle.link.specs.Links.{LinkState};
 ghost use Rattle.host_turns.specs.Moment.{IsBegun};
-ghost use Rattle.host_turns.specs.Running.{HasRun, IsComing, IsMissed, IsOver, IsRead, IsSwitched, JoinsWithin, came_over, goes_on};
+ghost use Rattle.host_turns.specs.Running.{HasRun, IsComing, IsMet, IsMissed, IsOver, IsRead, came_over, goes_on};
 
 use crate::ending::{Ending, goes_on};
 use crate::handover::{Handover, SealedEnd};
@@ -303,15 +303,14 @@ impl<'a, L: Link, H: Hosts<L>, P: Puts, W: Alarm + Drop, T: Drop> MetRun<'a, L, 
         ensures { ∥ (H.came self.now.has_called self.now.reader × HasRun self.now.run_screen.now.width self.now.run_screen.now.height self.now.run_screen.now.password (IsComing L.state H.came) self.now.last (came_over self.now.first.now.has_called.value (L.state self.now.first.now.reader.value)) (map L.state self.now.links.items) (P.updates self.now.first.now.publisher.value) (P.updates self.now.publisher)) ∥₁ }
     {}
 
-    /// Joins the host within the room, and then puts the switch. It answers the run whose host is joined, with the
+    /// Joins the host within the room, and then puts the switch to it. It answers the run whose host is joined, with the
     /// sealed end over which it is told; or the run without the host, where it is missed. What joins on is lent the
     /// host's join, and nothing else.
     pub fn join<F: JoinsOn<L>>(
         self,
         by: &F,
     ) -> Result<(JoinedRun<'a, L, H, P, W, T>, SealedEnd<L>), IdleRun<'a, L, H, P, W, T>>
-        ensures joins { IfOk result (λ joined. JoinsWithin self.entry.run_screen.now.width self.entry.run_screen.now.height self.entry.run_screen.now.password (L.state self.entry.reader) (L.state joined.0.reader)) }
-        ensures switched { IfOk result (λ joined. IsSwitched self.entry.run_screen.now.width self.entry.run_screen.now.height (P.updates self.entry.publisher) (P.updates joined.0.publisher)) }
+        ensures met { IfOk result (λ joined. IsMet self.entry.run_screen.now.width self.entry.run_screen.now.height self.entry.run_screen.now.password (L.state self.entry.reader) (L.state joined.0.reader) (P.updates self.entry.publisher) (P.updates joined.0.publisher)) }
         ensures begins { IfOk result (λ joined. Decodes joined.0.screen.decoder joined.0.screen.painter opening (host_message self.entry.run_screen.now.width self.entry.run_screen.now.height)) }
         ensures called { IfOk result (λ joined. joined.0.has_called ≡ self.entry.has_called) }
         ensures joined { IfOk result (λ joined. (joined.0.links.items ≡ self.entry.links.items) × (joined.0.first ≡ self.entry.first) × (joined.0.run_screen ≡ self.entry.run_screen)) }

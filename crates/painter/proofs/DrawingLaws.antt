@@ -1,11 +1,11 @@
 -- A screen that is drawn on in one rectangle. A codec draws in place, and at the end it is one paint more.
-use Rattle.std.proofs.Common.{◌≡◌, ℕ, ◌+◌, ◌-◌, ◌<◌, Bool, true, false, List, [], ◌∷◌, ◌++◌, refl, sym, ap, ◌∙◌, arith}
+use Rattle.std.proofs.Common.{◌≡◌, ℕ, ◌+◌, ◌-◌, ◌<◌, Bool, true, false, List, [], ◌∷◌, ◌++◌, None, refl, sym, ap, ◌∙◌, arith}
 use Rattle.std.specs.Prelude.{◌==◌, if◌then◌else◌, slice_index}
 use Rattle.raster.specs.declared.rect.Rect.{Rect}
 use Rattle.raster.specs.Screen.{Canvas, LooksLike, holds, lay, meets, part_of, tile_count, tile_rect, value_at}
 use Rattle.raster.specs.Update.{Paint, Paints, Put, after_paints}
 use Rattle.raster.proofs.Places.{Has, has_holds}
-use Rattle.raster.proofs.Screens.{after_paints-more}
+use Rattle.raster.proofs.Screens.{after_paints-more, size_after_paints-more}
 use Rattle.tiles.specs.Touched.{touches}
 use Rattle.painter.specs.Drawing.{IsPaintedAround, drawn}
 use Rattle.painter.specs.Painter.{Painting, IsAsLarge, IsPaintedOver, is_touched, worked}
@@ -23,13 +23,14 @@ inside_of area screen over x y looks has =
     ∙ looks (x - area.x) (y - area.y) (omega (arith, has.left, has.right)) (omega (arith, has.top, has.bottom)))
 
 -- What was painted around a rectangle, and what that shows, with its tiles marked, are one paint more.
-pub painted_around : (old new : Painting) (colours : List ℕ) → IsAsLarge old new → new.colours ≡ old.colours
+pub painted_around : (old new : Painting) (colours : List ℕ) → IsAsLarge old new → new.colours ≡ old.colours → new.told ≡ old.told
     → ((t : ℕ) → t < tile_count old.width old.height → slice_index new.marks t ≡ (if meets old.area (tile_rect old.width old.height t) then 1 else slice_index old.marks t))
     → (start : Canvas) (ps : List Paint) → IsPaintedAround start ps old.area old → LooksLike old.area.w old.area.h (drawn old) (value_at old.area.w colours) → IsPaintedOver start (ps ++ Put old.area colours ∷ []) new
-painted_around old new colours large same marks start ps around shows =
+painted_around old new colours large same told marks start ps around shows =
     record {
       shows = by_size (λ w h. LooksLike w h (value_at w new.colours) (after_paints start (ps ++ Put old.area colours ∷ []))) (rw same looks);
-      touched = by_size (λ w h. (t : ℕ) → t < tile_count w h → is_touched new t ≡ touches (tile_rect w h t) (Paints (ps ++ Put old.area colours ∷ []))) tiles;
+      touched = by_size (λ w h. (t : ℕ) → t < tile_count w h → is_touched new t ≡ touches (tile_rect w h t) (Paints None (ps ++ Put old.area colours ∷ []))) tiles;
+      told = told ∙ (around.told ∙ sym (size_after_paints-more None ps (Put old.area colours)));
     }
   where
     by_size : (P : ℕ → ℕ → Type 0) → P old.width old.height → P new.width new.height
@@ -42,7 +43,7 @@ painted_around old new colours large same marks start ps around shows =
         (λ e. around.shows x y lx ly e)
         ∙ ap (λ (c : Canvas). c x y) (sym (after_paints-more start ps (Put old.area colours)))
 
-    tiles : (t : ℕ) → t < tile_count old.width old.height → is_touched new t ≡ touches (tile_rect old.width old.height t) (Paints (ps ++ Put old.area colours ∷ []))
+    tiles : (t : ℕ) → t < tile_count old.width old.height → is_touched new t ≡ touches (tile_rect old.width old.height t) (Paints None (ps ++ Put old.area colours ∷ []))
     tiles t lt =
         let r : Rect = tile_rect old.width old.height t in
-        ap (λ k. k == 1) (marks t lt) ∙ (mark_is (meets old.area r) (touches r (Paints ps)) (slice_index old.marks t) (around.touched t lt) ∙ sym (touches_more r ps (Put old.area colours)))
+        ap (λ k. k == 1) (marks t lt) ∙ (mark_is (meets old.area r) (touches r (Paints None ps)) (slice_index old.marks t) (around.touched t lt) ∙ sym (touches_more r ps (Put old.area colours)))

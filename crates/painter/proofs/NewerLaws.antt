@@ -219,7 +219,7 @@ grid_caught_up n m us u was marked newer new wide high are caught =
 
 texts_after : (last : Option NumberedText) (next m : ℕ) (us : List Update) → m < next → (last_text_from last next us ≡ last) ⊎ (is_later (last_text_from last next us) m ≡ true)
 texts_after last next m [] lt = inl refl
-texts_after last next m (Paints ps ∷ us) lt = texts_after last (next + 1) m us (omega arith)
+texts_after last next m (Paints size ps ∷ us) lt = texts_after last (next + 1) m us (omega arith)
 texts_after last next m (Bell ∷ us) lt = texts_after last (next + 1) m us (omega arith)
 texts_after last next m (Cut text ∷ us) lt =
     let there : Option NumberedText = Some (record { text = text; number = next }) in
@@ -231,7 +231,7 @@ texts_after last next m (Cut text ∷ us) lt =
 text_behind : (last : Option NumberedText) (next k m : ℕ) (us : List Update) → next + k ≡ suc m → (last_text_from last next us ≡ last_text_from last next (take k us)) ⊎ (is_later (last_text_from last next us) m ≡ true)
 text_behind last next zero m us e = texts_after last next m us (omega arith)
 text_behind last next (suc k) m [] e = inl refl
-text_behind last next (suc k) m (Paints ps ∷ us) e = text_behind last (next + 1) k m us (omega arith)
+text_behind last next (suc k) m (Paints size ps ∷ us) e = text_behind last (next + 1) k m us (omega arith)
 text_behind last next (suc k) m (Bell ∷ us) e = text_behind last (next + 1) k m us (omega arith)
 text_behind last next (suc k) m (Cut text ∷ us) e = text_behind (Some (record { text = text; number = next })) (next + 1) k m us (omega arith)
 

@@ -1,5 +1,5 @@
 -- A screen that is painted on, and its marks. A painter owes both for each paint.
-use Rattle.std.proofs.Common.{◌≡◌, ℕ, ◌+◌, ◌*◌, ◌-◌, ◌<◌, ◌≤◌, Bool, true, false, List, [], ◌∷◌, ◌++◌, length, length-append, get_or, inl, inr, refl, ap, sym, subst, take, drop, ◌∙◌, arith}
+use Rattle.std.proofs.Common.{◌≡◌, ℕ, ◌+◌, ◌*◌, ◌-◌, ◌<◌, ◌≤◌, Bool, true, false, List, [], ◌∷◌, ◌++◌, length, length-append, get_or, inl, inr, refl, ap, sym, subst, take, drop, Option, None, ◌∙◌, arith}
 use Rattle.std.specs.Prelude.{◌||◌, ◌==◌, if◌then◌else◌, slice_index}
 use Rattle.std.proofs.lemmas.Bool.{cases_lt}
 use Rattle.std.proofs.lemmas.List.{get_or_append_left, get_or-append_right, get_or-drop, get_or-take}
@@ -7,11 +7,12 @@ use Rattle.std.proofs.lemmas.List.Folds.{list_any-append}
 use Rattle.raster.specs.declared.rect.Rect.{Rect}
 use Rattle.raster.specs.Painted.{Fits}
 use Rattle.raster.specs.Screen.{Canvas, LooksLike, meets, tile_count, tile_rect, value_at, values_of, whole_screen}
-use Rattle.raster.specs.Update.{Paint, Paints, after_paint, after_paints, painted}
+use Rattle.raster.specs.declared.size.Size.{Size}
+use Rattle.raster.specs.Update.{Paint, Paints, after_paint, after_paints, painted, size_after}
 use Rattle.raster.proofs.Places.{Has, length_values, meets_at, values_at}
 use Rattle.raster.proofs.Rows.{row_before}
 use Rattle.raster.proofs.Values.{values_back}
-use Rattle.raster.proofs.Screens.{looks_after, after_paints-more}
+use Rattle.raster.proofs.Screens.{looks_after, after_paints-more, size_after_paints-more}
 use Rattle.tiles.proofs.Ranges.{IsTile, tile_is}
 use Rattle.tiles.specs.Grid.{IsTouched, Stamps}
 use Rattle.tiles.specs.Touched.{touches}
@@ -34,17 +35,18 @@ mark_is true false m e = refl
 mark_is false true m e = e
 mark_is false false m e = e
 
-pub touches_more : (r : Rect) (ps : List Paint) (p : Paint) → touches r (Paints (ps ++ p ∷ [])) ≡ (touches r (Paints ps) || (meets (painted p) r || false))
+pub touches_more : (r : Rect) (ps : List Paint) (p : Paint) → touches r (Paints None (ps ++ p ∷ [])) ≡ (touches r (Paints None ps) || (meets (painted p) r || false))
 touches_more r ps p = list_any-append (λ q. meets (painted q) r) ps (p ∷ [])
 
 -- Where one more paint is painted, and the tiles that it meets are marked, it is painted over the same start.
-pub painted_more : (old new : Painting) (p : Paint) → Fits old.width old.height p → IsAsLarge old new → LooksLike old.width old.height (worked new) (after_paint (worked old) p)
+pub painted_more : (old new : Painting) (p : Paint) → Fits old.width old.height p → IsAsLarge old new → new.told ≡ size_after old.told p → LooksLike old.width old.height (worked new) (after_paint (worked old) p)
     → ((t : ℕ) → t < tile_count old.width old.height → slice_index new.marks t ≡ (if meets (painted p) (tile_rect old.width old.height t) then 1 else slice_index old.marks t))
     → (start : Canvas) (ps : List Paint) → IsPaintedOver start ps old → IsPaintedOver start (ps ++ p ∷ []) new
-painted_more old new p fits large shows marks start ps stands =
+painted_more old new p fits large told shows marks start ps stands =
     record {
       shows = by_size (λ w h. LooksLike w h (worked new) (after_paints start (ps ++ p ∷ []))) looks;
-      touched = by_size (λ w h. (t : ℕ) → t < tile_count w h → is_touched new t ≡ touches (tile_rect w h t) (Paints (ps ++ p ∷ []))) tiles;
+      touched = by_size (λ w h. (t : ℕ) → t < tile_count w h → is_touched new t ≡ touches (tile_rect w h t) (Paints None (ps ++ p ∷ []))) tiles;
+      told = told ∙ (ap (λ (size : Option Size). size_after size p) stands.told ∙ sym (size_after_paints-more None ps p));
     }
   where
     by_size : (P : ℕ → ℕ → Type 0) → P old.width old.height → P new.width new.height
@@ -56,10 +58,10 @@ painted_more old new p fits large shows marks start ps stands =
         ∙ (looks_after old.width old.height (worked old) (after_paints start ps) p fits stands.shows x y lx ly
         ∙ ap (λ (c : Canvas). c x y) (sym (after_paints-more start ps p)))
 
-    tiles : (t : ℕ) → t < tile_count old.width old.height → is_touched new t ≡ touches (tile_rect old.width old.height t) (Paints (ps ++ p ∷ []))
+    tiles : (t : ℕ) → t < tile_count old.width old.height → is_touched new t ≡ touches (tile_rect old.width old.height t) (Paints None (ps ++ p ∷ []))
     tiles t lt =
         let r : Rect = tile_rect old.width old.height t in
-        ap (λ k. k == 1) (marks t lt) ∙ (mark_is (meets (painted p) r) (touches r (Paints ps)) (slice_index old.marks t) (stands.touched t lt) ∙ sym (touches_more r ps p))
+        ap (λ k. k == 1) (marks t lt) ∙ (mark_is (meets (painted p) r) (touches r (Paints None ps)) (slice_index old.marks t) (stands.touched t lt) ∙ sym (touches_more r ps p))
 
 -- ---- where an update begins
 
@@ -76,13 +78,14 @@ whole_meets w h t lw lt =
     (record { left = omega arith; right = omega (arith, is.column); top = omega arith; bottom = omega (arith, is.row) }) (tile_has w h t lw lt)
 
 -- Where no tile is marked, no paint has come since what it looks like.
-pub begun : (old new : Painting) → 0 < old.width → IsAsLarge old new → new.colours ≡ old.colours
+pub begun : (old new : Painting) → 0 < old.width → IsAsLarge old new → new.colours ≡ old.colours → new.told ≡ None
     → ((t : ℕ) → t < tile_count old.width old.height → slice_index new.marks t ≡ (if meets (whole_screen old.width old.height) (tile_rect old.width old.height t) then 0 else slice_index old.marks t))
     → (start : Canvas) → LooksLike old.width old.height (worked old) start → IsPaintedOver start [] new
-begun old new lw large same marks start looks =
+begun old new lw large same told marks start looks =
     record {
       shows = by_size (λ w h. LooksLike w h (value_at w new.colours) start) (rw same looks);
       touched = by_size (λ w h. (t : ℕ) → t < tile_count w h → is_touched new t ≡ false) tiles;
+      told = told;
     }
   where
     by_size : (P : ℕ → ℕ → Type 0) → P old.width old.height → P new.width new.height

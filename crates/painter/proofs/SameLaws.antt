@@ -1,11 +1,12 @@
 -- Lists of updates that come to the same: how they grow, and what follows. Updates of tiles are put in place of the
 -- host's own, and nobody may see it.
-use Rattle.std.proofs.Common.{◌≡◌, ℕ, zero, suc, ◌+◌, ◌<◌, List, [], ◌∷◌, ◌++◌, length, map, take, Option, Some, refl, ap, sym, ◌∙◌, arith}
+use Rattle.std.proofs.Common.{◌≡◌, ℕ, zero, suc, ◌+◌, ◌<◌, List, [], ◌∷◌, ◌++◌, length, map, take, Option, Some, None, refl, ap, sym, ◌∙◌, arith}
 use Rattle.std.specs.Prelude.{if◌then◌else◌}
 use Rattle.std.proofs.lemmas.List.{take_all}
 use Rattle.raster.specs.declared.rect.Rect.{Rect}
 use Rattle.raster.specs.Screen.{Canvas, LooksLike, tile_count, tile_rect}
-use Rattle.raster.specs.Update.{Update, Paints, Bell, Cut, NumberedText, after_paints, after_updates, bells, last_text_from, paints_of}
+use Rattle.raster.specs.declared.size.Size.{Size}
+use Rattle.raster.specs.Update.{Update, Paints, Bell, Cut, NumberedText, after_paints, after_updates, bells, last_text_from, paints_of, size_after_update, size_after_updates}
 use Rattle.tiles.specs.Touched.{bell_or_text, last_touch_from, touches}
 use Rattle.painter.specs.Same.{AreSameFrom, AreSameUpdates}
 
@@ -99,13 +100,17 @@ same_last_touch r last next (u ∷ us) (v ∷ vs) e =
     ∙ same_last_touch r (if touches r v then next else last) (next + 1) us vs (let f = e in cc)
 
 bells_by : (u v : Update) (us vs : List Update) → bell_or_text u ≡ bell_or_text v → bells us ≡ bells vs → bells (u ∷ us) ≡ bells (v ∷ vs)
-bells_by (Paints ps) (Paints qs) us vs e f = f
-bells_by (Paints ps) Bell us vs e f = absurd cc
-bells_by (Paints ps) (Cut t) us vs e f = absurd cc
-bells_by Bell (Paints qs) us vs e f = absurd cc
+bells_by (Paints size ps) (Paints other qs) us vs e f = f
+bells_by (Paints None ps) Bell us vs e f = absurd cc
+bells_by (Paints (Some size) ps) Bell us vs e f = absurd cc
+bells_by (Paints None ps) (Cut t) us vs e f = absurd cc
+bells_by (Paints (Some size) ps) (Cut t) us vs e f = absurd cc
+bells_by Bell (Paints None qs) us vs e f = absurd cc
+bells_by Bell (Paints (Some size) qs) us vs e f = absurd cc
 bells_by Bell Bell us vs e f = ap (λ n. 1 + n) f
 bells_by Bell (Cut t) us vs e f = absurd cc
-bells_by (Cut t) (Paints qs) us vs e f = absurd cc
+bells_by (Cut t) (Paints None qs) us vs e f = absurd cc
+bells_by (Cut t) (Paints (Some size) qs) us vs e f = absurd cc
 bells_by (Cut t) Bell us vs e f = absurd cc
 bells_by (Cut t) (Cut q) us vs e f = f
 
@@ -117,13 +122,17 @@ same_bells (u ∷ us) (v ∷ vs) e = bells_by u v us vs (first_kind u v us vs e)
 
 text_by : (u v : Update) (last : Option NumberedText) (n : ℕ) (us vs : List Update) → bell_or_text u ≡ bell_or_text v
     → ((o : Option NumberedText) → last_text_from o (n + 1) us ≡ last_text_from o (n + 1) vs) → last_text_from last n (u ∷ us) ≡ last_text_from last n (v ∷ vs)
-text_by (Paints ps) (Paints qs) last n us vs e f = f last
-text_by (Paints ps) Bell last n us vs e f = absurd cc
-text_by (Paints ps) (Cut t) last n us vs e f = absurd cc
-text_by Bell (Paints qs) last n us vs e f = absurd cc
+text_by (Paints size ps) (Paints other qs) last n us vs e f = f last
+text_by (Paints None ps) Bell last n us vs e f = absurd cc
+text_by (Paints (Some size) ps) Bell last n us vs e f = absurd cc
+text_by (Paints None ps) (Cut t) last n us vs e f = absurd cc
+text_by (Paints (Some size) ps) (Cut t) last n us vs e f = absurd cc
+text_by Bell (Paints None qs) last n us vs e f = absurd cc
+text_by Bell (Paints (Some size) qs) last n us vs e f = absurd cc
 text_by Bell Bell last n us vs e f = f last
 text_by Bell (Cut t) last n us vs e f = absurd cc
-text_by (Cut t) (Paints qs) last n us vs e f = absurd cc
+text_by (Cut t) (Paints None qs) last n us vs e f = absurd cc
+text_by (Cut t) (Paints (Some size) qs) last n us vs e f = absurd cc
 text_by (Cut t) Bell last n us vs e f = absurd cc
 text_by (Cut t) (Cut q) last n us vs e f =
     let same : t ≡ q = cc in
@@ -134,3 +143,34 @@ same_texts last n [] [] e = refl
 same_texts last n [] (v ∷ vs) e = absurd cc
 same_texts last n (u ∷ us) [] e = absurd cc
 same_texts last n (u ∷ us) (v ∷ vs) e = text_by u v last n us vs (first_kind u v us vs e) (λ o. same_texts o (n + 1) us vs (let f = e in cc))
+
+same_size : (a b : Size) → a.width ≡ b.width → a.height ≡ b.height → a ≡ b
+same_size a b wide high = λ i. record { width = wide i; height = high i }
+
+size_by : (u v : Update) (last : Option Size) → bell_or_text u ≡ bell_or_text v → size_after_update last u ≡ size_after_update last v
+size_by (Paints None ps) (Paints None qs) last e = refl
+size_by (Paints None ps) (Paints (Some b) qs) last e = absurd cc
+size_by (Paints (Some a) ps) (Paints None qs) last e = absurd cc
+size_by (Paints (Some a) ps) (Paints (Some b) qs) last e =
+    let wide : a.width ≡ b.width = cc in
+    let high : a.height ≡ b.height = cc in
+    ap (λ (size : Size). Some size) (same_size a b wide high)
+size_by (Paints None ps) Bell last e = absurd cc
+size_by (Paints (Some a) ps) Bell last e = absurd cc
+size_by (Paints None ps) (Cut t) last e = absurd cc
+size_by (Paints (Some a) ps) (Cut t) last e = absurd cc
+size_by Bell (Paints None qs) last e = absurd cc
+size_by Bell (Paints (Some b) qs) last e = absurd cc
+size_by Bell Bell last e = refl
+size_by Bell (Cut t) last e = absurd cc
+size_by (Cut t) (Paints None qs) last e = absurd cc
+size_by (Cut t) (Paints (Some b) qs) last e = absurd cc
+size_by (Cut t) Bell last e = absurd cc
+size_by (Cut t) (Cut q) last e = refl
+
+pub same_sizes : (last : Option Size) (us vs : List Update) → map bell_or_text us ≡ map bell_or_text vs → size_after_updates last us ≡ size_after_updates last vs
+same_sizes last [] [] e = refl
+same_sizes last [] (v ∷ vs) e = absurd cc
+same_sizes last (u ∷ us) [] e = absurd cc
+same_sizes last (u ∷ us) (v ∷ vs) e =
+    same_sizes (size_after_update last u) us vs (let f = e in cc) ∙ ap (λ (size : Option Size). size_after_updates size vs) (size_by u v last (first_kind u v us vs e))

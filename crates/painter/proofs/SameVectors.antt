@@ -1,6 +1,6 @@
 -- Updates that come to the same, and others, on a screen of 2 by 1. The first are the same by the definition, the
 -- others aren't.
-use Rattle.std.proofs.Common.{◌≡◌, ℕ, zero, suc, ◌<◌, true, false, [], ◌∷◌, Some, refl, arith}
+use Rattle.std.proofs.Common.{◌≡◌, ℕ, zero, suc, ◌<◌, true, false, [], ◌∷◌, Some, None, refl, arith}
 use Rattle.raster.specs.declared.rect.Rect.{Rect}
 use Rattle.raster.specs.Screen.{Canvas, LooksLike, opening, tile_rect}
 use Rattle.raster.specs.Update.{Update, Paints, Put, Bell, Cut}
@@ -26,10 +26,10 @@ on_one_tile P first zero lt = first
 on_one_tile P first (suc t) lt = absurd (omega arith)
 
 abbrev at_once : Update
-at_once = Paints (Put (rect 0 0 2 1) (1 ∷ 2 ∷ []) ∷ [])
+at_once = Paints None (Put (rect 0 0 2 1) (1 ∷ 2 ∷ []) ∷ [])
 
 abbrev one_by_one : Update
-one_by_one = Paints (Put (rect 1 0 1 1) (2 ∷ []) ∷ Put (rect 0 0 1 1) (1 ∷ []) ∷ [])
+one_by_one = Paints None (Put (rect 1 0 1 1) (2 ∷ []) ∷ Put (rect 0 0 1 1) (1 ∷ []) ∷ [])
 
 -- Two pixels put at once, or one after the other: the screen and the touched tiles are the same.
 pub at_once_or_one_by_one : AreSame at_once one_by_one
@@ -39,10 +39,10 @@ at_once_or_one_by_one =
 
 -- Another colour isn't the same; nor is black on black where nothing is painted, which touches no tile; nor a Bell and
 -- an empty text.
-pub other_colour_is_another : AreSame (Paints (Put (rect 0 0 1 1) (1 ∷ []) ∷ [])) (Paints (Put (rect 0 0 1 1) (2 ∷ []) ∷ [])) → ⊥
+pub other_colour_is_another : AreSame (Paints None (Put (rect 0 0 1 1) (1 ∷ []) ∷ [])) (Paints None (Put (rect 0 0 1 1) (2 ∷ []) ∷ [])) → ⊥
 other_colour_is_another same = let e : 1 ≡ 2 = same.shows 1 0 0 (omega arith) (omega arith) in omega (arith, e)
 
-pub black_on_black_is_another : AreSame (Paints (Put (rect 0 0 1 1) (0 ∷ []) ∷ [])) (Paints []) → ⊥
+pub black_on_black_is_another : AreSame (Paints None (Put (rect 0 0 1 1) (0 ∷ []) ∷ [])) (Paints None []) → ⊥
 black_on_black_is_another same = let e : true ∷ [] ≡ false ∷ [] = same.touched 0 (omega arith) in cc
 
 pub bell_is_no_text : AreSame Bell (Cut []) → ⊥

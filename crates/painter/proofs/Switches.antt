@@ -1,88 +1,94 @@
 -- A black screen of which all tiles are touched brings a switch, over whatever was shown before.
-use Rattle.std.proofs.Common.{◌≡◌, ℕ, ◌+◌, ◌-◌, ◌<◌, true, List, [], ◌∷◌, ◌++◌, sym, ap, subst, ◌∙◌, arith}
+use Rattle.std.proofs.Common.{◌≡◌, ℕ, ◌+◌, ◌<◌, ◌≤◌, true, Some, List, [], ◌∷◌, ◌++◌, sym, ap, subst, ◌∙◌, arith}
 use Rattle.std.specs.Prelude.{if◌then◌else◌, slice_index}
 use Rattle.raster.specs.declared.rect.Rect.{Rect}
-use Rattle.raster.specs.Screen.{Canvas, IsWithin, LooksLike, fill, holds, meets, opening, tile_count, tile_rect, value_at, values_of, whole_screen}
-use Rattle.raster.specs.Update.{Paint, Paints, Put, Update, after_paint, after_paints, paints_of}
-use Rattle.raster.specs.Switch.{switch}
-use Rattle.raster.proofs.Places.{holds_has, length_values, values_at}
+use Rattle.raster.specs.Screen.{Canvas, IsWithin, LooksLike, fill, holds, meets, opening, tile_count, tile_rect, whole_screen}
+use Rattle.raster.specs.declared.size.Size.{Size}
+use Rattle.raster.specs.Size.{IsScreenSize}
+use Rattle.raster.specs.Update.{Paint, Paints, Resized, Update, after_paint, after_paints, everything, paints_of, size_told}
+use Rattle.raster.specs.Switch.{switch_to}
+use Rattle.raster.proofs.Places.{Has, holds_has, meets_at}
 use Rattle.painter.specs.Same.{AreSameUpdates}
-use Rattle.painter.specs.Drawing.{IsPaintedAround, drawn}
 use Rattle.painter.specs.Painter.{Painting, IsAsLarge, IsPaintedOver, worked}
-use Rattle.painter.proofs.PaintingLaws.{painted_more}
-
-in_whole : (w h x y : ℕ) → x < w → y < h → holds (whole_screen w h) x y ≡ true
-in_whole w h x y lx ly = holds_has (whole_screen w h) x y (record { left = omega arith; right = omega (arith, lx); top = omega arith; bottom = omega (arith, ly) })
-
--- Whatever a switch is laid over, it leaves a black screen.
-is_black : (w h : ℕ) (start : Canvas) → LooksLike w h (after_paints start (paints_of (switch w h))) opening
-is_black w h start x y lx ly =
-    let over : Canvas = value_at w (values_of w h opening) in
-    ap (λ t. if t then over (x - 0) (y - 0) else start x y) (in_whole w h x y lx ly) ∙ values_at w h opening (x - 0) (y - 0) (omega (arith, lx)) (omega (arith, ly))
-
--- So what it leaves doesn't depend on what it is laid over.
-same_over : (w h : ℕ) (a b : Canvas) → LooksLike w h (after_paints a (paints_of (switch w h))) (after_paints b (paints_of (switch w h)))
-same_over w h a b x y lx ly = is_black w h a x y lx ly ∙ sym (is_black w h b x y lx ly)
-
--- What is painted over one start is painted over any other.
-switched_over : (screen : Painting) (a b : Canvas) → IsPaintedOver a (paints_of (switch screen.width screen.height)) screen → IsPaintedOver b (paints_of (switch screen.width screen.height)) screen
-switched_over screen a b stands =
-    record {
-      shows = λ x y lx ly. stands.shows x y lx ly ∙ same_over screen.width screen.height a b x y lx ly;
-      touched = stands.touched;
-    }
+use Rattle.painter.proofs.PaintingLaws.{painted_more, tile_has, whole_meets}
+use Rattle.painter.proofs.PatchLaws.{tile_within}
 
 -- What stands for one size stands for the same.
 pub at_size : (P : ℕ → ℕ → Type 0) (v k w h : ℕ) → v ≡ w → k ≡ h → P v k → P w h
 at_size P v k w h wide high there = subst (λ n. P n h) wide (subst (P v) high there)
 
--- A black screen that is drawn on all over shows nothing else.
-pub black_drawn : (black on new : Painting) → IsPaintedOver opening [] black → on ≡ record black { area = whole_screen black.width black.height }
-    → ((start : Canvas) (paints : List Paint) (colours : List ℕ) → IsPaintedAround start paints on.area on → LooksLike on.area.w on.area.h (drawn on) (value_at on.area.w colours) → IsPaintedOver start (paints ++ Put on.area colours ∷ []) new)
-    → IsPaintedOver opening (paints_of (switch black.width black.height)) new
-black_drawn black on new stands is painted =
-    let end : (start : Canvas) (paints : List Paint) (colours : List ℕ) → IsPaintedAround start paints (whole_screen black.width black.height) (record black { area = whole_screen black.width black.height })
-    → LooksLike black.width black.height (drawn (record black { area = whole_screen black.width black.height })) (value_at black.width colours)
-    → IsPaintedOver start (paints ++ Put (whole_screen black.width black.height) colours ∷ []) new =
-    subst (λ (p : Painting). (start : Canvas) (paints : List Paint) (colours : List ℕ) → IsPaintedAround start paints p.area p → LooksLike p.area.w p.area.h (drawn p) (value_at p.area.w colours) → IsPaintedOver start (paints ++ Put p.area colours ∷ []) new) is painted in
-    end opening [] (values_of black.width black.height opening) (record { shows = λ x y lx ly e. stands.shows x y lx ly; touched = stands.touched })
-    (λ x y lx ly.
-    let across : 0 + x ≡ x = omega arith in
-    let down : 0 + y ≡ y = omega arith in
-    ap (λ i. worked black i (0 + y)) across ∙ (ap (worked black x) down ∙ (stands.shows x y lx ly ∙ sym (values_at black.width black.height opening x y lx ly))))
+in_whole : (w h x y : ℕ) → x < w → y < h → holds (whole_screen w h) x y ≡ true
+in_whole w h x y lx ly = holds_has (whole_screen w h) x y (record { left = omega arith; right = omega (arith, lx); top = omega arith; bottom = omega (arith, ly) })
 
--- A screen that is filled with black looks like one on which a switch's paint is put.
-filled_black : (w h : ℕ) (old new : Canvas) → LooksLike w h new (fill (whole_screen w h) 0 old) → LooksLike w h new (after_paint old (Put (whole_screen w h) (values_of w h opening)))
-filled_black w h old new shows x y lx ly = shows x y lx ly ∙ (ap (λ t. if t then 0 else old x y) (in_whole w h x y lx ly) ∙ sym (is_black w h old x y lx ly))
+-- Everything holds each position of a screen, and meets each tile.
+in_everything : (w h x y : ℕ) → IsScreenSize w h → x < w → y < h → Has everything x y
+in_everything w h x y size lx ly = record { left = omega arith; right = omega (arith, lx, size.wide.1); top = omega arith; bottom = omega (arith, ly, size.high.1) }
+
+everything_meets : (w h t : ℕ) → IsScreenSize w h → t < tile_count w h → meets everything (tile_rect w h t) ≡ true
+everything_meets w h t size lt =
+    let lw : 0 < w = omega (arith, size.wide.0) in
+    let r : Rect = tile_rect w h t in
+    let within : IsWithin r w h = tile_within w h t lw lt in
+    let has : Has r r.x r.y = tile_has w h t lw lt in
+    meets_at everything r r.x r.y
+    (in_everything w h r.x r.y size (omega (arith, has.right, within.across)) (omega (arith, has.bottom, within.down))) has
+
+-- A screen that is filled with black looks like one at a new size.
+filled_black : (w h : ℕ) (size : Size) (old new : Canvas) → IsScreenSize w h → LooksLike w h new (fill (whole_screen w h) 0 old) → LooksLike w h new (after_paint old (Resized size))
+filled_black w h size old new screen shows x y lx ly =
+    shows x y lx ly
+    ∙ (ap (λ t. if t then 0 else old x y) (in_whole w h x y lx ly)
+    ∙ sym (ap (λ t. if t then 0 else old x y) (holds_has everything x y (in_everything w h x y screen lx ly))))
 
 -- So that is one paint more, wherever it comes in an update.
-pub black_painted : (old new : Painting) (whole : Rect) → whole ≡ whole_screen old.width old.height → IsAsLarge old new → LooksLike old.width old.height (worked new) (fill whole 0 (worked old))
+pub resized_painted : (old new : Painting) (size : Size) (whole : Rect) → IsScreenSize old.width old.height → (size.width ≤ old.width) × (size.height ≤ old.height) → whole ≡ whole_screen old.width old.height
+    → IsAsLarge old new → new.told ≡ Some size → LooksLike old.width old.height (worked new) (fill whole 0 (worked old))
     → ((t : ℕ) → t < tile_count old.width old.height → slice_index new.marks t ≡ (if meets whole (tile_rect old.width old.height t) then 1 else slice_index old.marks t))
-    → (start : Canvas) (paints : List Paint) → IsPaintedOver start paints old → IsPaintedOver start (paints ++ Put (whole_screen old.width old.height) (values_of old.width old.height opening) ∷ []) new
-black_painted old new whole is large shows marks =
+    → (start : Canvas) (paints : List Paint) → IsPaintedOver start paints old → IsPaintedOver start (paints ++ Resized size ∷ []) new
+resized_painted old new size whole screen fits is large told shows marks =
     let w : ℕ = old.width in
     let h : ℕ = old.height in
-    let inside : IsWithin (whole_screen w h) w h = record { across = omega arith; down = omega arith } in
-    painted_more old new (Put (whole_screen w h) (values_of w h opening)) (inside, length_values w h opening) large
-    (filled_black w h (worked old) (worked new) (subst (λ (r : Rect). LooksLike w h (worked new) (fill r 0 (worked old))) is shows))
-    (subst (λ (r : Rect). (t : ℕ) → t < tile_count w h → slice_index new.marks t ≡ (if meets r (tile_rect w h t) then 1 else slice_index old.marks t)) is marks)
+    let lw : 0 < w = omega (arith, screen.wide.0) in
+    painted_more old new (Resized size) fits large told
+    (filled_black w h size (worked old) (worked new) screen (subst (λ (r : Rect). LooksLike w h (worked new) (fill r 0 (worked old))) is shows))
+    (λ t lt.
+    marks t lt ∙ ap (λ b. if b then 1 else slice_index old.marks t)
+    (ap (λ (r : Rect). meets r (tile_rect w h t)) is ∙ (whole_meets w h t lw lt ∙ sym (everything_meets w h t screen lt))))
+
+-- ---- a switch
+
+-- Whatever a switch is laid over, it leaves a black screen.
+is_black : (w h : ℕ) (size : Size) (start : Canvas) → IsScreenSize w h → LooksLike w h (after_paints start (paints_of (switch_to size))) opening
+is_black w h size start screen x y lx ly = ap (λ t. if t then 0 else start x y) (holds_has everything x y (in_everything w h x y screen lx ly))
+
+-- So what is painted over one start is painted over any other.
+switched_over : (screen : Painting) (size : Size) (a b : Canvas) → IsScreenSize screen.width screen.height → IsPaintedOver a (paints_of (switch_to size)) screen → IsPaintedOver b (paints_of (switch_to size)) screen
+switched_over screen size a b large stands =
+    let w : ℕ = screen.width in
+    let h : ℕ = screen.height in
+    record {
+      shows = λ x y lx ly. stands.shows x y lx ly ∙ (is_black w h size a large x y lx ly ∙ sym (is_black w h size b large x y lx ly));
+      touched = stands.touched;
+      told = stands.told;
+    }
 
 -- Its patch comes to the same as a switch.
-pub patch_switches : (screen : Painting) (us : List Update) → IsPaintedOver opening (paints_of (switch screen.width screen.height)) screen
-    → ((start : Canvas) (paints : List Paint) → IsPaintedOver start paints screen → AreSameUpdates screen.width screen.height start (Paints paints ∷ []) us)
-    → (start : Canvas) → AreSameUpdates screen.width screen.height start (switch screen.width screen.height ∷ []) us
-patch_switches screen us over same start = same start (paints_of (switch screen.width screen.height)) (switched_over screen opening start over)
+pub patch_switches : (screen : Painting) (size : Size) (us : List Update) → IsScreenSize screen.width screen.height → IsPaintedOver opening (paints_of (switch_to size)) screen
+    → ((start : Canvas) (paints : List Paint) → IsPaintedOver start paints screen → AreSameUpdates screen.width screen.height start (Paints (size_told paints) paints ∷ []) us)
+    → (start : Canvas) → AreSameUpdates screen.width screen.height start (switch_to size ∷ []) us
+patch_switches screen size us large over same start = same start (paints_of (switch_to size)) (switched_over screen size opening start large over)
 
 -- And the next update begins over a black screen.
-pub begins_black : (screen new : Painting) → IsPaintedOver opening (paints_of (switch screen.width screen.height)) screen
+pub begins_black : (screen new : Painting) (size : Size) → IsScreenSize screen.width screen.height → IsPaintedOver opening (paints_of (switch_to size)) screen
     → ((start : Canvas) → LooksLike screen.width screen.height (worked screen) start → IsPaintedOver start [] new)
     → IsPaintedOver opening [] new
-begins_black screen new over begun = begun opening (λ x y lx ly. over.shows x y lx ly ∙ is_black screen.width screen.height opening x y lx ly)
+begins_black screen new size large over begun = begun opening (λ x y lx ly. over.shows x y lx ly ∙ is_black screen.width screen.height size opening large x y lx ly)
 
 -- Which is what the switch left.
-pub begins_switched : (screen : Painting) (start : Canvas) → IsPaintedOver opening [] screen → IsPaintedOver (after_paints start (paints_of (switch screen.width screen.height))) [] screen
-begins_switched screen start stands =
+pub begins_switched : (screen : Painting) (size : Size) (start : Canvas) → IsScreenSize screen.width screen.height → IsPaintedOver opening [] screen → IsPaintedOver (after_paints start (paints_of (switch_to size))) [] screen
+begins_switched screen size start large stands =
     record {
-      shows = λ x y lx ly. stands.shows x y lx ly ∙ sym (is_black screen.width screen.height start x y lx ly);
+      shows = λ x y lx ly. stands.shows x y lx ly ∙ sym (is_black screen.width screen.height size start large x y lx ly);
       touched = stands.touched;
+      told = stands.told;
     }

@@ -1,6 +1,6 @@
 -- The touched tiles as they look give the same screen as the update, and touch the same tiles. So a patch may be made
 -- of them.
-use Rattle.std.proofs.Common.{◌≡◌, ℕ, zero, suc, ◌+◌, ◌*◌, ◌-◌, ◌/◌, ◌%◌, ◌<◌, Bool, true, false, List, [], ◌∷◌, ◌++◌, map, get_or, inl, inr, refl, ap, sym, ◌∙◌, arith, zero-add}
+use Rattle.std.proofs.Common.{◌≡◌, ℕ, zero, suc, ◌+◌, ◌*◌, ◌-◌, ◌/◌, ◌%◌, ◌<◌, Bool, true, false, List, [], ◌∷◌, ◌++◌, map, get_or, inl, inr, Option, Some, None, refl, ap, sym, ◌∙◌, arith, zero-add}
 use Rattle.std.specs.Prelude.{◌||◌, ◌&&◌, filter, if◌then◌else◌, max, min}
 use Rattle.std.specs.List.{list_any, range_with_len}
 use Rattle.std.proofs.lemmas.Bool.{cases_Bool, or_cases}
@@ -12,10 +12,11 @@ use Rattle.std.proofs.lemmas.List.FromFn.{get_or-range_with_len, length-range_wi
 use Rattle.std.proofs.lemmas.Nat.{div-add-mod'}
 use Rattle.raster.specs.declared.rect.Rect.{Rect}
 use Rattle.raster.specs.Screen.{Canvas, LooksLike, holds, meets, part_of, tile_count, tile_rect, tiles_across, value_at, values_of}
-use Rattle.raster.specs.Update.{Paint, Paints, after_paint, after_paints, painted}
+use Rattle.raster.specs.declared.size.Size.{Size}
+use Rattle.raster.specs.Update.{Paint, Paints, after_paint, after_paints, painted, size_told}
 use Rattle.raster.proofs.Places.{Has, has_holds, holds_has, meets_at, tile_of, tile_of_has, tile_of_there, values_at}
 use Rattle.tiles.proofs.Touching.{same_after_paints}
-use Rattle.tiles.specs.Touched.{touches}
+use Rattle.tiles.specs.Touched.{bell_or_text, touches}
 use Rattle.painter.specs.Same.{AreSameFrom}
 use Rattle.painter.specs.Painter.{Painting, IsPaintedOver, is_touched, tile_put, tile_puts, touched_below, worked}
 use Rattle.painter.proofs.PatchLaws.{list_any-map}
@@ -108,7 +109,7 @@ not_in_list test passes n f =
 
 -- Whatever looked like the screen at the update's start looks, with these tiles, as it does at the update's end.
 pub same_screen : (w h : ℕ) (start before c : Canvas) (ps : List Paint) (passes : ℕ → Bool) → LooksLike w h start before → LooksLike w h c (after_paints start ps)
-    → ((t : ℕ) → t < tile_count w h → passes t ≡ touches (tile_rect w h t) (Paints ps)) → LooksLike w h (after_paints start ps) (after_paints before (tile_puts w h c passes))
+    → ((t : ℕ) → t < tile_count w h → passes t ≡ touches (tile_rect w h t) (Paints None ps)) → LooksLike w h (after_paints start ps) (after_paints before (tile_puts w h c passes))
 same_screen w h start before c ps passes alike looks same x y lx ly =
     let t : ℕ = tile_of w x y in
     let there : t < tile_count w h = tile_of_there w h x y lx ly in
@@ -143,7 +144,7 @@ meet_by w h k t true e other =
 meet_by w h k t false e other = refl
 
 -- These tiles touch themselves and no others.
-pub same_tiles : (w h : ℕ) (c : Canvas) (passes : ℕ → Bool) (t : ℕ) → 0 < w → t < tile_count w h → touches (tile_rect w h t) (Paints (tile_puts w h c passes)) ≡ passes t
+pub same_tiles : (w h : ℕ) (c : Canvas) (passes : ℕ → Bool) (t : ℕ) → 0 < w → t < tile_count w h → touches (tile_rect w h t) (Paints None (tile_puts w h c passes)) ≡ passes t
 same_tiles w h c passes t lw lt =
     let r : Rect = tile_rect w h t in
     let here : ℕ → Bool = λ k. meets (tile_rect w h k) r in
@@ -156,12 +157,18 @@ same_tiles w h c passes t lw lt =
           ∙ sym out
     ]
 
+-- What tells kinds of updates apart doesn't look at paints.
+same_kind : (size : Option Size) (ps qs : List Paint) → bell_or_text (Paints size ps) ≡ bell_or_text (Paints size qs)
+same_kind None ps qs = refl
+same_kind (Some size) ps qs = refl
+
 -- The update and the patch are the same update.
 pub patch_is_same : (screen : Painting) (start before : Canvas) (ps : List Paint) → 0 < screen.width → LooksLike screen.width screen.height start before → IsPaintedOver start ps screen
-    → AreSameFrom screen.width screen.height start before (Paints ps ∷ []) (Paints (tile_puts screen.width screen.height (worked screen) (is_touched screen)) ∷ [])
+    → AreSameFrom screen.width screen.height start before (Paints (size_told ps) ps ∷ []) (Paints screen.told (tile_puts screen.width screen.height (worked screen) (is_touched screen)) ∷ [])
 patch_is_same screen start before ps lw alike stands =
     let w : ℕ = screen.width in
     let h : ℕ = screen.height in
     let shows : LooksLike w h (after_paints start ps) (after_paints before (tile_puts w h (worked screen) (is_touched screen))) = same_screen w h start before (worked screen) ps (is_touched screen) alike stands.shows stands.touched in
-    same_one w h start before (Paints ps) (Paints (tile_puts w h (worked screen) (is_touched screen))) alike shows
-    (λ t lt. sym (stands.touched t lt) ∙ sym (same_tiles w h (worked screen) (is_touched screen) t lw lt)) refl
+    same_one w h start before (Paints (size_told ps) ps) (Paints screen.told (tile_puts w h (worked screen) (is_touched screen))) alike shows
+    (λ t lt. sym (stands.touched t lt) ∙ sym (same_tiles w h (worked screen) (is_touched screen) t lw lt))
+    (ap (λ (size : Option Size). bell_or_text (Paints size ps)) (sym stands.told) ∙ same_kind screen.told ps (tile_puts w h (worked screen) (is_touched screen)))

@@ -2,6 +2,7 @@
 use Rattle.std.specs.Prelude.{◌≡◌, ℕ, ◌*◌, ◌<◌, ◌≤◌, Bool, true, false, List, [], ◌∷◌, length, take, drop, All, Option, Some, None}
 use Rattle.std.specs.List.{sum_by}
 use Rattle.std.specs.List.Sorted.{IsStrictlyIncreasing}
+use Rattle.raster.specs.declared.size.Size.{Size}
 use Rattle.raster.specs.Screen.{Canvas, LooksLike, part_of, tile_count, tile_rect, value_at}
 use Rattle.raster.specs.Update.{Paint, Put, Update, Paints, Bell, Cut, after_paints, paints_of}
 use Rattle.painter.specs.declared.patch.Change.{Change}
@@ -37,13 +38,19 @@ pub record AreTouchedTiles (w h : ℕ) (numbers colours : List ℕ) : Type 0 whe
 
 -- The update that a Change in the code stands for.
 abbrev pub update_of : ℕ → ℕ → Change → Update
-update_of w h (code.Tiles numbers colours) = Paints (tile_paints w h numbers.items colours.items)
+update_of w h (code.Tiles size numbers colours) = Paints size (tile_paints w h numbers.items colours.items)
 update_of w h code.Bell = Bell
 update_of w h (code.Text text) = Cut text.items
 
--- The tiles of a change are tiles of a screen of w by h, each at most once; its text has at most 65,536 bytes.
+-- A new size, if there is one, is at most that of a screen of w by h.
+abbrev pub IsWithinScreen : ℕ → ℕ → Option Size → Type 0
+IsWithinScreen w h None = Unit {0}
+IsWithinScreen w h (Some size) = (size.width ≤ w) × (size.height ≤ h)
+
+-- The tiles of a change are tiles of a screen of w by h, each at most once, and its new size is at most as large; its
+-- text has at most 65,536 bytes.
 abbrev pub IsFor : ℕ → ℕ → Change → Type 0
-IsFor w h (code.Tiles numbers colours) = AreTouchedTiles w h numbers.items colours.items
+IsFor w h (code.Tiles size numbers colours) = IsWithinScreen w h size × AreTouchedTiles w h numbers.items colours.items
 IsFor w h code.Bell = Unit {0}
 IsFor w h (code.Text text) = length text.items ≤ LONGEST_TEXT
 
@@ -68,12 +75,12 @@ ShowsTiles w h (t ∷ ts) colours screen =
 
 -- The update is a Bell.
 abbrev pub is_bell : Update → Bool
-is_bell (Paints paints) = false
+is_bell (Paints size paints) = false
 is_bell Bell = true
 is_bell (Cut text) = false
 
 -- The text of an update, where it is a text.
 abbrev pub text_of : Update → Option (List ℕ)
-text_of (Paints paints) = None
+text_of (Paints size paints) = None
 text_of Bell = None
 text_of (Cut text) = Some text

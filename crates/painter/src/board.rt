@@ -20,7 +20,7 @@ use crate::text::LastText;
 use fault::Fault;
 use hextile_codec::TileForm;
 use pixel_format::Format;
-use raster::Rect;
+use raster::{Rect, Size};
 use std::alloc::Global;
 use std::marker::Model;
 use tiles::{Grid, LackedSince};
@@ -33,6 +33,7 @@ pub struct Board {
     width: u64,
     height: u64,
     number: u64,
+    size: Option<Size>,
     colours: Vec<u32>,
     grid: Grid,
     bells: u64,
@@ -50,9 +51,9 @@ impl Model for Board {
 
     ghost Value = { Posted };
 
-    ghost view = { λ b. record { width = b.width; height = b.height; number = b.number; colours = b.colours.items; grid = b.grid; bells = b.bells; text = b.text } };
+    ghost view = { λ b. record { width = b.width; height = b.height; number = b.number; size = b.size; colours = b.colours.items; grid = b.grid; bells = b.bells; text = b.text } };
 
-    ghost invariant = { λ b. IsBoard (record { width = b.width; height = b.height; number = b.number; colours = b.colours.items; grid = b.grid; bells = b.bells; text = b.text }) × AreFormsOf b.width b.height (value_at b.width b.colours.items) b.forms.list.items × AreEncoded b.encoded.format (value_at b.width b.colours.items) (length b.encoded.bytes.items) b.encoded.bytes.items b.encoded.list.items };
+    ghost invariant = { λ b. IsBoard (record { width = b.width; height = b.height; number = b.number; size = b.size; colours = b.colours.items; grid = b.grid; bells = b.bells; text = b.text }) × AreFormsOf b.width b.height (value_at b.width b.colours.items) b.forms.list.items × AreEncoded b.encoded.format (value_at b.width b.colours.items) (length b.encoded.bytes.items) b.encoded.bytes.items b.encoded.list.items };
 }
 
 /// How many updates and how many Bells there are after a patch, given how many there were before it.
@@ -84,6 +85,7 @@ impl Board {
             width,
             height,
             number: 0,
+            size: None,
             colours,
             grid,
             bells: 0,
@@ -105,6 +107,13 @@ impl Board {
         ensures { result ≡ self.now.number }
     {
         self.number
+    }
+
+    /// The last size of the host's own screen that an update told, if one told a size. It is at most that of the screen.
+    pub fn last_size(&self) -> Option<Size>
+        ensures { result ≡ self.now.size }
+    {
+        self.size
     }
 
     /// How many of the updates were Bells.
@@ -175,6 +184,7 @@ impl Board {
         self.encoded.renew(&source, &self.grid, self.number, wanted);
         self.text.follow(patch.text_bytes(), number);
         self.number = number;
+        self.size = patch.size_after(self.size);
         self.bells = bells;
     }
 
@@ -219,6 +229,7 @@ impl Board {
         self.text.catch_up(&newer.text, self.number);
         self.text.follow(patch.text_bytes(), number);
         self.number = number;
+        self.size = patch.size_after(newer.size);
         self.bells = bells;
     }
 
@@ -236,6 +247,7 @@ impl Board {
         self.grid.copy_from(&other.grid);
         self.text.copy_from(&other.text);
         self.number = other.number;
+        self.size = other.size;
         self.bells = other.bells;
     }
 
@@ -263,6 +275,7 @@ impl Board {
             width: self.width,
             height: self.height,
             number: self.number,
+            size: self.size,
             colours,
             grid,
             bells: self.bells,

@@ -8,15 +8,15 @@ ghost use Rattle.painter.specs.Painter.{IsAsLarge, IsPaintedOver, colours_in, co
 ghost use Rattle.fault.specs.declared.kinds.Fault.TheVariants.{Memory};
 ghost use Rattle.raster.specs.Painted.{Fits, paint_of};
 ghost use Rattle.raster.specs.Picture.{Picture, shown};
-ghost use Rattle.raster.specs.Screen.{Canvas, IsWithin, LooksLike, opening, tile_count, tile_rect, value_at, values_of, whole_screen};
+ghost use Rattle.raster.specs.Screen.{Canvas, IsWithin, LooksLike, opening, tile_count, tile_rect, value_at};
 ghost use Rattle.raster.specs.Size.{IsScreenSize};
-ghost use Rattle.raster.specs.Switch.{switch};
+ghost use Rattle.raster.specs.Switch.{switch, switch_to};
 ghost use Rattle.raster.specs.Update as update;
 ghost use Rattle.std.specs.List.{flat_map, sum_by};
 
 use crate::patch::Patch;
 use fault::Fault;
-use raster::{Paint, Raster, Rect, tile_count, tile_rect};
+use raster::{Paint, Raster, Rect, Size, tile_count, tile_rect};
 use std::alloc::Global;
 use std::marker::Model;
 use tiles::Grid;
@@ -33,6 +33,8 @@ pub struct Painter {
     touched: Grid,
     /// The rectangle that is drawn on.
     pub(crate) area: Rect,
+    /// The new size that the update has told.
+    told: Option<Size>,
     alloc: Global,
 }
 
@@ -41,12 +43,13 @@ impl Model for Painter {
     ghost use Rattle.raster.specs.Screen.{IsWithin};
     ghost use Rattle.raster.specs.Size.{IsScreenSize};
     ghost use Rattle.painter.specs.Painter.{Painting};
+    ghost use Rattle.painter.specs.Patch.{IsWithinScreen};
 
     ghost Value = { Painting };
 
-    ghost view = { λ s. record { width = s.raster.width; height = s.raster.height; colours = s.raster.colours; marks = s.touched.stamps; area = s.area } };
+    ghost view = { λ s. record { width = s.raster.width; height = s.raster.height; colours = s.raster.colours; marks = s.touched.stamps; area = s.area; told = s.told } };
 
-    ghost invariant = { λ s. IsScreenSize s.raster.width s.raster.height × (s.touched.width ≡ s.raster.width) × (s.touched.height ≡ s.raster.height) × IsWithin s.area s.raster.width s.raster.height };
+    ghost invariant = { λ s. IsScreenSize s.raster.width s.raster.height × (s.touched.width ≡ s.raster.width) × (s.touched.height ≡ s.raster.height) × IsWithin s.area s.raster.width s.raster.height × IsWithinScreen s.raster.width s.raster.height s.told };
 }
 
 /// Adds the colours of a rectangle of a raster, row after row. It fails where memory is refused (`Memory`).
@@ -82,28 +85,24 @@ impl Painter {
                 w: 0,
                 h: 0,
             },
+            told: None,
             alloc,
         })
     }
 
-    /// The screen for a host that follows another: black, with no tile touched, and the patch that turns the screen of
-    /// the host before it black. It fails where memory is refused (`Memory`).
-    pub fn black(alloc: Global, width: u64, height: u64) -> Result<(Self, Patch), Fault>
-        requires { IsScreenSize width height }
+    /// The screen for a host of this size that follows another: black, with no tile touched, and the patch that turns
+    /// the screen of the host before it black and tells the size. It fails where memory is refused (`Memory`).
+    pub fn black(alloc: Global, width: u64, height: u64, size: Size) -> Result<(Self, Patch), Fault>
+        requires screen { IsScreenSize width height }
+        requires fits { (size.width ≤ width) × (size.height ≤ height) }
         ensures size { IfOk result (λ made. (made.0.width ≡ width) × (made.0.height ≡ height)) }
         ensures black { IfOk result (λ made. IsPaintedOver opening [] made.0) }
         ensures sized { IfOk result (λ made. (made.1.width ≡ width) × (made.1.height ≡ height)) }
-        ensures same { IfOk result (λ made. (start : Canvas) → AreSameUpdates width height start (switch width height ∷ []) (made.1.update ∷ [])) }
+        ensures same { IfOk result (λ made. (start : Canvas) → AreSameUpdates width height start (switch_to size ∷ []) (made.1.update ∷ [])) }
         ensures err { IfErr result (λ fault. fault ≡ Memory) }
     {
         let mut black = Painter::new(alloc, width, height)?;
-        black.draw_on(Rect {
-            x: 0,
-            y: 0,
-            w: width,
-            h: height,
-        });
-        black.end_drawing();
+        black.resize(size);
         let patch = black.patch()?;
         Ok((black, patch))
     }
@@ -135,11 +134,12 @@ impl Painter {
         self.touched.touch(&area, TOUCHED);
     }
 
-    /// Paints the whole screen black. It always succeeds, and takes no memory.
-    pub fn blacken(&mut self)
+    /// Takes a new size of the host's own screen (RFC 6143, 7.8.2): the whole screen turns black, and stays as large as
+    /// it was. It always succeeds, and takes no memory.
+    pub fn resize(&mut self, size: Size)
+        requires { (size.width ≤ self.old.width) × (size.height ≤ self.old.height) }
         ensures size { IsAsLarge self.old self.new }
-        ensures painted { (start : Canvas) (paints : List update.Paint) → IsPaintedOver start paints self.old
-            → IsPaintedOver start (paints ++ update.Put (whole_screen self.old.width self.old.height) (values_of self.old.width self.old.height opening) ∷ []) self.new }
+        ensures painted { (start : Canvas) (paints : List update.Paint) → IsPaintedOver start paints self.old → IsPaintedOver start (paints ++ update.Resized size ∷ []) self.new }
     {
         let whole = Rect {
             x: 0,
@@ -149,6 +149,7 @@ impl Painter {
         };
         self.raster.fill(whole, 0);
         self.touched.touch(&whole, TOUCHED);
+        self.told = Some(size);
     }
 
     /// Copies a rectangle from another part of the screen, as it was before the call: `x`, `y` is that part's top left
@@ -242,9 +243,9 @@ impl Painter {
     /// order, with the colours of the whole tile. Then no tile is touched: the next update begins. It fails where
     /// memory is refused (`Memory`).
     pub fn patch(&mut self) -> Result<Patch, Fault>
-        ensures patch { IfOk result (λ patch. patch ≡ record { width = self.old.width; height = self.old.height; update = update.Paints (tile_puts self.old.width self.old.height (worked self.old) (is_touched self.old)) }) }
+        ensures patch { IfOk result (λ patch. patch ≡ record { width = self.old.width; height = self.old.height; update = update.Paints self.old.told (tile_puts self.old.width self.old.height (worked self.old) (is_touched self.old)) }) }
         ensures same { IfOk result (λ patch. (start : Canvas) (paints : List update.Paint) → IsPaintedOver start paints self.old
-            → AreSameUpdates self.old.width self.old.height start (update.Paints paints ∷ []) (patch.update ∷ [])) }
+            → AreSameUpdates self.old.width self.old.height start (update.of_paints paints ∷ []) (patch.update ∷ [])) }
         ensures most { IfOk result (λ patch. colours_of (update.paints_of patch.update) ≤ self.old.width * self.old.height) }
         ensures size { IsAsLarge self.old self.new }
         ensures shows { self.new.colours ≡ self.old.colours }
@@ -260,12 +261,13 @@ impl Painter {
             h: height,
         };
         self.touched.touch(&all, UNTOUCHED);
-        Ok(Patch::of_tiles(width, height, numbers, colours))
+        let size = self.told.take();
+        Ok(Patch::of_tiles(width, height, size, numbers, colours))
     }
 
-    /// Where the host has ended and another begins: the screen turns black, what was painted of an update that isn't
-    /// whole is dropped, and the patch brings the black screen. It fails where memory is refused (`Memory`), and then
-    /// nothing has changed.
+    /// Where the host has ended and another begins, whose screen is as large as this one: the screen turns black, what
+    /// was painted of an update that isn't whole is dropped, and the patch brings the black screen and tells the size.
+    /// It fails where memory is refused (`Memory`), and then nothing has changed.
     pub fn switch(&mut self) -> Result<Patch, Fault>
         ensures size { IsAsLarge self.old self.new }
         ensures sized { IfOk result (λ patch. (patch.width ≡ self.old.width) × (patch.height ≡ self.old.height)) }
@@ -274,7 +276,7 @@ impl Painter {
         ensures err { IfErr result (λ fault. (fault ≡ Memory) × (self.new ≡ self.old)) }
     {
         let (width, height) = self.size();
-        let (next, patch) = Painter::black(self.alloc, width, height)?;
+        let (next, patch) = Painter::black(self.alloc, width, height, Size { width, height })?;
         *self = next;
         Ok(patch)
     }

@@ -1,28 +1,29 @@
 //! What one whole message of the host changes on a screen.
 
 ghost use Rattle.std.specs.Prelude.{◌≡◌, ℕ, ◌<◌, ◌≤◌, ◌*◌, length, All, IfOk, IfErr, IfSome};
-ghost use Rattle.painter.specs.Patch.{AreTiles, AreTouchedTiles, ShowsOver, is_bell, text_of, tile_paints};
+ghost use Rattle.painter.specs.Patch.{AreTiles, AreTouchedTiles, IsWithinScreen, ShowsOver, is_bell, text_of, tile_paints};
 ghost use Rattle.fault.specs.declared.kinds.Fault.TheVariants.{Memory};
 ghost use Rattle.fault.specs.declared.limits.TheConstants.{LONGEST_TEXT};
 ghost use Rattle.raster.specs.Screen.{LooksLike, meets, tile_count, tile_rect, value_at};
 ghost use Rattle.raster.specs.Size.{IsScreenSize};
-ghost use Rattle.raster.specs.Update.{Paints, Bell, Cut, after_paints, paints_of};
+ghost use Rattle.raster.specs.Update.{Paints, Bell, Cut, after_paints, paints_of, size_after_update};
 ghost use Rattle.std.specs.List.{list_any};
 ghost use Rattle.std.specs.Option.{option_copied};
 ghost use Rattle.tiles.specs.Grid.{IsTouched};
 ghost use Rattle.tiles.specs.Touched.{touches};
 
 use fault::Fault;
-use raster::{put, tile_rect};
+use raster::{Size, put, tile_rect};
 use std::alloc::Global;
 use std::marker::Model;
 use tiles::Grid;
 
-/// The tiles that a FramebufferUpdate touched: their numbers, and the colours of one whole tile after the other, each
-/// row after row; or a Bell, or a text that was cut (RFC 6143, 7.6).
+/// What a FramebufferUpdate changed: the new size of the host's own screen, if it told one; the numbers of the tiles
+/// that it touched; and the colours of one whole tile after the other, each row after row. Or a Bell, or a text that was
+/// cut (RFC 6143, 7.6).
 #[derive(Drop)]
 enum Change {
-    Tiles(Vec<u64>, Vec<u32>),
+    Tiles(Option<Size>, Vec<u64>, Vec<u32>),
     Bell,
     Text(Vec<u8>),
 }
@@ -74,16 +75,24 @@ fn touch_tiles(grid: &mut Grid, width: u64, height: u64, numbers: &[u64], n: u64
 }
 
 impl Patch {
-    /// Tiles that a FramebufferUpdate touched, each once, by their numbers, with their colours, one tile after the other.
-    pub(crate) fn of_tiles(width: u64, height: u64, numbers: Vec<u64>, colours: Vec<u32>) -> Self
+    /// The new size that a FramebufferUpdate told, if it told one, and the tiles that it touched, each once, by their
+    /// numbers, with their colours, one tile after the other.
+    pub(crate) fn of_tiles(
+        width: u64,
+        height: u64,
+        size: Option<Size>,
+        numbers: Vec<u64>,
+        colours: Vec<u32>,
+    ) -> Self
         requires size { IsScreenSize width height }
+        requires told { IsWithinScreen width height size }
         requires tiles { AreTouchedTiles width height numbers.items colours.items }
-        ensures { result ≡ record { width = width; height = height; update = Paints (tile_paints width height numbers.items colours.items) } }
+        ensures { result ≡ record { width = width; height = height; update = Paints size (tile_paints width height numbers.items colours.items) } }
     {
         Patch {
             width,
             height,
-            change: Change::Tiles(numbers, colours),
+            change: Change::Tiles(size, numbers, colours),
         }
     }
 
@@ -118,10 +127,10 @@ impl Patch {
         ensures err { IfErr result (λ fault. fault ≡ Memory) }
     {
         match &self.change {
-            Change::Tiles(numbers, colours) => {
+            Change::Tiles(size, numbers, colours) => {
                 let numbers = numbers.as_slice().to_vec(alloc)?;
                 let colours = colours.as_slice().to_vec(alloc)?;
-                Ok(Patch::of_tiles(self.width, self.height, numbers, colours))
+                Ok(Patch::of_tiles(self.width, self.height, *size, numbers, colours))
             }
             Change::Bell => Ok(Patch::bell(self.width, self.height)),
             Change::Text(text) => {
@@ -145,9 +154,22 @@ impl Patch {
         ensures tiles { AreTouchedTiles self.now.width self.now.height result.0.now result.1.now }
     {
         match &self.change {
-            Change::Tiles(numbers, colours) => (numbers.as_slice(), colours.as_slice()),
+            Change::Tiles(_, numbers, colours) => (numbers.as_slice(), colours.as_slice()),
             Change::Bell => (&[], &[]),
             Change::Text(_) => (&[], &[]),
+        }
+    }
+
+    /// The size of the host's own screen after the update, where this one, or none, was told before it (RFC 6143, 7.8.2).
+    pub fn size_after(&self, before: Option<Size>) -> Option<Size>
+        ensures size { result ≡ size_after_update before self.now.update }
+        ensures within { IsWithinScreen self.now.width self.now.height before → IsWithinScreen self.now.width self.now.height result }
+    {
+        match &self.change {
+            Change::Tiles(Some(size), _, _) => Some(*size),
+            Change::Tiles(None, _, _) => before,
+            Change::Bell => before,
+            Change::Text(_) => before,
         }
     }
 
@@ -164,7 +186,7 @@ impl Patch {
         ensures short { IfSome result (λ text. length text.now ≤ LONGEST_TEXT) }
     {
         match &self.change {
-            Change::Tiles(_, _) => None,
+            Change::Tiles(_, _, _) => None,
             Change::Bell => None,
             Change::Text(text) => Some(text.as_slice()),
         }

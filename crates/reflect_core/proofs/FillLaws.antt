@@ -11,7 +11,7 @@ use Rattle.std.proofs.lemmas.List.FromFn.{length-range_with_len, get_or-range_wi
 use Rattle.painter.specs.Board.{BoardStands, Posted}
 use Rattle.raster.specs.declared.rect.Rect.{Rect}
 use Rattle.raster.specs.Screen.{IsWithin, LooksLike, holds, lay, meets, part_of, tile_count, tile_rect, value_at}
-use Rattle.raster.specs.Update.{Update, screen, bells, last_text}
+use Rattle.raster.specs.Update.{Update, screen, bells, last_size, last_text}
 use Rattle.raster.proofs.Places.{Has, common_has, has_holds}
 use Rattle.tiles.specs.Grid.{GridStands, Stamps, due_at}
 use Rattle.tiles.specs.Have.{SentTiles, sent_at}
@@ -168,12 +168,13 @@ list_all_same f g n same = over (range_with_len 0 n) (λ k lt. ap f (number_in_r
 
 -- What has taken all that is due of a board is a cut of all the board's updates.
 pub cut_of_board : (board : Posted) (us : List Update) (area : Rect) (have : SentTiles) (next : ℕ) (cut : Cut) → board.width ≡ have.width → board.height ≡ have.height
-    → board.grid.width ≡ have.width → board.grid.height ≡ have.height → IsWithin area have.width have.height → cut.number ≡ board.number → cut.bells ≡ board.bells → cut.text ≡ board.text
+    → board.grid.width ≡ have.width → board.grid.height ≡ have.height → IsWithin area have.width have.height → cut.number ≡ board.number → cut.host_size ≡ board.size → cut.bells ≡ board.bells → cut.text ≡ board.text
     → IsFilled board.grid board.colours have area next cut → IsDone (at_tile have area next) (due_at board.grid have) → BoardStands board us → IsCutOf us (length us) area have cut
-cut_of_board board us area have next cut wide high grid_wide grid_high on number bell text filled done stands =
+cut_of_board board us area have next cut wide high grid_wide grid_high on number size bell text filled done stands =
     record {
       known = omega arith;
       number = number ∙ stands.number;
+      size = size ∙ (stands.size ∙ ap last_size same);
       bells = bell ∙ (stands.bells ∙ ap bells same);
       text = text ∙ (stands.text ∙ ap last_text same);
       due = λ t lt. marks t lt ∙ (ap (λ (b : Bool). Some b) (lacks_is board.grid have area us t grid_wide grid_high stands.grid lt) ∙ ap (λ vs. Some (due_in have area vs t)) same);

@@ -45,7 +45,7 @@ last_of_two_cuts = refl
 -- ---- histories of the sequential screen
 
 abbrev red : Update
-red = Paints (update.Put (rect 0 0 1 1) (0xFF0000 ∷ []) ∷ [])
+red = Paints None (update.Put (rect 0 0 1 1) (0xFF0000 ∷ []) ∷ [])
 
 abbrev put : Shared
 put = record { updates = red ∷ []; tally = 0 }
@@ -101,7 +101,7 @@ cut_of_less now p =
     let number : 0 ≡ length p.0.updates = ap (λ (v : View). v.number) p.2.1.0 in
     omega (arith, count, number)
 
-pub cut_of_another_screen : (now : Shared) → IsHistory (Put red ∷ Cut (view (Paints [] ∷ [])) ∷ []) now → ⊥
+pub cut_of_another_screen : (now : Shared) → IsHistory (Put red ∷ Cut (view (Paints None [] ∷ [])) ∷ []) now → ⊥
 cut_of_another_screen now p =
     let there : view p.0.updates ≡ view (red ∷ []) = ap (λ (s : Shared). view s.updates) p.1 in
     let colour : 0 ≡ 0xFF0000 = ap (λ (v : View). v.screen 0 0) (p.2.1.0 ∙ there) in

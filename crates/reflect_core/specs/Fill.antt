@@ -17,6 +17,7 @@ pub record TookRun (colours : List ℕ) (have : SentTiles) (run : Run) (old new 
   pub width : new.width ≡ old.width
   pub height : new.height ≡ old.height
   pub number : new.number ≡ old.number
+  pub host_size : new.host_size ≡ old.host_size
   pub bells : new.bells ≡ old.bells
   pub text : new.text ≡ old.text
   pub inside : (t : ℕ) → run.first ≤ t → t < run.first + run.count → slice_get new.due.items t ≡ Some true

@@ -72,6 +72,7 @@ impl Cut {
         ensures cut { (us : List Update) → BoardStands board.now us → IsCutOf us (length us) area.now have.now self.new }
     {
         self.number = board.number();
+        self.host_size = board.last_size();
         self.bells = board.bells();
         self.text.copy_from(board.text());
         self.due.as_mut_slice().fill(false);

@@ -11,7 +11,7 @@ use Rattle.reflector.specs.Course.{Course, IsReflected}
 use Rattle.reflector.specs.Tellings.{AreToldInTurn}
 
 any_turn : (w h : ℕ) (password : Option (List ℕ)) (comes : Coming → Type 0) (old : List Update) (turn : Turn) → IsTurn w h password comes old turn → IsTurn w h password (λ _. ⊤) old turn
-any_turn w h password comes old (Read stay) is = ((is.0.0, tt, is.0.2), is.1)
+any_turn w h password comes old (Read stay) is = (is.0, tt, is.2)
 any_turn w h password comes old (Missed has_called fault) is = (is.0, tt, is.2)
 
 any_turns : (w h : ℕ) (password : Option (List ℕ)) (comes : Coming → Type 0) (first : Stay) (turns : List Turn) → AreTurns w h password comes first turns → AreTurns w h password (λ _. ⊤) first turns

@@ -15,6 +15,6 @@ HasShortText (LostText len) = Unit {0}
 
 -- The text that an update brings, if any, has at most 65,536 bytes.
 abbrev pub BringsShortText : Update → Type 0
-BringsShortText (Paints paints) = Unit {0}
+BringsShortText (Paints size paints) = Unit {0}
 BringsShortText Bell = Unit {0}
 BringsShortText (Cut text) = length text ≤ longest_text

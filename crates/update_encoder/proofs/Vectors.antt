@@ -227,7 +227,7 @@ rgb565 =
     }
 
 abbrev red_blue_update : Update
-red_blue_update = Paints (Put (rect 0 0 2 1) (0xFF0000 ∷ 0x0000FF ∷ []) ∷ [])
+red_blue_update = Paints None (Put (rect 0 0 2 1) (0xFF0000 ∷ 0x0000FF ∷ []) ∷ [])
 
 -- What a follower has taken after a change to 16 bits, F800 and 001F.
 abbrev in_sixteen_bits : List Received

@@ -78,7 +78,7 @@ IsShort (Some last) = length last.text ≤ longest_text
 
 last_short : (last : Option NumberedText) (next : ℕ) (us : List Update) → IsShort last → Each BringsShortText us → IsShort (last_text_from last next us)
 last_short last next [] k l = k
-last_short last next (Paints ps ∷ us) k l = last_short last (next + 1) us k l.1
+last_short last next (Paints size ps ∷ us) k l = last_short last (next + 1) us k l.1
 last_short last next (update.Bell ∷ us) k l = last_short last (next + 1) us k l.1
 last_short last next (Cut text ∷ us) k l = last_short (Some (record { text = text; number = next })) (next + 1) us l.0 l.1
 

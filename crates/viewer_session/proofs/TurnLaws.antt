@@ -179,7 +179,7 @@ update_is s st p cut known n nowhere k c =
 bells_taken : (n : ℕ) (us : List Update) → bells (take n us) ≤ bells us
 bells_taken zero us = omega arith
 bells_taken (suc n) [] = omega arith
-bells_taken (suc n) (Paints ps ∷ us) = bells_taken n us
+bells_taken (suc n) (Paints size ps ∷ us) = bells_taken n us
 bells_taken (suc n) (update.Bell ∷ us) = omega (arith, bells_taken n us)
 bells_taken (suc n) (Cut text ∷ us) = bells_taken n us
 

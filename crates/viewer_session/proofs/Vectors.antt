@@ -118,7 +118,7 @@ then_nothing = refl
 
 -- On 33 by 1 an update touches the first tile and the last: two runs, the first in RRE, the second Raw.
 abbrev two_blues : Update
-two_blues = Paints (Put (rect 0 0 1 1) (0x0000FF ∷ []) ∷ Put (rect 32 0 1 1) (0x0000FF ∷ []) ∷ [])
+two_blues = Paints None (Put (rect 0 0 1 1) (0x0000FF ∷ []) ∷ Put (rect 32 0 1 1) (0x0000FF ∷ []) ∷ [])
 
 pub two_runs_are_sent : update_at OfRows 33 1 (asks true 33 1 ∷ Began (rect 0 0 33 1) 0 [] ∷ MadeCut 0 ∷ asks false 33 1 ∷ rre ∷ []) (two_blues ∷ [])
     ≡ Some (
@@ -130,7 +130,7 @@ two_runs_are_sent = refl
 
 -- On 8 by 2 with joined runs: the first column is blue, and the black runs to its right are one subrectangle.
 abbrev blue_column : Update
-blue_column = Paints (Put (rect 0 0 1 2) (0x0000FF ∷ 0x0000FF ∷ []) ∷ [])
+blue_column = Paints None (Put (rect 0 0 1 2) (0x0000FF ∷ 0x0000FF ∷ []) ∷ [])
 
 pub joined_runs_are_sent : update_at Joined 8 2 (asks false 8 2 ∷ rre ∷ []) (blue_column ∷ [])
     ≡ Some (
@@ -144,16 +144,16 @@ joined_runs_are_sent = refl
 pub none_was_sent : all_were_sent 16 32 (asks false 16 32 ∷ []) [] (rect 0 0 16 32) ≡ false
 none_was_sent = refl
 
-pub one_was_sent_in_part : all_were_sent 16 32 (asks true 16 32 ∷ Began (rect 0 0 16 20) 0 [] ∷ []) (Paints (Put (rect 0 0 1 1) (1 ∷ []) ∷ []) ∷ []) (rect 0 0 16 32) ≡ false
+pub one_was_sent_in_part : all_were_sent 16 32 (asks true 16 32 ∷ Began (rect 0 0 16 20) 0 [] ∷ []) (Paints None (Put (rect 0 0 1 1) (1 ∷ []) ∷ []) ∷ []) (rect 0 0 16 32) ≡ false
 one_was_sent_in_part = refl
 
-pub both_were_sent : all_were_sent 16 32 (asks true 16 32 ∷ Began (rect 0 0 16 32) 0 [] ∷ []) (Paints (Put (rect 0 15 1 2) (1 ∷ 1 ∷ []) ∷ []) ∷ []) (rect 0 0 16 32) ≡ true
+pub both_were_sent : all_were_sent 16 32 (asks true 16 32 ∷ Began (rect 0 0 16 32) 0 [] ∷ []) (Paints None (Put (rect 0 15 1 2) (1 ∷ 1 ∷ []) ∷ []) ∷ []) (rect 0 0 16 32) ≡ true
 both_were_sent = refl
 
 -- ---- all that a cut sends
 
 abbrev red_blue : Update
-red_blue = Paints (Put (rect 0 0 2 1) (0xFF0000 ∷ 0x0000FF ∷ []) ∷ [])
+red_blue = Paints None (Put (rect 0 0 2 1) (0xFF0000 ∷ 0x0000FF ∷ []) ∷ [])
 
 abbrev red_blue_bytes : List ℕ
 red_blue_bytes = 0 ∷ 0 ∷ 0 ∷ 1 ∷ 0 ∷ 0 ∷ 0 ∷ 0 ∷ 0 ∷ 2 ∷ 0 ∷ 1 ∷ 0 ∷ 0 ∷ 0 ∷ 0 ∷ 0 ∷ 0 ∷ 255 ∷ 0 ∷ 255 ∷ 0 ∷ 0 ∷ 0 ∷ []

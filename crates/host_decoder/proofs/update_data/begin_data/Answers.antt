@@ -5,7 +5,7 @@ use Rattle.byte_reading.specs.Reading.{Reading, after}
 use Rattle.rfb_wire.specs.ServerMessage.{ServerMessage, data_of}
 use Rattle.host_decoder.specs.Updates.{in_colours}
 use Rattle.host_decoder.specs.Decoder.{GoesOn, with_others}
-use Rattle.host_decoder.proofs.RectangleData.{black_goes_on}
+use Rattle.host_decoder.proofs.RectangleData.{size_goes_on}
 use Rattle.host_decoder.proofs.update_data.begin_data.Goals as goal
 
 pub returns-in-Ok-clause-goes_on : goal.returns-in-Ok-clause-goes_on
@@ -16,8 +16,9 @@ returns-in-Ok-clause-goes_on c start sofar holds =
     u.behind_.says ∙ ap (after u.next) (drop_all c.read_data-next.result.1 [] (omega arith)) in
     subst (λ (q : Reading ServerMessage). GoesOn c.args.painter.now c.read_data-next.new.painter c.unwrap_or.result start q) (sym same) (rw c.unwrap_or.ensures u.goes_on)
 
--- A new size is a paint of black over the whole screen.
+-- A new size is a paint of its own.
 pub returns-then-encoding-eq-DESKTOP_SIZE-clause-goes_on : goal.returns-then-encoding-eq-DESKTOP_SIZE-clause-goes_on
 returns-then-encoding-eq-DESKTOP_SIZE-clause-goes_on c start sofar holds =
     rw c.if-encoding-eq-DESKTOP_SIZE.true
-    (black_goes_on c.args.painter.now c.take_size.new.painter c.next_rectangle.new.painter c.next_rectangle.result start sofar c.args.left c.take_size.ensures.size holds c.take_size.ensures.painted c.next_rectangle.ensures.goes_on)
+    (size_goes_on c.args.painter.now c.resize.new.self c.next_rectangle.new.painter (record { width = c.args.area.w; height = c.args.area.h }) c.next_rectangle.result start sofar c.args.left c.resize.ensures.size holds c.resize.ensures.painted
+    c.next_rectangle.ensures.goes_on)

@@ -64,12 +64,11 @@ loop-preserved g c =
     let lent = c.read-idle-in-loop.ensures.lent in
     let on = rw met.0 at c.in-Ok.met.on in
     let called = rw join.called at c.read-idle-in-loop.ensures.called in
-    let joins = rw (met.4, inv.2) at join.joins in
-    let switched = rw (met.4, inv.2, met.2) at join.switched in
+    let is_met = rw (met.4, inv.2, met.2) at join.met in
     let is = rw (join.joined.2, met.4, inv.2) at read.2 in
     let begins =
     begun run.run_screen.now.width run.run_screen.now.height run.run_screen.now.password (IsComing state g.H.Hosts.came) idle.last (came_over run.has_called (state run.reader)) c.in-Ok.met.has_called (state c.in-Ok.met.reader) (state joined.reader) (map state idle.links.items) (put run.publisher) (put idle.publisher) (put joined.publisher) inv.4 on
-    (c.in-Ok.met.reader, c.in-Ok.ensures.came, refl) joins switched in (
+    (c.in-Ok.met.reader, c.in-Ok.ensures.came, refl) is_met in (
       tt,
       tt,
       lent.1 ∙ join.joined.2 ∙ met.4 ∙ inv.2,

@@ -2,7 +2,7 @@ use Rattle.raster.specs.Screen.{opening, tile_rect}
 use Rattle.raster.specs.Update.{Update}
 use Rattle.std.proofs.Common.{ℕ, List, None, refl}
 use Rattle.painter.specs.Same.{AreSameFrom, AreSameUpdates}
-use Rattle.painter.proofs.SameLaws.{same_bells, same_last_touch, same_shows, same_texts}
+use Rattle.painter.proofs.SameLaws.{same_bells, same_last_touch, same_shows, same_sizes, same_texts}
 use Rattle.painter.proofs.law.same_updates_show_the_same.Goals as goal
 
 at_once : (w h : ℕ) (us vs : List Update) → AreSameUpdates w h opening us vs → AreSameFrom w h opening opening us vs
@@ -19,3 +19,6 @@ returns-clause-bells c w h us vs same = same_bells us vs (at_once w h us vs same
 
 pub returns-clause-text : goal.returns-clause-text
 returns-clause-text c w h us vs same = same_texts None 1 us vs (at_once w h us vs same).kinds
+
+pub returns-clause-size : goal.returns-clause-size
+returns-clause-size c w h us vs same = same_sizes None us vs (at_once w h us vs same).kinds

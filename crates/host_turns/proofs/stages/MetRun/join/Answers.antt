@@ -11,7 +11,7 @@ invariant_of-joined-clause-lawful g c =
     let met = c.args.self in
     ∥∥₁_map met.lawful (λ k.
     rw c.meet-met.ensures.links
-    (begun _ _ _ (IsComing state g.H.Hosts.came) met.last _ met.has_called (state met.reader) _ _ _ _ _ k.1 met.on (met.reader, k.0, refl) c.in-Ok.ensures.joins c.in-Ok.ensures.switched))
+    (begun _ _ _ (IsComing state g.H.Hosts.came) met.last _ met.has_called (state met.reader) _ _ _ _ _ k.1 met.on (met.reader, k.0, refl) c.in-Ok.ensures.met))
 
 pub invariant_of-result-clause-lawful : goal.invariant_of-result-clause-lawful
 invariant_of-result-clause-lawful g c =

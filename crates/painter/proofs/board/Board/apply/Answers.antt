@@ -48,9 +48,9 @@ returns-clause-stands c us stands =
     c.follow.ensures ∙ ap (λ (n : ℕ). newer old.text n (option_copied c.text_bytes.result)) c.counted-number.ensures.number in
     let Touched : ℕ → Type 0 = λ n. IsTouched (λ t. touches (tile_rect old.grid.width old.grid.height t) c.args.patch.now.update) n old.grid c.touch.new.grid in
     let shows : ShowsOver c.args.patch.now old.colours.items new = subst (λ (cs : List ℕ). ShowsOver c.args.patch.now cs new) c.as_mut_slice.ensures.value c.paint.ensures in
-    stands_as _ (us ++ c.args.patch.now.update ∷ []) _ _ _ _ c.counted-number.ensures.number rows c.counted-number.ensures.bells told
-    (stands-push c.args.self.now c.args.patch.now old.width old.height old.number old.bells rung old.colours.items new old.grid c.touch.new.grid old.text (option_copied c.text_bytes.result) us
-    c.self.view_is c.requires.size shows (subst Touched c.counted-number.ensures.number c.touch.ensures) refl c.text_bytes.ensures.text stands)
+    stands_as _ (us ++ c.args.patch.now.update ∷ []) _ _ _ _ _ c.counted-number.ensures.number refl rows c.counted-number.ensures.bells told
+    (stands-push c.args.self.now c.args.patch.now old.width old.height old.number old.bells rung old.colours.items new old.grid c.touch.new.grid old.text (option_copied c.text_bytes.result) old.size c.size_after-self-inside.result us
+    c.self.view_is c.requires.size shows (subst Touched c.counted-number.ensures.number c.touch.ensures) refl c.text_bytes.ensures.text c.size_after-self-inside.ensures.size stands)
 
 pub invariant_of-self : goal.invariant_of-self
 invariant_of-self c =

@@ -65,8 +65,8 @@ returns-clause-stands c us stood stands =
     let s = c.self.inside in
     let n = c.newer.inside in
     let patch = c.args.patch.now in
-    let behind : Posted = record { width = s.width; height = s.height; number = s.number; colours = s.colours.items; grid = s.grid; bells = s.bells; text = s.text } in
-    let ahead : Posted = record { width = n.width; height = n.height; number = n.number; colours = n.colours.items; grid = n.grid; bells = n.bells; text = n.text } in
+    let behind : Posted = record { width = s.width; height = s.height; number = s.number; size = s.size; colours = s.colours.items; grid = s.grid; bells = s.bells; text = s.text } in
+    let ahead : Posted = record { width = n.width; height = n.height; number = n.number; size = n.size; colours = n.colours.items; grid = n.grid; bells = n.bells; text = n.text } in
     let mid : List ℕ = c.copy_lacked.new.into in
     let new : List ℕ = c.paint.new.colours in
     let rung : ℕ = from_bool (is_bell patch.update) in
@@ -82,12 +82,12 @@ returns-clause-stands c us stood stands =
     let half : (with_items s.colours mid).items ≡ mid = with_items_is s.colours mid (omega (arith, c.copy_lacked.auto.into, c.as_mut_slice.ensures.len)) in
     let rows : (with_items (with_items s.colours mid) new).items ≡ new = with_items_is (with_items s.colours mid) new (omega (arith, c.paint.auto.colours, c.as_mut_slice-2.ensures.len)) in
     let shows : ShowsOver patch mid new = subst (λ (l : List ℕ). ShowsOver patch l new) (c.as_mut_slice-2.ensures.value ∙ half) c.paint.ensures in
-    let all = board_caught_up behind ahead patch c.touch.new.grid c.catch_up.new.self c.tiles.result.0.now c.tiles.result.1.now mid new rung c.catch_up-2.new.self (option_copied c.text_bytes.result) us
-    wide high c.newer.invariant.0.tiles.0 c.newer.invariant.0.tiles.1 c.self.invariant.0.tiles.0 c.self.invariant.0.tiles.1 size touched took c.tiles.ensures.paints shows c.catch_up.ensures c.catch_up-2.ensures refl c.text_bytes.ensures.text
+    let all = board_caught_up behind ahead patch c.touch.new.grid c.catch_up.new.self c.tiles.result.0.now c.tiles.result.1.now mid new rung c.catch_up-2.new.self (option_copied c.text_bytes.result) c.size_after-self-inside.result us
+    wide high c.newer.invariant.0.tiles.0 c.newer.invariant.0.tiles.1 c.self.invariant.0.tiles.0 c.self.invariant.0.tiles.1 size touched took c.tiles.ensures.paints shows c.catch_up.ensures c.catch_up-2.ensures refl c.text_bytes.ensures.text c.size_after-self-inside.ensures.size
     (subst (λ (b : Posted). BoardStands b (take b.number us)) (sym c.self.view_is) stood) (subst (λ (b : Posted). BoardStands b us) (sym c.newer.view_is) stands) in
     let told : c.follow.new.self ≡ newer c.catch_up-2.new.self (n.number + 1) (option_copied c.text_bytes.result) =
     c.follow.ensures ∙ ap (λ (k : ℕ). newer c.catch_up-2.new.self k (option_copied c.text_bytes.result)) counted in
-    stands_as _ (us ++ patch.update ∷ []) _ _ _ _ counted rows c.counted-number.ensures.bells told all
+    stands_as _ (us ++ patch.update ∷ []) _ _ _ _ _ counted refl rows c.counted-number.ensures.bells told all
 
 pub invariant_of-self : goal.invariant_of-self
 invariant_of-self c =

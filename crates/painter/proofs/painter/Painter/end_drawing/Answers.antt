@@ -12,8 +12,8 @@ returns-clause-painted c =
     let inside = c.self.inside in
     let w : ℕ = inside.raster.width in
     let h : ℕ = inside.raster.height in
-    let old : Painting = record { width = w; height = h; colours = inside.raster.colours; marks = inside.touched.stamps; area = inside.area } in
-    let new : Painting = record { width = w; height = h; colours = inside.raster.colours; marks = c.touch.new.self.stamps; area = inside.area } in
+    let old : Painting = record { width = w; height = h; colours = inside.raster.colours; marks = inside.touched.stamps; area = inside.area; told = inside.told } in
+    let new : Painting = record { width = w; height = h; colours = inside.raster.colours; marks = c.touch.new.self.stamps; area = inside.area; told = inside.told } in
     subst (λ (v : Painting). (start : Canvas) (paints : List Paint) (colours : List ℕ) → IsPaintedAround start paints v.area v → LooksLike v.area.w v.area.h (drawn v) (value_at v.area.w colours) → IsPaintedOver start (paints ++ Put v.area colours ∷ []) new) c.self.view_is
     (λ start paints colours around shows.
-    painted_around old new colours (record { width = refl; height = refl }) refl (marks_of w h 1 inside.area inside.touched c.touch.new.self c.self.invariant.1 c.self.invariant.2 c.touch.ensures) start paints around shows)
+    painted_around old new colours (record { width = refl; height = refl }) refl refl (marks_of w h 1 inside.area inside.touched c.touch.new.self c.self.invariant.1 c.self.invariant.2 c.touch.ensures) start paints around shows)

@@ -8,6 +8,7 @@ invariant-loop-run l =
     record {
       walk : l.walk ≡ at_tile l.have l.area l.walk.next;
       number : l.self.number ≡ l.board.number;
+      host_size : l.self.host_size ≡ l.board.size;
       bells : l.self.bells ≡ l.board.bells;
       text : l.self.text ≡ l.board.text;
       filled : IsFilled l.board.grid l.board.colours l.have l.area l.walk.next l.self;

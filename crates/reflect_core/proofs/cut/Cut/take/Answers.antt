@@ -16,6 +16,7 @@ returns c =
       width = refl;
       height = refl;
       number = refl;
+      host_size = refl;
       bells = refl;
       text = refl;
       inside = λ t lo hi. at t ∙ c.mark_part.ensures.inside t lo hi;
