@@ -41,7 +41,7 @@ enum Visitors {
     Proxied,
     /// A newcomer that sends a header, but comes from elsewhere.
     Strangers,
-    /// Newcomers to a locked port, of whom one knows the password and finds the place.
+    /// Newcomers to a locked port, of whom two know the password and find the place.
     Guessers,
 }
 
@@ -65,7 +65,7 @@ const EVENINGS: [(&str, Visitors, u64); 8] = [
     (
         "a lock is opened by its password alone",
         Visitors::Guessers,
-        1,
+        2,
     ),
 ];
 
@@ -204,7 +204,6 @@ where
     let (address, porter) = make_porter(net, &lobby, proxy_for(visitors))?;
     let mut door = make_door(rt, net, &lobby, Arc::try_clone(&log)?)?;
     let millis = AtomicU64::new(0);
-    let drawn = AtomicU64::new(0);
     let hand = ByHand {
         rt,
         stands: !matches!(
@@ -212,7 +211,7 @@ where
             Visitors::Rivals | Visitors::Ordered | Visitors::Drained
         ),
         millis: &millis,
-        drawn: &drawn,
+        drawn: AtomicU64::new(0),
     };
     let opened = AtomicU64::new(if matches!(visitors, Visitors::Drained) {
         0

@@ -17,13 +17,13 @@ use std::time::{Clock, Duration};
 pub(crate) const GREETING: &[u8] = b"RFB 003.008\nR";
 
 /// A runtime whose clock goes on, or stands until it is put forward. Its random bytes count on from 0.
-#[derive(Clone, Copy, Drop)]
+#[derive(Drop)]
 pub(crate) struct ByHand<'a, R: Drop> {
     pub(crate) rt: R,
     pub(crate) stands: bool,
     pub(crate) millis: &'a AtomicU64,
     /// How many random bytes were drawn.
-    pub(crate) drawn: &'a AtomicU64,
+    pub(crate) drawn: AtomicU64,
 }
 
 impl<R: Drop> RandomSource for ByHand<'_, R> {
@@ -64,6 +64,7 @@ pub(crate) struct Notebook<R: Drop> {
     desk: Arc<Desk, Global>,
     count: AtomicU64,
     lacking: AtomicU64,
+    wrong: AtomicU64,
     counted: AtomicU64,
     last: Mutex<Option<SocketAddr>>,
 }
@@ -80,6 +81,7 @@ pub(crate) fn make_notebook<R: Drop>(
         desk: Arc::try_clone(lobby.desk())?,
         count: AtomicU64::new(0),
         lacking: AtomicU64::new(0),
+        wrong: AtomicU64::new(0),
         counted: AtomicU64::new(0),
         last: Mutex::new(None),
     };
@@ -116,6 +118,9 @@ impl<R: Wait + Clock + Drop> Log for Notebook<R> {
             }
             Event::NoHeader { .. } => {
                 self.lacking.fetch_add(1, Ordering::SeqCst);
+            }
+            Event::WrongPassword { .. } => {
+                self.wrong.fetch_add(1, Ordering::SeqCst);
             }
             _ => {}
         }
@@ -183,6 +188,13 @@ impl<R: Wait + Drop> House<'_, R> {
     /// Whether the log was told of this many newcomers that lacked a header.
     pub(crate) fn have_lacked(&self, count: u64) -> bool {
         self.log.lacking.load(Ordering::SeqCst) == count
+    }
+
+    /// Whether no viewer is at the place, and the log was told only of this many wrong answers.
+    pub(crate) fn has_refused(&self, count: u64) -> bool {
+        self.free() == 1
+            && self.log.count.load(Ordering::SeqCst) == count
+            && self.log.wrong.load(Ordering::SeqCst) == count
     }
 
     /// Whether the log was told last that a viewer came from there.

@@ -45,7 +45,7 @@ const SOON: u64 = 50;
 fn challenge(number: u8) -> [u8; 16] {
     let mut challenge = [0; 16];
     for i in 0..16u8 {
-        challenge[usize::from(i)] = (number % 8) * 16 + i;
+        challenge[usize::from(i)] = (number % 16) * 16 + i;
     }
     challenge
 }
@@ -75,10 +75,10 @@ fn soon(stream: &mut TcpStream) -> io::Result<Option<u8>> {
 /// answer isn't seen from here, so that is done again and again.
 fn is_told_late<R: Wait + Drop>(house: &House<'_, R>, stream: &mut TcpStream) -> io::Result<bool> {
     for _ in 0..1_000 {
-        house.pass(A_WHILE);
         if let Some(byte) = soon(stream)? {
             return Ok(byte == 0);
         }
+        house.pass(A_WHILE);
     }
     Ok(false)
 }
@@ -99,7 +99,7 @@ fn fails_with<R: Wait + Drop>(house: &House<'_, R>, number: u8, answer: &[u8]) -
     let was_asked = is_asked(&mut stream, number)?;
     stream.write_all(answer)?;
     let is_told = is_refused(house, &mut stream)?;
-    Ok(was_asked && is_told && house.is_quiet())
+    Ok(was_asked && is_told && house.has_refused(u64::from(number) + 1))
 }
 
 /// Whether a newcomer fails that sends all at once, before it was asked, with the answer to another's challenge.
@@ -109,21 +109,21 @@ fn early_one_fails<R: Wait + Drop>(house: &House<'_, R>, number: u8) -> io::Resu
     stream.write_all(FIRST)?;
     let was_asked = is_asked(&mut stream, number)?;
     let is_told = is_refused(house, &mut stream)?;
-    Ok(was_asked && is_told && house.is_quiet())
+    Ok(was_asked && is_told && house.has_refused(u64::from(number) + 1))
 }
 
 /// Whether a newcomer that chooses the type None gets no challenge.
 fn none_is_not_taken<R: Wait + Drop>(house: &House<'_, R>) -> io::Result<bool> {
     let mut stream = house.come()?;
     stream.write_all(b"\x01")?;
-    Ok(hears(&mut stream, ASKED)? && is_over(&mut stream)? && house.is_quiet())
+    Ok(hears(&mut stream, ASKED)? && is_over(&mut stream)? && house.has_refused(3))
 }
 
 /// Whether a newcomer of another version isn't told the types.
 fn other_version_is_not_asked<R: Wait + Drop>(house: &House<'_, R>) -> io::Result<bool> {
     let mut stream = house.connect()?;
     stream.write_all(b"RFB 003.003\n")?;
-    Ok(hears(&mut stream, VERSION)? && is_over(&mut stream)? && house.is_quiet())
+    Ok(hears(&mut stream, VERSION)? && is_over(&mut stream)? && house.has_refused(3))
 }
 
 /// Whether one that knows the password is told so by the result where nobody is let in.
@@ -140,15 +140,61 @@ fn drained_one_is_told<R: Wait + Drop>(house: &House<'_, R>, number: u8) -> io::
 
 /// Whether one that knows the password, and sends each byte alone, has the place: behind the challenge it hears the
 /// first byte that its owner says after the type None.
-fn right_one_is_let_in<R: Wait + Drop>(house: &House<'_, R>, number: u8) -> io::Result<bool> {
+fn right_one_is_let_in<R: Wait + Drop>(
+    house: &House<'_, R>,
+    number: u8,
+    answer: &[u8],
+) -> io::Result<bool> {
     let mut stream = house.come_behind(b"")?;
     stream.write_all(b"\x02")?;
     let was_asked = is_asked(&mut stream, number)?;
-    for byte in SEVENTH {
+    for byte in answer {
         stream.write_all(&[*byte])?;
     }
     let is_greeted = hears(&mut stream, b"R")?;
     Ok(was_asked && is_greeted && house.has_come(stream.local_addr()?))
+}
+
+/// The numbers of the newcomers that guess at once. They are at least ten, and the next one that is asked has the sixth
+/// newcomer's challenge again.
+const FIRST_GUESSER: u8 = 7;
+
+const LAST_GUESSER: u8 = 19;
+
+const NEXT_ASKED: u8 = 21;
+
+/// The minute for which an address has to wait, in milliseconds.
+const A_MINUTE: u64 = 60_000;
+
+/// A newcomer that has answered wrongly.
+fn guesser<R: Wait + Drop>(house: &House<'_, R>, number: u8) -> io::Result<TcpStream> {
+    let mut stream = house.come()?;
+    stream.write_all(b"\x02")?;
+    if !is_asked(&mut stream, number)? {
+        return Err(io::Error::from(ErrorKind::InvalidData));
+    }
+    stream.write_all(&[0; 16])?;
+    stream.set_read_timeout(Some(Duration::from_millis(SOON)))?;
+    Ok(stream)
+}
+
+/// Whether newcomers hear nothing from an address from which ten wrong passwords came within a minute, and are asked
+/// again after it.
+fn guessers_wait<R: Wait + Drop>(house: &House<'_, R>) -> io::Result<bool> {
+    let mut guessers = Vec::new(house.net.alloc());
+    for number in FIRST_GUESSER..=LAST_GUESSER {
+        guessers.push(guesser(house, number)?)?;
+    }
+    for stream in guessers.as_mut_slice() {
+        if !is_told_late(house, stream)? {
+            return Ok(false);
+        }
+    }
+    let mut waits = house.come()?;
+    waits.set_read_timeout(Some(Duration::from_millis(SOON)))?;
+    let hears_nothing = soon(&mut waits)?.is_none();
+    house.pass(A_MINUTE);
+    Ok(hears_nothing && right_one_is_let_in(house, NEXT_ASKED, SIXTH)?)
 }
 
 /// Whether only the right answer to a newcomer's own challenge opens the port, and what the others are told.
@@ -159,5 +205,5 @@ pub(crate) fn lock_holds<R: Wait + Drop>(house: &House<'_, R>) -> io::Result<boo
         && none_is_not_taken(house)?
         && other_version_is_not_asked(house)?;
     let is_shut = drained_one_is_told(house, 5)?;
-    Ok(is_kept && is_shut && right_one_is_let_in(house, 6)?)
+    Ok(is_kept && is_shut && right_one_is_let_in(house, 6, SEVENTH)? && guessers_wait(house)?)
 }

@@ -14,6 +14,7 @@ use std::alloc::Global;
 use std::hash::RandomState;
 use std::io;
 use std::io::{ErrorKind, Read};
+use std::net::SocketAddr;
 use std::random::RandomSource;
 use std::sync::{Arc, Wait};
 use std::time::{Clock, Duration, Instant};
@@ -178,6 +179,10 @@ impl Newcomer for Caller {
 
     fn leave(&mut self, registry: &Registry) -> io::Result<()> {
         registry.deregister(&mut self.heard)
+    }
+
+    fn address(&self) -> Option<SocketAddr> {
+        self.arrival.whence().address()
     }
 
     /// Whether the caller has taken too long to ask, or too long to take a part of an answer. It has the same time in a

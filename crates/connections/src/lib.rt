@@ -11,6 +11,7 @@ mod desk;
 mod everyone;
 mod greeted;
 mod greeting;
+mod guesses;
 mod hello;
 mod host;
 mod host_listener;

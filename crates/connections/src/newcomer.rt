@@ -19,6 +19,7 @@ use run_traits::{Event, Way};
 use std::alloc::Global;
 use std::io;
 use std::io::ErrorKind;
+use std::net::SocketAddr;
 use std::random::RandomSource;
 use std::sync::{Arc, Wait};
 use std::time::{Clock, Duration, Instant};
@@ -129,6 +130,15 @@ impl TcpNewcomer {
         }
     }
 
+    /// What a log is told of a newcomer that has answered wrongly.
+    fn refusal(&self) -> Event<'static> {
+        Event::WrongPassword {
+            role: self.role,
+            address: self.address(),
+            way: Way::Tcp,
+        }
+    }
+
     /// How many seconds it may take. It has less time where the porter has no room for another newcomer.
     fn most_seconds(&self, is_crowded: bool) -> u64 {
         if is_crowded {
@@ -149,6 +159,10 @@ impl Newcomer for TcpNewcomer {
 
     fn leave(&mut self, registry: &Registry) -> io::Result<()> {
         registry.deregister(&mut self.greeting)
+    }
+
+    fn address(&self) -> Option<SocketAddr> {
+        self.greeting.whence().address()
     }
 
     fn is_late(&self, now: Instant, is_crowded: bool) -> bool {
@@ -176,6 +190,9 @@ impl Newcomer for TcpNewcomer {
     }
 
     fn complaint(&self, is_late: bool) -> Option<Event<'static>> {
+        if is_late && self.wrong.is_some() {
+            return Some(self.refusal());
+        }
         header_complaint(self.greeting.whence(), self.role, Way::Tcp, is_late)
     }
 

@@ -8,6 +8,7 @@ use roles::Role;
 use run_traits::{Event, Way};
 use std::alloc::Global;
 use std::io;
+use std::net::SocketAddr;
 use std::random::RandomSource;
 use std::sync::Wait;
 use std::time::{Clock, Duration, Instant};
@@ -70,6 +71,9 @@ pub(crate) trait Newcomer: Drop {
 
     /// No poll hears it any more.
     fn leave(&mut self, registry: &Registry) -> io::Result<()>;
+
+    /// The address from which it comes, if that is known by now.
+    fn address(&self) -> Option<SocketAddr>;
 
     /// Whether it has taken too long. It has less time where the porter has no room for another newcomer.
     fn is_late(&self, now: Instant, is_crowded: bool) -> bool;

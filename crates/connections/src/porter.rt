@@ -1,17 +1,18 @@
 //! Porters: a porter is one thread for all that comes before a link, at the web ports of a run or at a port over TCP.
 
 use crate::caller::WebEntry;
+use crate::guesses::Guesses;
 use crate::lobby::Entrance;
 use crate::newcomer::TcpEntry;
 use crate::port::{Newcomer, Port, Progress};
 use crate::refused::Refused;
 use crate::seat::Seat;
 use mio::{Events, Interest, Poll, Token};
-use run_traits::{Alarm, Log};
+use run_traits::{Alarm, Event, Log};
 use std::alloc::Global;
 use std::hash::RandomState;
 use std::io;
-use std::net::Net;
+use std::net::{Net, SocketAddr};
 use std::random::RandomSource;
 use std::sync::{Arc, Wait};
 use std::time::{Clock, Duration, Instant};
@@ -67,6 +68,14 @@ impl<C: Newcomer> Guests<C> {
         }
     }
 
+    /// The address of the newcomer in this slot, if there is one and its address is known by now.
+    fn address(&self, place: usize) -> Option<SocketAddr> {
+        match self.places.get(place) {
+            Some(Some(comer)) => comer.address(),
+            _ => None,
+        }
+    }
+
     /// Whether the newcomer in this slot, if there is one, has taken too long.
     fn is_late(&self, place: usize, now: Instant, is_crowded: bool) -> bool {
         match self.places.get(place) {
@@ -84,6 +93,7 @@ struct Porch<P: Port> {
     poll: Poll,
     entries: Vec<P>,
     guests: Guests<P::Comer>,
+    guesses: Guesses,
     refused: Refused,
     means: P::Means,
 }
@@ -106,6 +116,7 @@ impl<P: Port> Porch<P> {
             poll,
             entries,
             guests: Guests::new(alloc)?,
+            guesses: Guesses::new(alloc)?,
             refused: Refused::new(),
             means,
         })
@@ -161,21 +172,46 @@ impl<P: Port> Porch<P> {
         }
     }
 
-    /// Lets the newcomer in this slot go. `is_late` says whether it is late.
-    fn see_off<G: Log>(&mut self, place: usize, is_late: bool, log: &G) {
+    /// Lets the newcomer in this slot go, late at this moment or not late.
+    fn see_off<G: Log>(&mut self, place: usize, late: Option<Instant>, log: &G) {
         if let Some(comer) = self.guests.take(place) {
-            if let Some(event) = comer.complaint(is_late) {
+            if let Some(event) = comer.complaint(late.is_some()) {
+                self.count(&event, late);
                 log.note(&event);
             }
-            comer.part(is_late);
+            comer.part(late.is_some());
         }
     }
 
-    /// Goes on with the newcomer at this place.
+    /// Counts a wrong password, if this is one.
+    fn count(&mut self, event: &Event<'_>, late: Option<Instant>) {
+        if let (Event::WrongPassword { address, .. }, Some(now)) = (event, late) {
+            if let Some(address) = address {
+                self.guesses.note(address.ip(), now);
+            }
+        }
+    }
+
+    /// Whether too many wrong passwords have come from the address of the newcomer in this slot.
+    fn has_to_wait<R: Clock>(&self, rt: &R, place: usize) -> bool {
+        if self.guesses.is_empty() {
+            return false;
+        }
+        match (self.guests.address(place), Instant::now(rt)) {
+            (Some(address), Ok(now)) => self.guesses.bars(address.ip(), now),
+            _ => false,
+        }
+    }
+
+    /// Goes on with the newcomer at this place. One that has to wait hears nothing, and isn't let in.
     fn go_on<R: Wait + Clock, G: Log>(&mut self, rt: &R, place: usize, log: &G) {
+        if self.has_to_wait(rt, place) {
+            return;
+        }
         match self.guests.go_on(rt, place) {
             Progress::Waits => {}
-            Progress::Gone => self.see_off(place, false, log),
+            Progress::Gone => self.see_off(place, None, log),
+            Progress::Done if self.has_to_wait(rt, place) => self.see_off(place, None, log),
             Progress::Done => self.see_in(rt, place, log),
         }
     }
@@ -196,7 +232,7 @@ impl<P: Port> Porch<P> {
         let is_crowded = self.guests.free().is_none();
         for place in 0..MOST_GUESTS {
             if self.guests.is_late(place, now, is_crowded) {
-                self.see_off(place, true, log);
+                self.see_off(place, Some(now), log);
             }
         }
     }

@@ -91,6 +91,14 @@ impl Whence {
         }
     }
 
+    /// The newcomer's address, if it is known by now.
+    pub(crate) fn address(&self) -> Option<SocketAddr> {
+        match self.known() {
+            Some(Ok(address)) => address,
+            _ => None,
+        }
+    }
+
     /// The address that the system tells, if it does.
     pub fn peer(&self) -> Option<SocketAddr>
         ensures { result ≡ self.now.peer }

@@ -24,7 +24,7 @@ reflectord_viewers{role=\"view\"} 31
 # TYPE reflectord_viewers_total counter
 reflectord_viewers_total{role=\"full\"} 5
 reflectord_viewers_total{role=\"view\"} 600
-# HELP reflectord_refused_total Viewers that were refused: no free place, no host, nobody let in, or no proxy's header.
+# HELP reflectord_refused_total Viewers that were refused: no free place, no host, nobody let in, a wrong password, or no proxy's header.
 # TYPE reflectord_refused_total counter
 reflectord_refused_total{role=\"full\"} 0
 reflectord_refused_total{role=\"view\"} 7

@@ -48,7 +48,7 @@ after_places before c =
     let a = after_both before (codes "places") (codes "gauge") (codes "Places of a role.") c.places in
     let b = after_both a (codes "viewers") (codes "gauge") (codes "Viewers that have a place.") c.viewers in
     let d = after_both b (codes "viewers_total") (codes "counter") (codes "Viewers that came.") c.came in
-    after_both d (codes "refused_total") (codes "counter") (codes "Viewers that were refused: no free place, no host, nobody let in, or no proxy's header.") c.refused
+    after_both d (codes "refused_total") (codes "counter") (codes "Viewers that were refused: no free place, no host, nobody let in, a wrong password, or no proxy's header.") c.refused
 
 abbrev pub after_sent : List ℕ → Counters → List ℕ
 after_sent before c =

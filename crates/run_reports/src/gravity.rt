@@ -8,7 +8,7 @@ ghost use Rattle.run_reports.specs.Lines.{prefix_for};
 pub enum Gravity {
     /// The run ends by a fault.
     Fault,
-    /// A host has ended or wasn't joined.
+    /// A host has ended or wasn't joined, or a port is open to all.
     Warning,
     /// Every other line.
     Plain,

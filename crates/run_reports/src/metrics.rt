@@ -47,7 +47,7 @@ const VIEWERS_TOTAL: Family<'static> = Family {
 const REFUSED: Family<'static> = Family {
     name: "refused_total",
     kind: "counter",
-    help: "Viewers that were refused: no free place, no host, nobody let in, or no proxy's header.",
+    help: "Viewers that were refused: no free place, no host, nobody let in, a wrong password, or no proxy's header.",
 };
 
 const UPDATES: Family<'static> = Family {

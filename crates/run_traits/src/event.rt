@@ -68,6 +68,12 @@ pub enum Event<'a> {
         places: u64,
         way: Way,
     },
+    /// Whoever reaches this address has full control, since nobody is asked for a password there, and other machines
+    /// may reach it.
+    OpenToAll {
+        address: SocketAddr,
+        way: Way,
+    },
     /// The system was asked to connect to a host, and did so, or refused with this error. The address is missing where
     /// the system had none for the name in the host's text.
     HostTried {
@@ -115,6 +121,12 @@ pub enum Event<'a> {
     },
     /// A newcomer from the proxy was refused: what it sent is no header, or none came in time.
     NoHeader {
+        role: Role,
+        address: Option<SocketAddr>,
+        way: Way,
+    },
+    /// A newcomer to a locked port was refused: it answered wrongly when it was asked for the password.
+    WrongPassword {
         role: Role,
         address: Option<SocketAddr>,
         way: Way,

@@ -2,13 +2,15 @@
 use Rattle.run_reports.specs.declared.gravity.Gravity.{Gravity}
 use Rattle.run_reports.specs.declared.gravity.Gravity.TheVariants.{Warning, Plain}
 use Rattle.run_traits.specs.declared.event.Event.{Event}
-use Rattle.run_traits.specs.declared.event.Event.TheVariants.{HostOut}
+use Rattle.run_traits.specs.declared.event.Event.TheVariants.{HostOut, OpenToAll}
 use Rattle.serve.specs.declared.incident.Incident.{Incident}
 use Rattle.serve.specs.declared.incident.Incident.TheVariants.{Noted, MetricsListening, HostsListening, HostStopped, HostSkipped}
 
--- A host that has ended by itself, or wasn't joined, is a warning. Nothing else that happens at the doors is one.
+-- A host that has ended by itself, or wasn't joined, is a warning, and so is a port that is open to all. Nothing else
+-- that happens at the doors is one.
 abbrev pub event_gravity : Event → Gravity
 event_gravity (HostOut address why) = Warning
+event_gravity (OpenToAll address way) = Warning
 event_gravity event = Plain
 
 -- A host that was left because the run was asked to stop, or for its next host, is no warning either.

@@ -29,12 +29,14 @@ pub(crate) trait RunLog: Log {
     fn note_incident(&self, incident: &Incident<'_>);
 }
 
-/// How grave it is that this happens: a host that has ended by itself, or wasn't joined, is a warning.
+/// How grave it is that this happens: a host that has ended by itself, or wasn't joined, is a warning, and so is a port
+/// that is open to all.
 pub(crate) fn gravity_of(incident: &Incident<'_>) -> Gravity
     ensures { result ≡ gravity_for incident.now }
 {
     match incident {
         Incident::Noted(Event::HostOut { .. }) => Gravity::Warning,
+        Incident::Noted(Event::OpenToAll { .. }) => Gravity::Warning,
         _ => Gravity::Plain,
     }
 }

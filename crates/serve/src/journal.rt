@@ -1,5 +1,6 @@
 //! The log: a line an event, on standard error.
 
+use crate::exposure::Exposure;
 use crate::host_text::call_address;
 use crate::incident::{Incident, gravity_of};
 use crate::quoted::Quoted;
@@ -85,8 +86,15 @@ impl<R: Eprint + Clock + Wait + Drop> Journal<R> {
         }
     }
 
-    /// Notes that this has happened, with a line if the log is kept.
+    /// Notes that this has happened, with a line if the log is kept. That a port is open to all is said in any case.
     pub(crate) fn note(&self, incident: &Incident<'_>) {
+        if let Incident::Noted(Event::OpenToAll { address, way }) = incident {
+            let exposure = Exposure {
+                address: *address,
+                way: *way,
+            };
+            self.say(Gravity::Warning, format_args!("reflectord: {exposure}"));
+        }
         if !self.is_kept {
             return;
         }
@@ -243,6 +251,11 @@ impl Display for Line<'_> {
                 RoleName { role: *role },
                 By { way: *way }
             ),
+            Event::OpenToAll { address, way } => write!(
+                f,
+                "open-to-all role=full address={address}{}",
+                By { way: *way }
+            ),
             Event::HostTried {
                 host,
                 address,
@@ -303,6 +316,13 @@ impl Display for Line<'_> {
             Event::NoHeader { role, address, way } => write!(
                 f,
                 "no-header role={} address={}{}",
+                RoleName { role: *role },
+                AddressOrDash { address: *address },
+                By { way: *way }
+            ),
+            Event::WrongPassword { role, address, way } => write!(
+                f,
+                "viewer-refused why=password role={} address={}{}",
                 RoleName { role: *role },
                 AddressOrDash { address: *address },
                 By { way: *way }

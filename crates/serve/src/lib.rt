@@ -14,6 +14,7 @@ mod control;
 mod counters;
 mod ended;
 mod entries;
+mod exposure;
 mod halls;
 mod held_host;
 mod host_text;

@@ -11,13 +11,13 @@ ghost use Rattle.serve.specs.Ports.{AsksFor};
 use crate::bound::{Bound, Ports};
 use crate::password::key_of;
 use crate::trouble::{Stage, Trouble};
-use connections::{Desk, Lobby};
+use connections::{Desk, Key, Lobby};
 use fault::Fault;
 use roles::Role;
 use run_traits::{Event, Log, Way};
 use settings::{Settings, address_of, places_of, proxy_of};
 use std::alloc::Global;
-use std::net::{Net, TcpListener, TcpStream};
+use std::net::{Net, SocketAddr, TcpListener, TcpStream};
 use std::rt::Files;
 use std::sync::Arc;
 
@@ -33,6 +33,29 @@ pub(crate) struct Entry<'a> {
     pub(crate) ghost role: { bound.listener.role ≡ (arc_value lobby).role },
     pub(crate) ghost key: { bound.listener.key ≡ (arc_value lobby).key },
     pub(crate) ghost lock: { IsKeyFor (arc_value lobby).role settings.now (arc_value lobby).key },
+}
+
+/// Tells the log that the viewers of a role can connect at this address, by a port with this key. Where other machines
+/// may reach it, and whoever does has full control, the log is told so, too.
+pub(crate) fn announce<G: Log>(
+    log: &G,
+    role: Role,
+    key: &Key,
+    address: SocketAddr,
+    places: u64,
+    way: Way,
+) {
+    log.note(&Event::Listening {
+        role,
+        address,
+        places,
+        way,
+    });
+    let is_kept = key.is_locked() || address.ip().is_loopback();
+    match role {
+        Role::Full if !is_kept => log.note(&Event::OpenToAll { address, way }),
+        _ => {}
+    }
 }
 
 /// Listens for the viewers of a role, where the settings say, and tells the log where. A file with their password is
@@ -76,12 +99,7 @@ pub(crate) fn open<'a, R: Net<Stream = TcpStream, Listener = TcpListener> + File
     let Ok(lobby) = Arc::new(alloc, lobby) else {
         return Err(Trouble::new(Stage::Start, Fault::Memory));
     };
-    log.note(&Event::Listening {
-        role,
-        address,
-        places,
-        way: Way::Tcp,
-    });
+    announce(log, role, &key, address, places, Way::Tcp);
     Ok(Entry {
         settings,
         bound,

@@ -37,7 +37,7 @@ pub(crate) struct Sentry<R: Eprint + Clock + Wait + Drop> {
 /// What is counted of what happens at a door or at the host, if anything is.
 fn happening_at(event: &Event<'_>) -> Option<Happening> {
     match event {
-        Event::Listening { .. } | Event::HostTried { .. } => None,
+        Event::Listening { .. } | Event::OpenToAll { .. } | Event::HostTried { .. } => None,
         Event::HostJoined { .. } => Some(Happening::Joined),
         Event::HostOut { .. } => Some(Happening::HostLeft),
         Event::ViewerIn { place_id, .. } => Some(Happening::Came(place_id.role)),
@@ -45,7 +45,8 @@ fn happening_at(event: &Event<'_>) -> Option<Happening> {
         Event::PlacesTaken { role, .. }
         | Event::NoHost { role, .. }
         | Event::NoEntry { role, .. }
-        | Event::NoHeader { role, .. } => { Some(Happening::Refused(*role)) }
+        | Event::NoHeader { role, .. }
+        | Event::WrongPassword { role, .. } => { Some(Happening::Refused(*role)) }
     }
 }
 

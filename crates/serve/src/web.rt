@@ -10,14 +10,14 @@ ghost use Rattle.serve.specs.Origins.{IsAnOrigin};
 ghost use Rattle.serve.specs.Ports.{AsksForBrowsers, AsksForWeb};
 
 use crate::bound::{Bound, Ports};
-use crate::open::Entry;
+use crate::open::{Entry, announce};
 use crate::origins::{admission_of, first_bad};
 use crate::runtime::{REQUEST_STACK, Runtime};
 use crate::trouble::{Stage, Trouble};
 use connections::{Seat, WebEntry, WebPorter};
 use fault::Fault;
 use roles::Role;
-use run_traits::{Event, Log, Way};
+use run_traits::{Log, Way};
 use settings::{Settings, places_of, proxy_of, web_address_of, web_port_of};
 use std::alloc::{AllocError, AllocGlobal, Global};
 use std::hash::RandomState;
@@ -123,19 +123,15 @@ fn open_web<R: Net<Stream = TcpStream, Listener = TcpListener>, G: Log>(
     let Ok(proxy) = proxy_of(settings) else {
         return Err(Trouble::new(Stage::ReadProxy, Fault::LinkFailed));
     };
-    let bound = match Bound::at(rt, ports, address, role, lobby.key(), proxy) {
+    let key = lobby.key();
+    let bound = match Bound::at(rt, ports, address, role, key, proxy) {
         Ok(bound) => bound,
         Err(error) => return Err(Trouble::of(Stage::ListenWeb(role), error)),
     };
     match WebEntry::new(bound.into_listener(), site, lobby) {
         Ok(web) => {
             let places = places_of(settings, role);
-            log.note(&Event::Listening {
-                role,
-                address,
-                places,
-                way: Way::Web,
-            });
+            announce(log, role, &key, address, places, Way::Web);
             Ok(Some(web))
         }
         Err(error) => Err(Trouble::of(Stage::ListenWeb(role), error)),

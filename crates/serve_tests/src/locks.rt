@@ -73,18 +73,11 @@ const SCENES: &[Scene] = &[
                 Step::IsQuiet,
             ],
         }],
-        full: &[
-            Visit {
-                entry: Entry::Connects,
-                steps: &[TRIES_THE_OTHER],
-                told: None,
-            },
-            Visit {
-                entry: Entry::Connects,
-                steps: &[KNOWS_THE_PASSWORD],
-                told: Some(" answers=0 bytes=43 why=\"ended\""),
-            },
-        ],
+        full: &[Visit {
+            entry: Entry::Connects,
+            steps: &[KNOWS_THE_PASSWORD],
+            told: Some(" answers=0 bytes=43 why=\"ended\""),
+        }],
         view: &[Visit {
             entry: Entry::Connects,
             steps: &[KNOWS_THE_OTHER],

@@ -65,7 +65,7 @@ where
 }
 
 /// What a run says that finds a port taken.
-const IS_TAKEN: &str = "can't listen on 127.0.0.";
+const IS_TAKEN: &str = "can't listen on ";
 
 /// Whether a play goes as it should. It is played again where another program had taken one of its ports meanwhile.
 fn is_right_at_last<R>(rt: R, alloc: Global, play: &Play<'_>) -> Result<bool, AllocError>
