@@ -1,0 +1,4 @@
+pub mod Entries
+pub mod Looking
+pub mod Places
+pub mod Spelling

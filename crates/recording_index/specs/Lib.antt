@@ -1,0 +1,4 @@
+pub mod BadNumber
+pub mod IndexBytes
+pub mod IndexReading
+pub mod KeyMoments
