@@ -1,0 +1,6 @@
+pub mod Taping
+pub mod Grown
+pub mod Points
+pub mod Talked
+pub mod Linking
+pub mod Played

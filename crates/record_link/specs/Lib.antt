@@ -1,0 +1,5 @@
+pub mod Storing
+pub mod Tapes
+pub mod Growing
+pub mod Talking
+pub mod Linked
