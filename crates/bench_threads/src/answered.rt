@@ -44,6 +44,7 @@ impl Piece {
             choice: Choice {
                 kind: Encoding::Raw,
                 copy: false,
+                resizes: false,
             },
         };
         let mut answer = Answer::start(cut, &ALL, style);

@@ -92,7 +92,7 @@ impl Room {
     /// The whole screen was sent at the last cut.
     pub fn keep_all(&mut self) {
         let number = self.cut.number;
-        self.have.keep(&ALL, number);
+        self.have.keep(&ALL, None, number);
     }
 }
 

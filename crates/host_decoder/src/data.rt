@@ -8,7 +8,8 @@ ghost use Rattle.raster.specs.Screen.{Canvas, IsWithin};
 ghost use Rattle.raster.specs.Size.{IsScreenSize};
 ghost use Rattle.raster.specs.Update.{Paint};
 ghost use Rattle.painter.specs.Painter.{IsAsLarge, IsPaintedOver, Painting};
-ghost use Rattle.rfb_wire.specs.ServerMessage.{data_of, desktop_size};
+ghost use Rattle.rfb_wire.specs.ClientMessage.{desktop_size};
+ghost use Rattle.rfb_wire.specs.ServerMessage.{data_of};
 ghost use Rattle.host_decoder.specs.Data.{DataStands, Fed, IsSameArea, IsWanting};
 
 use crate::body::Body;

@@ -113,7 +113,7 @@ fn serve_viewer<R: Wait>(
     let takes = vec![in alloc; Took::Bytes(VIEWER.len()), Took::End]?;
     let gives = Vec::from_elem(alloc, Gave::Bytes(ROOM), PIECES)?;
     let link = MemoryLink::new(alloc, sends, takes, gives)?;
-    let session = Session::ready(alloc, WIDTH, HEIGHT, Role::View, Runs::Joined)?;
+    let session = Session::ready(alloc, WIDTH, HEIGHT, Role::View, Runs::Joined, None)?;
     let first = Beginning::of(&link, &screen, &NoInput, &session);
     let mut visit = Visit::new(&first, link, screen, NoInput, session);
     let ended = run_viewer(rt, &mut visit, &NoStop, &NoRest, &NoProgress);

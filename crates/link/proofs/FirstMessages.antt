@@ -3,7 +3,7 @@ use Rattle.std.proofs.Common.{◌≡◌, ℕ, false, List, [], ◌∷◌, ◌++�
 use Rattle.std.proofs.lemmas.List.{append-nil, drop_all}
 use Rattle.pixel_format.specs.PixelFormat.{host_format}
 use Rattle.rfb_wire.specs.Handshake.{Joined}
-use Rattle.rfb_wire.specs.ServerMessage.{desktop_size}
+use Rattle.rfb_wire.specs.ClientMessage.{desktop_size}
 use Rattle.rfb_wire.specs.Writing.{Writes, set_pixel_format_bytes, set_encodings_bytes, request_bytes}
 use Rattle.link.specs.Joins.{first_messages}
 

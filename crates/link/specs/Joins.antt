@@ -5,7 +5,7 @@ use Rattle.byte_reading.specs.Reading.{Faulty, after, Spells}
 use Rattle.fault.specs.declared.kinds.Fault.{Fault}
 use Rattle.fault.specs.declared.kinds.Fault.TheVariants.{LinkFailed, LinkEnded}
 use Rattle.rfb_wire.specs.Handshake.{Joined, host_hello, said_to_host}
-use Rattle.rfb_wire.specs.ServerMessage.{desktop_size}
+use Rattle.rfb_wire.specs.ClientMessage.{desktop_size}
 use Rattle.rfb_wire.specs.Writing.{set_pixel_format_bytes, set_encodings_bytes, request_bytes}
 use Rattle.link.specs.Links.{LinkState, HasRisen}
 

@@ -102,7 +102,7 @@ fn serves_anew<R: Wait + Drop>(
     sink: Sink<R>,
 ) -> Result<bool, Fault> {
     let screen = red_and_blue(alloc)?;
-    let session = Session::ready(alloc, 2, 1, case.role, Runs::OfRows)?;
+    let session = Session::ready(alloc, 2, 1, case.role, Runs::OfRows, None)?;
     Ok(serves(rt, case, link, sink, screen, session))
 }
 

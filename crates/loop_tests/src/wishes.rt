@@ -116,7 +116,7 @@ fn wish_for<R: Wait + Drop + Copy>(
         screen: red_and_blue(alloc)?,
         wish: AtomicU64::new(NONE),
     };
-    let session = Session::ready(alloc, 2, 1, Role::View, runs)?;
+    let session = Session::ready(alloc, 2, 1, Role::View, runs, None)?;
     let watch = make_watch(ALWAYS);
     let first = Beginning::of(&link, &source, &sink, &session);
     let mut visit = Visit::new(&first, link, source, sink, session);

@@ -2,7 +2,7 @@
 use Rattle.std.proofs.Common.{◌≡◌, ℕ, List, [], ◌∷◌, length, true, false, refl, ap, ◌∙◌, arith}
 use Rattle.std.specs.Prelude.{Some, None}
 use Rattle.raster.specs.declared.rect.Rect.{Rect}
-use Rattle.tiles.specs.Touched.{Requested, NewFormat, WasCut, Answered}
+use Rattle.tiles.specs.Touched.{Requested, NewFormat, NewSize, WasCut, Answered}
 use Rattle.raster.specs.Update.{Update, View, Paints, Bell, view}
 use Rattle.raster.specs.Update as update
 use Rattle.reflect_core.specs.Asked.{pending, has_asked, last_cut}
@@ -20,6 +20,13 @@ area_outlives_a_cut = refl
 
 pub cut_ends_the_asking : has_asked (WasCut 2 ∷ Requested true (rect 0 0 4 4) ∷ []) ≡ false
 cut_ends_the_asking = refl
+
+-- A size that is told ends it as well: the viewer asks again.
+pub size_ends_the_area : pending (NewSize (record { width = 2; height = 2 }) ∷ WasCut 2 ∷ Requested true (rect 0 0 4 4) ∷ []) ≡ None
+size_ends_the_area = refl
+
+pub size_is_no_cut : last_cut (NewSize (record { width = 2; height = 2 }) ∷ WasCut 2 ∷ []) ≡ Some 2
+size_is_no_cut = refl
 
 -- Two requests ask for the least rectangle that holds both, and what lies between them is in it. One of no size adds
 -- nothing.

@@ -5,7 +5,8 @@ ghost use Rattle.raster.specs.declared.rect.Rect.{Rect};
 ghost use Rattle.raster.specs.Screen.{IsWithin, is_empty};
 ghost use Rattle.raster.specs.Size.{IsScreenSize};
 ghost use Rattle.reflect_core.specs.Asked.{AskedStands, IsSameScreen, LiesOn};
-ghost use Rattle.tiles.specs.Touched.{Event, Requested, NewFormat, WasCut, Answered};
+ghost use Rattle.raster.specs.declared.size.Size.{Size};
+ghost use Rattle.tiles.specs.Touched.{Event, Requested, NewFormat, NewSize, WasCut, Answered};
 
 use raster::Rect;
 use std::marker::Model;
@@ -79,6 +80,7 @@ impl Asked {
     /// The source was cut, at this number.
     pub fn was_cut(&mut self, number: u64)
         ensures size { IsSameScreen self.old self.new }
+        ensures area { self.new.area ≡ self.old.area }
         ensures last { self.new.last ≡ Some number }
         ensures stands { (es : List Event) → AskedStands self.old es → AskedStands self.new (WasCut number ∷ es) }
     {
@@ -86,11 +88,12 @@ impl Asked {
         self.last = Some(number);
     }
 
-    /// An answer was begun: nothing is pending any longer.
+    /// An answer was begun, or a size is told: nothing is pending any longer.
     pub fn answered(&mut self)
         ensures size { IsSameScreen self.old self.new }
         ensures last { self.new.last ≡ self.old.last }
         ensures stands { (area : Rect) (number : ℕ) (es : List Event) → AskedStands self.old es → AskedStands self.new (Answered area number ∷ es) }
+        ensures resized { (size : Size) (es : List Event) → AskedStands self.old es → AskedStands self.new (NewSize size ∷ es) }
     {
         self.area = None;
     }

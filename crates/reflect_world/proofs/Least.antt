@@ -8,7 +8,7 @@ use Rattle.raster.specs.Screen.{common, cover, holds, is_empty, lies_in, whole_s
 use Rattle.raster.proofs.Places.{Has, has_holds, holds_has}
 use Rattle.std.proofs.lemmas.Bool.Decides.{nat_tests}
 use Rattle.reflect_core.specs.Asked.{covered, pending}
-use Rattle.viewer_session.specs.Record.{Entry, Took, Saw, MadeCut, Began, events}
+use Rattle.viewer_session.specs.Record.{Entry, Took, Saw, MadeCut, Began, ToldSize, events}
 use Rattle.rfb_wire.specs.ClientMessage.{SetPixelFormat, SetEncodings, Ask, Key, Pointer, CutText, LostText}
 use Rattle.reflect_world.specs.Headline.{requests, HoldsAll, IsLeast}
 
@@ -116,6 +116,7 @@ area_of w h (Took (LostText len) ∷ es) = area_of w h es
 area_of w h (Saw n ∷ es) = area_of w h es
 area_of w h (MadeCut n ∷ es) = area_of w h es
 area_of w h (Began area n bytes ∷ es) = λ other. tt
+area_of w h (ToldSize size n bytes ∷ es) = λ other. tt
 
 pub is_least : (w h : ℕ) (es : List Entry) (area : Rect) → pending (events w h es) ≡ Some area → IsLeast area (requests w h es)
 is_least w h es area e =

@@ -10,13 +10,14 @@ use Rattle.std.proofs.lemmas.List.{append-nil, take-append-le, take_all}
 use Rattle.std.proofs.lemmas.List.Elements.{filter_map-append}
 use Rattle.byte_reading.specs.Reading.{Reading, Done, Faulty, Want, step, wants_more}
 use Rattle.raster.specs.declared.rect.Rect.{Rect}
+use Rattle.raster.specs.declared.size.Size.{Size}
 use Rattle.raster.specs.Update.{Update, view}
 use Rattle.joined_runs.specs.declared.runs.Runs.{Runs}
 use Rattle.rfb_wire.specs.ClientMessage.{ClientMessage, client_message}
 use Rattle.roles.specs.Allowed.{Input, passes}
 use Rattle.reflect_core.specs.Sequential as history
-use Rattle.viewer_session.specs.Record.{Entry, Took, Saw, MadeCut, Began, NumbersUpTo}
-use Rattle.viewer_session.specs.Turn.{began_at, has_reason, record_after_cut, update_at}
+use Rattle.viewer_session.specs.Record.{Entry, Took, Saw, MadeCut, Began, ToldSize, NumbersUpTo}
+use Rattle.viewer_session.specs.Turn.{has_reason, record_after_cut, size_at, told_at, update_at}
 use Rattle.viewer_session.specs.Viewer.{Setup, Viewer, after_bytes, after_byte, after_cut, after_hello, after_reading, with_input, marked, viewer_fault, may_look, new_viewer}
 use Rattle.viewer_session.proofs.Stands.{numbers_more}
 use Rattle.reflect_world.proofs.NextHosts.{next_either}
@@ -52,12 +53,13 @@ own_made_cut us mine es k =
           ∙ (ap (λ t. t ++ history.Cut (view (take (length us) us)) ∷ []) k.same ∙ ap (λ (q : List Update). mine ++ history.Cut (view q) ∷ []) (take_all (length us) us (omega arith)));
     }
 
-own_began : (us : List Update) (mine : List history.Step) (n : ℕ) (o : Option (Rect × List ℕ)) (es : List Entry) → n ≤ length us → HasOwn us mine es → HasOwn us mine (began_at n o es)
-own_began us mine n None es le k = k
-own_began us mine n (Some found) es le k = record { numbers = (le, k.numbers); same = k.same }
+own_began : (us : List Update) (mine : List history.Step) (n : ℕ) (size : Option Size) (o : Option (Rect × List ℕ)) (es : List Entry) → n ≤ length us → HasOwn us mine es → HasOwn us mine (told_at n size o es)
+own_began us mine n (Some size) o es le k = record { numbers = (le, k.numbers); same = k.same }
+own_began us mine n None None es le k = k
+own_began us mine n None (Some found) es le k = record { numbers = (le, k.numbers); same = k.same }
 
-own_cut : (form : Runs) (w h : ℕ) (us : List Update) (mine : List history.Step) (es : List Entry) → HasOwn us mine es → HasOwn us (mine ++ history.Cut (view us) ∷ []) (record_after_cut form w h es us)
-own_cut form w h us mine es k = own_began us (mine ++ history.Cut (view us) ∷ []) (length us) (update_at form w h es us) (MadeCut (length us) ∷ es) (omega arith) (own_made_cut us mine es k)
+own_cut : (form : Runs) (w h : ℕ) (host : Option Size) (us : List Update) (mine : List history.Step) (es : List Entry) → HasOwn us mine es → HasOwn us (mine ++ history.Cut (view us) ∷ []) (record_after_cut form w h host es us)
+own_cut form w h host us mine es k = own_began us (mine ++ history.Cut (view us) ∷ []) (length us) (size_at w h host es us) (update_at form w h es us) (MadeCut (length us) ∷ es) (omega arith) (own_made_cut us mine es k)
 
 -- What was cut stays so when an update is put.
 replied_more : (us : List Update) (u : Update) (es : List Entry) → NumbersUpTo (length us) es → filter_map (replied_in (us ++ u ∷ [])) es ≡ filter_map (replied_in us) es
@@ -68,6 +70,7 @@ replied_more us u (MadeCut n ∷ es) k =
     ap (λ (q : List Update). history.Cut (view q) ∷ filter_map (replied_in (us ++ u ∷ [])) es) (take-append-le n us (u ∷ []) k.0)
     ∙ ap (λ t. history.Cut (view (take n us)) ∷ t) (replied_more us u es k.1)
 replied_more us u (Began area n bytes ∷ es) k = replied_more us u es k.1
+replied_more us u (ToldSize size n bytes ∷ es) k = replied_more us u es k.1
 
 own_put_one : (us : List Update) (u : Update) (mine : List history.Step) (o : Option Viewer) → OwnIf us mine o → OwnIf (us ++ u ∷ []) mine o
 own_put_one us u mine None k = tt
@@ -201,7 +204,7 @@ own_cut_at : (s : Setup) (w : World) (v : ℕ) (p : Viewer) (o : Option ℕ) →
 own_cut_at s w v p None h k = own_set w v (Some p) h k
 own_cut_at s w v p (Some looked) h k =
     own_if (has_reason s.w s.h p.entries looked) _ _
-    (own_takes w v (history.Cut (view w.shared.updates)) (after_cut s w.shared.updates p) h (own_cut s.runs s.w s.h w.shared.updates (own_steps w v) p.entries k)) (own_set w v _ h k)
+    (own_takes w v (history.Cut (view w.shared.updates)) (after_cut s w.shared.updates p) h (own_cut s.runs s.w s.h s.host w.shared.updates (own_steps w v) p.entries k)) (own_set w v _ h k)
 
 own_send : (s : Setup) (w : World) (v : ℕ) (p : Viewer) (o : Option Input) → IsOwn w → HasOwn w.shared.updates (own_steps w v) p.entries → IsOwn (send_waiting s w v p o)
 own_send s w v p None h k = own_set w v _ h k

@@ -356,11 +356,11 @@ held_is new looked written unread =
     ap with_looked looked ∙ (ap with_written written ∙ ap with_unread unread)
 
 pub joined_reaches : (standing : Standing) (v : ℕ) (name : List ℕ) (runs : Runs) (role : Role) (greet : Bool) (new : Held) → v < 65 → new.looked ≡ None → new.written ≡ [] → new.unread ≡ [] → new.session.asked.last ≡ None
-    → ((s : Setup) → s.w ≡ standing.screen.width → s.h ≡ standing.screen.height → s.name ≡ name → s.runs ≡ runs → Stands s new.session (new_viewer role greet))
+    → ((s : Setup) → s.w ≡ standing.screen.width → s.h ≡ standing.screen.height → s.name ≡ name → s.runs ≡ runs → s.host ≡ None → Stands s new.session (new_viewer role greet))
     → JoinsUnder name runs (Join v role greet) standing (with_place standing v new)
-joined_reaches standing v name runs role greet new within looked written unread uncut stands s w named formed r =
+joined_reaches standing v name runs role greet new within looked written unread uncut stands s w named formed untold r =
     subst (λ h. Reached s (with_place standing v h) (happens s w (Join v role greet))) (sym (held_is new looked written unread))
-    (reached_join s standing w v role greet new.session r within (stands s (sym r.width) (sym r.height) named formed) uncut)
+    (reached_join s standing w v role greet new.session r within (stands s (sym r.width) (sym r.height) named formed untold) uncut)
 
 -- What a cut asks for.
 pub ready_there : (s : Setup) (standing : Standing) (w : World) (v : ℕ) (found : Option Held) (place : Held) → Reached s standing w → v < 65 → found ≡ slice_index_or standing.places v found → found ≡ Some place
@@ -519,10 +519,10 @@ broken_off standing v found place new within at e broken s w r =
 
 -- A viewer joins, also where memory was refused before.
 pub joined_shows : (standing : Standing) (v : ℕ) (name : List ℕ) (runs : Runs) (role : Role) (greet : Bool) (new : Held) → v < 65 → new.written ≡ []
-    → ((s : Setup) → s.w ≡ standing.screen.width → s.h ≡ standing.screen.height → s.name ≡ name → s.runs ≡ runs → Stands s new.session (new_viewer role greet))
+    → ((s : Setup) → s.w ≡ standing.screen.width → s.h ≡ standing.screen.height → s.name ≡ name → s.runs ≡ runs → s.host ≡ None → Stands s new.session (new_viewer role greet))
     → ShowsUnder name runs (Join v role greet) standing (with_place standing v new)
-joined_shows standing v name runs role greet new within written stands s w named formed shown =
-    let stood : Stands s new.session (new_viewer role greet) = stands s (sym shown.width) (sym shown.height) named formed in
+joined_shows standing v name runs role greet new within written stands s w named formed untold shown =
+    let stood : Stands s new.session (new_viewer role greet) = stands s (sym shown.width) (sym shown.height) named formed untold in
     record {
       size = shown.size;
       width = shown.width;

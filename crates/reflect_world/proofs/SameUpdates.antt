@@ -5,22 +5,23 @@ use Rattle.std.specs.Prelude.{◌&&◌, ◌||◌, if◌then◌else◌, not, nat_
 use Rattle.std.specs.List.{list_any, range_with_len}
 use Rattle.std.proofs.lemmas.List.{drop-map, take-map}
 use Rattle.raster.specs.declared.rect.Rect.{Rect}
-use Rattle.raster.specs.Screen.{IsWithin, meets, opening, tile_count, tile_rect}
-use Rattle.raster.specs.Update.{Update, bells, screen}
+use Rattle.raster.specs.declared.size.Size.{Size}
+use Rattle.raster.specs.Screen.{IsWithin, common, meets, opening, tile_count, tile_rect, whole_screen}
+use Rattle.raster.specs.Update.{Update, bells, last_size, screen}
 use Rattle.joined_runs.specs.declared.runs.Runs.{Runs}
 use Rattle.rfb_wire.specs.Writing.{bell_bytes, update_bytes}
 use Rattle.tiles.specs.Touched.{bell_or_text, is_due_since, last_sent, runs, touches}
 use Rattle.tiles.proofs.RunLaws.{runs_within}
 use Rattle.painter.specs.Same.{AreSameFrom}
-use Rattle.painter.proofs.SameLaws.{same_bells, same_shows, same_texts}
+use Rattle.painter.proofs.SameLaws.{same_bells, same_shows, same_sizes, same_texts}
 use Rattle.reflect_core.specs.Asked.{pending}
 use Rattle.update_encoder.specs.Answer.{answer_bytes}
 use Rattle.update_encoder.proofs.CutLaws.{all_same, each_same}
 use Rattle.viewer_session.specs.Record.{Entry, MadeCut, choice_of, events}
-use Rattle.viewer_session.specs.Turn.{all_were_sent, bell_at, began_at, due_tile, due_tile_in, news_since, newer_text, record_after_cut, sent_at, style_of, text_at, update_at, update_for, update_part, was_sent}
+use Rattle.viewer_session.specs.Turn.{all_were_sent, asked_part, bell_at, clipped_to, due_tile, due_tile_in, news_since, newer_text, record_after_cut, sent_at, size_at, size_for, size_or_update, style_of, text_at, told_at, told_of, update_at, update_for, was_sent}
 use Rattle.viewer_session.specs.Viewer.{Setup, Viewer, after_cut}
 use Rattle.viewer_session.proofs.SameRuns as same_runs
-use Rattle.viewer_session.proofs.Stands.{pending_within}
+use Rattle.viewer_session.proofs.Stands.{clipped_on, pending_within}
 
 -- ---- tiles
 
@@ -55,10 +56,12 @@ answer_same form w h es us vs area sent on same =
     (each_same (screen us) (screen vs) w h rs (runs_within w h area (due_tile w h es us) on) (λ x y lx ly e. same_shows w h opening opening us vs same x y lx ly)))
     ∙ ap (answer_bytes (style_of form es) (screen vs) sent) (same_runs.runs_same w h area (due_tile w h es us) (due_tile w h es vs) (due_same w h es us vs same))
 
-update_same : (form : Runs) (w h : ℕ) (es : List Entry) (us vs : List Update) (o : Option Rect) → pending (events w h es) ≡ o → AreSameFrom w h opening opening us vs → update_for form w h es us o ≡ update_for form w h es vs o
+update_same : (form : Runs) (w h : ℕ) (es : List Entry) (us vs : List Update) (o : Option Rect) → pending (events w h es) ≡ o → AreSameFrom w h opening opening us vs
+    → update_for form w h es us (clipped_to (told_of w h es) o) ≡ update_for form w h es vs (clipped_to (told_of w h es) o)
 update_same form w h es us vs None e same = refl
-update_same form w h es us vs (Some area) e same =
-    let on : IsWithin area w h = pending_within w h es area e in
+update_same form w h es us vs (Some whole) e same =
+    let area : Rect = common whole (whole_screen (told_of w h es).width (told_of w h es).height) in
+    let on : IsWithin area w h = clipped_on whole (told_of w h es).width (told_of w h es).height w h (pending_within w h es whole e) in
     let some : list_any (due_tile_in w h es us area) (range_with_len 0 (tile_count w h)) ≡ list_any (due_tile_in w h es vs area) (range_with_len 0 (tile_count w h)) =
     same_runs.any_same (due_tile_in w h es us area) (due_tile_in w h es vs area) (tile_count w h) 0 (λ t lo hi. due_in_same w h es us vs area same t (omega (arith, hi))) in
     let bytes : List ℕ = answer_bytes (style_of form es) (screen us) (all_were_sent w h es us area) (runs w h area (due_tile w h es us)) in
@@ -86,19 +89,30 @@ text_same us vs (Some n) same = ap (newer_text n) (same_texts None 1 us vs same)
 
 -- ---- all of it
 
-said_same : (form : Runs) (w h : ℕ) (es : List Entry) (us vs : List Update) → AreSameFrom w h opening opening us vs → sent_at form w h es us ≡ sent_at form w h es vs
-said_same form w h es us vs same =
-    let last : Option ℕ = news_since w h es in
-    ap (λ (bs : List ℕ). bs ++ text_at us last ++ update_part (update_at form w h es us)) (bell_same us vs last same.kinds)
-    ∙ (ap (λ (ts : List ℕ). bell_at vs last ++ ts ++ update_part (update_at form w h es us)) (text_same us vs last same.kinds)
-    ∙ ap (λ o. bell_at vs last ++ text_at vs last ++ update_part o) (update_at_same form w h es us vs same))
+size_same : (w h : ℕ) (host : Option Size) (es : List Entry) (us vs : List Update) → AreSameFrom w h opening opening us vs → size_at w h host es us ≡ size_at w h host es vs
+size_same w h host es us vs same = ap (λ (last : Option Size). size_for w h host (choice_of es).resizes (told_of w h es) last (pending (events w h es))) (same_sizes None us vs same.kinds)
 
-record_same : (form : Runs) (w h : ℕ) (es : List Entry) (us vs : List Update) → AreSameFrom w h opening opening us vs → record_after_cut form w h es us ≡ record_after_cut form w h es vs
-record_same form w h es us vs same =
-    ap (λ n. began_at n (update_at form w h es us) (MadeCut n ∷ es)) same.count ∙ ap (λ o. began_at (length vs) o (MadeCut (length vs) ∷ es)) (update_at_same form w h es us vs same)
+part_same : (form : Runs) (w h : ℕ) (host : Option Size) (es : List Entry) (us vs : List Update) → AreSameFrom w h opening opening us vs
+    → size_or_update (size_at w h host es us) (update_at form w h es us) ≡ size_or_update (size_at w h host es vs) (update_at form w h es vs)
+part_same form w h host es us vs same =
+    ap (λ size. size_or_update size (update_at form w h es us)) (size_same w h host es us vs same) ∙ ap (size_or_update (size_at w h host es vs)) (update_at_same form w h es us vs same)
+
+said_same : (form : Runs) (w h : ℕ) (host : Option Size) (es : List Entry) (us vs : List Update) → AreSameFrom w h opening opening us vs → sent_at form w h host es us ≡ sent_at form w h host es vs
+said_same form w h host es us vs same =
+    let last : Option ℕ = news_since w h es in
+    let part : List ℕ = size_or_update (size_at w h host es us) (update_at form w h es us) in
+    ap (λ (bs : List ℕ). bs ++ text_at us last ++ part) (bell_same us vs last same.kinds)
+    ∙ (ap (λ (ts : List ℕ). bell_at vs last ++ ts ++ part) (text_same us vs last same.kinds)
+    ∙ ap (λ (bytes : List ℕ). bell_at vs last ++ text_at vs last ++ bytes) (part_same form w h host es us vs same))
+
+record_same : (form : Runs) (w h : ℕ) (host : Option Size) (es : List Entry) (us vs : List Update) → AreSameFrom w h opening opening us vs → record_after_cut form w h host es us ≡ record_after_cut form w h host es vs
+record_same form w h host es us vs same =
+    ap (λ n. told_at n (size_at w h host es us) (update_at form w h es us) (MadeCut n ∷ es)) same.count
+    ∙ (ap (λ size. told_at (length vs) size (update_at form w h es us) (MadeCut (length vs) ∷ es)) (size_same w h host es us vs same)
+    ∙ ap (λ o. told_at (length vs) (size_at w h host es vs) o (MadeCut (length vs) ∷ es)) (update_at_same form w h es us vs same))
 
 -- What a cut makes of a viewer is the same.
 pub cut_same : (s : Setup) (us vs : List Update) (p : Viewer) → AreSameFrom s.w s.h opening opening us vs → after_cut s us p ≡ after_cut s vs p
 cut_same s us vs p same =
-    ap (λ (bytes : List ℕ). record p { looked = None; said_after = p.said_after ++ bytes; entries = record_after_cut s.runs s.w s.h p.entries us }) (said_same s.runs s.w s.h p.entries us vs same)
-    ∙ ap (λ (es : List Entry). record p { looked = None; said_after = p.said_after ++ sent_at s.runs s.w s.h p.entries vs; entries = es }) (record_same s.runs s.w s.h p.entries us vs same)
+    ap (λ (bytes : List ℕ). record p { looked = None; said_after = p.said_after ++ bytes; entries = record_after_cut s.runs s.w s.h s.host p.entries us }) (said_same s.runs s.w s.h s.host p.entries us vs same)
+    ∙ ap (λ (es : List Entry). record p { looked = None; said_after = p.said_after ++ sent_at s.runs s.w s.h s.host p.entries vs; entries = es }) (record_same s.runs s.w s.h s.host p.entries us vs same)

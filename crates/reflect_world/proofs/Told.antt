@@ -10,7 +10,7 @@ use Rattle.rfb_wire.specs.Texts.{BringsShortText}
 use Rattle.rfb_wire.proofs.ShortTexts.{server_message_short}
 use Rattle.host_decoder.proofs.ShortUpdates.{updates_short}
 use Rattle.update_encoder.specs.Follower.{HoldsArea}
-use Rattle.viewer_session.specs.Record.{Entry, Took, Saw, MadeCut, Began}
+use Rattle.viewer_session.specs.Record.{Entry, Took, Saw, MadeCut, Began, ToldSize}
 use Rattle.viewer_session.specs.Turn.{news_since}
 use Rattle.viewer_session.specs.Viewer.{Setup, out_bytes}
 use Rattle.viewer_session.specs.Stream.{Heard, Format, Bytes, news_at, heard, stream_of, Listener}
@@ -69,6 +69,7 @@ heard_begins w h us (Saw number ∷ later) earlier = heard_begins w h us later e
 heard_begins w h us (MadeCut number ∷ later) earlier =
     one_more (heard w h us earlier) (heard w h us (later ++ earlier)) (Bytes (news_at (take number us) (news_since w h (later ++ earlier)))) (heard_begins w h us later earlier)
 heard_begins w h us (Began area number bytes ∷ later) earlier = one_more (heard w h us earlier) (heard w h us (later ++ earlier)) (Bytes bytes) (heard_begins w h us later earlier)
+heard_begins w h us (ToldSize size number bytes ∷ later) earlier = one_more (heard w h us earlier) (heard w h us (later ++ earlier)) (Bytes bytes) (heard_begins w h us later earlier)
 
 pub read_in : (s : Setup) → s.w ≤ 4096 → s.h ≤ 4096 → (es : List Step) → IsRead s (play s es)
 read_in s lw lh es v p e later earlier split =

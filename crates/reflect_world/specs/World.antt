@@ -78,9 +78,9 @@ pub record Kept : Type 0 where
   pub steps : List Step
   pub is_refused : Bool
 
--- The setup of the definitions: the world's screen, its room and its form.
+-- The setup of the definitions: the world's screen, its room and its form. Its viewers aren't told of sizes.
 abbrev pub setup_of : Kept → Setup
-setup_of k = record { w = k.width; h = k.height; name = k.name; room = k.room; runs = k.runs }
+setup_of k = record { w = k.width; h = k.height; name = k.name; room = k.room; runs = k.runs; host = None }
 
 -- The world of the definitions that its schedule makes.
 abbrev pub world_of : Kept → World
@@ -259,9 +259,9 @@ has_waiting (Some p) = is_some p.waiting
 abbrev pub TakesStep : Step → Standing → Standing → Type 0
 TakesStep e old new = (s : Setup) (w : World) → Reached s old w → Reached s new (happens s w e)
 
--- The same as TakesStep, over a screen of this name whose viewers are answered in this form.
+-- The same as TakesStep, over a screen of this name whose viewers are answered in this form, and told of no sizes.
 abbrev pub JoinsUnder : List ℕ → Runs → Step → Standing → Standing → Type 0
-JoinsUnder name runs e old new = (s : Setup) (w : World) → s.name ≡ name → s.runs ≡ runs → Reached s old w → Reached s new (happens s w e)
+JoinsUnder name runs e old new = (s : Setup) (w : World) → s.name ≡ name → s.runs ≡ runs → s.host ≡ None → Reached s old w → Reached s new (happens s w e)
 
 -- If the old fields stood for a world, the new ones stand for it, too.
 abbrev pub StaysFor : Standing → Standing → Type 0
@@ -276,9 +276,9 @@ abbrev pub Leaves : Standing → Standing → Fault → Type 0
 Leaves old new fault = StaysSeen old new × (fault ≡ NumbersOut → StaysFor old new)
 
 -- If the old fields showed a world, the new ones show what this step makes of it, over a screen of this name whose
--- viewers are answered in this form.
+-- viewers are answered in this form, and told of no sizes.
 abbrev pub ShowsUnder : List ℕ → Runs → Step → Standing → Standing → Type 0
-ShowsUnder name runs e old new = (s : Setup) (w : World) → s.name ≡ name → s.runs ≡ runs → Shows s old w → Shows s new (happens s w e)
+ShowsUnder name runs e old new = (s : Setup) (w : World) → s.name ≡ name → s.runs ≡ runs → s.host ≡ None → Shows s old w → Shows s new (happens s w e)
 
 -- The same as ShowsUnder, whatever the name and the form.
 abbrev pub ShowsStep : Step → Standing → Standing → Type 0

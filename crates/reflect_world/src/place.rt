@@ -51,13 +51,13 @@ impl Place {
         requires name { (1 ≤ length name.now) × (length name.now ≤ 255) }
         ensures fresh { IfOk result (λ place. (place.looked ≡ None) × (place.written ≡ []) × (place.unread ≡ [])) }
         ensures uncut { IfOk result (λ place. place.session.asked.last ≡ None) }
-        ensures stands { IfOk result (λ place. (s : Setup) → s.w ≡ width → s.h ≡ height → s.name ≡ name.now → s.runs ≡ runs → Stands s place.session (new_viewer role greet)) }
+        ensures stands { IfOk result (λ place. (s : Setup) → s.w ≡ width → s.h ≡ height → s.name ≡ name.now → s.runs ≡ runs → s.host ≡ None → Stands s place.session (new_viewer role greet)) }
         ensures err { IfErr result (λ fault. fault ≡ Memory) }
     {
         let session = if greet {
-            Session::open(alloc, width, height, name, role, runs)?
+            Session::open(alloc, width, height, name, role, runs, None)?
         } else {
-            Session::ready(alloc, width, height, role, runs)?
+            Session::ready(alloc, width, height, role, runs, None)?
         };
         Ok(Place {
             session,

@@ -14,8 +14,9 @@ use Rattle.reflector.specs.Visits.{At, HasVisits}
 
 -- Over a list of updates a viewer of this role was served whole screens. Each act that was done for it may be done. The
 -- bytes read are the first that its link took. What its link was given is a beginning of its hello and answers. A
--- follower of these holds, after each, the area asked for, of the screen after some whole number of the updates, and
--- these numbers never fall. What was sent of its input is a beginning of what its role allows, with the releases.
+-- follower of these holds, after each, the area asked for, of the screen after some whole number of the updates; these
+-- numbers never fall; and a viewer that takes new sizes was told the host's. What was sent of its input is a beginning
+-- of what its role allows, with the releases.
 pub record IsServedWhole (us : List Update) (s : Setup) (role : Role) (sent_old sent_new : List Input) (left : LinkState) : Type 0 where
   pub acts : List Act
   pub may_be : AllMayBe s us (new_viewer role true) acts

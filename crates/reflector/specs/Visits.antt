@@ -1,8 +1,9 @@
 -- The visits of one place, one after another: which viewers its door let in, what each was served, and what the place
 -- sent of their input (own).
-use Rattle.std.specs.Prelude.{◌≡◌, ◌⊎◌, ℕ, Bool, true, false, List, [], ◌∷◌, Result, Err, ⊤}
+use Rattle.std.specs.Prelude.{◌≡◌, ◌⊎◌, ℕ, Bool, true, false, List, [], ◌∷◌, Result, Err, Some, ⊤}
 use Rattle.fault.specs.declared.kinds.Fault.{Fault}
 use Rattle.fault.specs.declared.kinds.Fault.TheVariants.{Memory}
+use Rattle.raster.specs.declared.size.Size.{Size}
 use Rattle.raster.specs.Update.{Update}
 use Rattle.joined_runs.specs.declared.runs.Runs.{Runs}
 use Rattle.roles.specs.Allowed.{Input}
@@ -27,14 +28,16 @@ abbrev pub name_of : List ℕ → List ℕ
 name_of [] = 114 ∷ 101 ∷ 102 ∷ 108 ∷ 101 ∷ 99 ∷ 116 ∷ 111 ∷ 114 ∷ 100 ∷ []
 name_of (b ∷ bs) = b ∷ bs
 
--- A screen of this size and name, whose viewers are answered in this form.
-abbrev pub setup_of : ℕ → ℕ → List ℕ → Runs → Setup
-setup_of w h name form = record { w = w; h = h; name = name; room = 0; runs = form }
+-- A screen of this size and name, whose viewers are answered in this form, and told of the host's sizes, of which this
+-- is the first.
+abbrev pub setup_of : ℕ → ℕ → List ℕ → Runs → Size → Setup
+setup_of w h name form host = record { w = w; h = h; name = name; room = 0; runs = form; host = Some host }
 
--- The size, the name and the form are those of the screen of a host that was joined, and the form in which all viewers
--- of a run are answered.
-abbrev pub IsOfScreen : (w h : ℕ) → (name : List ℕ) → (form : Runs) → (width height : ℕ) → (told : List ℕ) → (answered : Runs) → Type 0
-IsOfScreen w h name form width height told answered = (width ≡ w) × (height ≡ h) × (told ≡ name_of name) × (answered ≡ form)
+-- The size and the name are those of a run's screen, the form is that in which all its viewers are answered, and the
+-- first size of which they are told is that of the host that was joined.
+abbrev pub IsOfScreen : (w h : ℕ) → (name : List ℕ) → (form : Runs) → (host : Size) → (width height : ℕ) → (told : List ℕ) → (answered : Runs) → (first : Size) → Type 0
+IsOfScreen w h name form host width height told answered first =
+    (width ≡ w) × (height ≡ h) × (told ≡ name_of name) × (answered ≡ form) × (first ≡ host)
 
 -- ---- one visit
 

@@ -2,13 +2,14 @@
 
 use crate::input_counts::InputCounts;
 use joined_runs::Runs;
+use raster::Size;
 use run_traits::{Alarm, Stop};
 use std::alloc::Global;
 use std::sync::{Arc, Wait};
 use vnc_auth::Password;
 
-/// The handle of each thread, the form in which all viewers are answered, the alarms, and the flag that ends all
-/// threads.
+/// The handle of each thread, the form in which all viewers are answered, the size of the first host's screen, the
+/// alarms, and the flag that ends all threads.
 #[derive(Drop)]
 pub(crate) struct RunContext<R: Wait + Drop, B: Alarm + Drop, W: Alarm + Drop> {
     pub(crate) rt: R,
@@ -16,6 +17,7 @@ pub(crate) struct RunContext<R: Wait + Drop, B: Alarm + Drop, W: Alarm + Drop> {
     /// The password that hosts may ask for, if one is known.
     pub(crate) password: Option<Password>,
     pub(crate) runs: Runs,
+    pub(crate) host: Size,
     /// The alarm of all that wait. It is rung after each put, and roused by the flag.
     pub(crate) everyone: Arc<B, Global>,
     /// The alarm of the host's writer. It is rung after each input that was sent.

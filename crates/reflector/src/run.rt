@@ -29,6 +29,7 @@ use host_turns::{Ending, Handover, HostEnds, Hosts, RunScreen};
 use input_relay::{Sender, Taker, relay};
 use joined_runs::Runs;
 use link::{Link, Rest};
+use raster::Size;
 use reflect_core::{Puts, ScreenSource};
 use rfb_wire::Joined;
 use roles::{Role, Strokes};
@@ -116,7 +117,7 @@ where
     ensures of { IfOk result (λ places. map (λ place. place.promise.sender.value) places.items ≡ senders.items) }
     ensures doors { IfOk result (λ places. map (λ place. (place.promise.role, place.promise.door.value)) places.items ≡ doors.items) }
     ensures watchers { IfOk result (λ places. map (λ place. place.promise.watcher.value) places.items ≡ watchers.items) }
-    ensures screen { IfOk result (λ places. All (λ place. IsOfScreen screen.now.w screen.now.h screen.now.name context.now.runs place.promise.width place.promise.height place.promise.name.value.items place.promise.runs) places.items) }
+    ensures screen { IfOk result (λ places. All (λ place. IsOfScreen screen.now.w screen.now.h screen.now.name context.now.runs context.now.host place.promise.width place.promise.height place.promise.name.value.items place.promise.runs place.promise.host) places.items) }
     ensures err { IfErr result (λ fault. fault ≡ Memory) }
 {
     let mut places = Vec::new(context.alloc);
@@ -124,7 +125,15 @@ where
         let (role, door) = doors.remove(0);
         let watcher = watchers.remove(0);
         let name = screen.name.as_slice();
-        let maker = SessionMaker::new(context.alloc, screen.w, screen.h, name, role, context.runs)?;
+        let maker = SessionMaker::new(
+            context.alloc,
+            screen.w,
+            screen.h,
+            name,
+            role,
+            context.runs,
+            context.host,
+        )?;
         let place = start_place(context, maker, door, watcher, sender)?;
         places.push(place)?;
     }
@@ -162,7 +171,7 @@ where
     ensures places { IfOk result (λ started. map (λ place. place.promise.sender.value) started.places.items ≡ senders.items) }
     ensures doors { IfOk result (λ started. map (λ place. (place.promise.role, place.promise.door.value)) started.places.items ≡ doors.items) }
     ensures watchers { IfOk result (λ started. map (λ place. place.promise.watcher.value) started.places.items ≡ drop 1 watchers.items) }
-    ensures screen { IfOk result (λ started. All (λ place. IsOfScreen screen.now.w screen.now.h screen.now.name context.now.runs place.promise.width place.promise.height place.promise.name.value.items place.promise.runs) started.places.items) }
+    ensures screen { IfOk result (λ started. All (λ place. IsOfScreen screen.now.w screen.now.h screen.now.name context.now.runs context.now.host place.promise.width place.promise.height place.promise.name.value.items place.promise.runs place.promise.host) started.places.items) }
     ensures writer { IfOk result (λ started. (started.writer.promise.taker.value ≡ taker) × (started.writer.promise.source.value ≡ slice_index_or watchers.items 0 started.writer.promise.source.value) × StrokesStand started.writer.promise.strokes.value []) }
     ensures reader { IfOk result (λ started. (started.reader.promise.width ≡ screen.now.w) × (started.reader.promise.height ≡ screen.now.h) × (started.reader.promise.password ≡ context.now.password) × (started.reader.promise.has_called ≡ has_called) × (started.reader.promise.link.value ≡ first) × (started.reader.promise.publisher.value ≡ publisher) × (started.reader.promise.hosts.value ≡ hosts)) }
     ensures err { IfErr result (λ fault. fault ≡ Memory) }
@@ -298,7 +307,7 @@ where
     ensures told { IfOk result (λ run. (source : S) × (source ≡ slice_index_or watchers.items 0 source) × TellsHosts S.looks S.width S.height source (links_in L.state run.written) (taken_of run.taker) run.strokes) }
     ensures doors { IfOk result (λ run. map (λ place. (place.promise.role, place.promise.door.value)) run.places.items ≡ doors.items) }
     ensures watchers { IfOk result (λ run. map (λ place. place.promise.watcher.value) run.places.items ≡ drop 1 watchers.items) }
-    ensures screen { IfOk result (λ run. All (λ place. IsOfScreen screen.now.w screen.now.h screen.now.name context.now.runs place.promise.width place.promise.height place.promise.name.value.items place.promise.runs) run.places.items) }
+    ensures screen { IfOk result (λ run. All (λ place. IsOfScreen screen.now.w screen.now.h screen.now.name context.now.runs context.now.host place.promise.width place.promise.height place.promise.name.value.items place.promise.runs place.promise.host) run.places.items) }
     ensures err { IfErr result (λ fault. fault ≡ Memory) }
 {
     let HostEnds {
@@ -319,6 +328,16 @@ where
             handover.close(&context.rt);
             Err(fault)
         }
+    }
+}
+
+/// The size of a host's screen.
+fn size_of(host: &Joined) -> Size
+    ensures { result ≡ record { width = host.now.w; height = host.now.h } }
+{
+    Size {
+        width: host.w,
+        height: host.h,
     }
 }
 
@@ -458,10 +477,11 @@ where
     ensures dropped { IfOk result (λ run. run.dropped ≡ all_dropped (map taken_from (taken_of run.taker))) }
     ensures doors { IfOk result (λ run. map (λ place. (place.promise.role, place.promise.door.value)) run.places.items ≡ doors.items) }
     ensures watchers { IfOk result (λ run. All (λ place. place.promise.watcher.value ≡ nothing_put) run.places.items) }
-    ensures screen { IfOk result (λ run. All (λ place. IsOfScreen room.width room.height joined.name runs place.promise.width place.promise.height place.promise.name.value.items place.promise.runs) run.places.items) }
+    ensures screen { IfOk result (λ run. All (λ place. IsOfScreen room.width room.height joined.name runs (record { width = joined.w; height = joined.h }) place.promise.width place.promise.height place.promise.name.value.items place.promise.runs place.promise.host) run.places.items) }
     ensures ran { IfOk result (λ run. run.ran.course ≡ record { host = joined; room_width = room.width; room_height = room.height; password = room.password; form = runs; roles = map (λ door. door.0) doors.items; last_end = run.last; came = came_over ends.has_called (L.state ends.reader); links = map L.state run.links.items; told = links_in L.state run.written; taken = taken_of run.taker; updates = puts_of run.publisher.changes }) }
     ensures err { IfErr result (λ fault. (fault ≡ Memory) ⊎ (fault ≡ NoPlace)) }
 {
+    let first = size_of(&joined);
     let began = Beginning {
         host: Snapshot::of(&joined),
         room,
@@ -476,6 +496,7 @@ where
         alloc,
         password: room.password,
         runs,
+        host: first,
         everyone,
         writer: writer_bell,
         input,

@@ -1,6 +1,6 @@
 //! Makes the sessions of a place's viewers.
 
-ghost use Rattle.std.specs.Prelude.{◌≡◌, ◌≤◌, length, true, None, IfOk, IfErr};
+ghost use Rattle.std.specs.Prelude.{◌≡◌, ◌≤◌, length, true, None, Some, IfOk, IfErr};
 ghost use Rattle.fault.specs.declared.kinds.Fault.TheVariants.{Memory};
 ghost use Rattle.raster.specs.Size.{IsScreenSize};
 ghost use Rattle.viewer_session.specs.Session.{Stands};
@@ -9,6 +9,7 @@ ghost use Rattle.reflector.specs.Visits.{name_of};
 
 use fault::Fault;
 use joined_runs::Runs;
+use raster::Size;
 use roles::Role;
 use std::alloc::Global;
 use viewer_session::Session;
@@ -16,8 +17,8 @@ use viewer_session::Session;
 /// The name of a screen whose host has none. A viewer is told at least one byte.
 const NO_NAME: &[u8] = b"reflectord";
 
-/// The size and the name of the screen that the viewers of a place are shown, their role, and the form in which they
-/// are answered.
+/// The size and the name of the screen that the viewers of a place are shown, their role, the form in which they are
+/// answered, and the first of the host's sizes, of which they are told.
 #[derive(Drop)]
 pub struct SessionMaker {
     alloc: Global,
@@ -26,6 +27,7 @@ pub struct SessionMaker {
     pub(crate) name: Vec<u8>,
     pub(crate) role: Role,
     pub(crate) runs: Runs,
+    pub(crate) host: Size,
     pub(crate) ghost size: { IsScreenSize width height },
     pub(crate) ghost named: { (1 ≤ length name.items) × (length name.items ≤ 255) },
 }
@@ -39,12 +41,13 @@ impl SessionMaker {
         name: &[u8],
         role: Role,
         runs: Runs,
+        host: Size,
     ) -> Result<SessionMaker, Fault>
         requires size { IsScreenSize width height }
         requires name { length name.now ≤ 255 }
         ensures size { IfOk result (λ maker. (maker.width ≡ width) × (maker.height ≡ height)) }
         ensures named { IfOk result (λ maker. (maker.role ≡ role) × (maker.name.items ≡ name_of name.now)) }
-        ensures formed { IfOk result (λ maker. maker.runs ≡ runs) }
+        ensures formed { IfOk result (λ maker. (maker.runs ≡ runs) × (maker.host ≡ host)) }
         ensures err { IfErr result (λ fault. fault ≡ Memory) }
     {
         let name = if name.is_empty() { NO_NAME } else { name };
@@ -56,6 +59,7 @@ impl SessionMaker {
             name,
             role,
             runs,
+            host,
         })
     }
 
@@ -63,7 +67,7 @@ impl SessionMaker {
     pub(crate) fn open(&self) -> Result<Session, Fault>
         ensures size { IfOk result (λ session. (session.width ≡ self.now.width) × (session.height ≡ self.now.height)) }
         ensures uncut { IfOk result (λ session. session.asked.last ≡ None) }
-        ensures stands { IfOk result (λ session. (s : Setup) → s.w ≡ self.now.width → s.h ≡ self.now.height → s.name ≡ self.now.name.items → s.runs ≡ self.now.runs → Stands s session (new_viewer self.now.role true)) }
+        ensures stands { IfOk result (λ session. (s : Setup) → s.w ≡ self.now.width → s.h ≡ self.now.height → s.name ≡ self.now.name.items → s.runs ≡ self.now.runs → s.host ≡ Some self.now.host → Stands s session (new_viewer self.now.role true)) }
         ensures err { IfErr result (λ fault. fault ≡ Memory) }
     {
         Session::open(
@@ -73,6 +77,7 @@ impl SessionMaker {
             self.name.as_slice(),
             self.role,
             self.runs,
+            Some(self.host),
         )
     }
 }

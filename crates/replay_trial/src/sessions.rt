@@ -6,7 +6,7 @@ ghost use Rattle.raster.specs.Size.{IsScreenSize};
 use crate::act::Act;
 use joined_runs::Runs;
 use painter::Painter;
-use raster::Rect;
+use raster::{Rect, Size};
 use reflect_core::{PlainScreen, Puts, ScreenSource};
 use rfb_wire::ClientMessage;
 use roles::{Held, Role};
@@ -14,19 +14,21 @@ use std::alloc::Global;
 use viewer_session::Session;
 
 /// Plays the lines over a new session, with its hello or after it, and answers the first line that comes out otherwise.
+/// Where there is a host's size, the viewer is told of sizes.
 pub fn play_session<'a>(
     alloc: Global,
     width: u64,
     height: u64,
     lines: &'a str,
     greets: bool,
+    host: Option<Size>,
 ) -> Option<&'a str>
     requires { IsScreenSize width height }
 {
     let opened = if greets {
-        Session::open(alloc, width, height, b"T", Role::Full, Runs::OfRows)
+        Session::open(alloc, width, height, b"T", Role::Full, Runs::OfRows, host)
     } else {
-        Session::ready(alloc, width, height, Role::Full, Runs::OfRows)
+        Session::ready(alloc, width, height, Role::Full, Runs::OfRows, host)
     };
     let Ok(mut session) = opened else {
         return Some("no session");
@@ -68,7 +70,14 @@ fn holds(alloc: Global, session: &mut Session, screen: &mut PlainScreen, act: &A
             Ok(begun) => act.says(begun),
             Err(_) => false,
         },
-        "put" => puts(alloc, screen),
+        "put" => puts(alloc, screen, None),
+        "size" => match act.second() {
+            Some(height) => {
+                let width = act.number;
+                puts(alloc, screen, Some(Size { width, height }))
+            }
+            None => false,
+        },
         "raise" => {
             screen.raise();
             true
@@ -77,8 +86,8 @@ fn holds(alloc: Global, session: &mut Session, screen: &mut PlainScreen, act: &A
     }
 }
 
-/// A red pixel and a blue one are put.
-fn puts(alloc: Global, screen: &mut PlainScreen) -> bool
+/// A new size is put, or a red pixel and a blue one.
+fn puts(alloc: Global, screen: &mut PlainScreen, size: Option<Size>) -> bool
     ensures { (screen.new.width ≡ screen.old.width) × (screen.new.height ≡ screen.old.height) }
 {
     let (w, h) = screen.size();
@@ -94,7 +103,11 @@ fn puts(alloc: Global, screen: &mut PlainScreen) -> bool
     let Ok(mut painter) = Painter::new(alloc, w, h) else {
         return false;
     };
-    painter.put(area, &[0xFF0000, 0x0000FF]);
+    match size {
+        Some(size) if size.width <= w && size.height <= h => painter.resize(size),
+        Some(_) => return false,
+        None => painter.put(area, &[0xFF0000, 0x0000FF]),
+    }
     match painter.patch() {
         Ok(patch) => screen.put(patch).is_ok(),
         Err(_) => false,

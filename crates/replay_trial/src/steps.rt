@@ -4,6 +4,7 @@ ghost use Rattle.raster.specs.Size.{IsScreenSize};
 
 use crate::sessions::{play_held, play_session};
 use crate::worlds::play_world;
+use raster::Size;
 use roles::Role;
 use std::alloc::Global;
 use std::fs;
@@ -11,6 +12,18 @@ use std::test::Fail;
 
 /// The widest and highest screen, in pixels.
 const LARGEST: u64 = 4096;
+
+/// The size of the host's screen at first, where sizes are told.
+const PIXEL: Size = Size {
+    width: 1,
+    height: 1,
+};
+
+/// The same where it is larger than the room.
+const LARGER: Size = Size {
+    width: 9,
+    height: 1,
+};
 
 /// Where bytes come in two pieces they are cut at each place up to this one.
 const LAST_CUT: usize = 24;
@@ -49,12 +62,22 @@ impl<'a> Case<'a> {
         match self.kind {
             "world" => play_world(alloc, self.width, self.height, self.lines, 0),
             "cuts" => self.otherwise_cut(alloc),
-            "open" => play_session(alloc, self.width, self.height, self.lines, true),
-            "ready" => play_session(alloc, self.width, self.height, self.lines, false),
+            "open" => self.otherwise_of(alloc, true, None),
+            "ready" => self.otherwise_of(alloc, false, None),
+            "sized" => self.otherwise_of(alloc, false, Some(PIXEL)),
+            "larger" => self.otherwise_of(alloc, false, Some(LARGER)),
             "full" => play_held(Role::Full, self.lines),
             "view" => play_held(Role::View, self.lines),
             _ => Some("no kind"),
         }
+    }
+
+    /// The first such line of a session, with its hello or after it. Where there is a host's size, its viewer is told of
+    /// sizes, and this is the first.
+    fn otherwise_of(&self, alloc: Global, greets: bool, host: Option<Size>) -> Option<&'a str>
+        requires { IsScreenSize self.now.width self.now.height }
+    {
+        play_session(alloc, self.width, self.height, self.lines, greets, host)
     }
 
     /// The first such line of a world whose viewer's bytes are cut, at one place after the other.

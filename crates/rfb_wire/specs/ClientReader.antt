@@ -17,7 +17,12 @@ use Rattle.rfb_wire.specs.declared.client_reader.state.State.TheVariants.{Fields
 
 -- The choice where this is found and these numbers are left.
 abbrev pub choice_with : Found → List ℕ → client.Choice
-choice_with found es = record { kind = unwrap_or found.kind (kind_of es); copy = found.copy || list_any (λ e. e == 1) es }
+choice_with found es =
+    record {
+      kind = unwrap_or found.kind (kind_of es);
+      copy = found.copy || list_any (λ e. e == 1) es;
+      resizes = found.resizes || list_any (λ e. e == client.desktop_size) es;
+    }
 
 -- The rest of SetEncodings, of which this many numbers are left.
 abbrev pub numbers : ℕ → Found → Reading ClientMessage

@@ -9,4 +9,6 @@ pub struct Choice {
     pub kind: Encoding,
     /// Whether CopyRect is in its list.
     pub copy: bool,
+    /// Whether DesktopSize is in its list, so that it takes a new size of the screen (RFC 6143, 7.8.2).
+    pub resizes: bool,
 }

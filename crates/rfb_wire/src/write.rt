@@ -7,8 +7,9 @@ ghost use Rattle.std.specs.Prelude.{◌≡◌, ◌≤◌, ◌<◌, ◌+◌, ◌*
 ghost use Rattle.std.specs.Int.{w32, to_be_bytes};
 ghost use Rattle.pixel_format.specs.PixelFormat.{host_format, format_bytes};
 ghost use Rattle.rfb_wire.specs.Handshake.{server_init, said_to_viewer};
-ghost use Rattle.rfb_wire.specs.Writing.{Writes, update_head_bytes, rectangle_head_bytes, set_encodings_bytes, request_bytes, key_bytes, pointer_bytes, client_text_bytes, bell_bytes, server_text_bytes, text_bytes, text_head_bytes, set_pixel_format_bytes};
+ghost use Rattle.rfb_wire.specs.Writing.{Writes, update_head_bytes, rectangle_head_bytes, set_encodings_bytes, size_bytes, request_bytes, key_bytes, pointer_bytes, client_text_bytes, bell_bytes, server_text_bytes, text_bytes, text_head_bytes, set_pixel_format_bytes};
 
+use crate::head::DESKTOP_SIZE;
 use crate::message_type::{
     BELL, CLIENT_CUT_TEXT, FRAMEBUFFER_UPDATE, FRAMEBUFFER_UPDATE_REQUEST, KEY_EVENT,
     POINTER_EVENT, SERVER_CUT_TEXT, SET_ENCODINGS, SET_PIXEL_FORMAT,
@@ -17,7 +18,7 @@ use crate::security_type::NONE;
 use crate::version::{VERSION, VERSION_LEN};
 use byteorder::{BigEndian, ByteOrder};
 use pixel_format::Format;
-use raster::Rect;
+use raster::{Rect, Size};
 
 /// How many bytes the header of a rectangle has (RFC 6143, 7.6.1).
 pub const RECTANGLE_HEAD_LEN: usize = 12;
@@ -55,6 +56,24 @@ pub fn write_rectangle_head(area: &Rect, encoding: u32, out: &mut [u8]) -> usize
     let [x1, x0, y1, y0, w1, w0, h1, h0] = area.write();
     let [e3, e2, e1, e0] = encoding.to_be_bytes();
     put(&[x1, x0, y1, y0, w1, w0, h1, h0, e3, e2, e1, e0], out)
+}
+
+/// A FramebufferUpdate whose only rectangle tells a size of the screen: 16 bytes (RFC 6143, 7.8.2).
+pub fn write_size(size: Size, out: &mut [u8]) -> usize
+    requires room { 16 ≤ length out.old }
+    requires wide { size.width < 2 ^ 16 }
+    requires high { size.height < 2 ^ 16 }
+    ensures { Writes (size_bytes size) out.old out.new result }
+{
+    let area = Rect {
+        x: 0,
+        y: 0,
+        w: size.width,
+        h: size.height,
+    };
+    let (front, back) = out.split_at_mut(4);
+    write_update_head(1, front);
+    4 + write_rectangle_head(&area, DESKTOP_SIZE, back)
 }
 
 /// SetPixelFormat with this format: 20 bytes (RFC 6143, 7.5.1).

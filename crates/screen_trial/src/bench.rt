@@ -238,7 +238,7 @@ impl Bench {
             return None;
         }
         match (word, rest) {
-            ("keep", [number]) => self.viewed.have.keep(&area, *number),
+            ("keep", [number]) => self.viewed.have.keep(&area, None, *number),
             ("cut", []) if is_inside => self
                 .viewed
                 .cut

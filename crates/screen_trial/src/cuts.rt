@@ -85,6 +85,7 @@ fn answer(alloc: Global, cut: &Cut, given: &Values, seen: &mut Values) -> Option
         choice: Choice {
             kind: Encoding::of_number(u32::try_from(*kind).ok()?)?,
             copy: *copy == 1,
+            resizes: false,
         },
     };
     if !area.within(cut.width, cut.height) {

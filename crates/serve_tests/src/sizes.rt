@@ -1,9 +1,10 @@
-//! Hosts of several sizes, under one viewer that keeps its connection and is told the room.
+//! Hosts of several sizes, under viewers that keep their connections: one that is told each size, and others that are
+//! told the room.
 
 use crate::hosts::Host;
 use crate::room::Count;
 use crate::scene::{FAULT, Scene, play_all};
-use crate::steps::{INIT, Step};
+use crate::steps::{BLACK as BLACK_PAIR, INIT, Step};
 use crate::visits::{Entry, Visit};
 use std::test::*;
 
@@ -23,12 +24,25 @@ const RED_AND_BLUE: &[u8] = b"\0\0\0\x01\0\0\0\0\0\x02\0\x01\0\0\0\0\0\0\xFF\0\x
 
 const GREEN_ON_WHITE: &[u8] = b"\0\0\0\x01\0\0\0\0\0\x01\0\x02\0\0\0\0\0\xFF\0\0\xFF\xFF\xFF\0";
 
-/// New sizes (7.8.2): 3 by 1, and then a green pixel at the top right in the same update; and 3 by 3, which is higher
-/// than the room.
+/// New sizes (7.8.2): 3 by 1, and then a green pixel at the top right in the same update; 3 by 3, which is higher than
+/// the room; and 1 by 1, and then a green pixel.
 const GROWS: &[u8] = b"\0\0\0\x02\0\0\0\0\0\x03\0\x01\xFF\xFF\xFF\x21\
       \0\x02\0\0\0\x01\0\x01\0\0\0\0\0\xFF\0\0";
 
 const OUTGROWS: &[u8] = b"\0\0\0\x01\0\0\0\0\0\x03\0\x03\xFF\xFF\xFF\x21";
+
+const SHRINKS: &[u8] = b"\0\0\0\x02\0\0\0\0\0\x01\0\x01\xFF\xFF\xFF\x21\
+      \0\0\0\0\0\x01\0\x01\0\0\0\0\0\xFF\0\0";
+
+/// A viewer takes pixels as Raw, and new sizes (7.5.2, 7.8.2). It asks for the room.
+const TAKES_SIZES: &[u8] = b"\x02\0\0\x02\0\0\0\0\xFF\xFF\xFF\x21\x03\0\0\0\0\0\0\x03\0\x02";
+
+/// It is told the sizes 2 by 1 and 1 by 1, each in an update of nothing else; and a green pixel.
+const IS_PAIR: &[u8] = b"\0\0\0\x01\0\0\0\0\0\x02\0\x01\xFF\xFF\xFF\x21";
+
+const IS_PIXEL: &[u8] = b"\0\0\0\x01\0\0\0\0\0\x01\0\x01\xFF\xFF\xFF\x21";
+
+const GREEN: &[u8] = b"\0\0\0\x01\0\0\0\0\0\x01\0\x01\0\0\0\0\0\xFF\0\0";
 
 /// Answers of the whole room, Raw: black; and each update on black.
 const BLACK: &[u8] = b"\0\0\0\x01\0\0\0\0\0\x03\0\x02\0\0\0\0\
@@ -42,6 +56,9 @@ const GROWN: &[u8] = b"\0\0\0\x01\0\0\0\0\0\x03\0\x02\0\0\0\0\
 
 const NEXT: &[u8] = b"\0\0\0\x01\0\0\0\0\0\x03\0\x02\0\0\0\0\
       \0\xFF\0\0\0\0\0\0\0\0\0\0\xFF\xFF\xFF\0\0\0\0\0\0\0\0\0";
+
+const SHRUNK: &[u8] = b"\0\0\0\x01\0\0\0\0\0\x03\0\x02\0\0\0\0\
+      \0\xFF\0\0\0\0\0\0\0\0\0\0\0\0\0\0\0\0\0\0\0\0\0\0";
 
 /// A host that is joined, and left at once.
 const IS_PASSED_OVER: &[Step] = &[Step::IsJoined(WIDER), Step::SeesItGo];
@@ -115,6 +132,55 @@ const SCENES: &[Scene] = &[
                 Step::Marks(Count::Shown, 2),
                 Step::AsksUntil(ASK_NEW, BLACK, NEXT),
                 Step::Marks(Count::Shown, 3),
+            ]],
+            told: None,
+        }],
+        status: 0,
+        lines: &[],
+    },
+    // What a viewer is told lies in the size that it was told last. The other one sees the room.
+    Scene {
+        name: "a viewer that takes new sizes is told each, and another keeps the room",
+        words: "--room 3x2 --host 127.0.0.1:|first|",
+        is_taken: false,
+        hosts: &[Host {
+            at: 0,
+            steps: &[
+                Step::IsJoined(INIT),
+                Step::Sends(RED_AND_BLUE),
+                Step::Hears(ASK_NEW),
+                Step::Reaches(Count::Shown, 2),
+                Step::Sends(SHRINKS),
+                Step::Hears(ASK_NEW),
+                Step::Reaches(Count::Shown, 4),
+                Step::ShutsDown,
+                Step::SeesItGo,
+            ],
+        }],
+        full: &[Visit {
+            entry: Entry::IsGreeted,
+            steps: &[&[
+                Step::Hears(ROOM),
+                Step::Sends(TAKES_SIZES),
+                Step::Hears(IS_PAIR),
+                Step::AsksUntil(ASK_NEW, BLACK_PAIR, RED_AND_BLUE),
+                Step::Adds(Count::Shown),
+                Step::Sends(ASK_NEW),
+                Step::Hears(IS_PIXEL),
+                Step::Sends(ASK_NEW),
+                Step::Hears(GREEN),
+                Step::Adds(Count::Shown),
+            ]],
+            told: None,
+        }],
+        view: &[Visit {
+            entry: Entry::IsGreeted,
+            steps: &[&[
+                Step::Hears(ROOM),
+                Step::AsksUntil(ASK_NEW, BLACK, FIRST),
+                Step::Adds(Count::Shown),
+                Step::AsksUntil(ASK_NEW, BLACK, SHRUNK),
+                Step::Adds(Count::Shown),
             ]],
             told: None,
         }],

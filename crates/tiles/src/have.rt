@@ -4,12 +4,13 @@ ghost use Rattle.std.specs.Prelude.{◌≡◌, ℕ, ◌+◌, ◌*◌, ◌<◌, �
 ghost use Rattle.raster.specs.Screen.{IsWithin, fill, tile_count, tiles_across};
 ghost use Rattle.raster.specs.Size.{IsScreenSize};
 ghost use Rattle.tiles.specs.Have.{AtMost, HaveStands, IsSameSize, entry, lowered, sent_at};
-ghost use Rattle.tiles.specs.Touched.{Event, Requested, NewFormat, Answered};
+ghost use Rattle.raster.specs.declared.size.Size as sizes;
+ghost use Rattle.tiles.specs.Touched.{Event, Requested, NewFormat, NewSize, Answered, told_last};
 ghost use Rattle.fault.specs.declared.kinds.Fault.TheVariants.{Memory};
 
 use crate::covered::{tiles_along, tiles_inside, tiles_met};
 use fault::Fault;
-use raster::{Rect, tile_count};
+use raster::{Rect, Size, tile_count};
 use std::alloc::Global;
 use std::marker::Model;
 
@@ -124,10 +125,12 @@ impl Have {
         self.sent[t as usize]
     }
 
-    /// From now on no tile counts as sent, since a pixel format was taken (RFC 6143, 7.5.1).
+    /// From now on no tile counts as sent, since a pixel format was taken (RFC 6143, 7.5.1), or the viewer was told a
+    /// size of the screen (7.8.2).
     pub fn forget_all(&mut self)
         ensures size { IsSameSize self.old self.new }
         ensures stands { (es : List Event) → HaveStands self.old es → HaveStands self.new (NewFormat ∷ es) }
+        ensures resized { (size : sizes.Size) (es : List Event) → HaveStands self.old es → HaveStands self.new (NewSize size ∷ es) }
     {
         self.sent.as_mut_slice().fill(None);
         self.least.as_mut_slice().fill(None);
@@ -156,13 +159,14 @@ impl Have {
         );
     }
 
-    /// From now on each tile that lies wholly inside the area counts as sent at this number, since an answer was begun.
-    pub fn keep(&mut self, area: &Rect, number: u64)
+    /// From now on each tile of which all that the viewer knows of lies inside the area counts as sent at this number,
+    /// since an answer was begun. The viewer was told this size last, or none.
+    pub fn keep(&mut self, area: &Rect, told: Option<Size>, number: u64)
         requires { IsWithin area.now 65536 65536 }
         ensures size { IsSameSize self.old self.new }
-        ensures stands { (es : List Event) → HaveStands self.old es → HaveStands self.new (Answered area.now number ∷ es) }
+        ensures stands { (es : List Event) → told_last es ≡ told → HaveStands self.old es → HaveStands self.new (Answered area.now number ∷ es) }
     {
-        let tiles = tiles_inside(area, self.width, self.height);
+        let tiles = tiles_inside(area, told, self.width, self.height);
         mark(
             self.sent.as_mut_slice(),
             self.width,

@@ -6,15 +6,17 @@ use Rattle.std.proofs.lemmas.List.{length-take, take-append-drop, take-take}
 use Rattle.std.proofs.lemmas.Bool.{and_parts}
 use Rattle.byte_reading.specs.Reading.{Reading, Done, Faulty, Want, whole_of, wants_more}
 use Rattle.raster.specs.declared.rect.Rect.{Rect}
+use Rattle.raster.specs.declared.size.Size.{Size}
 use Rattle.raster.specs.Update.{Update}
 use Rattle.viewer_session.specs.Record.{Entry, Saw, MadeCut, Began, NumbersUpTo}
 use Rattle.viewer_session.specs.Viewer.{Setup, Viewer, new_viewer, out_bytes, may_look, after_bytes, after_cut, viewer_fault}
 use Rattle.viewer_session.specs.Session.{after_look, with_marks}
 use Rattle.viewer_session.proofs.Good.{IsGood, good_new, good_bytes, good_look, good_cut, good_put, answered_behind}
 use Rattle.viewer_session.proofs.Stands.{AllAnswered}
+use Rattle.viewer_session.proofs.Told.{AllKnow, known_behind}
 use Rattle.viewer_server.specs.Serving.{EachAnswerHolds, CutsWell, MayBe, AllMayBe}
 use Rattle.viewer_session.specs.Viewer as viewer
-use Rattle.viewer_session.specs.Turn.{began_at, update_at}
+use Rattle.viewer_session.specs.Turn.{size_at, told_at, update_at}
 use Rattle.viewer_server.specs.Following.{HoldsAfterEachAnswer}
 use Rattle.viewer_session.specs.Acts.{after_turn, Act, Bytes, Turn, Written, Passed, viewer_after, after_act}
 use Rattle.viewer_session.proofs.Growing.{HasGrown, IsEarly, grown_bytes}
@@ -47,7 +49,7 @@ follows_bytes s us p marks bytes k =
       n = k.n;
       known = k.known;
       least = λ m up. k.least m (grown.back m up);
-      good = good_bytes s (take k.n us) (with_marks marks p) bytes (record { record_stands = k.good.record_stands; reading = k.good.reading; said = k.good.said });
+      good = good_bytes s (take k.n us) (with_marks marks p) bytes (record { record_stands = k.good.record_stands; knows = k.good.knows; reading = k.good.reading; said = k.good.said });
       early = grown.early;
     }
 
@@ -63,9 +65,10 @@ follows_look s us p looked seen k =
       early = k.early;
     }
 
-began_least : (m n : ℕ) (o : Option (Rect × List ℕ)) (es : List Entry) → NumbersUpTo m (began_at n o (MadeCut n ∷ es)) → n ≤ m
-began_least m n None es k = k.0
-began_least m n (Some found) es k = k.0
+began_least : (m n : ℕ) (size : Option Size) (o : Option (Rect × List ℕ)) (es : List Entry) → NumbersUpTo m (told_at n size o (MadeCut n ∷ es)) → n ≤ m
+began_least m n (Some size) o es k = k.0
+began_least m n None None es k = k.0
+began_least m n None (Some found) es k = k.0
 
 done_wants : (h : Reading (Unit {0})) → is_some (whole_of h) ≡ true → wants_more h ≡ true → ⊥
 done_wants (Done u) e f = absurd cc
@@ -82,7 +85,7 @@ follows_cut s us p looked n lw lh greeted le up k =
     record {
       n = n;
       known = le;
-      least = λ m after. let bound = began_least m (length first) (update_at s.runs s.w s.h (Saw looked ∷ p.entries) first) (Saw looked ∷ p.entries) after in omega (arith, bound, count);
+      least = λ m after. let bound = began_least m (length first) (size_at s.w s.h s.host (Saw looked ∷ p.entries) first) (update_at s.runs s.w s.h (Saw looked ∷ p.entries) first) (Saw looked ∷ p.entries) after in omega (arith, bound, count);
       good = good_cut s first (after_look looked p) lw lh before;
       early = λ wants. absurd (done_wants p.hello greeted wants);
     }
@@ -97,9 +100,9 @@ follows_act : (s : Setup) (us : List Update) (p : Viewer) (act : Act) → s.w �
 follows_act s us p (Bytes marks bytes) lw lh may k = follows_bytes s us p marks bytes k
 follows_act s us p (Turn looked cut) lw lh may k = follows_turn s us p looked cut lw lh may.0 may.1 may.2 k
 follows_act s us p (Written count) lw lh may k =
-    record { n = k.n; known = k.known; least = k.least; good = record { record_stands = k.good.record_stands; reading = k.good.reading; said = k.good.said }; early = k.early }
+    record { n = k.n; known = k.known; least = k.least; good = record { record_stands = k.good.record_stands; knows = k.good.knows; reading = k.good.reading; said = k.good.said }; early = k.early }
 follows_act s us p Passed lw lh may k =
-    record { n = k.n; known = k.known; least = k.least; good = record { record_stands = k.good.record_stands; reading = k.good.reading; said = k.good.said }; early = k.early }
+    record { n = k.n; known = k.known; least = k.least; good = record { record_stands = k.good.record_stands; knows = k.good.knows; reading = k.good.reading; said = k.good.said }; early = k.early }
 
 follows_all : (s : Setup) (us : List Update) (p : Viewer) (acts : List Act) → s.w ≤ 4096 → s.h ≤ 4096 → AllMayBe s us p acts → IsFollowed s us p → IsFollowed s us (viewer_after s us p acts)
 follows_all s us p [] lw lh may k = k
@@ -110,7 +113,8 @@ each_holds s us p k later earlier area n bytes split =
     let all : IsGood s us p = subst (λ t. IsGood s t p) (take-append-drop k.n us) (good_more s (take k.n us) (drop k.n us) p k.good) in
     let there : AllAnswered s.w s.h us (later ++ Began area n bytes ∷ earlier) = subst (λ q. AllAnswered s.w s.h us q) split all.record_stands.answers in
     let it = (answered_behind s.w s.h us later (Began area n bytes ∷ earlier) there).0 in
-    (it.known, it.numbers, it.holds_it)
+    let sizes : AllKnow s.w s.h s.host us (later ++ Began area n bytes ∷ earlier) = subst (λ q. AllKnow s.w s.h s.host us q) split all.knows in
+    (it.known, it.numbers, it.holds_it, (known_behind s.w s.h s.host us later (Began area n bytes ∷ earlier) sizes).0)
 
 pub holds_after_each_answer : HoldsAfterEachAnswer
 holds_after_each_answer s lw lh us role greet acts may =

@@ -9,6 +9,7 @@ use Rattle.fault.specs.declared.kinds.Fault.TheVariants.{LinkEnded, LinkFailed}
 use Rattle.byte_reading.specs.Reading.{Reading, Done, Faulty, Want, whole_of, fault_of}
 use Rattle.rfb_wire.specs.ClientMessage.{ClientMessage}
 use Rattle.raster.specs.declared.rect.Rect.{Rect}
+use Rattle.raster.specs.declared.size.Size.{Size}
 use Rattle.raster.specs.Update.{Update, bells}
 use Rattle.rfb_wire.specs.Handshake.{said_to_viewer}
 use Rattle.rfb_wire.specs.Greeting.{Greeting}
@@ -18,7 +19,7 @@ use Rattle.link.specs.Links.{LinkState, HasRisen}
 use Rattle.reflect_core.specs.Asked.{pending, last_cut}
 use Rattle.reflect_core.specs.Sequential.{Begins}
 use Rattle.viewer_session.specs.Record.{Entry, Saw, MadeCut, NumbersUpTo, events}
-use Rattle.viewer_session.specs.Turn.{has_reason, began_at, update_at, sent_at}
+use Rattle.viewer_session.specs.Turn.{has_reason, size_at, told_at, update_at, sent_at}
 use Rattle.viewer_session.specs.Viewer as viewer
 use Rattle.viewer_session.specs.Viewer.{Setup, Viewer, new_viewer, out_bytes, may_look, viewer_fault, after_bytes, after_cut}
 use Rattle.viewer_session.specs.Session.{State, Stands, Turns, CutsAt, HasCounted, Greets, IsBetween, after_look, after_writing, with_marks, without_input, IsSameSession, fault_in, hello_of, is_greeted, is_ready, wants_cut}
@@ -125,9 +126,10 @@ ready_between s st p k none b =
 
 -- ---- numbers
 
-numbers_began : (m n : ℕ) (o : Option (Rect × List ℕ)) (es : List Entry) → n ≤ m → NumbersUpTo m es → NumbersUpTo m (began_at n o (MadeCut n ∷ es))
-numbers_began m n None es le k = (le, k)
-numbers_began m n (Some found) es le k = (le, (le, k))
+numbers_began : (m n : ℕ) (size : Option Size) (o : Option (Rect × List ℕ)) (es : List Entry) → n ≤ m → NumbersUpTo m es → NumbersUpTo m (told_at n size o (MadeCut n ∷ es))
+numbers_began m n (Some size) o es le k = (le, (le, k))
+numbers_began m n None None es le k = (le, k)
+numbers_began m n None (Some found) es le k = (le, (le, k))
 
 -- ---- a viewer that is served
 
@@ -254,15 +256,16 @@ serving_relayed looks cuts may_refuse a b us most s p st new box next is_full x 
 
 -- ---- a turn
 
-turned_began : (n : ℕ) (o : Option (Rect × List ℕ)) (looked : ℕ) (es : List Entry) → has_turned (began_at n o (MadeCut n ∷ Saw looked ∷ es)) ≡ true
-turned_began n None looked es = refl
-turned_began n (Some found) looked es = refl
+turned_began : (n : ℕ) (size : Option Size) (o : Option (Rect × List ℕ)) (looked : ℕ) (es : List Entry) → has_turned (told_at n size o (MadeCut n ∷ Saw looked ∷ es)) ≡ true
+turned_began n (Some size) o looked es = refl
+turned_began n None None looked es = refl
+turned_began n None (Some found) looked es = refl
 
 -- A cut adds to what is sent.
 cut_front : (s : Setup) (us : List Update) (p : Viewer) → p.written ≤ length (out_bytes s p) → take p.written (out_bytes s (after_cut s us p)) ≡ take p.written (out_bytes s p)
 cut_front s us p le =
     let hello : List ℕ = if p.greet then said_to_viewer s.w s.h s.name p.said else [] in
-    let more : List ℕ = sent_at s.runs s.w s.h p.entries us in
+    let more : List ℕ = sent_at s.runs s.w s.h s.host p.entries us in
     same_front (out_bytes s p) (out_bytes s (after_cut s us p)) more p.written (sym (append_assoc hello p.said_after more)) le
 
 pub serving_turns : {S : Type 0} (looks cuts : S → ℕ → S → Type 0) (a b c : S) (us known : List Update) (most now_most : ℕ) (s : Setup) (p : Viewer) (st next : State) (box : Unpassed) (x y : List Input) (w : Bool) (old now : LinkState)
@@ -304,6 +307,7 @@ serving_turns looks cuts a b c us known most now_most s p st next box x y true o
     let fresh = cut.fresh in
     let bounded = cut.bounded in
     let all : length first ≡ cut.number = let there = cut.known in omega (arith, length-take cut.number known, there) in
+    let size : Option Size = size_at s.w s.h s.host (Saw t.looked ∷ q.entries) first in
     let found : Option (Rect × List ℕ) = update_at s.runs s.w s.h (Saw t.looked ∷ q.entries) first in
     record {
       acts = Turn t.looked (Some cut.number) ∷ k.acts;
@@ -321,11 +325,11 @@ serving_turns looks cuts a b c us known most now_most s p st next box x y true o
       waiting = ap (λ (u : Viewer). u.waiting) after ∙ k.waiting;
       took = k.took;
       passed = subst (λ u. HasPassed u k.sent) (sym after)
-          (passed_as q v k.sent k.passed refl refl refl (began_messages (length first) found (Saw t.looked ∷ q.entries)) (began_last (length first) found (Saw t.looked ∷ q.entries)));
+          (passed_as q v k.sent k.passed refl refl refl (began_messages (length first) size found (Saw t.looked ∷ q.entries)) (began_last (length first) size found (Saw t.looked ∷ q.entries)));
       numbers = subst (λ u. NumbersUpTo now_most u.entries) (sym after)
-          (numbers_began now_most (length first) found (Saw t.looked ∷ q.entries) (omega (arith, all, bounded)) (t.bounded, numbers_more most now_most q.entries (let le = t.rises in omega (arith, le)) k.numbers));
+          (numbers_began now_most (length first) size found (Saw t.looked ∷ q.entries) (omega (arith, all, bounded)) (t.bounded, numbers_more most now_most q.entries (let le = t.rises in omega (arith, le)) k.numbers));
       counted = cut.counted;
-      turned = λ between. subst (λ (u : Viewer). has_turned u.entries ≡ true) (sym after) (turned_began (length first) found t.looked q.entries);
+      turned = λ between. subst (λ (u : Viewer). has_turned u.entries ≡ true) (sym after) (turned_began (length first) size found t.looked q.entries);
     }
 
 -- The same over more updates, of a source and a session that are the same.

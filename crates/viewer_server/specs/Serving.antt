@@ -9,7 +9,8 @@ use Rattle.update_encoder.specs.Follower.{follower, HoldsArea}
 use Rattle.roles.specs.Allowed.{Input, allowed}
 use Rattle.link.specs.Links.{LinkState, HasRisen}
 use Rattle.reflect_core.specs.Sequential.{Begins}
-use Rattle.viewer_session.specs.Record.{Entry, Took, Saw, MadeCut, Began, NumbersUpTo, before_last, messages_in, received}
+use Rattle.viewer_session.specs.Record.{Entry, Took, Saw, MadeCut, Began, ToldSize, NumbersUpTo, before_last, messages_in, received}
+use Rattle.viewer_session.specs.Told.{KnowsSize}
 use Rattle.viewer_session.specs.Turn.{has_reason}
 use Rattle.viewer_session.specs.Acts.{Act, Bytes, Turn, Written, Passed, viewer_after}
 use Rattle.viewer_session.specs.Viewer.{Setup, Viewer, out_bytes, may_look, viewer_fault}
@@ -40,8 +41,8 @@ abbrev pub HasCut : {S : Type 0} → (cuts : S → ℕ → S → Type 0) → Opt
 HasCut {S} cuts None before after = after ≡ before
 HasCut {S} cuts (Some number) before after = cuts before number after
 
--- The looks and cuts of the turns are all that was done to the source: one look a turn, with the source's own reply, and
--- then one cut, with its own number, where the turn has one.
+-- The looks and cuts of the turns are all that was done to the source: one look a turn, with the source's own reply,
+-- and then one cut, with its own number, where the turn has one.
 abbrev pub IsShown : {S : Type 0} → (looks cuts : S → ℕ → S → Type 0) → S → List Act → S → Type 0
 IsShown {S} looks cuts old [] new = new ≡ old
 IsShown {S} looks cuts old (Bytes marks bytes ∷ acts) new = IsShown looks cuts old acts new
@@ -64,6 +65,7 @@ has_turned (Took message ∷ es) = false
 has_turned (Saw number ∷ es) = true
 has_turned (MadeCut number ∷ es) = has_turned es
 has_turned (Began area number bytes ∷ es) = has_turned es
+has_turned (ToldSize size number bytes ∷ es) = has_turned es
 
 -- All is done for the viewer: it stands between two messages after its hello, no input waits, a turn was had since the
 -- last message, and all bytes of hello and answers were written.
@@ -122,11 +124,13 @@ pub record Relays (was_set : Type 0) (may_refuse : Fault → Type 0) (p : Viewer
   pub whole : (sent ≡ all_allowed p) ⊎ IsHeldBack was_set may_refuse answer sent (all_allowed p)
 
 -- After an answer a follower of all answers holds the area asked for, of the screen after the first n of these updates,
--- in the format last taken before the cut; and n is at least every number that was seen or cut at before.
+-- in the format last taken before the cut; n is at least every number that was seen or cut at before; and a viewer that
+-- takes new sizes was told that of the host's screen after these n.
 abbrev pub EachAnswerHolds : Setup → List Update → Viewer → Type 0
 EachAnswerHolds s us p =
     (later earlier : List Entry) (area : Rect) (n : ℕ) (bytes : List ℕ) → p.entries ≡ later ++ Began area n bytes ∷ earlier
     → (n ≤ length us) × NumbersUpTo n earlier × HoldsArea (follower s.w s.h (received (Began area n bytes ∷ earlier))) area (take n us)
+    × KnowsSize s.w s.h s.host (take n us) earlier
 
 -- A viewer was served. Each act that was done for it may be done. All bytes that were taken are read, but for those
 -- after a message whose input waits. It was given as many bytes of its hello and answers, from the first on, as count

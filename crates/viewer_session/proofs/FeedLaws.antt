@@ -83,13 +83,14 @@ read_on s now mid q r both e reads w short =
         width = k.width;
         height = k.height;
         runs = k.runs;
+        host = k.host;
         role = k.role;
         rests = ap (λ (p : Viewer). with_reading p r) k.rests;
         greets = k.greets;
         reading = reads;
         taken = w;
         short = short;
-        keeps = record { asked = k.keeps.asked; have = k.keeps.have; format = k.keeps.format; choice = k.keeps.choice };
+        keeps = record { asked = k.keeps.asked; have = k.keeps.have; format = k.keeps.format; choice = k.keeps.choice; told = k.keeps.told };
         written = k.written;
         unsent = k.unsent;
       };

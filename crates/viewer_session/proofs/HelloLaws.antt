@@ -183,13 +183,14 @@ serves_hello s st p g hello said piece unsent k greets written left =
       width = k.width;
       height = k.height;
       runs = k.runs;
+      host = k.host;
       role = k.role;
       rests = ap (λ (q : Viewer). record q { hello = hello; said = said }) k.rests;
       greets = greets;
       reading = k.reading;
       taken = k.taken;
       short = k.short;
-      keeps = record { asked = k.keeps.asked; have = k.keeps.have; format = k.keeps.format; choice = k.keeps.choice };
+      keeps = record { asked = k.keeps.asked; have = k.keeps.have; format = k.keeps.format; choice = k.keeps.choice; told = k.keeps.told };
       written = written;
       unsent = left;
     }

@@ -11,6 +11,7 @@ pub mod Taking
 pub mod TurnLaws
 pub mod Parts
 pub mod Stands
+pub mod Told
 pub mod Accepted
 pub mod Streams
 pub mod Bytes

@@ -2,6 +2,7 @@
 use Rattle.std.proofs.Common.{◌≡◌, ℕ, Bool, true, false, cond, List, [], ◌∷◌, ◌++◌, length, take, Option, Some, None, refl, sym, ap, subst, ◌∙◌, append-nil, append_assoc}
 use Rattle.byte_reading.specs.Reading.{Reading, Done, Faulty, Want, step}
 use Rattle.raster.specs.declared.rect.Rect.{Rect}
+use Rattle.raster.specs.declared.size.Size.{Size}
 use Rattle.raster.specs.Update.{Update}
 use Rattle.rfb_wire.specs.ClientMessage.{ClientMessage, client_message}
 use Rattle.roles.specs.declared.role.Role.{Role}
@@ -11,7 +12,7 @@ use Rattle.roles.specs.Held.{Kept, HeldStands, input_for, left_in, passes_if, pa
 use Rattle.roles.proofs.HeldLaws.{all_released, full_stands, full_allowed}
 use Rattle.reflect_core.specs.Sequential.{Begins}
 use Rattle.viewer_session.specs.Record.{Entry, Took, Saw, MadeCut, before_last, messages_in}
-use Rattle.viewer_session.specs.Turn.{began_at, update_at}
+use Rattle.viewer_session.specs.Turn.{size_at, told_at, update_at}
 use Rattle.viewer_session.specs.Acts.{Act, Bytes, Turn, Written, Passed, HasPassed, HandsOutAllowed, ReleasesAllowed, after_turn, handed_out, viewer_after, waiting_list}
 use Rattle.viewer_session.specs.Viewer.{Setup, Viewer, new_viewer, with_input, with_message, marked, after_bytes, after_reading}
 use Rattle.viewer_session.specs.Session.{with_marks, without_input}
@@ -42,13 +43,15 @@ none_allowed Full = refl
 pub passed_begins : (role : Role) (greet : Bool) → HasPassed (new_viewer role greet) []
 passed_begins role greet = record { kept = nothing_kept; held = nothing_held role; keys = refl; all = none_allowed role; all_but_last = ([], sym (append-nil (allowed role [] false) ∙ none_allowed role)) }
 
-pub began_messages : (n : ℕ) (o : Option (Rect × List ℕ)) (es : List Entry) → messages_in (began_at n o (MadeCut n ∷ es)) ≡ messages_in es
-began_messages n None es = refl
-began_messages n (Some found) es = refl
+pub began_messages : (n : ℕ) (size : Option Size) (o : Option (Rect × List ℕ)) (es : List Entry) → messages_in (told_at n size o (MadeCut n ∷ es)) ≡ messages_in es
+began_messages n (Some size) o es = refl
+began_messages n None None es = refl
+began_messages n None (Some found) es = refl
 
-pub began_last : (n : ℕ) (o : Option (Rect × List ℕ)) (es : List Entry) → messages_in (before_last (began_at n o (MadeCut n ∷ es))) ≡ messages_in (before_last es)
-began_last n None es = refl
-began_last n (Some found) es = refl
+pub began_last : (n : ℕ) (size : Option Size) (o : Option (Rect × List ℕ)) (es : List Entry) → messages_in (before_last (told_at n size o (MadeCut n ∷ es))) ≡ messages_in (before_last es)
+began_last n (Some size) o es = refl
+began_last n None None es = refl
+began_last n None (Some found) es = refl
 
 -- ---- a message
 
@@ -114,8 +117,9 @@ passed_turn : (s : Setup) (us : List Update) (p : Viewer) (looked : ℕ) (cut : 
 passed_turn s us p looked None sent k = passed_as p _ sent k refl refl refl refl refl
 passed_turn s us p looked (Some n) sent k =
     let first : List Update = take n us in
+    let size : Option Size = size_at s.w s.h s.host (Saw looked ∷ p.entries) first in
     let o : Option (Rect × List ℕ) = update_at s.runs s.w s.h (Saw looked ∷ p.entries) first in
-    passed_as p _ sent k refl refl refl (began_messages (length first) o (Saw looked ∷ p.entries)) (began_last (length first) o (Saw looked ∷ p.entries))
+    passed_as p _ sent k refl refl refl (began_messages (length first) size o (Saw looked ∷ p.entries)) (began_last (length first) size o (Saw looked ∷ p.entries))
 
 pub passed_all : (s : Setup) (us : List Update) (p : Viewer) (acts : List Act) → HasPassed p [] → HasPassed (viewer_after s us p acts) (handed_out s us p acts)
 passed_all s us p [] k = k

@@ -21,13 +21,14 @@ serves_held s st p held waiting k =
       width = k.width;
       height = k.height;
       runs = k.runs;
+      host = k.host;
       role = k.role;
       rests = k.rests;
       greets = k.greets;
       reading = k.reading;
       taken = k.taken;
       short = k.short;
-      keeps = record { asked = k.keeps.asked; have = k.keeps.have; format = k.keeps.format; choice = k.keeps.choice };
+      keeps = record { asked = k.keeps.asked; have = k.keeps.have; format = k.keeps.format; choice = k.keeps.choice; told = k.keeps.told };
       written = k.written;
       unsent = k.unsent;
     }
@@ -38,6 +39,7 @@ serves_input s st p keys waiting k =
       width = k.width;
       height = k.height;
       runs = k.runs;
+      host = k.host;
       role = k.role;
       rests = ap (λ (q : Viewer). record q { keys = keys; waiting = waiting }) k.rests;
       greets = k.greets;

@@ -5,7 +5,8 @@ use Rattle.std.proofs.lemmas.List.{append-nil, take-append-le, take_all}
 use Rattle.pixel_format.specs.PixelFormat.{PixelFormat, host_format}
 use Rattle.byte_reading.specs.Reading.{Reading, Done, Faulty, Want, step, Spells}
 use Rattle.raster.specs.declared.rect.Rect.{Rect}
-use Rattle.raster.specs.Update.{Paint, Update, Paints, Cut, bells, last_text, last_text_from, NumberedText}
+use Rattle.raster.specs.declared.size.Size.{Size}
+use Rattle.raster.specs.Update.{Paint, Resized, Update, Paints, Cut, bells, last_text, last_text_from, NumberedText}
 use Rattle.raster.specs.Update as update
 use Rattle.raster.proofs.Spellings.{Each}
 use Rattle.joined_runs.specs.declared.runs.Runs.{Runs}
@@ -13,14 +14,14 @@ use Rattle.rfb_wire.specs.ClientMessage.{ClientMessage, SetPixelFormat, SetEncod
 use Rattle.rfb_wire.specs.ServerMessage as server
 use Rattle.rfb_wire.specs.ServerMessage.{ServerMessage, FramebufferUpdate, Bell, ServerCutText, server_message}
 use Rattle.rfb_wire.specs.Texts.{BringsShortText}
-use Rattle.rfb_wire.specs.Writing.{bell_bytes, server_text_bytes}
+use Rattle.rfb_wire.specs.Writing.{bell_bytes, server_text_bytes, size_bytes}
 use Rattle.rfb_wire.proofs.Messages.{text_is_kept}
 use Rattle.update_encoder.specs.Follower.{Follower, follower, unknown, after_message}
 use Rattle.update_encoder.proofs.AnswerLaws.{spells_only}
-use Rattle.viewer_session.specs.Record.{Entry, Took, Saw, MadeCut, Began, NumbersUpTo, received}
-use Rattle.viewer_session.specs.Turn.{bell_at, text_at, newer_text, update_at, update_part, began_at, record_after_cut, sent_at, news_since}
+use Rattle.viewer_session.specs.Record.{Entry, Took, Saw, MadeCut, Began, ToldSize, NumbersUpTo, received}
+use Rattle.viewer_session.specs.Turn.{bell_at, text_at, newer_text, size_at, size_or_update, told_at, update_at, update_part, began_at, record_after_cut, sent_at, news_since}
 use Rattle.viewer_session.specs.Stream.{Heard, Format, Bytes, news_at, heard, stream_of, Listener, between, after_step, hears_bytes, hears, listener_from, bell_told, newer_told, text_told, IsHeard}
-use Rattle.viewer_session.proofs.Stands.{AllAnswered, follows_format, follows_answer, follower_format}
+use Rattle.viewer_session.proofs.Stands.{AllAnswered, follows_format, follows_answer, follows_size, follower_format}
 
 -- ---- lists of what is heard
 
@@ -145,6 +146,18 @@ is_heard w h us (Began area number bytes ∷ es) short k =
       listener-push w h (start w h) (heard w h us es) (Bytes bytes)
           ∙ (ap (λ l. hears_bytes w h l bytes) before.2 ∙ (hears_message w h f before.0 bytes message spelled ∙ ap (λ g. between w h g (before.0 ++ message ∷ [])) (sym followed))),
     )
+is_heard w h us (ToldSize size number bytes ∷ es) short k =
+    let before = is_heard w h us es short k.1 in
+    let f : Follower = follower w h (received es) in
+    let message : ServerMessage = FramebufferUpdate (Resized size ∷ []) in
+    let spelled : Spells (server_message f.format w h) bytes message = subst (λ format. Spells (server_message format w h) bytes message) (sym (follower_format w h es)) k.0 in
+    let followed : follower w h (received (ToldSize size number bytes ∷ es)) ≡ record { format = f.format; held = after_message f.held (Some message) } =
+    follows_size w h size number bytes es ∙ ap (λ o. with_message f o) (spells_only f.format w h bytes message spelled) in (
+      before.0 ++ message ∷ [],
+      (before.0, before.1, k.0, refl),
+      listener-push w h (start w h) (heard w h us es) (Bytes bytes)
+          ∙ (ap (λ l. hears_bytes w h l bytes) before.2 ∙ (hears_message w h f before.0 bytes message spelled ∙ ap (λ g. between w h g (before.0 ++ message ∷ [])) (sym followed))),
+    )
 
 -- ---- the stream
 
@@ -163,6 +176,7 @@ heard_more w h us u (MadeCut number ∷ es) k =
     ap (λ t. t ++ Bytes (news_at (take number (us ++ u ∷ [])) (news_since w h es)) ∷ []) (heard_more w h us u es k.1)
     ∙ ap (λ now. heard w h us es ++ Bytes (news_at now (news_since w h es)) ∷ []) (take-append-le number us (u ∷ []) k.0)
 heard_more w h us u (Began area number bytes ∷ es) k = ap (λ t. t ++ Bytes bytes ∷ []) (heard_more w h us u es k.1)
+heard_more w h us u (ToldSize size number bytes ∷ es) k = ap (λ t. t ++ Bytes bytes ∷ []) (heard_more w h us u es k.1)
 
 -- A message that is taken sends nothing.
 pub stream_took : (w h : ℕ) (us : List Update) (m : ClientMessage) (es : List Entry) → stream_of (heard w h us (Took m ∷ es)) ≡ stream_of (heard w h us es)
@@ -186,6 +200,13 @@ stream_began w h us es (Some found) =
     stream-bytes (heard w h us (MadeCut (length us) ∷ es)) found.1
     ∙ (ap (λ t. t ++ found.1) (stream_cut w h us es) ∙ append_assoc (stream_of (heard w h us es)) (news_at us (news_since w h es)) found.1)
 
+stream_begun : (w h : ℕ) (us : List Update) (es : List Entry) (size : Option Size) (o : Option (Rect × List ℕ))
+    → stream_of (heard w h us (told_at (length us) size o (MadeCut (length us) ∷ es))) ≡ stream_of (heard w h us es) ++ (news_at us (news_since w h es) ++ size_or_update size o)
+stream_begun w h us es None o = stream_began w h us es o
+stream_begun w h us es (Some size) o =
+    stream-bytes (heard w h us (MadeCut (length us) ∷ es)) (size_bytes size)
+    ∙ (ap (λ t. t ++ size_bytes size) (stream_cut w h us es) ∙ append_assoc (stream_of (heard w h us es)) (news_at us (news_since w h es)) (size_bytes size))
+
 -- A cut sends what its record comes to.
-pub stream_after_cut : (form : Runs) (w h : ℕ) (us : List Update) (es : List Entry) → stream_of (heard w h us (record_after_cut form w h es us)) ≡ stream_of (heard w h us es) ++ sent_at form w h es us
-stream_after_cut form w h us es = stream_began w h us es (update_at form w h es us)
+pub stream_after_cut : (form : Runs) (w h : ℕ) (host : Option Size) (us : List Update) (es : List Entry) → stream_of (heard w h us (record_after_cut form w h host es us)) ≡ stream_of (heard w h us es) ++ sent_at form w h host es us
+stream_after_cut form w h host us es = stream_begun w h us es (size_at w h host es us) (update_at form w h es us)

@@ -10,15 +10,16 @@ use Rattle.std.proofs.lemmas.List.{length-take, length-drop, take-take, take_all
 use Rattle.std.proofs.Math.Seq.{drop-append_seam}
 use Rattle.byte_reading.specs.Reading.{Reading, whole_of}
 use Rattle.raster.specs.declared.rect.Rect.{Rect}
+use Rattle.raster.specs.declared.size.Size.{Size}
 use Rattle.raster.specs.Screen.{IsWithin, meets, tile_rect, tile_count}
 use Rattle.raster.specs.Size.{IsScreenSize}
-use Rattle.raster.specs.Update.{Update, Paints, Cut, screen, bells, last_text, NumberedText}
+use Rattle.raster.specs.Update.{Update, Paints, Cut, screen, bells, last_size, last_text, NumberedText}
 use Rattle.raster.specs.Update as update
 use Rattle.rfb_wire.specs.Greeting.{Greeting, ahead}
 use Rattle.rfb_wire.specs.Handshake.{said_to_viewer}
 use Rattle.rfb_wire.specs.Writing.{bell_bytes, update_head_bytes}
 use Rattle.tiles.specs.Have.{SentTiles, HaveStands}
-use Rattle.tiles.specs.Touched.{Event, WasCut, is_due_since, runs}
+use Rattle.tiles.specs.Touched.{Event, WasCut, is_due_since, runs, told_last}
 use Rattle.tiles.proofs.HaveLaws.{sent_at_stands}
 use Rattle.tiles.proofs.RunLaws.{runs_few}
 use Rattle.reflect_core.specs.declared.cut.Cut as cutting
@@ -32,14 +33,14 @@ use Rattle.joined_runs.specs.declared.runs.Runs.{Runs}
 use Rattle.update_encoder.specs.Coming.{shown}
 use Rattle.update_encoder.specs.Written.{is_due_of}
 use Rattle.update_encoder.proofs.CutLaws.{cut_is_answered}
-use Rattle.viewer_session.specs.Found.{answered_at, has_newer, is_newer, rings, update_in, update_of}
+use Rattle.viewer_session.specs.Found.{answered_at, has_newer, is_newer, rings, told_or_answered, update_in, update_of}
 use Rattle.viewer_session.specs.Outgoing.{Sending, text_message}
 use Rattle.roles.specs.Held.{HeldStands}
 use Rattle.viewer_session.specs.Record.{Entry, MadeCut, events, format_of, choice_of, messages_in}
-use Rattle.viewer_session.specs.Turn.{due_tile, due_tile_in, was_sent, all_were_sent, update_for, update_at, update_part, bell_at, newer_text, text_at, began_at, record_after_cut, style_of}
+use Rattle.viewer_session.specs.Turn.{asked_part, clipped_to, due_tile, due_tile_in, was_sent, all_were_sent, size_at, size_for, size_or_update, told_at, told_of, update_for, update_at, update_part, bell_at, newer_text, text_at, began_at, record_after_cut, style_of}
 use Rattle.viewer_session.specs.Turn as turn
 use Rattle.viewer_session.specs.Viewer.{Setup, Viewer, out_bytes, after_cut}
-use Rattle.viewer_session.specs.Session.{State, Serves, Relays, Stands, Greets, Keeps, CutsAt, HasCounted, IsGreeting, at_rest, hello_of, is_greeted, is_ready, fault_in, style_now}
+use Rattle.viewer_session.specs.Session.{State, Serves, Relays, Stands, Greets, Keeps, CutsAt, HasCounted, IsGreeting, at_rest, hello_of, is_greeted, is_ready, fault_in, asked_now, style_now, told_now}
 use Rattle.viewer_session.proofs.HelloLaws.{not_yet}
 use Rattle.viewer_session.proofs.SameRuns.{runs_same, all_same, any_same, no_run, not_zero}
 
@@ -149,13 +150,13 @@ update_on form w h known n area have cut entries style v u is ew eh size on stoo
 
 -- What is known of a state and a cut that was made for it.
 pub record IsCutFor (st : State) (cut : cutting.Cut) (nowhere : Rect) (known : List Update) (n : ℕ) : Type 0 where
-  pub is : IsCutOf known n (unwrap_or st.asked.area nowhere) st.have cut
+  pub is : IsCutOf known n (unwrap_or (asked_now st) nowhere) st.have cut
   pub width : st.width ≡ cut.width
   pub height : st.height ≡ cut.height
   pub have_width : st.have.width ≡ st.width
   pub have_height : st.have.height ≡ st.height
   pub size : IsScreenSize cut.width cut.height
-  pub within : IsWithin (unwrap_or st.asked.area nowhere) cut.width cut.height
+  pub within : IsWithin (unwrap_or (asked_now st) nowhere) cut.width cut.height
 
 same_style : (st : State) (form : Runs) (entries : List Entry) → st.runs ≡ form → st.format ≡ format_of entries → st.choice ≡ choice_of entries → style_now st ≡ style_of form entries
 same_style st form entries e f g = λ i. record { runs = e i; format = f i; choice = g i }
@@ -167,12 +168,24 @@ update_by s st p cut known n nowhere None k is ew eh hw hh size on = refl
 update_by s st p cut known n nowhere (Some area) k is ew eh hw hh size on =
     update_on s.runs s.w s.h known n area st.have cut p.entries (style_now st) (hw ∙ k.width) (hh ∙ k.height) is (hw ∙ ew) (hh ∙ eh) size on k.keeps.have (same_style st s.runs p.entries k.runs k.keeps.format k.keeps.choice)
 
+-- The size that the viewer was told, and the area that it asked for inside it, are those of the definitions.
+told_is : (s : Setup) (st : State) (p : Viewer) → Serves s st p → told_now st ≡ told_of s.w s.h p.entries
+told_is s st p k = λ i. unwrap_or (k.keeps.told i) (record { width = k.width i; height = k.height i })
+
+asked_is : (s : Setup) (st : State) (p : Viewer) → Serves s st p → asked_now st ≡ asked_part s.w s.h p.entries
+asked_is s st p k = ap (λ (t : Size). clipped_to t st.asked.area) (told_is s st p k) ∙ ap (clipped_to (told_of s.w s.h p.entries)) k.keeps.asked.area
+
+-- The size that a session finds at a cut is the one of the definitions.
+size_is : (s : Setup) (st : State) (p : Viewer) (last : Option Size) (us : List Update) → Serves s st p → last ≡ last_size us
+    → size_for st.width st.height st.host st.choice.resizes (told_now st) last st.asked.area ≡ size_at s.w s.h s.host p.entries us
+size_is s st p last us k e = λ i. size_for (k.width i) (k.height i) (k.host i) (k.keeps.choice i).resizes (told_is s st p k i) (e i) (k.keeps.asked.area i)
+
 -- The update that a session finds in a cut is the one of the definitions.
 pub update_is : (s : Setup) (st : State) (p : Viewer) (cut : cutting.Cut) (known : List Update) (n : ℕ) (nowhere : Rect) → Serves s st p → IsCutFor st cut nowhere known n
-    → update_in (style_now st) cut st.asked.area ≡ update_at s.runs s.w s.h p.entries (take n known)
+    → update_in (style_now st) cut (asked_now st) ≡ update_at s.runs s.w s.h p.entries (take n known)
 update_is s st p cut known n nowhere k c =
-    update_by s st p cut known n nowhere st.asked.area k c.is c.width c.height c.have_width c.have_height c.size c.within
-    ∙ ap (update_for s.runs s.w s.h p.entries (take n known)) k.keeps.asked.area
+    update_by s st p cut known n nowhere (asked_now st) k c.is c.width c.height c.have_width c.have_height c.size c.within
+    ∙ ap (update_for s.runs s.w s.h p.entries (take n known)) (asked_is s st p k)
 
 -- ---- news
 
@@ -275,18 +288,19 @@ greeting_done None out now done k = tt
 greeting_done (Some g) out now done k =
     record { short = k.short; said = λ wants. absurd (let open_ : is_some (whole_of (ahead g)) ≡ false = not_yet (ahead g) wants in cc) }
 
-serves_cut : (s : Setup) (st : State) (p : Viewer) (us : List Update) (wanted : Wanted) (have : SentTiles) (cut : cutting.Cut) (piece bytes : List ℕ) → Serves s st p → is_ready st ≡ true
-    → turn.sent_at s.runs s.w s.h p.entries us ≡ bytes → Keeps s.w s.h (record st { asked = wanted; have = have; cut = cut; piece = piece; unsent = bytes }) (record_after_cut s.runs s.w s.h p.entries us)
-    → Serves s (record st { asked = wanted; have = have; cut = cut; piece = piece; unsent = bytes }) (after_cut s us p)
-serves_cut s st p us wanted have cut piece bytes k ready e keeps =
+serves_cut : (s : Setup) (st : State) (p : Viewer) (us : List Update) (told : Option Size) (wanted : Wanted) (have : SentTiles) (cut : cutting.Cut) (piece bytes : List ℕ) → Serves s st p → is_ready st ≡ true
+    → turn.sent_at s.runs s.w s.h s.host p.entries us ≡ bytes → Keeps s.w s.h (record st { told = told; asked = wanted; have = have; cut = cut; piece = piece; unsent = bytes }) (record_after_cut s.runs s.w s.h s.host p.entries us)
+    → Serves s (record st { told = told; asked = wanted; have = have; cut = cut; piece = piece; unsent = bytes }) (after_cut s us p)
+serves_cut s st p us told wanted have cut piece bytes k ready e keeps =
     let none : length st.unsent ≡ 0 = sent_all st ready in
-    let sent : List ℕ = turn.sent_at s.runs s.w s.h p.entries us in
+    let sent : List ℕ = turn.sent_at s.runs s.w s.h s.host p.entries us in
     let over : length (drop p.written (out_bytes s p)) ≡ 0 = ap length (sym k.unsent) ∙ none in
     let out : out_bytes s (after_cut s us p) ≡ out_bytes s p ++ sent = sym (append_assoc (hello_bytes s p) p.said_after sent) in
     record {
       width = k.width;
       height = k.height;
       runs = k.runs;
+      host = k.host;
       role = k.role;
       rests = rests_cut s us p k.rests;
       greets = greets_cut s st.greeting p.greet p.hello p.said p.said_after (p.said_after ++ sent) (greeted_ready st ready) k.greets;
@@ -299,45 +313,51 @@ serves_cut s st p us wanted have cut piece bytes k ready e keeps =
     }
 
 -- No message is taken by it.
-messages_began : (n : ℕ) (found : Option (Rect × List ℕ)) (entries : List Entry) → messages_in (began_at n found (MadeCut n ∷ entries)) ≡ messages_in entries
-messages_began n None entries = refl
-messages_began n (Some found) entries = refl
+messages_began : (n : ℕ) (size : Option Size) (found : Option (Rect × List ℕ)) (entries : List Entry) → messages_in (told_at n size found (MadeCut n ∷ entries)) ≡ messages_in entries
+messages_began n (Some size) found entries = refl
+messages_began n None None entries = refl
+messages_began n None (Some found) entries = refl
 
-relays_cut : (s : Setup) (st : State) (p : Viewer) (us : List Update) (wanted : Wanted) (have : SentTiles) (cut : cutting.Cut) (piece bytes : List ℕ) → Relays st p
-    → Relays (record st { asked = wanted; have = have; cut = cut; piece = piece; unsent = bytes }) (after_cut s us p)
-relays_cut s st p us wanted have cut piece bytes k =
+relays_cut : (s : Setup) (st : State) (p : Viewer) (us : List Update) (told : Option Size) (wanted : Wanted) (have : SentTiles) (cut : cutting.Cut) (piece bytes : List ℕ) → Relays st p
+    → Relays (record st { told = told; asked = wanted; have = have; cut = cut; piece = piece; unsent = bytes }) (after_cut s us p)
+relays_cut s st p us told wanted have cut piece bytes k =
     record {
       waiting = k.waiting;
       keys = k.keys;
-      held = subst (λ ms. HeldStands st.role st.held ms) (sym (messages_began (length us) (update_at s.runs s.w s.h p.entries us) p.entries)) k.held;
+      held = subst (λ ms. HeldStands st.role st.held ms) (sym (messages_began (length us) (size_at s.w s.h s.host p.entries us) (update_at s.runs s.w s.h p.entries us) p.entries)) k.held;
     }
 
 -- ---- the record after it
 
-events_began : (w h n : ℕ) (found : Option (Rect × List ℕ)) (entries : List Entry) → events w h (began_at n found entries) ≡ answered_at n found (events w h entries)
-events_began w h n None entries = refl
-events_began w h n (Some found) entries = refl
+events_began : (w h n : ℕ) (size : Option Size) (found : Option (Rect × List ℕ)) (entries : List Entry) → events w h (told_at n size found entries) ≡ told_or_answered n size found (events w h entries)
+events_began w h n (Some size) found entries = refl
+events_began w h n None None entries = refl
+events_began w h n None (Some found) entries = refl
 
-format_began : (n : ℕ) (found : Option (Rect × List ℕ)) (entries : List Entry) → format_of (began_at n found (MadeCut n ∷ entries)) ≡ format_of entries
-format_began n None entries = refl
-format_began n (Some found) entries = refl
+format_began : (n : ℕ) (size : Option Size) (found : Option (Rect × List ℕ)) (entries : List Entry) → format_of (told_at n size found (MadeCut n ∷ entries)) ≡ format_of entries
+format_began n (Some size) found entries = refl
+format_began n None None entries = refl
+format_began n None (Some found) entries = refl
 
-choice_began : (n : ℕ) (found : Option (Rect × List ℕ)) (entries : List Entry) → choice_of (began_at n found (MadeCut n ∷ entries)) ≡ choice_of entries
-choice_began n None entries = refl
-choice_began n (Some found) entries = refl
+choice_began : (n : ℕ) (size : Option Size) (found : Option (Rect × List ℕ)) (entries : List Entry) → choice_of (told_at n size found (MadeCut n ∷ entries)) ≡ choice_of entries
+choice_began n (Some size) found entries = refl
+choice_began n None None entries = refl
+choice_began n None (Some found) entries = refl
 
-keeps_cut : (w h n : ℕ) (st : State) (entries : List Entry) (found : Option (Rect × List ℕ)) (wanted : Wanted) (have : SentTiles) (cut : cutting.Cut) (piece bytes : List ℕ) → Keeps w h st entries
-    → ((es : List Event) → AskedStands st.asked es → AskedStands wanted (answered_at n found (WasCut n ∷ es)))
-    → ((es : List Event) → HaveStands st.have es → HaveStands have (answered_at n found es))
-    → Keeps w h (record st { asked = wanted; have = have; cut = cut; piece = piece; unsent = bytes }) (began_at n found (MadeCut n ∷ entries))
-keeps_cut w h n st entries found wanted have cut piece bytes k asked has =
+keeps_cut : (w h n : ℕ) (st : State) (entries : List Entry) (size : Option Size) (found : Option (Rect × List ℕ)) (told : Option Size) (wanted : Wanted) (have : SentTiles) (cut : cutting.Cut) (piece bytes : List ℕ) → Keeps w h st entries
+    → ((es : List Event) → told_last es ≡ st.told → told_last (told_or_answered n size found es) ≡ told)
+    → ((es : List Event) → AskedStands st.asked es → AskedStands wanted (told_or_answered n size found (WasCut n ∷ es)))
+    → ((es : List Event) → told_last es ≡ st.told → HaveStands st.have es → HaveStands have (told_or_answered n size found es))
+    → Keeps w h (record st { told = told; asked = wanted; have = have; cut = cut; piece = piece; unsent = bytes }) (told_at n size found (MadeCut n ∷ entries))
+keeps_cut w h n st entries size found told wanted have cut piece bytes k tells asked has =
     let es : List Event = events w h entries in
-    let now : events w h (began_at n found (MadeCut n ∷ entries)) ≡ answered_at n found (WasCut n ∷ es) = events_began w h n found (MadeCut n ∷ entries) in
+    let now : events w h (told_at n size found (MadeCut n ∷ entries)) ≡ told_or_answered n size found (WasCut n ∷ es) = events_began w h n size found (MadeCut n ∷ entries) in
     record {
       asked = subst (λ l. AskedStands wanted l) (sym now) (asked es k.asked);
-      have = subst (λ l. HaveStands have l) (sym now) (has (WasCut n ∷ es) (record { each = k.have.each }));
-      format = k.format ∙ sym (format_began n found entries);
-      choice = k.choice ∙ sym (choice_began n found entries);
+      have = subst (λ l. HaveStands have l) (sym now) (has (WasCut n ∷ es) (sym k.told) (record { each = k.have.each }));
+      format = k.format ∙ sym (format_began n size found entries);
+      choice = k.choice ∙ sym (choice_began n size found entries);
+      told = sym (ap told_last now ∙ tells (WasCut n ∷ es) (sym k.told));
     }
 
 -- ---- all of it
@@ -349,22 +369,26 @@ last_is : (n number : ℕ) (o : Option ℕ) → o ≡ Some n → o ≡ Some numb
 last_is n number o e f = cc
 
 tells : (s : Setup) (es : List Entry) (us : List Update)
-    → turn.sent_at s.runs s.w s.h es us
-    ≡ bell_at us (last_cut (events s.w s.h es)) ++ (text_at us (last_cut (events s.w s.h es)) ++ update_part (update_at s.runs s.w s.h es us))
+    → turn.sent_at s.runs s.w s.h s.host es us
+    ≡ bell_at us (last_cut (events s.w s.h es)) ++ (text_at us (last_cut (events s.w s.h es)) ++ size_or_update (size_at s.w s.h s.host es us) (update_at s.runs s.w s.h es us))
 tells s es us =
-    append_assoc (bell_at us (last_cut (events s.w s.h es))) (text_at us (last_cut (events s.w s.h es))) (update_part (update_at s.runs s.w s.h es us))
+    append_assoc (bell_at us (last_cut (events s.w s.h es))) (text_at us (last_cut (events s.w s.h es))) (size_or_update (size_at s.w s.h s.host es us) (update_at s.runs s.w s.h es us))
 
 -- A cut, and what of it begins to be sent.
-pub turned : {S : Type 0} (cuts : S → ℕ → S → Type 0) (before after : S) (st now : State) (known : List Update) (least most n : ℕ) (cut : cutting.Cut) (nowhere : Rect) (wanted : Wanted) (have : SentTiles) (bell text : Bool) (update piece bytes : List ℕ)
+pub turned : {S : Type 0} (cuts : S → ℕ → S → Type 0) (before after : S) (st now : State) (known : List Update) (least most n : ℕ) (cut : cutting.Cut) (nowhere : Rect) (size told : Option Size) (wanted : Wanted) (have : SentTiles) (bell text : Bool) (update piece bytes : List ℕ)
     → cuts before n after → st ≡ now → is_ready now ≡ true → IsCutFor st cut nowhere known n → (least ≤ n) × (n ≤ most)
-    → bell ≡ rings st.asked.last st.cut.bells cut.bells → text ≡ has_newer st.asked.last cut.text → update ≡ update_part (update_in (style_now st) cut st.asked.area)
+    → bell ≡ rings st.asked.last st.cut.bells cut.bells → text ≡ has_newer st.asked.last cut.text
+    → size ≡ size_for st.width st.height st.host st.choice.resizes (told_now st) cut.host_size st.asked.area
+    → update ≡ size_or_update size (update_in (style_now st) cut (asked_now st))
     → wanted.last ≡ Some n
-    → ((es : List Event) → AskedStands st.asked es → AskedStands wanted (answered_at n (update_in (style_now st) cut st.asked.area) (WasCut n ∷ es)))
-    → ((es : List Event) → HaveStands st.have es → HaveStands have (answered_at n (update_in (style_now st) cut st.asked.area) es))
+    → ((es : List Event) → told_last es ≡ st.told → told_last (told_or_answered n size (update_in (style_now st) cut (asked_now st)) es) ≡ told)
+    → ((es : List Event) → AskedStands st.asked es → AskedStands wanted (told_or_answered n size (update_in (style_now st) cut (asked_now st)) (WasCut n ∷ es)))
+    → ((es : List Event) → told_last es ≡ st.told → HaveStands st.have es → HaveStands have (told_or_answered n size (update_in (style_now st) cut (asked_now st)) es))
     → bytes ≡ (if bell then bell_bytes else []) ++ ((if text then text_message cut.text else []) ++ update)
-    → CutsAt cuts before after now (record st { asked = wanted; have = have; cut = cut; piece = piece; unsent = bytes }) known least most
-turned cuts before after st now known least most n cut nowhere wanted have bell text update piece bytes was same ready c fresh rung newer found last asked has e =
+    → CutsAt cuts before after now (record st { told = told; asked = wanted; have = have; cut = cut; piece = piece; unsent = bytes }) known least most
+turned cuts before after st now known least most n cut nowhere size told wanted have bell text update piece bytes was same ready c fresh rung newer sized found last says asked has e =
     let us : List Update = take n known in
+    let here : Option (Rect × List ℕ) = update_in (style_now st) cut (asked_now st) in
     record {
       number = n;
       cut = was;
@@ -377,23 +401,28 @@ turned cuts before after st now known least most n cut nowhere wanted have bell 
           let k : Serves s st p = both.serves in
           let known_bells : HasCounted st known = subst (λ (t : State). HasCounted t known) (sym same) counted in
           let count : length us ≡ n = count_taken n known c.is.known in
-          let update_there : update_in (style_now st) cut st.asked.area ≡ update_at s.runs s.w s.h p.entries us = update_is s st p cut known n nowhere k c in
+          let update_there : here ≡ update_at s.runs s.w s.h p.entries us = update_is s st p cut known n nowhere k c in
+          let size_there : size ≡ size_at s.w s.h s.host p.entries us = sized ∙ size_is s st p cut.host_size us k c.is.size in
+          let both_there : size_or_update size here ≡ size_or_update (size_at s.w s.h s.host p.entries us) (update_at s.runs s.w s.h p.entries us) =
+          ap (λ o. size_or_update o here) size_there ∙ ap (size_or_update (size_at s.w s.h s.host p.entries us)) update_there in
           let last_there : st.asked.last ≡ last_cut (events s.w s.h p.entries) = k.keeps.asked.last in
           let bells_there : (if bell then bell_bytes else []) ≡ bell_at us (last_cut (events s.w s.h p.entries)) =
           ap (λ b. if b then bell_bytes else []) rung ∙ (bell_is st.asked.last st.cut.bells cut.bells known n c.is.bells known_bells ∙ ap (bell_at us) last_there) in
           let text_there : (if text then text_message cut.text else []) ≡ text_at us (last_cut (events s.w s.h p.entries)) =
           ap (λ b. if b then text_message cut.text else []) newer ∙ (text_is st.asked.last cut.text us c.is.text ∙ ap (text_at us) last_there) in
-          let bytes_there : bytes ≡ turn.sent_at s.runs s.w s.h p.entries us =
+          let bytes_there : bytes ≡ turn.sent_at s.runs s.w s.h s.host p.entries us =
           e
           ∙ (ap (λ t. t ++ ((if text then text_message cut.text else []) ++ update)) bells_there
           ∙ (ap (λ t. bell_at us (last_cut (events s.w s.h p.entries)) ++ (t ++ update)) text_there
-          ∙ (ap (λ t. bell_at us (last_cut (events s.w s.h p.entries)) ++ (text_at us (last_cut (events s.w s.h p.entries)) ++ t)) (found ∙ ap update_part update_there) ∙ sym (tells s p.entries us)))) in
-          let kept : Keeps s.w s.h (record st { asked = wanted; have = have; cut = cut; piece = piece; unsent = bytes }) (began_at n (update_in (style_now st) cut st.asked.area) (MadeCut n ∷ p.entries)) =
-          keeps_cut s.w s.h n st p.entries (update_in (style_now st) cut st.asked.area) wanted have cut piece bytes k.keeps asked has in
-          let record_is : began_at n (update_in (style_now st) cut st.asked.area) (MadeCut n ∷ p.entries) ≡ record_after_cut s.runs s.w s.h p.entries us =
-          ap (λ u. began_at n u (MadeCut n ∷ p.entries)) update_there ∙ ap (λ m. began_at m (update_at s.runs s.w s.h p.entries us) (MadeCut m ∷ p.entries)) (sym count) in
+          ∙ (ap (λ t. bell_at us (last_cut (events s.w s.h p.entries)) ++ (text_at us (last_cut (events s.w s.h p.entries)) ++ t)) (found ∙ both_there) ∙ sym (tells s p.entries us)))) in
+          let kept : Keeps s.w s.h (record st { told = told; asked = wanted; have = have; cut = cut; piece = piece; unsent = bytes }) (told_at n size here (MadeCut n ∷ p.entries)) =
+          keeps_cut s.w s.h n st p.entries size here told wanted have cut piece bytes k.keeps says asked has in
+          let record_is : told_at n size here (MadeCut n ∷ p.entries) ≡ record_after_cut s.runs s.w s.h s.host p.entries us =
+          ap (λ o. told_at n o here (MadeCut n ∷ p.entries)) size_there
+          ∙ (ap (λ u. told_at n (size_at s.w s.h s.host p.entries us) u (MadeCut n ∷ p.entries)) update_there
+          ∙ ap (λ m. told_at m (size_at s.w s.h s.host p.entries us) (update_at s.runs s.w s.h p.entries us) (MadeCut m ∷ p.entries)) (sym count)) in
           record {
-            serves = serves_cut s st p us wanted have cut piece bytes k (ap is_ready same ∙ ready) (sym bytes_there) (subst (λ (l : List Entry). Keeps s.w s.h (record st { asked = wanted; have = have; cut = cut; piece = piece; unsent = bytes }) l) record_is kept);
-            relays = relays_cut s st p us wanted have cut piece bytes both.relays;
+            serves = serves_cut s st p us told wanted have cut piece bytes k (ap is_ready same ∙ ready) (sym bytes_there) (subst (λ (l : List Entry). Keeps s.w s.h (record st { told = told; asked = wanted; have = have; cut = cut; piece = piece; unsent = bytes }) l) record_is kept);
+            relays = relays_cut s st p us told wanted have cut piece bytes both.relays;
           };
     }

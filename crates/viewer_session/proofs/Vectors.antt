@@ -4,16 +4,17 @@ use Rattle.std.proofs.Common.{◌≡◌, ℕ, Bool, true, false, List, [], ◌�
 use Rattle.std.specs.Prelude.{Some, None}
 use Rattle.pixel_format.specs.PixelFormat.{PixelFormat, host_format}
 use Rattle.raster.specs.declared.rect.Rect.{Rect}
+use Rattle.raster.specs.declared.size.Size.{Size}
 use Rattle.raster.specs.declared.encoding.Encoding.TheVariants.{Raw, Rre, Hextile}
-use Rattle.raster.specs.Update.{Update, Paints, Put}
+use Rattle.raster.specs.Update.{Update, Paints, Put, Resized, of_paints}
 use Rattle.raster.specs.Update as update
 use Rattle.joined_runs.specs.declared.runs.Runs.TheVariants.{OfRows, Joined}
 use Rattle.rfb_wire.specs.ClientMessage.{SetPixelFormat, SetEncodings, Ask, Key}
 use Rattle.rfb_wire.specs.ServerMessage.{FramebufferUpdate, ServerCutText}
 use Rattle.rfb_wire.specs.ServerMessage as server
 use Rattle.update_encoder.specs.Follower as follower
-use Rattle.viewer_session.specs.Record.{Entry, Took, Saw, MadeCut, Began, choice_of, format_of, messages_in, received}
-use Rattle.viewer_session.specs.Turn.{has_reason, all_were_sent, update_at, sent_at, record_after_cut}
+use Rattle.viewer_session.specs.Record.{Entry, Took, Saw, MadeCut, Began, ToldSize, choice_of, format_of, messages_in, received}
+use Rattle.viewer_session.specs.Turn.{has_reason, all_were_sent, size_at, told_of, update_at, sent_at, record_after_cut}
 use Rattle.viewer_session.specs.Stream.{Format, Bytes, heard, stream_of, listener}
 
 abbrev rect : ℕ → ℕ → ℕ → ℕ → Rect
@@ -32,23 +33,23 @@ bgr233 =
     }
 
 abbrev rre : Entry
-rre = Took (SetEncodings (record { kind = Rre; copy = false }))
+rre = Took (SetEncodings (record { kind = Rre; copy = false; resizes = false }))
 
 abbrev hextile_and_copies : Entry
-hextile_and_copies = Took (SetEncodings (record { kind = Hextile; copy = true }))
+hextile_and_copies = Took (SetEncodings (record { kind = Hextile; copy = true; resizes = false }))
 
 abbrev asks : Bool → ℕ → ℕ → Entry
 asks incremental w h = Took (Ask incremental (rect 0 0 w h))
 
 -- ---- the latest list and the latest format
 
-pub latest_list_counts : choice_of (MadeCut 1 ∷ rre ∷ Saw 1 ∷ hextile_and_copies ∷ []) ≡ record { kind = Rre; copy = false }
+pub latest_list_counts : choice_of (MadeCut 1 ∷ rre ∷ Saw 1 ∷ hextile_and_copies ∷ []) ≡ record { kind = Rre; copy = false; resizes = false }
 latest_list_counts = refl
 
-pub list_before_it : choice_of (MadeCut 1 ∷ hextile_and_copies ∷ rre ∷ []) ≡ record { kind = Hextile; copy = true }
+pub list_before_it : choice_of (MadeCut 1 ∷ hextile_and_copies ∷ rre ∷ []) ≡ record { kind = Hextile; copy = true; resizes = false }
 list_before_it = refl
 
-pub no_list_yet : choice_of (Took (Key true 0x61) ∷ Saw 0 ∷ []) ≡ record { kind = Raw; copy = false }
+pub no_list_yet : choice_of (Took (Key true 0x61) ∷ Saw 0 ∷ []) ≡ record { kind = Raw; copy = false; resizes = false }
 no_list_yet = refl
 
 pub latest_format_counts : format_of (rre ∷ Took (SetPixelFormat bgr233) ∷ Took (SetPixelFormat host_format) ∷ []) ≡ bgr233
@@ -166,30 +167,30 @@ four = update.Bell ∷ update.Cut (0x48 ∷ 0x69 ∷ []) ∷ update.Bell ∷ red
 
 -- The first cut sends neither Bell nor text; a later one sends one Bell, then the text, then the update; where they
 -- aren't newer, the update alone.
-pub first_cut : sent_at OfRows 2 1 (asks false 2 1 ∷ []) four ≡ red_blue_bytes
+pub first_cut : sent_at OfRows 2 1 None (asks false 2 1 ∷ []) four ≡ red_blue_bytes
 first_cut = refl
 
-pub later_cut : sent_at OfRows 2 1 (asks true 2 1 ∷ MadeCut 0 ∷ []) four ≡ (2 ∷ []) ++ hi ++ red_blue_bytes
+pub later_cut : sent_at OfRows 2 1 None (asks true 2 1 ∷ MadeCut 0 ∷ []) four ≡ (2 ∷ []) ++ hi ++ red_blue_bytes
 later_cut = refl
 
-pub text_was_told : sent_at OfRows 2 1 (asks true 2 1 ∷ MadeCut 2 ∷ []) four ≡ (2 ∷ []) ++ red_blue_bytes
+pub text_was_told : sent_at OfRows 2 1 None (asks true 2 1 ∷ MadeCut 2 ∷ []) four ≡ (2 ∷ []) ++ red_blue_bytes
 text_was_told = refl
 
-pub all_was_told : sent_at OfRows 2 1 (asks true 2 1 ∷ MadeCut 3 ∷ []) four ≡ red_blue_bytes
+pub all_was_told : sent_at OfRows 2 1 None (asks true 2 1 ∷ MadeCut 3 ∷ []) four ≡ red_blue_bytes
 all_was_told = refl
 
 -- They need no area.
-pub news_alone : sent_at OfRows 2 1 (MadeCut 1 ∷ []) four ≡ (2 ∷ []) ++ hi
+pub news_alone : sent_at OfRows 2 1 None (MadeCut 1 ∷ []) four ≡ (2 ∷ []) ++ hi
 news_alone = refl
 
 -- What is written down of it: the cut, and an answer where there is one.
 abbrev answered : List Entry
 answered = Began (rect 0 0 2 1) 4 red_blue_bytes ∷ MadeCut 4 ∷ asks true 2 1 ∷ MadeCut 0 ∷ Took (Key true 0x61) ∷ []
 
-pub answer_is_recorded : record_after_cut OfRows 2 1 (asks true 2 1 ∷ MadeCut 0 ∷ Took (Key true 0x61) ∷ []) four ≡ answered
+pub answer_is_recorded : record_after_cut OfRows 2 1 None (asks true 2 1 ∷ MadeCut 0 ∷ Took (Key true 0x61) ∷ []) four ≡ answered
 answer_is_recorded = refl
 
-pub cut_is_recorded : record_after_cut OfRows 2 1 (MadeCut 1 ∷ []) four ≡ MadeCut 4 ∷ MadeCut 1 ∷ []
+pub cut_is_recorded : record_after_cut OfRows 2 1 None (MadeCut 1 ∷ []) four ≡ MadeCut 4 ∷ MadeCut 1 ∷ []
 cut_is_recorded = refl
 
 pub messages_in_order : messages_in answered ≡ Key true 0x61 ∷ Ask true (rect 0 0 2 1) ∷ []
@@ -197,6 +198,61 @@ messages_in_order = refl
 
 pub answers_in_order : received (Took (SetPixelFormat bgr233) ∷ rre ∷ answered) ≡ follower.Answer red_blue_bytes ∷ follower.Format bgr233 ∷ []
 answers_in_order = refl
+
+-- ---- a size that is told
+
+abbrev size : ℕ → ℕ → Size
+size w h = record { width = w; height = h }
+
+abbrev takes_sizes : Entry
+takes_sizes = Took (SetEncodings (record { kind = Raw; copy = false; resizes = true }))
+
+-- A host's screen of 1 by 1 in a room of 2 by 1: an update of one rectangle from the top left, in encoding -223.
+abbrev tells_one : List ℕ
+tells_one = 0 ∷ 0 ∷ 0 ∷ 1 ∷ 0 ∷ 0 ∷ 0 ∷ 0 ∷ 0 ∷ 1 ∷ 0 ∷ 1 ∷ 255 ∷ 255 ∷ 255 ∷ 0x21 ∷ []
+
+pub size_is_told : sent_at OfRows 2 1 (Some (size 1 1)) (asks false 2 1 ∷ takes_sizes ∷ []) [] ≡ tells_one
+size_is_told = refl
+
+pub size_is_recorded : record_after_cut OfRows 2 1 (Some (size 1 1)) (asks false 2 1 ∷ takes_sizes ∷ []) [] ≡ ToldSize (size 1 1) 0 tells_one ∷ MadeCut 0 ∷ asks false 2 1 ∷ takes_sizes ∷ []
+size_is_recorded = refl
+
+-- It isn't told twice, to a viewer that doesn't take sizes, where nothing is asked for, or where no sizes are told.
+pub size_is_told_once : size_at 2 1 (Some (size 1 1)) (asks true 2 1 ∷ ToldSize (size 1 1) 0 tells_one ∷ takes_sizes ∷ []) [] ≡ None
+size_is_told_once = refl
+
+pub size_is_not_listed : size_at 2 1 (Some (size 1 1)) (asks false 2 1 ∷ rre ∷ takes_sizes ∷ []) [] ≡ None
+size_is_not_listed = refl
+
+pub nothing_was_asked_for : size_at 2 1 (Some (size 1 1)) (takes_sizes ∷ []) [] ≡ None
+nothing_was_asked_for = refl
+
+pub size_took_the_area : size_at 2 1 (Some (size 1 1)) (ToldSize (size 2 1) 0 [] ∷ takes_sizes ∷ asks false 2 1 ∷ []) [] ≡ None
+size_took_the_area = refl
+
+pub no_sizes_are_told : size_at 2 1 None (asks false 2 1 ∷ takes_sizes ∷ []) [] ≡ None
+no_sizes_are_told = refl
+
+-- The last size counts, and no more of it than fits into the room. One that fills the room was told in the hello.
+pub last_size_counts : size_at 2 1 (Some (size 2 1)) (asks false 2 1 ∷ takes_sizes ∷ []) (of_paints (Resized (size 2 0) ∷ []) ∷ update.Bell ∷ of_paints (Resized (size 1 1) ∷ []) ∷ red_blue ∷ []) ≡ Some (size 1 1)
+last_size_counts = refl
+
+pub room_bounds_it : size_at 2 1 (Some (size 1 3)) (asks false 2 1 ∷ takes_sizes ∷ []) [] ≡ Some (size 1 1)
+room_bounds_it = refl
+
+pub room_was_told : size_at 2 1 (Some (size 3 3)) (asks false 2 1 ∷ takes_sizes ∷ []) [] ≡ None
+room_was_told = refl
+
+-- After it the viewer is answered of as much of its area as lies in that size, also once it takes no sizes any longer.
+pub inside_the_size : update_at OfRows 2 1 (asks true 2 1 ∷ ToldSize (size 1 1) 0 tells_one ∷ takes_sizes ∷ []) (red_blue ∷ [])
+    ≡ Some (rect 0 0 1 1, 0 ∷ 0 ∷ 0 ∷ 1 ∷ 0 ∷ 0 ∷ 0 ∷ 0 ∷ 0 ∷ 1 ∷ 0 ∷ 1 ∷ 0 ∷ 0 ∷ 0 ∷ 0 ∷ 0 ∷ 0 ∷ 255 ∷ 0 ∷ [])
+inside_the_size = refl
+
+pub size_stays_told : told_of 2 1 (rre ∷ Saw 3 ∷ ToldSize (size 1 1) 0 tells_one ∷ takes_sizes ∷ []) ≡ size 1 1
+size_stays_told = refl
+
+pub then_nothing_inside_it : update_at OfRows 2 1 (asks true 2 1 ∷ Began (rect 0 0 1 1) 1 [] ∷ MadeCut 1 ∷ ToldSize (size 1 1) 0 tells_one ∷ takes_sizes ∷ []) (red_blue ∷ []) ≡ None
+then_nothing_inside_it = refl
 
 -- ---- a viewer that reads the stream
 
@@ -206,6 +262,9 @@ stream_of_the_record = refl
 pub messages_of_the_stream : (listener 2 1 (heard 2 1 four answered)).messages
     ≡ server.Bell ∷ ServerCutText (0x48 ∷ 0x69 ∷ []) ∷ FramebufferUpdate (Put (rect 0 0 2 1) (0xFF0000 ∷ 0x0000FF ∷ []) ∷ []) ∷ []
 messages_of_the_stream = refl
+
+pub size_in_the_stream : (listener 2 1 (heard 2 1 [] (ToldSize (size 1 1) 0 tells_one ∷ MadeCut 0 ∷ asks false 2 1 ∷ takes_sizes ∷ []))).messages ≡ FramebufferUpdate (Resized (size 1 1) ∷ []) ∷ []
+size_in_the_stream = refl
 
 -- A message of which a byte is missing isn't read; after a format the pixels are read in it.
 pub message_begun : (listener 2 1 (Bytes (2 ∷ 3 ∷ 0 ∷ 0 ∷ 0 ∷ 0 ∷ 0 ∷ 0 ∷ 1 ∷ []) ∷ [])).messages ≡ server.Bell ∷ []

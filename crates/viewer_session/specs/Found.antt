@@ -1,8 +1,9 @@
 -- What a session finds in a cut: what is news to its viewer, and an update.
 use Rattle.std.specs.Prelude.{ℕ, Bool, false, ◌==◌, nat_lt, if◌then◌else◌, List, ◌∷◌, length, Option, Some, None}
 use Rattle.raster.specs.declared.rect.Rect.{Rect}
+use Rattle.raster.specs.declared.size.Size.{Size}
 use Rattle.raster.specs.Update.{NumberedText}
-use Rattle.tiles.specs.Touched.{Event, Answered, runs}
+use Rattle.tiles.specs.Touched.{Event, Answered, NewSize, runs}
 use Rattle.reflect_core.specs.declared.cut.Cut.{Cut}
 use Rattle.update_encoder.specs.Answer.{answer_bytes}
 use Rattle.reflect_core.specs.Source.{marked}
@@ -40,3 +41,8 @@ update_in style cut (Some area) = update_of style cut area
 abbrev pub answered_at : ℕ → Option (Rect × List ℕ) → List Event → List Event
 answered_at number None es = es
 answered_at number (Some found) es = Answered found.0 number ∷ es
+
+-- The same, with a size told, where one is told, and otherwise with the answer.
+abbrev pub told_or_answered : ℕ → Option Size → Option (Rect × List ℕ) → List Event → List Event
+told_or_answered number None found es = answered_at number found es
+told_or_answered number (Some size) found es = NewSize size ∷ es

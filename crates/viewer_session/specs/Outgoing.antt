@@ -1,7 +1,8 @@
 -- What waits to be sent of a session: the piece that is shown, and what comes after it (RFC 6143, 7.6).
-use Rattle.std.specs.Prelude.{◌≡◌, ℕ, ◌+◌, ◌*◌, Bool, true, max, if◌then◌else◌, is_some, List, [], ◌++◌, length, Option, Some, None, IfSome}
+use Rattle.std.specs.Prelude.{◌≡◌, ℕ, ◌≤◌, ◌+◌, ◌*◌, Bool, true, max, if◌then◌else◌, is_some, List, [], ◌++◌, length, Option, Some, None, IfSome}
+use Rattle.raster.specs.declared.size.Size.{Size}
 use Rattle.raster.specs.Update.{NumberedText}
-use Rattle.rfb_wire.specs.Writing.{server_text_bytes, update_head_bytes}
+use Rattle.rfb_wire.specs.Writing.{server_text_bytes, size_bytes, update_head_bytes}
 use Rattle.reflect_core.specs.declared.cut.Cut.{Cut}
 use Rattle.update_encoder.specs.Coming.{Answering, AnswerStands, coming}
 use Rattle.viewer_session.specs.declared.coming.Coming as declared
@@ -28,13 +29,24 @@ abbrev pub answer_coming : Bool → Option Answering → Cut → List ℕ
 answer_coming head None cut = []
 answer_coming head (Some answer) cut = (if head then update_head_bytes answer.count else []) ++ coming answer cut
 
--- What comes after the piece: a text of the cut, and an answer.
+-- The bytes that tell a size, where one is to be told, before these.
+abbrev pub size_and : Option Size → List ℕ → List ℕ
+size_and None bytes = bytes
+size_and (Some size) bytes = size_bytes size ++ bytes
+
+-- What comes after the piece: a text of the cut, a size, and an answer.
 abbrev pub all_coming : declared.Coming → Cut → List ℕ
-all_coming c cut = (if c.text then text_message cut.text else []) ++ answer_coming c.head c.answer cut
+all_coming c cut = (if c.text then text_message cut.text else []) ++ size_and c.size (answer_coming c.head c.answer cut)
+
+-- A size that fits into a screen of the greatest size.
+pub record IsSmall (size : Size) : Type 0 where
+  pub wide : size.width ≤ 4096
+  pub high : size.height ≤ 4096
 
 -- What is still to come is of this cut: its text, where one comes, and an answer that was begun at it.
 pub record IsOf (c : declared.Coming) (cut : Cut) : Type 0 where
   pub text : c.text ≡ true → is_some cut.text ≡ true
+  pub size : IfSome c.size IsSmall
   pub answer : IfSome c.answer (λ answer. AnswerStands answer cut)
 
 -- ---- what contracts see of it

@@ -3,6 +3,8 @@ use Rattle.std.specs.Prelude.{◌≡◌, ℕ, ◌+◌, ◌≤◌, Bool, true, fa
 use Rattle.fault.specs.declared.kinds.Fault.{Fault}
 use Rattle.pixel_format.specs.PixelFormat.{PixelFormat}
 use Rattle.byte_reading.specs.Reading.{Reading, Done, whole_of, fault_of, wants_more, Gives, GivesWhole}
+use Rattle.raster.specs.declared.rect.Rect.{Rect}
+use Rattle.raster.specs.declared.size.Size.{Size}
 use Rattle.raster.specs.Size.{IsScreenSize}
 use Rattle.joined_runs.specs.declared.runs.Runs.{Runs}
 use Rattle.raster.specs.Update.{Update, bells}
@@ -17,27 +19,32 @@ use Rattle.roles.specs.Allowed.{Input, allowed, releases}
 use Rattle.roles.specs.Held.{Kept, HeldStands, input_for, left_in}
 use Rattle.roles.specs.declared.role.Role.{Role}
 use Rattle.tiles.specs.Have.{SentTiles, HaveStands}
+use Rattle.tiles.specs.Touched.{told_last}
 use Rattle.reflect_core.specs.Asked.{Wanted, AskedStands}
 use Rattle.reflect_core.specs.declared.cut.Cut.{Cut}
 use Rattle.update_encoder.specs.Style.{Style}
 use Rattle.viewer_session.specs.Outgoing.{Sending}
 use Rattle.viewer_session.specs.Record.{Entry, Took, Saw, events, format_of, choice_of, messages_in}
+use Rattle.viewer_session.specs.Turn.{clipped_to, size_for}
 use Rattle.viewer_session.specs.Viewer as viewer
 use Rattle.viewer_session.specs.Viewer.{Setup, Viewer, out_bytes, new_viewer, with_input, after_bytes, after_cut}
 
--- The size of the screen, the form in which the viewer is answered, its role, its hello where it has one, what has come
--- of its next message, the pixel format and the choice of encodings that hold, what it has asked for, what it has of
--- each tile, the last cut, the piece that is sent next, all unsent bytes for it, what it holds down, and its input that
--- waits.
+-- The size of the screen, the form in which the viewer is answered, the size of the host's screen at first where the
+-- viewer is told of sizes, its role, its hello where it has one, what has come of its next message, the pixel format
+-- and the choice of encodings that hold, the size that it was told after its hello, what it has asked for, what it has
+-- of each tile, the last cut, the piece that is sent next, all unsent bytes for it, what it holds down, and its input
+-- that waits.
 pub record State : Type 0 where
   pub width : ℕ
   pub height : ℕ
   pub runs : Runs
+  pub host : Option Size
   pub role : Role
   pub greeting : Option Greeting
   pub reader : ClientReader
   pub format : PixelFormat
   pub choice : Choice
+  pub told : Option Size
   pub asked : Wanted
   pub have : SentTiles
   pub cut : Cut
@@ -98,6 +105,18 @@ is_ready st = (length st.unsent == 0) && (is_greeted st && is_none (fault_in st)
 abbrev pub style_now : State → Style
 style_now st = record { runs = st.runs; format = st.format; choice = st.choice }
 
+-- The size that the viewer was told last.
+abbrev pub told_now : State → Size
+told_now st = unwrap_or st.told (record { width = st.width; height = st.height })
+
+-- The pending area, as far as it lies in that size.
+abbrev pub asked_now : State → Option Rect
+asked_now st = clipped_to (told_now st) st.asked.area
+
+-- The size that the viewer is told at this cut, if it is told one.
+abbrev pub size_now : State → Option Size
+size_now st = size_for st.width st.height st.host st.choice.resizes (told_now st) st.cut.host_size st.asked.area
+
 -- A viewer of which no byte is unread.
 abbrev pub at_rest : Viewer → Viewer
 at_rest p = record p { unread = []; lost = [] }
@@ -123,6 +142,7 @@ pub record Keeps (w h : ℕ) (st : State) (entries : List Entry) : Type 0 where
   pub have : HaveStands st.have (events w h entries)
   pub format : st.format ≡ format_of entries
   pub choice : st.choice ≡ choice_of entries
+  pub told : st.told ≡ told_last (events w h entries)
 
 -- A text that is kept has at most the longest length, and one that is skipped for its length is longer (7.5.6; the
 -- bound is this project's own).
@@ -136,6 +156,7 @@ pub record Serves (s : Setup) (st : State) (p : Viewer) : Type 0 where
   pub width : st.width ≡ s.w
   pub height : st.height ≡ s.h
   pub runs : st.runs ≡ s.runs
+  pub host : st.host ≡ s.host
   pub role : p.role ≡ st.role
   pub rests : p ≡ at_rest p
   pub greets : Greets s st.greeting p.greet p.hello p.said p.said_after

@@ -2,11 +2,11 @@
 use Rattle.std.specs.Prelude.{◌≡◌, ℕ, nat_lt, if◌then◌else◌, List, [], ◌∷◌, ◌++◌, take, Option, Some, None}
 use Rattle.pixel_format.specs.PixelFormat.{PixelFormat, host_format}
 use Rattle.byte_reading.specs.Reading.{Reading, Done, Faulty, Want, step, Spells}
-use Rattle.raster.specs.Update.{Paint, Update, bells, last_text, NumberedText}
+use Rattle.raster.specs.Update.{Paint, Resized, Update, bells, last_text, NumberedText}
 use Rattle.rfb_wire.specs.ClientMessage.{SetPixelFormat}
 use Rattle.rfb_wire.specs.ServerMessage.{ServerMessage, FramebufferUpdate, Bell, ServerCutText, server_message}
 use Rattle.update_encoder.specs.Follower.{Follower, follower, unknown, after_message}
-use Rattle.viewer_session.specs.Record.{Entry, Took, Saw, MadeCut, Began, format_of, received}
+use Rattle.viewer_session.specs.Record.{Entry, Took, Saw, MadeCut, Began, ToldSize, format_of, received}
 use Rattle.viewer_session.specs.Turn.{bell_at, text_at, news_since}
 
 -- What comes to it, in the order of its session: a pixel format, where its session took one, and the bytes that the
@@ -28,6 +28,7 @@ heard w h us (Took message ∷ es) = heard w h us es
 heard w h us (Saw number ∷ es) = heard w h us es
 heard w h us (MadeCut number ∷ es) = heard w h us es ++ Bytes (news_at (take number us) (news_since w h es)) ∷ []
 heard w h us (Began area number bytes ∷ es) = heard w h us es ++ Bytes bytes ∷ []
+heard w h us (ToldSize size number bytes ∷ es) = heard w h us es ++ Bytes bytes ∷ []
 
 -- The stream: the bytes among what comes.
 abbrev pub stream_of : List Heard → List ℕ
@@ -91,8 +92,9 @@ abbrev pub text_told : List Update → Option ℕ → List ServerMessage
 text_told us None = []
 text_told us (Some number) = newer_told number (last_text us)
 
--- These are the messages that a record comes to: the Bells and texts of its cuts, and for each answer the one
--- FramebufferUpdate that the answer's bytes are in the format last taken before the cut.
+-- These are the messages that a record comes to: the Bells and texts of its cuts, for each answer the one
+-- FramebufferUpdate that the answer's bytes are in the format last taken before the cut, and for each size that was
+-- told the FramebufferUpdate that tells it.
 abbrev pub AreTold : ℕ → ℕ → List Update → List Entry → List ServerMessage → Type 0
 AreTold w h us [] messages = messages ≡ []
 AreTold w h us (Took message ∷ es) messages = AreTold w h us es messages
@@ -103,6 +105,9 @@ AreTold w h us (MadeCut number ∷ es) messages =
 AreTold w h us (Began area number bytes ∷ es) messages =
     (before : List ServerMessage) × (paints : List Paint) × AreTold w h us es before × Spells (server_message (format_of es) w h) bytes (FramebufferUpdate paints)
     × (messages ≡ before ++ FramebufferUpdate paints ∷ [])
+AreTold w h us (ToldSize size number bytes ∷ es) messages =
+    (before : List ServerMessage) × AreTold w h us es before × Spells (server_message (format_of es) w h) bytes (FramebufferUpdate (Resized size ∷ []))
+    × (messages ≡ before ++ FramebufferUpdate (Resized size ∷ []) ∷ [])
 
 -- A viewer that reads what comes of a record reads exactly these messages, follows exactly what a follower of the
 -- answers does, and then stands between two messages.

@@ -2,6 +2,7 @@
 use Rattle.std.specs.Prelude.{ℕ, ◌+◌, Bool, ◌&&◌, nat_le, if◌then◌else◌, is_some, is_none, List, [], ◌∷◌, ◌++◌, length, Option, Some, None}
 use Rattle.fault.specs.declared.kinds.Fault.{Fault}
 use Rattle.byte_reading.specs.Reading.{Reading, Done, Faulty, Want, step, fault_of, whole_of, wants_more}
+use Rattle.raster.specs.declared.size.Size.{Size}
 use Rattle.raster.specs.Update.{Update}
 use Rattle.joined_runs.specs.declared.runs.Runs.{Runs}
 use Rattle.rfb_wire.specs.ClientMessage.{ClientMessage, CutText, client_message, without_text}
@@ -12,14 +13,15 @@ use Rattle.roles.specs.Held.{input_for}
 use Rattle.viewer_session.specs.Record.{Entry, Took}
 use Rattle.viewer_session.specs.Turn.{sent_at, record_after_cut}
 
--- A screen of w by h with a name, room for this many inputs in the queue to the host, and the form in which viewers are
--- answered.
+-- A screen of w by h with a name, room for this many inputs in the queue to the host, the form in which viewers are
+-- answered, and, where they are told of the sizes of the host's screen, the size that this has at first.
 pub record Setup : Type 0 where
   pub w : ℕ
   pub h : ℕ
   pub name : List ℕ
   pub room : ℕ
   pub runs : Runs
+  pub host : Option Size
 
 -- One viewer, from the moment at which it joins.
 pub record Viewer : Type 0 where
@@ -120,4 +122,8 @@ may_look s p = nat_le (length (out_bytes s p)) p.written && (is_greeted p && is_
 -- What a cut of these updates makes of a viewer: more to be sent, and more in its record.
 abbrev pub after_cut : Setup → List Update → Viewer → Viewer
 after_cut s us p =
-    record p { looked = None; said_after = p.said_after ++ sent_at s.runs s.w s.h p.entries us; entries = record_after_cut s.runs s.w s.h p.entries us }
+    record p {
+      looked = None;
+      said_after = p.said_after ++ sent_at s.runs s.w s.h s.host p.entries us;
+      entries = record_after_cut s.runs s.w s.h s.host p.entries us;
+    }

@@ -2,18 +2,21 @@
 
 ghost use Rattle.std.specs.Prelude.{◌≡◌, ◌*◌, ◌≤◌, [], ◌++◌, false, None, length};
 ghost use Rattle.raster.specs.declared.tile.TheConstants.{TILE_SIDE};
-ghost use Rattle.viewer_session.specs.Outgoing.{IsOf, all_coming, answer_coming, longest_piece};
+ghost use Rattle.viewer_session.specs.Outgoing.{IsOf, all_coming, answer_coming, longest_piece, size_and};
 
 use crate::piece::Piece;
+use raster::Size;
 use reflect_core::Cut;
 use update_encoder::Answer;
 
-/// What a cut still sends after the piece: its text where that is news, and then an answer: its header, and one
-/// rectangle after another.
+/// What a cut still sends after the piece: its text where that is news, then the size that the viewer is told, and then
+/// an answer: its header, and one rectangle after another.
 #[derive(Drop)]
 pub(crate) struct Coming {
     /// Whether the text of the cut comes.
     pub(crate) text: bool,
+    /// The size that the viewer is told, if it is told one.
+    pub(crate) size: Option<Size>,
     /// Whether the header of the answer comes.
     pub(crate) head: bool,
     /// The answer, if there is one.
@@ -23,10 +26,11 @@ pub(crate) struct Coming {
 impl Coming {
     /// Nothing comes after the piece.
     pub(crate) fn nothing() -> Self
-        ensures { result ≡ record { text = false; head = false; answer = None } }
+        ensures { result ≡ record { text = false; size = None; head = false; answer = None } }
     {
         Coming {
             text: false,
+            size: None,
             head: false,
             answer: None,
         }
@@ -45,6 +49,9 @@ impl Coming {
         if self.text {
             self.text = false;
             piece.put_text(cut.text.bytes());
+        } else if let Some(size) = self.size {
+            self.size = None;
+            piece.put_size(size);
         } else {
             self.put_of_answer(cut, strip, piece);
         }
@@ -53,11 +60,13 @@ impl Coming {
     /// The next part of the answer is the piece from now on.
     fn put_of_answer(&mut self, cut: &Cut, strip: &mut [u32], piece: &mut Piece)
         requires text { self.old.text ≡ false }
+        requires size { self.old.size ≡ None }
         requires is_of { IsOf self.old cut.now }
         requires strip { TILE_SIDE * cut.now.width ≤ length strip.old }
         requires room { piece.old.room ≡ longest_piece cut.now.width }
         ensures room { piece.new.room ≡ piece.old.room }
         ensures text { self.new.text ≡ false }
+        ensures size { self.new.size ≡ None }
         ensures is_of { IsOf self.new cut.now }
         ensures bytes { answer_coming self.old.head self.old.answer cut.now ≡ piece.new.unsent ++ answer_coming self.new.head self.new.answer cut.now }
         ensures shows { length piece.new.unsent ≡ 0 → (answer_coming self.new.head self.new.answer cut.now ≡ []) × (piece.new.filled ≡ 0) }

@@ -8,12 +8,12 @@ ghost use Rattle.reflect_core.specs.Sequential.{Begins};
 ghost use Rattle.reflect_core.specs.Source.{IsCutOf};
 ghost use Rattle.rfb_wire.specs.Writing.{bell_bytes};
 ghost use Rattle.update_encoder.specs.Coming.{AnswerStands};
-ghost use Rattle.viewer_session.specs.Outgoing.{answer_coming, longest_piece, text_message};
+ghost use Rattle.viewer_session.specs.Outgoing.{IsSmall, answer_coming, longest_piece, size_and, text_message};
 
 use crate::coming::Coming;
 use crate::piece::Piece;
 use fault::{Fault, LONGEST_TEXT};
-use raster::{Rect, TILE_SIDE};
+use raster::{Rect, Size, TILE_SIDE};
 use reflect_core::{Cut, ScreenSource};
 use rfb_wire::{RECTANGLE_HEAD_LEN, TEXT_HEAD_LEN};
 use std::alloc::Global;
@@ -132,16 +132,24 @@ impl Outgoing {
         source.cut(area, have, &mut self.cut)
     }
 
-    /// From now on these parts of the cut wait to be sent, in this order, and nothing else: a Bell, the text and an
-    /// answer.
-    pub(crate) fn begin(&mut self, bell: bool, text: bool, answer: Option<Answer>)
+    /// From now on these parts of the cut wait to be sent, in this order, and nothing else: a Bell, the text, a size
+    /// and an answer.
+    pub(crate) fn begin(
+        &mut self,
+        bell: bool,
+        text: bool,
+        size: Option<Size>,
+        answer: Option<Answer>,
+    )
         requires text { text ≡ true → is_some self.old.cut.text ≡ true }
+        requires size { IfSome size IsSmall }
         requires answer { IfSome answer (λ begun. AnswerStands begun self.old.cut) }
         ensures cut { self.new.cut ≡ self.old.cut }
-        ensures unsent { self.new.unsent ≡ (if bell then bell_bytes else []) ++ ((if text then text_message self.old.cut.text else []) ++ answer_coming true answer self.old.cut) }
+        ensures unsent { self.new.unsent ≡ (if bell then bell_bytes else []) ++ ((if text then text_message self.old.cut.text else []) ++ size_and size (answer_coming true answer self.old.cut)) }
     {
         self.coming = Coming {
             text,
+            size,
             head: true,
             answer,
         };

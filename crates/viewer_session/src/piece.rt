@@ -4,12 +4,13 @@ ghost use Rattle.std.specs.Prelude.{◌≡◌, ℕ, ◌+◌, ◌-◌, ◌*◌, �
 ghost use Rattle.fault.specs.declared.kinds.Fault.TheVariants.{Memory};
 ghost use Rattle.fault.specs.declared.limits.TheConstants.{LONGEST_TEXT};
 ghost use Rattle.raster.specs.declared.tile.TheConstants.{TILE_SIDE};
-ghost use Rattle.rfb_wire.specs.Writing.{bell_bytes, server_text_bytes, update_head_bytes};
+ghost use Rattle.rfb_wire.specs.Writing.{bell_bytes, server_text_bytes, size_bytes, update_head_bytes};
 ghost use Rattle.update_encoder.specs.Coming.{AnswerStands, coming};
 
 use fault::Fault;
+use raster::Size;
 use reflect_core::Cut;
-use rfb_wire::{write_bell, write_server_text, write_update_head};
+use rfb_wire::{write_bell, write_server_text, write_size, write_update_head};
 use std::alloc::Global;
 use std::marker::Model;
 use update_encoder::Answer;
@@ -108,6 +109,18 @@ impl Piece {
         ensures unsent { self.new.unsent ≡ server_text_bytes text.now }
     {
         self.filled = write_server_text(text, self.bytes.as_mut_slice());
+        self.sent = 0;
+    }
+
+    /// An update that tells a size waits from now on, and nothing else (RFC 6143, 7.8.2).
+    pub(crate) fn put_size(&mut self, size: Size)
+        requires wide { size.width ≤ 4096 }
+        requires high { size.height ≤ 4096 }
+        requires room { 16 ≤ self.old.room }
+        ensures room { self.new.room ≡ self.old.room }
+        ensures unsent { self.new.unsent ≡ size_bytes size }
+    {
+        self.filled = write_size(size, self.bytes.as_mut_slice());
         self.sent = 0;
     }
 

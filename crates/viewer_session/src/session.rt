@@ -19,7 +19,7 @@ use crate::outgoing::Outgoing;
 use fault::Fault;
 use joined_runs::Runs;
 use pixel_format::Format;
-use raster::Encoding;
+use raster::{Encoding, Size};
 pub use reading::Fed;
 use reflect_core::Asked;
 use rfb_wire::{Choice, ClientReader, ViewerHello};
@@ -41,11 +41,15 @@ pub struct Session {
     width: u64,
     height: u64,
     runs: Runs,
+    // The size of the host's screen at first, where the viewer is told of sizes.
+    host: Option<Size>,
     role: Role,
     hello: Option<ViewerHello>,
     reader: ClientReader,
     format: Format,
     choice: Choice,
+    // The size that the viewer was told after its hello.
+    told: Option<Size>,
     asked: Asked,
     have: Have,
     out: Outgoing,
@@ -67,11 +71,13 @@ impl Model for Session {
       width = s.width;
       height = s.height;
       runs = s.runs;
+      host = s.host;
       role = s.role;
       greeting = s.hello;
       reader = s.reader;
       format = s.format;
       choice = choice_in s.choice;
+      told = s.told;
       asked = s.asked;
       have = s.have;
       cut = s.out.cut;
@@ -86,8 +92,9 @@ impl Model for Session {
 
 impl Session {
     /// A session of a viewer that begins with its hello, over a screen of `w` by `h` pixels with a name of 1 to 255
-    /// bytes, and that is answered in one of the two forms (`joined_runs`). All the room that it needs is taken here. It
-    /// fails where memory is refused (`Memory`).
+    /// bytes, and that is answered in one of the two forms (`joined_runs`). It is told of the sizes of the host's
+    /// screen, of which `host` is the first, where there is one. All the room that it needs is taken here. It fails
+    /// where memory is refused (`Memory`).
     pub fn open(
         alloc: Global,
         w: u64,
@@ -95,31 +102,40 @@ impl Session {
         name: &[u8],
         role: Role,
         runs: Runs,
+        host: Option<Size>,
     ) -> Result<Self, Fault>
         requires size { IsScreenSize w h }
         requires name { (1 ≤ length name.now) × (length name.now ≤ 255) }
         ensures size { IfOk result (λ session. (session.width ≡ w) × (session.height ≡ h)) }
         ensures uncut { IfOk result (λ session. session.asked.last ≡ None) }
-        ensures stands { IfOk result (λ session. (s : Setup) → s.w ≡ w → s.h ≡ h → s.name ≡ name.now → s.runs ≡ runs → Stands s session (new_viewer role true)) }
+        ensures stands { IfOk result (λ session. (s : Setup) → s.w ≡ w → s.h ≡ h → s.name ≡ name.now → s.runs ≡ runs → s.host ≡ host → Stands s session (new_viewer role true)) }
         ensures err { IfErr result (λ fault. fault ≡ Memory) }
     {
         let mut out = Outgoing::new(alloc, w, h)?;
         let mut hello = ViewerHello::new(w, h, name);
         say(&mut hello, &mut out);
-        Session::begun(alloc, w, h, role, runs, Some(hello), out)
+        Session::begun(alloc, w, h, role, runs, host, Some(hello), out)
     }
 
-    /// A session of a viewer whose handshake is done, over a screen of `w` by `h` pixels, which is answered in one of the
-    /// two forms. All the room that it needs is taken here. It fails where memory is refused (`Memory`).
-    pub fn ready(alloc: Global, w: u64, h: u64, role: Role, runs: Runs) -> Result<Self, Fault>
+    /// A session of a viewer whose handshake is done, over a screen of `w` by `h` pixels, which is answered in one of
+    /// the two forms. It is told of the sizes of the host's screen, of which `host` is the first, where there is one.
+    /// All the room that it needs is taken here. It fails where memory is refused (`Memory`).
+    pub fn ready(
+        alloc: Global,
+        w: u64,
+        h: u64,
+        role: Role,
+        runs: Runs,
+        host: Option<Size>,
+    ) -> Result<Self, Fault>
         requires { IsScreenSize w h }
         ensures size { IfOk result (λ session. (session.width ≡ w) × (session.height ≡ h)) }
         ensures uncut { IfOk result (λ session. session.asked.last ≡ None) }
-        ensures stands { IfOk result (λ session. (s : Setup) → s.w ≡ w → s.h ≡ h → s.runs ≡ runs → Stands s session (new_viewer role false)) }
+        ensures stands { IfOk result (λ session. (s : Setup) → s.w ≡ w → s.h ≡ h → s.runs ≡ runs → s.host ≡ host → Stands s session (new_viewer role false)) }
         ensures err { IfErr result (λ fault. fault ≡ Memory) }
     {
         let out = Outgoing::new(alloc, w, h)?;
-        Session::begun(alloc, w, h, role, runs, None, out)
+        Session::begun(alloc, w, h, role, runs, host, None, out)
     }
 
     /// A session that begins with this hello, or with none. What the hello says first waits in `out`.
@@ -129,6 +145,7 @@ impl Session {
         h: u64,
         role: Role,
         runs: Runs,
+        host: Option<Size>,
         hello: Option<ViewerHello>,
         out: Outgoing,
     ) -> Result<Self, Fault>
@@ -137,7 +154,7 @@ impl Session {
         requires greets { IsGreeting hello out }
         ensures size { IfOk result (λ session. (session.width ≡ w) × (session.height ≡ h)) }
         ensures uncut { IfOk result (λ session. session.asked.last ≡ None) }
-        ensures stands { IfOk result (λ session. (s : Setup) (greet : Bool) → s.w ≡ w → s.h ≡ h → s.runs ≡ runs → IsBegun s role greet hello out → Stands s session (new_viewer role greet)) }
+        ensures stands { IfOk result (λ session. (s : Setup) (greet : Bool) → s.w ≡ w → s.h ≡ h → s.runs ≡ runs → s.host ≡ host → IsBegun s role greet hello out → Stands s session (new_viewer role greet)) }
         ensures err { IfErr result (λ fault. fault ≡ Memory) }
     {
         let have = Have::new(alloc, w, h)?;
@@ -145,6 +162,7 @@ impl Session {
             width: w,
             height: h,
             runs,
+            host,
             role,
             hello,
             reader: ClientReader::new(alloc),
@@ -152,7 +170,9 @@ impl Session {
             choice: Choice {
                 kind: Encoding::Raw,
                 copy: false,
+                resizes: false,
             },
+            told: None,
             asked: Asked::new(w, h),
             have,
             out,

@@ -172,6 +172,7 @@ pub extern "C" fn bench_answers(
         choice: Choice {
             kind: Encoding::of_number(kind).unwrap_or(Encoding::Raw),
             copy: false,
+            resizes: false,
         },
     };
     refresh(&mut cut, &source, all);

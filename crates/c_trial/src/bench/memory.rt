@@ -46,7 +46,7 @@ fn serve(
     requires high { (1 ≤ height) × (height ≤ 4096) }
 {
     let (wide, high) = (u64::from(width), u64::from(height));
-    let mut session = Session::ready(alloc, wide, high, Role::Full, Runs::Joined)?;
+    let mut session = Session::ready(alloc, wide, high, Role::Full, Runs::Joined, None)?;
     session.feed(&messages(encoding, width, height))?;
     session.turn(screen)?;
     Ok(take_all(&mut session))

@@ -16,7 +16,8 @@ fn write_message(message: ClientMessage, report: &mut Report<'_>) {
             report.bytes(&bytes);
         }
         ClientMessage::Encodings(choice) => {
-            report.bytes(&[2, choice.kind.number() as u8, u8::from(choice.copy)]);
+            let kind = choice.kind.number() as u8;
+            report.bytes(&[2, kind, u8::from(choice.copy), u8::from(choice.resizes)]);
         }
         ClientMessage::Ask { incremental, rect } => {
             report.bytes(&[3, u8::from(incremental)]);

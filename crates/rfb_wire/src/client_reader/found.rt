@@ -5,14 +5,16 @@ ghost use Rattle.rfb_wire.specs.ClientReader.{choice_with};
 ghost use Rattle.rfb_wire.specs.Message.{choice_in};
 
 use crate::choice::Choice;
+use crate::head::DESKTOP_SIZE;
 use raster::{COPY_RECT, Encoding};
 
 /// What the numbers so far say (RFC 6143, 7.5.2 and 7.7): the first encoding of pixels that the reflector writes, and
-/// whether CopyRect is among them. The list itself is not kept.
+/// whether CopyRect and DesktopSize are among them. The list itself is not kept.
 #[derive(Clone, Copy)]
 pub(crate) struct Found {
     kind: Option<Encoding>,
     copy: bool,
+    resizes: bool,
 }
 
 impl Found {
@@ -20,6 +22,7 @@ impl Found {
     pub(crate) const NOTHING: Found = Found {
         kind: None,
         copy: false,
+        resizes: false,
     };
 
     /// What is found with one more number. Only the first encoding of pixels counts.
@@ -30,6 +33,7 @@ impl Found {
         Found {
             kind: self.kind.or(kind),
             copy: self.copy || number == COPY_RECT,
+            resizes: self.resizes || number == DESKTOP_SIZE,
         }
     }
 
@@ -40,6 +44,7 @@ impl Found {
         Choice {
             kind: self.kind.unwrap_or(Encoding::Raw),
             copy: self.copy,
+            resizes: self.resizes,
         }
     }
 }

@@ -1,20 +1,20 @@
 //! Turns: looks, cuts, and what they begin to send.
 
-ghost use Rattle.std.specs.Prelude.{◌≡◌, ◌<◌, not, ◌==◌, true, false, is_some, List, ◌∷◌, length, IfOk, IfErr, IfSome, Ok};
+ghost use Rattle.std.specs.Prelude.{◌≡◌, ◌<◌, ◌≤◌, not, ◌==◌, true, false, is_some, List, ◌∷◌, length, IfOk, IfErr, IfSome, Ok, Some};
 ghost use Rattle.fault.specs.declared.kinds.Fault.TheVariants.{Gone};
 ghost use Rattle.reflect_core.specs.Asked.{AskedStands, LiesOn};
 ghost use Rattle.reflect_core.specs.Sequential.{Begins};
 ghost use Rattle.tiles.specs.Have.{HaveStands};
-ghost use Rattle.tiles.specs.Touched.{Event, WasCut};
+ghost use Rattle.tiles.specs.Touched.{Event, NewSize, WasCut, told_last};
 ghost use Rattle.update_encoder.specs.Coming.{AnswerStands};
-ghost use Rattle.viewer_session.specs.Found.{answered_at, has_newer, rings, update_in};
-ghost use Rattle.viewer_session.specs.Outgoing.{answer_coming};
-ghost use Rattle.viewer_session.specs.Session.{HasOnlyLooked, IsSameViewer, is_ready, wants_cut, style_now, CutsAt, Turns};
-ghost use Rattle.viewer_session.specs.Turn.{update_part};
+ghost use Rattle.viewer_session.specs.Found.{answered_at, has_newer, rings, told_or_answered, update_in};
+ghost use Rattle.viewer_session.specs.Outgoing.{IsSmall, answer_coming, size_and};
+ghost use Rattle.viewer_session.specs.Session.{HasOnlyLooked, IsSameViewer, asked_now, is_ready, wants_cut, size_now, style_now, told_now, CutsAt, Turns};
+ghost use Rattle.viewer_session.specs.Turn.{size_or_update, update_part};
 
 use super::Session;
 use fault::Fault;
-use raster::Rect;
+use raster::{Rect, Size};
 use reflect_core::{Cut, ScreenSource};
 use update_encoder::{Answer, Style};
 
@@ -44,8 +44,44 @@ impl Session {
             || (self.asked.area().is_some() && self.asked.has_asked())
     }
 
+    /// The size that the viewer was told last: at first that of the screen.
+    fn told(&self) -> Size
+        ensures { result ≡ told_now self.now }
+    {
+        self.told.unwrap_or(Size {
+            width: self.width,
+            height: self.height,
+        })
+    }
+
+    /// The pending area, as far as it lies in the size that the viewer was told.
+    fn asked_part(&self) -> Option<Rect>
+        ensures value { result ≡ asked_now self.now }
+        ensures within { LiesOn self.now.width self.now.height result }
+    {
+        let told = self.told();
+        let area = self.asked.area()?;
+        Some(area.clip(told.width, told.height))
+    }
+
+    /// The size of the host's screen at the cut, if the viewer is told it now.
+    fn new_size(&self) -> Option<Size>
+        ensures value { result ≡ size_now self.now }
+        ensures small { IfSome result IsSmall }
+    {
+        let host = self.host?;
+        self.asked.area()?;
+        let size = self.out.cut().host_size.unwrap_or(host);
+        let now = Size {
+            width: size.width.min(self.width),
+            height: size.height.min(self.height),
+        };
+        let is_new = self.choice.resizes && now != self.told();
+        is_new.then_some(now)
+    }
+
     /// The answer for this area at the cut, where a tile of the area is due. Then no area is pending any longer, and
-    /// each tile that lies wholly inside the area counts as sent.
+    /// each tile of which all that the viewer knows of lies inside the area counts as sent.
     fn answer(&mut self, area: Option<Rect>, number: u64) -> Option<Answer>
         requires { LiesOn self.old.cut.width self.old.cut.height area }
         ensures others { self.new ≡ record self.old { asked = self.new.asked; have = self.new.have } }
@@ -53,7 +89,7 @@ impl Session {
         ensures stands { IfSome result (λ answer. AnswerStands answer self.old.cut) }
         ensures bytes { answer_coming true result self.old.cut ≡ update_part (update_in (style_now self.old) self.old.cut area) }
         ensures asked { (es : List Event) → AskedStands self.old.asked es → AskedStands self.new.asked (answered_at number (update_in (style_now self.old) self.old.cut area) es) }
-        ensures have { (es : List Event) → HaveStands self.old.have es → HaveStands self.new.have (answered_at number (update_in (style_now self.old) self.old.cut area) es) }
+        ensures have { (es : List Event) → told_last es ≡ self.old.told → HaveStands self.old.have es → HaveStands self.new.have (answered_at number (update_in (style_now self.old) self.old.cut area) es) }
     {
         let area = area?;
         let style = Style {
@@ -66,15 +102,71 @@ impl Session {
             return None;
         }
         self.asked.answered();
-        self.have.keep(&area, number);
+        self.have.keep(&area, self.told, number);
         self.answers = self.answers.saturating_add(1);
         Some(answer)
     }
 
+    /// This size is told from now on: nothing is pending any longer, and no tile counts as sent.
+    fn tell(&mut self, size: Size)
+        ensures others { self.new ≡ record self.old { told = Some size; asked = self.new.asked; have = self.new.have } }
+        ensures last { self.new.asked.last ≡ self.old.asked.last }
+        ensures asked { (es : List Event) → AskedStands self.old.asked es → AskedStands self.new.asked (NewSize size ∷ es) }
+        ensures have { (es : List Event) → HaveStands self.old.have es → HaveStands self.new.have (NewSize size ∷ es) }
+    {
+        self.told = Some(size);
+        self.asked.answered();
+        self.have.forget_all();
+    }
+
+    /// The size is told, where there is one, and otherwise this area is answered.
+    fn tell_or_answer(
+        &mut self,
+        size: Option<Size>,
+        area: Option<Rect>,
+        number: u64,
+    ) -> Option<Answer>
+        requires { LiesOn self.old.cut.width self.old.cut.height area }
+        ensures others { self.new ≡ record self.old { told = self.new.told; asked = self.new.asked; have = self.new.have } }
+        ensures last { self.new.asked.last ≡ self.old.asked.last }
+        ensures stands { IfSome result (λ answer. AnswerStands answer self.old.cut) }
+        ensures bytes { size_and size (answer_coming true result self.old.cut) ≡ size_or_update size (update_in (style_now self.old) self.old.cut area) }
+        ensures told { (es : List Event) → told_last es ≡ self.old.told → told_last (told_or_answered number size (update_in (style_now self.old) self.old.cut area) es) ≡ self.new.told }
+        ensures asked { (es : List Event) → AskedStands self.old.asked es → AskedStands self.new.asked (told_or_answered number size (update_in (style_now self.old) self.old.cut area) es) }
+        ensures have { (es : List Event) → told_last es ≡ self.old.told → HaveStands self.old.have es → HaveStands self.new.have (told_or_answered number size (update_in (style_now self.old) self.old.cut area) es) }
+    {
+        match size {
+            None => self.answer(area, number),
+            Some(size) => {
+                self.tell(size);
+                None
+            }
+        }
+    }
+
+    /// What the cut begins to send after its news: the size that the viewer is told, or else an answer for this area.
+    fn begin_answer(&mut self, area: Option<Rect>, number: u64) -> (Option<Size>, Option<Answer>)
+        requires { LiesOn self.old.cut.width self.old.cut.height area }
+        ensures others { self.new ≡ record self.old { told = self.new.told; asked = self.new.asked; have = self.new.have } }
+        ensures last { self.new.asked.last ≡ self.old.asked.last }
+        ensures size { result.0 ≡ size_now self.old }
+        ensures small { IfSome result.0 IsSmall }
+        ensures stands { IfSome result.1 (λ answer. AnswerStands answer self.old.cut) }
+        ensures bytes { size_and result.0 (answer_coming true result.1 self.old.cut) ≡ size_or_update result.0 (update_in (style_now self.old) self.old.cut area) }
+        ensures told { (es : List Event) → told_last es ≡ self.old.told → told_last (told_or_answered number result.0 (update_in (style_now self.old) self.old.cut area) es) ≡ self.new.told }
+        ensures asked { (es : List Event) → AskedStands self.old.asked es → AskedStands self.new.asked (told_or_answered number result.0 (update_in (style_now self.old) self.old.cut area) es) }
+        ensures have { (es : List Event) → told_last es ≡ self.old.told → HaveStands self.old.have es → HaveStands self.new.have (told_or_answered number result.0 (update_in (style_now self.old) self.old.cut area) es) }
+    {
+        let size = self.new_size();
+        let answer = self.tell_or_answer(size, area, number);
+        (size, answer)
+    }
+
     /// The second half of a turn, after a look that replied `looked`. Where there is reason the source is cut, and what
     /// the cut brings begins to be sent: one Bell where Bells have become more since the last cut, the text where it is
-    /// newer, and an answer for the pending area where a tile of that is due. The first cut brings neither Bell nor
-    /// text. The call answers whether anything is begun.
+    /// newer, and, where an area is pending, the host's size if the viewer takes sizes and was told another, or else an
+    /// answer for that area where a tile of it is due. The first cut brings neither Bell nor text. The call answers
+    /// whether anything is begun.
     ///
     /// It takes no memory. It fails where a source that may end has ended (`Gone`); then session and source are as they
     /// were.
@@ -92,14 +184,14 @@ impl Session {
         if !self.has_reason(looked) {
             return Ok(false);
         }
+        let area = self.asked_part();
         let last = self.asked.last_cut();
         let bells = self.out.cut().bells;
-        let area = self.asked.area();
         let number = self.out.take(source, &area.unwrap_or(NOWHERE), &self.have)?;
         self.asked.was_cut(number);
         let news = news_of(self.out.cut(), last, bells);
-        let answer = self.answer(area, number);
-        self.out.begin(news.bell, news.text, answer);
+        let (size, answer) = self.begin_answer(area, number);
+        self.out.begin(news.bell, news.text, size, answer);
         Ok(!self.out.piece().is_empty())
     }
 

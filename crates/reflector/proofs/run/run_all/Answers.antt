@@ -1,6 +1,7 @@
 -- The places have watchers that know nothing yet: all but the first, which the hosts' writer has.
-use Rattle.std.proofs.Common.{◌≡◌, ◌<◌, arith, length}
+use Rattle.std.proofs.Common.{◌≡◌, ◌∙◌, ◌<◌, ap, arith, length}
 use Rattle.reflect_core.specs.Sequential.{nothing_put}
+use Rattle.reflector.specs.Visits.{name_of}
 use Rattle.reflector.proofs.InTurn.{in_turn}
 use Rattle.reflector.proofs.Telling.{tells_from}
 use Rattle.reflector.proofs.Places.{all_but_first, all_of_senders}
@@ -15,7 +16,8 @@ returns-clause-relay g c = rw (c.shown.ensures.places, c.shown.ensures.taker) c.
 pub returns-clause-screen : goal.returns-clause-screen
 returns-clause-screen g c =
     let told = c.screen_of-screen.ensures in
-    rw c.shown.ensures.places (rw (told.size.0, told.size.1, told.name) at c.in_ok-left.ensures.screen)
+    rw c.shown.ensures.places
+    (λ k d inside. let it = c.in_ok-left.ensures.screen k d inside in (it.0 ∙ told.size.0, it.1 ∙ told.size.1, it.2 ∙ ap name_of told.name, it.3, it.4 ∙ c.size_of-first.ensures))
 
 pub returns-clause-watchers : goal.returns-clause-watchers
 returns-clause-watchers g c =

@@ -9,7 +9,7 @@ invariant_of-self c =
     record {
       room = c.put_bell.ensures.room ∙ c.self.invariant.room;
       long = c.self.invariant.long;
-      is_of = subst (λ (cut : Cut). IsOf (record { text = c.args.text; head = true; answer = c.args.answer }) cut) (sym (ap (λ (s : Sending). s.cut) c.self.view_is)) (record { text = c.requires.text; answer = c.requires.answer });
+      is_of = subst (λ (cut : Cut). IsOf (record { text = c.args.text; size = c.args.size; head = true; answer = c.args.answer }) cut) (sym (ap (λ (s : Sending). s.cut) c.self.view_is)) (record { text = c.requires.text; size = c.requires.size; answer = c.requires.answer });
       shows = λ e. absurd (omega (arith, ap length c.put_bell.ensures.unsent, e));
     }
 

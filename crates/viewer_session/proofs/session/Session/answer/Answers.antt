@@ -24,7 +24,7 @@ returns-then-count-eq0-clause-asked c = λ es stands.
     subst (λ found. AskedStands c.args.self.now.asked (answered_at c.args.number found es)) (sym none) stands
 
 pub returns-then-count-eq0-clause-have : goal.returns-then-count-eq0-clause-have
-returns-then-count-eq0-clause-have c = λ es stands.
+returns-then-count-eq0-clause-have c = λ es told stands.
     let a = c.start-answer.result in
     let none = none_at (the_view c.self.inside) c.args.self.now c.args.area c.in_ok-area.area c.cut.result.now a.count (coming a c.cut.result.now) c.self.view_is c.in_ok-area.was c.cut.ensures (subst (λ n. n < 2 ^ 16) c.count.ensures.value c.count.ensures.few) c.cut.result.now.size c.start-answer.ensures.bytes (sym c.count.ensures.value ∙ c.if-count-eq0.true) in
     subst (λ found. HaveStands c.args.self.now.have (answered_at c.args.number found es)) (sym none) stands
@@ -44,8 +44,8 @@ returns-clause-asked c = λ es stands.
     (c.answered.ensures.stands c.in_ok-area.area c.args.number es (subst (λ (w : Wanted). AskedStands w es) (sym (ap (λ (st : State). st.asked) c.self.view_is)) stands))
 
 pub returns-clause-have : goal.returns-clause-have
-returns-clause-have c = λ es stands.
+returns-clause-have c = λ es told stands.
     let a = c.start-answer.result in
     let some = some_at (the_view c.self.inside) c.args.self.now c.args.area c.in_ok-area.area c.cut.result.now a.count (coming a c.cut.result.now) c.self.view_is c.in_ok-area.was c.cut.ensures (subst (λ n. n < 2 ^ 16) c.count.ensures.value c.count.ensures.few) c.cut.result.now.size c.start-answer.ensures.bytes (λ z. c.if-count-eq0.false (c.count.ensures.value ∙ z)) in
     subst (λ found. HaveStands c.keep.new.self (answered_at c.args.number found es)) (sym some)
-    (c.keep.ensures.stands es (subst (λ (h : SentTiles). HaveStands h es) (sym (ap (λ (st : State). st.have) c.self.view_is)) stands))
+    (c.keep.ensures.stands es (told ∙ sym (ap (λ (st : State). st.told) c.self.view_is)) (subst (λ (h : SentTiles). HaveStands h es) (sym (ap (λ (st : State). st.have) c.self.view_is)) stands))

@@ -5,19 +5,20 @@ use Rattle.viewer_session.proofs.Relaying.{nothing_held}
 use Rattle.viewer_session.proofs.session.Session.begun.Goals as goal
 
 pub returns-clause-stands : goal.returns-clause-stands
-returns-clause-stands c = λ s greet ew eh en b.
+returns-clause-stands c = λ s greet ew eh en ef b.
     record {
       serves = record {
         width = sym ew;
         height = sym eh;
         runs = sym en;
+        host = sym ef;
         role = refl;
         rests = refl;
         greets = b.greets;
         reading = inl c.new-2.ensures;
         taken = refl;
         short = client_message_short;
-        keeps = record { asked = c.new-3.ensures.stands; have = c.in_ok-have.ensures.ok.2; format = refl; choice = refl };
+        keeps = record { asked = c.new-3.ensures.stands; have = c.in_ok-have.ensures.ok.2; format = refl; choice = refl; told = refl };
         written = omega arith;
         unsent = b.unsent;
       };
