@@ -34,7 +34,7 @@ class Run:
         words += ["--web-full", str(self.port), "--full-places", "4"]
         self.child = subprocess.Popen([program, *words], stdout=subprocess.DEVNULL, stderr=subprocess.DEVNULL)
         self.host.join()
-        serving.joined(view, SIZE)
+        serving.joined(view, SIZE, False)
         while not is_open(self.port):
             time.sleep(0.02)
 

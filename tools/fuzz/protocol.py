@@ -169,7 +169,7 @@ def client_message(stream):
         stream.take(1)
         count = stream.number(2)
         listed = struct.unpack(f">{count}I", stream.take(4 * count))
-        return "encodings", next((it for it in listed if it in (0, 2, 5)), 0), 1 in listed
+        return "encodings", next((it for it in listed if it in (0, 2, 5)), 0), 1 in listed, DESKTOP_SIZE in listed
     if kind == 3:
         return "ask", stream.number(1) != 0, tuple(stream.number(2) for _ in range(4))
     if kind == 4:
@@ -243,10 +243,11 @@ def spelled(message):
 
 
 class Grid:
-    """Pixel values, row after row."""
+    """Pixel values, row after row, and the size that was told of last."""
 
     def __init__(self, width, height):
         self.width, self.height = width, height
+        self.told = width, height
         self.rows = [[0] * width for _ in range(height)]
 
     def put(self, x, y, w, h, values):
@@ -260,9 +261,19 @@ class Grid:
     def part(self, x, y, w, h):
         return [value for row in self.rows[y : y + h] for value in row[x : x + w]]
 
+    def colors(self):
+        """The colours of each position."""
+        return [[value & 0xFFFFFF for value in row] for row in self.rows]
+
+    def colors_told(self):
+        """The same as far as the size goes that was told of last, and black behind it."""
+        across, down = self.told
+        rows = self.colors()
+        return [row[:across] + [0] * len(row[across:]) if y < down else [0] * len(row) for y, row in enumerate(rows)]
+
     def copy(self):
         other = Grid(0, 0)
-        other.width, other.height = self.width, self.height
+        other.width, other.height, other.told = self.width, self.height, self.told
         other.rows = [list(row) for row in self.rows]
         return other
 
@@ -343,6 +354,7 @@ def paint_rectangle(stream, screen):
         raise Wrong(5 if encoding == DESKTOP_SIZE else 7)
     if encoding == DESKTOP_SIZE:
         screen.fill(0, 0, screen.width, screen.height, 0)
+        screen.told = w, h
         return 0, 0, screen.width, screen.height
     if encoding == 0:
         values = pixels(HOST_FORMAT, stream.take(4 * w * h))

@@ -139,7 +139,8 @@ class Viewer:
             self.form, self.asked = rest[0], True
             self.forget()
         elif kind == "encodings":
-            self.kind, self.copy = rest
+            # A script tells no sizes, so the last part says nothing here.
+            self.kind, self.copy, _ = rest
         elif kind == "ask":
             self.ask(rest[0], *rest[1])
         elif self.full:

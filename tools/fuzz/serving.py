@@ -1,10 +1,10 @@
 """A whole `reflectord serve` over loopback, fed with random and mutated bytes, in any pieces, from both sides.
 
 A host and some viewers send what streams.py makes. One viewer more behaves well: what it is sent is read by
-protocol.py, and has to become the picture that protocol.py reads in the host's own bytes. The host is to be sent
-nothing but whole messages that it may get, no input where all viewers only look on, and where one of them alone has
-full control a beginning of what it may send, with its releases. At the end the program has the status and the fault
-that the host's bytes ask for.
+protocol.py, and has to become the picture that protocol.py reads in the host's own bytes. Where it takes new sizes it
+has to be told the host's, and then sees nothing outside of it. The host is to be sent nothing but whole messages that
+it may get, no input where all viewers only look on, and where one of them alone has full control a beginning of what
+it may send, with its releases. At the end the program has the status and the fault that the host's bytes ask for.
 """
 
 import contextlib
@@ -121,10 +121,11 @@ class Host:
 
 
 class Viewer:
-    """A viewer that behaves well, and keeps what it is sent behind its handshake."""
+    """A viewer that behaves well, and keeps what it is sent behind its handshake. It takes new sizes, or it doesn't."""
 
-    def __init__(self, port, size):
-        self.size, self.sent_to = size, bytearray()
+    def __init__(self, port, size, takes_sizes):
+        self.size, self.takes_sizes, self.sent_to = size, takes_sizes, bytearray()
+        listed = ENCODINGS + (protocol.DESKTOP_SIZE,) * takes_sizes
         self.link = socket.create_connection(("127.0.0.1", port), timeout=LONGEST)
         self.link.setsockopt(socket.IPPROTO_TCP, socket.TCP_NODELAY, 1)
         take(self.link, 12)
@@ -135,18 +136,19 @@ class Viewer:
         self.link.sendall(b"\1")
         take(self.link, 20)
         take(self.link, struct.unpack(">I", take(self.link, 4))[0])
-        self.link.sendall(b"\2\0" + struct.pack(">H4I", 4, *ENCODINGS))
+        self.link.sendall(b"\2\0" + struct.pack(f">H{len(listed)}I", len(listed), *listed))
         take_all(self.link, self.sent_to)
 
     def picture(self):
-        """What it sees: the colours of each position."""
+        """What it sees: the size that it was told, and the colours of each position."""
         reading = protocol.host(bytes(self.sent_to), *self.size)
         if reading.fault:
             return f"fault {reading.fault} in what a viewer is sent"
-        return [[value & 0xFFFFFF for value in row] for row in reading.screen.rows]
+        return reading.screen.told, reading.screen.colors()
 
-    def sees(self, wanted):
-        """Whether it comes to see this. It asks for the whole screen until then."""
+    def sees(self, screen):
+        """Whether it comes to see this screen of the host. It asks for the whole screen until then."""
+        wanted = (screen.told, screen.colors_told()) if self.takes_sizes else (self.size, screen.colors())
         until, wait = time.monotonic() + LONGEST, 0.001
         while time.monotonic() < until:
             self.link.sendall(struct.pack(">BBHHHH", 3, 0, 0, 0, *self.size))
@@ -256,7 +258,7 @@ def play(program, rng):
     bad = []
     try:
         host.join()
-        good = joined(view if rng.random() < 0.5 else full, size)
+        good = joined(view if rng.random() < 0.5 else full, size, rng.random() < 0.5)
         ports = [view if only_looks or rng.random() < 0.5 else full for _ in range(rng.randint(0, 3))]
         bad = [BadViewer(rng, port) for port in ports]
         for viewer in bad:
@@ -274,12 +276,12 @@ def play(program, rng):
             viewer.close()
 
 
-def joined(port, size):
+def joined(port, size, takes_sizes):
     """A viewer, as soon as the port is open."""
     until = time.monotonic() + STARTED
     while True:
         try:
-            return Viewer(port, size)
+            return Viewer(port, size, takes_sizes)
         except ConnectionRefusedError:
             if time.monotonic() > until:
                 raise
@@ -290,7 +292,7 @@ def judged(child, host, good, data):
     """Why the picture, the memory, the end or what the host was sent isn't as it has to be, or None."""
     reading = protocol.host(data, *host.size)
     if not reading.fault:
-        why = good.sees([[value & 0xFFFFFF for value in row] for row in reading.screen.rows])
+        why = good.sees(reading.screen)
         if why:
             return why
         memory = peak_memory(child.pid)
