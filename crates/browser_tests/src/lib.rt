@@ -12,6 +12,8 @@ mod clock;
 #[cfg(test)]
 mod files;
 #[cfg(test)]
+mod guessers;
+#[cfg(test)]
 mod host;
 #[cfg(test)]
 mod loopback;

@@ -56,10 +56,10 @@ pub(crate) fn seat(net: &HostRuntime) -> io::Result<Arc<Seat, Global>> {
     Ok(Arc::new(net.alloc(), seat)?)
 }
 
-/// A lobby of one place for viewers of this role.
-fn lobby(alloc: Global, role: Role) -> Result<Arc<Lobby, Global>, AllocError> {
+/// A lobby of one place for viewers of this role, who come by a port with this key.
+fn lobby(alloc: Global, role: Role, key: Key) -> Result<Arc<Lobby, Global>, AllocError> {
     let desk = Arc::new(alloc, Desk::new(alloc, 1)?)?;
-    Ok(Arc::new(alloc, Lobby::new(alloc, role, Key::Open, 1, 60, desk)?)?)
+    Ok(Arc::new(alloc, Lobby::new(alloc, role, key, 1, 60, desk)?)?)
 }
 
 /// The table of the one file.
@@ -109,9 +109,9 @@ fn porter(net: &HostRuntime, entry: WebEntry) -> io::Result<WebPorter> {
 }
 
 impl WebPort {
-    /// A new port for viewers of this role.
-    pub(crate) fn open(net: &HostRuntime, role: Role) -> io::Result<WebPort> {
-        let lobby = lobby(net.alloc(), role)?;
+    /// A new port with this key, for viewers of this role.
+    pub(crate) fn open(net: &HostRuntime, role: Role, key: Key) -> io::Result<WebPort> {
+        let lobby = lobby(net.alloc(), role, key)?;
         let listener = listen(net)?;
         let port = port_at(&listener);
         let porter = porter(net, entry(net.alloc(), listener, &lobby)?)?;

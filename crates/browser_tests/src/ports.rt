@@ -1,12 +1,14 @@
 //! A web port before one place: files, strangers, a browser that finds no place, and one that comes after another. A
-//! browser that asks slowly, by a clock that is put forward by hand.
+//! browser that asks slowly, by a clock that is put forward by hand. A locked port, and browsers that guess.
 
 use crate::asks::{Ask, NOT_FOUND, PORT, are_strangers_refused, is_answered, is_told};
 use crate::browser::Browser;
 use crate::clock::{ByHand, no_millis, puts_forward};
+use crate::guessers::{PASSWORD, are_guessers_met, is_right_one_let_in};
+use crate::host::VERSION;
 use crate::loopback::{connect, hears, is_let_go, reads, sends};
 use crate::port::{AROUND, FOUND, WebPort, seat};
-use connections::{Lobby, Seat, TcpDoor, WebPorter};
+use connections::{Key, Lobby, Seat, TcpDoor, WebPorter};
 use link::{Gave, Link, Took};
 use roles::Role;
 use run_traits::{Door, LeftLink, NoLog};
@@ -19,6 +21,7 @@ use std::test::*;
 use std::thread::Threads;
 use std::time::Clock;
 use std::{io, thread};
+use vnc_auth::Password;
 
 /// What a browser is told that finds no place: a message of 12 bytes, the version; one of 25, no security type and a
 /// reason of 20 bytes; and a close frame with 1013, try again later (RFC 6143, 7.1.1 and 7.1.2; RFC 6455, 5.2 and
@@ -61,6 +64,10 @@ enum Visitors {
     Browsers,
     /// A caller that asks slowly, and others.
     Slow,
+    /// Browsers at a locked port that don't know the password.
+    Guessers,
+    /// Browsers that do, of which one finds the place, and another finds none.
+    Knowers,
 }
 
 /// A new port, and its one place.
@@ -75,23 +82,41 @@ struct Scene {
     came: u64,
 }
 
-/// A port, as its visitors find it.
-#[derive(Clone, Copy)]
-struct House<'a> {
-    net: &'a HostRuntime,
-    port: u16,
-    lobby: &'a Lobby,
-    millis: &'static AtomicU64,
+impl Scene {
+    /// The key of the port.
+    fn key(&self) -> Key {
+        match self.visitors {
+            Visitors::Guessers | Visitors::Knowers => Key::Locked(Password::new(PASSWORD)),
+            Visitors::Browsers | Visitors::Slow => Key::Open,
+        }
+    }
 }
 
-/// Greets each viewer with a byte and then serves it until it ends. It answers how many viewers came.
-fn greets<D: Door>(door: &mut D) -> u64 {
+/// A port, as its visitors find it.
+#[derive(Clone, Copy)]
+pub(crate) struct House<'a> {
+    pub(crate) net: &'a HostRuntime,
+    pub(crate) port: u16,
+    lobby: &'a Lobby,
+    pub(crate) millis: &'static AtomicU64,
+    pub(crate) drawn: &'static AtomicU64,
+}
+
+/// Whether a viewer is greeted with a byte. Behind a lock that comes after what its browser has heard in other words.
+fn is_greeted<L: Link>(link: &mut L, is_locked: bool) -> bool {
+    let begins = !is_locked
+        || (link.give(VERSION) == Gave::Bytes(12) && link.give(b"\x01\x01") == Gave::Bytes(2));
+    begins && link.give(b"R") == Gave::Bytes(1)
+}
+
+/// Greets each viewer and then serves it until it ends. It answers how many viewers came.
+fn greets<D: Door>(door: &mut D, is_locked: bool) -> u64 {
     let mut into = [0u8; 64];
     for count in 0..1_000u64 {
         let Some(mut link) = door.next() else {
             return count;
         };
-        if link.give(b"R") != Gave::Bytes(1) {
+        if !is_greeted(&mut link, is_locked) {
             return u64::MAX;
         }
         for _ in 0..1_000 {
@@ -161,7 +186,7 @@ fn are_browsers_met<R: Wait>(rt: &R, house: &House<'_>) -> bool {
 }
 
 /// Whether another request is answered. If so, the porter is done with all that came before.
-fn is_other_answered(house: &House<'_>) -> bool {
+pub(crate) fn is_other_answered(house: &House<'_>) -> bool {
     is_told(house.net, house.port, &NOWHERE)
 }
 
@@ -198,13 +223,15 @@ fn visits<R: Wait>(rt: &R, house: &House<'_>, visitors: Visitors) -> bool {
     let is_right = match visitors {
         Visitors::Browsers => are_browsers_met(rt, house),
         Visitors::Slow => is_slow_one_met(house),
+        Visitors::Guessers => are_guessers_met(house),
+        Visitors::Knowers => is_right_one_let_in(house),
     };
     house.lobby.close(rt);
     is_right
 }
 
 /// How many viewers came to the door while the port was kept.
-fn keeps<R, D>(hand: &ByHand<R>, porter: WebPorter, door: &mut D) -> u64
+fn keeps<R, D>(hand: &ByHand<R>, porter: WebPorter, door: &mut D, is_locked: bool) -> u64
 where
     R: Threads + Wait + Clock + RandomSource + Drop + Send + Sync,
     D: Door + Send,
@@ -212,7 +239,7 @@ where
     let seats: [Arc<Seat, Global>; 0] = [];
     let (came, ()) = thread::join(
         &hand.rt,
-        || greets(door),
+        || greets(door, is_locked),
         || porter.keep(hand, &seats, &NoLog),
     );
     came
@@ -233,7 +260,7 @@ where
     let (is_right, came) = thread::join(
         &hand.rt,
         || visits(&hand.rt, house, visitors),
-        || keeps(hand, porter, door),
+        || keeps(hand, porter, door, house.lobby.key().is_locked()),
     );
     (came, is_right)
 }
@@ -248,7 +275,7 @@ where
         lobby,
         porter,
         port,
-    } = WebPort::open(net, scene.role)?;
+    } = WebPort::open(net, scene.role, scene.key())?;
     let shared = Arc::try_clone(&lobby)?;
     let mut door = TcpDoor::new(hand.rt, net.alloc(), shared, seat, 1, NoLog);
     let house = House {
@@ -256,6 +283,7 @@ where
         port,
         lobby: &lobby,
         millis: hand.millis,
+        drawn: hand.drawn,
     };
     let (came, is_right) = serves(hand, &house, porter, &mut door, scene.visitors);
     Ok(is_right && came == scene.came)
@@ -276,6 +304,20 @@ const SCENES: &[Scene] = &[
         is_standing: true,
         came: 0,
     },
+    Scene {
+        name: "a locked port lets in no browser that guesses",
+        role: Role::Full,
+        visitors: Visitors::Guessers,
+        is_standing: true,
+        came: 0,
+    },
+    Scene {
+        name: "a locked port lets in a browser that knows the password",
+        role: Role::View,
+        visitors: Visitors::Knowers,
+        is_standing: false,
+        came: 1,
+    },
 ];
 
 #[test]
@@ -284,6 +326,7 @@ fn web_port_meets_its_visitors(rt: HostRuntime) -> Result<(), Fail> {
         let hand = ByHand {
             rt,
             millis: no_millis(rt.alloc())?,
+            drawn: no_millis(rt.alloc())?,
             is_standing: scene.is_standing,
         };
         if !is_right(&hand, &rt, scene).unwrap_or(false) {

@@ -116,7 +116,7 @@ where
     R: Wait + Clock + Copy + Drop,
 {
     let below = ViewerTcpLink::new(rt, alloc, near, seat, 60)?;
-    BrowserLink::new(rt, alloc, below)
+    BrowserLink::new(rt, alloc, below, false)
 }
 
 /// Whether a scene goes as it should over a new link, by a clock that shows these milliseconds.
@@ -181,6 +181,7 @@ fn link_waits_as_long_as_it_may(rt: HostRuntime) -> Result<(), Fail> {
         let hand = ByHand {
             rt,
             millis,
+            drawn: no_millis(rt.alloc())?,
             is_standing: true,
         };
         if !is_right(hand, millis, &rt, scene).unwrap_or(false) {

@@ -18,7 +18,6 @@ is_no_task words rest status line bad = record {
   two_or_four = elim bad [
     | inl (inl four) ↦ inr four
     | inl (inr two) ↦ inl two.0
-    | inr (inl two) ↦ inl two.0
-    | inr (inr two) ↦ inl two.0
+    | inr two ↦ inl two.0
   ];
 }

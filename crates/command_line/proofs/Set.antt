@@ -1,5 +1,5 @@
 -- What a line sets, from clap's matches. `settings` owes the words' own meaning, and has clap's matches.
-use Rattle.std.proofs.Common.{◌∙◌, ◌≡◌, ◌≢◌, ◌⊎◌, ◌∷◌, ap, false, inl, inr, refl, subst, sym, true, List, [], Option, Some, ℕ}
+use Rattle.std.proofs.Common.{◌∙◌, ◌≡◌, ◌≢◌, ◌⊎◌, ◌∷◌, ap, inl, inr, refl, subst, sym, List, [], Option, Some, ℕ}
 use Rattle.std.specs.Prelude.{codes, unwrap_or}
 use Rattle.std.specs.List.{AllByRecursion}
 use Rattle.std.specs.Str.{bytes_eq}
@@ -9,7 +9,7 @@ use Rattle.clap.specs.declared.error.Error.{Error}
 use Rattle.clap.specs.declared.error.kind.ErrorKind.TheVariants.{OutOfMemory}
 use Rattle.clap.specs.declared.parser.matches.Found.{Found}
 use Rattle.clap.proofs.WalkLemmas.{first_value-rows, raw_values-rows}
-use Rattle.command_line.specs.Given.{AreSetBy, IsBadLine, IsPause, given, known, locks, locks_web, text_of, Spells, IsPort, IsRoom}
+use Rattle.command_line.specs.Given.{AreSetBy, IsBadLine, IsPause, given, known, text_of, Spells, IsPort, IsRoom}
 use Rattle.command_line.specs.Serve.{IsBad, serve}
 use Rattle.command_line.specs.Values.{AreValuesOf, HasNoRoom, IsNumberOf}
 use Rattle.settings.specs.declared.values.Settings.{Settings}
@@ -45,20 +45,8 @@ without id none = all_named (λ r. r.defaults ≡ []) id known none
 default : (id text : Text) → AllByRecursion (λ (r : Rule). (r.id ≡ id) × (r.defaults ≡ text ∷ [])) (named id known) → AllByRecursion (Defaults id text) known
 default id text one = all_named (λ r. (r.id ≡ id) × (r.defaults ≡ text ∷ [])) id known one
 
--- whether a role has a password and a port for browsers
-locks_same : (f : Found) (words : List Text) → rows_of f ≡ matches_of serve words → locks_web (first_value f) ≡ locks_web (given words)
-locks_same f words rows =
-    let full = given_is f words rows (codes "full-password-file") (without (codes "full-password-file") (refl, tt)) in
-    let web_full = given_is f words rows (codes "web-full") (without (codes "web-full") (refl, tt)) in
-    let view = given_is f words rows (codes "view-password-file") (without (codes "view-password-file") (refl, tt)) in
-    let web_view = given_is f words rows (codes "web-view") (without (codes "web-view") (refl, tt)) in
-    ap (λ o. locks o (first_value f (codes "web-full")) (first_value f (codes "view-password-file")) (first_value f (codes "web-view"))) full
-    ∙ (ap (λ o. locks (given words (codes "full-password-file")) o (first_value f (codes "view-password-file")) (first_value f (codes "web-view"))) web_full
-    ∙ (ap (λ o. locks (given words (codes "full-password-file")) (given words (codes "web-full")) o (first_value f (codes "web-view"))) view
-    ∙ ap (λ o. locks (given words (codes "full-password-file")) (given words (codes "web-full")) (given words (codes "view-password-file")) o) web_view))
-
-pub values_set : (f : Found) (words : List Text) (s : Settings) → rows_of f ≡ matches_of serve words → AreValuesOf f s → locks_web (first_value f) ≡ false → AreSetBy words s
-values_set f words s rows of webs = record {
+pub values_set : (f : Found) (words : List Text) (s : Settings) → rows_of f ≡ matches_of serve words → AreValuesOf f s → AreSetBy words s
+values_set f words s rows of = record {
   host = sym (given_is f words rows (codes "host") (without (codes "host") (refl, tt))) ∙ of.host;
   host_password = of.host_password ∙ given_is f words rows (codes "host-password-file") (without (codes "host-password-file") (refl, tt));
   bind = text_is f words rows (codes "bind") (codes "127.0.0.1") _ (default (codes "bind") (codes "127.0.0.1") ((refl, refl), tt)) of.bind;
@@ -90,16 +78,12 @@ values_set f words s rows of webs = record {
   full_range = of.full_places.3;
   view_range = of.view_places.3;
   stalled_range = of.stalled.3;
-  open_web = sym (locks_same f words rows) ∙ webs;
 }
 
--- a text for the room that spells none is bad, and so are a port for browsers beside a password and a lack of memory
-pub no_room_is : (f : Found) (words : List Text) (status : ℕ) → rows_of f ≡ matches_of serve words
-    → (status ≡ 4) ⊎ ((status ≡ 2) × (HasNoRoom f ⊎ (locks_web (first_value f) ≡ true))) → IsBadLine words status
+-- a text for the room that spells none is bad, and so is a lack of memory
+pub no_room_is : (f : Found) (words : List Text) (status : ℕ) → rows_of f ≡ matches_of serve words → (status ≡ 4) ⊎ ((status ≡ 2) × HasNoRoom f) → IsBadLine words status
 no_room_is f words status rows (inl four) = inl (inl four)
-no_room_is f words status rows (inr (two, inl (text, first, none))) =
-    inr (inl (two, text, sym (given_is f words rows (codes "room") (without (codes "room") (refl, tt))) ∙ first, none))
-no_room_is f words status rows (inr (two, inr locked)) = inr (inr (two, sym (locks_same f words rows) ∙ locked))
+no_room_is f words status rows (inr (two, (text, first, none))) = inr (two, text, sym (given_is f words rows (codes "room") (without (codes "room") (refl, tt))) ∙ first, none)
 
 -- what clap refuses is bad
 pub refusal_is : {app : App} (words : List Text) (e : Error) (status : ℕ) → app ≡ serve → HasKind (fault_of app words) e

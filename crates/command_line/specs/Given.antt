@@ -1,5 +1,5 @@
 -- What a line sets.
-use Rattle.std.specs.Prelude.{◌≡◌, ◌≢◌, ◌≤◌, ◌⊎◌, ◌&&◌, ◌||◌, Bool, false, true, List, Option, Some, None, [], codes, is_some, map, option_map, unwrap_or, ℕ}
+use Rattle.std.specs.Prelude.{◌≡◌, ◌≢◌, ◌≤◌, ◌⊎◌, List, Option, Some, None, [], codes, map, option_map, unwrap_or, ℕ}
 use Rattle.std.specs.Str.{bytes_eq}
 use Rattle.std.specs.String.{string_bytes}
 use Rattle.std.specs.Str.Parse.{IsNumeral, digits_value, without_leading_plus}
@@ -55,23 +55,10 @@ IsRoom (Some text) room = (r : Room) × (room ≡ Some r) × (text ≡ room_text
 abbrev pub IsNoRoom : Text → Type 0
 IsNoRoom text = (width height : ℕ) → IsScreenSize width height → text ≢ room_text width height
 
--- there is a text for the password of a role, and one for the port of its browsers: the first two are of full control,
--- and the others of those that only look on
-abbrev pub locks : (full web_full view web_view : Option Text) → Bool
-locks full web_full view web_view = (is_some full && is_some web_full) || (is_some view && is_some web_view)
-
--- a role's viewers are asked for a password, and it has a port for browsers, who can't be asked for one
-abbrev pub locks_web : (Text → Option Text) → Bool
-locks_web text =
-    locks (text (codes "full-password-file")) (text (codes "web-full")) (text (codes "view-password-file")) (text (codes "web-view"))
-
--- memory was refused, or the line has one of clap's faults, or the text that it gives the room spells none, or it has a
--- port for browsers beside a password for the same role
+-- memory was refused, or the line has one of clap's faults, or the text that it gives the room spells none
 abbrev pub IsBadLine : List Text → ℕ → Type 0
 IsBadLine words status =
-    IsBad (fault_of serve words) status
-    ⊎ (((status ≡ 2) × (text : Text) × (given words (codes "room") ≡ Some text) × IsNoRoom text)
-    ⊎ ((status ≡ 2) × (locks_web (given words) ≡ true)))
+    IsBad (fault_of serve words) status ⊎ ((status ≡ 2) × (text : Text) × (given words (codes "room") ≡ Some text) × IsNoRoom text)
 
 -- the settings are those that the words set; a flag that the words give has the text `true`, and can have no other
 pub record AreSetBy (words : List Text) (s : Settings) : Type 0 where
@@ -104,4 +91,3 @@ pub record AreSetBy (words : List Text) (s : Settings) : Type 0 where
   pub full_range : IsIn 1 32 s.full_places
   pub view_range : IsIn 1 32 s.view_places
   pub stalled_range : IsIn 10 600 s.stalled
-  pub open_web : locks_web (given words) ≡ false

@@ -1,9 +1,9 @@
 //! The line of `serve`.
 
-ghost use Rattle.std.specs.Prelude.{◌≡◌, ◌⊎◌, IfErr, IfOk, MatchOption, Some, [], codes, false, is_some, map, option_map, true};
+ghost use Rattle.std.specs.Prelude.{◌≡◌, ◌⊎◌, IfErr, IfOk, Some, [], codes, map, option_map};
 ghost use Rattle.std.specs.String.{string_bytes};
 ghost use Rattle.clap.specs.Words.{fault_of, first_value, found_of};
-ghost use Rattle.command_line.specs.Given.{AreSetBy, IsBadLine, IsNoRoom, IsPause, IsPort, IsRoom, locks_web};
+ghost use Rattle.command_line.specs.Given.{AreSetBy, IsBadLine, IsNoRoom, IsPause, IsPort, IsRoom};
 ghost use Rattle.command_line.specs.Serve.{serve};
 ghost use Rattle.command_line.specs.Values.{AreValuesOf, HasNoRoom, HasPlaces, HasPort, HasSeconds, HasText, HasValues, IsNumberOf, MayHavePause, MayHavePort, flag_of, texts_in};
 
@@ -33,22 +33,17 @@ pub fn settings<'a, S: AsStr>(alloc: Global, words: &'a [S]) -> Result<Settings,
     }
 }
 
-/// What the matches set. It fails where the text of `--room` is of no room, where a role with a password has a port for
-/// browsers, or where memory is refused.
-#[tactic(auto, using(crate::proofs::Rooms::has_no_room, crate::proofs::Rooms::has_locked_web))]
+/// What the matches set. It fails where the text of `--room` is of no room, or memory is refused.
+#[tactic(auto, using(crate::proofs::Rooms::has_no_room))]
 fn told(alloc: Global, matches: &ArgMatches<'_>) -> Result<Settings, BadLine>
     requires { HasValues (found_of matches.now) }
     ensures ok { IfOk result (λ s. AreValuesOf (found_of matches.now) s) }
-    ensures webs { IfOk result (λ s. locks_web (first_value (found_of matches.now)) ≡ false) }
-    ensures err { IfErr result (λ bad. (bad.status ≡ 4) ⊎ ((bad.status ≡ 2) × (HasNoRoom (found_of matches.now) ⊎ (locks_web (first_value (found_of matches.now)) ≡ true)))) }
+    ensures err { IfErr result (λ bad. (bad.status ≡ 4) ⊎ ((bad.status ≡ 2) × HasNoRoom (found_of matches.now))) }
 {
     let room = match room(matches) {
         Ok(room) => room,
         Err(text) => return Err(BadLine::of_no_room(alloc, text)),
     };
-    if let Some((web, password)) = locked_web(matches) {
-        return Err(BadLine::of_locked_web(alloc, web, password));
-    }
     match values(alloc, matches, room) {
         Ok(settings) => Ok(settings),
         Err(_) => Err(BadLine::memory(alloc)),
@@ -167,27 +162,6 @@ fn room<'m>(matches: &'m ArgMatches<'_>) -> Result<Option<Room>, &'m str>
             None => Err(text),
         },
         None => Ok(None),
-    }
-}
-
-/// Whether an option has a text.
-fn has(matches: &ArgMatches<'_>, name: &str) -> bool
-    ensures { result ≡ is_some (first_value (found_of matches.now) name.now) }
-{
-    matches.get_str(name).is_some()
-}
-
-/// The options for the browsers and for the password of a role that has both, if one does: nobody is asked for a
-/// password in messages.
-fn locked_web(matches: &ArgMatches<'_>) -> Option<(&'static str, &'static str)>
-    ensures { MatchOption result (locks_web (first_value (found_of matches.now)) ≡ false) (λ _. locks_web (first_value (found_of matches.now)) ≡ true) }
-{
-    if has(matches, "full-password-file") && has(matches, "web-full") {
-        Some(("web-full", "full-password-file"))
-    } else if has(matches, "view-password-file") && has(matches, "web-view") {
-        Some(("web-view", "view-password-file"))
-    } else {
-        None
     }
 }
 

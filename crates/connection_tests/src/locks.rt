@@ -155,46 +155,72 @@ fn right_one_is_let_in<R: Wait + Drop>(
     Ok(was_asked && is_greeted && house.has_come(stream.local_addr()?))
 }
 
-/// The numbers of the newcomers that guess at once. They are at least ten, and the next one that is asked has the sixth
-/// newcomer's challenge again.
+/// The numbers of the newcomers that are asked at once: ten that guess, and before the last of them one that knows the
+/// password, which has the first newcomer's challenge again. After those that wait comes one that has the sixth's.
 const FIRST_GUESSER: u8 = 7;
 
-const LAST_GUESSER: u8 = 19;
+const KNOWER: u8 = 16;
+
+const LAST_GUESSER: u8 = 17;
+
+const LAST_WAITING: u8 = 20;
 
 const NEXT_ASKED: u8 = 21;
 
 /// The minute for which an address has to wait, in milliseconds.
 const A_MINUTE: u64 = 60_000;
 
-/// A newcomer that has answered wrongly.
-fn guesser<R: Wait + Drop>(house: &House<'_, R>, number: u8) -> io::Result<TcpStream> {
+/// A newcomer that was asked, and hasn't answered.
+fn asked_one<R: Wait + Drop>(house: &House<'_, R>, number: u8) -> io::Result<TcpStream> {
     let mut stream = house.come()?;
     stream.write_all(b"\x02")?;
     if !is_asked(&mut stream, number)? {
         return Err(io::Error::from(ErrorKind::InvalidData));
     }
-    stream.write_all(&[0; 16])?;
     stream.set_read_timeout(Some(Duration::from_millis(SOON)))?;
     Ok(stream)
 }
 
-/// Whether newcomers hear nothing from an address from which ten wrong passwords came within a minute, and are asked
-/// again after it.
-fn guessers_wait<R: Wait + Drop>(house: &House<'_, R>) -> io::Result<bool> {
+/// Newcomers that have guessed, and one that is still to answer.
+fn guessers<R: Wait + Drop>(house: &House<'_, R>) -> io::Result<(Vec<TcpStream>, TcpStream)> {
     let mut guessers = Vec::new(house.net.alloc());
-    for number in FIRST_GUESSER..=LAST_GUESSER {
-        guessers.push(guesser(house, number)?)?;
+    for number in FIRST_GUESSER..KNOWER {
+        guessers.push(asked_one(house, number)?)?;
     }
+    let knower = asked_one(house, KNOWER)?;
+    guessers.push(asked_one(house, LAST_GUESSER)?)?;
+    for stream in guessers.as_mut_slice() {
+        stream.write_all(&[0; 16])?;
+    }
+    Ok((guessers, knower))
+}
+
+/// Whether newcomers that come now hear nothing, not even the version.
+fn others_wait<R: Wait + Drop>(house: &House<'_, R>) -> io::Result<bool> {
+    let mut hear_nothing = true;
+    for _ in LAST_GUESSER..LAST_WAITING {
+        let mut waits = house.come()?;
+        waits.set_read_timeout(Some(Duration::from_millis(SOON)))?;
+        hear_nothing = hear_nothing && soon(&mut waits)?.is_none();
+    }
+    Ok(hear_nothing)
+}
+
+/// Whether ten wrong passwords from an address are heard within a minute, and no answer after them, not even a right
+/// one; and whether newcomers from there are asked again after that minute.
+fn guessers_wait<R: Wait + Drop>(house: &House<'_, R>) -> io::Result<bool> {
+    house.pass(A_MINUTE);
+    let (mut guessers, mut knower) = guessers(house)?;
+    let others_wait = others_wait(house)?;
+    knower.write_all(FIRST)?;
+    let is_barred = soon(&mut knower)?.is_none();
     for stream in guessers.as_mut_slice() {
         if !is_told_late(house, stream)? {
             return Ok(false);
         }
     }
-    let mut waits = house.come()?;
-    waits.set_read_timeout(Some(Duration::from_millis(SOON)))?;
-    let hears_nothing = soon(&mut waits)?.is_none();
     house.pass(A_MINUTE);
-    Ok(hears_nothing && right_one_is_let_in(house, NEXT_ASKED, SIXTH)?)
+    Ok(others_wait && is_barred && right_one_is_let_in(house, NEXT_ASKED, SIXTH)?)
 }
 
 /// Whether only the right answer to a newcomer's own challenge opens the port, and what the others are told.

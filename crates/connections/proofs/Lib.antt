@@ -4,3 +4,4 @@ mod Canonical
 mod Heard
 mod Owed
 pub mod Sending
+mod Unlocking

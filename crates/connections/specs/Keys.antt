@@ -3,6 +3,9 @@ use Rattle.std.specs.Prelude.{◌≡◌, ℕ, Bool, true, false, List, ◌∷◌
 use Rattle.std.specs.Int.{w32, to_be_bytes}
 use Rattle.rfb_wire.specs.Handshake.{version}
 use Rattle.vnc_auth.specs.Answer.{answer_of}
+use Rattle.run_traits.specs.declared.event.Way.{Way}
+use Rattle.run_traits.specs.declared.event.Way.TheVariants.{Tcp, Web}
+use Rattle.web_frames.specs.Frames.{data_in, fresh}
 use Rattle.connections.specs.declared.key.Key.{Key}
 use Rattle.connections.specs.declared.key.Key.TheVariants.{Open, Locked}
 
@@ -36,6 +39,20 @@ pub record Unlocks (password said heard : List ℕ) : Type 0 where
 abbrev pub HasUnlocked : Key → (said heard : List ℕ) → Type 0
 HasUnlocked Open said heard = Unit {0}
 HasUnlocked (Locked password) said heard = Unlocks password said heard
+
+-- What was said by these bytes, and heard by these: where a newcomer's bytes travel in messages, the data in the frames
+-- that a client reads, and that it sends.
+abbrev pub said_in : Way → List ℕ → List ℕ
+said_in Tcp bytes = bytes
+said_in Web bytes = data_in (fresh false) bytes
+
+abbrev pub heard_in : Way → List ℕ → List ℕ
+heard_in Tcp bytes = bytes
+heard_in Web bytes = data_in (fresh true) bytes
+
+-- Where the port is locked, whoever said and heard what these bytes carry has unlocked it.
+abbrev pub HasUnlockedBy : Way → Key → (said heard : List ℕ) → Type 0
+HasUnlockedBy way key said heard = HasUnlocked key (said_in way said) (heard_in way heard)
 
 -- SecurityResult 1, and a reason (RFC 6143, 7.1.3).
 abbrev pub failed_for : List ℕ → List ℕ

@@ -6,3 +6,6 @@ pub mod Wires
 pub mod Browsers
 pub mod Keys
 pub mod Greetings
+pub mod Unlocked
+pub mod Callers
+pub mod Guessing

@@ -173,6 +173,14 @@ impl Account {
         self.given.note(bytes);
     }
 
+    /// The bytes that the link was given, and those that it took, which only clauses read.
+    pub(crate) fn into_records(self) -> (Record, Record)
+        ensures given { result.0.bytes ≡ self.given }
+        ensures taken { result.1.bytes ≡ self.taken }
+    {
+        (self.given, self.taken)
+    }
+
     /// How often the link failed.
     pub(crate) fn failures(&self) -> u64
         ensures { result ≡ self.now.failed }

@@ -108,6 +108,14 @@ impl<S: Socket> GreetedSocket<S> {
         }
     }
 
+    /// The socket below.
+    pub(crate) fn into_below(self) -> S
+        ensures sent { S.sent result ≡ self.below_sent }
+        ensures received { S.received result ≡ self.below_received }
+    {
+        self.socket
+    }
+
     /// It does nothing. Its clause says that, at every moment, what the owner says and hears by this socket is what the
     /// socket below does, but for the beginnings of both.
     pub fn matches(&self)

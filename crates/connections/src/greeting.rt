@@ -67,7 +67,7 @@ fn unwanted() -> io::Error {
 }
 
 /// With what an owner begins: the version, and these bytes.
-fn spoken_of(more: &[u8]) -> ArrayVec<u8, MOST_SPOKEN>
+pub(crate) fn spoken_of(more: &[u8]) -> ArrayVec<u8, MOST_SPOKEN>
     requires { length more.now ≤ 2 }
     ensures { result.items ≡ version ++ more.now }
 {
@@ -78,7 +78,7 @@ fn spoken_of(more: &[u8]) -> ArrayVec<u8, MOST_SPOKEN>
 }
 
 /// With what begins that which it hears: a version, and these bytes.
-fn shown_of(own: &[u8], more: &[u8]) -> ArrayVec<u8, MOST_SHOWN>
+pub(crate) fn shown_of(own: &[u8], more: &[u8]) -> ArrayVec<u8, MOST_SHOWN>
     requires { length own.now + length more.now ≤ 13 }
     ensures { result.items ≡ own.now ++ more.now }
 {
@@ -89,7 +89,7 @@ fn shown_of(own: &[u8], more: &[u8]) -> ArrayVec<u8, MOST_SHOWN>
 }
 
 impl<S: Socket> Greeting<S> {
-    ghost use Rattle.std.specs.Prelude.{◌≡◌, ◌≤◌, ◌<◌, ◌∷◌, ◌↔◌, [], IfOk, IfSome, IsTrue, Ok, Some, false, length, take, true};
+    ghost use Rattle.std.specs.Prelude.{◌≡◌, ◌≤◌, ◌<◌, ◌∷◌, ◌++◌, ◌↔◌, [], IfOk, IfSome, IsTrue, Ok, Some, false, length, take, true};
     ghost use Rattle.rfb_wire.specs.Handshake.{version};
     ghost use Rattle.connections.specs.declared.key.Key.TheVariants.{Locked, Open};
     ghost use Rattle.connections.specs.Keys.{HasUnlocked, Opens, Unlocks, is_locked};
@@ -322,6 +322,8 @@ impl<S: Socket> Greeting<S> {
         ensures unreceived { IfSome result (λ g. g.received ≡ []) }
         ensures sent { IfSome result (λ g. g.below_sent ≡ self.sent) }
         ensures received { IfSome result (λ g. g.below_received ≡ self.received) }
+        ensures said { IfSome result (λ g. self.sent ≡ g.said) }
+        ensures heard { IfSome result (λ g. self.received ≡ self.whence.front ++ g.heard) }
     {
         if self.asked > 0 || !self.own.is_full() {
             return None;
@@ -352,6 +354,8 @@ impl<S: Socket> Greeting<S> {
         ensures unreceived { IfSome result (λ g. g.received ≡ []) }
         ensures sent { IfSome result (λ g. g.below_sent ≡ self.sent) }
         ensures received { IfSome result (λ g. g.below_received ≡ self.received) }
+        ensures said { IfSome result (λ g. self.sent ≡ g.said) }
+        ensures heard { IfSome result (λ g. self.received ≡ self.whence.front ++ g.heard) }
     {
         if self.asked < QUESTION_LEN || self.own.as_slice() != VERSION.as_slice() {
             return None;
@@ -389,6 +393,8 @@ impl<S: Socket> Greeting<S> {
         ensures address { IfSome result (λ both. IsKnown self.whence (Some (Ok both.1))) }
         ensures sent { IfSome result (λ both. both.0.below_sent ≡ self.sent) }
         ensures received { IfSome result (λ both. both.0.below_received ≡ self.received) }
+        ensures said { IfSome result (λ both. self.sent ≡ both.0.said) }
+        ensures heard { IfSome result (λ both. self.received ≡ self.whence.front ++ both.0.heard) }
     {
         let Some(Ok(address)) = self.whence.known() else {
             return None;

@@ -1,85 +1,112 @@
 //! The addresses from which wrong passwords came of late.
 
+ghost use Rattle.std.specs.Prelude.{◌≡◌, ◌≤◌, count_by, length};
+ghost use Rattle.connections.specs.Guessing.{is_lately_from, same_ip};
+
 use std::alloc::{AllocError, Global};
+use std::marker::Model;
 use std::net::IpAddr;
-use std::time::{Duration, Instant};
+use std::time::Instant;
 
-/// After how many wrong passwords within a minute newcomers from an address have to wait.
-const MOST_WRONG: u64 = 10;
+/// While so many wrong passwords from an address are less than a minute old, newcomers from there have to wait.
+const MOST_WRONG: usize = 10;
 
-/// The seconds of that minute, which begins with the first of them. When it is over they wait no longer.
-const WRONG_SECONDS: u64 = 60;
+/// That minute, in nanoseconds.
+const MINUTE_NANOS: u128 = 60_000_000_000;
 
-/// How many addresses are remembered. Where more have answered wrongly within a minute, the first of them is forgotten.
-const MOST_ADDRESSES: usize = 64;
+/// How many wrong passwords are remembered. Where more come within a minute, the first of them is forgotten.
+const MOST_REMEMBERED: usize = 640;
 
-/// An address, when the first wrong password of its minute came, and how many have come since.
+/// A wrong password: from where it came, and when it was heard.
 #[derive(Clone, Copy, Drop)]
-struct Guesser {
+pub(crate) struct Guess {
     ip: IpAddr,
-    since: Instant,
-    count: u64,
+    at: Instant,
 }
 
-impl Guesser {
-    /// Whether its minute isn't over yet.
-    fn is_recent(&self, now: Instant) -> bool {
-        now.checked_duration_since(self.since)
-            .is_some_and(|passed| passed < Duration::from_secs(WRONG_SECONDS))
+/// Whether both are one address.
+fn is_same(one: &IpAddr, other: &IpAddr) -> bool
+    ensures { result ≡ same_ip one.now other.now }
+{
+    match (one, other) {
+        (IpAddr::V4(one), IpAddr::V4(other)) => one.octets() == other.octets(),
+        (IpAddr::V6(one), IpAddr::V6(other)) => one.octets() == other.octets(),
+        _ => false,
     }
 }
 
-/// Wrong passwords by address, those of the last minute alone. An IPv4 address inside an IPv6 address counts as the
-/// IPv4 address.
+impl Guess {
+    /// Whether it came from there, less than a minute ago.
+    fn is_lately_from(&self, ip: &IpAddr, now: Instant) -> bool
+        ensures { result ≡ is_lately_from ip.now now self.now }
+    {
+        match now.checked_duration_since(self.at) {
+            Some(passed) => passed.as_nanos() < MINUTE_NANOS && is_same(&self.ip, ip),
+            None => false,
+        }
+    }
+}
+
+/// How many of these came from there, less than a minute ago.
+fn count_of(wrong: &[Guess], ip: &IpAddr, now: Instant) -> usize
+    ensures count { result ≡ count_by (is_lately_from ip.now now) wrong.now }
+    ensures few { result ≤ length wrong.now }
+{
+    let mut count = 0;
+    for guess in wrong {
+        if guess.is_lately_from(ip, now) {
+            count += 1;
+        }
+    }
+    count
+}
+
+/// The wrong passwords of late, in their order.
 #[derive(Drop)]
 pub(crate) struct Guesses {
-    guessers: Vec<Guesser>,
+    wrong: Vec<Guess>,
+}
+
+impl Model for Guesses {
+    ghost use Rattle.std.specs.Prelude.{◌≤◌, List, length};
+    ghost use Rattle.std.specs.Vec.{vec_capacity};
+    ghost use Rattle.connections.specs.declared.guesses.Guess.{Guess};
+
+    ghost Value = { List Guess };
+
+    ghost view = { λ g. g.wrong.items };
+
+    ghost invariant = { λ g. (length g.wrong.items ≤ 640) × (640 ≤ vec_capacity g.wrong) };
 }
 
 impl Guesses {
+    ghost use Rattle.std.specs.Prelude.{◌≡◌, ◌↔◌, [], IfOk, IsTrue};
+    ghost use Rattle.connections.specs.Guessing.{HasToWait, with_guess};
+
     /// None yet. It takes all the memory that it will need.
-    pub(crate) fn new(alloc: Global) -> Result<Guesses, AllocError> {
+    pub(crate) fn new(alloc: Global) -> Result<Guesses, AllocError>
+        ensures { IfOk result (λ guesses. guesses ≡ []) }
+    {
         Ok(Guesses {
-            guessers: Vec::with_capacity(alloc, MOST_ADDRESSES)?,
+            wrong: Vec::with_capacity(alloc, MOST_REMEMBERED)?,
         })
     }
 
-    /// Whether none is remembered.
-    pub(crate) fn is_empty(&self) -> bool {
-        self.guessers.as_slice().is_empty()
-    }
-
-    /// Notes that a wrong password came from there.
-    pub(crate) fn note(&mut self, ip: IpAddr, now: Instant) {
-        let ip = ip.to_canonical();
-        self.guessers.retain(|guesser| guesser.is_recent(now));
-        for guesser in self.guessers.as_mut_slice() {
-            if guesser.ip == ip {
-                guesser.count = guesser.count.saturating_add(1);
-                return;
-            }
+    /// Notes that a wrong password was heard from there now.
+    pub(crate) fn note(&mut self, ip: IpAddr, now: Instant)
+        ensures { self.new ≡ with_guess (record { ip = ip; at = now }) self.old }
+    {
+        if self.wrong.len() >= MOST_REMEMBERED {
+            let _ = self.wrong.remove(0);
         }
-        self.remember(Guesser {
-            ip,
-            since: now,
-            count: 1,
-        });
-    }
-
-    /// Remembers an address, in place of the one whose minute began first where there is no more room.
-    fn remember(&mut self, guesser: Guesser) {
-        if self.guessers.len() >= MOST_ADDRESSES {
-            let _ = self.guessers.remove(0);
-        }
-        // There is room for all of them.
-        let _ = self.guessers.push(guesser);
+        // There is room for it.
+        let _ = self.wrong.push(Guess { ip, at: now });
     }
 
     /// Whether newcomers from there have to wait now.
-    pub(crate) fn bars(&self, ip: IpAddr, now: Instant) -> bool {
-        let ip = ip.to_canonical();
-        self.guessers.as_slice().iter().any(|guesser| {
-            guesser.ip == ip && guesser.count >= MOST_WRONG && guesser.is_recent(now)
-        })
+    pub(crate) fn bars(&self, ip: IpAddr, now: Instant) -> bool
+        ensures { IsTrue result ↔ HasToWait ip now self.now }
+    {
+        count_of(self.wrong.as_slice(), &ip, now) >= MOST_WRONG
     }
 }

@@ -6,6 +6,7 @@
 #![tactic(auto)]
 
 mod account;
+mod bare;
 mod caller;
 mod desk;
 mod everyone;
@@ -18,7 +19,9 @@ mod host_listener;
 mod joining;
 mod kept;
 mod key;
+mod knocker;
 mod lobby;
+mod messages;
 mod newcomer;
 mod noted;
 mod options;
@@ -30,6 +33,7 @@ mod role_listener;
 mod seat;
 mod socket;
 mod tcp;
+mod unlocked;
 mod web;
 mod whence;
 mod writer_seat;
@@ -44,6 +48,7 @@ pub use host_listener::{HostCall, HostListener};
 pub use joining::JoiningLink;
 pub use key::Key;
 pub use lobby::{Lobby, TcpDoor, ViewerLink};
+pub use messages::MessageSocket;
 pub use newcomer::TcpEntry;
 pub use noted::{Closing, Gathering, Noted};
 pub use options::{outlast, outlast_host};

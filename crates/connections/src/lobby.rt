@@ -2,11 +2,12 @@
 
 ghost use Rattle.std.specs.Prelude.{◌≡◌, ◌<◌, [], IfOk, IsNone};
 ghost use Rattle.std.specs.Arc.{arc_value};
-ghost use Rattle.connections.specs.Keys.{HasUnlocked, is_locked};
+ghost use Rattle.connections.specs.Keys.{HasUnlockedBy, is_locked};
 ghost use Rattle.connections.specs.Doors.{HasNoted, LetsIn, SeesOff, links_behind, role_behind};
 ghost use Rattle.run_traits.specs.Trails.{KeepsTrail};
 
 use crate::desk::{Comer, Desk};
+use crate::hello::HELLO_LEN;
 use crate::key::Key;
 use crate::refused::Lack;
 use crate::role_listener::Entrant;
@@ -170,7 +171,7 @@ impl Lobby {
         patience: Duration,
     ) -> Entrance
         requires role { entrant.role ≡ self.now.role }
-        requires unlocked { ∥ HasUnlocked self.now.key entrant.socket.said entrant.socket.heard ∥₁ }
+        requires unlocked { ∥ HasUnlockedBy entrant.way self.now.key entrant.socket.said entrant.socket.heard ∥₁ }
     {
         let is_open = self.desk.entry(rt) == Entry::Open;
         let guard = self.waiting.lock(rt);
@@ -322,11 +323,20 @@ impl<R: Wait + Clock + Drop + Copy, G: Log + Drop> TcpDoor<R, G> {
         requires locked { is_locked entrant.key ≡ is_locked (arc_value self.now.lobby).key }
         ensures { IfOk result (λ link. viewer_state link ≡ unused) }
     {
-        let way = entrant.way();
-        let link = ViewerTcpLink::at(self.rt, self.alloc, entrant.into_socket(), &self.seat)?;
+        let (way, is_locked) = (entrant.way(), entrant.is_locked());
+        let awaited = match way {
+            Way::Tcp => HELLO_LEN,
+            // The browser's link awaits the bytes of messages.
+            Way::Web => 0,
+        };
+        let (rt, alloc, socket) = (self.rt, self.alloc, entrant.into_socket());
+        let link = ViewerTcpLink::at(rt, alloc, socket, &self.seat, awaited)?;
         match way {
             Way::Tcp => Ok(AnyLink::Plain(link)),
-            Way::Web => Ok(AnyLink::Web(BrowserLink::new(self.rt, self.alloc, link)?)),
+            Way::Web => {
+                let link = BrowserLink::new(rt, alloc, link, is_locked)?;
+                Ok(AnyLink::Web(link))
+            }
         }
     }
 

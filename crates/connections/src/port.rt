@@ -21,6 +21,8 @@ pub(crate) const MOST_STEPS: usize = 4_096;
 pub(crate) enum Progress {
     /// It waits, or is waited for.
     Waits,
+    /// It has just answered wrongly. It waits to be told so.
+    Guessed,
     /// Nothing more is asked or answered.
     Done,
     /// Its connection is broken, or it keeps the porter busy.

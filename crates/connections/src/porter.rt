@@ -8,7 +8,7 @@ use crate::port::{Newcomer, Port, Progress};
 use crate::refused::Refused;
 use crate::seat::Seat;
 use mio::{Events, Interest, Poll, Token};
-use run_traits::{Alarm, Event, Log};
+use run_traits::{Alarm, Log};
 use std::alloc::Global;
 use std::hash::RandomState;
 use std::io;
@@ -172,46 +172,42 @@ impl<P: Port> Porch<P> {
         }
     }
 
-    /// Lets the newcomer in this slot go, late at this moment or not late.
-    fn see_off<G: Log>(&mut self, place: usize, late: Option<Instant>, log: &G) {
+    /// Lets the newcomer in this slot go, late or not.
+    fn see_off<G: Log>(&mut self, place: usize, is_late: bool, log: &G) {
         if let Some(comer) = self.guests.take(place) {
-            if let Some(event) = comer.complaint(late.is_some()) {
-                self.count(&event, late);
+            if let Some(event) = comer.complaint(is_late) {
                 log.note(&event);
             }
-            comer.part(late.is_some());
+            comer.part(is_late);
         }
     }
 
-    /// Counts a wrong password, if this is one.
-    fn count(&mut self, event: &Event<'_>, late: Option<Instant>) {
-        if let (Event::WrongPassword { address, .. }, Some(now)) = (event, late) {
-            if let Some(address) = address {
-                self.guesses.note(address.ip(), now);
-            }
+    /// Counts a wrong password that was just heard from the newcomer in this slot.
+    fn count<R: Clock>(&mut self, rt: &R, place: usize) {
+        if let (Some(address), Ok(now)) = (self.guests.address(place), Instant::now(rt)) {
+            self.guesses.note(address.ip().to_canonical(), now);
         }
     }
 
     /// Whether too many wrong passwords have come from the address of the newcomer in this slot.
     fn has_to_wait<R: Clock>(&self, rt: &R, place: usize) -> bool {
-        if self.guesses.is_empty() {
-            return false;
-        }
         match (self.guests.address(place), Instant::now(rt)) {
-            (Some(address), Ok(now)) => self.guesses.bars(address.ip(), now),
+            (Some(address), Ok(now)) => self.guesses.bars(address.ip().to_canonical(), now),
             _ => false,
         }
     }
 
-    /// Goes on with the newcomer at this place. One that has to wait hears nothing, and isn't let in.
+    /// Goes on with the newcomer at this place. One that has to wait hears nothing once its address is known, and isn't
+    /// let in.
     fn go_on<R: Wait + Clock, G: Log>(&mut self, rt: &R, place: usize, log: &G) {
         if self.has_to_wait(rt, place) {
             return;
         }
         match self.guests.go_on(rt, place) {
             Progress::Waits => {}
-            Progress::Gone => self.see_off(place, None, log),
-            Progress::Done if self.has_to_wait(rt, place) => self.see_off(place, None, log),
+            Progress::Guessed => self.count(rt, place),
+            Progress::Gone => self.see_off(place, false, log),
+            Progress::Done if self.has_to_wait(rt, place) => self.see_off(place, false, log),
             Progress::Done => self.see_in(rt, place, log),
         }
     }
@@ -232,7 +228,7 @@ impl<P: Port> Porch<P> {
         let is_crowded = self.guests.free().is_none();
         for place in 0..MOST_GUESTS {
             if self.guests.is_late(place, now, is_crowded) {
-                self.see_off(place, Some(now), log);
+                self.see_off(place, true, log);
             }
         }
     }

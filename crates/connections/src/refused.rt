@@ -21,6 +21,9 @@ use web_link::refusal_frames;
 /// once, since they came while that one was kept, or shortly after.
 const PATIENCE_MILLIS: u64 = 50;
 
+/// The bytes of a SecurityResult (RFC 6143, section 7.1.3).
+const RESULT_LEN: usize = 4;
+
 /// Why a newcomer isn't let in: what is missing.
 #[derive(Clone, Copy, Debug, PartialEq, Eq)]
 pub(crate) enum Lack {
@@ -60,19 +63,30 @@ fn say<S: Socket>(socket: &mut S, way: Way, bytes: &[u8])
 }
 
 /// Says a SecurityResult, with its reason, to a newcomer that has answered a challenge (RFC 6143, section 7.1.3).
-/// Before that its owner says the version and the one security type, None, as at an open port.
-fn fail<S: Socket>(socket: &mut S, bytes: &[u8]) {
-    let _ = socket.send(&VERSION);
-    let _ = socket.send(&[1, NONE]);
-    let _ = socket.send(bytes);
+/// Before that the owner of a socket over TCP says the version and the one security type, None, as at an open port.
+fn fail<S: Socket>(socket: &mut S, way: Way, bytes: &[u8])
+    requires long { RESULT_LEN < length bytes.now }
+    requires short { length bytes.now ≤ 116 }
+{
+    match way {
+        Way::Tcp => {
+            let _ = socket.send(&VERSION);
+            let _ = socket.send(&[1, NONE]);
+            let _ = socket.send(bytes);
+        }
+        Way::Web => {
+            let (result, reason) = bytes.split_at(RESULT_LEN);
+            let _ = socket.send(refusal_frames(result, reason).as_slice());
+        }
+    }
 }
 
 /// Tells a newcomer that has unlocked its port, and isn't let in, why.
-fn answer_behind_lock<S: Socket>(socket: &mut S, lack: Lack) {
+fn answer_behind_lock<S: Socket>(socket: &mut S, way: Way, lack: Lack) {
     match lack {
-        Lack::Place => fail(socket, &taken_bytes()),
-        Lack::Host => fail(socket, &hostless_bytes()),
-        Lack::Entry => fail(socket, &shut_bytes()),
+        Lack::Place => fail(socket, way, &taken_bytes()),
+        Lack::Host => fail(socket, way, &hostless_bytes()),
+        Lack::Entry => fail(socket, way, &shut_bytes()),
     }
 }
 
@@ -135,7 +149,7 @@ impl Refused {
         let is_locked = refused.is_locked();
         let mut socket = refused.into_socket();
         if is_locked {
-            answer_behind_lock(&mut socket, lack);
+            answer_behind_lock(&mut socket, way, lack);
         } else {
             answer(&mut socket, way, lack);
         }

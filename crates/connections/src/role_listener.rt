@@ -1,8 +1,8 @@
 //! Listeners of a role, and the newcomers that come by them.
 
-ghost use Rattle.std.specs.Prelude.{◌≡◌, ◌↔◌, IfOk, IfSome, IsTrue, None, Ok, Some, []};
+ghost use Rattle.std.specs.Prelude.{◌≡◌, ◌↔◌, IfOk, IfSome, IsTrue, None, Ok, Some, [], false};
 ghost use Rattle.connections.specs.declared.key.Key.TheVariants.{Open};
-ghost use Rattle.connections.specs.Keys.{HasUnlocked, is_locked};
+ghost use Rattle.connections.specs.Keys.{HasUnlockedBy, is_locked};
 ghost use Rattle.run_traits.specs.declared.event.Way.TheVariants.{Tcp, Web};
 ghost use Rattle.connections.specs.Greetings.{IsFromProxy, IsGreeted, IsKnown, IsSameComer, untouched};
 ghost use Rattle.web_site.specs.Guests.{IsLetIn};
@@ -10,8 +10,11 @@ ghost use Rattle.web_site.specs.Guests.{IsLetIn};
 use crate::greeted::GreetedSocket;
 use crate::greeting::Greeting;
 use crate::key::Key;
+use crate::messages::MessageSocket;
 use crate::noted::Noted;
 use crate::whence::Whence;
+use arrayvec::ArrayVec;
+use link::Record;
 use roles::Role;
 use run_traits::Way;
 use std::io;
@@ -40,7 +43,7 @@ pub struct Arrival {
 
 /// A newcomer that may be let to a lobby: its socket, its role, the key of the port that it came by, how its bytes
 /// travel, and its address, if anyone told it. Over TCP it has said its version, and was told ours; at a locked port it
-/// has answered its own challenge, too. Only a newcomer that came by a listener becomes one.
+/// has answered its own challenge, too, over TCP or in messages. Only a newcomer that came by a listener becomes one.
 #[derive(Drop)]
 pub struct Entrant {
     socket: GreetedSocket<Noted<mio::net::TcpStream>>,
@@ -51,7 +54,7 @@ pub struct Entrant {
     ghost unsent: { socket.sent ≡ [] },
     ghost unreceived: { socket.received ≡ [] },
     ghost greeted: { way ≡ Tcp → ∥ IsGreeted key socket ∥₁ },
-    ghost unlocked: { ∥ HasUnlocked key socket.said socket.heard ∥₁ },
+    ghost unlocked: { ∥ HasUnlockedBy way key socket.said socket.heard ∥₁ },
 }
 
 impl RoleListener {
@@ -172,9 +175,35 @@ impl Arrival {
         Greeting::new(Noted::new(stream), self.whence, self.key, challenge)
     }
 
+    /// Its greeting in messages, with a challenge of its own, if this guest's handshake let it in. It is `None` where
+    /// the handshake didn't, or where the address isn't known yet. Its stream has to be one that doesn't wait.
+    pub(crate) fn ask_in_messages(
+        self,
+        guest: Guest,
+        challenge: [u8; CHALLENGE_LEN],
+    ) -> Option<Greeting<MessageSocket<Noted<mio::net::TcpStream>>>>
+        ensures key { IfSome result (λ greeting. greeting.key ≡ self.key) }
+        ensures challenge { IfSome result (λ greeting. greeting.challenge ≡ challenge) }
+        ensures handshake { IfSome result (λ _. ∥ IsLetIn guest ∥₁) }
+        ensures address { IfSome result (λ greeting. IsKnown self.whence (Some (Ok greeting.whence.peer))) }
+        ensures direct { IfSome result (λ greeting. greeting.whence.is_proxied ≡ false) }
+    {
+        let Some(Ok(address)) = self.whence.known() else {
+            return None;
+        };
+        let is_let_in = guest.is_let_in();
+        if !is_let_in {
+            return None;
+        }
+        let stream = mio::net::TcpStream::from_std(self.stream);
+        let messages = MessageSocket::new(Noted::new(stream));
+        let whence = Whence::of_address(address);
+        Some(Greeting::new(messages, whence, self.key, challenge))
+    }
+
     /// The same newcomer as one that may be let to a lobby, whose bytes travel in messages, if this guest's handshake
     /// let it in. It is `None` where the handshake didn't, where the address isn't known yet, or where its port is
-    /// locked: nobody is asked for a password in messages.
+    /// locked, so that a password is asked for first.
     pub fn let_in(self, guest: Guest) -> Option<Entrant>
         ensures role { IfSome result (λ entrant. entrant.role ≡ self.role) }
         ensures key { IfSome result (λ entrant. entrant.key ≡ self.key) }
@@ -227,6 +256,42 @@ impl Entrant {
         })
     }
 
+    /// A newcomer that was greeted in messages, by a listener of this role: its own version has come and, at a locked
+    /// port, the answer to its challenge. It is `None` where that hasn't come, and where the message goes on behind it.
+    #[tactic(auto, using(crate::proofs::Unlocking::carried))]
+    pub(crate) fn greeted_in_messages(
+        role: Role,
+        greeting: Greeting<MessageSocket<Noted<mio::net::TcpStream>>>,
+    ) -> Option<Entrant>
+        requires direct { greeting.whence.is_proxied ≡ false }
+        ensures role { IfSome result (λ entrant. entrant.role ≡ role) }
+        ensures key { IfSome result (λ entrant. entrant.key ≡ greeting.key) }
+        ensures way { IfSome result (λ entrant. entrant.way ≡ Web) }
+        ensures address { IfSome result (λ entrant. entrant.address ≡ greeting.whence.peer) }
+    {
+        let key = greeting.key();
+        greeting.whence().reads_no_other_header();
+        let (messages, address) = greeting.done()?;
+        let (stream, said, heard) = messages.into_below().into_below()?;
+        let front = Record::new();
+        // Nothing of it is said or heard again by this socket: its link says and hears the frames behind it.
+        let socket = GreetedSocket::greeted(
+            stream,
+            front,
+            said,
+            heard,
+            ArrayVec::new(),
+            ArrayVec::new(),
+        );
+        Some(Entrant {
+            socket,
+            role,
+            key,
+            way: Way::Web,
+            address,
+        })
+    }
+
     /// The role of the listener that it came by.
     pub fn role(&self) -> Role
         ensures { result ≡ self.now.role }
@@ -236,9 +301,9 @@ impl Entrant {
 
     /// It does nothing. Its clause says that nobody becomes an entrant of a locked port without the answer to its own
     /// challenge: the version and a challenge were said to it, and it has answered just that challenge as only someone
-    /// does who knows the password.
+    /// does who knows the password. Where its bytes travel in messages, it is so with the data of the frames.
     pub fn has_unlocked(&self)
-        ensures { ∥ HasUnlocked self.now.key self.now.socket.said self.now.socket.heard ∥₁ }
+        ensures { ∥ HasUnlockedBy self.now.way self.now.key self.now.socket.said self.now.socket.heard ∥₁ }
     {
         let _ = &self.way;
     }

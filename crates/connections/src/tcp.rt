@@ -67,7 +67,8 @@ pub struct ViewerTcpLink<R: Wait + Clock + Drop, S: Socket = GreetedSocket<Noted
     // Whether a write failed, so that kept bytes may be lost.
     is_broken: bool,
     opened: Instant,
-    // How many bytes of the hello are missing.
+    // How many bytes of the hello are awaited over this link, and how many of these are missing.
+    awaited: usize,
     missing: usize,
     // How the connection stands, and how many bytes the system took, for a log.
     parting: Parting,
@@ -77,15 +78,14 @@ pub struct ViewerTcpLink<R: Wait + Clock + Drop, S: Socket = GreetedSocket<Noted
 
 impl<R: Wait + Clock + Drop, S: Socket> Model for ViewerTcpLink<R, S> {
     ghost use Rattle.std.specs.Prelude.{◌≡◌, ◌-◌, true, length};
-    ghost use Rattle.connections.specs.Hello.{hello_len};
     ghost use Rattle.connections.specs.Wires.{Wired, Carries};
 
     ghost Value = { Wired };
 
     ghost view = { λ l. record { own = l.account; sent = S.sent l.socket; received = S.received l.socket; kept = l.kept.bytes; is_open = true } };
 
-    // The bytes of the hello that are missing are those that weren't taken.
-    ghost invariant = { λ l. Carries (record { own = l.account; sent = S.sent l.socket; received = S.received l.socket; kept = l.kept.bytes; is_open = true }) × (l.missing ≡ hello_len - length l.account.taken) };
+    // The bytes of the hello that are missing are those of the awaited ones that weren't taken.
+    ghost invariant = { λ l. Carries (record { own = l.account; sent = S.sent l.socket; received = S.received l.socket; kept = l.kept.bytes; is_open = true }) × (l.missing ≡ l.awaited - length l.account.taken) };
 }
 
 impl<R: Wait + Clock + Drop> ViewerTcpLink<R> {
@@ -106,23 +106,25 @@ impl<R: Wait + Clock + Drop> ViewerTcpLink<R> {
         outlast(&stream, stalled)?;
         stream.set_nonblocking(true)?;
         let socket = GreetedSocket::new(Noted::new(TcpStream::from_std(stream)));
-        ViewerTcpLink::at(rt, alloc, socket, seat)
+        ViewerTcpLink::at(rt, alloc, socket, seat, HELLO_LEN)
     }
 
-    /// A link that has taken and given nothing, over a socket by which the viewer may have been greeted. This seat
-    /// hears the socket from now on. It fails where memory is refused, or where the system refuses the clock.
+    /// A link that has taken and given nothing, over a socket by which the viewer may have been greeted. So many bytes
+    /// of the viewer's hello are awaited over it: none where a link above awaits them. This seat hears the socket from
+    /// now on. It fails where memory is refused, or where the system refuses the clock.
     pub fn at(
         rt: R,
         alloc: Global,
         mut socket: GreetedSocket<Noted<TcpStream>>,
         seat: &Arc<Seat, Global>,
+        awaited: usize,
     ) -> io::Result<ViewerTcpLink<R>>
         requires sent { socket.sent ≡ [] }
         requires received { socket.received ≡ [] }
         ensures { IfOk result (λ link. link ≡ fresh) }
     {
         seat.hear(&rt, &mut socket)?;
-        ViewerTcpLink::over(rt, alloc, socket, seat)
+        ViewerTcpLink::awaiting(rt, alloc, socket, seat, awaited)
     }
 }
 
@@ -144,6 +146,21 @@ impl<R: Wait + Clock + Drop, S: Socket> ViewerTcpLink<R, S> {
         requires received { S.received socket ≡ [] }
         ensures { IfOk result (λ link. link ≡ fresh) }
     {
+        ViewerTcpLink::awaiting(rt, alloc, socket, seat, HELLO_LEN)
+    }
+
+    /// Such a link, over which so many bytes of the viewer's hello are awaited.
+    fn awaiting(
+        rt: R,
+        alloc: Global,
+        socket: S,
+        seat: &Arc<Seat, Global>,
+        awaited: usize,
+    ) -> io::Result<ViewerTcpLink<R, S>>
+        requires sent { S.sent socket ≡ [] }
+        requires received { S.received socket ≡ [] }
+        ensures { IfOk result (λ link. link ≡ fresh) }
+    {
         let opened = Instant::now(&rt)?;
         let kept = Kept::new(alloc)?;
         let seat = Arc::try_clone(seat)?;
@@ -156,7 +173,8 @@ impl<R: Wait + Clock + Drop, S: Socket> ViewerTcpLink<R, S> {
             is_blocked: false,
             is_broken: false,
             opened,
-            missing: HELLO_LEN,
+            awaited,
+            missing: awaited,
             parting: Parting::Open,
             sent: 0,
             account: Account::new(),

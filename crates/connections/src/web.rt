@@ -4,6 +4,7 @@ ghost use Rattle.std.specs.Prelude.{◌≡◌};
 
 use crate::hello::{HELLO_LEN, Patience, longest_wait};
 use crate::tcp::ViewerTcpLink;
+use crate::unlocked::UnlockedLink;
 use link::{Gave, Link, Took};
 use run_traits::Parting;
 use std::alloc::Global;
@@ -18,12 +19,13 @@ use web_link::{GatheringLink, WebLink};
 const SILENCE_SECONDS: u64 = 30;
 
 /// A browser's connection: the bytes of binary messages over a `ViewerTcpLink`, which go out as large as they can be.
+/// Where the browser has unlocked its port, its owner says and hears as at an open one.
 /// It takes bytes as that link does, but for the time of its hello only the bytes in messages count, and neither
 /// headers nor pings. Where the porter wakes it after a long silence, it sends a ping.
 #[derive(Drop)]
 pub struct BrowserLink<R: Wait + Clock + Drop> {
     rt: R,
-    link: GatheringLink<WebLink<ViewerTcpLink<R>>>,
+    link: UnlockedLink<GatheringLink<WebLink<ViewerTcpLink<R>>>>,
     // How many bytes of the hello are missing, and whether some were missing when the time for it was over.
     missing: usize,
     is_late: bool,
@@ -35,9 +37,9 @@ pub struct BrowserLink<R: Wait + Clock + Drop> {
 impl<R: Wait + Clock + Drop> Model for BrowserLink<R> {
     ghost use Rattle.std.specs.Prelude.{◌≡◌, ◌-◌, length};
     ghost use Rattle.connections.specs.Hello.{hello_len};
-    ghost use Rattle.web_link.specs.Gathering.{Gathered};
+    ghost use Rattle.connections.specs.Unlocked.{StandIn};
 
-    ghost Value = { Gathered };
+    ghost Value = { StandIn };
 
     ghost view = { λ b. b.link };
 
@@ -51,15 +53,23 @@ impl<R: Wait + Clock + Drop> BrowserLink<R> {
     ghost use Rattle.link.specs.Links.{with_failure};
     ghost use Rattle.run_traits.specs.Unused.{unused};
     ghost use Rattle.connections.specs.Hello.{IsPatience, hello_len};
+    ghost use Rattle.connections.specs.Unlocked.{StandsIn, own_beginning, shown_beginning};
 
-    /// A browser's link over a link that has taken and given nothing. It fails where memory is refused, or where the
-    /// system refuses the clock.
-    pub fn new(rt: R, alloc: Global, below: ViewerTcpLink<R>) -> io::Result<BrowserLink<R>>
+    /// A browser's link over a link that has taken and given nothing, to a browser that came by an open port, or has
+    /// unlocked a locked one. It fails where memory is refused, or where the system refuses the clock.
+    pub fn new(
+        rt: R,
+        alloc: Global,
+        below: ViewerTcpLink<R>,
+        is_locked: bool,
+    ) -> io::Result<BrowserLink<R>>
         requires { below.own ≡ unused }
-        ensures { IfOk result (λ link. link.own ≡ unused) }
+        ensures own { IfOk result (λ link. link.own ≡ unused) }
+        ensures spoken { IfOk result (λ link. link.spoken ≡ own_beginning is_locked) }
+        ensures shown { IfOk result (λ link. link.shown ≡ shown_beginning is_locked) }
     {
         let said = Instant::now(&rt)?;
-        let link = GatheringLink::new(alloc, WebLink::new(below))?;
+        let link = UnlockedLink::new(GatheringLink::new(alloc, WebLink::new(below))?, is_locked);
         Ok(BrowserLink {
             rt,
             link,
@@ -70,9 +80,17 @@ impl<R: Wait + Clock + Drop> BrowserLink<R> {
         })
     }
 
+    /// It does nothing. Its clause says that, at every moment, what the owner gives and takes is what the browser is
+    /// given and says in messages, behind the beginnings that stand for the lock.
+    pub fn stands_in(&self)
+        ensures { StandsIn self.now }
+    {
+        self.link.stands_in();
+    }
+
     /// The connection below.
     pub fn connection(&self) -> &ViewerTcpLink<R> {
-        self.link.below().below()
+        self.link.below().below().below()
     }
 
     /// How the connection stands. No clause says so.

@@ -56,7 +56,7 @@ impl Model for Whence {
 }
 
 impl Whence {
-    ghost use Rattle.std.specs.Prelude.{◌≡◌, ◌↔◌, ◌∷◌, ◌++◌, [], IsTrue, true};
+    ghost use Rattle.std.specs.Prelude.{◌≡◌, ◌↔◌, ◌∷◌, ◌++◌, [], IsTrue, false, true};
     ghost use Rattle.connections.specs.Greetings.{IsFromProxy, IsKnown, IsSameComer};
 
     /// The origin of a newcomer whose peer has this address. The headers of this proxy, if there is one, are believed.
@@ -89,6 +89,26 @@ impl Whence {
             Ok(origin) => Some(Ok(told(self.peer, origin))),
             Err(refusal) => Some(Err(refusal)),
         }
+    }
+
+    /// The same newcomer, whose address is known, and of which no header is wanted.
+    pub(crate) fn of_address(address: Option<SocketAddr>) -> Whence
+        ensures peer { result.peer ≡ address }
+        ensures direct { result.is_proxied ≡ false }
+        ensures front { result.front ≡ [] }
+    {
+        Whence {
+            peer: address,
+            reader: None,
+            front: Record::new(),
+        }
+    }
+
+    /// It does nothing. Its clause says that no header was read of a newcomer of which none is wanted.
+    pub(crate) fn reads_no_other_header(&self)
+        ensures { self.now.is_proxied ≡ false → self.now.front ≡ [] }
+    {
+        let _ = &self.reader;
     }
 
     /// The newcomer's address, if it is known by now.

@@ -1,5 +1,5 @@
 -- How the frames of a peer are read (RFC 6455, 5.2 to 5.5). Headers and masks are those of the kit's websocket.
-use Rattle.std.specs.Prelude.{ℕ, ◌+◌, ◌-◌, ◌%◌, Bool, false, cond, not, ◌||◌, ◌==◌, nat_lt, List, [], ◌∷◌, ◌++◌, length, slice_index, bit_xor, Option, None, Some, is_some, Ok, Err}
+use Rattle.std.specs.Prelude.{◌≡◌, ℕ, ◌+◌, ◌-◌, ◌%◌, Bool, false, cond, not, ◌||◌, ◌==◌, nat_lt, List, [], ◌∷◌, ◌++◌, length, slice_index, bit_xor, Option, None, Some, is_some, Ok, Err}
 use Rattle.websocket.specs.FrameHeader.{Decoded, decode_header}
 use Rattle.websocket.specs.declared.protocol.frame.header.FrameHeader.{FrameHeader}
 use Rattle.websocket.specs.declared.protocol.frame.coding.OpCode.{OpCode}
@@ -39,6 +39,10 @@ fresh masked = record { masked = masked; position = Head; head = []; begun = fal
 -- Where reading stands once a frame was refused: nothing is read any more.
 abbrev pub broken : Standing → Breach → Standing
 broken s why = record s { position = Broken why }
+
+-- It stands between two messages: no byte of a further frame has come.
+abbrev pub IsBetween : Standing → Type 0
+IsBetween s = (s.position ≡ Head) × (s.head ≡ []) × (s.begun ≡ false)
 
 -- ---- the end of a frame
 

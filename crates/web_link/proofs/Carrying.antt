@@ -42,7 +42,7 @@ same_said old new before unsent said n e u s =
     let g : new.given ≡ old.given ++ take n before = ap (λ (l : LinkState). l.given) e in
     ap (λ x. new.given ++ x) u ∙ (ap (λ x. x ++ drop n before) g ∙ (append_assoc old.given (take n before) (drop n before) ∙ (ap (λ x. old.given ++ x) (take-append-drop n before) ∙ s)))
 
-all_sent : (w : Web) → Carries w → w.unsent ≡ [] → Says w.wire.given w.carried.given w.saying
+pub all_sent : (w : Web) → Carries w → w.unsent ≡ [] → Says w.wire.given w.carried.given w.saying
 all_sent w k none = subst (λ (bytes : List ℕ). Says bytes w.carried.given w.saying) (ap (λ x. w.wire.given ++ x) none ∙ append-nil w.wire.given) k.says
 
 as_between : (w : Web) (saying : Saying) → Says w.wire.given w.carried.given w.saying → w.saying ≡ saying → Says w.wire.given w.carried.given saying

@@ -4,7 +4,7 @@ use Rattle.std.specs.Int.{w16, to_be_bytes}
 use Rattle.websocket.specs.declared.protocol.frame.coding.Control.TheVariants.{Close, Ping}
 use Rattle.websocket.specs.Frame.{encode_frame}
 use Rattle.link.specs.Links.{LinkState}
-use Rattle.web_frames.specs.Frames.{Standing, fresh, after_bytes, data_in, control_header}
+use Rattle.web_frames.specs.Frames.{IsBetween, Standing, fresh, after_bytes, data_in, control_header}
 use Rattle.web_frames.specs.declared.position.Breach.{Breach}
 use Rattle.web_frames.specs.declared.position.Breach.TheVariants.{Protocol, Text}
 use Rattle.web_frames.specs.declared.position.Position.TheVariants.{Head, Payload, Ended}
@@ -45,6 +45,10 @@ pub record Carries (w : Web) : Type 0 where
   pub reads : w.reader ≡ after_bytes (fresh true) w.wire.taken
   pub taken : w.carried.taken ≡ data_in (fresh true) w.wire.taken
   pub says : Says (w.wire.given ++ w.unsent) w.carried.given w.saying
+
+-- Both ends stand between two messages, and nothing is unsent.
+abbrev pub IsAtRest : Web → Type 0
+IsAtRest w = (w.saying ≡ Between) × (w.unsent ≡ []) × IsBetween w.reader
 
 -- Where nothing is unsent and no message is begun, a close frame with this code follows (5.5.1).
 abbrev pub SaysClose : ℕ → (old new : Web) → Type 0

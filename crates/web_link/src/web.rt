@@ -61,9 +61,10 @@ impl<L: Link> Model for WebLink<L> {
 }
 
 impl<L: Link> WebLink<L> {
-    ghost use Rattle.std.specs.Prelude.{◌≡◌, ◌<◌, ◌≤◌, [], ◌++◌, length};
+    ghost use Rattle.std.specs.Prelude.{◌≡◌, ◌<◌, ◌≤◌, [], ◌++◌, IfSome, false, length, true};
     ghost use Rattle.link.specs.Links.{TakesAs, GivesAs, with_end, with_failure};
-    ghost use Rattle.web_link.specs.Web.{Carries, SaysClose, SaysPing, SaysNoMore};
+    ghost use Rattle.web_frames.specs.Frames.{data_in, fresh};
+    ghost use Rattle.web_link.specs.Web.{Carries, IsAtRest, SaysClose, SaysPing, SaysNoMore};
 
     /// A link in binary messages over a link that has taken and given nothing yet.
     pub fn new(link: L) -> WebLink<L>
@@ -90,6 +91,22 @@ impl<L: Link> WebLink<L> {
         ensures { L.state result.now ≡ self.now.wire }
     {
         &self.link
+    }
+
+    /// The link below, where this one is at rest: both ends stand between two messages, and nothing is unsent. So
+    /// another link of messages may begin over it as if nothing had been said. Otherwise it is `None`.
+    #[tactic(auto, using(crate::proofs::Carrying::all_sent))]
+    pub fn into_below(self) -> Option<L>
+        ensures below { IfSome result (λ link. L.state link ≡ self.wire) }
+        ensures rests { IfSome result (λ _. IsAtRest self) }
+        ensures taken { IfSome result (λ link. data_in (fresh true) (L.state link).taken ≡ self.carried.taken) }
+        ensures given { IfSome result (λ link. data_in (fresh false) (L.state link).given ≡ self.carried.given) }
+    {
+        if self.saying == Saying::Between && self.unsent.is_empty() && self.reader.is_between() {
+            Some(self.link)
+        } else {
+            None
+        }
     }
 
     /// It does nothing. Its clause says that, at every moment, the bytes taken and given are the data of the frames on

@@ -11,7 +11,7 @@ pub returns-in-Ok-told-clause-ok : goal.returns-in-Ok-told-clause-ok
 returns-in-Ok-told-clause-ok g c =
     let words = map g.S.AsStr.text c.args.words.now in
     let rows = (c.in-Ok-try_get_matches_from.ensures.matches (ap is_simple c.in-Ok.ensures)).0 ∙ ap (λ app. matches_of app words) c.in-Ok.ensures in
-    values_set (found_of c.in-Ok-try_get_matches_from.matches) words c.in-Ok-told.settings rows c.in-Ok-told.ensures.ok c.in-Ok-told.ensures.webs
+    values_set (found_of c.in-Ok-try_get_matches_from.matches) words c.in-Ok-told.settings rows c.in-Ok-told.ensures.ok
 
 pub returns-in-Ok-told-clause-faultless : goal.returns-in-Ok-told-clause-faultless
 returns-in-Ok-told-clause-faultless g c =
