@@ -195,18 +195,32 @@ def frame(opcode, payload, mask=True):
     return head + key + body
 
 
-class WebClient:
-    """A client of WebSockets that isn't a browser."""
+def payloads(frames):
+    """What a server's short frames carry, but for its close frame."""
+    out = b""
+    while len(frames) >= 2 and len(frames) >= 2 + frames[1]:
+        out += frames[2:2 + frames[1]] if frames[0] & 15 < 8 else b""
+        frames = frames[2 + frames[1]:]
+    return out
 
-    def __init__(self, port, host=None, origin=None, path="/websockify", timeout=20.0):
-        self.link = socket.create_connection(("127.0.0.1", port), timeout=timeout)
+
+def request(port, key="dGhlIHNhbXBsZSBub25jZQ==", host=None, origin=None, path="/websockify"):
+    """A request that opens a WebSocket (RFC 6455, section 4.1)."""
+    head = [f"GET {path} HTTP/1.1", f"Host: {host or f'127.0.0.1:{port}'}", "Upgrade: websocket",
+            "Connection: Upgrade", f"Sec-WebSocket-Key: {key}", "Sec-WebSocket-Version: 13"]
+    if origin:
+        head.append(f"Origin: {origin}")
+    return ("\r\n".join(head) + "\r\n\r\n").encode()
+
+
+class WebClient:
+    """A client of WebSockets that isn't a browser. Before its request it may say a proxy's header."""
+
+    def __init__(self, port, host=None, origin=None, path="/websockify", timeout=20.0, source="127.0.0.1", before=b""):
+        self.link = socket.create_connection(("127.0.0.1", port), timeout=timeout, source_address=(source, 0))
         self.link.setsockopt(socket.IPPROTO_TCP, socket.TCP_NODELAY, 1)
         key = base64.b64encode(os.urandom(16)).decode()
-        head = [f"GET {path} HTTP/1.1", f"Host: {host or f'127.0.0.1:{port}'}", "Upgrade: websocket",
-                "Connection: Upgrade", f"Sec-WebSocket-Key: {key}", "Sec-WebSocket-Version: 13"]
-        if origin:
-            head.append(f"Origin: {origin}")
-        self.link.sendall(("\r\n".join(head) + "\r\n\r\n").encode())
+        self.link.sendall(before + request(port, key, host, origin, path))
         answer = b""
         while b"\r\n\r\n" not in answer:
             more = self.link.recv(4096)
@@ -385,6 +399,11 @@ class Chromium:
             words = {"key": letter, "code": code, "windowsVirtualKeyCode": ord(letter.upper())}
             self.call("Input.dispatchKeyEvent", {"type": "keyDown", "text": letter, **words})
             self.call("Input.dispatchKeyEvent", {"type": "keyUp", **words})
+
+    def enter(self):
+        words = {"key": "Enter", "code": "Enter", "windowsVirtualKeyCode": 13}
+        self.call("Input.dispatchKeyEvent", {"type": "keyDown", "text": "\r", **words})
+        self.call("Input.dispatchKeyEvent", {"type": "keyUp", **words})
 
     def shift(self, kind):
         words = {"key": "Shift", "code": "ShiftLeft", "windowsVirtualKeyCode": 16, "modifiers": 8}

@@ -87,6 +87,12 @@ def is_open(port):
     return False
 
 
+def connections_to(port):
+    """How many connections to the port of 127.0.0.1 there are."""
+    lines = pathlib.Path("/proc/net/tcp").read_text().splitlines()[1:]
+    return sum(line.split()[2].endswith(f":{port:04X}") and line.split()[3] == "01" for line in lines)
+
+
 def free_port():
     """A port of 127.0.0.1 that nobody has, above those of X displays."""
     while True:

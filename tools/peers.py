@@ -24,6 +24,14 @@ PACKAGES = {
     "xsetroot": "x11-xserver-utils",
 }
 
+# What the parts with passwords of tools/try-peers need besides.
+LOCKED_PACKAGES = {
+    "remmina": "remmina remmina-plugin-vnc",
+    "dbus-run-session": "dbus-daemon",
+    "vncpasswd": "tigervnc-tools",
+    "openssl": "openssl",
+}
+
 WIDTH, HEIGHT = 640, 480
 
 # A host may paint its pointer into its screen: this many pixels around it aren't compared.
@@ -79,11 +87,20 @@ class Picture:
         return Picture(self.width, self.height, rows)
 
 
+def dump(display):
+    """What xwd says of an X server. It fails where a window goes while it reads; then it is asked again."""
+    for _ in range(5):
+        words = ["xwd", "-root", "-silent", "-display", f":{display}"]
+        done = subprocess.run(words, stdout=subprocess.PIPE, stderr=subprocess.DEVNULL, timeout=20)
+        if done.returncode == 0:
+            return done.stdout
+        loopback.wait_until(lambda: False, 0.3)
+    raise RuntimeError(f"xwd doesn't read display :{display}")
+
+
 def from_x(display):
     """What an X server shows (the format of xwd)."""
-    data = subprocess.run(
-        ["xwd", "-root", "-silent", "-display", f":{display}"], stdout=subprocess.PIPE, check=True, timeout=20
-    ).stdout
+    data = dump(display)
     head = struct.unpack(">25I", data[:100])
     width, height, line = head[4], head[5], head[12]
     size = head[11] // 8
@@ -261,15 +278,22 @@ HOSTS = {it.name: it for it in (Xvnc, X0vncserver, X11vnc, Qemu)}
 class Viewer:
     """A viewer on an X server of its own, somewhat larger than the host's screen."""
 
-    def __init__(self, kind, low, port, looks_on, room):
-        self.low, self.looks_on = low, looks_on
+    def __init__(self, kind, low, port, looks_on, room, more=()):
+        self.low, self.looks_on, self.room = low, looks_on, room
         self.name = kind + (", low colour" if low else "") + (", looks on" if looks_on else "")
-        self.display = start_x(["Xvfb", "-screen", "0", "1024x768x24", "-nolisten", "tcp"])
+        self.display = start_x(["Xvfb", "-screen", "0", "1024x768x24", "-nolisten", "tcp", "-noreset"])
+        self.server = loopback.children[-1]
         subprocess.run(["xsetroot", "-solid", "#102030"], env=environment(self.display), check=True, timeout=20)
-        words = [*COMMANDS[kind], *(low[0] if low else ())]
         self.offset = None
+        words = self.command(kind, port, more)
+        self.child = loopback.start(words, env=environment(self.display) | self.own_environment())
+
+    def command(self, kind, port, more):
         address = f"127.0.0.1:{port - 5900}" if kind == "gvncviewer" else f"127.0.0.1::{port}"
-        self.child = loopback.start([*words, address], env=environment(self.display) | {"HOME": str(room)})
+        return [*COMMANDS[kind], *more, *(self.low[0] if self.low else ()), address]
+
+    def own_environment(self):
+        return {"HOME": str(self.room)}
 
     def shows(self, host, pointer):
         """Whether the host's picture stands in the viewer's window, but for the pointer."""
@@ -345,6 +369,12 @@ class Viewer:
 
     def end(self):
         loopback.end(self.child)
+        loopback.end(self.server, 0.5)
+
+    def windows(self):
+        """The names of the windows that it shows."""
+        found = xdotool(self.display, "search", "--onlyvisible", "--name", ".+").split()
+        return [xdotool(self.display, "getwindowname", window).strip() for window in found]
 
 
 def version(package):
@@ -354,5 +384,6 @@ def version(package):
 
 def versions():
     """The packages of hosts and viewers, as Debian names their versions."""
-    names = [it for it in PACKAGES.values() if it not in ("xdotool", "x11-apps", "xterm", "x11-xserver-utils")]
+    tools = ("xdotool", "x11-apps", "xterm", "x11-xserver-utils")
+    names = [it for it in PACKAGES.values() if it not in tools] + ["remmina"]
     return ", ".join(f"{name} {version(name)}" for name in dict.fromkeys(names))
