@@ -1,6 +1,8 @@
 //! Tests of lines that are requests and of lines that aren't, and of a sequence of comings, leavings and requests.
 
+use roles::Role;
 use run_control::{Doors, Entry, Form, Outcome, Place, Request};
+use std::net::{IpAddr, Ipv4Addr, Ipv6Addr, SocketAddr};
 use std::test::Fail;
 
 #[test]
@@ -18,6 +20,67 @@ fn lines_are_read(rt: HostRuntime) {
         ("end 18446744073709551615", Request::End(u64::MAX)),
     ] {
         assert_eq!(rt; Request::read(line), Some(request), "{line}");
+    }
+}
+
+#[test]
+fn calls_are_read(rt: HostRuntime) {
+    let v4 = |a, b, d, e, port| SocketAddr::new(IpAddr::V4(Ipv4Addr::new(a, b, d, e)), port);
+    let v6 = |last, port| {
+        let ip = Ipv6Addr::new(0x2001, 0xdb8, 0, 0, 0, 0, 0, last);
+        SocketAddr::new(IpAddr::V6(ip), port)
+    };
+    for (line, role, address) in [
+        (
+            "call full 192.0.2.7:5500",
+            Role::Full,
+            v4(192, 0, 2, 7, 5500),
+        ),
+        ("call view 127.0.0.1:1", Role::View, v4(127, 0, 0, 1, 1)),
+        (
+            "call view 192.0.2.255:65535",
+            Role::View,
+            v4(192, 0, 2, 255, 65535),
+        ),
+        ("call full [2001:db8::7]:5500", Role::Full, v6(7, 5500)),
+        ("call view [2001:DB8:0:0::9]:5500", Role::View, v6(9, 5500)),
+    ] {
+        assert_eq!(rt;
+            Request::read(line),
+            Some(Request::Call(role, address)),
+            "{line}"
+        );
+    }
+}
+
+#[test]
+fn other_calls_are_not(rt: HostRuntime) {
+    for line in [
+        "call",
+        "call ",
+        "call full",
+        "call full ",
+        "call 192.0.2.7:5500",
+        "call 192.0.2.7:5500 full",
+        "call both 192.0.2.7:5500",
+        "call Full 192.0.2.7:5500",
+        "call full  192.0.2.7:5500",
+        "call full 192.0.2.7:5500 ",
+        "call full 192.0.2.7",
+        "call full 192.0.2.7:",
+        "call full 192.0.2.7:0",
+        "call view [2001:db8::7]:0",
+        "call full 192.0.2.7:65536",
+        "call full 192.0.2.256:5500",
+        "call full 2001:db8::7:5500",
+        "call full [2001:db8::7]",
+        "call full [192.0.2.7]:5500",
+        "call full wall.example:5500",
+        "call full localhost:5500",
+        "call full :5500",
+        "calls full 192.0.2.7:5500",
+    ] {
+        assert_eq!(rt; Request::read(line), None, "{line}");
     }
 }
 
@@ -56,6 +119,12 @@ fn other_lines_are_not(rt: HostRuntime) {
     }
 }
 
+/// A request for the viewer that listens at an address.
+fn a_call() -> Request {
+    let ip = IpAddr::V4(Ipv4Addr::new(192, 0, 2, 7));
+    Request::Call(Role::View, SocketAddr::new(ip, 5500))
+}
+
 #[test]
 fn a_drained_door_lets_nobody_in(rt: HostRuntime) -> Result<(), Fail> {
     let mut doors = Doors::new(rt.alloc(), 3)?;
@@ -70,7 +139,10 @@ fn a_drained_door_lets_nobody_in(rt: HostRuntime) -> Result<(), Fail> {
     assert!(rt; !doors.is_asked(2));
     doors.leave(2);
     assert!(rt; !doors.enter(2));
+    assert_eq!(rt; doors.ask(a_call()), Outcome::Drained);
     assert_eq!(rt; doors.ask(Request::Undrain), Outcome::Done);
+    assert_eq!(rt; doors.ask(a_call()), Outcome::Done);
+    assert_eq!(rt; (doors.place(1), doors.free()), (Some(Place::Free), 3));
     assert!(rt; doors.enter(2) && doors.enter(1));
     assert_eq!(rt; doors.free(), 1);
     Ok(())
@@ -102,6 +174,7 @@ fn one_is_asked_to_leave_and_then_all(rt: HostRuntime) -> Result<(), Fail> {
         (true, true, false)
     );
     assert_eq!(rt; doors.ask(Request::Next), Outcome::Ending);
+    assert_eq!(rt; doors.ask(a_call()), Outcome::Ending);
     assert_eq!(rt; doors.ask(Request::Undrain), Outcome::Ending);
     assert_eq!(rt; doors.ask(Request::Drain), Outcome::Done);
     assert_eq!(rt; doors.entry(), Entry::Closed);

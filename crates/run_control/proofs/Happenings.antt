@@ -6,7 +6,7 @@ use Rattle.run_control.specs.declared.doors.Place.{Place}
 use Rattle.run_control.specs.declared.doors.Place.TheVariants.{Free, Taken, Leaving}
 use Rattle.run_control.specs.declared.doors.Entry.{Entry}
 use Rattle.run_control.specs.declared.doors.Entry.TheVariants.{Open, Drained, Closed}
-use Rattle.run_control.specs.declared.request.Request.TheVariants.{State, Drain, Undrain, End, Next, Stop}
+use Rattle.run_control.specs.declared.request.Request.TheVariants.{State, Drain, Undrain, End, Next, Call, Stop}
 use Rattle.run_control.specs.Doors.{Standing, place_at, with_place, is_open, is_vacant, asks, is_asked, is_let_in, takes_if, after_coming, drained, undrained, ended, after_request}
 use Rattle.run_control.specs.Runs.{Happening, Asked, Comes, Leaves, after_happening, after_all, NobodyComesInAfterAStop, Spares, WhoeverIsThereStays}
 
@@ -86,6 +86,7 @@ still_closed s (Asked Drain) e = ap drained e
 still_closed s (Asked Undrain) e = ap undrained e
 still_closed s (Asked (End n)) e = ended_entry (place_at s n) s n ∙ e
 still_closed s (Asked Next) e = e
+still_closed s (Asked (Call role address)) e = e
 still_closed s (Asked Stop) e = refl
 still_closed s (Comes n) e = ap (λ (t : Standing). t.entry) (not_let_in s n e) ∙ e
 still_closed s (Leaves n) e = entry_same s n Free ∙ e
@@ -107,6 +108,7 @@ still_vacant s (Asked Drain) k e free = same_places s (drained s.entry) k ∙ fr
 still_vacant s (Asked Undrain) k e free = same_places s (undrained s.entry) k ∙ free
 still_vacant s (Asked (End n)) k e free = ended_vacant s n k (place_at s n) refl free
 still_vacant s (Asked Next) k e free = free
+still_vacant s (Asked (Call role address)) k e free = free
 still_vacant s (Asked Stop) k e free = same_places s Closed k ∙ free
 still_vacant s (Comes n) k e free = ap (λ (t : Standing). place_at t k) (not_let_in s n e) ∙ free
 still_vacant s (Leaves n) k e free = left_vacant s n k (same k n) free
@@ -196,6 +198,7 @@ still_spared s (Asked Drain) n spares unasked = ap (asks (drained s.entry)) (sam
 still_spared s (Asked Undrain) n spares unasked = ap (asks (undrained s.entry)) (same_places s (undrained s.entry) n) ∙ undrained_asks s.entry (place_at s n) unasked
 still_spared s (Asked (End k)) n spares unasked = ended_asks s k n (place_at s k) (λ e. spares.0 (ap End (sym e))) unasked
 still_spared s (Asked Next) n spares unasked = unasked
+still_spared s (Asked (Call role address)) n spares unasked = unasked
 still_spared s (Asked Stop) n spares unasked = absurd (spares.1 refl)
 still_spared s (Comes k) n spares unasked = comes_asks s k n (is_let_in s k) refl (same n k) unasked
 still_spared s (Leaves k) n spares unasked = leaves_asks s k n (place_at s k) refl (same n k) unasked

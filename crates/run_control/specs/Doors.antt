@@ -7,7 +7,7 @@ use Rattle.run_control.specs.declared.doors.Entry.TheVariants.{Open, Drained, Cl
 use Rattle.run_control.specs.declared.doors.Outcome.{Outcome}
 use Rattle.run_control.specs.declared.doors.Outcome.TheVariants as outcome
 use Rattle.run_control.specs.declared.request.Request.{Request}
-use Rattle.run_control.specs.declared.request.Request.TheVariants.{State, Drain, Undrain, End, Next, Stop}
+use Rattle.run_control.specs.declared.request.Request.TheVariants.{State, Drain, Undrain, End, Next, Call, Stop}
 
 -- Whether viewers are let in, and how each place stands.
 pub record Standing : Type 0 where
@@ -98,6 +98,7 @@ after_request s Drain = record s { entry = drained s.entry }
 after_request s Undrain = record s { entry = undrained s.entry }
 after_request s (End n) = ended (place_at s n) s n
 after_request s Next = s
+after_request s (Call role address) = s
 after_request s Stop = record s { entry = Closed }
 
 -- What a request to end a place's viewer is answered.
@@ -113,10 +114,17 @@ outcome_unless_closed Closed = outcome.Ending
 outcome_unless_closed Open = outcome.Done
 outcome_unless_closed Drained = outcome.Done
 
+-- What is answered to a request for one more viewer.
+abbrev pub outcome_if_open : Entry → Outcome
+outcome_if_open Open = outcome.Done
+outcome_if_open Drained = outcome.Drained
+outcome_if_open Closed = outcome.Ending
+
 abbrev pub outcome_of : Standing → Request → Outcome
 outcome_of s (State form) = outcome.Done
 outcome_of s Drain = outcome.Done
 outcome_of s Undrain = outcome_unless_closed s.entry
 outcome_of s (End n) = outcome_at (place_at s n)
 outcome_of s Next = outcome_unless_closed s.entry
+outcome_of s (Call role address) = outcome_if_open s.entry
 outcome_of s Stop = outcome.Done

@@ -1,9 +1,11 @@
 -- What happens at the doors of a run, one after another, and how the doors stand then.
 use Rattle.std.specs.Prelude.{◌≡◌, ◌≢◌, ℕ, true, false, List, [], ◌∷◌, All, Some}
+use Rattle.std.specs.declared.net.socket_addr.SocketAddr.{SocketAddr}
+use Rattle.roles.specs.declared.role.Role.{Role}
 use Rattle.run_control.specs.declared.doors.Place.TheVariants.{Free, Taken}
 use Rattle.run_control.specs.declared.doors.Entry.TheVariants.{Open}
 use Rattle.run_control.specs.declared.request.Request.{Request}
-use Rattle.run_control.specs.declared.request.Request.TheVariants.{End, Next, Stop}
+use Rattle.run_control.specs.declared.request.Request.TheVariants.{End, Next, Call, Stop}
 use Rattle.run_control.specs.Doors.{Standing, place_at, is_asked, after_coming, after_leaving, after_request}
 
 -- A request is made, a viewer comes to a place, or a viewer leaves its place.
@@ -35,6 +37,9 @@ EndAsksOnePlace = (s : Standing) (n : ℕ) → place_at s n ≡ Some Taken → A
 
 abbrev pub NextChangesNoDoor : Type 0
 NextChangesNoDoor = (s : Standing) → after_request s Next ≡ s
+
+abbrev pub CallChangesNoDoor : Type 0
+CallChangesNoDoor = (s : Standing) (role : Role) (address : SocketAddr) → after_request s (Call role address) ≡ s
 
 -- Each viewer is asked to leave, and no place gets one.
 pub record NobodyComesIn (old new : Standing) : Type 0 where

@@ -35,6 +35,8 @@ pub enum Outcome {
     NoPlace,
     /// The place has no viewer.
     Nobody,
+    /// Nobody is let in, until an operator lets viewers in again.
+    Drained,
     /// The run ends already: nobody is let in again.
     Ending,
 }
@@ -56,7 +58,7 @@ impl Model for Doors {
 
 impl Doors {
     ghost use Rattle.std.specs.Prelude.{◌≡◌, IfOk, length, replicate, count_by};
-    ghost use Rattle.run_control.specs.Doors.{after_coming, after_leaving, after_request, free_places, is_asked, is_let_in, outcome_of, outcome_unless_closed, place_at, with_place};
+    ghost use Rattle.run_control.specs.Doors.{after_coming, after_leaving, after_request, free_places, is_asked, is_let_in, outcome_if_open, outcome_of, outcome_unless_closed, place_at, with_place};
 
     /// Open doors with this many places, all of them free. It fails where memory for the places is refused.
     pub fn new(alloc: Global, places: usize) -> Result<Doors, AllocError>
@@ -174,6 +176,17 @@ impl Doors {
         }
     }
 
+    /// What is answered to a request for one more viewer.
+    fn outcome_if_open(&self) -> Outcome
+        ensures { result ≡ outcome_if_open self.now.entry }
+    {
+        match self.entry {
+            Entry::Open => Outcome::Done,
+            Entry::Drained => Outcome::Drained,
+            Entry::Closed => Outcome::Ending,
+        }
+    }
+
     /// Lets viewers in again, if the run doesn't end.
     fn reopen(&mut self) -> Outcome
         ensures after { self.new ≡ after_request self.old Request.Undrain }
@@ -186,8 +199,9 @@ impl Doors {
         outcome
     }
 
-    /// Does what is asked, and answers what became of it. `State` changes nothing. Nor does `Next`, since doors know
-    /// nothing of hosts: its answer says whether the run ends.
+    /// Does what is asked, and answers what became of it. `State` changes nothing. Nor do `Next` and `Call`, since
+    /// doors know nothing of hosts, and a viewer that is called comes like any other: their answers say whether the
+    /// run ends and, to a call, whether viewers are let in.
     pub fn ask(&mut self, request: Request) -> Outcome
         ensures after { self.new ≡ after_request self.old request }
         ensures outcome { result ≡ outcome_of self.old request }
@@ -203,6 +217,7 @@ impl Doors {
             Request::Undrain => self.reopen(),
             Request::End(number) => self.end(number),
             Request::Next => self.outcome_unless_closed(),
+            Request::Call(_, _) => self.outcome_if_open(),
             Request::Stop => {
                 self.entry = Entry::Closed;
                 Outcome::Done

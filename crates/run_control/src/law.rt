@@ -1,6 +1,6 @@
 //! Laws about the requests of a run, whatever happens before and after them.
 
-ghost use Rattle.run_control.specs.Runs.{DrainedDoorsLetNobodyIn, EndAsksOnePlace, NextChangesNoDoor, NobodyComesInAfterAStop, WhoeverIsThereStays};
+ghost use Rattle.run_control.specs.Runs.{CallChangesNoDoor, DrainedDoorsLetNobodyIn, EndAsksOnePlace, NextChangesNoDoor, NobodyComesInAfterAStop, WhoeverIsThereStays};
 
 /// Where viewers aren't let in, a viewer that comes changes nothing.
 pub fn drained_doors_let_nobody_in()
@@ -16,6 +16,12 @@ pub fn end_asks_one_place()
 /// `next` is asked of the hosts alone: who is there has its place as before, and who may come in may come in.
 pub fn next_changes_no_door()
     ensures { NextChangesNoDoor }
+{}
+
+/// `call` brings one more newcomer, and no place: who is there has its place as before, and the viewer that was called
+/// comes to a place like any other.
+pub fn call_changes_no_door()
+    ensures { CallChangesNoDoor }
 {}
 
 /// After a `stop`, whatever is asked and whoever comes and leaves then, each viewer that has a place is asked to leave,

@@ -2,9 +2,16 @@
 
 ghost use Rattle.std.specs.Prelude.{◌≡◌, ◌≢◌, ◌<◌, ◌^◌, ◌==◌, ◌&&◌, ◌||◌, ℕ, IfSome, IfNone, length, nat_lt, slice_index};
 ghost use Rattle.std.specs.Fmt.{decimal};
-ghost use Rattle.run_control.specs.Request.{IsInRange, Says};
+ghost use Rattle.std.specs.Net.Grammar.{IsSocketText};
+ghost use Rattle.std.specs.Net.Socket.{socket_port};
+ghost use Rattle.std.specs.declared.net.socket_addr.SocketAddr.{SocketAddr as Address};
+ghost use Rattle.roles.specs.declared.role.Role.{Role as Roles};
+ghost use Rattle.run_control.specs.Request.{IsInRange, Says, call_in};
 ghost use Rattle.run_control.specs.declared.request.Request as declared;
 ghost use Rattle.run_control.specs.declared.request.Request.TheVariants as request;
+
+use roles::Role;
+use std::net::SocketAddr;
 
 /// The form in which an answer is written.
 #[derive(Clone, Copy, Debug, PartialEq, Eq)]
@@ -28,6 +35,9 @@ pub enum Request {
     End(u64),
     /// That the host is left for the next one: `next`. Viewers stay.
     Next,
+    /// That the viewer which listens at this address is connected to, and served in this role: `call ROLE IP:PORT`. The
+    /// address has no name and a port other than 0.
+    Call(Role, SocketAddr),
     /// That all viewers leave, and the run ends: `stop`.
     Stop,
 }
@@ -45,7 +55,7 @@ impl Request {
             "undrain" => Some(Request::Undrain),
             "next" => Some(Request::Next),
             "stop" => Some(Request::Stop),
-            _ => end_request(line),
+            _ => longer_request(line),
         }
     }
 }
@@ -58,6 +68,55 @@ fn end_request(line: &str) -> Option<Request>
     let place = line.strip_prefix("end ")?;
     let place = number(place)?;
     Some(Request::End(place))
+}
+
+/// How a call in this role begins.
+fn call_in(role: Role) -> &'static str
+    ensures { result.now ≡ call_in role }
+{
+    match role {
+        Role::Full => "call full ",
+        Role::View => "call view ",
+    }
+}
+
+/// `call full IP:PORT` or `call view IP:PORT`: the viewer that listens there is called in this role.
+fn call_request(line: &str, role: Role) -> Option<Request>
+    ensures found { IfSome result (λ request. IsInRange request × Says request line.now) }
+    ensures none { IfNone result ((address : Address) → 0 < socket_port address → ¬ Says (request.Call role address) line.now) }
+{
+    let said = line.strip_prefix(call_in(role))?;
+    let address = callable(said)?;
+    Some(Request::Call(role, address))
+}
+
+/// A request of several words: `end PLACE`, or `call ROLE IP:PORT`.
+#[tactic(auto, using(crate::proofs::Calls::in_neither_role))]
+fn longer_request(line: &str) -> Option<Request>
+    ensures found { IfSome result (λ request. IsInRange request × Says request line.now) }
+    ensures no_end { IfNone result ((place : ℕ) → place < 2 ^ 64 → ¬ Says (request.End place) line.now) }
+    ensures no_call { IfNone result ((role : Roles) (address : Address) → 0 < socket_port address → ¬ Says (request.Call role address) line.now) }
+{
+    if let Some(request) = end_request(line) {
+        return Some(request);
+    }
+    if let Some(request) = call_request(line, Role::Full) {
+        return Some(request);
+    }
+    call_request(line, Role::View)
+}
+
+/// The address that a text says, with a port at which somebody may listen.
+#[tactic(auto, using(crate::proofs::Calls::no_port))]
+fn callable(text: &str) -> Option<SocketAddr>
+    ensures found { IfSome result (λ address. IsSocketText text.now address × (0 < socket_port address)) }
+    ensures none { IfNone result ((address : Address) → 0 < socket_port address → ¬ IsSocketText text.now address) }
+{
+    let address = text.parse::<SocketAddr>().ok()?;
+    if address.port() == 0 {
+        return None;
+    }
+    Some(address)
 }
 
 /// Whether a text has a plus or a leading zero, which `parse` would take.

@@ -116,6 +116,7 @@ fn outcome_text(outcome: Outcome) -> &'static str {
         Outcome::Done => "done\n",
         Outcome::NoPlace => "error: there is no such place\n",
         Outcome::Nobody => "error: the place has no viewer\n",
+        Outcome::Drained => "error: nobody is let in: undrain lets viewers in again\n",
         Outcome::Ending => "error: the run ends already\n",
     }
 }
