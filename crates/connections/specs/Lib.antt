@@ -9,3 +9,4 @@ pub mod Greetings
 pub mod Unlocked
 pub mod Callers
 pub mod Guessing
+pub mod Calls

@@ -119,6 +119,15 @@ impl Port for WebEntry {
         self.lobby.is_closed(rt)
     }
 
+    /// No browser is called.
+    fn called<R: Wait + Clock + RandomSource>(
+        &self,
+        _rt: &R,
+        _means: &RandomState,
+    ) -> Option<WebNewcomer> {
+        None
+    }
+
     /// The next newcomer, as a caller that asks this port's site and may be let to its lobby.
     fn accept<R: Clock + RandomSource>(
         &self,

@@ -7,6 +7,7 @@
 
 mod account;
 mod bare;
+mod called;
 mod caller;
 mod desk;
 mod everyone;
@@ -38,6 +39,7 @@ mod web;
 mod whence;
 mod writer_seat;
 
+pub use called::{NotCalled, RoleCaller};
 pub use caller::WebEntry;
 pub use desk::{Comer, Desk, HostCard, RunCard, Totals, ViewerCard};
 pub use everyone::Everyone;

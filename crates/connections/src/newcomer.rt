@@ -1,18 +1,20 @@
 //! Newcomers to a port over TCP, and the port.
 
-ghost use Rattle.std.specs.Prelude.{◌≡◌, ◌↔◌, IfOk, IsTrue};
+ghost use Rattle.std.specs.Prelude.{◌≡◌, ◌↔◌, IfOk, IfSome, IsTrue, [], false};
 ghost use Rattle.std.specs.Arc.{arc_value};
 ghost use Rattle.connections.specs.Greetings.{IsFromProxy};
 
+use crate::called::RoleCaller;
 use crate::key::draw;
 use crate::knocker::Knocker;
 use crate::lobby::{Entrance, Lobby};
 use crate::noted::Noted;
 use crate::options::outlast;
 use crate::port::{Newcomer, Port, Progress};
-use crate::role_listener::{Entrant, RoleListener};
+use crate::role_listener::{Arrival, Entrant, RoleListener};
 use mio::net::{TcpListener, TcpStream};
 use mio::{Interest, Registry, Token};
+use roles::Role;
 use run_traits::{Event, Way};
 use std::alloc::Global;
 use std::io;
@@ -54,33 +56,24 @@ impl TcpEntry {
             lobby,
         })
     }
-}
 
-impl Port for TcpEntry {
-    type Comer = TcpNewcomer;
-
-    type Means = ();
-
-    fn heard(&mut self) -> &mut TcpListener {
-        &mut self.heard
+    /// The role of its newcomers.
+    pub(crate) fn role(&self) -> Role
+        ensures { result ≡ self.now.listener.role }
+    {
+        self.listener.role()
     }
 
-    fn is_closed<R: Wait>(&self, rt: &R) -> bool {
-        self.lobby.is_closed(rt)
-    }
-
-    fn accept<R: Clock + RandomSource>(
-        &self,
-        rt: &R,
-        _alloc: Global,
-        _means: &(),
-    ) -> io::Result<TcpNewcomer>
+    /// A newcomer that is greeted from now on, with a challenge of its own.
+    fn greet<R: Clock + RandomSource>(&self, rt: &R, arrival: Arrival) -> io::Result<TcpNewcomer>
+        requires role { arrival.role ≡ self.now.listener.role }
+        requires key { arrival.key ≡ self.now.listener.key }
+        requires front { arrival.whence.front ≡ [] }
         ensures role { IfOk result (λ comer. comer.knocker.role ≡ self.now.listener.role) }
         ensures key { IfOk result (λ comer. comer.knocker.greeting.key ≡ self.now.listener.key) }
-        ensures proxied { IfOk result (λ comer. IsTrue comer.knocker.greeting.whence.is_proxied ↔ IsFromProxy self.now.listener.proxy comer.knocker.greeting.whence.peer) }
+        ensures whence { IfOk result (λ comer. comer.knocker.greeting.whence ≡ arrival.whence) }
         ensures lobby { IfOk result (λ comer. arc_value comer.knocker.lobby ≡ arc_value self.now.lobby) }
     {
-        let arrival = self.listener.accept()?;
         arrival.stream().set_nonblocking(true)?;
         outlast(arrival.stream(), self.lobby.stalled())?;
         let role = arrival.role();
@@ -95,6 +88,53 @@ impl Port for TcpEntry {
                 lobby,
             },
         })
+    }
+}
+
+impl Port for TcpEntry {
+    type Comer = TcpNewcomer;
+
+    // Those who were called come with the others.
+    type Means = Arc<RoleCaller, Global>;
+
+    fn heard(&mut self) -> &mut TcpListener {
+        &mut self.heard
+    }
+
+    fn is_closed<R: Wait>(&self, rt: &R) -> bool {
+        self.lobby.is_closed(rt)
+    }
+
+    /// The next viewer that was called, which is greeted like any newcomer to this port, and asked for the password
+    /// where the port is locked. No header of a proxy is wanted of it.
+    fn called<R: Wait + Clock + RandomSource>(
+        &self,
+        rt: &R,
+        means: &Arc<RoleCaller, Global>,
+    ) -> Option<TcpNewcomer>
+        ensures role { IfSome result (λ comer. comer.knocker.role ≡ self.now.listener.role) }
+        ensures key { IfSome result (λ comer. comer.knocker.greeting.key ≡ self.now.listener.key) }
+        ensures direct { IfSome result (λ comer. comer.knocker.greeting.whence.is_proxied ≡ false) }
+        ensures lobby { IfSome result (λ comer. arc_value comer.knocker.lobby ≡ arc_value self.now.lobby) }
+    {
+        let called = means.next(rt)?;
+        let arrival = self.listener.take_in(called)?;
+        self.greet(rt, arrival).ok()
+    }
+
+    fn accept<R: Clock + RandomSource>(
+        &self,
+        rt: &R,
+        _alloc: Global,
+        _means: &Arc<RoleCaller, Global>,
+    ) -> io::Result<TcpNewcomer>
+        ensures role { IfOk result (λ comer. comer.knocker.role ≡ self.now.listener.role) }
+        ensures key { IfOk result (λ comer. comer.knocker.greeting.key ≡ self.now.listener.key) }
+        ensures proxied { IfOk result (λ comer. IsTrue comer.knocker.greeting.whence.is_proxied ↔ IsFromProxy self.now.listener.proxy comer.knocker.greeting.whence.peer) }
+        ensures lobby { IfOk result (λ comer. arc_value comer.knocker.lobby ≡ arc_value self.now.lobby) }
+    {
+        let arrival = self.listener.accept()?;
+        self.greet(rt, arrival)
     }
 }
 

@@ -57,6 +57,13 @@ pub(crate) trait Port: Drop {
     /// Whether nobody is let to its lobby any more.
     fn is_closed<R: Wait>(&self, rt: &R) -> bool;
 
+    /// The next newcomer that was called, if one waits. Whether it may come is seen as of any other.
+    fn called<R: Wait + Clock + RandomSource>(
+        &self,
+        rt: &R,
+        means: &Self::Means,
+    ) -> Option<Self::Comer>;
+
     /// The next newcomer. The call doesn't wait for one.
     fn accept<R: Clock + RandomSource>(
         &self,

@@ -1,5 +1,9 @@
 //! Porters: a porter is one thread for all that comes before a link, at the web ports of a run or at a port over TCP.
 
+ghost use Rattle.std.specs.Prelude.{◌≡◌, IfOk};
+ghost use Rattle.std.specs.Arc.{arc_value};
+
+use crate::called::RoleCaller;
 use crate::caller::WebEntry;
 use crate::guesses::Guesses;
 use crate::lobby::Entrance;
@@ -9,7 +13,7 @@ use crate::refused::Refused;
 use crate::seat::Seat;
 use mio::{Events, Interest, Poll, Token};
 use run_traits::{Alarm, Log};
-use std::alloc::Global;
+use std::alloc::{AllocError, Global};
 use std::hash::RandomState;
 use std::io;
 use std::net::{Net, SocketAddr};
@@ -99,13 +103,9 @@ struct Porch<P: Port> {
 }
 
 impl<P: Port> Porch<P> {
-    fn new(
-        net: &impl Net,
-        alloc: Global,
-        mut entries: Vec<P>,
-        means: P::Means,
-    ) -> io::Result<Porch<P>> {
-        let poll = Poll::new(net)?;
+    fn new(alloc: Global, poll: Poll, mut entries: Vec<P>, means: P::Means) -> io::Result<Porch<P>>
+        ensures { IfOk result (λ porch. porch.means ≡ means) }
+    {
         for (number, entry) in entries.iter_mut().enumerate() {
             let heard = entry.heard();
             poll.registry()
@@ -122,10 +122,13 @@ impl<P: Port> Porch<P> {
         })
     }
 
-    /// The next newcomer of a port.
-    fn accept<R: Clock + RandomSource>(&self, rt: &R, port: usize) -> Option<P::Comer> {
+    /// The next newcomer of a port. Those who were called come first, since others may keep coming.
+    fn accept<R: Wait + Clock + RandomSource>(&self, rt: &R, port: usize) -> Option<P::Comer> {
         let entry = self.entries.get(port)?;
-        entry.accept(rt, self.alloc, &self.means).ok()
+        match entry.called(rt, &self.means) {
+            Some(comer) => Some(comer),
+            None => entry.accept(rt, self.alloc, &self.means).ok(),
+        }
     }
 
     /// Puts a newcomer into this slot, and hears it from now on. A newcomer that can't be heard is let go.
@@ -138,7 +141,7 @@ impl<P: Port> Porch<P> {
 
     /// Lets the next newcomer of a port ask, where a slot is free. It answers false where none is free, or no newcomer
     /// came.
-    fn let_one_ask<R: Clock + RandomSource>(&mut self, rt: &R, port: usize) -> bool {
+    fn let_one_ask<R: Wait + Clock + RandomSource>(&mut self, rt: &R, port: usize) -> bool {
         let Some(place) = self.guests.free() else {
             return false;
         };
@@ -152,7 +155,7 @@ impl<P: Port> Porch<P> {
     }
 
     /// Lets all newcomers of a port ask, while there is room.
-    fn let_ask<R: Clock + RandomSource>(&mut self, rt: &R, port: usize) {
+    fn let_ask<R: Wait + Clock + RandomSource>(&mut self, rt: &R, port: usize) {
         for _ in 0..MOST_GUESTS {
             if !self.let_one_ask(rt, port) {
                 return;
@@ -235,7 +238,7 @@ impl<P: Port> Porch<P> {
 
     /// Lets the newcomers ask that wait at the ports. A poll hears a port once for all of them, so each port is looked
     /// at whenever a slot may be free.
-    fn let_all_ask<R: Clock + RandomSource>(&mut self, rt: &R) {
+    fn let_all_ask<R: Wait + Clock + RandomSource>(&mut self, rt: &R) {
         for port in 0..self.entries.len() {
             self.let_ask(rt, port);
         }
@@ -300,7 +303,7 @@ impl WebPorter {
         keys: RandomState,
     ) -> io::Result<WebPorter> {
         Ok(WebPorter {
-            porch: Porch::new(net, alloc, entries, keys)?,
+            porch: Porch::new(alloc, Poll::new(net)?, entries, keys)?,
             events: Events::with_capacity(alloc, MOST_EVENTS)?,
         })
     }
@@ -338,13 +341,25 @@ pub struct TcpPorter {
 
 impl TcpPorter {
     /// The porter of this port. It fails where memory is refused, or a poll by the system.
-    pub fn new(net: &impl Net, alloc: Global, entry: TcpEntry) -> io::Result<TcpPorter> {
+    pub fn new(net: &impl Net, alloc: Global, entry: TcpEntry) -> io::Result<TcpPorter>
+        ensures { IfOk result (λ porter. (arc_value porter.porch.means).role ≡ entry.listener.role) }
+    {
+        let poll = Poll::new(net)?;
+        // A poll tells of a viewer that was called as it tells of one at the port, which has the number 0.
+        let caller = RoleCaller::new(alloc, entry.role(), poll.registry(), 0)?;
         let mut entries = Vec::new(alloc);
         entries.push(entry)?;
         Ok(TcpPorter {
-            porch: Porch::new(net, alloc, entries, ())?,
+            porch: Porch::new(alloc, poll, entries, Arc::new(alloc, caller)?)?,
             events: Events::with_capacity(alloc, MOST_EVENTS)?,
         })
+    }
+
+    /// What calls viewers to this port, from another thread. It fails where no more owners can be counted.
+    pub fn caller(&self) -> Result<Arc<RoleCaller, Global>, AllocError>
+        ensures { IfOk result (λ caller. arc_value caller ≡ arc_value self.now.porch.means) }
+    {
+        Arc::try_clone(&self.porch.means)
     }
 
     /// Keeps the port. Newcomers that aren't let in, and the log, are told why not. It ends soon after the lobby is

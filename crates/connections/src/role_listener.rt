@@ -4,9 +4,11 @@ ghost use Rattle.std.specs.Prelude.{◌≡◌, ◌↔◌, IfOk, IfSome, IsTrue, 
 ghost use Rattle.connections.specs.declared.key.Key.TheVariants.{Open};
 ghost use Rattle.connections.specs.Keys.{HasUnlockedBy, is_locked};
 ghost use Rattle.run_traits.specs.declared.event.Way.TheVariants.{Tcp, Web};
+ghost use Rattle.connections.specs.Calls.{IsCalledAs};
 ghost use Rattle.connections.specs.Greetings.{IsFromProxy, IsGreeted, IsKnown, IsSameComer, untouched};
 ghost use Rattle.web_site.specs.Guests.{IsLetIn};
 
+use crate::called::Called;
 use crate::greeted::GreetedSocket;
 use crate::greeting::Greeting;
 use crate::key::Key;
@@ -31,8 +33,8 @@ pub struct RoleListener {
     proxy: Option<IpAddr>,
 }
 
-/// A newcomer that came by a listener: its stream, the role and the key of that listener, and where it comes from. Only
-/// a listener makes one.
+/// A newcomer that came by a listener, or was called for it: its stream, the role and the key of that listener, and
+/// where it comes from. Only a listener makes one.
 #[derive(Drop)]
 pub struct Arrival {
     stream: TcpStream,
@@ -120,6 +122,25 @@ impl RoleListener {
             role: self.role(),
             key: self.key(),
             whence: Whence::new(Some(peer), &self.proxy),
+        })
+    }
+
+    /// A viewer that was called, as a newcomer to this listener's port. It is `None` for one that was called in another
+    /// role; the caller of this role calls none of these, but its lock can't keep that for the proof.
+    pub(crate) fn take_in(&self, called: Called) -> Option<Arrival>
+        ensures role { IfSome result (λ arrival. arrival.role ≡ self.now.role) }
+        ensures key { IfSome result (λ arrival. arrival.key ≡ self.now.key) }
+        ensures called { IfSome result (λ arrival. IsCalledAs called arrival) }
+    {
+        if called.role() != self.role {
+            return None;
+        }
+        let whence = Whence::of_address(Some(called.address()));
+        Some(Arrival {
+            role: called.role(),
+            stream: called.into_stream(),
+            key: self.key,
+            whence,
         })
     }
 }
