@@ -46,7 +46,7 @@ fn control_command<'a>(alloc: Global) -> Result<Command<'a>, AllocError> {
         .action(ArgAction::Append)
         .num_args(1..)
         .required(true)
-        .help("state, state json, drain, undrain, end PLACE, next or stop");
+        .help("state, state json, drain, undrain, end PLACE, next, call full|view IP:PORT or stop");
     Command::new(alloc, "control")
         .about("Asks something of a run that goes on, and prints the answer")
         .arg(path)?

@@ -1,5 +1,6 @@
 //! What an operator asks over a socket of this machine.
 
+use crate::call::call;
 use crate::halls::Halls;
 use crate::lifeline::{Lifeline, Stays};
 use crate::order::{Cut, Skip};
@@ -9,7 +10,7 @@ use connections::Desk;
 use run_control::{Outcome, Request};
 use std::alloc::Global;
 use std::io::{ErrorKind, Read, Write};
-use std::net::Net;
+use std::net::{Net, TcpStream};
 use std::os::unix::fs::FileTypeExt;
 use std::os::unix::net::{UnixListener, UnixStream};
 use std::rt::Files;
@@ -23,7 +24,7 @@ const PATIENCE_MILLIS: u64 = 1_000;
 /// A request comes in so many reads at most, and has at most `LONGEST` bytes.
 const MOST_READS: usize = 8;
 
-const LONGEST: usize = 64;
+const LONGEST: usize = 96;
 
 /// How often a stop looks whether the host was told all that viewers held, or have sent where it is left for the next
 /// one, and the pause after each look, in milliseconds.
@@ -39,7 +40,7 @@ const PAUSE_MILLIS: u64 = 100;
 
 /// What is answered where an operator's line is no request.
 const NO_REQUEST: &[u8] =
-    b"error: no request: state, state json, drain, undrain, end PLACE, next or stop\n";
+    b"error: no request: state, state json, drain, undrain, end PLACE, next, call full|view IP:PORT or stop\n";
 
 /// An operator's socket, and what requests reach before there are halls.
 #[derive(Drop)]
@@ -158,7 +159,7 @@ fn go_on<R: Wait + Clock>(rt: &R, reach: &Reach, skip: Skip) -> &'static str {
 }
 
 /// Answers one request.
-fn answer<R: Net + Wait + Clock>(
+fn answer<R: Net<Stream = TcpStream> + Wait + Clock>(
     rt: &R,
     reach: &Reach,
     request: Request,
@@ -174,6 +175,10 @@ fn answer<R: Net + Wait + Clock>(
         let text = state(rt, reach, form)?;
         return out.write_all(text.as_bytes());
     }
+    if let (Outcome::Done, Request::Call(role, address)) = (outcome, request) {
+        let text = call(rt, reach.alloc, &reach.halls, role, address)?;
+        return out.write_all(text.as_bytes());
+    }
     let text = match (outcome, Skip::of(request)) {
         (Outcome::Done, Some(skip)) => go_on(rt, reach, skip),
         _ => outcome_text(outcome),
@@ -182,7 +187,11 @@ fn answer<R: Net + Wait + Clock>(
 }
 
 /// Hears one request, and answers it. The result says whether the run is to end.
-fn hear<R: Net + Wait + Clock>(rt: &R, reach: &Reach, stream: &UnixStream) -> io::Result<bool> {
+fn hear<R: Net<Stream = TcpStream> + Wait + Clock>(
+    rt: &R,
+    reach: &Reach,
+    stream: &UnixStream,
+) -> io::Result<bool> {
     let patience = Duration::from_millis(PATIENCE_MILLIS);
     stream.set_read_timeout(Some(patience))?;
     stream.set_write_timeout(Some(patience))?;
@@ -201,7 +210,7 @@ fn hear<R: Net + Wait + Clock>(rt: &R, reach: &Reach, stream: &UnixStream) -> io
 }
 
 /// Hears one request after another, until one ends the run. Where an operator breaks off, the next one is heard.
-pub(crate) fn keep_control<R: Net + Wait + Clock>(rt: &R, reach: &Reach) {
+pub(crate) fn keep_control<R: Net<Stream = TcpStream> + Wait + Clock>(rt: &R, reach: &Reach) {
     for stream in reach.control.listener.incoming() {
         let Ok(stream) = stream else {
             thread::sleep(rt, Duration::from_millis(PAUSE_MILLIS));

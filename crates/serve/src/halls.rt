@@ -1,6 +1,7 @@
 //! Where viewers come in, from the first to the last.
 
-ghost use Rattle.std.specs.Prelude.{◌≡◌, IfOk, false};
+ghost use Rattle.std.specs.Prelude.{◌≡◌, IfOk, IfSome, false};
+ghost use Rattle.std.specs.Arc.{arc_value};
 ghost use Rattle.raster.specs.Size.{IsScreenSize};
 ghost use Rattle.settings.specs.Rooms.{FitsInto};
 
@@ -14,8 +15,9 @@ use crate::start::start_control;
 use crate::supply::Supply;
 use crate::trouble::{Stage, Trouble};
 use crate::web::start_web_porter;
-use connections::Seat;
+use connections::{RoleCaller, Seat};
 use fault::Fault;
+use roles::Role;
 use run_traits::Log;
 use std::alloc::Global;
 use std::sync::{Arc, Wait};
@@ -50,6 +52,20 @@ impl Halls {
         };
         let view = start_porter(rt, alloc, view, log)?;
         Ok(Halls { full, view })
+    }
+
+    /// What calls viewers of this role, if there are places of it.
+    pub(crate) fn caller(&self, role: Role) -> Option<&Arc<RoleCaller, Global>>
+        ensures { IfSome result (λ caller. (arc_value caller.now).role ≡ role) }
+    {
+        if self.view.caller().role() == role {
+            return Some(self.view.caller());
+        }
+        let full = self.full.as_ref()?;
+        if full.caller().role() == role {
+            return Some(full.caller());
+        }
+        None
     }
 
     /// There is a host: viewers are let in from now on.

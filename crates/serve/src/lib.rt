@@ -9,6 +9,7 @@
 mod advice;
 mod answer;
 mod bound;
+mod call;
 mod callers;
 mod control;
 mod counters;

@@ -10,7 +10,7 @@ ghost use Rattle.serve.specs.Doors.{AreDoorsFor, AreBoth, AreNumbered, HaveTheir
 use crate::open::Entry;
 use crate::runtime::{Runtime, STACK};
 use crate::trouble::{Stage, Trouble};
-use connections::{Everyone, Lobby, Seat, TcpDoor, TcpEntry, TcpPorter, WriterSeat};
+use connections::{Everyone, Lobby, RoleCaller, Seat, TcpDoor, TcpEntry, TcpPorter, WriterSeat};
 use fault::Fault;
 use roles::Role;
 use run_traits::{HostCount, Log};
@@ -162,10 +162,12 @@ pub(crate) fn everyone_of(
     Ok(Arc::new(alloc, everyone)?)
 }
 
-/// What a run reaches of a role's viewers while its port is kept: it lets them in, and at the end sends them away.
+/// What a run reaches of a role's viewers while its port is kept: it lets them in, calls some, and at the end sends all
+/// away.
 #[derive(Drop)]
 pub(crate) struct Hall {
     lobby: Arc<Lobby, Global>,
+    caller: Arc<RoleCaller, Global>,
 }
 
 /// The porter of the port of a role, whose viewers are let to the entry's lobby.
@@ -195,6 +197,9 @@ where
         Ok(porter) => porter,
         Err(error) => return Err(Trouble::of(Stage::Start, error)),
     };
+    let Ok(caller) = porter.caller() else {
+        return Err(Trouble::new(Stage::Start, Fault::Memory));
+    };
     let Ok(log) = log.clone() else {
         return Err(Trouble::new(Stage::Start, Fault::Memory));
     };
@@ -202,12 +207,19 @@ where
         .stack_size(STACK)
         .spawn(&rt, move || porter.keep(&rt, &log));
     match started {
-        Ok(_porter) => Ok(Hall { lobby }),
+        Ok(_porter) => Ok(Hall { lobby, caller }),
         Err(error) => Err(Trouble::of(Stage::Start, error)),
     }
 }
 
 impl Hall {
+    /// What calls viewers of the role.
+    pub(crate) fn caller(&self) -> &Arc<RoleCaller, Global>
+        ensures { result.now ≡ self.now.caller }
+    {
+        &self.caller
+    }
+
     /// Viewers are let in from now on.
     pub(crate) fn open<R: Wait>(&self, rt: &R) {
         self.lobby.hold(rt, false);

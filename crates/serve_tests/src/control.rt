@@ -64,7 +64,7 @@ const IS_HEARD: &[Step] = &[
     Step::IsAnswered("end 3\n", &["|error: there is no such place\n|"]),
     Step::IsAnswered("begin\n", &["error: no request"]),
     Step::IsAnswered(
-        "end 111111111111111111111111111111111111111111111111111111111111",
+        "end 11111111111111111111111111111111111111111111111111111111111111111111111111111111111111111111",
         &["|error: no request"],
     ),
     Step::IsDone("undrain", 0),

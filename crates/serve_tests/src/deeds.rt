@@ -261,16 +261,24 @@ fn hears<R: Wait + Clock + Drop>(ear: &Ear<R>, stage: &Stage, actor: &Actor, tex
     }
 }
 
+/// Whether a text is this one between bars.
+fn is_between_bars(text: &str, wanted: &str) -> bool {
+    let mut pieces = text.split('|');
+    pieces.next() == Some("") && pieces.next() == Some(wanted) && pieces.next() == Some("")
+}
+
 /// Whether an operator's request is answered so.
 fn is_obeyed<R>(ear: &Ear<R>, stage: &Stage, actor: &Actor, request: &str, wanted: &str) -> bool
 where
     R: Net<Stream = TcpStream, Listener = TcpListener> + Drop,
 {
-    let Some(request) = filled(ear.alloc, &stage.ports, actor, request) else {
+    let request = filled(ear.alloc, &stage.ports, actor, request);
+    let wanted = filled(ear.alloc, &stage.ports, actor, wanted);
+    let (Some(request), Some(wanted)) = (request, wanted) else {
         return false;
     };
     match answer(ear, port(stage, "full"), request.as_str()) {
-        Ok(answer) => answer.as_str() == wanted,
+        Ok(answer) => is_between_bars(answer.as_str(), wanted.as_str()),
         Err(_) => false,
     }
 }

@@ -14,6 +14,8 @@ mod binds;
 #[cfg(test)]
 mod callers;
 #[cfg(test)]
+mod calls;
+#[cfg(test)]
 mod company;
 #[cfg(test)]
 mod control;
