@@ -49,6 +49,9 @@ CAST = [
     ("TigerVNC", None, True),
 ]
 
+# Viewers that listen, and are called by the reflector, and whether each only looks on.
+CALLED = [("TigerVNC", False), ("xtightvncviewer", False), ("ssvncviewer", False), ("TigerVNC", True)]
+
 COMMANDS = {
     "TigerVNC": ("xtigervncviewer", "-SecurityTypes=None", "-RemoteResize=0", "-MenuKey="),
     "gvncviewer": ("gvncviewer",),
@@ -289,8 +292,11 @@ class Viewer:
         self.child = loopback.start(words, env=environment(self.display) | self.own_environment())
 
     def command(self, kind, port, more):
-        address = f"127.0.0.1:{port - 5900}" if kind == "gvncviewer" else f"127.0.0.1::{port}"
-        return [*COMMANDS[kind], *more, *(self.low[0] if self.low else ()), address]
+        return [*COMMANDS[kind], *more, *(self.low[0] if self.low else ()), *self.where(kind, port)]
+
+    def where(self, kind, port):
+        """The words that say to which port it connects."""
+        return (f"127.0.0.1:{port - 5900}" if kind == "gvncviewer" else f"127.0.0.1::{port}",)
 
     def own_environment(self):
         return {"HOME": str(self.room)}
@@ -375,6 +381,20 @@ class Viewer:
         """The names of the windows that it shows."""
         found = xdotool(self.display, "search", "--onlyvisible", "--name", ".+").split()
         return [xdotool(self.display, "getwindowname", window).strip() for window in found]
+
+
+class Listener(Viewer):
+    """A viewer that waits at the port until it is connected to."""
+
+    def __init__(self, kind, port, looks_on, room):
+        super().__init__(kind, None, port, looks_on, room)
+        self.name += ", called"
+        if not loopback.wait_until_open(port, self.child, 20):
+            raise RuntimeError(f"{self.name}: it doesn't listen")
+
+    def where(self, kind, port):
+        """TigerVNC's viewer takes a port, and the others a number that is added to 5500."""
+        return "-listen", port if kind == "TigerVNC" else port - 5500
 
 
 def version(package):
