@@ -15,7 +15,7 @@ use crate::seat::Seat;
 use crate::tcp::ViewerTcpLink;
 use crate::web::BrowserLink;
 use fault::Fault;
-use link::Link;
+use link::{EitherLink, Link};
 use roles::Role;
 use run_control::Entry;
 use run_traits::{Door, Event, LeftLink, Log, Parting, PlaceCount, PlaceId, Visit, Way, Written};
@@ -24,7 +24,6 @@ use std::io;
 use std::net::SocketAddr;
 use std::sync::{Arc, Condvar, Mutex, Wait};
 use std::time::{Clock, Duration};
-use web_link::AnyLink;
 
 #[derive(Drop)]
 struct Waiting {
@@ -293,21 +292,21 @@ impl<R: Wait + Clock + Drop, G: Log + Drop> TcpDoor<R, G> {
 }
 
 /// A viewer's link: over TCP as it is, or a browser's.
-pub type ViewerLink<R> = AnyLink<ViewerTcpLink<R>, BrowserLink<R>>;
+pub type ViewerLink<R> = EitherLink<ViewerTcpLink<R>, BrowserLink<R>>;
 
 /// The connection below a viewer's link.
 fn connection_of<R: Wait + Clock + Drop>(viewer: &ViewerLink<R>) -> &ViewerTcpLink<R> {
     match viewer {
-        AnyLink::Plain(link) => link,
-        AnyLink::Web(link) => link.connection(),
+        EitherLink::First(link) => link,
+        EitherLink::Second(link) => link.connection(),
     }
 }
 
 /// How a viewer's connection stands.
 fn parting_of<R: Wait + Clock + Drop>(viewer: &ViewerLink<R>) -> Parting {
     match viewer {
-        AnyLink::Plain(link) => link.parting(),
-        AnyLink::Web(link) => link.parting(),
+        EitherLink::First(link) => link.parting(),
+        EitherLink::Second(link) => link.parting(),
     }
 }
 
@@ -332,10 +331,10 @@ impl<R: Wait + Clock + Drop + Copy, G: Log + Drop> TcpDoor<R, G> {
         let (rt, alloc, socket) = (self.rt, self.alloc, entrant.into_socket());
         let link = ViewerTcpLink::at(rt, alloc, socket, &self.seat, awaited)?;
         match way {
-            Way::Tcp => Ok(AnyLink::Plain(link)),
+            Way::Tcp => Ok(EitherLink::First(link)),
             Way::Web => {
                 let link = BrowserLink::new(rt, alloc, link, is_locked)?;
-                Ok(AnyLink::Web(link))
+                Ok(EitherLink::Second(link))
             }
         }
     }

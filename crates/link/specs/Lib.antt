@@ -2,3 +2,4 @@ pub mod Links
 pub mod Halting
 pub mod Joins
 pub mod Moment
+pub mod Either

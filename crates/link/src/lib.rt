@@ -6,6 +6,7 @@
 #![tactic(auto)]
 
 mod byte_record;
+mod either_link;
 mod give;
 mod hearing;
 mod join;
@@ -16,6 +17,7 @@ mod telling;
 mod waiting;
 
 pub use byte_record::Record;
+pub use either_link::EitherLink;
 pub use give::{Halt, give_all};
 pub use join::{JoinsOn, join_by, join_host, join_on};
 pub use joining::Joining;

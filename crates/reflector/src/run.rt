@@ -260,7 +260,7 @@ where
     B: Alarm + Drop,
     W: Alarm + Drop,
     R: Wait + Drop + Copy,
-    requires { (0 < places) × (places ≤ 64) }
+    requires { (0 < places) × (places ≤ 65) }
     ensures count { IfOk result (λ r. vec_len r.0 ≡ places) }
     ensures places { IfOk result (λ r. map strand_of r.0.items ≡ fresh places) }
     ensures one { IfOk result (λ r. All (λ s. relay_of s ≡ host_of r.1) r.0.items) }
@@ -296,7 +296,7 @@ where
     requires size { IsScreenSize screen.now.w screen.now.h }
     requires publisher { (P.width publisher ≡ screen.now.w) × (P.height publisher ≡ screen.now.h) }
     requires screen { (s : S) → (S.width s ≡ screen.now.w) × (S.height s ≡ screen.now.h) }
-    requires doors { (1 ≤ vec_len doors) × (vec_len doors ≤ 64) × (vec_len watchers ≡ vec_len doors + 1) }
+    requires doors { (1 ≤ vec_len doors) × (vec_len doors ≤ 65) × (vec_len watchers ≡ vec_len doors + 1) }
     requires writer { L.state ends.writer ≡ unused }
     ensures run { IfOk result (λ run. HasRun screen.now.w screen.now.h context.now.password (IsComing L.state H.came) run.last (came_over ends.has_called (L.state ends.reader)) (map L.state run.links.items) (P.updates publisher) (P.updates run.publisher)) }
     ensures over { IfOk result (λ run. IsOver H.are_out run.hosts run.last) }
@@ -463,7 +463,7 @@ where
     requires history { history.seen.book ≡ J.book }
     requires fits { (joined.w ≤ room.width) × (joined.h ≤ room.height) }
     requires size { (room.width ≡ J.width) × (room.height ≡ J.height) }
-    requires doors { (1 ≤ vec_len doors) × (vec_len doors ≤ 64) }
+    requires doors { (1 ≤ vec_len doors) × (vec_len doors ≤ 65) }
     requires roles { All (λ door. D.is_for door.1 door.0) doors.items }
     requires writer { L.state ends.writer ≡ unused }
     ensures run { IfOk result (λ run. HasRun J.width J.height room.password (IsComing L.state H.came) run.last (came_over ends.has_called (L.state ends.reader)) (map L.state run.links.items) [] (puts_of run.publisher.changes)) }

@@ -1,8 +1,9 @@
 //! A link whose visit is over.
 
 ghost use Rattle.std.specs.Prelude.{◌≡◌};
+ghost use Rattle.run_traits.specs.Either.{left_either};
 
-use link::Link;
+use link::{EitherLink, Link};
 
 /// The link of a viewer whose visit is over. What it keeps can be sent on, and it can be looked at, but nothing more is
 /// given over it or taken from it: no step changes the state in which it was left.
@@ -31,5 +32,26 @@ impl<L: Link> LeftLink<L> {
         ensures { L.state self.new.link ≡ L.state self.old.link }
     {
         self.link.flush();
+    }
+}
+
+/// A left link of one of two kinds.
+#[derive(Drop)]
+pub enum EitherLeft<A: Link, B: Link> {
+    /// A link of the first kind.
+    First(LeftLink<A>),
+    /// A link of the second kind.
+    Second(LeftLink<B>),
+}
+
+impl<A: Link, B: Link> LeftLink<EitherLink<A, B>> {
+    /// The left link that it holds.
+    pub fn either(self) -> EitherLeft<A, B>
+        ensures { left_either result ≡ self.link }
+    {
+        match self.link {
+            EitherLink::First(link) => EitherLeft::First(LeftLink { link }),
+            EitherLink::Second(link) => EitherLeft::Second(LeftLink { link }),
+        }
     }
 }

@@ -8,6 +8,7 @@
 mod alarm;
 mod count;
 mod door;
+mod either_door;
 mod event;
 mod left_link;
 mod ringing;
@@ -17,8 +18,9 @@ mod written;
 pub use alarm::{Alarm, NoAlarm};
 pub use count::{HostCount, PlaceCount, clock_millis};
 pub use door::Door;
+pub use either_door::EitherDoor;
 pub use event::{Event, Log, NoLog, Parting, PlaceId, Visit, Way};
-pub use left_link::LeftLink;
+pub use left_link::{EitherLeft, LeftLink};
 pub use ringing::Ringing;
 pub use stop::Stop;
 pub use written::Written;

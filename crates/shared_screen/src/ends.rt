@@ -58,7 +58,7 @@ pub fn pair<J: Naming, R: Wait + Drop>(
 ) -> Result<(PairWriter<J, R>, Vec<Eye<J>>), Fault>
     requires size { IsScreenSize width height × (width ≡ J.width) × (height ≡ J.height) }
     requires empty { raiser ≡ [] }
-    requires places { (1 ≤ places) × (places ≤ 65) }
+    requires places { (1 ≤ places) × (places ≤ 66) }
     ensures writer { IfOk result (λ ends. ends.0 ≡ []) }
     ensures count { IfOk result (λ ends. vec_len ends.1 ≡ places) }
     ensures eyes { IfOk result (λ ends. All (λ eye. eye ≡ []) ends.1.items) }

@@ -56,7 +56,7 @@ pub fn shared<J: Naming, R: Wait + Drop + Copy>(
 ) -> Result<(Publisher<J, R>, Vec<Watcher<J>>), Fault>
     requires history { history.seen.book ≡ J.book }
     requires size { IsScreenSize width height × (width ≡ J.width) × (height ≡ J.height) }
-    requires places { (1 ≤ places) × (places ≤ 65) }
+    requires places { (1 ≤ places) × (places ≤ 66) }
     ensures publisher { IfOk result (λ ends. ends.0 ≡ opening) }
     ensures count { IfOk result (λ ends. vec_len ends.1 ≡ places) }
     ensures watchers { IfOk result (λ ends. All (λ w. w ≡ record { updates = []; tally = 0 }) ends.1.items) }

@@ -3,7 +3,6 @@
 //! It is the server's end, after the opening handshake. It takes no memory, and waits only as the link below does.
 #![tactic(auto)]
 
-mod any;
 mod code;
 mod gathering;
 mod kept;
@@ -12,7 +11,6 @@ mod saying;
 mod unsent;
 mod web;
 
-pub use any::AnyLink;
 pub use gathering::GatheringLink;
 pub use refusal::{MOST_REFUSAL, refusal_frames};
 pub use saying::Saying;

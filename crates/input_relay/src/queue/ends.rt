@@ -144,14 +144,14 @@ fn seat<R: Wait + Drop + Clone>(
     })
 }
 
-/// A relay for 1 to 64 places with room for 256 inputs: the senders of the places from 0 on, each at its number, and
+/// A relay for 1 to 65 places with room for 256 inputs: the senders of the places from 0 on, each at its number, and
 /// the taker. It fails where memory is refused (`Memory`).
 pub fn relay<R: Wait + Drop + Clone>(
     rt: R,
     alloc: Global,
     places: u64,
 ) -> Result<(Vec<Sender<R>>, Taker<R>), Fault>
-    requires { (0 < places) × (places ≤ 64) }
+    requires { (0 < places) × (places ≤ 65) }
     ensures count { IfOk result (λ r. vec_len r.0 ≡ places) }
     ensures places { IfOk result (λ r. map strand_of r.0.items ≡ fresh places) }
     ensures one { IfOk result (λ r. All (λ s. relay_of s ≡ host_of r.1) r.0.items) }
