@@ -6,3 +6,9 @@ pub mod Bounded
 pub mod Paletted
 pub mod ReadBack
 pub mod TilesOfAreas
+pub mod Apart
+pub mod Unpacked
+pub mod OneTile
+pub mod OneRectangle
+pub mod OneStream
+pub mod StandardLengths

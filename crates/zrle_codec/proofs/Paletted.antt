@@ -7,7 +7,7 @@ use Rattle.std.proofs.lemmas.List.{append-nil, length-take-le, length-map, get_o
 use Rattle.std.proofs.lemmas.List.FromFn.{map-range_with_len_more}
 use Rattle.std.proofs.lemmas.Grind.{flat_map-append, same_number_lists}
 use Rattle.pixel_format.specs.PixelFormat.{PixelFormat}
-use Rattle.zrle_codec.specs.Cpixel.{cpixel_bytes}
+use Rattle.zrle_codec.specs.Cpixel.{cpixel_bytes, received}
 use Rattle.zrle_codec.specs.Indexed.{AreIndexed, AreIndexedTo}
 use Rattle.zrle_codec.specs.Appends.{AppendsRuns}
 use Rattle.zrle_codec.specs.Tiles.{Packed, PaletteRuns, ArePaletted, run_shows, index_run_bytes, IsWellFormed, AppendsSome, tile_shows, tile_bytes, looked_up, packed_row, packed_rows, row_of, index_bits}
@@ -105,7 +105,7 @@ packed_tile format w h count values palette indices old new size same within two
           count = length-map indices (slice_index colours) ∙ (same ∙ size);
           form = (omega (arith, many), omega (arith, many), λ k lt. omega (arith, many, is.known k (omega (arith, same))));
         };
-        shows = looked_up_is values palette indices count same within is;
+        shows = ap (map (received format)) (looked_up_is values palette indices count same within is);
         are = refl;
       };
       appended = put;
@@ -128,7 +128,7 @@ palette_runs_tile format w h count values palette indices old new size same with
       spells = record {
         tile = PaletteRuns colours put.runs;
         fits = record { count = ap (λ t. length t) shown ∙ size; form = (subst P (sym put.shows) form, put.some) };
-        shows = shown;
+        shows = ap (map (received format)) shown;
         are = refl;
       };
       appended = put.appended ∙ append_assoc old head (flat_map index_run_bytes put.runs);

@@ -10,7 +10,7 @@ use Rattle.std.proofs.lemmas.Nat.{pow-add}
 use Rattle.pixel_format.specs.PixelFormat.{PixelFormat, Channel, pixel_bytes, pixel_of, pixel_len, tint, on_channel, red_of, green_of, blue_of}
 use Rattle.pixel_format.proofs.Pixels.{pixel_back, pixel_size}
 use Rattle.pixel_format.proofs.Tints.{tint_below}
-use Rattle.zrle_codec.specs.Cpixel.{has_spare_byte, lies_low, lies_high, leaves_last, leaves_first, cpixel_from, cpixel_len, cpixel_bytes, cpixel_value, CpixelsAreReadBack}
+use Rattle.zrle_codec.specs.Cpixel.{has_spare_byte, lies_low, lies_high, leaves_last, leaves_first, cpixel_from, cpixel_len, cpixel_bytes, cpixel_value, received, CpixelsAreReadBack}
 
 either : {P : Type 0} (b : Bool) → (b ≡ true → P) → (b ≡ false → P) → P
 either true here there = here refl
@@ -133,7 +133,7 @@ pixel_filled format v is_low is_high =
     (ap (λ k. take n bytes ++ replicate k 0) nothing ∙ (append-nil (take n bytes) ∙ take_all n bytes (omega (arith, pixel_size format v))))))
 
 pub read_back : CpixelsAreReadBack
-unfolding cpixel_value cpixel_bytes
+unfolding received cpixel_value cpixel_bytes
 read_back format colour accepted =
     let v : ℕ = tint format colour in
     ap (pixel_of format) (pixel_filled format v (low format colour) (high format colour)) ∙ pixel_back format v accepted (tint_below format colour accepted)

@@ -8,26 +8,26 @@ use Rattle.raster.specs.Screen.{Canvas, part_of, value_at, values_of}
 use Rattle.raster.specs.declared.rect.Rect.{Rect}
 use Rattle.zrle_codec.specs.Areas.{SpellsTiles, area_values, zrle_tiles_across, zrle_tile_count, zrle_tile_rect}
 use Rattle.zrle_codec.specs.Areas.SpellsTiles.{tile}
-use Rattle.zrle_codec.specs.Cpixel.{cpixel_len}
+use Rattle.zrle_codec.specs.Cpixel.{cpixel_len, received}
 use Rattle.zrle_codec.specs.Tiles.{SpellsTile, AppendsTile}
 
-map_both : (g f h : ℕ → ℕ) → ((k : ℕ) → g (f k) ≡ h k) → (xs : List ℕ) → map g (map f xs) ≡ map h xs
-map_both g f h same [] = refl
-map_both g f h same (x ∷ xs) = ap (λ y. y ∷ map g (map f xs)) (same x) ∙ ap (λ t. h x ∷ t) (map_both g f h same xs)
+map_all : (e g f h : ℕ → ℕ) → ((k : ℕ) → e (g (f k)) ≡ h k) → (xs : List ℕ) → map e (map g (map f xs)) ≡ map h xs
+map_all e g f h same [] = refl
+map_all e g f h same (x ∷ xs) = ap (λ y. y ∷ map e (map g (map f xs))) (same x) ∙ ap (λ t. h x ∷ t) (map_all e g f h same xs)
 
 -- where a tile of an area lies on the screen
 abbrev pub place_of : Rect → Rect → Rect
 place_of area r = record { x = area.x + r.x; y = area.y + r.y; w = r.w; h = r.h }
 
--- its pixel values, tinted, are those of the area
+-- its colours' pixel values, as they are received, are those of the area
 pub tinted_is : (format : PixelFormat) (width : ℕ) (colours : List ℕ) (area r : Rect)
-    → map (tint format) (values_of r.w r.h (part_of (place_of area r) (value_at width colours))) ≡ values_of r.w r.h (part_of r (area_values format width colours area))
+    → map (received format) (map (tint format) (values_of r.w r.h (part_of (place_of area r) (value_at width colours)))) ≡ values_of r.w r.h (part_of r (area_values format width colours area))
 tinted_is format width colours area r =
-    map_both (tint format) (λ k. value_at width colours (area.x + r.x + k % r.w) (area.y + r.y + k / r.w)) (λ k. tint format (value_at width colours (area.x + (r.x + k % r.w)) (area.y + (r.y + k / r.w))))
+    map_all (received format) (tint format) (λ k. value_at width colours (area.x + r.x + k % r.w) (area.y + r.y + k / r.w)) (λ k. received format (tint format (value_at width colours (area.x + (r.x + k % r.w)) (area.y + (r.y + k / r.w)))))
     (λ k.
     let x : area.x + r.x + k % r.w ≡ area.x + (r.x + k % r.w) = omega arith in
     let y : area.y + r.y + k / r.w ≡ area.y + (r.y + k / r.w) = omega arith in
-    ap (λ n. tint format (value_at width colours n (area.y + r.y + k / r.w))) x ∙ ap (λ n. tint format (value_at width colours (area.x + (r.x + k % r.w)) n)) y)
+    ap (λ n. received format (tint format (value_at width colours n (area.y + r.y + k / r.w)))) x ∙ ap (λ n. received format (tint format (value_at width colours (area.x + (r.x + k % r.w)) n))) y)
     (range_with_len 0 (r.w * r.h))
 
 -- one more tile

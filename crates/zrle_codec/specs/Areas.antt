@@ -4,6 +4,7 @@ use Rattle.pixel_format.specs.PixelFormat.{PixelFormat, tint}
 use Rattle.raster.specs.Screen.{Canvas, kept, part_of, value_at, values_of}
 use Rattle.raster.specs.declared.rect.Rect.{Rect}
 use Rattle.deflate.specs.Parts.{IsPart}
+use Rattle.zrle_codec.specs.Cpixel.{received}
 use Rattle.zrle_codec.specs.Tiles.{SpellsTile}
 
 -- How many tiles of 64 by 64 there are across a width, or down a height.
@@ -36,9 +37,9 @@ pub record IsZrle (format : PixelFormat) (w h : ℕ) (canvas : Canvas) (part : L
   pub spells : SpellsTiles format w h canvas (zrle_tile_count w h) bytes
   pub inflates : IsPart part bytes
 
--- The pixel values of an area of a screen of colours, which stand in rows of a width.
+-- The pixel values of an area of a screen of colours, which stand in rows of a width, each as it is received.
 abbrev pub area_values : PixelFormat → ℕ → List ℕ → Rect → Canvas
-area_values format width colours area = kept (tint format) (part_of area (value_at width colours))
+area_values format width colours area = kept (λ colour. received format (tint format colour)) (part_of area (value_at width colours))
 
 -- Behind the old bytes stands such a part.
 pub record AppendsZrle (format : PixelFormat) (w h : ℕ) (canvas : Canvas) (old new : List ℕ) : Type 0 where

@@ -40,7 +40,10 @@ unfoldable pub cpixel_value : PixelFormat → List ℕ → ℕ
 cpixel_value format bytes =
     pixel_of format (replicate (cpixel_from format) 0 ++ (bytes ++ replicate (pixel_len format - (cpixel_from format + cpixel_len format)) 0))
 
--- From the CPIXEL of a colour's pixel value, that value is read back.
+-- A pixel value as it is received: the one that its CPIXEL stands for.
+unfoldable pub received : PixelFormat → ℕ → ℕ
+received format value = cpixel_value format (cpixel_bytes format value)
+
+-- A colour's pixel value is received as it is.
 abbrev pub CpixelsAreReadBack : Type 0
-CpixelsAreReadBack =
-    (format : PixelFormat) (colour : ℕ) → IsAccepted format → cpixel_value format (cpixel_bytes format (tint format colour)) ≡ tint format colour
+CpixelsAreReadBack = (format : PixelFormat) (colour : ℕ) → IsAccepted format → received format (tint format colour) ≡ tint format colour

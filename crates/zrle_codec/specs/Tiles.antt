@@ -2,7 +2,7 @@
 use Rattle.std.specs.Prelude.{◌≡◌, ℕ, ◌+◌, ◌-◌, ◌*◌, ◌/◌, ◌%◌, ◌<◌, ◌≤◌, nat_le, ◌==◌, if◌then◌else◌, List, [], ◌∷◌, ◌++◌, length, map, take, drop, replicate, slice_index, EachIndex}
 use Rattle.std.specs.List.{flat_map, range_with_len, All}
 use Rattle.pixel_format.specs.PixelFormat.{PixelFormat}
-use Rattle.zrle_codec.specs.Cpixel.{cpixel_bytes, cpixel_len}
+use Rattle.zrle_codec.specs.Cpixel.{cpixel_bytes, cpixel_len, received}
 
 -- So many positions, one after another, of one value: a pixel value, or the index of one in a palette.
 pub record Run : Type 0 where
@@ -22,17 +22,17 @@ pub data ZrleTile : Type 0 where
   -- a palette, and runs of indices
   PaletteRuns : List ℕ → List Run → ZrleTile
 
--- ---- what a tile draws
+-- ---- what a tile sends
 
--- What a run draws.
+-- What a run stands for.
 unfoldable pub run_shows : Run → List ℕ
 run_shows r = replicate r.len r.value
 
--- What indices of a palette draw.
+-- What indices of a palette stand for.
 abbrev pub looked_up : List ℕ → List ℕ → List ℕ
 looked_up palette indices = map (slice_index palette) indices
 
--- The pixel values that a tile of w by h draws.
+-- The pixel values that a tile of w by h sends.
 unfoldable pub tile_shows : ℕ → ℕ → ZrleTile → List ℕ
 tile_shows w h (Raw values) = values
 tile_shows w h (Solid value) = replicate (w * h) value
@@ -48,7 +48,7 @@ ArePaletted most palette indices = (2 ≤ length palette) × (length palette ≤
 abbrev pub AreRuns : List Run → Type 0
 AreRuns runs = All (λ r. 1 ≤ r.len) runs
 
--- Besides that it draws w * h pixel values: what a tile has to be like.
+-- Besides that it sends w * h pixel values: what a tile has to be like.
 unfoldable pub IsWellFormed : ZrleTile → Type 0
 IsWellFormed (Raw values) = Unit {0}
 IsWellFormed (Solid value) = Unit {0}
@@ -115,22 +115,22 @@ tile_bytes format w h (PaletteRuns palette runs) =
 abbrev pub raw_len : PixelFormat → ℕ → ℕ → ℕ
 raw_len format w h = 1 + cpixel_len format * (w * h)
 
--- These bytes are a tile that draws these pixel values.
+-- These bytes are a tile that draws these pixel values: those that it sends, each as it is received.
 pub record SpellsTile (format : PixelFormat) (w h : ℕ) (values bytes : List ℕ) : Type 0 where
   pub tile : ZrleTile
   pub fits : Fits w h tile
-  pub shows : tile_shows w h tile ≡ values
+  pub shows : map (received format) (tile_shows w h tile) ≡ values
   pub are : bytes ≡ tile_bytes format w h tile
 
--- Behind the old bytes stand those of a tile that draws these pixel values.
+-- Behind the old bytes stand those of a tile that draws these pixel values, each as it is received.
 pub record AppendsSome (format : PixelFormat) (w h : ℕ) (values old new : List ℕ) : Type 0 where
   pub bytes : List ℕ
-  pub spells : SpellsTile format w h values bytes
+  pub spells : SpellsTile format w h (map (received format) values) bytes
   pub appended : new ≡ old ++ bytes
 
 -- And the tile has no more bytes than a Raw one.
 pub record AppendsTile (format : PixelFormat) (w h : ℕ) (values old new : List ℕ) : Type 0 where
   pub bytes : List ℕ
-  pub spells : SpellsTile format w h values bytes
+  pub spells : SpellsTile format w h (map (received format) values) bytes
   pub appended : new ≡ old ++ bytes
   pub few : length bytes ≤ raw_len format w h

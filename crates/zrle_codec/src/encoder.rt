@@ -1,6 +1,6 @@
 //! Writes the tiles of an area, and makes them one part of a zlib stream.
 
-ghost use Rattle.std.specs.Prelude.{◌≡◌, [], ◌*◌, ◌≤◌, length, map, OnOk, OnErr};
+ghost use Rattle.std.specs.Prelude.{◌≡◌, [], ◌+◌, ◌*◌, ◌^◌, ◌≤◌, length, map, OnOk, OnErr};
 ghost use Rattle.pixel_format.specs.PixelFormat.{tint};
 ghost use Rattle.raster.specs.Screen.{IsWithin, part_of, value_at, values_of};
 ghost use Rattle.zrle_codec.specs.Areas.{AppendsZrle, SpellsTiles, area_values, zrle_tile_count};
@@ -93,8 +93,8 @@ impl Encoder {
         })
     }
 
-    /// Appends the part that inflates to the tiles of an area of a screen of colours, which stand in rows of `width`.
-    /// Where memory is refused nothing is appended.
+    /// Appends the part that inflates to the tiles of an area of a screen of colours, which stand in rows of `width`: at
+    /// most 2^27 bytes. Where memory is refused nothing is appended.
     pub fn append(
         &mut self,
         pixels: &Cpixels,
@@ -108,6 +108,7 @@ impl Encoder {
         requires small { (width ≤ 4096) × (height ≤ 4096) }
         requires within { IsWithin area.now width height }
         ensures ok { OnOk result (AppendsZrle pixels.now.format area.now.w area.now.h (area_values pixels.now.format width colours.now area.now) out.old.items out.new.items) }
+        ensures few { OnOk result (length out.new.items ≤ length out.old.items + 2 ^ 27) }
         ensures err { OnErr result (out.new.items ≡ out.old.items) }
     {
         self.tiles.clear();

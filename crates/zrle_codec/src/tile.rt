@@ -93,7 +93,8 @@ fn append_chosen(
     Ok(())
 }
 
-/// Appends a tile of `w` by `h` pixels that draws these values, row after row. It has no more bytes than Raw has.
+/// Appends a tile of `w` by `h` pixels that draws these values, row after row, each as its CPIXEL has it. It has no more
+/// bytes than Raw has.
 #[tactic(auto, using(crate::proofs::Growing::begins_then, crate::proofs::Growing::begins_more))]
 pub fn write_tile(
     pixels: &Cpixels,
