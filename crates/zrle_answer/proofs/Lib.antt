@@ -1,0 +1,14 @@
+pub mod Spelled
+pub mod OneReading
+pub mod OneFollowing
+pub mod Wire
+pub mod Followed
+pub mod Held
+pub mod Others
+pub mod Alike
+pub mod Sessions
+pub mod Writing
+pub mod LookAlike
+pub mod OneStream
+pub mod Example
+pub mod OnTheScreen

@@ -1,0 +1,29 @@
+//! Writes rectangles in ZRLE, one per line, as one connection has them. `README.md` says what the lines are.
+#![tactic(auto)]
+
+mod cases;
+mod words;
+
+use cases::print_rectangle;
+use std::test::Fail;
+use words::parted;
+use zrle_answer::RectangleWriter;
+
+fn main(rt: HostRuntime) -> Result<(), Fail> {
+    let alloc = rt.alloc();
+    let mut writer = RectangleWriter::new(alloc)?;
+    let mut begun = false;
+    for line in rt.lines(alloc) {
+        let line = line?;
+        let (kind, rest) = parted(line.as_str());
+        match kind {
+            "rectangle" => {
+                print_rectangle(&rt, &mut writer, begun, rest)?;
+                begun = true;
+            }
+            "" | "#" => {}
+            _ => return Err(Fail::new("no such line")),
+        }
+    }
+    Ok(())
+}
