@@ -1,0 +1,3 @@
+pub mod Avoids
+pub mod Sizes
+pub mod Shows
