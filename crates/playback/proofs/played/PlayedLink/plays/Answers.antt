@@ -1,0 +1,6 @@
+-- What is kept is more than what is promised.
+use Rattle.playback.proofs.Playing.{is_played}
+use Rattle.playback.proofs.played.PlayedLink.plays.Goals as goal
+
+pub returns-clause-played : goal.returns-clause-played
+returns-clause-played g c = rw (← c.self.view_is) (is_played g.P.Pace.has_come g.F.Recorded.is_all g.F.Recorded.has_failed _ c.self.invariant.3)
