@@ -1,0 +1,27 @@
+//! The file of PNG that shows where a session ends.
+
+ghost use Rattle.std.specs.Prelude.{IfOk, IfErr};
+ghost use Rattle.show.specs.Shown.{HasNoPng, ShowsAsPng};
+
+use fault::Fault;
+use link::Link;
+use png::png_of;
+use recorded_picture::picture_of;
+use std::alloc::Global;
+use std::sync::Wait;
+
+/// A file of PNG that shows the picture of a session once all has come that a link hands out until it ends. It fails as
+/// `recorded_picture::picture_of` does.
+pub fn png_of_session<L: Link, R: Wait>(
+    rt: &R,
+    alloc: Global,
+    link: &mut L,
+) -> Result<Vec<u8>, Fault>
+    ensures ok { IfOk result (λ file. ShowsAsPng (L.state link.old) (L.state link.new) file.items) }
+    ensures err { IfErr result (λ fault. HasNoPng fault (L.state link.old) (L.state link.new)) }
+{
+    let picture = picture_of(rt, alloc, link)?;
+    let (width, height) = picture.size();
+    let file = png_of(alloc, width, height, picture.colours())?;
+    Ok(file)
+}
