@@ -103,6 +103,11 @@ impl<S: Storage, W: Watch> RecordLink<S, W> {
         &self.growing
     }
 
+    /// The watch that tells it the time. No clause says so.
+    pub fn watch(&self) -> &W {
+        &self.watch
+    }
+
     /// It does nothing. Its clause says that, at every moment, what was given is in the file's whole blocks and in what
     /// waits for it, and that what was taken is what a recorder says.
     pub fn carries(&self)
