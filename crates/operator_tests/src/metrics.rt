@@ -1,6 +1,6 @@
 //! A text for Prometheus, as it was written by hand after the rules of the format.
 
-use run_reports::{ByRole, Counters, Lag, metrics_text};
+use run_reports::{ByRole, Counters, Lag, Recorded, metrics_text};
 use std::test::Fail;
 
 const EXPECTED: &str = "# HELP reflectord_host_joined 1 while a host is joined.
@@ -43,6 +43,15 @@ reflectord_input_waiting 256
 # HELP reflectord_input_dropped_total Inputs of viewers that were dropped, since another held a key or a button down.
 # TYPE reflectord_input_dropped_total counter
 reflectord_input_dropped_total 10
+# HELP reflectord_recording 1 while the run is recorded.
+# TYPE reflectord_recording gauge
+reflectord_recording 1
+# HELP reflectord_recording_failed 1 where the recording ended since its file took no more.
+# TYPE reflectord_recording_failed gauge
+reflectord_recording_failed 0
+# HELP reflectord_recorded_bytes_total Bytes that the file of the recording took.
+# TYPE reflectord_recorded_bytes_total counter
+reflectord_recorded_bytes_total 13
 # HELP reflectord_viewer_lag_updates By how many updates this share of the viewers is behind at most.
 # TYPE reflectord_viewer_lag_updates gauge
 reflectord_viewer_lag_updates{share=\"0.5\"} 0
@@ -64,6 +73,11 @@ fn counters() -> Counters {
         bytes: 9,
         waiting: 256,
         dropped: 10,
+        recorded: Recorded {
+            is_on: true,
+            has_failed: false,
+            bytes: 13,
+        },
         lag: Lag {
             half: 0,
             nine_tenths: 1,

@@ -4,7 +4,7 @@
 use roles::Role;
 use run_reports::{
     ByRole, Counters, Gravity, Happening, HappeningCounts, Lag, Ledger, Notice, Paper, Ready,
-    health_of, health_word, notice_text, prefix_of,
+    Recorded, health_of, health_word, notice_text, prefix_of,
 };
 use std::alloc::Global;
 use std::cell::Cell;
@@ -57,6 +57,11 @@ fn counters(is_joined: bool, full: u64, view: u64) -> Counters {
         bytes: 0,
         waiting: 0,
         dropped: 0,
+        recorded: Recorded {
+            is_on: false,
+            has_failed: false,
+            bytes: 0,
+        },
         lag: Lag {
             half: 0,
             nine_tenths: 0,

@@ -2,7 +2,9 @@
 
 use roles::Role;
 use run_control::Entry;
-use run_reports::{HostReport, Report, ViewerReport, state_json, state_text};
+use run_reports::{
+    HostReport, RecordingReport, RecordingState, Report, ViewerReport, state_json, state_text,
+};
 use serde_json::Value;
 use std::test::Fail;
 
@@ -11,6 +13,7 @@ places role=full places=4
 places role=view places=32
 input waiting=256 dropped=3
 host address=127.0.0.1:5907 width=1280 height=800 seconds=3600 silent=2 updates=77 name=\"desk of \\\"x\\\"\"
+recording state=on seconds=61 bytes=96
 viewer place=1 role=full address=192.0.2.9:50000 seconds=12 updates=34 bytes=5678 behind=0 asked=no
 viewer place=7 role=view address=- seconds=0 updates=0 bytes=0 behind=77 asked=yes
 ";
@@ -54,6 +57,11 @@ fn report<'a>(viewers: &'a [ViewerReport<'a>]) -> Report<'a> {
         view_places: 32,
         waiting: 256,
         dropped: 3,
+        recording: Some(RecordingReport {
+            state: RecordingState::On,
+            seconds: 61,
+            bytes: 96,
+        }),
         viewers,
     }
 }
@@ -64,12 +72,41 @@ fn each_viewer_has_its_line(rt: HostRuntime) -> Result<(), Fail> {
     assert_eq!(rt; text.as_str(), EXPECTED);
     let mut empty = report(&[]);
     empty.host = None;
+    empty.recording = None;
     empty.entry = Entry::Open;
     let text = state_text(rt.alloc(), &empty)?;
     assert_eq!(rt;
         text.as_str(),
         "entry open\nplaces role=full places=4\nplaces role=view places=32\ninput waiting=256 dropped=3\nhost none\n"
     );
+    Ok(())
+}
+
+#[test]
+fn each_state_of_a_recording_has_its_word(rt: HostRuntime) -> Result<(), Fail> {
+    for (state, line) in [
+        (
+            RecordingState::Awaited,
+            "\nrecording state=awaited seconds=0 bytes=0\n",
+        ),
+        (
+            RecordingState::Ended,
+            "\nrecording state=ended seconds=0 bytes=0\n",
+        ),
+        (
+            RecordingState::Failed,
+            "\nrecording state=failed seconds=0 bytes=0\n",
+        ),
+    ] {
+        let mut empty = report(&[]);
+        empty.recording = Some(RecordingReport {
+            state,
+            seconds: 0,
+            bytes: 0,
+        });
+        let text = state_text(rt.alloc(), &empty)?;
+        assert!(rt; text.as_str().ends_with(line));
+    }
     Ok(())
 }
 
@@ -87,6 +124,8 @@ fn the_same_stands_in_json(rt: HostRuntime) -> Result<(), Fail> {
         ("/host/seconds", 3600),
         ("/host/silent", 2),
         ("/host/updates", 77),
+        ("/recording/seconds", 61),
+        ("/recording/bytes", 96),
         ("/viewers/0/place", 1),
         ("/viewers/0/seconds", 12),
         ("/viewers/0/updates", 34),
@@ -104,6 +143,7 @@ fn the_same_stands_in_json(rt: HostRuntime) -> Result<(), Fail> {
         ("/entry", "drained"),
         ("/host/address", "127.0.0.1:5907"),
         ("/host/name", "desk of \\\"x\\\""),
+        ("/recording/state", "on"),
         ("/viewers/0/role", "full"),
         ("/viewers/0/address", "192.0.2.9:50000"),
         ("/viewers/1/role", "view"),
@@ -124,9 +164,11 @@ fn the_same_stands_in_json(rt: HostRuntime) -> Result<(), Fail> {
     );
     let mut empty = report(&[]);
     empty.host = None;
+    empty.recording = None;
     let text = state_json(rt.alloc(), &empty)?;
     let value = Value::from_str(rt.alloc(), text.as_str())?;
     assert!(rt; value.pointer("/host").is_some_and(Value::is_null));
+    assert!(rt; value.pointer("/recording").is_some_and(Value::is_null));
     assert!(rt; value.pointer("/viewers/0").is_none());
     Ok(())
 }

@@ -5,6 +5,7 @@ use Rattle.std.specs.Prelude.{ℕ, Bool, true, false, List, [], ◌++◌, codes}
 use Rattle.std.specs.Fmt.{decimal}
 use Rattle.run_reports.specs.declared.counters.ByRole.{ByRole}
 use Rattle.run_reports.specs.declared.counters.Lag.{Lag}
+use Rattle.run_reports.specs.declared.counters.Recorded.{Recorded}
 use Rattle.run_reports.specs.declared.counters.Counters.{Counters}
 use Rattle.run_reports.specs.declared.families.Family.{Family}
 
@@ -61,6 +62,12 @@ after_input before c =
     let a = after_one before (codes "input_waiting") (codes "gauge") (codes "Inputs of viewers that wait for the host.") c.waiting in
     after_one a (codes "input_dropped_total") (codes "counter") (codes "Inputs of viewers that were dropped, since another held a key or a button down.") c.dropped
 
+abbrev pub after_recorded : List ℕ → Recorded → List ℕ
+after_recorded before r =
+    let a = after_one before (codes "recording") (codes "gauge") (codes "1 while the run is recorded.") (one_if r.is_on) in
+    let b = after_one a (codes "recording_failed") (codes "gauge") (codes "1 where the recording ended since its file took no more.") (one_if r.has_failed) in
+    after_one b (codes "recorded_bytes_total") (codes "counter") (codes "Bytes that the file of the recording took.") r.bytes
+
 abbrev pub after_lag : List ℕ → Lag → List ℕ
 after_lag before lag =
     let head = after_comments before (codes "viewer_lag_updates") (codes "gauge") (codes "By how many updates this share of the viewers is behind at most.") in
@@ -69,4 +76,4 @@ after_lag before lag =
     after_sample most (codes "viewer_lag_updates") (codes "{share=\"1\"}") lag.all
 
 abbrev pub metrics_of : Counters → List ℕ
-metrics_of c = after_lag (after_input (after_sent (after_places (after_host [] c) c) c) c) c.lag
+metrics_of c = after_lag (after_recorded (after_input (after_sent (after_places (after_host [] c) c) c) c) c.recorded) c.lag

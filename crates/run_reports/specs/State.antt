@@ -8,6 +8,9 @@ use Rattle.run_control.specs.declared.doors.Entry.{Entry}
 use Rattle.run_control.specs.declared.doors.Entry.TheVariants.{Open, Drained, Closed}
 use Rattle.run_reports.specs.declared.report.HostReport.{HostReport}
 use Rattle.run_reports.specs.declared.report.ViewerReport.{ViewerReport}
+use Rattle.run_reports.specs.declared.report.RecordingReport.{RecordingReport}
+use Rattle.run_reports.specs.declared.report.RecordingState.{RecordingState}
+use Rattle.run_reports.specs.declared.report.RecordingState.TheVariants.{Awaited, On, Ended, Failed}
 use Rattle.run_reports.specs.declared.report.Report.{Report}
 
 abbrev pub entry_word : Entry → List ℕ
@@ -41,6 +44,18 @@ abbrev pub after_whoever : List ℕ → Option HostReport → List ℕ
 after_whoever before None = before ++ codes "host none\n"
 after_whoever before (Some h) = after_host before h
 
+abbrev pub recording_word : RecordingState → List ℕ
+recording_word Awaited = codes "awaited"
+recording_word On = codes "on"
+recording_word Ended = codes "ended"
+recording_word Failed = codes "failed"
+
+-- A run that isn't recorded has no line for that.
+abbrev pub after_recording : List ℕ → Option RecordingReport → List ℕ
+after_recording before None = before
+after_recording before (Some r) =
+    before ++ codes "recording state=" ++ recording_word r.state ++ codes " seconds=" ++ decimal r.seconds ++ codes " bytes=" ++ decimal r.bytes ++ codes "\n"
+
 abbrev pub after_place : List ℕ → ViewerReport → List ℕ
 after_place before v =
     before ++ codes "viewer place=" ++ decimal v.place ++ codes " role=" ++ role_word v.role ++ codes " address=" ++ v.address.now
@@ -58,4 +73,4 @@ after_viewers before [] = before
 after_viewers before (v ∷ vs) = after_viewers (after_viewer before v) vs
 
 abbrev pub state_lines : Report → List ℕ
-state_lines r = after_viewers (after_whoever (after_input (after_places [] r) r) r.host) r.viewers.now
+state_lines r = after_viewers (after_recording (after_whoever (after_input (after_places [] r) r) r.host) r.recording) r.viewers.now

@@ -17,6 +17,17 @@ pub struct Lag {
     pub all: u64,
 }
 
+/// What is counted of a run's recording.
+#[derive(Clone, Copy, Debug)]
+pub struct Recorded {
+    /// Whether the run is being recorded.
+    pub is_on: bool,
+    /// Whether the recording ended since its file took no more.
+    pub has_failed: bool,
+    /// How many bytes its file took.
+    pub bytes: u64,
+}
+
 /// What a reflector counts. Sums are of the whole run, and only grow.
 #[derive(Clone, Copy, Debug)]
 pub struct Counters {
@@ -44,6 +55,8 @@ pub struct Counters {
     pub waiting: u64,
     /// How many inputs were dropped on their way to a host.
     pub dropped: u64,
+    /// What is counted of the recording: of a run that isn't recorded, nothing.
+    pub recorded: Recorded,
     /// By how many updates the viewers are behind now.
     pub lag: Lag,
 }

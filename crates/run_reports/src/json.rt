@@ -1,7 +1,7 @@
 //! How a run stands, as one object of JSON.
 
-use crate::lines::{entry_word, role_word};
-use crate::report::{HostReport, Report, ViewerReport};
+use crate::lines::{entry_word, recording_word, role_word};
+use crate::report::{HostReport, RecordingReport, Report, ViewerReport};
 use serde_json::{Value, json};
 use std::alloc::{AllocError, Global};
 
@@ -31,6 +31,15 @@ fn viewer_value(alloc: Global, viewer: &ViewerReport<'_>) -> Result<Value, Alloc
     })
 }
 
+fn recording_value(alloc: Global, recording: &RecordingReport) -> Result<Value, AllocError> {
+    let state = recording_word(recording.state);
+    json!(in alloc; {
+        "state": state,
+        "seconds": recording.seconds,
+        "bytes": recording.bytes
+    })
+}
+
 /// How a run stands, as one object of JSON whose members are named as in the lines. No clause says what it contains;
 /// tests do. It fails where memory for it is refused.
 pub fn state_json(alloc: Global, report: &Report<'_>) -> Result<String, AllocError> {
@@ -43,6 +52,10 @@ pub fn state_json(alloc: Global, report: &Report<'_>) -> Result<String, AllocErr
         Some(host) => host_value(alloc, host)?,
         None => Value::Null,
     };
+    let recording = match &report.recording {
+        Some(recording) => recording_value(alloc, recording)?,
+        None => Value::Null,
+    };
     let entry = entry_word(report.entry);
     let state = json!(in alloc; {
         "entry": entry,
@@ -51,6 +64,7 @@ pub fn state_json(alloc: Global, report: &Report<'_>) -> Result<String, AllocErr
         "waiting": report.waiting,
         "dropped": report.dropped,
         "host": host,
+        "recording": recording,
         "viewers": viewers
     })?;
     state.to_string(alloc)

@@ -17,7 +17,7 @@ mod notice;
 mod report;
 mod state;
 
-pub use counters::{ByRole, Counters, Lag};
+pub use counters::{ByRole, Counters, Lag, Recorded};
 pub use gravity::{Gravity, prefix_of};
 pub use happenings::{Happening, HappeningCounts};
 pub use health::{Health, health_of, health_word};
@@ -25,5 +25,5 @@ pub use json::state_json;
 pub use ledger::{Ledger, Paper};
 pub use metrics::metrics_text;
 pub use notice::{Notice, Ready, notice_text};
-pub use report::{HostReport, Report, ViewerReport};
+pub use report::{HostReport, RecordingReport, RecordingState, Report, ViewerReport};
 pub use state::state_text;

@@ -3,8 +3,9 @@
 ghost use Rattle.std.specs.Prelude.{◌≡◌, ◌++◌, OnOk};
 ghost use Rattle.std.specs.String.{string_bytes};
 ghost use Rattle.std.specs.Fmt.{decimal};
-ghost use Rattle.run_reports.specs.State.{entry_word, role_word, yes_word};
+ghost use Rattle.run_reports.specs.State.{entry_word, recording_word, role_word, yes_word};
 
+use crate::report::RecordingState;
 use itoa::Buffer;
 use roles::Role;
 use run_control::Entry;
@@ -28,6 +29,18 @@ pub(crate) fn role_word(role: Role) -> &'static str
     match role {
         Role::Full => "full",
         Role::View => "view",
+    }
+}
+
+/// `awaited`, `on`, `ended` or `failed`.
+pub(crate) fn recording_word(state: RecordingState) -> &'static str
+    ensures { result.now ≡ recording_word state }
+{
+    match state {
+        RecordingState::Awaited => "awaited",
+        RecordingState::On => "on",
+        RecordingState::Ended => "ended",
+        RecordingState::Failed => "failed",
     }
 }
 

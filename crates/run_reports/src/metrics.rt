@@ -2,9 +2,9 @@
 
 ghost use Rattle.std.specs.Prelude.{◌≡◌, [], IfOk, OnOk};
 ghost use Rattle.std.specs.String.{string_bytes};
-ghost use Rattle.run_reports.specs.Metrics.{after_host, after_input, after_lag, after_places, after_sent, metrics_of};
+ghost use Rattle.run_reports.specs.Metrics.{after_host, after_input, after_lag, after_places, after_recorded, after_sent, metrics_of};
 
-use crate::counters::{Counters, Lag};
+use crate::counters::{Counters, Lag, Recorded};
 use crate::families::{Family, put_by_role, put_head, put_sample, put_single};
 use std::alloc::{AllocError, Global};
 
@@ -80,6 +80,24 @@ const DROPPED: Family<'static> = Family {
     help: "Inputs of viewers that were dropped, since another held a key or a button down.",
 };
 
+const RECORDING: Family<'static> = Family {
+    name: "recording",
+    kind: "gauge",
+    help: "1 while the run is recorded.",
+};
+
+const RECORDING_FAILED: Family<'static> = Family {
+    name: "recording_failed",
+    kind: "gauge",
+    help: "1 where the recording ended since its file took no more.",
+};
+
+const RECORDED: Family<'static> = Family {
+    name: "recorded_bytes_total",
+    kind: "counter",
+    help: "Bytes that the file of the recording took.",
+};
+
 const LAG: Family<'static> = Family {
     name: "viewer_lag_updates",
     kind: "gauge",
@@ -122,6 +140,15 @@ fn put_input(text: &mut String, counters: &Counters) -> Result<(), AllocError>
     put_single(text, DROPPED, counters.dropped)
 }
 
+/// Writes the numbers of the recording.
+fn put_recorded(text: &mut String, recorded: &Recorded) -> Result<(), AllocError>
+    ensures { OnOk result (string_bytes text.new ≡ after_recorded (string_bytes text.old) recorded.now) }
+{
+    put_single(text, RECORDING, u64::from(recorded.is_on))?;
+    put_single(text, RECORDING_FAILED, u64::from(recorded.has_failed))?;
+    put_single(text, RECORDED, recorded.bytes)
+}
+
 /// Writes by how many updates viewers are behind.
 fn put_lag(text: &mut String, lag: &Lag) -> Result<(), AllocError>
     ensures { OnOk result (string_bytes text.new ≡ after_lag (string_bytes text.old) lag.now) }
@@ -141,6 +168,7 @@ pub fn metrics_text(alloc: Global, counters: &Counters) -> Result<String, AllocE
     put_places(&mut text, counters)?;
     put_sent(&mut text, counters)?;
     put_input(&mut text, counters)?;
+    put_recorded(&mut text, &counters.recorded)?;
     put_lag(&mut text, &counters.lag)?;
     Ok(text)
 }

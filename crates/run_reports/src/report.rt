@@ -43,6 +43,29 @@ pub struct ViewerReport<'a> {
     pub is_asked: bool,
 }
 
+/// How a recording stands.
+#[derive(Clone, Copy, Debug, PartialEq, Eq)]
+pub enum RecordingState {
+    /// It waits for the first host.
+    Awaited,
+    /// It goes on.
+    On,
+    /// It has ended with the run, or with the recorder's session.
+    Ended,
+    /// It has ended since its file took no more.
+    Failed,
+}
+
+/// The recording of a run.
+#[derive(Clone, Copy, Debug)]
+pub struct RecordingReport {
+    pub state: RecordingState,
+    /// For how many seconds it has gone on: 0 where it doesn't.
+    pub seconds: u64,
+    /// How many bytes its file took.
+    pub bytes: u64,
+}
+
 /// How a run stands.
 #[derive(Clone, Copy, Debug)]
 pub struct Report<'a> {
@@ -58,6 +81,8 @@ pub struct Report<'a> {
     pub waiting: u64,
     /// How many inputs were dropped on their way to a host.
     pub dropped: u64,
+    /// The recording, if the run is recorded.
+    pub recording: Option<RecordingReport>,
     /// The viewers that have a place, in the order of the places.
     pub viewers: &'a [ViewerReport<'a>],
 }

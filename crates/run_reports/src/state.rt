@@ -2,10 +2,10 @@
 
 ghost use Rattle.std.specs.Prelude.{◌≡◌, IfOk, OnOk};
 ghost use Rattle.std.specs.String.{string_bytes};
-ghost use Rattle.run_reports.specs.State.{after_counts, after_host, after_input, after_place, after_places, after_viewer, after_viewers, after_whoever, state_lines};
+ghost use Rattle.run_reports.specs.State.{after_counts, after_host, after_input, after_place, after_places, after_recording, after_viewer, after_viewers, after_whoever, state_lines};
 
-use crate::lines::{entry_word, put_number, put_word, role_word, yes_word};
-use crate::report::{HostReport, Report, ViewerReport};
+use crate::lines::{entry_word, put_number, put_word, recording_word, role_word, yes_word};
+use crate::report::{HostReport, RecordingReport, Report, ViewerReport};
 use std::alloc::{AllocError, Global};
 
 /// Puts the line of a host.
@@ -91,6 +91,19 @@ fn put_whoever(text: &mut String, host: &Option<HostReport<'_>>) -> Result<(), A
     }
 }
 
+/// Puts the line of the recording, where the run is recorded.
+fn put_recording(text: &mut String, recording: &Option<RecordingReport>) -> Result<(), AllocError>
+    ensures { OnOk result (string_bytes text.new ≡ after_recording (string_bytes text.old) recording.now) }
+{
+    let Some(recording) = recording else {
+        return Ok(());
+    };
+    put_word(text, "recording state=", recording_word(recording.state))?;
+    put_number(text, " seconds=", recording.seconds)?;
+    put_number(text, " bytes=", recording.bytes)?;
+    text.push_str("\n")
+}
+
 /// How a run stands, in lines of names and values as the log has them. It fails where memory is refused for the text.
 pub fn state_text(alloc: Global, report: &Report<'_>) -> Result<String, AllocError>
     ensures { IfOk result (λ text. string_bytes text ≡ state_lines report.now) }
@@ -99,6 +112,7 @@ pub fn state_text(alloc: Global, report: &Report<'_>) -> Result<String, AllocErr
     put_places(&mut text, report)?;
     put_input(&mut text, report)?;
     put_whoever(&mut text, &report.host)?;
+    put_recording(&mut text, &report.recording)?;
     put_viewers(&mut text, report.viewers)?;
     Ok(text)
 }
